@@ -3,7 +3,7 @@ use Rattle.std.proofs.Common.{◌≡◌, suc, List, [], ◌∷◌, length, map, 
 use Rattle.isle_ast.specs.declared.tree.AstExpr.{AstExpr}
 use Rattle.isle_ast.specs.declared.tree.AstPattern.{AstPattern}
 use Rattle.isle_ast.specs.Views.{pattern, patterns_of, expr, exprs_of}
-use Rattle.isle_sema.specs.Calls.{count_of}
+use Rattle.isle_sema.specs.ExprPass.{count_of}
 use Rattle.isle_sema.specs.PatternPass.{count_of as parts_of}
 
 -- there are as many expressions as the code's list has

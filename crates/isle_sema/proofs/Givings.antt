@@ -3,7 +3,8 @@ use Rattle.std.proofs.Common.{◌≡◌, Bool, true, false, List, [], ◌∷◌,
 use Rattle.std.specs.Prelude.{◌||◌, not, option_map, option_and_then}
 use Rattle.std.specs.List.{list_all, list_any}
 use Rattle.std.proofs.lemmas.Bool.{or_parts, or_from, and_from}
-use Rattle.isle_core.specs.declared.types.Term.{Term}
+use Rattle.isle_core.specs.declared.TermId.{TermId}
+use Rattle.isle_core.specs.declared.TypeId.{TypeId}
 use Rattle.isle_core.specs.declared.types.TermEnv.{TermEnv}
 use Rattle.isle_core.specs.Rule.{Rule as CoreRule, Environment}
 use Rattle.isle_core.specs.RuleViews.{rule as elaborated_rule, environment}
@@ -14,11 +15,16 @@ use Rattle.isle_types.specs.Fault.{type_fault}
 use Rattle.isle_types.specs.TypeEnvironment.{type_env_of}
 use Rattle.isle_declarations.specs.Heads.{terms_of, extern_terms, extractor_terms}
 use Rattle.isle_declarations.specs.Repeats.{repeats}
-use Rattle.isle_sema.specs.Language.{is_built_def, rules_call_ruled}
-use Rattle.isle_sema.specs.Tests.{is_misdeclared, has_undeclared, has_unknown}
+use Rattle.isle_sema.specs.Language.{is_built_def, uses_ruled}
+use Rattle.isle_terms.specs.Converters.{converters}
+use Rattle.isle_terms.specs.ConverterViews.{taken_converters}
+use Rattle.isle_terms.specs.Tests.{is_misdeclared, has_undeclared, has_unknown, have_misfit}
+use Rattle.isle_terms.proofs.ConverterLaws.{converters_taken, converters_are}
 use Rattle.isle_sema.specs.RulePass.{rules_pass}
 use Rattle.isle_sema.specs.Fault.{OfTypes, OfTerms, OfExtractors, OfRules, or_later, fault_in}
-use Rattle.isle_sema.specs.Environment.{whole_of, env_over, terms_pass}
+use Rattle.isle_terms.specs.Whole.{whole_of}
+use Rattle.isle_sema.specs.Environment.{env_over, env_with}
+use Rattle.isle_terms.specs.TermPass.{terms_pass}
 use Rattle.isle_core.specs.declared.types.TypeEnv.{TypeEnv}
 use Rattle.isle_sema.specs.Typing.{Typed, TypedOnly}
 use Rattle.isle_sema.proofs.TypedOnce.{typed_only}
@@ -27,7 +33,7 @@ use Rattle.isle_sema.specs.Taken.{taken_rules}
 use Rattle.isle_sema.proofs.BuiltForms.{both}
 use Rattle.isle_sema.proofs.Firsts.{none_stages}
 use Rattle.isle_sema.proofs.TypedParts.{typed_in}
-use Rattle.isle_sema.proofs.TermFaults.{names_no_type, is_made_twice, has_too_many, extractors_none, is_headless, TermParts, terms_kept, terms_none}
+use Rattle.isle_sema.proofs.TermFaults.{converters_kept, names_no_type, is_made_twice, has_too_many, extractors_none, is_headless, TermParts, terms_kept, terms_none}
 use Rattle.isle_sema.proofs.RuleLaws.{fault_none, none_fault, taken_are, are_taken}
 
 -- ---- declarations that are wrong by themselves
@@ -54,6 +60,7 @@ misdeclared_parts all (s ∷ sigs) =
 -- the tests of definitions that give an environment
 pub record IsKept (ds : List Def) : Type 0 where
   pub parts : TermParts ds [] ds
+  pub convert : have_misfit ds [] (converters ds) ≡ false
   pub rules : List CoreRule
   pub taken : taken_rules (whole_of ds) 0 (rule_defs ds) ≡ Some rules
 
@@ -63,6 +70,7 @@ kept {ds = ds} {env = env} t =
     let w = whole_of ds in
     record {
       parts = terms_kept ds [] ds g.built g.terms_kept;
+      convert = converters_kept ds [] ds g.built g.terms_kept;
       rules = env.rules;
       taken = are_taken w 0 (rule_defs ds) env.rules (record { kept = none_fault w [] ds g.rules_kept; calls = g.unruled; trees = g.rules });
     }
@@ -94,7 +102,15 @@ headless_untyped ds h env t = both h (kept t).parts.heads
 
 -- nor those whose terms have no types
 pub unmade_untyped : (ds : List Def) → None ≡ terms_pass (whole_of ds) (terms ds) → (env : Environment) → Typed ds env → ⊥
-unmade_untyped ds none env t = let bad : None ≡ Some env = ap (λ o. option_and_then (λ (typed : List Term). option_map (env_over (type_env_of ds) typed) (rules_pass (whole_of ds) 0 (rule_defs ds))) o) none ∙ t.given in cc
+unmade_untyped ds none env t = let bad : None ≡ Some env = ap (option_and_then (env_with (whole_of ds))) none ∙ t.given in cc
+
+-- nor those of which a converter is wrong
+pub unconverted_untyped : (ds : List Def) → taken_converters (whole_of ds) [] (converters ds) ≡ None → (env : Environment) → Typed ds env → ⊥
+unconverted_untyped ds none env t =
+    let g = typed_in t in
+    let taken = converters_taken (whole_of ds) [] (converters ds) (kept t).convert in
+    let bad : None ≡ Some env.converters = sym none ∙ taken ∙ g.converters in
+    cc
 
 pub untaken_untyped : (ds : List Def) → None ≡ taken_rules (whole_of ds) 0 (rule_defs ds) → (env : Environment) → Typed ds env → ⊥
 untaken_untyped ds h env t = let k = kept t in let bad : None ≡ Some k.rules = h ∙ k.taken in cc
@@ -113,20 +129,21 @@ parts_of ds declared apart known extracted heads =
 
 -- definitions that no test refuses give what is made of them
 pub given_typed : (ds : List Def) (t : TermEnv) → list_all is_built_def ds ≡ true → type_fault ds ≡ None → TermParts ds [] ds → terms_pass (whole_of ds) (terms ds) ≡ Some t.terms
-    → taken_rules (whole_of ds) 0 (rule_defs ds) ≡ Some (map elaborated_rule t.rules) → t.converters ≡ [] → Typed ds (environment (type_env_of ds) t)
-given_typed ds t built types parts given rules none =
+    → taken_rules (whole_of ds) 0 (rule_defs ds) ≡ Some (map elaborated_rule t.rules) → taken_converters (whole_of ds) [] (converters ds) ≡ Some t.converters → Typed ds (environment (type_env_of ds) t)
+given_typed ds t built types parts given rules converting =
     let w = whole_of ds in
     let forms = list_all is_built_def ds in
     let k = taken_are w 0 (rule_defs ds) (map elaborated_rule t.rules) rules in
+    let c = converters_are w [] (converters ds) t.converters converting in
     record {
-      built = and_from forms (not (rules_call_ruled (rule_defs ds) (rule_defs ds))) built (ap not k.calls);
+      built = and_from forms (not (list_any (uses_ruled w) (rule_defs ds))) built (ap not k.calls);
       sound =
           none_stages (fault_in OfTypes w) (or_later (fault_in OfTerms w) (or_later (fault_in OfExtractors w) (fault_in OfRules w))) types
-          (none_stages (fault_in OfTerms w) (or_later (fault_in OfExtractors w) (fault_in OfRules w)) (terms_none ds [] ds built parts) (none_stages (fault_in OfExtractors w) (fault_in OfRules w) (extractors_none w [] ds built) (fault_none w [] ds k.kept)));
+          (none_stages (fault_in OfTerms w) (or_later (fault_in OfExtractors w) (fault_in OfRules w)) (terms_none ds [] ds built parts c.0) (none_stages (fault_in OfExtractors w) (fault_in OfRules w) (extractors_none w [] ds built) (fault_none w [] ds k.kept)));
       given =
-          ap (λ o. option_and_then (λ (ts : List Term). option_map (env_over (type_env_of ds) ts) (rules_pass w 0 (rule_defs ds))) o) given
-          ∙ ap (λ o. option_map (env_over (type_env_of ds) t.terms) o) k.trees
-          ∙ ap (λ (cs : List _). Some (record { types = type_env_of ds; terms = t.terms; rules = map elaborated_rule t.rules; converters = cs })) (sym none);
+          ap (option_and_then (env_with w)) given
+          ∙ ap (λ o. option_and_then (λ (cs : List (TypeId × TypeId × TermId)). option_map (env_over (type_env_of ds) t.terms cs) (rules_pass w 0 (rule_defs ds))) o) c.1
+          ∙ ap (option_map (env_over (type_env_of ds) t.terms t.converters)) k.trees;
     }
 
 -- terms over the types of definitions

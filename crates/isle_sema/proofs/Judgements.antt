@@ -12,16 +12,17 @@ use Rattle.isle_sema.specs.declared.judged.Judged.{Judged}
 use Rattle.isle_sema.specs.declared.known.Called.{Called}
 use Rattle.isle_declarations.specs.Signatures.{Signature, RuleDef, externs, extractors, rule_defs, func_named, extractor_named, has_rule}
 use Rattle.isle_sema.specs.Site.{Site, CalledAt, TakenAt, NotBuiltAt}
-use Rattle.isle_sema.specs.Whole.{Whole, termed}
+use Rattle.isle_terms.specs.Whole.{Whole, termed}
 use Rattle.isle_declarations.specs.Terms.{is_made}
-use Rattle.isle_sema.specs.TypeNames.{type_named}
+use Rattle.isle_terms.specs.TypeNames.{type_named}
 use Rattle.isle_types.specs.declared.row.Row.TheVariants as row
 use Rattle.isle_types.specs.declared.row.Row.{Row}
 use Rattle.isle_types.specs.TypeRows.{on}
 use Rattle.isle_sema.specs.RulePass.{patterns_of, right_side_of, sites_of}
 use Rattle.isle_sema.specs.RuleRows.{differ, is_untaken, is_mistaken, is_misplaced, is_undeclared, is_met_otherwise, is_unknown, is_mistyped}
 use Rattle.isle_sema.specs.Known.{IsCalled, MayBeCalled}
-use Rattle.isle_sema.specs.Judging.{is_ruled_call, is_partial_call, is_impure_call, is_multi_call, unjudged, judge, judge_all, lowest}
+use Rattle.isle_sema.specs.Judging.{is_partial_call, is_impure_call, is_multi_call, unjudged, judge, judge_all, lowest}
+use Rattle.isle_sema.specs.Language.{is_ruled, uses_ruled}
 use Rattle.isle_sema.specs.Taken.{row_of}
 
 -- ---- a call
@@ -91,12 +92,12 @@ pub taken_judged : (w : Whole) (s : Signature) (c : Called) (j : Judged) (expect
       partial = j.partial;
       impure = j.impure;
       multi = j.multi;
-      ruled = j.ruled;
+      ruled = c.ruled || j.ruled;
       nodes = nodes;
     }
     ≡ judge w j (TakenAt expected (Some s) count)
 taken_judged w s c j expected count nodes differs other more h =
-    let put : ℕ → Bool → Bool → Bool → ℕ → Judged = λ n made extracting differs nodes. record {
+    let put : ℕ → Bool → Bool → Bool → Bool → ℕ → Judged = λ n made extracting differs ruled nodes. record {
       untaken = (not (count == n) || not (made || extracting)) || j.untaken;
       mistaken = differs || j.mistaken;
       misplaced = j.misplaced;
@@ -107,14 +108,17 @@ taken_judged w s c j expected count nodes differs other more h =
       partial = j.partial;
       impure = j.impure;
       multi = j.multi;
-      ruled = j.ruled;
+      ruled = ruled || j.ruled;
       nodes = nodes;
     } in
     let long : length c.args.now ≡ length s.args = sym (length-map c.args.now Some) ∙ ap length (sym h.args) ∙ length-map s.args (type_named w.defs) in
     let made = is_made s.origin in
     let extracting = is_some (extractor_named (extractors w.defs) s.term) in
-    ap (λ n. put n c.made c.extracting differs nodes) long ∙ ap (λ b. put (length s.args) b c.extracting differs nodes) (sym h.made) ∙ ap (λ b. put (length s.args) made b differs nodes) (sym h.extracting)
-    ∙ ap (λ b. put (length s.args) made extracting b nodes) (other ∙ ap (λ ty. differ ty expected) (sym h.ret)) ∙ ap (put (length s.args) made extracting (differ (type_named w.defs s.ret) expected)) more
+    let differs_so = differ (type_named w.defs s.ret) expected in
+    ap (λ n. put n c.made c.extracting differs c.ruled nodes) long ∙ ap (λ b. put (length s.args) b c.extracting differs c.ruled nodes) (sym h.made) ∙ ap (λ b. put (length s.args) made b differs c.ruled nodes) (sym h.extracting)
+    ∙ ap (λ b. put (length s.args) made extracting b c.ruled nodes) (other ∙ ap (λ ty. differ ty expected) (sym h.ret))
+    ∙ ap (λ b. put (length s.args) made extracting differs_so b nodes) (sym h.ruled)
+    ∙ ap (put (length s.args) made extracting differs_so (has_rule (rule_defs w.defs) s.term)) more
 
 -- ---- parts in order
 
@@ -141,9 +145,11 @@ any_both : (w : Whole) (f : Judged → Bool) (test : Site → Bool) → ((j : Ju
 any_both w f test step new ps rs =
     ap (λ b. b || f (judge_all w unjudged rs)) (any_new w f test step new ps) ∙ ap (λ b. list_any test ps || b) (any_new w f test step new rs) ∙ sym (list_any-append test ps rs)
 
--- a call of a term that has a rule
-pub ruled_all : (w : Whole) (sites : List Site) → (judge_all w unjudged sites).ruled ≡ list_any (is_ruled_call w) sites
-ruled_all w sites = any_new w (λ j. j.ruled) (is_ruled_call w) (λ j s. refl) refl sites
+-- a use of a term that has a rule, on either side
+pub ruled_both : (w : Whole) (r : RuleDef) → r.iflets ≡ [] → (judge_all w unjudged (patterns_of w r).sites).ruled || (judge_all w unjudged (right_side_of w r).sites).ruled ≡ uses_ruled w r
+ruled_both w r none =
+    any_both w (λ j. j.ruled) (is_ruled w) (λ j s. refl) refl (patterns_of w r).sites (right_side_of w r).sites
+    ∙ ap (λ (cs : List IfLet). list_any (is_ruled w) ((patterns_of w r).sites ++ (map (λ (c : IfLet). NotBuiltAt) cs ++ (right_side_of w r).sites))) (sym none)
 
 -- ---- how many there are
 

@@ -15,10 +15,10 @@ use Rattle.isle_declarations.specs.Heads.{terms_of, extern_terms, extractor_term
 use Rattle.isle_declarations.proofs.LookUps.{at_place, named_at, named_is}
 use Rattle.isle_declarations.proofs.NumberLaws.{has_func, has_head}
 use Rattle.isle_sema.specs.declared.known.Called.{Called}
-use Rattle.isle_sema.specs.Whole.{Whole, termed, constant_type}
-use Rattle.isle_sema.specs.Environment.{term_pass, terms_pass}
+use Rattle.isle_terms.specs.Whole.{Whole, termed, constant_type}
+use Rattle.isle_terms.specs.TermPass.{term_pass, terms_pass}
 use Rattle.isle_sema.specs.Known.{MayBeCalled}
-use Rattle.isle_sema.proofs.MadeTerms.{first_there, term_made, term_is, types_are}
+use Rattle.isle_terms.proofs.MadeTerms.{first_there, term_made, term_is, types_are}
 
 -- there are as many terms as signatures
 term_past : (w : Whole) (sigs : List Signature) (terms : List Term) (i : ℕ) → terms_pass w sigs ≡ Some terms → slice_get terms i ≡ None → slice_get sigs i ≡ None
@@ -88,3 +88,7 @@ pub constant_at : (w : Whole) (names : List (List ℕ)) (types : TypeEnv) (name 
 constant_at w names types name place o all same at is =
     ap (option_map (λ (c : Sym × TypeId). c.1)) (sym is ∙ ap (λ (ts : TypeEnv). slice_get ts.consts place) same)
     ∙ ap (λ p. option_map (λ (c : Sym × TypeId). c.1) (option_and_then (slice_get w.types.consts) p)) (sym at ∙ ap (λ ns. index_of ns name) all)
+
+-- a name that no constant has
+pub constant_absent : (w : Whole) (names : List (List ℕ)) (name : List ℕ) → names ≡ map (λ (c : Constant). c.name) (constants w.defs) → index_of names name ≡ None → None ≡ constant_type w name
+constant_absent w names name all none = ap (λ p. option_map (λ (c : Sym × TypeId). c.1) (option_and_then (slice_get w.types.consts) p)) (sym none ∙ ap (λ ns. index_of ns name) all)

@@ -17,13 +17,13 @@ use Rattle.isle_ast.proofs.Sees.{let-parts}
 use Rattle.isle_declarations.specs.Bindings.{binding}
 use Rattle.isle_sema.specs.declared.judged.Judged.{Judged}
 use Rattle.isle_sema.specs.ElaboratedAt.{seen_binding, binding_trees, IsExprAt, IsBindingAt, AreBindingsAt}
-use Rattle.isle_sema.specs.Environment.{whole_of}
+use Rattle.isle_terms.specs.Whole.{whole_of}
 use Rattle.isle_sema.specs.ExprPass.{ExprPass, LetsPass, binding_tree, binding_before, let_tree, expr_pass, lets_pass}
 use Rattle.isle_sema.specs.Judging.{judge, judge_all}
 use Rattle.isle_sema.specs.Locals.{Local, Bound, bound_local, locals_of}
 use Rattle.isle_sema.specs.Site.{Site, PartAt, BoundAt}
-use Rattle.isle_sema.specs.TypeNames.{type_named}
-use Rattle.isle_sema.specs.Whole.{Whole}
+use Rattle.isle_terms.specs.TypeNames.{type_named}
+use Rattle.isle_terms.specs.Whole.{Whole}
 use Rattle.isle_sema.proofs.LocalLaws.{joined_locals, outer_stays}
 
 -- ---- trees in order

@@ -1,5 +1,4 @@
 pub mod TypedParts
-pub mod MadeTerms
 pub mod Firsts
 pub mod KnownLaws
 pub mod TermFaults
@@ -11,8 +10,6 @@ pub mod VariableLaws
 pub mod LocalLaws
 pub mod Steps
 pub mod LetSteps
-pub mod TermSteps
-pub mod Placing
 pub mod Judgements
 pub mod RuleLaws
 pub mod TypedOnce
@@ -25,8 +22,10 @@ pub mod MadeForms
 pub mod OpenedTerms
 pub mod TypedPatterns
 pub mod RuleRoots
+pub mod Conversions
 pub mod VariableTypes
 pub mod BoundPatterns
+pub mod ConvertedParts
 pub mod RulePlaces
 pub mod TypedSides
 pub mod TypedExprs

@@ -45,11 +45,12 @@ use Rattle.isle_types.specs.Fault.{type_fault}
 use Rattle.isle_types.specs.TypeEnvironment.{sym_in, type_in, field_in, fields_in, variant_in, def_in, type_def_in, constant_in, type_env_of}
 use Rattle.isle_types.specs.TypeNames.{declared_names, type_names}
 use Rattle.isle_types.proofs.SymbolsApart.{Stands, AllStand, names_stand}
-use Rattle.isle_sema.specs.Environment.{whole_of, types_named, kind_from, term_pass}
+use Rattle.isle_terms.specs.Whole.{whole_of}
+use Rattle.isle_terms.specs.TermPass.{types_named, kind_from, term_pass}
 use Rattle.isle_sema.specs.TypedRule.{IsTermKind}
-use Rattle.isle_sema.specs.TypeNames.{type_named}
-use Rattle.isle_sema.specs.Whole.{Whole, termed, constant_type}
-use Rattle.isle_sema.proofs.MadeTerms.{first_there, term_made, made_of, term_is, types_are, all_at}
+use Rattle.isle_terms.specs.TypeNames.{type_named}
+use Rattle.isle_terms.specs.Whole.{Whole, termed, constant_type}
+use Rattle.isle_terms.proofs.MadeTerms.{first_there, term_made, made_of, term_is, types_are, all_at}
 use Rattle.isle_sema.proofs.NamesApart.{types_apart, place_is}
 use Rattle.isle_sema.proofs.RuleRoots.{signature_at}
 use Rattle.isle_sema.proofs.TypedParts.{IsTypedIn}

@@ -31,7 +31,7 @@ use Rattle.isle_types.specs.TypeRows.{on, type_repeats, field_repeats, field_typ
 use Rattle.isle_types.proofs.BeforeLaws.{grown, made_more}
 use Rattle.isle_types.proofs.SymbolsApart.{nowhere, all_first, all_last}
 use Rattle.isle_sema.proofs.Firsts.{later_none}
-use Rattle.isle_sema.proofs.MadeTerms.{all_at}
+use Rattle.isle_terms.proofs.MadeTerms.{all_at}
 use Rattle.isle_sema.proofs.TermFaults.{is_made_twice}
 
 -- ---- names of types, and of made terms

@@ -17,11 +17,12 @@ use Rattle.isle_declarations.specs.declared.terms.Origin.{Origin}
 use Rattle.isle_declarations.specs.declared.terms.Origin.TheVariants as origin
 use Rattle.isle_declarations.specs.Signatures.{Signature, ExtractorDef, extractors, term_named, extractor_named}
 use Rattle.isle_declarations.specs.Terms.{terms, is_made}
-use Rattle.isle_sema.specs.Environment.{whole_of, extractor_from, kind_from, constructor_named}
-use Rattle.isle_sema.specs.TypeNames.{type_named}
-use Rattle.isle_sema.specs.Whole.{Whole, termed, has_extractor}
+use Rattle.isle_terms.specs.Whole.{whole_of}
+use Rattle.isle_terms.specs.TermPass.{extractor_from, kind_from, constructor_named}
+use Rattle.isle_terms.specs.TypeNames.{type_named}
+use Rattle.isle_terms.specs.Whole.{Whole, termed, has_extractor}
 use Rattle.isle_sema.proofs.MadeForms.{made_form}
-use Rattle.isle_sema.proofs.MadeTerms.{term_made, term_is, types_are, all_at}
+use Rattle.isle_terms.proofs.MadeTerms.{term_made, term_is, types_are, all_at}
 use Rattle.isle_sema.proofs.RuleRoots.{signature_at}
 use Rattle.isle_sema.proofs.TypedParts.{IsTypedIn}
 use Rattle.isle_sema.proofs.TypedTerms.{IsPlainTerm, plain_terms}

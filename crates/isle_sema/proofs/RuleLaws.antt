@@ -1,9 +1,8 @@
--- The rules that are taken break no row, call no term that has a rule, and have trees.
+-- The rules that are taken break no row, use no term that has a rule, and have trees.
 use Rattle.std.proofs.Common.{◌≡◌, ℕ, zero, suc, ◌+◌, ◌≤◌, length, arith, Bool, true, false, cond, List, [], ◌∷◌, ◌++◌, map, Option, Some, None, refl, sym, ap, ◌∙◌}
 use Rattle.std.specs.Prelude.{◌||◌, is_some, option_map, option_and_then, slice_get}
 use Rattle.std.specs.List.{list_any}
 use Rattle.std.proofs.lemmas.List.{length-map, append-nil}
-use Rattle.std.proofs.lemmas.List.Folds.{list_any-append}
 use Rattle.std.proofs.lemmas.Bool.{or_parts, or_from}
 use Rattle.isle_core.specs.declared.TermId.{TermId}
 use Rattle.isle_core.specs.declared.TypeId.{TypeId}
@@ -15,21 +14,17 @@ use Rattle.isle_ast.specs.Views.{iflet, patterns_of as seen_patterns}
 use Rattle.isle_ast.specs.Tree as tree
 use Rattle.isle_ast.specs.Tree.{Expr, Exprs, NoExpr, AnExpr, Lets, NoLet, ALet, IfLet, Def}
 use Rattle.isle_declarations.specs.Terms.{terms}
-use Rattle.isle_declarations.specs.Signatures.{Signature, RuleDef, rule_defs, has_rule, signature_named, term_named}
-use Rattle.isle_sema.specs.Calls.{count_of, calls_ruled, any_calls_ruled, lets_call_ruled}
+use Rattle.isle_declarations.specs.Signatures.{Signature, RuleDef, rule_defs, signature_named, term_named}
 use Rattle.isle_types.specs.declared.row.Row.{Row}
-use Rattle.isle_sema.specs.Locals.{Local, Bound, of_patterns, bound_local, locals_of}
+use Rattle.isle_sema.specs.Locals.{Local, Bound, of_patterns, locals_of}
 use Rattle.isle_sema.specs.Scope.{Scope}
-use Rattle.isle_sema.specs.Site.{Site, NotBuiltAt}
-use Rattle.isle_sema.specs.TypeNames.{type_named}
-use Rattle.isle_sema.specs.Whole.{Whole, termed, arg_types, ret_type}
-use Rattle.isle_sema.specs.PatternPass.{PatternsPass, patterns_pass, first_expected, later_expected}
-use Rattle.isle_sema.specs.ExprPass.{ExprPass, expr_pass, exprs_pass, lets_pass}
+use Rattle.isle_terms.specs.Whole.{Whole, termed, arg_types, ret_type}
+use Rattle.isle_sema.specs.PatternPass.{PatternsPass, patterns_pass}
+use Rattle.isle_sema.specs.ExprPass.{ExprPass, expr_pass}
 use Rattle.isle_sema.specs.RulePass.{patterns_of, right_side_of, conditions_of, rule_from, rule_pass, rules_pass}
-use Rattle.isle_sema.specs.RuleRows.{is_unknown, is_call_misfit}
-use Rattle.isle_types.specs.TypeRows.{on}
 use Rattle.isle_sema.specs.Fault.{OfRules, broken_in, fault_after}
-use Rattle.isle_sema.specs.Judging.{is_ruled_call, unjudged, judge_all, lowest}
+use Rattle.isle_sema.specs.Language.{uses_ruled}
+use Rattle.isle_sema.specs.Judging.{unjudged, judge_all, lowest}
 use Rattle.isle_sema.specs.Known.{IsHead, MayBeCalled}
 use Rattle.isle_sema.specs.ElaboratedAt.{ArePatternsAt, IsExprAt, AreSides}
 use Rattle.isle_sema.specs.declared.judged.Judged.{Judged}
@@ -37,12 +32,12 @@ use Rattle.isle_sema.specs.declared.sides.Sides.{Sides}
 use Rattle.isle_sema.specs.declared.known.Called.{Called}
 use Rattle.isle_declarations.specs.Symbols.{index_of}
 use Rattle.isle_declarations.specs.Heads.{terms_of}
-use Rattle.isle_sema.specs.Taken.{row_of, calls_rule, taken_rule, taken_rules}
-use Rattle.isle_sema.proofs.Firsts.{later_none, none_later, any_parts}
-use Rattle.isle_sema.proofs.Judgements.{ruled_all, lowest_is, all_known}
+use Rattle.isle_sema.specs.Taken.{row_of, taken_rule, taken_rules}
+use Rattle.isle_sema.proofs.Firsts.{later_none, none_later}
+use Rattle.isle_sema.proofs.Judgements.{ruled_both, lowest_is}
 use Rattle.isle_declarations.proofs.LookUps.{at_place, named_at, named_is}
 use Rattle.isle_declarations.proofs.SymbolLaws.{index_below}
-use Rattle.isle_sema.proofs.MadeTerms.{first_there, before_both}
+use Rattle.isle_terms.proofs.MadeTerms.{first_there, before_both}
 
 -- a rule breaks a row
 abbrev pub is_broken : Whole → RuleDef → Bool
@@ -86,70 +81,6 @@ none_fault w before (tree.ExternConst name ty pos ∷ ds) h = none_fault w (befo
 none_fault w before (tree.Extractor term params template pos ∷ ds) h = none_fault w (before ++ tree.Extractor term params template pos ∷ []) ds h
 none_fault w before (tree.Converter from to term pos ∷ ds) h = none_fault w (before ++ tree.Converter from to term pos ∷ []) ds h
 none_fault w before (tree.Passed head items pos ∷ ds) h = none_fault w (before ++ tree.Passed head items pos ∷ []) ds h
-
--- ---- calls of terms that have rules
-
-ruled_at : (w : Whole) (name : List ℕ) (o : Option Signature) (count : ℕ) → termed w name ≡ o → is_call_misfit w o count ≡ false → on o (λ (s : Signature). has_rule (rule_defs w.defs) s.term) ≡ has_rule (rule_defs w.defs) name
-ruled_at w name None count is h = absurd cc
-ruled_at w name (Some s) count is h = ap (has_rule (rule_defs w.defs)) (named_is (terms w.defs) name s is)
-
-both_are : (a b c d : Bool) → a ≡ c → b ≡ d → a || b ≡ c || d
-both_are a b c d e f = ap (λ x. x || b) e ∙ ap (λ x. c || x) f
-
-split_any : (test : Site → Bool) (xs ys : List Site) → list_any test (xs ++ ys) ≡ list_any test xs || list_any test ys
-split_any test xs ys = list_any-append test xs ys
-
-mutual
-  -- an expression whose names are known calls a term that has a rule where one of its parts does
-  pub calls_here : (w : Whole) (locals : List Local) (next : ℕ) (expected : Option TypeId) (e : Expr) → list_any (is_unknown w) (expr_pass w locals next expected e).sites ≡ false
-      → list_any (is_ruled_call w) (expr_pass w locals next expected e).sites ≡ calls_ruled (rule_defs w.defs) e
-  calls_here w locals next expected (tree.Number n) h = refl
-  calls_here w locals next expected (tree.Fact b) h = refl
-  calls_here w locals next expected (tree.Name name) h = refl
-  calls_here w locals next expected (tree.Constant name) h = refl
-  calls_here w locals next expected (tree.Let ls inner) h =
-      let bound = lets_pass w locals next ls in
-      let rest = (expr_pass w bound.locals bound.next expected inner).sites in
-      let k = any_parts (is_unknown w) bound.sites rest h in
-      split_any (is_ruled_call w) bound.sites rest
-      ∙ both_are (list_any (is_ruled_call w) bound.sites) (list_any (is_ruled_call w) rest) (lets_call_ruled (rule_defs w.defs) ls) (calls_ruled (rule_defs w.defs) inner)
-      (calls_let w locals next ls k.0) (calls_here w bound.locals bound.next expected inner k.1)
-  calls_here w locals next expected (tree.Call name es) h =
-      let sites = (exprs_pass w locals next (arg_types w (termed w name)) es).sites in
-      let k = or_parts (is_call_misfit w (termed w name) (count_of es)) (list_any (is_unknown w) sites) h in
-      both_are (on (termed w name) (λ (s : Signature). has_rule (rule_defs w.defs) s.term)) (list_any (is_ruled_call w) sites) (has_rule (rule_defs w.defs) name) (any_calls_ruled (rule_defs w.defs) es)
-      (ruled_at w name (termed w name) (count_of es) refl k.0) (calls_in w locals next (arg_types w (termed w name)) es k.1)
-
-  calls_in : (w : Whole) (locals : List Local) (next : ℕ) (expected : List (Option TypeId)) (es : Exprs) → list_any (is_unknown w) (exprs_pass w locals next expected es).sites ≡ false
-      → list_any (is_ruled_call w) (exprs_pass w locals next expected es).sites ≡ any_calls_ruled (rule_defs w.defs) es
-  calls_in w locals next expected NoExpr h = refl
-  calls_in w locals next expected (AnExpr e es) h =
-      let one = expr_pass w locals next (first_expected expected) e in
-      let first = one.sites in
-      let rest = (exprs_pass w locals one.next (later_expected expected) es).sites in
-      let k = any_parts (is_unknown w) first rest h in
-      split_any (is_ruled_call w) first rest
-      ∙ both_are (list_any (is_ruled_call w) first) (list_any (is_ruled_call w) rest) (calls_ruled (rule_defs w.defs) e) (any_calls_ruled (rule_defs w.defs) es)
-      (calls_here w locals next (first_expected expected) e k.0) (calls_in w locals one.next (later_expected expected) es k.1)
-
-  calls_let : (w : Whole) (locals : List Local) (next : ℕ) (ls : Lets) → list_any (is_unknown w) (lets_pass w locals next ls).sites ≡ false → list_any (is_ruled_call w) (lets_pass w locals next ls).sites ≡ lets_call_ruled (rule_defs w.defs) ls
-  calls_let w locals next NoLet h = refl
-  calls_let w locals next (ALet var ty e ls) h =
-      let of = type_named w.defs ty in
-      let value = expr_pass w locals (suc next) of e in
-      let more = bound_local locals var of next in
-      let rest = (lets_pass w more value.next ls).sites in
-      let k = any_parts (is_unknown w) value.sites rest h in
-      split_any (is_ruled_call w) value.sites rest
-      ∙ both_are (list_any (is_ruled_call w) value.sites) (list_any (is_ruled_call w) rest) (calls_ruled (rule_defs w.defs) e) (lets_call_ruled (rule_defs w.defs) ls)
-      (calls_here w locals (suc next) of e k.0) (calls_let w more value.next ls k.1)
-
--- the same of a rule that breaks no row
-rule_calls : (w : Whole) (r : RuleDef) → is_broken w r ≡ false → calls_rule w r ≡ calls_ruled (rule_defs w.defs) r.rhs
-rule_calls w r h =
-    let known = all_known w r (none_is (row_of w r) h) in
-    let right = any_parts (is_unknown w) (patterns_of w r).sites (map (λ (c : IfLet). NotBuiltAt) r.iflets ++ (right_side_of w r).sites) known in
-    calls_here w (of_patterns (patterns_of w r).scope) (length (patterns_of w r).scope) _ r.rhs (any_parts (is_unknown w) (map (λ (c : IfLet). NotBuiltAt) r.iflets) (right_side_of w r).sites right.1).1
 
 -- ---- what the code knows of a rule
 
@@ -196,7 +127,7 @@ sides_are w r own sides old vars bound last before first h none start begun agai
       right = e.sites ∙ ap (λ (x : ExprPass). judge_all w first x.sites) right ∙ ap (λ (j : Judged). judge_all w j (right_side_of w r).sites) again;
     }
 
-refused : (w : Whole) (i : ℕ) (r : RuleDef) → is_broken w r || calls_rule w r ≡ true → None ≡ taken_rule w i r
+refused : (w : Whole) (i : ℕ) (r : RuleDef) → is_broken w r || uses_ruled w r ≡ true → None ≡ taken_rule w i r
 refused w i r h = sym (ap (λ b. cond b None (rule_pass w i r)) h)
 
 or_true : (a b : Bool) → b ≡ true → a || b ≡ true
@@ -204,22 +135,23 @@ or_true true b h = refl
 or_true false b h = h
 
 untreed : (w : Whole) (i : ℕ) (r : RuleDef) → rule_pass w i r ≡ None → None ≡ taken_rule w i r
-untreed w i r h = by (is_broken w r || calls_rule w r)
+untreed w i r h = by (is_broken w r || uses_ruled w r)
   where
     by : (b : Bool) → None ≡ cond b None (rule_pass w i r)
     by true = refl
     by false = sym h
 
--- a rule that calls a term that has a rule
-pub with_ruled : (w : Whole) (i : ℕ) (r : RuleDef) (sides : Sides) → AreSides w r sides → sides.right.ruled ≡ true → None ≡ taken_rule w i r
-with_ruled w i r sides p h = refused w i r (or_true (is_broken w r) (calls_rule w r) (sym (ruled_all w (right_side_of w r).sites) ∙ ap (λ (j : Judged). j.ruled) (sym p.right) ∙ h))
-
-pub unruled_calls : (w : Whole) (r : RuleDef) (sides : Sides) → AreSides w r sides → sides.right.ruled ≡ false → calls_rule w r ≡ false
-unruled_calls w r sides p h = sym (ruled_all w (right_side_of w r).sites) ∙ ap (λ (j : Judged). j.ruled) (sym p.right) ∙ h
-
 pub no_conditions : (cs : List AstIfLet) → length cs ≡ 0 → map iflet cs ≡ []
 no_conditions [] h = refl
 no_conditions (c ∷ cs) h = absurd (omega (arith, h))
+
+-- whether a rule uses a term that has a rule is what is judged of both sides
+pub ruled_is : (w : Whole) (r : RuleDef) (sides : Sides) (ruled : Bool) → r.iflets ≡ [] → AreSides w r sides → ruled ≡ sides.left.ruled || sides.right.ruled → ruled ≡ uses_ruled w r
+ruled_is w r sides ruled none p h = h ∙ ap (λ (j : Judged). j.ruled || sides.right.ruled) p.left ∙ ap (λ (j : Judged). (judge_all w unjudged (patterns_of w r).sites).ruled || j.ruled) p.right ∙ ruled_both w r none
+
+-- a rule that does so is not taken
+pub with_ruled : (w : Whole) (i : ℕ) (r : RuleDef) → uses_ruled w r ≡ true → None ≡ taken_rule w i r
+with_ruled w i r h = refused w i r (or_true (is_broken w r) (uses_ruled w r) h)
 
 -- what the code finds is a row where the rule breaks one
 pub row_found : (w : Whole) (r : RuleDef) (own : Called) (sides : Sides) (found : Option Row) (count : ℕ) → IsHead w r.term own → r.iflets ≡ [] → AreSides w r sides → count ≡ length r.args
@@ -230,7 +162,7 @@ row_found w r own sides found count h none p as_many f =
 
 -- a rule that breaks a row
 pub with_row : (w : Whole) (i : ℕ) (r : RuleDef) → is_some (row_of w r) ≡ true → None ≡ taken_rule w i r
-with_row w i r h = refused w i r (ap (λ b. b || calls_rule w r) h)
+with_row w i r h = refused w i r (ap (λ b. b || uses_ruled w r) h)
 
 -- a rule without trees
 pub without_trees : (w : Whole) (i : ℕ) (r : RuleDef) → (patterns_of w r).trees ≡ None → None ≡ taken_rule w i r
@@ -254,13 +186,13 @@ without_tree w i r h = untreed w i r (by (term_named (terms w.defs) r.term) (pat
     by (Some term) (Some args) (Some iflets) = ap (option_map (rule_from w i r term args iflets)) h
 
 -- a rule that is taken
-pub taken_made : (w : Whole) (i : ℕ) (r : RuleDef) (own : Called) (args : List CorePattern) (rhs : CoreExpr) → IsHead w r.term own → r.iflets ≡ [] → is_some (row_of w r) ≡ false → calls_rule w r ≡ false
+pub taken_made : (w : Whole) (i : ℕ) (r : RuleDef) (own : Called) (args : List CorePattern) (rhs : CoreExpr) → IsHead w r.term own → r.iflets ≡ [] → is_some (row_of w r) ≡ false → uses_ruled w r ≡ false
     → (patterns_of w r).trees ≡ Some args → (right_side_of w r).tree ≡ Some rhs → Some (rule_from w i r own.term args [] rhs) ≡ taken_rule w i r
 taken_made w i r own args rhs h none row calls trees tree =
     let all : Option TermId → Option (List CorePattern) → List IfLet → Option CoreExpr → Option CoreRule = λ term ts cs t.
     option_and_then (λ (term : TermId). option_and_then (λ (xs : List CorePattern). option_and_then (λ (iflets : List CoreIfLet). option_map (rule_from w i r term xs iflets) t) (conditions_of cs)) ts) term in
     let number : term_named (terms w.defs) r.term ≡ Some own.term = ap (term_named (terms w.defs)) (sym (named_is (terms w.defs) r.term h.signature h.there)) ∙ h.called.term in
-    sym (ap (λ b. cond b None (rule_pass w i r)) (or_from (is_broken w r) (calls_rule w r) row calls)
+    sym (ap (λ b. cond b None (rule_pass w i r)) (or_from (is_broken w r) (uses_ruled w r) row calls)
     ∙ ap (λ o. all o (patterns_of w r).trees r.iflets (right_side_of w r).tree) number
     ∙ ap (λ o. all (Some own.term) o r.iflets (right_side_of w r).tree) trees
     ∙ ap (λ cs. all (Some own.term) (Some args) cs (right_side_of w r).tree) none
@@ -276,26 +208,26 @@ without_term w i r h = untreed w i r (ap (λ o. option_and_then (λ (term : Term
 
 -- ---- the rules that are taken
 
--- no rule breaks a row or calls a term that has a rule, and these are the trees
-pub record AreTaken (w : Whole) (all : List RuleDef) (i : ℕ) (rules : List RuleDef) (xs : List CoreRule) : Type 0 where
+-- no rule breaks a row or uses a term that has a rule, and these are the trees
+pub record AreTaken (w : Whole) (i : ℕ) (rules : List RuleDef) (xs : List CoreRule) : Type 0 where
   pub kept : list_any (is_broken w) rules ≡ false
-  pub calls : list_any (λ (r : RuleDef). calls_ruled all r.rhs) rules ≡ false
+  pub calls : list_any (uses_ruled w) rules ≡ false
   pub trees : rules_pass w i rules ≡ Some xs
 
 refused_first : {X : Type 0} (b : Bool) (o : Option X) (x : X) → cond b None o ≡ Some x → (b ≡ false) × (o ≡ Some x)
 refused_first true o x h = absurd cc
 refused_first false o x h = (refl, h)
 
-pub taken_are : (w : Whole) (i : ℕ) (rules : List RuleDef) (xs : List CoreRule) → taken_rules w i rules ≡ Some xs → AreTaken w (rule_defs w.defs) i rules xs
+pub taken_are : (w : Whole) (i : ℕ) (rules : List RuleDef) (xs : List CoreRule) → taken_rules w i rules ≡ Some xs → AreTaken w i rules xs
 taken_are w i [] xs h = record { kept = refl; calls = refl; trees = h }
 taken_are w i (r ∷ rules) xs h =
     let f = first_there (taken_rule w i r) (taken_rules w (i + 1) rules) xs h in
-    let own = refused_first (is_broken w r || calls_rule w r) (rule_pass w i r) f.first f.here in
-    let k = or_parts (is_broken w r) (calls_rule w r) own.0 in
+    let own = refused_first (is_broken w r || uses_ruled w r) (rule_pass w i r) f.first f.here in
+    let k = or_parts (is_broken w r) (uses_ruled w r) own.0 in
     let rest = taken_are w (i + 1) rules f.others f.found in
     record {
       kept = or_from (is_broken w r) (list_any (is_broken w) rules) k.0 rest.kept;
-      calls = or_from (calls_ruled (rule_defs w.defs) r.rhs) (list_any (λ (x : RuleDef). calls_ruled (rule_defs w.defs) x.rhs) rules) (sym (rule_calls w r k.0) ∙ k.1) rest.calls;
+      calls = or_from (uses_ruled w r) (list_any (uses_ruled w) rules) k.1 rest.calls;
       trees = before_both (rule_pass w i r) (rules_pass w (i + 1) rules) f.first f.others own.1 rest.trees ∙ ap Some (sym f.all);
     }
 
@@ -303,11 +235,11 @@ kept_rule : {X : Type 0} (b : Bool) (o : Option X) → b ≡ false → cond b No
 kept_rule true o h = absurd cc
 kept_rule false o h = refl
 
-pub are_taken : (w : Whole) (i : ℕ) (rules : List RuleDef) (xs : List CoreRule) → AreTaken w (rule_defs w.defs) i rules xs → taken_rules w i rules ≡ Some xs
+pub are_taken : (w : Whole) (i : ℕ) (rules : List RuleDef) (xs : List CoreRule) → AreTaken w i rules xs → taken_rules w i rules ≡ Some xs
 are_taken w i [] xs t = t.trees
 are_taken w i (r ∷ rules) xs t =
     let f = first_there (rule_pass w i r) (rules_pass w (i + 1) rules) xs t.trees in
     let k = or_parts (is_broken w r) (list_any (is_broken w) rules) t.kept in
-    let c = or_parts (calls_ruled (rule_defs w.defs) r.rhs) (list_any (λ (x : RuleDef). calls_ruled (rule_defs w.defs) x.rhs) rules) t.calls in
-    let own : taken_rule w i r ≡ Some f.first = kept_rule (is_broken w r || calls_rule w r) (rule_pass w i r) (or_from (is_broken w r) (calls_rule w r) k.0 (rule_calls w r k.0 ∙ c.0)) ∙ f.here in
+    let c = or_parts (uses_ruled w r) (list_any (uses_ruled w) rules) t.calls in
+    let own : taken_rule w i r ≡ Some f.first = kept_rule (is_broken w r || uses_ruled w r) (rule_pass w i r) (or_from (is_broken w r) (uses_ruled w r) k.0 c.0) ∙ f.here in
     before_both (taken_rule w i r) (taken_rules w (i + 1) rules) f.first f.others own (are_taken w (i + 1) rules f.others (record { kept = k.1; calls = c.1; trees = f.found })) ∙ ap Some (sym f.all)

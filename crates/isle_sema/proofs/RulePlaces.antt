@@ -9,11 +9,11 @@ use Rattle.isle_ast.specs.Tree as tree
 use Rattle.isle_ast.specs.Tree.{Def}
 use Rattle.isle_ast.specs.Positions.{place_of}
 use Rattle.isle_declarations.specs.Signatures.{RuleDef, rule_defs}
-use Rattle.isle_sema.specs.Whole.{Whole}
+use Rattle.isle_terms.specs.Whole.{Whole}
 use Rattle.isle_sema.specs.RulePass.{rule_pass, rules_pass}
-use Rattle.isle_sema.specs.Environment.{whole_of}
+use Rattle.isle_terms.specs.Whole.{whole_of}
 use Rattle.isle_sema.specs.Typing.{Typed}
-use Rattle.isle_sema.proofs.MadeTerms.{first_there}
+use Rattle.isle_terms.proofs.MadeTerms.{first_there}
 use Rattle.isle_sema.proofs.TypedParts.{typed_in}
 use Rattle.isle_sema.proofs.RuleRoots.{rule_made}
 

@@ -12,7 +12,7 @@ use Rattle.isle_declarations.specs.Symbols.{index_of}
 use Rattle.isle_declarations.specs.Terms.{terms}
 use Rattle.isle_declarations.proofs.LookUps.{at_place, named_at}
 use Rattle.isle_sema.specs.RulePass.{patterns_of, right_side_of, conditions_of, rule_from, rule_pass}
-use Rattle.isle_sema.specs.Whole.{Whole, termed}
+use Rattle.isle_terms.specs.Whole.{Whole, termed}
 
 -- what is made of something that may be there
 pub record IsMapped {X Y : Type 0} (f : X → Y) (o : Option X) (y : Y) : Type 0 where

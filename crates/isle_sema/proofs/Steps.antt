@@ -2,7 +2,7 @@
 use Rattle.std.proofs.Common.{◌≡◌, ℕ, zero, suc, ◌+◌, ◌<◌, ◌≤◌, Bool, true, false, cond, List, [], ◌∷◌, ◌++◌, length, map, get_or, Option, Some, None, refl, sym, ap, ◌∙◌, subst, arith}
 use Rattle.std.specs.Prelude.{drop, option_map, slice_get}
 use Rattle.std.specs.Global.{Vec}
-use Rattle.std.proofs.lemmas.List.{drop_all, drop_more, map-append, append_assoc, append-nil}
+use Rattle.std.proofs.lemmas.List.{drop_all, drop_more, map-append, append-nil}
 use Rattle.std.proofs.lemmas.List.Sums.{fold-append}
 use Rattle.isle_core.specs.declared.TypeId.{TypeId}
 use Rattle.isle_core.specs.declared.rules.Pattern.{Pattern as CodePattern}
@@ -22,9 +22,11 @@ use Rattle.isle_declarations.specs.Collected.{rule as seen_rule}
 use Rattle.isle_sema.specs.ElaboratedAt.{expr_trees, IsExprAt, AreExprsAt}
 use Rattle.isle_sema.specs.Locals.{Local, Bound, locals_of}
 use Rattle.isle_sema.specs.Scope.{Scope}
-use Rattle.isle_sema.specs.Whole.{Whole}
-use Rattle.isle_sema.specs.Environment.{whole_of}
-use Rattle.isle_sema.specs.PatternPass.{PatternPass, PatternsPass, pattern_pass, patterns_pass, first_expected, later_expected, tree_before}
+use Rattle.isle_terms.proofs.TermSteps.{before, one_before}
+use Rattle.isle_terms.specs.Whole.{Whole}
+use Rattle.isle_terms.specs.Whole.{whole_of}
+use Rattle.isle_sema.specs.PatternPass.{PatternPass, PatternsPass, pattern_pass, patterns_pass, first_expected, later_expected}
+use Rattle.isle_terms.specs.TermPass.{tree_before}
 use Rattle.isle_sema.specs.ExprPass.{ExprPass, ExprsPass, expr_pass, exprs_pass, expr_before}
 use Rattle.isle_sema.specs.Judging.{judge, judge_all}
 use Rattle.isle_sema.specs.Taken.{taken_rule, taken_rules}
@@ -48,14 +50,6 @@ later_got : (tys : List TypeId) (i : ℕ) → later_expected (map Some (drop i t
 later_got tys i = let next : suc i ≡ i + 1 = omega arith in later_by tys i ∙ ap (λ n. map Some (drop n tys)) next
 
 -- ---- trees in order
-
--- trees before others
-abbrev pub before : {X : Type 0} → List X → Option (List X) → Option (List X)
-before xs o = option_map (λ (ys : List _). xs ++ ys) o
-
-pub one_before : {X : Type 0} (xs : List X) (x : X) (o : Option (List X)) → before xs (tree_before (Some x) o) ≡ before (xs ++ x ∷ []) o
-one_before xs x None = refl
-one_before xs x (Some r) = ap Some (sym (append_assoc xs (x ∷ []) r))
 
 nothing_there : {X : Type 0} (b : Bool) (o : Option X) → o ≡ None → cond b o None ≡ None
 nothing_there true o h = h

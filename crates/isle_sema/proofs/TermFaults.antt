@@ -1,25 +1,28 @@
--- The rows of declarations, external constructors and extractors, and heads are kept where the code takes them.
-use Rattle.std.proofs.Common.{◌≡◌, ℕ, Bool, true, false, cond, List, length, [], ◌∷◌, ◌++◌, Some, None, refl, sym, subst}
+-- The rows of declarations, external constructors and extractors, converters, and heads are kept where the code takes them.
+use Rattle.std.proofs.Common.{◌≡◌, ℕ, Bool, true, false, cond, List, length, [], ◌∷◌, ◌++◌, Some, None, refl, sym, ap, ◌∙◌, subst}
 use Rattle.std.specs.Prelude.{◌&&◌, ◌||◌, not, is_some, nat_le}
-use Rattle.std.specs.List.{list_all, list_any}
+use Rattle.std.specs.List.{list_all, list_any, cons_option}
+use Rattle.std.proofs.lemmas.List.{append-nil}
+use Rattle.std.proofs.lemmas.List.Elements.{filter_map-append}
 use Rattle.std.proofs.lemmas.Bool.{or_parts, or_from, and_parts}
 use Rattle.isle_ast.specs.Tree as tree
 use Rattle.isle_ast.specs.Tree.{Def}
 use Rattle.isle_declarations.specs.Symbols.{index_of}
 use Rattle.isle_declarations.specs.declared.terms.Origin.TheVariants as origin
 use Rattle.isle_declarations.specs.DeclaredTypes.{made_terms}
-use Rattle.isle_sema.specs.TypeNames.{type_named}
+use Rattle.isle_terms.specs.TypeNames.{type_named}
 use Rattle.isle_declarations.specs.Signatures.{Signature, Extern, ExtractorDef, RuleDef, signature_of, extern_of, extractor_of, signatures, externs, extractors, rule_defs, signature_named, func_named}
 use Rattle.isle_declarations.specs.Heads.{terms_of, extern_terms, extractor_terms}
 use Rattle.isle_declarations.specs.Repeats.{repeats_after}
 use Rattle.isle_sema.specs.Language.{is_built_def}
-use Rattle.isle_sema.specs.Tests.{has_undeclared, has_unknown}
+use Rattle.isle_terms.specs.Converters.{Conversion, converter_of, converters, is_misfit}
+use Rattle.isle_terms.specs.Tests.{has_undeclared, has_unknown, have_misfit}
 use Rattle.isle_types.specs.declared.row.Row.TheVariants as row
 use Rattle.isle_types.specs.declared.row.Row.{Row}
 use Rattle.isle_types.proofs.BeforeLaws.{grown}
-use Rattle.isle_sema.specs.Whole.{Whole}
+use Rattle.isle_terms.specs.Whole.{Whole}
 use Rattle.isle_sema.specs.Fault.{OfTerms, OfExtractors, broken_in, fault_after}
-use Rattle.isle_sema.specs.Environment.{whole_of}
+use Rattle.isle_terms.specs.Whole.{whole_of}
 use Rattle.isle_sema.proofs.Firsts.{first_none, none_first, later_none, none_later, unchanged}
 
 -- ---- extractors
@@ -36,7 +39,7 @@ extractors_none w before (tree.TypeDecl name is_extern is_nodebug body pos ∷ d
 extractors_none w before (tree.ExternExtractor term func infallible pos ∷ ds) f = extractors_none w (before ++ tree.ExternExtractor term func infallible pos ∷ []) ds f
 extractors_none w before (tree.ExternConst name ty pos ∷ ds) f = extractors_none w (before ++ tree.ExternConst name ty pos ∷ []) ds f
 extractors_none w before (tree.Extractor term params template pos ∷ ds) f = absurd cc
-extractors_none w before (tree.Converter from to term pos ∷ ds) f = absurd cc
+extractors_none w before (tree.Converter from to term pos ∷ ds) f = extractors_none w (before ++ tree.Converter from to term pos ∷ []) ds f
 extractors_none w before (tree.Passed head items pos ∷ ds) f = extractors_none w (before ++ tree.Passed head items pos ∷ []) ds f
 
 -- ---- terms
@@ -226,15 +229,81 @@ terms_kept all before (tree.ExternConst name ty pos ∷ ds) f h =
     let d = tree.ExternConst name ty pos in
     behind all before d ds refl refl refl (terms_kept all (before ++ d ∷ []) ds f h)
 terms_kept all before (tree.Extractor term params template pos ∷ ds) f h = absurd cc
-terms_kept all before (tree.Converter from to term pos ∷ ds) f h = absurd cc
+terms_kept all before (tree.Converter from to term pos ∷ ds) f h =
+    let d = tree.Converter from to term pos in
+    let l = later_none (λ (r : Row). (r, pos)) (broken_in OfTerms (record { whole = whole_of all; before = before }) d) (fault_after OfTerms (whole_of all) (before ++ d ∷ []) ds) h in
+    behind all before d ds refl refl refl (terms_kept all (before ++ d ∷ []) ds f l.1)
 terms_kept all before (tree.Passed head items pos ∷ ds) f h =
     let d = tree.Passed head items pos in
     behind all before d ds refl refl refl (terms_kept all (before ++ d ∷ []) ds f h)
 
+-- ---- converters
+
+-- the converters are those before a definition that is none
+unconverted : (before : List Def) (d : Def) → converter_of d ≡ None → converters (before ++ d ∷ []) ≡ converters before
+unconverted before d none = filter_map-append converter_of before (d ∷ []) ∙ ap (λ o. converters before ++ cons_option o []) none ∙ append-nil (converters before)
+
+-- and one more behind them
+converted_more : (before : List Def) (d : Def) (c : Conversion) → converter_of d ≡ Some c → converters (before ++ d ∷ []) ≡ converters before ++ c ∷ []
+converted_more before d c some = filter_map-append converter_of before (d ∷ []) ∙ ap (λ o. converters before ++ cons_option o []) some
+
+-- a converter of a term that is declared, and that fits
+converting_kept : (a b : Bool) → cond a (Some row.TermUndeclared) (cond b (Some row.ConverterMisfit) None) ≡ None → a || b ≡ false
+converting_kept true b h = absurd cc
+converting_kept false true h = absurd cc
+converting_kept false false h = refl
+
+converting_from : (a b : Bool) → a ≡ false → b ≡ false → cond a (Some row.TermUndeclared) (cond b (Some row.ConverterMisfit) None) ≡ None
+converting_from true b ha hb = absurd cc
+converting_from false true ha hb = absurd cc
+converting_from false false ha hb = refl
+
+-- the rows of terms are kept: no converter is wrong
+pub converters_kept : (all before ds : List Def) → list_all is_built_def ds ≡ true → fault_after OfTerms (whole_of all) before ds ≡ None → have_misfit all (converters before) (converters ds) ≡ false
+converters_kept all before [] f h = refl
+converters_kept all before (tree.Converter from to term pos ∷ ds) f h =
+    let d = tree.Converter from to term pos in
+    let x : Conversion = record { from = from; to = to; term = term } in
+    let unknown = not (is_some (signature_named (signatures all) term)) in
+    let l = later_none (λ (r : Row). (r, pos)) (broken_in OfTerms (record { whole = whole_of all; before = before }) d) (fault_after OfTerms (whole_of all) (before ++ d ∷ []) ds) h in
+    let own = converting_kept unknown (is_misfit all (converters before) x) l.0 in
+    let rest = ap (λ cs. have_misfit all cs (converters ds)) (sym (converted_more before d x refl)) ∙ converters_kept all (before ++ d ∷ []) ds f l.1 in
+    or_from (unknown || is_misfit all (converters before) x) (have_misfit all (converters before ++ x ∷ []) (converters ds)) own rest
+converters_kept all before (tree.Decl term pure multi partial recursive args ret pos ∷ ds) f h =
+    let d = tree.Decl term pure multi partial recursive args ret pos in
+    let g = and_parts (is_built_def d) (list_all is_built_def ds) f in
+    let l = later_none (λ (r : Row). (r, pos)) (broken_in OfTerms (record { whole = whole_of all; before = before }) d) (fault_after OfTerms (whole_of all) (before ++ d ∷ []) ds) h in
+    ap (λ cs. have_misfit all cs (converters ds)) (sym (unconverted before d refl)) ∙ converters_kept all (before ++ d ∷ []) ds g.1 l.1
+converters_kept all before (tree.ExternConstructor term func pos ∷ ds) f h =
+    let d = tree.ExternConstructor term func pos in
+    let l = later_none (λ (r : Row). (r, pos)) (broken_in OfTerms (record { whole = whole_of all; before = before }) d) (fault_after OfTerms (whole_of all) (before ++ d ∷ []) ds) h in
+    ap (λ cs. have_misfit all cs (converters ds)) (sym (unconverted before d refl)) ∙ converters_kept all (before ++ d ∷ []) ds f l.1
+converters_kept all before (tree.ExternExtractor term func infallible pos ∷ ds) f h =
+    let d = tree.ExternExtractor term func infallible pos in
+    let l = later_none (λ (r : Row). (r, pos)) (broken_in OfTerms (record { whole = whole_of all; before = before }) d) (fault_after OfTerms (whole_of all) (before ++ d ∷ []) ds) h in
+    ap (λ cs. have_misfit all cs (converters ds)) (sym (unconverted before d refl)) ∙ converters_kept all (before ++ d ∷ []) ds f l.1
+converters_kept all before (tree.Rule name prio term args iflets rhs pos ∷ ds) f h =
+    let d = tree.Rule name prio term args iflets rhs pos in
+    let g = and_parts (is_built_def d) (list_all is_built_def ds) f in
+    let l = later_none (λ (r : Row). (r, pos)) (broken_in OfTerms (record { whole = whole_of all; before = before }) d) (fault_after OfTerms (whole_of all) (before ++ d ∷ []) ds) h in
+    ap (λ cs. have_misfit all cs (converters ds)) (sym (unconverted before d refl)) ∙ converters_kept all (before ++ d ∷ []) ds g.1 l.1
+converters_kept all before (tree.TypeDecl name is_extern is_nodebug body pos ∷ ds) f h =
+    let d = tree.TypeDecl name is_extern is_nodebug body pos in
+    ap (λ cs. have_misfit all cs (converters ds)) (sym (unconverted before d refl)) ∙ converters_kept all (before ++ d ∷ []) ds f h
+converters_kept all before (tree.ExternConst name ty pos ∷ ds) f h =
+    let d = tree.ExternConst name ty pos in
+    ap (λ cs. have_misfit all cs (converters ds)) (sym (unconverted before d refl)) ∙ converters_kept all (before ++ d ∷ []) ds f h
+converters_kept all before (tree.Extractor term params template pos ∷ ds) f h = absurd cc
+converters_kept all before (tree.Passed head items pos ∷ ds) f h =
+    let d = tree.Passed head items pos in
+    ap (λ cs. have_misfit all cs (converters ds)) (sym (unconverted before d refl)) ∙ converters_kept all (before ++ d ∷ []) ds f h
+
+-- ---- the rows
+
 -- and where each fails, the rows are kept
-pub terms_none : (all before ds : List Def) → list_all is_built_def ds ≡ true → TermParts all before ds → fault_after OfTerms (whole_of all) before ds ≡ None
-terms_none all before [] f p = refl
-terms_none all before (tree.Decl term pure multi partial recursive args ret pos ∷ ds) f p =
+pub terms_none : (all before ds : List Def) → list_all is_built_def ds ≡ true → TermParts all before ds → have_misfit all (converters before) (converters ds) ≡ false → fault_after OfTerms (whole_of all) before ds ≡ None
+terms_none all before [] f p c = refl
+terms_none all before (tree.Decl term pure multi partial recursive args ret pos ∷ ds) f p c =
     let d = tree.Decl term pure multi partial recursive args ret pos in
     let s : Signature = record { term = term; pure = pure; multi = multi; partial = partial; recursive = recursive; args = args; ret = ret; pos = pos; origin = origin.Declared } in
     let names = terms_of (signatures before) in
@@ -248,8 +317,8 @@ terms_none all before (tree.Decl term pure multi partial recursive args ret pos 
     record { apart = a.1; unmade = u.1; typed = t.1; few = m.1; externs_apart = p.externs_apart; extractors_apart = p.extractors_apart; known = p.known; extracted = p.extracted; heads = p.heads } in
     none_later (λ (r : Row). (r, pos)) (broken_in OfTerms (record { whole = whole_of all; before = before }) d) (fault_after OfTerms (whole_of all) (before ++ d ∷ []) ds)
     (decl_from (again || is_made_twice all s) (names_no_type all s) (has_too_many s) (multi && partial) (or_from again (is_made_twice all s) a.0 u.0) t.0 m.0 (single pure multi recursive partial g.0))
-    (terms_none all (before ++ d ∷ []) ds g.1 (same_tests (sym (grown signature_of (λ (x : Signature). x.term) before d)) (sym (not_external before d refl)) (sym (not_extracting before d refl)) rest))
-terms_none all before (tree.ExternConstructor term func pos ∷ ds) f p =
+    (terms_none all (before ++ d ∷ []) ds g.1 (same_tests (sym (grown signature_of (λ (x : Signature). x.term) before d)) (sym (not_external before d refl)) (sym (not_extracting before d refl)) rest) (ap (λ cs. have_misfit all cs (converters ds)) (unconverted before d refl) ∙ c))
+terms_none all before (tree.ExternConstructor term func pos ∷ ds) f p c =
     let d = tree.ExternConstructor term func pos in
     let external = extern_terms (externs before) in
     let again = is_some (index_of external term) in
@@ -259,8 +328,8 @@ terms_none all before (tree.ExternConstructor term func pos ∷ ds) f p =
     let rest : AreTestedIn all (terms_of (signatures before)) (external ++ term ∷ []) (extractor_terms (extractors before)) ds =
     record { apart = p.apart; unmade = p.unmade; typed = p.typed; few = p.few; externs_apart = a.1; extractors_apart = p.extractors_apart; known = k.1; extracted = p.extracted; heads = p.heads } in
     none_later (λ (r : Row). (r, pos)) (broken_in OfTerms (record { whole = whole_of all; before = before }) d) (fault_after OfTerms (whole_of all) (before ++ d ∷ []) ds) (named_from unknown again false k.0 a.0 refl)
-    (terms_none all (before ++ d ∷ []) ds f (same_tests (sym (undeclared before d refl)) (sym (grown extern_of (λ (x : Extern). x.term) before d)) (sym (not_extracting before d refl)) rest))
-terms_none all before (tree.ExternExtractor term func infallible pos ∷ ds) f p =
+    (terms_none all (before ++ d ∷ []) ds f (same_tests (sym (undeclared before d refl)) (sym (grown extern_of (λ (x : Extern). x.term) before d)) (sym (not_extracting before d refl)) rest) (ap (λ cs. have_misfit all cs (converters ds)) (unconverted before d refl) ∙ c))
+terms_none all before (tree.ExternExtractor term func infallible pos ∷ ds) f p c =
     let d = tree.ExternExtractor term func infallible pos in
     let extracting = extractor_terms (extractors before) in
     let again = is_some (index_of extracting term) in
@@ -270,23 +339,31 @@ terms_none all before (tree.ExternExtractor term func infallible pos ∷ ds) f p
     let rest : AreTestedIn all (terms_of (signatures before)) (extern_terms (externs before)) (extracting ++ term ∷ []) ds =
     record { apart = p.apart; unmade = p.unmade; typed = p.typed; few = p.few; externs_apart = p.externs_apart; extractors_apart = a.1; known = p.known; extracted = k.1; heads = p.heads } in
     none_later (λ (r : Row). (r, pos)) (broken_in OfTerms (record { whole = whole_of all; before = before }) d) (fault_after OfTerms (whole_of all) (before ++ d ∷ []) ds) (named_from unknown false again k.0 refl a.0)
-    (terms_none all (before ++ d ∷ []) ds f (same_tests (sym (undeclared before d refl)) (sym (not_external before d refl)) (sym (grown extractor_of (λ (x : ExtractorDef). x.term) before d)) rest))
-terms_none all before (tree.Rule name prio term args iflets rhs pos ∷ ds) f p =
+    (terms_none all (before ++ d ∷ []) ds f (same_tests (sym (undeclared before d refl)) (sym (not_external before d refl)) (sym (grown extractor_of (λ (x : ExtractorDef). x.term) before d)) rest) (ap (λ cs. have_misfit all cs (converters ds)) (unconverted before d refl) ∙ c))
+terms_none all before (tree.Rule name prio term args iflets rhs pos ∷ ds) f p c =
     let d = tree.Rule name prio term args iflets rhs pos in
     let r : RuleDef = record { name = name; prio = prio; term = term; args = args; iflets = iflets; rhs = rhs; pos = pos } in
     let g = and_parts (is_built_def d) (list_all is_built_def ds) f in
     let k = or_parts (is_headless all r) (list_any (is_headless all) (rule_defs ds)) p.heads in
     let rest : TermParts all before ds = record { apart = p.apart; unmade = p.unmade; typed = p.typed; few = p.few; externs_apart = p.externs_apart; extractors_apart = p.extractors_apart; known = p.known; extracted = p.extracted; heads = k.1 } in
     none_later (λ (r : Row). (r, pos)) (broken_in OfTerms (record { whole = whole_of all; before = before }) d) (fault_after OfTerms (whole_of all) (before ++ d ∷ []) ds) (none_first (is_headless all r) row.HeadMisfit None k.0 refl)
-    (terms_none all (before ++ d ∷ []) ds g.1 (ahead all before d ds refl refl refl rest))
-terms_none all before (tree.TypeDecl name is_extern is_nodebug body pos ∷ ds) f p =
+    (terms_none all (before ++ d ∷ []) ds g.1 (ahead all before d ds refl refl refl rest) (ap (λ cs. have_misfit all cs (converters ds)) (unconverted before d refl) ∙ c))
+terms_none all before (tree.TypeDecl name is_extern is_nodebug body pos ∷ ds) f p c =
     let d = tree.TypeDecl name is_extern is_nodebug body pos in
-    terms_none all (before ++ d ∷ []) ds f (ahead all before d ds refl refl refl p)
-terms_none all before (tree.ExternConst name ty pos ∷ ds) f p =
+    terms_none all (before ++ d ∷ []) ds f (ahead all before d ds refl refl refl p) (ap (λ cs. have_misfit all cs (converters ds)) (unconverted before d refl) ∙ c)
+terms_none all before (tree.ExternConst name ty pos ∷ ds) f p c =
     let d = tree.ExternConst name ty pos in
-    terms_none all (before ++ d ∷ []) ds f (ahead all before d ds refl refl refl p)
-terms_none all before (tree.Extractor term params template pos ∷ ds) f p = absurd cc
-terms_none all before (tree.Converter from to term pos ∷ ds) f p = absurd cc
-terms_none all before (tree.Passed head items pos ∷ ds) f p =
+    terms_none all (before ++ d ∷ []) ds f (ahead all before d ds refl refl refl p) (ap (λ cs. have_misfit all cs (converters ds)) (unconverted before d refl) ∙ c)
+terms_none all before (tree.Extractor term params template pos ∷ ds) f p c = absurd cc
+terms_none all before (tree.Converter from to term pos ∷ ds) f p c =
+    let d = tree.Converter from to term pos in
+    let x : Conversion = record { from = from; to = to; term = term } in
+    let unknown = not (is_some (signature_named (signatures all) term)) in
+    let misfit = is_misfit all (converters before) x in
+    let k = or_parts (unknown || misfit) (have_misfit all (converters before ++ x ∷ []) (converters ds)) c in
+    let m = or_parts unknown misfit k.0 in
+    none_later (λ (r : Row). (r, pos)) (broken_in OfTerms (record { whole = whole_of all; before = before }) d) (fault_after OfTerms (whole_of all) (before ++ d ∷ []) ds) (converting_from unknown misfit m.0 m.1)
+    (terms_none all (before ++ d ∷ []) ds f (ahead all before d ds refl refl refl p) (ap (λ cs. have_misfit all cs (converters ds)) (converted_more before d x refl) ∙ k.1))
+terms_none all before (tree.Passed head items pos ∷ ds) f p c =
     let d = tree.Passed head items pos in
-    terms_none all (before ++ d ∷ []) ds f (ahead all before d ds refl refl refl p)
+    terms_none all (before ++ d ∷ []) ds f (ahead all before d ds refl refl refl p) (ap (λ cs. have_misfit all cs (converters ds)) (unconverted before d refl) ∙ c)

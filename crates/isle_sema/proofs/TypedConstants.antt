@@ -28,7 +28,7 @@ use Rattle.isle_ast.specs.declared.tree.AstBody.TheVariants as Body
 use Rattle.isle_types.specs.TypeEnvironment.{type_def_in, type_env_of}
 use Rattle.isle_types.specs.Builtins.{type_id}
 use Rattle.isle_sema.specs.Reduced.{reduced, integer_by, typed_integer}
-use Rattle.isle_sema.specs.TypeNames.{is_bool_def, takes_truths}
+use Rattle.isle_sema.specs.Expected.{is_bool_def, takes_truths}
 
 -- ---- a reduced number is held by its type
 

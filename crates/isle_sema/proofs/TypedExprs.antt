@@ -26,26 +26,28 @@ use Rattle.isle_declarations.specs.declared.terms.Origin.TheVariants as origin
 use Rattle.isle_declarations.specs.Symbols.{sym_of}
 use Rattle.isle_declarations.specs.Signatures.{Signature, externs, rule_defs, func_named, has_rule, term_named}
 use Rattle.isle_declarations.specs.Terms.{terms, is_made}
-use Rattle.isle_declarations.proofs.LookUps.{named_is}
 use Rattle.isle_types.specs.TypeEnvironment.{type_env_of}
-use Rattle.isle_types.specs.TypeRows.{on}
-use Rattle.isle_sema.specs.Calls.{count_of, calls_ruled, any_calls_ruled, lets_call_ruled}
 use Rattle.isle_sema.specs.Reduced.{typed_integer}
 use Rattle.isle_sema.specs.Locals.{Local, local_named, local_type, typed_local, bound_local}
-use Rattle.isle_sema.specs.Site.{Site, TruthAt, ConstantAt, BoundAt}
+use Rattle.isle_sema.specs.Site.{Site, TruthAt, UsedAt, CalledAt, ConstantAt, BoundAt}
 use Rattle.isle_sema.specs.PatternPass.{is_blank, first_expected, later_expected}
-use Rattle.isle_sema.specs.TypeNames.{type_named, takes_truths}
-use Rattle.isle_sema.specs.Whole.{Whole, termed, has_constructor, constant_type}
-use Rattle.isle_sema.specs.Whole as whole
-use Rattle.isle_sema.specs.ExprPass.{LetsPass, call_tree, expr_before, expr_type, binding_tree, binding_before, let_tree, expr_pass, exprs_pass, lets_pass}
+use Rattle.isle_terms.specs.TypeNames.{type_named}
+use Rattle.isle_sema.specs.Expected.{takes_truths}
+use Rattle.isle_terms.specs.Whole.{Whole, termed, has_constructor, constant_type}
+use Rattle.isle_terms.specs.Whole as whole
+use Rattle.isle_sema.specs.ExprPass.{LetsPass, count_of, local_tree, known_type, constant_tree, call_tree, expr_within, called_by, expr_before, expr_type, binding_tree, binding_before, let_tree, expr_pass, exprs_pass, lets_pass}
 use Rattle.isle_sema.specs.RuleRows.{differ, is_other_type, is_misplaced, is_call_misfit, is_unknown, is_mistyped}
-use Rattle.isle_sema.specs.Environment.{whole_of, constructor_of, extracting_named, kind_from}
+use Rattle.isle_terms.specs.Whole.{whole_of}
+use Rattle.isle_terms.specs.TermPass.{constructor_of, extracting_named, kind_from}
 use Rattle.isle_sema.specs.Judging.{is_partial_call}
+use Rattle.isle_sema.specs.Language.{is_ruled}
+use Rattle.isle_terms.specs.Converters.{conversion, within}
+use Rattle.isle_sema.proofs.Conversions.{conversion_is}
 use Rattle.isle_sema.specs.TypedRule.{let_variables, IsNew, IsTermKind, IsExprOf, AreExprsOf, AreBindingsOf}
 use Rattle.isle_sema.proofs.Firsts.{any_parts}
 use Rattle.isle_sema.proofs.LocalLaws.{one_named}
 use Rattle.isle_sema.proofs.MadeForms.{made_term, constant_typed}
-use Rattle.isle_sema.proofs.MadeTerms.{term_made, term_is, types_are, all_at}
+use Rattle.isle_terms.proofs.MadeTerms.{term_made, term_is, types_are, all_at}
 use Rattle.isle_sema.proofs.RuleRoots.{mapped, signature_at}
 use Rattle.isle_sema.proofs.TypedConstants.{integer_typed, truth_typed}
 use Rattle.isle_sema.proofs.TypedParts.{IsTypedIn}
@@ -54,11 +56,13 @@ use Rattle.isle_sema.proofs.TypedTerms.{IsPlainTerm, plain_terms}
 
 -- ---- what parts keep
 
--- no part breaks the rows of literals, names and types, and none calls a term that may answer nothing where that is not allowed
+-- no part breaks the rows of literals, names and types, none is of a term that has a rule, and none calls a term that may answer nothing
+-- where that is not allowed
 pub record AreKept (w : Whole) (allowed : Bool) (sites : List Site) : Type 0 where
   pub placed : list_any (is_misplaced w) sites ≡ false
   pub known : list_any (is_unknown w) sites ≡ false
   pub typed : list_any (is_mistyped w) sites ≡ false
+  pub ruled : list_any (is_ruled w) sites ≡ false
   pub partial : not allowed && list_any is_partial_call sites ≡ false
 
 partial_parts : (allowed : Bool) (xs ys : List Site) → not allowed && list_any is_partial_call (xs ++ ys) ≡ false → (not allowed && list_any is_partial_call xs ≡ false) × (not allowed && list_any is_partial_call ys ≡ false)
@@ -70,8 +74,9 @@ kept_parts w allowed xs ys k =
     let p = any_parts (is_misplaced w) xs ys k.placed in
     let u = any_parts (is_unknown w) xs ys k.known in
     let t = any_parts (is_mistyped w) xs ys k.typed in
+    let r = any_parts (is_ruled w) xs ys k.ruled in
     let q = partial_parts allowed xs ys k.partial in
-    (record { placed = p.0; known = u.0; typed = t.0; partial = q.0 }, record { placed = p.1; known = u.1; typed = t.1; partial = q.1 })
+    (record { placed = p.0; known = u.0; typed = t.0; ruled = r.0; partial = q.0 }, record { placed = p.1; known = u.1; typed = t.1; ruled = r.1; partial = q.1 })
 
 -- ---- the kind of a term that is called
 
@@ -112,6 +117,29 @@ kind_typed defs env allowed i s t origin.Struct g at plain is same has ruled par
 
 -- ---- a call
 
+-- what a call keeps
+record IsKeptCall (w : Whole) (allowed : Bool) (ty : TypeId) (s : Signature) (count : ℕ) : Type 0 where
+  many : count ≡ length s.args
+  has : has_constructor w s ≡ true
+  typed : differ (type_named w.defs s.ret) (Some ty) ≡ false
+  ruled : has_rule (rule_defs w.defs) s.term ≡ false
+  partial : not allowed && s.partial ≡ false
+
+partial_first : (allowed b : Bool) (sites : List Site) → not allowed && (b || list_any is_partial_call sites) ≡ false → (not allowed && b ≡ false) × (not allowed && list_any is_partial_call sites ≡ false)
+partial_first true b sites h = (refl, refl)
+partial_first false b sites h = or_parts b (list_any is_partial_call sites) h
+
+kept_call : (w : Whole) (allowed : Bool) (ty : TypeId) (s : Signature) (count : ℕ) → AreKept w allowed (CalledAt (Some ty) (Some s) count ∷ []) → IsKeptCall w allowed ty s count
+kept_call w allowed ty s count k =
+    let u = or_parts (not (count == length s.args)) (not (has_constructor w s)) (or_parts (is_call_misfit w (Some s) count) false k.known).0 in
+    record {
+      many = eqb-true count (length s.args) (not-false (count == length s.args) u.0);
+      has = not-false (has_constructor w s) u.1;
+      typed = (or_parts (differ (type_named w.defs s.ret) (Some ty)) false k.typed).0;
+      ruled = (or_parts (has_rule (rule_defs w.defs) s.term) false k.ruled).0;
+      partial = (partial_first allowed s.partial [] k.partial).0;
+    }
+
 -- what a call's tree is made of
 record IsCallTree (ty : Option TypeId) (term : Option TermId) (es : Option CoreExprs) (x : CoreExpr) : Type 0 where
   of : TypeId
@@ -144,33 +172,65 @@ abbrev ArgsTyped : (defs : List Def) (env : Environment) (allowed : Bool) (local
 ArgsTyped defs env allowed locals vars next es = (tys : List TypeId) (xs : CoreExprs) → count_of es ≡ length tys → (exprs_pass (whole_of defs) locals next (map Some tys) es).trees ≡ Some xs → AreKept (whole_of defs) allowed (exprs_pass (whole_of defs) locals next (map Some tys) es).sites
     → AreExprsOf env allowed vars tys xs
 
-call_typed : (defs : List Def) (env : Environment) (allowed : Bool) (locals : List Local) (vars : List (TypeId × ℕ)) (next : ℕ) (ty : TypeId) (name : List ℕ) (es : Exprs) (x : CoreExpr) (o : Option Signature) → IsOver defs env locals vars next → termed (whole_of defs) name ≡ o
-    → is_call_misfit (whole_of defs) o (count_of es) ≡ false → on o (λ (s : Signature). differ (type_named defs s.ret) (Some ty)) ≡ false → not allowed && on o (λ (s : Signature). s.partial) ≡ false → has_rule (rule_defs defs) name ≡ false
-    → call_tree (whole.ret_type (whole_of defs) o) (term_named (terms defs) name) (exprs_pass (whole_of defs) locals next (whole.arg_types (whole_of defs) o) es).trees ≡ Some x
-    → AreKept (whole_of defs) allowed (exprs_pass (whole_of defs) locals next (whole.arg_types (whole_of defs) o) es).sites → ArgsTyped defs env allowed locals vars next es → IsExprOf env allowed vars ty x
-call_typed defs env allowed locals vars next ty name es x None over is known typed partial ruled h kept args_typed = absurd cc
-call_typed defs env allowed locals vars next ty name es x (Some s) over is known typed partial ruled h kept args_typed =
+-- a call of a term of this signature, on arguments of its types
+called_typed : (defs : List Def) (env : Environment) (allowed : Bool) (vars : List (TypeId × ℕ)) (ty of : TypeId) (name : List ℕ) (s : Signature) (number : TermId) (args : CoreExprs) → IsTypedIn defs env → termed (whole_of defs) name ≡ Some s → term_named (terms defs) name ≡ Some number
+    → has_constructor (whole_of defs) s ≡ true → has_rule (rule_defs defs) s.term ≡ false → not allowed && s.partial ≡ false → type_named defs s.ret ≡ Some of → of ≡ ty
+    → ((tys : List TypeId) → map (type_named defs) s.args ≡ map Some tys → AreExprsOf env allowed vars tys args) → IsExprOf env allowed vars ty (core_expr.Term of number args)
+called_typed defs env allowed vars ty of name s number args g is numbered has ruled partial ret gives typed =
     let w = whole_of defs in
-    let k = or_parts (not (count_of es == length s.args)) (not (has_constructor w s)) known in
-    let c = call_is (type_named defs s.ret) (term_named (terms defs) name) (exprs_pass w locals next (map (type_named defs) s.args) es).trees x h in
-    let at = signature_at w name s c.number is c.number_is in
-    let m = term_made w (terms defs) env.terms c.number.0 s over.given.terms at in
+    let at = signature_at w name s number is numbered in
+    let m = term_made w (terms defs) env.terms number.0 s g.terms at in
     let t = term_is w s m.term m.made in
-    let gives : c.of ≡ ty = same_type c.of ty (ap (λ o. differ o (Some ty)) (sym c.of_is) ∙ typed) in
-    let ret : m.term.ret_ty ≡ ty = same_Some m.term.ret_ty c.of (sym t.ret ∙ c.of_is) ∙ gives in
-    let tys : map (type_named defs) s.args ≡ map Some m.term.arg_tys = types_are defs s.args m.term.arg_tys t.args in
-    let count : count_of es ≡ length m.term.arg_tys =
-    eqb-true (count_of es) (length s.args) (not-false (count_of es == length s.args) k.0) ∙ sym (length-map s.args (type_named defs)) ∙ ap length tys ∙ length-map m.term.arg_tys Some in
-    let takes = args_typed m.term.arg_tys c.args count (ap (λ os. (exprs_pass w locals next os es).trees) (sym tys) ∙ c.args_are) (subst (λ (os : List (Option TypeId)). AreKept w allowed (exprs_pass w locals next os es).sites) tys kept) in
-    let named : s.term ≡ name = named_is (terms defs) name s is in
-    let plain = all_at IsPlainTerm (terms defs) c.number.0 s (plain_terms defs over.given.built) at in
-    let made = kind_typed defs env allowed c.number.0 s m.term s.origin over.given m.there plain refl (ap (λ (u : Term). u.kind) t.is) (not-false (has_constructor w s) k.1) (ap (has_rule (rule_defs defs)) named ∙ ruled) partial in
-    subst (IsExprOf env allowed vars ty) c.is
-    (gives, subst (λ (o : Option Term). IsSomeAnd o (λ (u : Term). IsTermKind env allowed u u.kind × (u.ret_ty ≡ ty) × AreExprsOf env allowed vars u.arg_tys c.args)) (sym m.there) (made, ret, takes))
+    let same : m.term.ret_ty ≡ ty = same_Some m.term.ret_ty of (sym t.ret ∙ ret) ∙ gives in
+    let takes = typed m.term.arg_tys (types_are defs s.args m.term.arg_tys t.args) in
+    let plain = all_at IsPlainTerm (terms defs) number.0 s (plain_terms defs g.built) at in
+    let made = kind_typed defs env allowed number.0 s m.term s.origin g m.there plain refl (ap (λ (u : Term). u.kind) t.is) has ruled partial in
+    (gives, subst (λ (o : Option Term). IsSomeAnd o (λ (u : Term). IsTermKind env allowed u u.kind × (u.ret_ty ≡ ty) × AreExprsOf env allowed vars u.arg_tys args)) (sym m.there) (made, same, takes))
 
-partial_first : (allowed b : Bool) (sites : List Site) → not allowed && (b || list_any is_partial_call sites) ≡ false → (not allowed && b ≡ false) × (not allowed && list_any is_partial_call sites ≡ false)
-partial_first true b sites h = (refl, refl)
-partial_first false b sites h = or_parts b (list_any is_partial_call sites) h
+call_typed : (defs : List Def) (env : Environment) (allowed : Bool) (locals : List Local) (vars : List (TypeId × ℕ)) (next : ℕ) (ty : TypeId) (name : List ℕ) (es : Exprs) (x : CoreExpr) (o : Option Signature) → IsOver defs env locals vars next → termed (whole_of defs) name ≡ o
+    → AreKept (whole_of defs) allowed (CalledAt (Some ty) o (count_of es) ∷ (exprs_pass (whole_of defs) locals next (whole.arg_types (whole_of defs) o) es).sites)
+    → call_tree (whole.ret_type (whole_of defs) o) (term_named (terms defs) name) (exprs_pass (whole_of defs) locals next (whole.arg_types (whole_of defs) o) es).trees ≡ Some x → ArgsTyped defs env allowed locals vars next es → IsExprOf env allowed vars ty x
+call_typed defs env allowed locals vars next ty name es x None over is kept h args_typed = absurd cc
+call_typed defs env allowed locals vars next ty name es x (Some s) over is kept h args_typed =
+    let w = whole_of defs in
+    let k = kept_parts w allowed (CalledAt (Some ty) (Some s) (count_of es) ∷ []) (exprs_pass w locals next (map (type_named defs) s.args) es).sites kept in
+    let own = kept_call w allowed ty s (count_of es) k.0 in
+    let c = call_is (type_named defs s.ret) (term_named (terms defs) name) (exprs_pass w locals next (map (type_named defs) s.args) es).trees x h in
+    let gives : c.of ≡ ty = same_type c.of ty (ap (λ o. differ o (Some ty)) (sym c.of_is) ∙ own.typed) in
+    subst (IsExprOf env allowed vars ty) c.is (called_typed defs env allowed vars ty c.of name s c.number c.args over.given is c.number_is own.has own.ruled own.partial c.of_is gives
+    (λ tys are.
+    let count : count_of es ≡ length tys = own.many ∙ sym (length-map s.args (type_named defs)) ∙ ap length are ∙ length-map tys Some in
+    args_typed tys c.args count (ap (λ os. (exprs_pass w locals next os es).trees) (sym are) ∙ c.args_are) (subst (λ (os : List (Option TypeId)). AreKept w allowed (exprs_pass w locals next os es).sites) are k.1)))
+
+-- ---- converters
+
+-- the call of a converter, on what is of the other type
+converter_typed : (defs : List Def) (env : Environment) (allowed : Bool) (vars : List (TypeId × ℕ)) (ty of : TypeId) (s : Signature) (e : Option CoreExpr) (x : CoreExpr) → IsTypedIn defs env → conversion (whole_of defs) (Some of) (Some ty) ≡ Some s
+    → AreKept (whole_of defs) allowed (CalledAt (Some ty) (Some s) 1 ∷ []) → ((y : CoreExpr) → e ≡ Some y → IsExprOf env allowed vars of y) → expr_within (whole_of defs) (Some s) e ≡ Some x → IsExprOf env allowed vars ty x
+converter_typed defs env allowed vars ty of s e x g is kept typed h =
+    let w = whole_of defs in
+    let c = conversion_is defs env of ty s g is in
+    let own = kept_call w allowed ty s 1 kept in
+    let t = call_is (type_named defs s.ret) (term_named (terms defs) s.term) (option_map (λ (y : CoreExpr). core_expr.AnExpr y core_expr.NoExpr) e) x h in
+    let m = mapped (λ (y : CoreExpr). core_expr.AnExpr y core_expr.NoExpr) e t.args t.args_are in
+    let gives : t.of ≡ ty = same_Some t.of ty (sym t.of_is ∙ c.ret) in
+    subst (IsExprOf env allowed vars ty) t.is (called_typed defs env allowed vars ty t.of s.term s t.number t.args g c.there t.number_is own.has own.ruled own.partial t.of_is gives
+    (λ tys are. subst (AreExprsOf env allowed vars tys) m.is (one_typed m.from tys (sym c.args ∙ are) (typed m.from m.there))))
+  where
+    one_typed : (y : CoreExpr) (tys : List TypeId) → Some of ∷ [] ≡ map Some tys → IsExprOf env allowed vars of y → AreExprsOf env allowed vars tys (core_expr.AnExpr y core_expr.NoExpr)
+    one_typed y [] e k = absurd cc
+    one_typed y (t ∷ []) e k = let same : of ≡ t = cc in (subst (λ (u : TypeId). IsExprOf env allowed vars u y) same k, tt)
+    one_typed y (t ∷ u ∷ tys) e k = absurd cc
+
+-- what is of the type that is expected, or of another one within a converter
+within_typed : (defs : List Def) (env : Environment) (allowed : Bool) (vars : List (TypeId × ℕ)) (ty : TypeId) (of : Option TypeId) (by : Option Signature) (e : Option CoreExpr) (x : CoreExpr) (first : Option TypeId → Site) (rest : List Site) → IsTypedIn defs env
+    → conversion (whole_of defs) of (Some ty) ≡ by → ((t : TypeId) (y : CoreExpr) → e ≡ Some y → AreKept (whole_of defs) allowed (first (Some t) ∷ rest) → IsExprOf env allowed vars t y) → expr_within (whole_of defs) by e ≡ Some x
+    → AreKept (whole_of defs) allowed (called_by by (Some ty) ++ first (within by of (Some ty)) ∷ rest) → IsExprOf env allowed vars ty x
+within_typed defs env allowed vars ty of None e x first rest g is typed h kept = typed ty x h kept
+within_typed defs env allowed vars ty None (Some s) e x first rest g is typed h kept = absurd cc
+within_typed defs env allowed vars ty (Some of) (Some s) e x first rest g is typed h kept =
+    let k = kept_parts (whole_of defs) allowed (CalledAt (Some ty) (Some s) 1 ∷ []) (first (Some of) ∷ rest) kept in
+    converter_typed defs env allowed vars ty of s e x g is k.0 (λ y f. typed of y f k.1) h
 
 -- trees in order
 record AreBefore (o : Option CoreExpr) (os : Option CoreExprs) (xs : CoreExprs) : Type 0 where
@@ -318,78 +378,87 @@ record AreTypedLets (defs : List Def) (env : Environment) (allowed : Bool) (vars
 
 -- what a variable of a `let` and what is behind it keep
 bound_kept : (w : Whole) (allowed : Bool) (ty : Option TypeId) (sites : List Site) → AreKept w allowed (BoundAt ty ∷ sites) → AreKept w allowed sites
-bound_kept w allowed ty sites k = record { placed = k.placed; known = k.known; typed = (or_parts (not (is_some ty)) (list_any (is_mistyped w) sites) k.typed).1; partial = k.partial }
+bound_kept w allowed ty sites k = record { placed = k.placed; known = k.known; typed = (or_parts (not (is_some ty)) (list_any (is_mistyped w) sites) k.typed).1; ruled = k.ruled; partial = k.partial }
+
+-- a variable of the type that is expected
+variable_typed : (defs : List Def) (env : Environment) (allowed : Bool) (locals : List Local) (vars : List (TypeId × ℕ)) (next : ℕ) (ty : TypeId) (name : List ℕ) (x : CoreExpr) → IsOver defs env locals vars next → local_tree (local_named locals name) ≡ Some x
+    → AreKept (whole_of defs) allowed (UsedAt (Some ty) (local_type (local_named locals name)) ∷ []) → IsExprOf env allowed vars ty x
+variable_typed defs env allowed locals vars next ty name x over h kept =
+    let m = mapped (λ (v : TypeId × VarId). core_expr.Var v.0 v.1) (typed_local (local_named locals name)) x h in
+    let v = local_is (local_named locals name) m.from m.there in
+    let typed = (or_parts (is_other_type (local_type (local_named locals name)) (Some ty)) false kept.typed).0 in
+    let bound : local_type (local_named locals name) ≡ Some (Some m.from.0) = ap local_type v.found ∙ ap Some v.typed in
+    let is : m.from.0 ≡ ty = same_type m.from.0 ty (ap (λ o. is_other_type o (Some ty)) (sym bound) ∙ typed) in
+    let there : Contains vars (m.from.0, m.from.1.0) = subst (λ n. Contains vars (m.from.0, n)) v.numbered (over.bound name v.local m.from.0 v.found v.typed) in
+    subst (IsExprOf env allowed vars ty) m.is (is, subst (λ (t : TypeId). Contains vars (t, m.from.1.0)) is there)
+
+-- so a constant
+named_typed : (defs : List Def) (env : Environment) (allowed : Bool) (vars : List (TypeId × ℕ)) (ty : TypeId) (name : List ℕ) (x : CoreExpr) → IsTypedIn defs env → constant_tree (type_env_of defs) (constant_type (whole_of defs) name) name ≡ Some x
+    → AreKept (whole_of defs) allowed (ConstantAt false (Some ty) (constant_type (whole_of defs) name) ∷ []) → IsExprOf env allowed vars ty x
+named_typed defs env allowed vars ty name x g h kept =
+    let w = whole_of defs in
+    let m = mapped (λ (t : TypeId). core_expr.ConstPrim t (sym_of (type_env_of defs).syms name)) (constant_type w name) x h in
+    let typed = (or_parts (is_mistyped w (ConstantAt false (Some ty) (constant_type w name))) false kept.typed).0 in
+    let is : m.from ≡ ty = same_type m.from ty (ap (λ o. differ o (Some ty)) (sym m.there) ∙ typed) in
+    let known = constant_typed defs env name m.from g.types m.there in
+    let at : const_type env (sym_of (type_env_of defs).syms name) ≡ Some ty = ap (λ (ts : TypeEnv). const_type env (sym_of ts.syms name)) (sym g.types) ∙ known ∙ ap Some is in
+    subst (IsExprOf env allowed vars ty) m.is (is, at)
 
 mutual
-  -- an expression whose parts break no row, and which calls no term that has a rule, is of the type that is expected
+  -- an expression whose parts break no row, and use no term that has a rule, is of the type that is expected
   pub expr_typed : (defs : List Def) (env : Environment) (allowed : Bool) (locals : List Local) (vars : List (TypeId × ℕ)) (next : ℕ) (ty : TypeId) (e : Expr) (x : CoreExpr) → IsOver defs env locals vars next → (expr_pass (whole_of defs) locals next (Some ty) e).tree ≡ Some x
-      → AreKept (whole_of defs) allowed (expr_pass (whole_of defs) locals next (Some ty) e).sites → calls_ruled (rule_defs defs) e ≡ false → IsExprOf env allowed vars ty x
-  expr_typed defs env allowed locals vars next ty (tree.Number n) x over h kept ruled =
+      → AreKept (whole_of defs) allowed (expr_pass (whole_of defs) locals next (Some ty) e).sites → IsExprOf env allowed vars ty x
+  expr_typed defs env allowed locals vars next ty (tree.Number n) x over h kept =
       let m = mapped (λ (v : TypeId × ℤ). core_expr.ConstInt v.0 v.1) (typed_integer (type_env_of defs) (Some ty) n) x h in
       number_typed env allowed vars ty (type_env_of defs) n x over.given.types m.from m.there m.is
-  expr_typed defs env allowed locals vars next ty (tree.Fact b) x over h kept ruled =
+  expr_typed defs env allowed locals vars next ty (tree.Fact b) x over h kept =
       let takes = not-false (takes_truths (type_env_of defs) (Some ty)) (or_parts (is_misplaced (whole_of defs) (TruthAt (Some ty))) false kept.placed).0 in
       subst (IsExprOf env allowed vars ty) (same_Some (core_expr.ConstBool b) x h) (truth_typed defs env b ty over.given.types (ap (λ (ts : TypeEnv). takes_truths ts (Some ty)) over.given.types ∙ takes))
-  expr_typed defs env allowed locals vars next ty (tree.Name name) x over h kept ruled =
-      let m = mapped (λ (v : TypeId × VarId). core_expr.Var v.0 v.1) (typed_local (local_named locals name)) x h in
-      let v = local_is (local_named locals name) m.from m.there in
-      let typed = (or_parts (is_other_type (local_type (local_named locals name)) (Some ty)) false kept.typed).0 in
-      let bound : local_type (local_named locals name) ≡ Some (Some m.from.0) = ap local_type v.found ∙ ap Some v.typed in
-      let is : m.from.0 ≡ ty = same_type m.from.0 ty (ap (λ o. is_other_type o (Some ty)) (sym bound) ∙ typed) in
-      let there : Contains vars (m.from.0, m.from.1.0) = subst (λ n. Contains vars (m.from.0, n)) v.numbered (over.bound name v.local m.from.0 v.found v.typed) in
-      subst (IsExprOf env allowed vars ty) m.is (is, subst (λ (t : TypeId). Contains vars (t, m.from.1.0)) is there)
-  expr_typed defs env allowed locals vars next ty (tree.Constant name) x over h kept ruled =
-      let w = whole_of defs in
-      let m = mapped (λ (t : TypeId). core_expr.ConstPrim t (sym_of (type_env_of defs).syms name)) (constant_type w name) x h in
-      let typed = (or_parts (is_mistyped w (ConstantAt false (Some ty) (constant_type w name))) false kept.typed).0 in
-      let is : m.from ≡ ty = same_type m.from ty (ap (λ o. differ o (Some ty)) (sym m.there) ∙ typed) in
-      let known = constant_typed defs env name m.from over.given.types m.there in
-      let at : const_type env (sym_of (type_env_of defs).syms name) ≡ Some ty = ap (λ (ts : TypeEnv). const_type env (sym_of ts.syms name)) (sym over.given.types) ∙ known ∙ ap Some is in
-      subst (IsExprOf env allowed vars ty) m.is (is, at)
-  expr_typed defs env allowed locals vars next ty (tree.Let ls inner) x over h kept ruled =
+  expr_typed defs env allowed locals vars next ty (tree.Name name) x over h kept =
+      let found = local_named locals name in
+      within_typed defs env allowed vars ty (known_type found) (conversion (whole_of defs) (known_type found) (Some ty)) (local_tree found) x (λ o. UsedAt o (local_type found)) [] over.given refl
+      (λ t y e k. variable_typed defs env allowed locals vars next t name y over e k) h kept
+  expr_typed defs env allowed locals vars next ty (tree.Constant name) x over h kept =
+      let of = constant_type (whole_of defs) name in
+      within_typed defs env allowed vars ty of (conversion (whole_of defs) of (Some ty)) (constant_tree (type_env_of defs) of name) x (λ o. ConstantAt false o of) [] over.given refl (λ t y e k. named_typed defs env allowed vars t name y over.given e k) h kept
+  expr_typed defs env allowed locals vars next ty (tree.Let ls inner) x over h kept =
       let w = whole_of defs in
       let bound = lets_pass w locals next ls in
       let result = expr_pass w bound.locals bound.next (Some ty) inner in
       let m = let_is bound.trees result.tree x h in
-      let k = kept_parts w allowed bound.sites result.sites (record { placed = kept.placed; known = kept.known; typed = kept.typed; partial = kept.partial }) in
-      let r = or_parts (lets_call_ruled (rule_defs defs) ls) (calls_ruled (rule_defs defs) inner) ruled in
-      let b = lets_typed defs env allowed locals vars next ls m.bindings over m.bindings_are k.0 r.0 in
-      let typed = expr_typed defs env allowed bound.locals (let_variables vars m.bindings) bound.next ty inner m.inner b.over m.inner_is k.1 r.1 in
+      let k = kept_parts w allowed bound.sites result.sites (record { placed = kept.placed; known = kept.known; typed = kept.typed; ruled = kept.ruled; partial = kept.partial }) in
+      let b = lets_typed defs env allowed locals vars next ls m.bindings over m.bindings_are k.0 in
+      let typed = expr_typed defs env allowed bound.locals (let_variables vars m.bindings) bound.next ty inner m.inner b.over m.inner_is k.1 in
       subst (IsExprOf env allowed vars ty) m.is (type_is env allowed (let_variables vars m.bindings) ty m.inner typed, b.typed, typed)
-  expr_typed defs env allowed locals vars next ty (tree.Call name es) x over h kept ruled =
+  expr_typed defs env allowed locals vars next ty (tree.Call name es) x over h kept =
       let w = whole_of defs in
       let o = termed w name in
-      let sites = (exprs_pass w locals next (whole.arg_types w o) es).sites in
-      let p = or_parts false (list_any (is_misplaced w) sites) kept.placed in
-      let u = or_parts (is_call_misfit w o (count_of es)) (list_any (is_unknown w) sites) kept.known in
-      let t = or_parts (on o (λ (s : Signature). differ (type_named defs s.ret) (Some ty))) (list_any (is_mistyped w) sites) kept.typed in
-      let q = partial_first allowed (on o (λ (s : Signature). s.partial)) sites kept.partial in
-      let r = or_parts (has_rule (rule_defs defs) name) (any_calls_ruled (rule_defs defs) es) ruled in
-      call_typed defs env allowed locals vars next ty name es x o over refl u.0 t.0 q.0 r.0 h (record { placed = p.1; known = u.1; typed = t.1; partial = q.1 })
-      (λ tys xs count found k. exprs_typed defs env allowed locals vars next tys es xs over count found k r.1)
+      let of = whole.ret_type w o in
+      let args = exprs_pass w locals next (whole.arg_types w o) es in
+      within_typed defs env allowed vars ty of (conversion w of (Some ty)) (call_tree of (term_named (terms defs) name) args.trees) x (λ t. CalledAt t o (count_of es)) args.sites over.given refl
+      (λ t y e k. call_typed defs env allowed locals vars next t name es y o over refl k e (λ tys xs count found j. exprs_typed defs env allowed locals vars next tys es xs over count found j)) h kept
 
   -- so of expressions in order
   exprs_typed : (defs : List Def) (env : Environment) (allowed : Bool) (locals : List Local) (vars : List (TypeId × ℕ)) (next : ℕ) (tys : List TypeId) (es : Exprs) (xs : CoreExprs) → IsOver defs env locals vars next → count_of es ≡ length tys
-      → (exprs_pass (whole_of defs) locals next (map Some tys) es).trees ≡ Some xs → AreKept (whole_of defs) allowed (exprs_pass (whole_of defs) locals next (map Some tys) es).sites → any_calls_ruled (rule_defs defs) es ≡ false → AreExprsOf env allowed vars tys xs
-  exprs_typed defs env allowed locals vars next [] NoExpr xs over count h kept ruled = subst (AreExprsOf env allowed vars []) (same_Some core_expr.NoExpr xs h) tt
-  exprs_typed defs env allowed locals vars next [] (AnExpr e es) xs over count h kept ruled = absurd (omega arith)
-  exprs_typed defs env allowed locals vars next (ty ∷ tys) NoExpr xs over count h kept ruled = absurd (omega arith)
-  exprs_typed defs env allowed locals vars next (ty ∷ tys) (AnExpr e es) xs over count h kept ruled =
+      → (exprs_pass (whole_of defs) locals next (map Some tys) es).trees ≡ Some xs → AreKept (whole_of defs) allowed (exprs_pass (whole_of defs) locals next (map Some tys) es).sites → AreExprsOf env allowed vars tys xs
+  exprs_typed defs env allowed locals vars next [] NoExpr xs over count h kept = subst (AreExprsOf env allowed vars []) (same_Some core_expr.NoExpr xs h) tt
+  exprs_typed defs env allowed locals vars next [] (AnExpr e es) xs over count h kept = absurd (omega arith)
+  exprs_typed defs env allowed locals vars next (ty ∷ tys) NoExpr xs over count h kept = absurd (omega arith)
+  exprs_typed defs env allowed locals vars next (ty ∷ tys) (AnExpr e es) xs over count h kept =
       let w = whole_of defs in
       let one = expr_pass w locals next (Some ty) e in
       let rest = exprs_pass w locals one.next (map Some tys) es in
       let b = before_is one.tree rest.trees xs h in
       let k = kept_parts w allowed one.sites rest.sites kept in
-      let r = or_parts (calls_ruled (rule_defs defs) e) (any_calls_ruled (rule_defs defs) es) ruled in
       let later = over_later defs env locals vars next one.next (next_grows w locals next (Some ty) e) over in
-      subst (AreExprsOf env allowed vars (ty ∷ tys)) b.all (expr_typed defs env allowed locals vars next ty e b.first over b.here k.0 r.0, exprs_typed defs env allowed locals vars one.next tys es b.others later (omega arith) b.found k.1 r.1)
+      subst (AreExprsOf env allowed vars (ty ∷ tys)) b.all (expr_typed defs env allowed locals vars next ty e b.first over b.here k.0, exprs_typed defs env allowed locals vars one.next tys es b.others later (omega arith) b.found k.1)
 
   -- and of the variables of a `let`
   lets_typed : (defs : List Def) (env : Environment) (allowed : Bool) (locals : List Local) (vars : List (TypeId × ℕ)) (next : ℕ) (ls : Lets) (bs : LetBindings) → IsOver defs env locals vars next → (lets_pass (whole_of defs) locals next ls).trees ≡ Some bs
-      → AreKept (whole_of defs) allowed (lets_pass (whole_of defs) locals next ls).sites → lets_call_ruled (rule_defs defs) ls ≡ false → AreTypedLets defs env allowed vars bs (lets_pass (whole_of defs) locals next ls)
-  lets_typed defs env allowed locals vars next NoLet bs over h kept ruled =
+      → AreKept (whole_of defs) allowed (lets_pass (whole_of defs) locals next ls).sites → AreTypedLets defs env allowed vars bs (lets_pass (whole_of defs) locals next ls)
+  lets_typed defs env allowed locals vars next NoLet bs over h kept =
       subst (λ (y : LetBindings). AreTypedLets defs env allowed vars y (lets_pass (whole_of defs) locals next NoLet)) (same_Some NoBinding bs h) (record { typed = tt; over = over })
-  lets_typed defs env allowed locals vars next (ALet var name e ls) bs over h kept ruled =
+  lets_typed defs env allowed locals vars next (ALet var name e ls) bs over h kept =
       let w = whole_of defs in
       let ty = type_named defs name in
       let value = expr_pass w locals (suc next) ty e in
@@ -397,10 +466,9 @@ mutual
       let rest = lets_pass w more value.next ls in
       let m = lets_are next ty value.tree rest.trees bs h in
       let k = kept_parts w allowed value.sites rest.sites (bound_kept w allowed ty (value.sites ++ rest.sites) kept) in
-      let r = or_parts (calls_ruled (rule_defs defs) e) (lets_call_ruled (rule_defs defs) ls) ruled in
       let grown = next_grows w locals (suc next) ty e in
       let typed = expr_typed defs env allowed locals vars (suc next) m.of e m.value (over_later defs env locals vars next (suc next) (omega arith) over) (ap (λ o. (expr_pass w locals (suc next) o e).tree) (sym m.of_is) ∙ m.value_is)
-      (subst (λ o. AreKept w allowed (expr_pass w locals (suc next) o e).sites) m.of_is k.0) r.0 in
-      let others = lets_typed defs env allowed more ((m.of, next) ∷ vars) value.next ls m.others (over_more defs env locals vars next value.next var ty m.of m.of_is grown over) m.others_are k.1 r.1 in
+      (subst (λ o. AreKept w allowed (expr_pass w locals (suc next) o e).sites) m.of_is k.0) in
+      let others = lets_typed defs env allowed more ((m.of, next) ∷ vars) value.next ls m.others (over_more defs env locals vars next value.next var ty m.of m.of_is grown over) m.others_are k.1 in
       subst (λ (y : LetBindings). AreTypedLets defs env allowed vars y (lets_pass w locals next (ALet var name e ls))) m.are
       (record { typed = (new_number defs env locals vars next over, typed, others.typed); over = others.over })

@@ -4,7 +4,7 @@ use Rattle.std.specs.Prelude.{ℤ, ◌==◌, not, Contains, option_map, slice_ge
 use Rattle.std.specs.List.{list_any}
 use Rattle.std.specs.Str.{bytes_eq}
 use Rattle.std.proofs.lemmas.Bool.{or_parts, eqb-true, not-false}
-use Rattle.std.proofs.lemmas.List.{length-map}
+use Rattle.std.proofs.lemmas.List.{length-map, append-nil}
 use Rattle.std.proofs.lemmas.List.Elements.{Contains-append_left, Contains-append_right}
 use Rattle.std.proofs.lemmas.Option.{same_Some}
 use Rattle.std.proofs.lemmas.Slice.Eq.{bytes_eq-Decides}
@@ -27,17 +27,20 @@ use Rattle.isle_declarations.specs.Symbols.{index_of, sym_of}
 use Rattle.isle_declarations.specs.Terms.{terms}
 use Rattle.isle_types.specs.Builtins.{type_id}
 use Rattle.isle_types.specs.TypeEnvironment.{type_env_of}
-use Rattle.isle_sema.specs.Environment.{whole_of}
-use Rattle.isle_sema.specs.PatternPass.{PatternPass, term_tree, and_tree, is_blank, bound_tree, count_of, of_each, first_expected, later_expected, pattern_pass, patterns_pass}
+use Rattle.isle_terms.specs.Whole.{whole_of}
+use Rattle.isle_sema.specs.PatternPass.{PatternPass, term_tree, pattern_within, taken_by, and_tree, is_blank, bound_tree, count_of, of_each, first_expected, later_expected, pattern_pass, patterns_pass}
 use Rattle.isle_sema.specs.Reduced.{typed_integer}
 use Rattle.isle_sema.specs.RuleRows.{differ, is_taken_misfit, is_untaken, is_mistaken, is_misplaced, is_undeclared, is_other_type, is_met_otherwise}
 use Rattle.isle_sema.specs.Scope.{Scope, scope_names, bound_at, met, variable}
 use Rattle.isle_sema.specs.Site.{Site, TruthAt, PartAt, MetAt, TakenAt}
 use Rattle.isle_sema.specs.TypedRule.{typed_variables, typed_within, all_typed}
-use Rattle.isle_sema.specs.TypeNames.{type_named, takes_truths}
-use Rattle.isle_sema.specs.Whole.{Whole, termed, has_extractor, arg_types, ret_type, constant_type}
+use Rattle.isle_terms.specs.TypeNames.{type_named}
+use Rattle.isle_sema.specs.Expected.{takes_truths}
+use Rattle.isle_terms.specs.Whole.{Whole, termed, has_extractor, arg_types, ret_type, number_of, constant_type}
+use Rattle.isle_terms.specs.Converters.{conversion, within}
+use Rattle.isle_sema.proofs.Conversions.{IsConversion}
 use Rattle.isle_sema.proofs.Firsts.{any_parts}
-use Rattle.isle_sema.proofs.MadeTerms.{first_there}
+use Rattle.isle_terms.proofs.MadeTerms.{first_there}
 use Rattle.isle_sema.proofs.OpenedTerms.{IsOpened}
 pub use Rattle.isle_sema.proofs.RuleRoots.{IsMapped, mapped}
 use Rattle.isle_sema.proofs.ScopeLaws.{variable_is, met_again, bound_new, variable_other}
@@ -121,10 +124,11 @@ taken_parts w xs ys h =
     let e = any_parts is_met_otherwise xs ys h.again in
     (record { taken = a.0; types = b.0; placed = c.0; declared = d.0; again = e.0 }, record { taken = a.1; types = b.1; placed = c.1; declared = d.1; again = e.1 })
 
--- the environment knows how the terms of definitions take values apart, and the types of their constants
+-- the environment knows how the terms of definitions take values apart, what converters take and give, and the types of constants
 pub record KnowsTerms (defs : List Def) (env : Environment) : Type 0 where
   pub opened : (name : List ℕ) (s : Signature) (number : TermId) (ty : TypeId) → termed (whole_of defs) name ≡ Some s → term_named (terms defs) name ≡ Some number → has_extractor (whole_of defs) s ≡ true → type_named defs s.ret ≡ Some ty
       → IsOpened defs env s ty (making env number) (slice_get env.terms number.0)
+  pub converts : (of ty : TypeId) (s : Signature) → conversion (whole_of defs) (Some of) (Some ty) ≡ Some s → IsConversion defs of ty s
   pub constant : (name : List ℕ) (ty : TypeId) → constant_type (whole_of defs) name ≡ Some ty → const_type env (sym_of (type_env_of defs).syms name) ≡ Some ty
 
 -- ---- types
@@ -157,7 +161,14 @@ abbrev AreTyped : List Def → Environment → Scope → Patterns → Type 0
 AreTyped defs env scope ps = (tys : List TypeId) (qs : List CorePattern) → count_of ps ≡ length tys → (patterns_pass (whole_of defs) (map Some tys) scope ps).trees ≡ Some qs → AreTakenWell (whole_of defs) (patterns_pass (whole_of defs) (map Some tys) scope ps).sites
     → ArePatternsOf env tys qs
 
--- a term's pattern is of the type where its parts are of its arguments' types
+-- a term's pattern is of the type that the term gives where its parts are of its arguments' types
+opened_typed : (defs : List Def) (env : Environment) (ty of : TypeId) (name : List ℕ) (s : Signature) (number : TermId) (qs : List CorePattern) → KnowsTerms defs env → termed (whole_of defs) name ≡ Some s → term_named (terms defs) name ≡ Some number
+    → has_extractor (whole_of defs) s ≡ true → type_named defs s.ret ≡ Some of → of ≡ ty → ((tys : List TypeId) → map (type_named defs) s.args ≡ map Some tys → ArePatternsOf env tys qs) → IsPatternOf env ty (core_pattern.Term of number (core_patterns qs))
+opened_typed defs env ty of name s number qs knows is numbered has ret same typed =
+    let m = knows.opened name s number ty is numbered has (ret ∙ ap Some same) in
+    (same, m.opens, subst (λ o. ArePartsOf env o (core_patterns qs)) (sym m.parts) (parts_of env m.types qs (typed m.types m.args)))
+
+-- so where nothing stands around it
 term_typed : (defs : List Def) (env : Environment) (ty : TypeId) (scope : Scope) (ps : Patterns) (name : List ℕ) (o : Option Signature) (q : CorePattern) → KnowsTerms defs env → termed (whole_of defs) name ≡ o → AreTyped defs env scope ps
     → term_tree (ret_type (whole_of defs) o) (term_named (terms defs) name) (patterns_pass (whole_of defs) (arg_types (whole_of defs) o) scope ps).trees ≡ Some q
     → AreTakenWell (whole_of defs) (TakenAt (Some ty) o (count_of ps) ∷ (patterns_pass (whole_of defs) (arg_types (whole_of defs) o) scope ps).sites) → IsPatternOf env ty q
@@ -170,12 +181,62 @@ term_typed defs env ty scope ps name (Some s) q knows is typed h well =
     let fits = or_parts (not (count_of ps == length s.args)) (not (has_extractor w s)) (or_parts (is_taken_misfit w (Some s) (count_of ps)) false k.0.taken).0 in
     let many : count_of ps ≡ length s.args = eqb-true (count_of ps) (length s.args) (not-false (count_of ps == length s.args) fits.0) in
     let same : t.of ≡ ty = same_type t.of ty (subst (λ o. differ o (Some ty) ≡ false) t.of_is (or_parts (differ (type_named defs s.ret) (Some ty)) false k.0.types).0) in
-    let m = knows.opened name s t.number ty is t.number_is (not-false (has_extractor w s) fits.1) (t.of_is ∙ ap Some same) in
-    let long : length s.args ≡ length m.types = sym (length-map s.args (type_named defs)) ∙ ap length m.args ∙ length-map m.types Some in
-    let trees = subst (λ (os : List (Option TypeId)). (patterns_pass w os scope ps).trees ≡ Some t.parts) m.args t.parts_are in
-    let sites = subst (λ (os : List (Option TypeId)). AreTakenWell w (patterns_pass w os scope ps).sites) m.args k.1 in
-    let parts = parts_of env m.types t.parts (typed m.types t.parts (many ∙ long) trees sites) in
-    subst (IsPatternOf env ty) t.is (same, m.opens, subst (λ o. ArePartsOf env o (core_patterns t.parts)) (sym m.parts) parts)
+    subst (IsPatternOf env ty) t.is (opened_typed defs env ty t.of name s t.number t.parts knows is t.number_is (not-false (has_extractor w s) fits.1) t.of_is same
+    (λ tys are.
+    let long : length s.args ≡ length tys = sym (length-map s.args (type_named defs)) ∙ ap length are ∙ length-map tys Some in
+    let trees = subst (λ (os : List (Option TypeId)). (patterns_pass w os scope ps).trees ≡ Some t.parts) are t.parts_are in
+    let sites = subst (λ (os : List (Option TypeId)). AreTakenWell w (patterns_pass w os scope ps).sites) are k.1 in
+    typed tys t.parts (many ∙ long) trees sites))
+
+-- what a pattern within a converter is made of
+pub record IsWithin (w : Whole) (by : Option Signature) (p : Option CorePattern) (q : CorePattern) : Type 0 where
+  pub inner : CorePattern
+  pub inner_is : p ≡ Some inner
+  pub variables : typed_variables q ≡ typed_variables inner
+
+pub within_is : (w : Whole) (by : Option Signature) (p : Option CorePattern) (q : CorePattern) → pattern_within w by p ≡ Some q → IsWithin w by p q
+within_is w None p q h = record { inner = q; inner_is = h; variables = refl }
+within_is w (Some s) None q h = let t = term_tree_is (ret_type w (Some s)) (number_of w (Some s)) None q h in let bad : None ≡ Some t.parts = t.parts_are in absurd cc
+within_is w (Some s) (Some inner) q h =
+    let t = term_tree_is (ret_type w (Some s)) (number_of w (Some s)) (Some (inner ∷ [])) q h in
+    let parts : inner ∷ [] ≡ t.parts = same_Some (inner ∷ []) t.parts t.parts_are in
+    record {
+      inner = inner;
+      inner_is = refl;
+      variables = ap typed_variables (sym t.is) ∙ ap (λ (qs : List CorePattern). typed_within (core_patterns qs)) (sym parts) ∙ append-nil (typed_variables inner);
+    }
+
+-- the converter takes a value of the type apart, into one of the other type
+converter_typed : (defs : List Def) (env : Environment) (ty of : TypeId) (s : Signature) (p : Option CorePattern) (q : CorePattern) → KnowsTerms defs env → conversion (whole_of defs) (Some of) (Some ty) ≡ Some s → AreTakenWell (whole_of defs) (TakenAt (Some ty) (Some s) 1 ∷ [])
+    → ((x : CorePattern) → p ≡ Some x → IsPatternOf env of x) → pattern_within (whole_of defs) (Some s) p ≡ Some q → IsPatternOf env ty q
+converter_typed defs env ty of s None q knows is well typed h = let t = term_tree_is (ret_type (whole_of defs) (Some s)) (number_of (whole_of defs) (Some s)) None q h in let bad : None ≡ Some t.parts = t.parts_are in absurd cc
+converter_typed defs env ty of s (Some x) q knows is well typed h =
+    let w = whole_of defs in
+    let c = knows.converts of ty s is in
+    let t = term_tree_is (type_named defs s.ret) (term_named (terms defs) s.term) (Some (x ∷ [])) q h in
+    let parts : x ∷ [] ≡ t.parts = same_Some (x ∷ []) t.parts t.parts_are in
+    let fits = or_parts (not (1 == length s.args)) (not (has_extractor w s)) (or_parts (is_taken_misfit w (Some s) 1) false well.taken).0 in
+    let same : t.of ≡ ty = same_Some t.of ty (sym t.of_is ∙ c.ret) in
+    subst (IsPatternOf env ty) t.is (opened_typed defs env ty t.of s.term s t.number t.parts knows c.there t.number_is (not-false (has_extractor w s) fits.1) t.of_is same
+    (λ tys are. subst (λ (qs : List CorePattern). ArePatternsOf env tys qs) parts (one_typed tys (sym c.args ∙ are) (typed x refl))))
+  where
+    one_typed : (tys : List TypeId) → Some of ∷ [] ≡ map Some tys → IsPatternOf env of x → ArePatternsOf env tys (x ∷ [])
+    one_typed [] e k = absurd cc
+    one_typed (t ∷ []) e k = let same : of ≡ t = cc in (subst (λ (y : TypeId). IsPatternOf env y x) same k, tt)
+    one_typed (t ∷ u ∷ tys) e k = absurd cc
+
+-- a term's pattern is of the type, within a converter where it is of another one
+within_typed : (defs : List Def) (env : Environment) (ty : TypeId) (scope : Scope) (ps : Patterns) (name : List ℕ) (q : CorePattern) (of : Option TypeId) (by : Option Signature) → KnowsTerms defs env → AreTyped defs env scope ps → ret_type (whole_of defs) (termed (whole_of defs) name) ≡ of
+    → conversion (whole_of defs) of (Some ty) ≡ by → pattern_within (whole_of defs) by (term_tree (ret_type (whole_of defs) (termed (whole_of defs) name)) (term_named (terms defs) name) (patterns_pass (whole_of defs) (arg_types (whole_of defs) (termed (whole_of defs) name)) scope ps).trees) ≡ Some q
+    → AreTakenWell (whole_of defs) (taken_by by (Some ty) ++ TakenAt (within by of (Some ty)) (termed (whole_of defs) name) (count_of ps) ∷ (patterns_pass (whole_of defs) (arg_types (whole_of defs) (termed (whole_of defs) name)) scope ps).sites) → IsPatternOf env ty q
+within_typed defs env ty scope ps name q of None knows typed ret is h well = term_typed defs env ty scope ps name (termed (whole_of defs) name) q knows refl typed h well
+within_typed defs env ty scope ps name q None (Some s) knows typed ret is h well = absurd cc
+within_typed defs env ty scope ps name q (Some of) (Some s) knows typed ret is h well =
+    let w = whole_of defs in
+    let o = termed w name in
+    let k = taken_parts w (TakenAt (Some ty) (Some s) 1 ∷ []) (TakenAt (Some of) o (count_of ps) ∷ (patterns_pass w (arg_types w o) scope ps).sites) well in
+    let inner = term_tree (ret_type w o) (term_named (terms defs) name) (patterns_pass w (arg_types w o) scope ps).trees in
+    converter_typed defs env ty of s inner q knows is k.0 (λ x e. term_typed defs env of scope ps name o x knows refl typed e k.1) h
 
 -- `@` is of the type where its pattern is
 bind_typed : (defs : List Def) (env : Environment) (ty : TypeId) (scope : Scope) (name : List ℕ) (p : Pattern) (q : CorePattern) (blank : Bool)
@@ -213,7 +274,8 @@ mutual
       let same : m.from ≡ ty = same_type m.from ty (subst (λ o. differ o (Some ty) ≡ false) m.there (or_parts (differ found (Some ty)) false well.types).0) in
       subst (IsPatternOf env ty) m.is (same, knows.constant name ty (m.there ∙ ap Some same))
   pattern_typed defs env ty scope (tree.Term name ps) q knows types h well =
-      term_typed defs env ty scope ps name (termed (whole_of defs) name) q knows refl (λ tys qs same trees sites. patterns_typed defs env tys scope ps qs knows types same trees sites) h well
+      let of = ret_type (whole_of defs) (termed (whole_of defs) name) in
+      within_typed defs env ty scope ps name q of (conversion (whole_of defs) of (Some ty)) knows (λ tys qs same trees sites. patterns_typed defs env tys scope ps qs knows types same trees sites) refl refl h well
   pattern_typed defs env ty scope (tree.Bind name p) q knows types h well = bind_typed defs env ty scope name p q (is_blank name) (λ mid x t k. pattern_typed defs env ty mid p x knows types t k) h well
   pattern_typed defs env ty scope (tree.And ps) q knows types h well =
       let w = whole_of defs in
@@ -295,9 +357,12 @@ mutual
   stands_in w expected scope (tree.Const x) q name v h at = inl at
   stands_in w expected scope (tree.Term x ps) q name v h at =
       let args = arg_types w (termed w x) in
-      let t = term_tree_is (ret_type w (termed w x)) (term_named (terms w.defs) x) (patterns_pass w args scope ps).trees q h in
+      let of = ret_type w (termed w x) in
+      let k = within_is w (conversion w of expected) (term_tree of (term_named (terms w.defs) x) (patterns_pass w args scope ps).trees) q h in
+      let t = term_tree_is of (term_named (terms w.defs) x) (patterns_pass w args scope ps).trees k.inner k.inner_is in
       let parts = variable_stands w args scope ps t.parts name v t.parts_are at in
-      subst (λ (y : CorePattern). (variable scope name ≡ Some v) ⊎ Contains (typed_variables y) (v.0, v.1.0)) t.is (subst (λ vars. (variable scope name ≡ Some v) ⊎ Contains vars (v.0, v.1.0)) (typed_list t.parts) parts)
+      let vars : all_typed t.parts ≡ typed_variables q = typed_list t.parts ∙ ap typed_variables t.is ∙ sym k.variables in
+      subst (λ xs. (variable scope name ≡ Some v) ⊎ Contains xs (v.0, v.1.0)) vars parts
   stands_in w expected scope (tree.Bind x p) q name v h at = bind_stands w expected scope x p q name v (is_blank x) (λ mid y t k. stands_in w expected mid p y name v t k) h at
   stands_in w expected scope (tree.And ps) q name v h at =
       let parts = patterns_pass w (of_each expected ps) scope ps in

@@ -33,27 +33,29 @@ use Rattle.isle_declarations.specs.declared.terms.Origin.TheVariants as origin
 use Rattle.isle_declarations.proofs.LookUps.{at_place, named_at}
 use Rattle.isle_declarations.proofs.SymbolLaws.{index_below}
 use Rattle.isle_types.specs.TypeRows.{on}
-use Rattle.isle_sema.specs.Calls.{calls_ruled}
+use Rattle.isle_sema.specs.Language.{is_ruled, uses_ruled}
 use Rattle.isle_sema.specs.Locals.{of_patterns}
 use Rattle.isle_sema.specs.Scope.{variable}
 use Rattle.isle_sema.specs.Site.{Site, NotBuiltAt}
-use Rattle.isle_sema.specs.TypeNames.{type_named}
-use Rattle.isle_sema.specs.Whole.{Whole, termed, arg_types, ret_type}
+use Rattle.isle_terms.specs.TypeNames.{type_named}
+use Rattle.isle_terms.specs.Whole.{Whole, termed, arg_types, ret_type}
 use Rattle.isle_sema.specs.PatternPass.{PatternsPass, patterns_pass, count_of}
 use Rattle.isle_sema.specs.ExprPass.{ExprPass, expr_pass}
 use Rattle.isle_sema.specs.RulePass.{patterns_of, right_side_of, conditions_of, rule_pass, rules_pass}
 use Rattle.isle_sema.specs.RuleRows.{is_untaken, is_mistaken, is_misplaced, is_undeclared, is_met_otherwise, is_unknown, is_mistyped}
-use Rattle.isle_sema.specs.Environment.{whole_of, constructor_named, extracting_named, kind_from}
+use Rattle.isle_terms.specs.Whole.{whole_of}
+use Rattle.isle_terms.specs.TermPass.{constructor_named, extracting_named, kind_from}
 use Rattle.isle_sema.specs.Judging.{is_partial_call}
 use Rattle.isle_sema.specs.Taken.{row_of}
 use Rattle.isle_sema.specs.Typing.{Typed}
 use Rattle.isle_sema.specs.TypedRule.{IsExprOf, all_typed, IsRuleOf, IsTypedRule}
 use Rattle.isle_sema.proofs.BuiltForms.{IsPlain}
+use Rattle.isle_sema.proofs.Conversions.{conversion_is}
 use Rattle.isle_sema.proofs.Firsts.{any_parts}
 use Rattle.isle_sema.proofs.Judgements.{row_fails}
 use Rattle.isle_sema.proofs.LocalLaws.{pattern_variable}
 use Rattle.isle_sema.proofs.MadeForms.{constant_typed}
-use Rattle.isle_sema.proofs.MadeTerms.{first_there, term_made, term_is, types_are, all_at}
+use Rattle.isle_terms.proofs.MadeTerms.{first_there, term_made, term_is, types_are, all_at}
 use Rattle.isle_sema.proofs.OpenedTerms.{opened_term}
 use Rattle.isle_sema.proofs.RuleLaws.{is_broken, none_fault, none_is}
 use Rattle.isle_sema.proofs.RuleRoots.{place_of, signature_at, rule_made}
@@ -121,14 +123,15 @@ counted : (ps : List Pattern) → count_of (seen_patterns ps) ≡ length ps
 counted [] = refl
 counted (p ∷ ps) = ap suc (counted ps)
 
--- what terms that take values apart and constants are in an environment
+-- what terms that take values apart, converters and constants are in an environment
 knows : (defs : List Def) (env : Environment) → IsTypedIn defs env → KnowsTerms defs env
 knows defs env g = record {
   opened = λ name s number ty is at has ret. opened_term defs env name s number ty g is at has ret;
+  converts = λ of ty s h. conversion_is defs env of ty s g h;
   constant = λ name ty h. ap (λ (ts : TypeEnv). const_type env (sym_of ts.syms name)) (sym g.types) ∙ constant_typed defs env name ty g.types h;
 }
 
-rule_typed : (defs : List Def) (env : Environment) (i : ℕ) (r : RuleDef) (x : Rule) → IsTypedIn defs env → row_of (whole_of defs) r ≡ None → calls_ruled (rule_defs defs) r.rhs ≡ false → rule_pass (whole_of defs) i r ≡ Some x → IsTypedRule env x
+rule_typed : (defs : List Def) (env : Environment) (i : ℕ) (r : RuleDef) (x : Rule) → IsTypedIn defs env → row_of (whole_of defs) r ≡ None → uses_ruled (whole_of defs) r ≡ false → rule_pass (whole_of defs) i r ≡ Some x → IsTypedRule env x
 rule_typed defs env i r x g row unruled h =
     let w = whole_of defs in
     let m = rule_made w i r x h in
@@ -146,6 +149,7 @@ rule_typed defs env i r x g row unruled h =
     let p = any_parts (is_misplaced w) ps (cs ++ rs) f.literal in
     let u = any_parts (is_unknown w) ps (cs ++ rs) f.name in
     let v = any_parts (is_mistyped w) ps (cs ++ rs) f.typing in
+    let used = any_parts (is_ruled w) ps (cs ++ rs) unruled in
     let patterns : patterns_pass w (map Some t.term.arg_tys) [] (seen_patterns r.args) ≡ patterns_of w r = ap (λ os. patterns_pass w os [] (seen_patterns r.args)) (sym tys) ∙ ap (λ o. patterns_pass w (arg_types w o) [] (seen_patterns r.args)) (sym d.1) in
     let scope = (patterns_of w r).scope in
     let right : expr_pass w (of_patterns scope) (length scope) (Some t.term.ret_ty) r.rhs ≡ right_side_of w r =
@@ -163,7 +167,7 @@ rule_typed defs env i r x g row unruled h =
           (variable_stands w (arg_types w (termed w r.term)) [] (seen_patterns r.args) x.args name (ty, record { 0 = l.number }) m.args (pattern_variable scope name l ty found typed));
       below = have_places w (arg_types w (termed w r.term)) [] (seen_patterns r.args) x.args m.args;
     } in
-    let kept : AreKept w s.partial rs = record { placed = (any_parts (is_misplaced w) cs rs p.1).1; known = (any_parts (is_unknown w) cs rs u.1).1; typed = (any_parts (is_mistyped w) cs rs v.1).1; partial = calls } in
+    let kept : AreKept w s.partial rs = record { placed = (any_parts (is_misplaced w) cs rs p.1).1; known = (any_parts (is_unknown w) cs rs u.1).1; typed = (any_parts (is_mistyped w) cs rs v.1).1; ruled = (any_parts (is_ruled w) cs rs used.1).1; partial = calls } in
     let well : AreTakenWell w ps = record {
       taken = (any_parts (is_untaken w) ps (cs ++ rs) a.1).0;
       types = (any_parts (is_mistaken w) ps (cs ++ rs) f.taken).0;
@@ -179,18 +183,18 @@ rule_typed defs env i r x g row unruled h =
         variables = have_one_type w (arg_types w (termed w r.term)) [] (seen_patterns r.args) x.args m.args;
         iflets = no_iflets r.iflets x.iflets m.iflets;
         rhs = subst (λ b. IsExprOf env b (all_typed x.args) t.term.ret_ty x.rhs) (sym allowed)
-            (expr_typed defs env s.partial (of_patterns scope) (all_typed x.args) (length scope) t.term.ret_ty r.rhs x.rhs over (ap (λ (y : ExprPass). y.tree) right ∙ m.rhs) (subst (λ (y : ExprPass). AreKept w s.partial y.sites) (sym right) kept) unruled);
+            (expr_typed defs env s.partial (of_patterns scope) (all_typed x.args) (length scope) t.term.ret_ty r.rhs x.rhs over (ap (λ (y : ExprPass). y.tree) right ∙ m.rhs) (subst (λ (y : ExprPass). AreKept w s.partial y.sites) (sym right) kept));
       };
     }
 
 rules_typed : (defs : List Def) (env : Environment) (i : ℕ) (rules : List RuleDef) (xs : List Rule) → IsTypedIn defs env → list_any (is_broken (whole_of defs)) rules ≡ false
-    → list_any (λ (r : RuleDef). calls_ruled (rule_defs defs) r.rhs) rules ≡ false → rules_pass (whole_of defs) i rules ≡ Some xs → AllByRecursion (IsTypedRule env) xs
+    → list_any (uses_ruled (whole_of defs)) rules ≡ false → rules_pass (whole_of defs) i rules ≡ Some xs → AllByRecursion (IsTypedRule env) xs
 rules_typed defs env i [] xs g rows unruled h = subst (AllByRecursion (IsTypedRule env)) (same_Some [] xs h) tt
 rules_typed defs env i (r ∷ rules) xs g rows unruled h =
     let w = whole_of defs in
     let f = first_there (rule_pass w i r) (rules_pass w (i + 1) rules) xs h in
     let k = or_parts (is_broken w r) (list_any (is_broken w) rules) rows in
-    let c = or_parts (calls_ruled (rule_defs defs) r.rhs) (list_any (λ (x : RuleDef). calls_ruled (rule_defs defs) x.rhs) rules) unruled in
+    let c = or_parts (uses_ruled w r) (list_any (uses_ruled w) rules) unruled in
     subst (AllByRecursion (IsTypedRule env)) (sym f.all)
     (rule_typed defs env i r f.first g (none_is (row_of w r) k.0) c.0 f.here, rules_typed defs env (i + 1) rules f.others g k.1 c.1 f.found)
 

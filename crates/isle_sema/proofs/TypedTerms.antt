@@ -42,13 +42,14 @@ use Rattle.isle_declarations.proofs.TermNames.{are_terms_among}
 use Rattle.isle_types.specs.Builtins.{type_id}
 use Rattle.isle_types.specs.TypeEnvironment.{type_def_in, type_env_of}
 use Rattle.isle_types.specs.TypeNames.{declared_names, type_names}
-use Rattle.isle_sema.specs.Whole.{Whole}
-use Rattle.isle_sema.specs.Environment.{whole_of, types_named, constructor_named, extractor_from, extracting_named, kind_from, term_pass, terms_pass}
+use Rattle.isle_terms.specs.Whole.{Whole}
+use Rattle.isle_terms.specs.Whole.{whole_of}
+use Rattle.isle_terms.specs.TermPass.{types_named, constructor_named, extractor_from, extracting_named, kind_from, term_pass, terms_pass}
 use Rattle.isle_sema.specs.Language.{is_built_def}
-use Rattle.isle_sema.specs.TypeNames.{type_named}
+use Rattle.isle_terms.specs.TypeNames.{type_named}
 use Rattle.isle_sema.specs.Typing.{Typed}
 use Rattle.isle_sema.proofs.BuiltForms.{IsPlain, plain_flags}
-use Rattle.isle_sema.proofs.MadeTerms.{first_there, made_of, term_is, types_are, all_at}
+use Rattle.isle_terms.proofs.MadeTerms.{first_there, made_of, term_is, types_are, all_at}
 use Rattle.isle_sema.proofs.NamesApart.{made_apart, terms_apart, declared_unmade}
 use Rattle.isle_sema.proofs.TermFaults.{has_too_many, terms_kept}
 use Rattle.isle_sema.proofs.TypedParts.{typed_in}
@@ -100,7 +101,7 @@ plain_terms (tree.Rule name prio term args iflets rhs pos ∷ ds) h = plain_term
 plain_terms (tree.ExternConst name ty pos ∷ ds) h = plain_terms ds h
 plain_terms (tree.ExternExtractor term func infallible pos ∷ ds) h = plain_terms ds h
 plain_terms (tree.Extractor term params template pos ∷ ds) h = absurd cc
-plain_terms (tree.Converter from to term pos ∷ ds) h = absurd cc
+plain_terms (tree.Converter from to term pos ∷ ds) h = plain_terms ds h
 plain_terms (tree.Passed head items pos ∷ ds) h = plain_terms ds h
 
 -- a term of this kind is declared, with at most the flag `partial`, and no extractor or an external one

@@ -15,15 +15,16 @@ use Rattle.isle_ast.specs.Tree.{Pattern, Patterns, NoPattern, APattern}
 use Rattle.isle_declarations.specs.Signatures.{term_named}
 use Rattle.isle_declarations.specs.Symbols.{index_of, sym_of}
 use Rattle.isle_declarations.specs.Terms.{terms}
-use Rattle.isle_sema.specs.PatternPass.{first_expected, later_expected, of_each, is_blank, pattern_pass, patterns_pass}
+use Rattle.isle_sema.specs.PatternPass.{first_expected, later_expected, of_each, is_blank, term_tree, pattern_pass, patterns_pass}
 use Rattle.isle_sema.specs.Reduced.{typed_integer}
 use Rattle.isle_sema.specs.Scope.{Scope, scope_names, bound_at, met, variable}
 use Rattle.isle_sema.specs.TypedRule.{HaveOneType, typed_variables, all_typed}
-use Rattle.isle_sema.specs.Whole.{Whole, termed, arg_types, ret_type, constant_type}
-use Rattle.isle_sema.proofs.MadeTerms.{first_there}
+use Rattle.isle_terms.specs.Converters.{conversion}
+use Rattle.isle_terms.specs.Whole.{Whole, termed, arg_types, ret_type, constant_type}
+use Rattle.isle_terms.proofs.MadeTerms.{first_there}
 use Rattle.isle_sema.proofs.RuleRoots.{mapped}
 use Rattle.isle_sema.proofs.ScopeLaws.{variable_is, met_new, met_again}
-use Rattle.isle_sema.proofs.TypedPatterns.{bind_pass, bound_tree_is, term_tree_is, any_and_tree, typed_list}
+use Rattle.isle_sema.proofs.TypedPatterns.{within_is, bind_pass, bound_tree_is, term_tree_is, any_and_tree, typed_list}
 
 -- ---- the scope grows
 
@@ -147,8 +148,10 @@ mutual
   pattern_stand w expected scope (tree.Term name ps) q h =
       let args = arg_types w (termed w name) in
       let parts = patterns_pass w args scope ps in
-      let t = term_tree_is (ret_type w (termed w name)) (term_named (terms w.defs) name) parts.trees q h in
-      subst (λ (y : CorePattern). StandIn parts.scope (typed_variables y)) t.is (subst (StandIn parts.scope) (typed_list t.parts) (patterns_stand w args scope ps t.parts t.parts_are))
+      let of = ret_type w (termed w name) in
+      let k = within_is w (conversion w of expected) (term_tree of (term_named (terms w.defs) name) parts.trees) q h in
+      let t = term_tree_is of (term_named (terms w.defs) name) parts.trees k.inner k.inner_is in
+      subst (StandIn parts.scope) (typed_list t.parts ∙ ap typed_variables t.is ∙ sym k.variables) (patterns_stand w args scope ps t.parts t.parts_are)
   pattern_stand w expected scope (tree.Bind x p) q h = bind_stand w expected scope x p q (is_blank x) (λ mid y t. pattern_stand w expected mid p y t) h
   pattern_stand w expected scope (tree.And ps) q h =
       let parts = patterns_pass w (of_each expected ps) scope ps in

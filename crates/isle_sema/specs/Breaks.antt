@@ -4,8 +4,8 @@ use Rattle.isle_ast.specs.Tree.{Def}
 use Rattle.isle_types.specs.declared.row.Row.TheVariants as row
 use Rattle.isle_types.specs.declared.row.Row.{Row}
 use Rattle.isle_types.specs.TypeRows.{type_repeats, field_repeats, field_type_missing, many_fields, made_term_repeats, constant_misfit}
-use Rattle.isle_sema.specs.Context.{Context}
-use Rattle.isle_sema.specs.DeclarationRows.{declaration_repeats, type_missing, many_arguments, multi_and_partial, term_undeclared, second_of_term, head_misfit}
+use Rattle.isle_terms.specs.Context.{Context}
+use Rattle.isle_terms.specs.DeclarationRows.{declaration_repeats, type_missing, many_arguments, multi_and_partial, term_undeclared, second_of_term, converter_misfit, head_misfit}
 use Rattle.isle_sema.specs.RuleRows.{pattern_term_misfit, pattern_type_misfit, literal_misfit, constant_undeclared, variable_type_misfit, expr_name_misfit, expr_type_misfit, partial_call, impure_call, multi_call, many_nodes}
 
 -- what a row refuses; nothing is said yet of the rows that no definition of a built form can break
@@ -24,7 +24,7 @@ judge row.TermUndeclared = Some term_undeclared
 judge row.SecondOfTerm = Some second_of_term
 judge row.InfallibleMulti = None
 judge row.ParametersMisfit = None
-judge row.ConverterMisfit = None
+judge row.ConverterMisfit = Some converter_misfit
 judge row.HeadMisfit = Some head_misfit
 judge row.ExtractorReachesItself = None
 judge row.TemplateMisfit = None

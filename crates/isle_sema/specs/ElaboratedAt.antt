@@ -15,8 +15,8 @@ use Rattle.isle_declarations.specs.Signatures.{RuleDef}
 use Rattle.isle_sema.specs.Locals.{Bound, locals_of, bound_local}
 use Rattle.isle_sema.specs.Scope.{Scope}
 use Rattle.isle_sema.specs.Site.{BoundAt}
-use Rattle.isle_sema.specs.TypeNames.{type_named}
-use Rattle.isle_sema.specs.Whole.{Whole}
+use Rattle.isle_terms.specs.TypeNames.{type_named}
+use Rattle.isle_terms.specs.Whole.{Whole}
 use Rattle.isle_sema.specs.PatternPass.{pattern_pass, patterns_pass}
 use Rattle.isle_sema.specs.ExprPass.{binding_tree, expr_pass, exprs_pass, lets_pass}
 use Rattle.isle_sema.specs.RulePass.{patterns_of, right_side_of}

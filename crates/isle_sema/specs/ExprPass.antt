@@ -12,14 +12,14 @@ use Rattle.isle_core.specs.RuleViews.{SeenBinding}
 use Rattle.isle_ast.specs.Tree as tree
 use Rattle.isle_ast.specs.Tree.{Expr, Exprs, NoExpr, AnExpr, Lets, NoLet, ALet}
 use Rattle.isle_sema.specs.Reduced.{typed_integer}
-use Rattle.isle_declarations.specs.Signatures.{term_named}
+use Rattle.isle_declarations.specs.Signatures.{Signature, term_named}
 use Rattle.isle_declarations.specs.Symbols.{sym_of}
 use Rattle.isle_declarations.specs.Terms.{terms}
-use Rattle.isle_sema.specs.Calls.{count_of}
 use Rattle.isle_sema.specs.Locals.{Local, local_named, local_type, typed_local, bound_local}
 use Rattle.isle_sema.specs.Site.{Site, IntegerAt, TruthAt, PartAt, UsedAt, CalledAt, ConstantAt, BoundAt}
-use Rattle.isle_sema.specs.TypeNames.{type_named}
-use Rattle.isle_sema.specs.Whole.{Whole, termed, arg_types, ret_type, constant_type}
+use Rattle.isle_terms.specs.Converters.{conversion, within}
+use Rattle.isle_terms.specs.TypeNames.{type_named}
+use Rattle.isle_terms.specs.Whole.{Whole, termed, arg_types, ret_type, number_of, constant_type}
 use Rattle.isle_sema.specs.PatternPass.{first_expected, later_expected}
 
 -- an expression's tree, where its types are known, the next number after it, and its parts
@@ -46,8 +46,8 @@ abbrev pub integer_tree : TypeEnv → Option TypeId → ℤ → Option CoreExpr
 integer_tree types expected n = option_map (λ (v : TypeId × ℤ). core_expr.ConstInt v.0 v.1) (typed_integer types expected n)
 
 -- a variable's tree, where it is bound at a type that is known
-abbrev pub variable_tree : List Local → List ℕ → Option CoreExpr
-variable_tree locals name = option_map (λ (v : TypeId × VarId). core_expr.Var v.0 v.1) (typed_local (local_named locals name))
+abbrev pub local_tree : Option Local → Option CoreExpr
+local_tree found = option_map (λ (v : TypeId × VarId). core_expr.Var v.0 v.1) (typed_local found)
 
 -- a constant's tree, where it is declared
 abbrev pub constant_tree : TypeEnv → Option TypeId → List ℕ → Option CoreExpr
@@ -56,6 +56,20 @@ constant_tree types ty name = option_map (λ (t : TypeId). core_expr.ConstPrim t
 -- a call of this type, of this term, on these
 abbrev pub call_tree : Option TypeId → Option TermId → Option CoreExprs → Option CoreExpr
 call_tree ty term es = option_and_then (λ (t : TypeId). option_and_then (λ (n : TermId). option_map (core_expr.Term t n) es) term) ty
+
+-- the tree of an expression within a converter, where one is inserted
+abbrev pub expr_within : Whole → Option Signature → Option CoreExpr → Option CoreExpr
+expr_within w None e = e
+expr_within w (Some s) e = call_tree (ret_type w (Some s)) (number_of w (Some s)) (option_map (λ (x : CoreExpr). CoreAnExpr x CoreNoExpr) e)
+
+-- what is judged of the converter
+abbrev pub called_by : Option Signature → Option TypeId → List Site
+called_by None expected = []
+called_by (Some s) expected = CalledAt expected (Some s) 1 ∷ []
+
+-- the type that a variable was bound at, where it is known
+abbrev pub known_type : Option Local → Option TypeId
+known_type found = option_and_then (λ (l : Local). l.ty) found
 
 -- a tree before others, where all are there
 abbrev pub expr_before : Option CoreExpr → Option CoreExprs → Option CoreExprs
@@ -88,17 +102,34 @@ let_tree bindings inner = option_and_then (λ (bs : LetBindings). option_map (λ
 
 -- ---- expressions
 
--- an expression where this is expected; a variable has the type that it was bound at, a call that of its term, and a `let` hands its own
--- on
+-- how many expressions there are
+abbrev pub count_of : Exprs → ℕ
+count_of NoExpr = 0
+count_of (AnExpr e es) = suc (count_of es)
+
+-- an expression where this is expected; a variable has the type that it was bound at, a constant its own, a call that of its term, each
+-- within a converter where another one is expected and a converter fits, and a `let` hands its own on
 abbrev mutual
   pub expr_pass : Whole → List Local → (next : ℕ) → Option TypeId → Expr → ExprPass
   expr_pass w locals next expected (tree.Number n) = record { tree = integer_tree w.types expected n; next = next; sites = IntegerAt expected ∷ [] }
   expr_pass w locals next expected (tree.Fact b) = record { tree = Some (core_expr.ConstBool b); next = next; sites = TruthAt expected ∷ [] }
-  expr_pass w locals next expected (tree.Name name) = record { tree = variable_tree locals name; next = next; sites = UsedAt expected (local_type (local_named locals name)) ∷ [] }
+  expr_pass w locals next expected (tree.Name name) =
+      let found = local_named locals name in
+      let by = conversion w (known_type found) expected in
+      record { tree = expr_within w by (local_tree found); next = next; sites = called_by by expected ++ UsedAt (within by (known_type found) expected) (local_type found) ∷ [] }
   expr_pass w locals next expected (tree.Call name es) =
+      let of = ret_type w (termed w name) in
+      let by = conversion w of expected in
       let args = exprs_pass w locals next (arg_types w (termed w name)) es in
-      record { tree = call_tree (ret_type w (termed w name)) (term_named (terms w.defs) name) args.trees; next = args.next; sites = CalledAt expected (termed w name) (count_of es) ∷ args.sites }
-  expr_pass w locals next expected (tree.Constant name) = record { tree = constant_tree w.types (constant_type w name) name; next = next; sites = ConstantAt false expected (constant_type w name) ∷ [] }
+      record {
+        tree = expr_within w by (call_tree of (term_named (terms w.defs) name) args.trees);
+        next = args.next;
+        sites = called_by by expected ++ CalledAt (within by of expected) (termed w name) (count_of es) ∷ args.sites;
+      }
+  expr_pass w locals next expected (tree.Constant name) =
+      let of = constant_type w name in
+      let by = conversion w of expected in
+      record { tree = expr_within w by (constant_tree w.types of name); next = next; sites = called_by by expected ++ ConstantAt false (within by of expected) of ∷ [] }
   expr_pass w locals next expected (tree.Let ls inner) =
       let bound = lets_pass w locals next ls in
       let result = expr_pass w bound.locals bound.next expected inner in

@@ -8,8 +8,8 @@ use Rattle.isle_types.specs.declared.row.Row.{Row}
 use Rattle.isle_types.specs.Fault as found
 use Rattle.isle_types.specs.Fault.{first_broken, type_rows}
 pub use Rattle.isle_types.specs.Fault.{or_later}
-use Rattle.isle_sema.specs.Whole.{Whole}
-use Rattle.isle_sema.specs.Context.{Context}
+use Rattle.isle_terms.specs.Whole.{Whole}
+use Rattle.isle_terms.specs.Context.{Context}
 use Rattle.isle_sema.specs.Breaks.{breaks}
 
 -- types and constants; declarations, what names their terms, and heads; then what stands in extractors; then in rules

@@ -4,14 +4,11 @@ use Rattle.isle_sema.specs.declared.judged.Judged.{Judged}
 use Rattle.isle_sema.specs.declared.known.Called.{Called}
 use Rattle.isle_types.specs.declared.row.Row.TheVariants as row
 use Rattle.isle_types.specs.declared.row.Row.{Row}
-use Rattle.isle_declarations.specs.Signatures.{Signature, rule_defs, has_rule}
+use Rattle.isle_declarations.specs.Signatures.{Signature}
+use Rattle.isle_sema.specs.Language.{is_ruled}
 use Rattle.isle_sema.specs.Site.{Site}
-use Rattle.isle_sema.specs.Whole.{Whole}
+use Rattle.isle_terms.specs.Whole.{Whole}
 use Rattle.isle_sema.specs.RuleRows.{is_untaken, is_mistaken, is_misplaced, is_undeclared, is_met_otherwise, is_unknown, is_mistyped, is_call_of}
-
--- a call of a term that has a rule, which is not built
-abbrev pub is_ruled_call : Whole → Site → Bool
-is_ruled_call w site = is_call_of (λ (s : Signature). has_rule (rule_defs w.defs) s.term) site
 
 -- a call of a term that may answer nothing
 abbrev pub is_partial_call : Site → Bool
@@ -42,7 +39,7 @@ judge w j site = record {
   partial = is_partial_call site || j.partial;
   impure = is_impure_call site || j.impure;
   multi = is_multi_call site || j.multi;
-  ruled = is_ruled_call w site || j.ruled;
+  ruled = is_ruled w site || j.ruled;
   nodes = min (j.nodes + 1) (2 ^ 64 - 1);
 }
 

@@ -1,17 +1,10 @@
 -- What the code that resolves names sees.
 use Rattle.std.specs.Prelude.{◌≡◌, ℕ, List, Option, Some, None, is_some, map}
-use Rattle.isle_ast.specs.declared.tree.Def.{Def as CodeDef}
-use Rattle.isle_ast.specs.Views.{defs}
 use Rattle.isle_sema.specs.declared.known.Called.{Called}
 use Rattle.isle_declarations.specs.Terms.{terms, is_made}
 use Rattle.isle_declarations.specs.Signatures.{Signature, externs, extractors, rule_defs, term_named, func_named, extractor_named, has_rule}
-use Rattle.isle_sema.specs.TypeNames.{type_named}
-use Rattle.isle_sema.specs.Whole.{Whole, termed}
-use Rattle.isle_sema.specs.Environment.{whole_of}
-
--- the code's definitions over their types
-abbrev pub whole : List CodeDef → Whole
-whole ds = whole_of (defs ds)
+use Rattle.isle_terms.specs.TypeNames.{type_named}
+use Rattle.isle_terms.specs.Whole.{Whole, termed}
 
 -- what is known of a term
 pub record IsCalled (w : Whole) (s : Signature) (c : Called) : Type 0 where

@@ -10,12 +10,16 @@ use Rattle.isle_declarations.specs.TermViews.{AreTerms}
 use Rattle.isle_types.specs.declared.before.Before.{Before}
 use Rattle.isle_types.specs.Gathered.{IsBefore}
 use Rattle.isle_types.specs.TypeEnvironment.{type_env_of}
-use Rattle.isle_sema.specs.Environment.{terms_pass}
-use Rattle.isle_sema.specs.Known.{whole}
+use Rattle.isle_terms.specs.declared.converters.Converters.{Converters}
+use Rattle.isle_terms.specs.Converters.{converters}
+use Rattle.isle_terms.specs.ConverterViews.{AreFound}
+use Rattle.isle_terms.specs.TermPass.{terms_pass}
+use Rattle.isle_terms.specs.Whole.{whole}
 
--- the names of types and constants, the types and constants, and the terms of definitions, with their types
-pub record AreKnown (ds : List CodeDef) (names : Before) (given : TypeEnv) (found : Terms) (typed_terms : List Term) : Type 0 where
+-- the names of types and constants, the types and constants, the terms of definitions, with their types, and their converters
+pub record AreKnown (ds : List CodeDef) (names : Before) (given : TypeEnv) (found : Terms) (typed_terms : List Term) (by : Converters) : Type 0 where
   pub before : IsBefore (seen ds) names
   pub types : given ≡ type_env_of (seen ds)
   pub termed : AreTerms (seen ds) found
   pub typed : terms_pass (whole ds) (terms (seen ds)) ≡ Some typed_terms
+  pub converted : AreFound (seen ds) (converters (seen ds)) by

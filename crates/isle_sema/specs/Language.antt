@@ -2,16 +2,19 @@
 use Rattle.std.specs.Prelude.{List, [], ◌∷◌, Bool, true, false, ◌&&◌, not}
 use Rattle.std.specs.List.{list_all, list_any}
 use Rattle.isle_ast.specs.Tree.{IfLet, Def, TypeDecl, Decl, ExternConstructor, ExternExtractor, ExternConst, Extractor, Converter, Rule, Passed}
-use Rattle.isle_declarations.specs.Signatures.{RuleDef, rule_defs}
-use Rattle.isle_sema.specs.Calls.{calls_ruled}
+use Rattle.isle_declarations.specs.Signatures.{Signature, RuleDef, rule_defs, has_rule}
+use Rattle.isle_terms.specs.Whole.{Whole, whole_of}
+use Rattle.isle_sema.specs.RulePass.{sites_of}
+use Rattle.isle_sema.specs.RuleRows.{is_use_of}
+use Rattle.isle_sema.specs.Site.{Site}
 
 -- no conditions
 abbrev pub are_none : List IfLet → Bool
 are_none [] = true
 are_none (c ∷ cs) = false
 
--- a type, a constant, a declaration with at most the flag `partial`, an external constructor or extractor, a rule without conditions, or
--- a list that is passed over
+-- a type, a constant, a declaration with at most the flag `partial`, an external constructor or extractor, a converter, a rule without
+-- conditions, or a list that is passed over
 abbrev pub is_built_def : Def → Bool
 is_built_def (Decl term pure multi partial recursive args ret pos) = not pure && not multi && not recursive
 is_built_def (ExternConstructor term func pos) = true
@@ -20,13 +23,17 @@ is_built_def (TypeDecl name is_extern is_nodebug body pos) = true
 is_built_def (ExternExtractor term func infallible pos) = true
 is_built_def (ExternConst name ty pos) = true
 is_built_def (Extractor term params template pos) = false
-is_built_def (Converter from to term pos) = false
+is_built_def (Converter from to term pos) = true
 is_built_def (Passed head items pos) = true
 
--- rules call no term that has a rule
-abbrev pub rules_call_ruled : List RuleDef → List RuleDef → Bool
-rules_call_ruled all rules = list_any (λ (r : RuleDef). calls_ruled all r.rhs) rules
+-- a part of a rule calls a term that has a rule, or takes a value apart by one
+abbrev pub is_ruled : Whole → Site → Bool
+is_ruled w site = is_use_of (λ (s : Signature). has_rule (rule_defs w.defs) s.term) site
 
--- each is built, and no term that has a rule is called
+-- a rule has such a part
+abbrev pub uses_ruled : Whole → RuleDef → Bool
+uses_ruled w r = list_any (is_ruled w) (sites_of w r)
+
+-- each is built, and no rule uses a term that has a rule
 abbrev pub are_built : List Def → Bool
-are_built defs = list_all is_built_def defs && not (rules_call_ruled (rule_defs defs) (rule_defs defs))
+are_built defs = list_all is_built_def defs && not (list_any (uses_ruled (whole_of defs)) (rule_defs defs))

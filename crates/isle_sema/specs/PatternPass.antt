@@ -11,13 +11,15 @@ use Rattle.isle_core.specs.Pattern.{Pattern as CorePattern}
 use Rattle.isle_core.specs.RuleViews.{patterns_of as core_patterns}
 use Rattle.isle_ast.specs.Tree as tree
 use Rattle.isle_ast.specs.Tree.{Pattern, Patterns, NoPattern, APattern}
-use Rattle.isle_declarations.specs.Signatures.{term_named}
+use Rattle.isle_declarations.specs.Signatures.{Signature, term_named}
 use Rattle.isle_declarations.specs.Symbols.{sym_of}
 use Rattle.isle_declarations.specs.Terms.{terms}
 use Rattle.isle_sema.specs.Reduced.{typed_integer}
 use Rattle.isle_sema.specs.Scope.{Scope, bound_at, met, variable}
 use Rattle.isle_sema.specs.Site.{Site, IntegerAt, TruthAt, PartAt, MetAt, TakenAt, ConstantAt}
-use Rattle.isle_sema.specs.Whole.{Whole, termed, arg_types, ret_type, constant_type}
+use Rattle.isle_terms.specs.Converters.{conversion, within}
+use Rattle.isle_terms.specs.TermPass.{tree_before}
+use Rattle.isle_terms.specs.Whole.{Whole, termed, arg_types, ret_type, number_of, constant_type}
 
 -- a pattern's tree, where its form is built and its types are known; the variables after it; and its parts
 pub record PatternPass : Type 0 where
@@ -40,6 +42,16 @@ constant_tree types ty name = option_map (λ (t : TypeId). core_pattern.ConstPri
 -- a made term's tree, of this type, of this term, on these
 abbrev pub term_tree : Option TypeId → Option TermId → Option (List CorePattern) → Option CorePattern
 term_tree ty term ps = option_and_then (λ (t : TypeId). option_and_then (λ (n : TermId). option_map (λ (parts : List CorePattern). core_pattern.Term t n (core_patterns parts)) ps) term) ty
+
+-- the tree of a pattern within a converter, where one is inserted
+abbrev pub pattern_within : Whole → Option Signature → Option CorePattern → Option CorePattern
+pattern_within w None p = p
+pattern_within w (Some s) p = term_tree (ret_type w (Some s)) (number_of w (Some s)) (option_map (λ (q : CorePattern). q ∷ []) p)
+
+-- what is judged of the converter
+abbrev pub taken_by : Option Signature → Option TypeId → List Site
+taken_by None expected = []
+taken_by (Some s) expected = TakenAt expected (Some s) 1 ∷ []
 
 -- the tree of `and`, of the type that is expected of each part
 abbrev pub and_tree : Option TypeId → Option (List CorePattern) → Option CorePattern
@@ -81,11 +93,6 @@ abbrev pub later_expected : List (Option TypeId) → List (Option TypeId)
 later_expected [] = []
 later_expected (ty ∷ tys) = tys
 
--- a tree before others, where all are there
-abbrev pub tree_before : {X : Type 0} → Option X → Option (List X) → Option (List X)
-tree_before None xs = None
-tree_before (Some x) xs = option_map (λ (others : List _). x ∷ others) xs
-
 -- how many patterns there are
 abbrev pub count_of : Patterns → ℕ
 count_of NoPattern = 0
@@ -96,8 +103,8 @@ abbrev pub of_each : Option TypeId → Patterns → List (Option TypeId)
 of_each expected NoPattern = []
 of_each expected (APattern p ps) = expected ∷ of_each expected ps
 
--- a pattern where this is expected; a variable has the type that it was bound at, a term that which it makes, and `@` and `and` hand
--- theirs on
+-- a pattern where this is expected; a variable has the type that it was bound at, a term that which it makes, within a converter where
+-- another one is expected and a converter fits, and `@` and `and` hand theirs on
 abbrev mutual
   pub pattern_pass : Whole → Option TypeId → Scope → Pattern → PatternPass
   pattern_pass w expected scope (tree.Int n) = record { tree = integer_tree w.types expected n; scope = scope; sites = IntegerAt expected ∷ [] }
@@ -106,8 +113,14 @@ abbrev mutual
   pattern_pass w expected scope (tree.Var name) = record { tree = variable_tree (met scope name expected) name; scope = met scope name expected; sites = MetAt expected (bound_at scope name) ∷ [] }
   pattern_pass w expected scope (tree.Const name) = record { tree = constant_tree w.types (constant_type w name) name; scope = scope; sites = ConstantAt true expected (constant_type w name) ∷ [] }
   pattern_pass w expected scope (tree.Term name ps) =
+      let of = ret_type w (termed w name) in
+      let by = conversion w of expected in
       let parts = patterns_pass w (arg_types w (termed w name)) scope ps in
-      record { tree = term_tree (ret_type w (termed w name)) (term_named (terms w.defs) name) parts.trees; scope = parts.scope; sites = TakenAt expected (termed w name) (count_of ps) ∷ parts.sites }
+      record {
+        tree = pattern_within w by (term_tree of (term_named (terms w.defs) name) parts.trees);
+        scope = parts.scope;
+        sites = taken_by by expected ++ TakenAt (within by of expected) (termed w name) (count_of ps) ∷ parts.sites;
+      }
   pattern_pass w expected scope (tree.Bind name p) =
       let inner = pattern_pass w expected (named scope name expected) p in
       record { tree = named_tree (named scope name expected) name inner.tree; scope = inner.scope; sites = named_sites scope name expected ++ inner.sites }

@@ -11,8 +11,9 @@ use Rattle.isle_declarations.specs.Signatures.{RuleDef, term_named}
 use Rattle.isle_declarations.specs.Terms.{terms}
 use Rattle.isle_sema.specs.Locals.{of_patterns}
 use Rattle.isle_sema.specs.Site.{Site, NotBuiltAt}
-use Rattle.isle_sema.specs.Whole.{Whole, termed, arg_types, ret_type}
-use Rattle.isle_sema.specs.PatternPass.{PatternsPass, patterns_pass, tree_before}
+use Rattle.isle_terms.specs.Whole.{Whole, termed, arg_types, ret_type}
+use Rattle.isle_sema.specs.PatternPass.{PatternsPass, patterns_pass}
+use Rattle.isle_terms.specs.TermPass.{tree_before}
 use Rattle.isle_sema.specs.ExprPass.{ExprPass, expr_pass}
 
 -- its patterns, at the types of its term's arguments

@@ -4,14 +4,15 @@ use Rattle.std.specs.List.{list_any}
 use Rattle.isle_core.specs.declared.TypeId.{TypeId}
 use Rattle.isle_ast.specs.Tree.{Def}
 use Rattle.isle_declarations.specs.Signatures.{Signature, RuleDef, rule_of}
-use Rattle.isle_sema.specs.TypeNames.{type_named, takes_integers, takes_truths}
-use Rattle.isle_sema.specs.Whole.{Whole, termed, has_constructor, has_extractor}
+use Rattle.isle_terms.specs.TypeNames.{type_named}
+use Rattle.isle_sema.specs.Expected.{takes_integers, takes_truths}
+use Rattle.isle_terms.specs.Whole.{Whole, termed, has_constructor, has_extractor}
 use Rattle.isle_sema.specs.Site.{Site, IntegerAt, TruthAt, PartAt, MetAt, UsedAt, CalledAt, TakenAt, ConstantAt, BoundAt, NotBuiltAt}
 use Rattle.isle_sema.specs.RulePass.{right_side_of, sites_of}
 use Rattle.isle_types.specs.TypeRows.{on}
-use Rattle.isle_sema.specs.Context.{Context}
+use Rattle.isle_terms.specs.Context.{Context}
 
--- two types, both known, that differ; no converter is built
+-- two types, both known, that differ
 abbrev pub differ : Option TypeId → Option TypeId → Bool
 differ None expected = false
 differ (Some ty) None = false
@@ -164,6 +165,19 @@ is_call_of test (TakenAt expected callee count) = false
 is_call_of test (ConstantAt in_pattern expected found) = false
 is_call_of test (BoundAt ty) = false
 is_call_of test NotBuiltAt = false
+
+-- a call of such a term, or a pattern of one
+abbrev pub is_use_of : (Signature → Bool) → Site → Bool
+is_use_of test (IntegerAt expected) = false
+is_use_of test (TruthAt expected) = false
+is_use_of test PartAt = false
+is_use_of test (MetAt expected bound) = false
+is_use_of test (UsedAt expected bound) = false
+is_use_of test (CalledAt expected callee count) = on callee test
+is_use_of test (TakenAt expected callee count) = on callee test
+is_use_of test (ConstantAt in_pattern expected found) = false
+is_use_of test (BoundAt ty) = false
+is_use_of test NotBuiltAt = false
 
 -- a right side calls a partial term in a term that is not `partial`
 abbrev pub partial_call : Context → Def → Bool

@@ -11,7 +11,8 @@ use Rattle.isle_types.specs.Gathered.{TellsTyping}
 use Rattle.isle_sema.specs.declared.typing.EnvError.{EnvError}
 use Rattle.isle_sema.specs.declared.typing.EnvError.TheVariants as error
 use Rattle.isle_sema.specs.Fault.{fault_of}
-use Rattle.isle_sema.specs.Environment.{whole_of, env_of}
+use Rattle.isle_terms.specs.Whole.{whole_of}
+use Rattle.isle_sema.specs.Environment.{env_of}
 use Rattle.isle_sema.specs.Language.{are_built}
 
 -- the fault of definitions, if they have one: its row and the place of its definition

@@ -2,24 +2,24 @@
 
 ghost use Rattle.std.specs.Prelude.{◌≡◌, List, Option, IfOk, map, option_map};
 ghost use Rattle.isle_ast.specs.Tree as tree;
-ghost use Rattle.isle_ast.specs.Tree.{Def};
-ghost use Rattle.isle_sema.specs.Environment.{whole_of};
 ghost use Rattle.isle_ast.specs.Views.{expr, exprs_of, lets_of};
 ghost use Rattle.isle_core.specs.RuleViews.{expr as elaborated};
 ghost use Rattle.isle_declarations.specs.Bindings.{binding};
 ghost use Rattle.isle_declarations.specs.Signatures.{Signature};
-ghost use Rattle.isle_sema.specs.Whole.{Whole, ret_type, number_of};
-ghost use Rattle.isle_sema.specs.Known.{whole, MayBeCalled};
-ghost use Rattle.isle_sema.specs.ExprPass.{integer_tree, constant_tree, call_tree, expr_type, binding_tree, let_tree};
+ghost use Rattle.isle_terms.specs.Whole.{Whole, ret_type, number_of};
+ghost use Rattle.isle_terms.specs.Whole.{whole};
+ghost use Rattle.isle_sema.specs.Known.{MayBeCalled};
+ghost use Rattle.isle_sema.specs.Locals.{Local};
+ghost use Rattle.isle_sema.specs.ExprPass.{integer_tree, constant_tree, local_tree, call_tree, expr_within, expr_type, binding_tree, let_tree};
 ghost use Rattle.isle_sema.specs.ElaboratedAt.{expr_trees, seen_binding, binding_trees, IsExprAt, AreExprsAt, IsBindingAt, AreBindingsAt};
 
 use crate::judged::Judged;
-use crate::known::{Called, Known, argument_types};
+use crate::known::{Called, Known, argument_types, result_type, within};
 use crate::locals::Locals;
-use crate::named_types::type_named;
 use crate::reduced::typed_integer;
 use isle_ast::{AstExpr, AstLet};
 use isle_core::{Boxed, Expr, LetBinding, List, Text, TypeEnv, TypeId, VarId};
+use isle_terms::type_named;
 use std::alloc::{AllocError, Global};
 
 // An integer where this type is expected.
@@ -40,28 +40,6 @@ fn constant_at(known: &Known, found: Option<TypeId>, name: &Text) -> Option<Expr
     Some(Expr::ConstPrim(ty, known.sym(name)))
 }
 
-// A variable, where it is bound at a type that is known.
-#[tactic(auto, using(isle_core::proofs::SeesRules::sees))]
-fn variable_at(
-    vars: &Locals,
-    judged: &mut Judged,
-    expected: Option<TypeId>,
-    name: &Text,
-) -> Option<Expr>
-    ensures { (defs : List Def) → IsExprAt (whole_of defs) expected (tree.Name name.now) vars.now vars.now judged.old judged.new result }
-{
-    match vars.find(name) {
-        Some((ty, number)) => {
-            judged.used(expected, Some(ty));
-            Some(Expr::Var(ty?, VarId(number)))
-        }
-        None => {
-            judged.used(expected, None);
-            None
-        }
-    }
-}
-
 // A call of a term on these expressions, where all are there.
 #[tactic(auto, using(isle_core::proofs::SeesRules::sees))]
 fn call_of(callee: &Option<Called>, args: Option<Vec<Expr>>) -> Option<Expr>
@@ -72,6 +50,75 @@ fn call_of(callee: &Option<Called>, args: Option<Vec<Expr>>) -> Option<Expr>
         Some(callee) => Some(Expr::Term(callee.ret, callee.term, List::new(args))),
         None => None,
     }
+}
+
+// An expression within a converter, where there is one.
+fn converted(
+    alloc: Global,
+    converter: &Option<Called>,
+    found: Option<Expr>,
+) -> Result<Option<Expr>, AllocError>
+    ensures { (w : Whole) (s : Option Signature) → MayBeCalled w s converter.now → IfOk result (λ e. option_map elaborated e ≡ expr_within w s (option_map elaborated found)) }
+{
+    if converter.is_none() {
+        return Ok(found);
+    }
+    let Some(inner) = found else {
+        return Ok(None);
+    };
+    let mut args = Vec::new(alloc);
+    args.push(inner)?;
+    Ok(call_of(converter, Some(args)))
+}
+
+// A variable, where it is bound at a type that is known.
+#[tactic(auto, using(isle_core::proofs::SeesRules::sees))]
+fn variable_of(found: Option<(Option<TypeId>, usize)>) -> Option<Expr>
+    ensures { (l : Option Local) → found ≡ option_map (λ v. (v.ty, v.number)) l → option_map elaborated result ≡ local_tree l }
+{
+    let (ty, number) = found?;
+    Some(Expr::Var(ty?, VarId(number)))
+}
+
+// A variable where this type is expected.
+fn variable_at(
+    alloc: Global,
+    known: &Known,
+    vars: &Locals,
+    judged: &mut Judged,
+    expected: Option<TypeId>,
+    name: &Text,
+) -> Result<Option<Expr>, AllocError>
+    ensures { IfOk result (λ found. IsExprAt (whole known.now) expected (tree.Name name.now) vars.now vars.now judged.old judged.new found) }
+{
+    let found = vars.find(name);
+    let bound = match found {
+        Some((ty, _)) => Some(ty),
+        None => None,
+    };
+    let of = bound.flatten();
+    let converter = known.conversion(of, expected);
+    judged.called_by(expected, &converter);
+    judged.used(within(&converter, of, expected), bound);
+    converted(alloc, &converter, variable_of(found))
+}
+
+// A constant where this type is expected.
+fn named_at(
+    alloc: Global,
+    known: &Known,
+    vars: &Locals,
+    judged: &mut Judged,
+    expected: Option<TypeId>,
+    name: &Text,
+) -> Result<Option<Expr>, AllocError>
+    ensures { IfOk result (λ found. IsExprAt (whole known.now) expected (tree.Constant name.now) vars.now vars.now judged.old judged.new found) }
+{
+    let of = known.constant(name);
+    let converter = known.conversion(of, expected);
+    judged.called_by(expected, &converter);
+    judged.constant(false, within(&converter, of, expected), of);
+    converted(alloc, &converter, constant_at(known, of, name))
 }
 
 // The type of an expression.
@@ -143,7 +190,7 @@ pub fn expr_at<'d>(
             judged.truth(known.types(), expected);
             Ok(Some(Expr::ConstBool(*b)))
         }
-        AstExpr::Var(name) => Ok(variable_at(vars, judged, expected, name)),
+        AstExpr::Var(name) => variable_at(alloc, known, vars, judged, expected, name),
         AstExpr::Term(name, args) => call_at(
             alloc,
             known,
@@ -153,11 +200,7 @@ pub fn expr_at<'d>(
             name,
             args.as_slice(),
         ),
-        AstExpr::Const(name) => {
-            let found = known.constant(name);
-            judged.constant(false, expected, found);
-            Ok(constant_at(known, found, name))
-        }
+        AstExpr::Const(name) => named_at(alloc, known, vars, judged, expected, name),
         AstExpr::Let(lets, inner) => {
             judged.part();
             let outer = vars.len();
@@ -183,9 +226,12 @@ fn call_at<'d>(
     ensures { IfOk result (λ found. IsExprAt (whole known.now) expected (tree.Call name.now (exprs_of (map expr args.now))) vars.old vars.new judged.old judged.new found) }
 {
     let callee = known.called(name);
-    judged.called(expected, &callee, args.len());
+    let of = result_type(&callee);
+    let converter = known.conversion(of, expected);
+    judged.called_by(expected, &converter);
+    judged.called(within(&converter, of, expected), &callee, args.len());
     let typed = exprs_at(alloc, known, vars, judged, argument_types(&callee), args)?;
-    Ok(call_of(&callee, typed))
+    converted(alloc, &converter, call_of(&callee, typed))
 }
 
 // Expressions where these types are expected, beyond them none: their trees, where all have one.

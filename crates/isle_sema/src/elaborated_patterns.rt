@@ -5,14 +5,15 @@ ghost use Rattle.isle_ast.specs.Tree as tree;
 ghost use Rattle.isle_ast.specs.Views.{pattern, patterns_of};
 ghost use Rattle.isle_core.specs.RuleViews.{pattern as elaborated};
 ghost use Rattle.isle_declarations.specs.Signatures.{Signature};
-ghost use Rattle.isle_sema.specs.Whole.{Whole, ret_type, number_of, constant_type};
-ghost use Rattle.isle_sema.specs.Known.{whole, MayBeCalled};
+ghost use Rattle.isle_terms.specs.Whole.{Whole, ret_type, number_of, constant_type};
+ghost use Rattle.isle_terms.specs.Whole.{whole};
+ghost use Rattle.isle_sema.specs.Known.{MayBeCalled};
 ghost use Rattle.isle_sema.specs.Scope.{variable};
-ghost use Rattle.isle_sema.specs.PatternPass.{integer_tree, variable_tree, constant_tree, term_tree, and_tree, is_blank, bound_tree};
+ghost use Rattle.isle_sema.specs.PatternPass.{integer_tree, variable_tree, constant_tree, term_tree, pattern_within, and_tree, is_blank, bound_tree};
 ghost use Rattle.isle_sema.specs.ElaboratedAt.{pattern_trees, copies, IsPatternAt, ArePatternsAt};
 
 use crate::judged::Judged;
-use crate::known::{Called, Known, argument_types};
+use crate::known::{Called, Known, argument_types, result_type, within};
 use crate::reduced::typed_integer;
 use crate::variables::Variables;
 use isle_ast::AstPattern;
@@ -113,6 +114,25 @@ fn made_of(callee: &Option<Called>, parts: Option<Vec<Pattern>>) -> Option<Patte
         Some(callee) => Some(Pattern::Term(callee.ret, callee.term, List::new(parts))),
         None => None,
     }
+}
+
+// A pattern within a converter, where there is one.
+fn converted(
+    alloc: Global,
+    converter: &Option<Called>,
+    found: Option<Pattern>,
+) -> Result<Option<Pattern>, AllocError>
+    ensures { (w : Whole) (s : Option Signature) → MayBeCalled w s converter.now → IfOk result (λ p. option_map elaborated p ≡ pattern_within w s (option_map elaborated found)) }
+{
+    if converter.is_none() {
+        return Ok(found);
+    }
+    let Some(inner) = found else {
+        return Ok(None);
+    };
+    let mut parts = Vec::new(alloc);
+    parts.push(inner)?;
+    Ok(made_of(converter, Some(parts)))
 }
 
 // A pattern where this type is expected: its tree, where its form is built and its types are known.
@@ -219,9 +239,12 @@ fn term_at<'d>(
     ensures { IfOk result (λ found. IsPatternAt (whole known.now) expected (tree.Term name.now (patterns_of (map pattern parts.now))) vars.old vars.new judged.old judged.new found) }
 {
     let callee = known.called(name);
-    judged.taken(expected, &callee, parts.len());
+    let of = result_type(&callee);
+    let converter = known.conversion(of, expected);
+    judged.taken_by(expected, &converter);
+    judged.taken(within(&converter, of, expected), &callee, parts.len());
     let typed = patterns_at(alloc, known, vars, judged, argument_types(&callee), parts)?;
-    Ok(made_of(&callee, typed))
+    converted(alloc, &converter, made_of(&callee, typed))
 }
 
 /// Patterns where these types are expected, beyond them none: their trees, where all have one.

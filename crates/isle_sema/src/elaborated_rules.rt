@@ -7,7 +7,8 @@ ghost use Rattle.isle_declarations.specs.Symbols.{index_of};
 ghost use Rattle.isle_declarations.specs.Collected.{rule as seen, AreRules};
 ghost use Rattle.isle_declarations.specs.Signatures.{rule_defs};
 ghost use Rattle.isle_sema.specs.RulePass.{rule_from};
-ghost use Rattle.isle_sema.specs.Known.{whole, IsHead};
+ghost use Rattle.isle_terms.specs.Whole.{whole};
+ghost use Rattle.isle_sema.specs.Known.{IsHead};
 ghost use Rattle.isle_sema.specs.Taken.{taken_rule, taken_rules};
 
 use crate::known::{Called, Known};
@@ -45,7 +46,7 @@ fn rule_from(
     }
 }
 
-// The rule of that number, of this term: nothing where it breaks a row, calls a term that has a rule, or has no tree.
+// The rule of that number, of this term: nothing where it breaks a row, uses a term that has a rule, or has no tree.
 fn rule_of(
     alloc: Global,
     known: &Known,
@@ -62,7 +63,8 @@ fn rule_of(
     let sides = sides_of(alloc, known, own, given)?;
     let args = sides.args;
     let rhs = sides.rhs;
-    if sides.right.ruled {
+    let ruled = sides.left.ruled | sides.right.ruled;
+    if ruled {
         return Ok(None);
     }
     if lowest_row(own, given.args.len(), &sides.left, &sides.right).is_some() {

@@ -2,18 +2,20 @@
 
 ghost use Rattle.std.specs.Prelude.{◌≡◌, [], Option, Some};
 ghost use Rattle.isle_declarations.specs.Signatures.{Signature};
-ghost use Rattle.isle_sema.specs.Whole.{Whole};
+ghost use Rattle.isle_terms.specs.Whole.{Whole};
 ghost use Rattle.isle_sema.specs.Site.{IntegerAt, TruthAt, PartAt, MetAt, UsedAt, CalledAt, TakenAt, ConstantAt, BoundAt};
 ghost use Rattle.isle_sema.specs.RuleRows.{is_other_type};
-ghost use Rattle.isle_sema.specs.Environment.{whole_of};
+ghost use Rattle.isle_terms.specs.Whole.{whole_of};
 ghost use Rattle.isle_sema.specs.Known.{MayBeCalled};
-ghost use Rattle.isle_sema.specs.Judging.{unjudged, judge};
+ghost use Rattle.isle_sema.specs.Judging.{unjudged, judge, judge_all};
+ghost use Rattle.isle_sema.specs.PatternPass.{taken_by};
+ghost use Rattle.isle_sema.specs.ExprPass.{called_by};
 
 use crate::expected::{takes_integers, takes_truths};
 use crate::known::Called;
 use isle_core::{TypeEnv, TypeId};
 
-/// Which rows the parts of a rule that were met so far break, whether one calls a term that has a rule, and how many
+/// Which rows the parts of a rule that were met so far break, whether one is of a term that has a rule, and how many
 /// parts there are.
 #[derive(Clone, Copy)]
 pub struct Judged {
@@ -143,6 +145,25 @@ impl Judged {
             | !(callee.made | callee.extracting)
             | self.untaken;
         self.mistaken = is_other_type(Some(Some(callee.ret)), expected) | self.mistaken;
+        self.ruled = callee.ruled | self.ruled;
+    }
+
+    /// Judges a converter around a pattern, where there is one.
+    pub fn taken_by(&mut self, expected: Option<TypeId>, converter: &Option<Called>)
+        ensures { (w : Whole) (s : Option Signature) → MayBeCalled w s converter.now → self.new ≡ judge_all w self.old (taken_by s expected) }
+    {
+        if converter.is_some() {
+            self.taken(expected, converter, 1);
+        }
+    }
+
+    /// Judges a converter around an expression, where there is one.
+    pub fn called_by(&mut self, expected: Option<TypeId>, converter: &Option<Called>)
+        ensures { (w : Whole) (s : Option Signature) → MayBeCalled w s converter.now → self.new ≡ judge_all w self.old (called_by s expected) }
+    {
+        if converter.is_some() {
+            self.called(expected, converter, 1);
+        }
     }
 
     /// Judges a constant of this type, where it is declared.

@@ -4,11 +4,14 @@ ghost use Rattle.std.specs.Prelude.{◌≡◌, ℕ, List, Option, Some, map};
 ghost use Rattle.isle_declarations.specs.Signatures.{Signature};
 ghost use Rattle.isle_ast.specs.Views.{defs as seen};
 ghost use Rattle.isle_declarations.specs.Symbols.{index_of, symbols, sym_of};
-ghost use Rattle.isle_sema.specs.Whole.{Whole, termed, arg_types, constant_type};
-ghost use Rattle.isle_sema.specs.Known.{whole, MayBeCalled};
+ghost use Rattle.isle_terms.specs.Whole.{Whole, termed, arg_types, ret_type, constant_type};
+ghost use Rattle.isle_terms.specs.Converters.{conversion, within};
+ghost use Rattle.isle_terms.specs.Whole.{whole};
+ghost use Rattle.isle_sema.specs.Known.{MayBeCalled};
 
 use isle_core::{Sym, Term, TermId, Text, TypeEnv, TypeId};
 use isle_declarations::{Declarations, Origin, Terms};
+use isle_terms::Converters;
 use isle_types::Before;
 use std::marker::Model;
 
@@ -36,6 +39,7 @@ pub struct Known<'s, 'd> {
     pub types: &'s TypeEnv,
     pub terms: &'s Terms<'d>,
     pub typed: &'s [Term],
+    pub converters: &'s Converters,
 }
 
 impl<'s, 'd> Model for Known<'s, 'd> {
@@ -51,7 +55,7 @@ impl<'s, 'd> Model for Known<'s, 'd> {
 
     ghost view = { λ k. k.declarations.now };
 
-    ghost invariant = { λ k. AreKnown k.declarations.now k.before.now k.types.now k.terms.now k.typed.now };
+    ghost invariant = { λ k. AreKnown k.declarations.now k.before.now k.types.now k.terms.now k.typed.now k.converters.now };
 }
 
 /// Returns the types of a term's arguments: of a term that is not there, none.
@@ -124,5 +128,42 @@ impl<'s, 'd> Known<'s, 'd> {
             Some(number) => self.at(number),
             None => None,
         }
+    }
+
+    /// Returns the term of the converter that makes what is expected of another type, where there is one.
+    pub fn conversion(&self, of: Option<TypeId>, expected: Option<TypeId>) -> Option<Called<'s>>
+        ensures { MayBeCalled (whole self.now) (conversion (whole self.now) of expected) result }
+    {
+        let of = of?;
+        let expected = expected?;
+        if of.index() == expected.index() {
+            return None;
+        }
+        let number = self.converters.between(of, expected)?;
+        self.at(number)
+    }
+}
+
+/// Returns the type that a term gives: of a term that is not there, none.
+pub fn result_type(callee: &Option<Called>) -> Option<TypeId>
+    ensures { (w : Whole) (s : Option Signature) → MayBeCalled w s callee.now → result ≡ ret_type w s }
+{
+    match callee {
+        Some(callee) => Some(callee.ret),
+        None => None,
+    }
+}
+
+/// Returns what is expected within a converter, where there is one: the other type.
+pub fn within(
+    converter: &Option<Called>,
+    of: Option<TypeId>,
+    expected: Option<TypeId>,
+) -> Option<TypeId>
+    ensures { (w : Whole) (s : Option Signature) → MayBeCalled w s converter.now → result ≡ within s of expected }
+{
+    match converter {
+        Some(_) => of,
+        None => expected,
     }
 }

@@ -8,7 +8,7 @@ ghost use Rattle.isle_sema.specs.Language.{is_built_def};
 use isle_ast::Def;
 
 // Whether the form of a definition is built: a type, a constant, a declaration with at most the flag `partial`, an external constructor or
-// extractor, a rule without conditions, or a list that is passed over. All forms of patterns and expressions are built.
+// extractor, a converter, a rule without conditions, or a list that is passed over. All forms of patterns and expressions are built.
 fn is_built_def(given: &Def) -> bool
     ensures { result ≡ is_built_def (def given.now) }
 {
@@ -20,7 +20,7 @@ fn is_built_def(given: &Def) -> bool
             ..
         } => !*pure && !*multi && !*recursive,
         Def::TypeDecl { .. } | Def::ExternConst { .. } | Def::ExternExtractor { .. } => true,
-        Def::ExternConstructor { .. } | Def::Passed { .. } => true,
+        Def::ExternConstructor { .. } | Def::Converter { .. } | Def::Passed { .. } => true,
         Def::Rule { iflets, .. } => iflets.as_slice().is_empty(),
         _ => false,
     }

@@ -4,17 +4,14 @@
 mod elaborated_exprs;
 mod elaborated_patterns;
 mod elaborated_rules;
-mod elaborated_terms;
 mod expected;
 mod judged;
 mod known;
 mod language;
 mod locals;
-mod named_types;
 mod reduced;
 mod rows;
 mod sides;
-mod signature_faults;
 mod term_env;
 mod typing;
 mod variables;

@@ -2,7 +2,8 @@
 
 ghost use Rattle.std.specs.Prelude.{IfOk};
 ghost use Rattle.isle_declarations.specs.Collected.{rule as seen};
-ghost use Rattle.isle_sema.specs.Known.{whole, IsHead};
+ghost use Rattle.isle_terms.specs.Whole.{whole};
+ghost use Rattle.isle_sema.specs.Known.{IsHead};
 ghost use Rattle.isle_sema.specs.ElaboratedAt.{AreSides};
 
 use crate::elaborated_exprs::expr_at;

@@ -1,4 +1,4 @@
-//! The terms and rules of definitions.
+//! The terms, rules and converters of definitions.
 
 ghost use Rattle.std.specs.Prelude.{◌≡◌, IfOk, IfErr, Some, None, map, option_map};
 ghost use Rattle.std.specs.List.{list_any};
@@ -10,60 +10,23 @@ ghost use Rattle.isle_types.specs.Fault.{type_fault};
 ghost use Rattle.isle_types.specs.Gathered.{IsBefore};
 ghost use Rattle.isle_types.specs.TypeEnvironment.{type_env_of};
 ghost use Rattle.isle_sema.specs.KnownOf.{AreKnown};
-ghost use Rattle.isle_sema.specs.Known.{whole};
+ghost use Rattle.isle_terms.specs.Whole.{whole};
 ghost use Rattle.isle_sema.specs.Taken.{taken_rules};
-ghost use Rattle.isle_sema.specs.Tests.{has_undeclared, has_unknown, is_headless};
+ghost use Rattle.isle_terms.specs.Tests.{has_undeclared, has_unknown, is_headless};
 ghost use Rattle.isle_sema.specs.Typing.{TypedOnly, SomeTyped, IsUntyped};
 
 use crate::elaborated_rules::rules_at;
-use crate::elaborated_terms::terms_of;
 use crate::known::Known;
 use crate::language::are_built_forms;
-use crate::signature_faults::are_misdeclared;
 use crate::typing::EnvError;
 use isle_core::{List, Rule, Term, TermEnv, Text, TypeEnv};
 use isle_declarations::{Declarations, Terms, terms_of as gathered_terms};
+use isle_terms::{
+    Converters, are_misdeclared, converters_of, has_misfit_head, has_undeclared, has_unknown,
+    terms_of,
+};
 use isle_types::Before;
 use std::alloc::{AllocError, Global};
-
-// Whether an external constructor is of a term that is not declared.
-fn has_undeclared(declarations: &Declarations) -> bool
-    ensures { result ≡ has_undeclared (signatures (seen declarations.now)) (externs (seen declarations.now)) }
-{
-    for given in declarations.externs() {
-        if declarations.declaration(given.number).is_none() {
-            return true;
-        }
-    }
-    false
-}
-
-// Whether an external extractor is of a term that is not declared.
-fn has_unknown(declarations: &Declarations) -> bool
-    ensures { result ≡ has_unknown (signatures (seen declarations.now)) (extractors (seen declarations.now)) }
-{
-    for given in declarations.extractors() {
-        if declarations.declaration(given.number).is_none() {
-            return true;
-        }
-    }
-    false
-}
-
-// Whether a rule's head is not declared, or its term has an external constructor.
-fn has_misfit_head(declarations: &Declarations) -> bool
-    ensures { result ≡ list_any (is_headless (signatures (seen declarations.now)) (externs (seen declarations.now))) (rule_defs (seen declarations.now)) }
-{
-    for given in declarations.rules() {
-        if declarations.declaration(given.number).is_none() {
-            return true;
-        }
-        if declarations.external(given.number).is_some() {
-            return true;
-        }
-    }
-    false
-}
 
 // The rules of definitions over their terms.
 fn rules_of<'d>(
@@ -73,8 +36,9 @@ fn rules_of<'d>(
     types: &TypeEnv,
     terms: &Terms<'d>,
     typed: &[Term],
+    converters: &Converters,
 ) -> Result<Option<Vec<Rule>>, AllocError>
-    requires { AreKnown declarations.now before.now types.now terms.now typed.now }
+    requires { AreKnown declarations.now before.now types.now terms.now typed.now converters.now }
     ensures { IfOk result (λ rules. option_map (λ rs. map elaborated_rule rs.items) rules ≡ taken_rules (whole declarations.now) 0 (rule_defs (seen declarations.now))) }
 {
     let known = Known {
@@ -83,11 +47,12 @@ fn rules_of<'d>(
         types,
         terms,
         typed,
+        converters,
     };
     rules_at(alloc, &known, declarations.rules())
 }
 
-/// Returns the terms and rules of definitions, whose types make these: `NotYet` comes where they are not all of forms that are
+/// Returns the terms, rules and converters of definitions, whose types make these: `NotYet` comes where they are not all of forms that are
 /// built, or break a row of the typing table.
 pub fn term_env<'d>(
     alloc: Global,
@@ -125,12 +90,24 @@ pub fn term_env<'d>(
     let Some(typed) = terms_of(alloc, declarations, before, &terms)? else {
         return Err(EnvError::NotYet);
     };
-    let Some(rules) = rules_of(alloc, declarations, before, types, &terms, typed.as_slice())? else {
+    let Some(converters) = converters_of(alloc, declarations, before, &terms)? else {
+        return Err(EnvError::NotYet);
+    };
+    let Some(rules) = rules_of(
+        alloc,
+        declarations,
+        before,
+        types,
+        &terms,
+        typed.as_slice(),
+        &converters,
+    )?
+    else {
         return Err(EnvError::NotYet);
     };
     Ok(TermEnv {
         terms: List::new(typed),
         rules: List::new(rules),
-        converters: List::new(Vec::new(alloc)),
+        converters: List::new(converters.listed),
     })
 }

@@ -1,4 +1,4 @@
-use Rattle.std.proofs.Common.{◌≡◌, rules, refl, List, Option, Some, None, true, false, cond, length, take, map, ap, sym, ◌∙◌, to_z, of_z}
+use Rattle.std.proofs.Common.{◌≡◌, rules, refl, List, Option, Some, None, true, false, cond, length, take, map, ap, sym, ◌∙◌, subst, ◌∷◌, to_z, of_z}
 use Rattle.std.specs.Prelude.{option_map, slice_get}
 use Rattle.std.specs.Int.{w128}
 use Rattle.isle_core.specs.RuleViews.{expr as elaborated, exprs_of as elaborated_of, bindings_of}
@@ -12,16 +12,19 @@ use Rattle.isle_ast.specs.Views.{expr, exprs_of, lets_of, defs as seen}
 use Rattle.isle_declarations.specs.Bindings.{binding}
 use Rattle.isle_declarations.specs.Signatures.{term_named}
 use Rattle.isle_declarations.specs.Terms.{terms}
-use Rattle.isle_sema.specs.Whole.{termed, arg_types, ret_type}
-use Rattle.isle_sema.specs.ExprPass.{ExprPass, ExprsPass, integer_tree, call_tree, expr_pass, exprs_pass}
+use Rattle.isle_terms.specs.Whole.{termed, arg_types, ret_type}
+use Rattle.isle_sema.specs.ExprPass.{ExprPass, ExprsPass, integer_tree, call_tree, expr_within, count_of, expr_pass, exprs_pass}
 use Rattle.isle_sema.specs.ElaboratedAt.{expr_trees, seen_binding, binding_trees}
-use Rattle.isle_sema.specs.Known.{whole}
+use Rattle.isle_terms.specs.Whole.{whole}
 use Rattle.isle_sema.specs.Locals.{locals_of}
 use Rattle.isle_sema.specs.declared.judged.Judged.{Judged}
+use Rattle.isle_terms.specs.Converters.{conversion, within}
+use Rattle.isle_sema.specs.Known.{MayBeCalled}
+use Rattle.isle_sema.proofs.ConvertedParts.{expr_converted}
 use Rattle.isle_sema.specs.Site.{CalledAt}
 use Rattle.isle_sema.specs.Judging.{judge, judge_all}
 use Rattle.isle_sema.proofs.CallLaws.{counted}
-use Rattle.isle_ast.proofs.Sees.{expr-number, expr-fact, expr-name, expr-let}
+use Rattle.isle_ast.proofs.Sees.{expr-number, expr-fact, expr-let}
 use Rattle.isle_core.proofs.SeesRules.{expr-bool}
 use Rattle.isle_declarations.proofs.LookUps.{got}
 use Rattle.isle_sema.proofs.RuleLaws.{number_is}
@@ -39,15 +42,19 @@ call_at-returns t c =
     let old = c.args.vars.now in
     let args : List (Option TypeId) → ExprsPass = λ os. exprs_pass w (locals_of old) old.next os es in
     let types : map Some c.argument_types.result.now ≡ arg_types w o = sym (c.argument_types.ensures w o c.called-callee.ensures) in
-    record {
-      tree = c.call_of.ensures w o c.called-callee.ensures ∙ ap (λ n. call_tree (ret_type w o) n (expr_trees c.in_ok-typed.typed)) (number_is (terms w.defs) c.args.name.now)
-          ∙ ap (call_tree (ret_type w o) (term_named (terms w.defs) c.args.name.now)) (c.in_ok-typed.ensures.trees ∙ ap (λ os. (args os).trees) types);
-      patterns = c.in_ok-typed.ensures.patterns;
-      lets = c.in_ok-typed.ensures.lets;
-      next = c.in_ok-typed.ensures.next ∙ ap (λ os. (args os).next) types;
-      sites = c.in_ok-typed.ensures.sites ∙ ap (λ os. judge_all w c.called.new.self (args os).sites) types
-          ∙ ap (λ (j : Judged). judge_all w j (args (arg_types w o)).sites) (c.called.ensures w o c.called-callee.ensures ∙ ap (λ n. judge w c.args.judged.now (CalledAt c.args.expected o n)) (sym (counted c.args.args.now)));
-    }
+    let of : c.result_type-of.result ≡ ret_type w o = c.result_type-of.ensures w o c.called-callee.ensures in
+    let by = subst (λ (ty : Option TypeId). MayBeCalled w (conversion w ty c.args.expected) c.conversion-converter.result) of c.conversion-converter.ensures in
+    let from = conversion w (ret_type w o) c.args.expected in
+    let made : option_map elaborated c.call_of.result ≡ call_tree (ret_type w o) (term_named (terms w.defs) c.args.name.now) (args (arg_types w o)).trees =
+    c.call_of.ensures w o c.called-callee.ensures ∙ ap (λ n. call_tree (ret_type w o) n (expr_trees c.in_ok-typed.typed)) (number_is (terms w.defs) c.args.name.now)
+    ∙ ap (call_tree (ret_type w o) (term_named (terms w.defs) c.args.name.now)) (c.in_ok-typed.ensures.trees ∙ ap (λ os. (args os).trees) types) in
+    let inside : c.within.result ≡ within from (ret_type w o) c.args.expected = c.within.ensures w from by ∙ ap (λ ty. within from ty c.args.expected) of in
+    let called : c.called.new.self ≡ judge w c.called_by.new.self (CalledAt (within from (ret_type w o) c.args.expected) o (count_of es)) =
+    c.called.ensures w o c.called-callee.ensures ∙ ap (λ n. judge w c.called_by.new.self (CalledAt c.within.result o n)) (sym (counted c.args.args.now)) ∙ ap (λ ty. judge w c.called_by.new.self (CalledAt ty o (count_of es))) inside in
+    expr_converted c.converted.result w c.args.expected (tree.Call c.args.name.now es) old c.exprs_at.new.vars c.args.judged.now c.called_by.new.self c.exprs_at.new.judged from (option_map elaborated c.call_of.result)
+    (CalledAt (within from (ret_type w o) c.args.expected) o (count_of es) ∷ (args (arg_types w o)).sites) (ap (expr_within w from) made) refl (c.in_ok-typed.ensures.next ∙ ap (λ os. (args os).next) types) c.in_ok-typed.ensures.patterns c.in_ok-typed.ensures.lets
+    (c.called_by.ensures w from by)
+    (c.in_ok-typed.ensures.sites ∙ ap (λ os. judge_all w c.called.new.self (args os).sites) types ∙ ap (λ (j : Judged). judge_all w j (args (arg_types w o)).sites) called) (c.converted.ensures w from by)
 
 pub expr_at-returns-in-Int : goal.expr_at-returns-in-Int
 expr_at-returns-in-Int t c =
@@ -61,20 +68,6 @@ expr_at-returns-in-Int t c =
       lets = refl;
       next = ap (λ q. (pass q).next) is;
       sites = c.integer.ensures w c.types.ensures ∙ ap (λ q. judge_all w c.args.judged.now (pass q).sites) is;
-    }
-
-pub expr_at-returns-in-Var : goal.expr_at-returns-in-Var
-expr_at-returns-in-Var t c =
-    let is : tree.Name c.in-Var.name ≡ expr c.args.e.now = sym (ap expr c.in-Var.is ∙ expr-name c.in-Var.name) in
-    let w = whole c.args.known.now in
-    let v = c.variable_at.ensures (seen c.args.known.now) in
-    let pass : Expr → ExprPass = expr_pass w (locals_of c.args.vars.now) c.args.vars.now.next c.args.expected in
-    record {
-      tree = v.tree ∙ ap (λ q. (pass q).tree) is;
-      patterns = refl;
-      lets = refl;
-      next = ap (λ q. (pass q).next) is;
-      sites = v.sites ∙ ap (λ q. judge_all w c.args.judged.now (pass q).sites) is;
     }
 
 pub exprs_at-loop-index-preserved : goal.exprs_at-loop-index-preserved

@@ -1,4 +1,4 @@
-use Rattle.std.proofs.Common.{◌≡◌, rules, Some, true, false, map, ap, sym, ◌∙◌, to_z, of_z}
+use Rattle.std.proofs.Common.{◌≡◌, rules, Some, true, false, map, ap, sym, ◌∙◌, subst, Option, to_z, of_z}
 use Rattle.std.specs.Prelude.{option_map, slice_get}
 use Rattle.std.specs.Int.{w128}
 use Rattle.isle_core.specs.RuleViews.{pattern as elaborated}
@@ -9,17 +9,22 @@ use Rattle.isle_core.proofs.SeesRules.{pattern-bool}
 use Rattle.isle_declarations.specs.Signatures.{term_named}
 use Rattle.isle_declarations.specs.Terms.{terms}
 use Rattle.isle_declarations.proofs.LookUps.{got}
-use Rattle.isle_sema.specs.declared.judged.Judged.{Judged}
 use Rattle.isle_sema.specs.ElaboratedAt.{pattern_trees, copies}
 use Rattle.isle_sema.specs.Judging.{judge, judge_all}
-use Rattle.isle_sema.specs.Known.{whole}
+use Rattle.isle_terms.specs.Whole.{whole}
 use Rattle.isle_sema.specs.PatternPass.{PatternsPass, integer_tree, term_tree, and_tree, count_of, of_each, pattern_pass, patterns_pass}
+use Rattle.isle_core.specs.declared.TypeId.{TypeId}
+use Rattle.isle_sema.specs.declared.judged.Judged.{Judged}
+use Rattle.isle_terms.specs.Converters.{conversion, within}
+use Rattle.isle_sema.specs.Known.{MayBeCalled}
+use Rattle.isle_sema.proofs.ConvertedParts.{term_within}
 use Rattle.isle_sema.specs.Site.{TakenAt, MetAt}
 use Rattle.isle_sema.proofs.BoundPatterns.{each_expected, bound_is}
-use Rattle.isle_sema.specs.Whole.{termed, arg_types, ret_type}
+use Rattle.isle_terms.specs.Whole.{termed, arg_types, ret_type}
 use Rattle.isle_sema.proofs.CallLaws.{parts_counted}
 use Rattle.isle_sema.proofs.RuleLaws.{number_is}
-use Rattle.isle_sema.proofs.Steps.{before, same_cond, patterns_more, pattern_more, pattern_missing, patterns_all}
+use Rattle.isle_terms.proofs.TermSteps.{before}
+use Rattle.isle_sema.proofs.Steps.{same_cond, patterns_more, pattern_more, pattern_missing, patterns_all}
 use Rattle.isle_sema.proofs.elaborated_patterns.+patterns.Goals.{patterns_at-in-Some+in_ok-push-in-Some, patterns_at-in-None, patterns_at-then-complete, patterns_at-else-complete}
 use Rattle.isle_sema.proofs.elaborated_patterns.+patterns.Goals as goal
 
@@ -30,13 +35,14 @@ term_at-returns t c =
     let ps = patterns_of (map pattern c.args.parts.now) in
     let old = c.args.vars.now in
     let types : map Some c.argument_types.result.now ≡ arg_types w o = sym (c.argument_types.ensures w o c.called-callee.ensures) in
-    record {
-      tree = c.made_of.ensures w o c.called-callee.ensures ∙ ap (λ n. term_tree (ret_type w o) n (pattern_trees c.in_ok-typed.typed)) (number_is (terms w.defs) c.args.name.now)
-          ∙ ap (term_tree (ret_type w o) (term_named (terms w.defs) c.args.name.now)) (c.in_ok-typed.ensures.trees ∙ ap (λ os. (patterns_pass w os old ps).trees) types);
-      scope = c.in_ok-typed.ensures.scope ∙ ap (λ os. (patterns_pass w os old ps).scope) types;
-      sites = c.in_ok-typed.ensures.sites ∙ ap (λ os. judge_all w c.taken.new.self (patterns_pass w os old ps).sites) types
-          ∙ ap (λ (j : Judged). judge_all w j (patterns_pass w (arg_types w o) old ps).sites) (c.taken.ensures w o c.called-callee.ensures ∙ ap (λ n. judge w c.args.judged.now (TakenAt c.args.expected o n)) (sym (parts_counted c.args.parts.now)));
-    }
+    let of : c.result_type-of.result ≡ ret_type w o = c.result_type-of.ensures w o c.called-callee.ensures in
+    let by = subst (λ (ty : Option TypeId). MayBeCalled w (conversion w ty c.args.expected) c.conversion-converter.result) of c.conversion-converter.ensures in
+    let from = conversion w (ret_type w o) c.args.expected in
+    term_within c.converted.result w c.args.expected c.args.name.now ps old c.patterns_at.new.vars c.args.judged.now c.taken_by.new.self c.taken.new.self c.patterns_at.new.judged c.within.result (option_map elaborated c.made_of.result)
+    (c.taken_by.ensures w from by) (c.within.ensures w from by ∙ ap (λ ty. within from ty c.args.expected) of) (c.taken.ensures w o c.called-callee.ensures ∙ ap (λ n. judge w c.taken_by.new.self (TakenAt c.within.result o n)) (sym (parts_counted c.args.parts.now)))
+    (c.in_ok-typed.ensures.scope ∙ ap (λ os. (patterns_pass w os old ps).scope) types) (c.in_ok-typed.ensures.sites ∙ ap (λ os. judge_all w c.taken.new.self (patterns_pass w os old ps).sites) types)
+    (c.made_of.ensures w o c.called-callee.ensures ∙ ap (λ n. term_tree (ret_type w o) n (pattern_trees c.in_ok-typed.typed)) (number_is (terms w.defs) c.args.name.now)
+    ∙ ap (term_tree (ret_type w o) (term_named (terms w.defs) c.args.name.now)) (c.in_ok-typed.ensures.trees ∙ ap (λ os. (patterns_pass w os old ps).trees) types)) (c.converted.ensures w from by)
 
 pub pattern_at-returns-in-Int : goal.pattern_at-returns-in-Int
 pattern_at-returns-in-Int t c =

@@ -1,6 +1,6 @@
 use Rattle.std.proofs.Common.{map, Some}
 use Rattle.isle_ast.specs.Views.{pattern, patterns_of, defs as seen}
-use Rattle.isle_sema.specs.Environment.{whole_of}
+use Rattle.isle_terms.specs.Whole.{whole_of}
 use Rattle.isle_sema.specs.PatternPass.{patterns_pass}
 use Rattle.isle_sema.proofs.Steps.{AreMade, patterns_left}
 use Rattle.isle_sema.proofs.elaborated_patterns.+patterns.Given as goal

@@ -1,8 +1,8 @@
 use Rattle.std.proofs.Common.{subst}
 use Rattle.isle_ast.specs.Views.{defs as seen_defs}
 use Rattle.isle_declarations.specs.Collected.{rule as seen}
-use Rattle.isle_sema.specs.Whole.{termed}
-use Rattle.isle_sema.specs.Environment.{whole_of}
+use Rattle.isle_terms.specs.Whole.{termed}
+use Rattle.isle_terms.specs.Whole.{whole_of}
 use Rattle.isle_sema.specs.Known.{MayBeCalled}
 use Rattle.isle_sema.proofs.RuleLaws.{none_called, without_term}
 use Rattle.isle_sema.proofs.elaborated_rules.rule_at.Goals as goal

@@ -5,14 +5,17 @@ use Rattle.isle_core.specs.RuleViews.{pattern as elaborated_pattern, expr as ela
 use Rattle.isle_ast.specs.Views.{pattern}
 use Rattle.isle_declarations.specs.Collected.{rule as seen}
 use Rattle.isle_sema.specs.ElaboratedAt.{pattern_trees}
-use Rattle.isle_sema.specs.Known.{whole}
-use Rattle.isle_sema.proofs.RuleLaws.{no_conditions, row_found, with_ruled, unruled_calls, with_row, without_trees, without_tree, taken_made}
+use Rattle.isle_terms.specs.Whole.{whole}
+use Rattle.isle_sema.proofs.RuleLaws.{no_conditions, row_found, ruled_is, with_ruled, with_row, without_trees, without_tree, taken_made}
 use Rattle.isle_sema.proofs.elaborated_rules.rule_of.Goals as goal
 
-pub returns-then-sides : goal.returns-then-sides
-returns-then-sides c =
-    let sides = c.in_ok-sides.sides in
-    with_ruled (whole c.args.known.now) c.args.number (seen c.args.given.now) sides c.in_ok-sides.ensures (search rules)
+pub returns-then-ruled : goal.returns-then-ruled
+returns-then-ruled c =
+    let w = whole c.args.known.now in
+    let r = seen c.args.given.now in
+    let none : r.iflets ≡ [] = no_conditions c.args.given.now.iflets.now (search rules) in
+    let ruled = ruled_is w r c.in_ok-sides.sides true none c.in_ok-sides.ensures (search rules) in
+    with_ruled w c.args.number r (sym ruled)
 
 pub returns-then-is_some : goal.returns-then-is_some
 returns-then-is_some c =
@@ -42,5 +45,5 @@ returns c =
     let found : is_some c.lowest_row.result ≡ false = search rules in
     let row = row_found w r c.args.own.now sides c.lowest_row.result (length c.args.given.now.args.now) c.requires none c.in_ok-sides.ensures (sym (length-map c.args.given.now.args.now pattern)) c.lowest_row.ensures ∙ found in
     ap Some c.rule_from.ensures
-    ∙ taken_made w c.args.number r c.args.own.now (map elaborated_pattern c.in-Some.args.items) (elaborated_expr c.in-Some-rhs.rhs) c.requires none row (unruled_calls w r sides c.in_ok-sides.ensures (search rules))
+    ∙ taken_made w c.args.number r c.args.own.now (map elaborated_pattern c.in-Some.args.items) (elaborated_expr c.in-Some-rhs.rhs) c.requires none row (sym (ruled_is w r sides false none c.in_ok-sides.ensures (search rules)))
     (sym c.in_ok-sides.ensures.trees ∙ ap pattern_trees c.in-Some.is) (sym c.in_ok-sides.ensures.tree ∙ ap (option_map elaborated_expr) c.in-Some-rhs.is)

@@ -5,7 +5,7 @@ use Rattle.isle_ast.specs.Views.{defs as seen}
 use Rattle.isle_declarations.specs.declared.collected.RuleDef.{RuleDef}
 use Rattle.isle_declarations.specs.Symbols.{symbols}
 use Rattle.isle_declarations.proofs.NumberLaws.{item_number}
-use Rattle.isle_sema.specs.Known.{whole}
+use Rattle.isle_terms.specs.Whole.{whole}
 use Rattle.isle_sema.proofs.Steps.{rule_more, rule_none}
 use Rattle.isle_sema.proofs.elaborated_rules.rules_at.Goals as goal
 

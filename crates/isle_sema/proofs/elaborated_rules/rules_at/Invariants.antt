@@ -4,9 +4,9 @@ use Rattle.isle_core.specs.RuleViews.{rule as elaborated_rule}
 use Rattle.isle_ast.specs.Views.{defs as seen}
 use Rattle.isle_declarations.specs.Signatures.{rule_defs}
 use Rattle.isle_declarations.specs.Collected.{rule}
-use Rattle.isle_sema.specs.Known.{whole}
+use Rattle.isle_terms.specs.Whole.{whole}
 use Rattle.isle_sema.specs.Taken.{taken_rules}
-use Rattle.isle_sema.proofs.Steps.{before}
+use Rattle.isle_terms.proofs.TermSteps.{before}
 use Rattle.isle_sema.proofs.elaborated_rules.rules_at.Given as goal
 
 abbrev pub invariant-loop-number : goal.invariant-loop-number

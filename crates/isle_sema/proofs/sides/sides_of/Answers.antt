@@ -1,5 +1,5 @@
 use Rattle.isle_declarations.specs.Collected.{rule as seen}
-use Rattle.isle_sema.specs.Known.{whole}
+use Rattle.isle_terms.specs.Whole.{whole}
 use Rattle.isle_sema.proofs.RuleLaws.{sides_are}
 use Rattle.isle_sema.proofs.sides.sides_of.Goals as goal
 

@@ -1,15 +1,18 @@
-use Rattle.std.proofs.Common.{◌≡◌, rules, true, false, None, Some, map, ap, sym, ◌∙◌}
+use Rattle.std.proofs.Common.{◌≡◌, rules, true, false, None, Some, [], map, ap, sym, ◌∙◌}
 use Rattle.std.specs.List.{list_all, list_any}
 use Rattle.isle_core.specs.RuleViews.{rule as elaborated_rule}
 use Rattle.isle_ast.specs.Views.{defs as seen}
 use Rattle.isle_declarations.specs.Signatures.{signatures, externs, extractors, rule_defs}
 use Rattle.isle_declarations.specs.Tables.{any_repeat}
 use Rattle.isle_declarations.specs.Terms.{terms}
-use Rattle.isle_sema.specs.Environment.{whole_of, terms_pass}
+use Rattle.isle_terms.specs.Whole.{whole_of}
+use Rattle.isle_terms.specs.TermPass.{terms_pass}
 use Rattle.isle_sema.specs.Language.{is_built_def}
-use Rattle.isle_sema.specs.Tests.{is_misdeclared, has_undeclared, has_unknown, is_headless}
+use Rattle.isle_terms.specs.Tests.{is_misdeclared, has_undeclared, has_unknown, is_headless}
+use Rattle.isle_terms.specs.Converters.{converters}
+use Rattle.isle_terms.specs.ConverterViews.{AreFound, taken_converters}
 use Rattle.isle_sema.specs.Taken.{taken_rules}
-use Rattle.isle_sema.proofs.Givings.{unformed_untyped, misdeclared_untyped, repeated_untyped, undeclared_untyped, unknown_untyped, headless_untyped, unmade_untyped, untaken_untyped, parts_of, given_typed, over_types}
+use Rattle.isle_sema.proofs.Givings.{unformed_untyped, misdeclared_untyped, repeated_untyped, undeclared_untyped, unknown_untyped, headless_untyped, unmade_untyped, unconverted_untyped, untaken_untyped, parts_of, given_typed, over_types}
 use Rattle.isle_sema.proofs.term_env.term_env.Goals as goal
 
 pub returns-then-not-are_built_forms-clause-err : goal.returns-then-not-are_built_forms-clause-err
@@ -57,6 +60,12 @@ returns-in_default-clause-err c =
 pub returns-in_default-2-clause-err : goal.returns-in_default-2-clause-err
 returns-in_default-2-clause-err c =
     let defs = seen c.args.declarations.now in
+    let none : taken_converters (whole_of defs) [] (converters defs) ≡ None = search rules in
+    (c.requires.sound, λ t. unconverted_untyped defs none t.0 t.1)
+
+pub returns-in_default-3-clause-err : goal.returns-in_default-3-clause-err
+returns-in_default-3-clause-err c =
+    let defs = seen c.args.declarations.now in
     let none : None ≡ taken_rules (whole_of defs) 0 (rule_defs defs) = search rules in
     (c.requires.sound, λ t. untaken_untyped defs none t.0 t.1)
 
@@ -70,13 +79,16 @@ returns-clause-ok c =
     let extracted : has_unknown (signatures defs) (extractors defs) ≡ false = search rules in
     let heads : list_any (is_headless (signatures defs) (externs defs)) (rule_defs defs) ≡ false = search rules in
     let made : Some c.new.result ≡ terms_pass (whole_of defs) (terms defs) = search rules in
-    let given : Some (map elaborated_rule c.in-Some-2.rules.items) ≡ taken_rules (whole_of defs) 0 (rule_defs defs) = search rules in
-    let items : c.new-2.result ≡ c.in-Some-2.rules.items = search rules in
+    let given : Some (map elaborated_rule c.in-Some-3.rules.items) ≡ taken_rules (whole_of defs) 0 (rule_defs defs) = search rules in
+    let items : c.new-2.result ≡ c.in-Some-3.rules.items = search rules in
+    let converting : taken_converters (whole_of defs) [] (converters defs) ≡ Some c.in-Some-2.converters.listed.items = search rules in
+    let listed : c.new-3.result ≡ c.in-Some-2.converters.listed.items = search rules in
     over_types _ c.requires.types
-    (given_typed defs _ forms c.requires.sound (parts_of defs declared apart known extracted heads) (sym made) (sym (ap (λ rs. Some (map elaborated_rule rs)) items ∙ given)) (search rules))
+    (given_typed defs _ forms c.requires.sound (parts_of defs declared apart known extracted heads) (sym made) (sym (ap (λ rs. Some (map elaborated_rule rs)) items ∙ given)) (converting ∙ ap Some (sym listed)))
 
 pub rules_of-requires : goal.rules_of-requires
 rules_of-requires c =
     let defs = seen c.args.declarations.now in
     let made : terms_pass (whole_of defs) (terms defs) ≡ Some c.as_slice.result.now = search rules in
-    record { before = c.requires.before; types = c.requires.types; termed = c.in_ok-terms.ensures; typed = made }
+    let found : AreFound defs (converters defs) c.in-Some-2.converters = search rules in
+    record { before = c.requires.before; types = c.requires.types; termed = c.in_ok-terms.ensures; typed = made; converted = found }

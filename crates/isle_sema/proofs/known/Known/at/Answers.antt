@@ -11,8 +11,9 @@ use Rattle.isle_declarations.specs.Terms.{is_made}
 use Rattle.isle_declarations.specs.TermViews.{term_def}
 use Rattle.isle_declarations.proofs.LookUps.{got, there}
 use Rattle.isle_sema.specs.KnownOf.{AreKnown}
-use Rattle.isle_sema.specs.Whole.{termed}
-use Rattle.isle_sema.specs.Known.{whole, MayBeCalled}
+use Rattle.isle_terms.specs.Whole.{termed}
+use Rattle.isle_terms.specs.Whole.{whole}
+use Rattle.isle_sema.specs.Known.{MayBeCalled}
 use Rattle.isle_sema.proofs.KnownLaws.{known_absent, known_past, known_beyond, known_at}
 use Rattle.isle_sema.proofs.known.Known.at.Goals as goal
 
@@ -21,7 +22,7 @@ returns-in_err-place c =
     λ name e.
     let none : c.from_residual.result ≡ None = search rules in
     let absent : c.place.result ≡ None = search rules in
-    let known = subst (λ (ds : List Def). AreKnown ds c.self.inside.before.now c.self.inside.types.now c.self.inside.terms.now c.self.inside.typed.now) c.self.view_is c.self.invariant in
+    let known = subst (λ (ds : List Def). AreKnown ds c.self.inside.before.now c.self.inside.types.now c.self.inside.terms.now c.self.inside.typed.now c.self.inside.converters.now) c.self.view_is c.self.invariant in
     let at = c.place.ensures (seen c.args.self.now) known.termed in
     subst (λ o. MayBeCalled (whole c.args.self.now) (termed (whole c.args.self.now) name) o) (sym none) (known_absent (whole c.args.self.now) name (sym (at name e) ∙ absent))
 
@@ -32,7 +33,7 @@ returns-in_err-term c =
     let place : c.place.result ≡ Some c.in_ok-place.place = search rules in
     let nothing : c.get.result ≡ None = search rules in
     let h = c.get.ensures.lookup in
-    let known = subst (λ (ds : List Def). AreKnown ds c.self.inside.before.now c.self.inside.types.now c.self.inside.terms.now c.self.inside.typed.now) c.self.view_is c.self.invariant in
+    let known = subst (λ (ds : List Def). AreKnown ds c.self.inside.before.now c.self.inside.types.now c.self.inside.terms.now c.self.inside.typed.now c.self.inside.converters.now) c.self.view_is c.self.invariant in
     let at = c.place.ensures (seen c.args.self.now) known.termed in
     let past : slice_get c.self.inside.typed.now c.in_ok-place.place ≡ None = sym (got c.self.inside.typed.now c.in_ok-place.place c.get.result h.1 h.3) ∙ ap option_copied nothing in
     subst (λ o. MayBeCalled (whole c.args.self.now) (termed (whole c.args.self.now) name) o) (sym none) (known_past (whole c.args.self.now) c.self.inside.typed.now name c.in_ok-place.place known.typed (sym (at name e) ∙ place) past)
@@ -44,7 +45,7 @@ returns-in_err-given c =
     let place : c.place.result ≡ Some c.in_ok-place.place = search rules in
     let nothing : c.get-2.result ≡ None = search rules in
     let h = c.get-2.ensures.lookup in
-    let known = subst (λ (ds : List Def). AreKnown ds c.self.inside.before.now c.self.inside.types.now c.self.inside.terms.now c.self.inside.typed.now) c.self.view_is c.self.invariant in
+    let known = subst (λ (ds : List Def). AreKnown ds c.self.inside.before.now c.self.inside.types.now c.self.inside.terms.now c.self.inside.typed.now c.self.inside.converters.now) c.self.view_is c.self.invariant in
     let at = c.place.ensures (seen c.args.self.now) known.termed in
     let past : slice_get c.as_slice.result.now c.in_ok-place.place ≡ None = sym (got c.as_slice.result.now c.in_ok-place.place c.get-2.result h.1 h.3) ∙ ap option_copied nothing in
     let all = ap (λ xs. slice_get xs c.in_ok-place.place) (sym (known.termed.seen)) in
@@ -59,7 +60,7 @@ returns c =
     let place : c.place.result ≡ Some c.in_ok-place.place = search rules in
     let h = c.get.ensures.lookup in
     let j = c.get-2.ensures.lookup in
-    let known = subst (λ (ds : List Def). AreKnown ds c.self.inside.before.now c.self.inside.types.now c.self.inside.terms.now c.self.inside.typed.now) c.self.view_is c.self.invariant in
+    let known = subst (λ (ds : List Def). AreKnown ds c.self.inside.before.now c.self.inside.types.now c.self.inside.terms.now c.self.inside.typed.now c.self.inside.converters.now) c.self.view_is c.self.invariant in
     let at = c.place.ensures (seen c.args.self.now) known.termed in
     let external = subst (λ (ds : List Def). IsFirstPlace (seen ds) c.args.number (extern_terms (externs (seen ds))) c.external.result) c.self.view_is c.external.ensures in
     let extracting = subst (λ (ds : List Def). IsFirstPlace (seen ds) c.args.number (extractor_terms (extractors (seen ds))) c.extracting.result) c.self.view_is c.extracting.ensures in

@@ -2,7 +2,7 @@ use Rattle.std.proofs.Common.{◌≡◌, rules, None}
 use Rattle.isle_ast.specs.Views.{defs as seen}
 use Rattle.isle_declarations.specs.Symbols.{index_of, symbols}
 use Rattle.isle_declarations.proofs.TermNames.{no_term}
-use Rattle.isle_sema.specs.Known.{whole}
+use Rattle.isle_terms.specs.Whole.{whole}
 use Rattle.isle_sema.proofs.KnownLaws.{known_absent}
 use Rattle.isle_sema.proofs.known.Known.called.Goals as goal
 

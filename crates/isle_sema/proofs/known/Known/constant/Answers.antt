@@ -5,13 +5,20 @@ use Rattle.isle_ast.specs.declared.tree.Def.{Def}
 use Rattle.isle_declarations.specs.Symbols.{index_of}
 use Rattle.isle_declarations.proofs.LookUps.{got, there}
 use Rattle.isle_sema.specs.KnownOf.{AreKnown}
-use Rattle.isle_sema.specs.Known.{whole}
-use Rattle.isle_sema.proofs.KnownLaws.{constant_at}
+use Rattle.isle_terms.specs.Whole.{whole}
+use Rattle.isle_sema.proofs.KnownLaws.{constant_at, constant_absent}
 use Rattle.isle_sema.proofs.known.Known.constant.Goals as goal
+
+pub returns-in_err-place : goal.returns-in_err-place
+returns-in_err-place c =
+    let known = subst (λ (ds : List Def). AreKnown ds c.self.inside.before.now c.self.inside.types.now c.self.inside.terms.now c.self.inside.typed.now c.self.inside.converters.now) c.self.view_is c.self.invariant in
+    let none : c.from_residual.result ≡ None = search rules in
+    let absent : index_of c.self.inside.before.now.constants c.args.name.now ≡ None = search rules in
+    none ∙ constant_absent (whole c.args.self.now) c.self.inside.before.now.constants c.args.name.now known.before.constants absent
 
 pub returns-in_err-constant : goal.returns-in_err-constant
 returns-in_err-constant c =
-    let known = subst (λ (ds : List Def). AreKnown ds c.self.inside.before.now c.self.inside.types.now c.self.inside.terms.now c.self.inside.typed.now) c.self.view_is c.self.invariant in
+    let known = subst (λ (ds : List Def). AreKnown ds c.self.inside.before.now c.self.inside.types.now c.self.inside.terms.now c.self.inside.typed.now c.self.inside.converters.now) c.self.view_is c.self.invariant in
     let place : index_of c.self.inside.before.now.constants c.args.name.now ≡ Some c.in_ok-place.place = search rules in
     let h = c.get.ensures.lookup in
     let none : c.from_residual-in_err-constant.result ≡ None = search rules in
@@ -21,7 +28,7 @@ returns-in_err-constant c =
 
 pub returns : goal.returns
 returns c =
-    let known = subst (λ (ds : List Def). AreKnown ds c.self.inside.before.now c.self.inside.types.now c.self.inside.terms.now c.self.inside.typed.now) c.self.view_is c.self.invariant in
+    let known = subst (λ (ds : List Def). AreKnown ds c.self.inside.before.now c.self.inside.types.now c.self.inside.terms.now c.self.inside.typed.now c.self.inside.converters.now) c.self.view_is c.self.invariant in
     let place : index_of c.self.inside.before.now.constants c.args.name.now ≡ Some c.in_ok-place.place = search rules in
     let h = c.get.ensures.lookup in
     let is = there c.as_slice.result.now c.in_ok-place.place c.get.result c.in_ok-constant.constant h.1 h.3 (search rules) in

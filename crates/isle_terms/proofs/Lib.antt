@@ -1,0 +1,4 @@
+pub mod MadeTerms
+pub mod TermSteps
+pub mod Placing
+pub mod ConverterLaws

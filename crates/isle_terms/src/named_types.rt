@@ -1,0 +1,86 @@
+//! Types by their names.
+
+ghost use Rattle.std.specs.Prelude.{◌≡◌, ℕ, List, IfOk, is_some, map, option_map};
+ghost use Rattle.std.specs.List.{list_all};
+ghost use Rattle.isle_ast.specs.Tree.{Def};
+ghost use Rattle.isle_declarations.specs.TermViews.{arg_types};
+ghost use Rattle.isle_types.specs.Gathered.{IsBefore};
+ghost use Rattle.isle_terms.specs.TypeNames.{type_named};
+ghost use Rattle.isle_terms.specs.TermPass.{types_named};
+
+use isle_core::{Text, TypeId};
+use isle_declarations::ArgTypes;
+use isle_types::Before;
+use std::alloc::{AllocError, Global};
+
+/// Returns the type of a name, where it is declared.
+pub fn type_named(before: &Before, name: &Text) -> Option<TypeId>
+    ensures { (defs : List Def) → IsBefore defs before.now → result ≡ type_named defs name.now }
+{
+    match before.types.find(name.as_str()) {
+        Some(number) => Some(TypeId(number)),
+        None => None,
+    }
+}
+
+/// Tells whether each of the names is that of a type.
+pub fn are_types(before: &Before, names: &[Text]) -> bool
+    ensures { (defs : List Def) → IsBefore defs before.now → result ≡ list_all (λ (n : List ℕ). is_some (type_named defs n)) names.now }
+{
+    for name in names {
+        if type_named(before, name).is_none() {
+            return false;
+        }
+    }
+    true
+}
+
+// The types of names, where all are declared.
+fn plain_types(
+    alloc: Global,
+    before: &Before,
+    names: &[Text],
+) -> Result<Option<Vec<TypeId>>, AllocError>
+    ensures { (defs : List Def) → IsBefore defs before.now → IfOk result (λ found. option_map (λ types. types.items) found ≡ types_named defs names.now) }
+{
+    let mut types = Vec::with_capacity(alloc, names.len())?;
+    for name in names {
+        match type_named(before, name) {
+            Some(ty) => types.push(ty)?,
+            None => return Ok(None),
+        }
+    }
+    Ok(Some(types))
+}
+
+// The types of fields, where all are declared.
+fn field_types(
+    alloc: Global,
+    before: &Before,
+    fields: &[(Text, Text)],
+) -> Result<Option<Vec<TypeId>>, AllocError>
+    ensures { (defs : List Def) → IsBefore defs before.now → IfOk result (λ found. option_map (λ types. types.items) found ≡ types_named defs (map (λ f. f.1) fields.now)) }
+{
+    let mut types = Vec::with_capacity(alloc, fields.len())?;
+    for field in fields {
+        match type_named(before, &field.1) {
+            Some(ty) => types.push(ty)?,
+            None => return Ok(None),
+        }
+    }
+    Ok(Some(types))
+}
+
+/// Returns the types of a term's arguments, where all are declared.
+pub fn types_of(
+    alloc: Global,
+    before: &Before,
+    args: ArgTypes,
+) -> Result<Option<Vec<TypeId>>, AllocError>
+    ensures { (defs : List Def) → IsBefore defs before.now → IfOk result (λ found. option_map (λ types. types.items) found ≡ types_named defs (arg_types args.entry)) }
+{
+    match args {
+        ArgTypes::Plain(names) => plain_types(alloc, before, names),
+        ArgTypes::Named(fields) => field_types(alloc, before, fields),
+    }
+}
