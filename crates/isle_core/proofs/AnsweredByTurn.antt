@@ -12,7 +12,7 @@ use Rattle.isle_core.specs.Answered.{answer_held, answer_by, answer}
 use Rattle.isle_core.specs.Calling.{Calling, ByTurns, calling}
 use Rattle.isle_core.specs.Lawful.{Fits, all_turns, CallingFits, AnswersFit}
 use Rattle.isle_core.specs.Rule.{Environment}
-use Rattle.isle_core.proofs.TurnKinds.{IsOfKind, IsHeldOf, turns_fit, turn_type}
+use Rattle.isle_core.proofs.AnsweredTerms.{IsOfKind, IsHeldOf, turns_fit, turn_type}
 
 -- the turns of a callee fit, for a type
 record TurnsFit (env : Environment) (m : Meaning) (callee : Callee) (kind : ReturnKind) : Type 0 where

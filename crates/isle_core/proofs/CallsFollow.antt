@@ -13,7 +13,7 @@ use Rattle.isle_core.specs.Having.{const_of}
 use Rattle.isle_core.specs.Terms.{sym_text}
 use Rattle.isle_core.specs.Making.{Making, MakesVariant, MakesStruct, MakesNothing, making}
 use Rattle.isle_core.specs.Form.{made_value}
-use Rattle.isle_core.specs.Meaning.{Meaning, turn}
+use Rattle.isle_core.specs.Meaning.{Meaning, turn, case}
 use Rattle.isle_core.specs.Answered.{Held, a_value, answer_held}
 use Rattle.isle_core.specs.Calling.{Calling, ByTurns, ByCases, NoCall, calling, may_be_nothing, is_fallible, instance_of, one_more, impure, impure_all, impure_bindings}
 use Rattle.isle_core.specs.Expr as expr
@@ -21,7 +21,7 @@ use Rattle.isle_core.specs.Expr.{Expr, Exprs, NoExpr, AnExpr, LetBindings, NoBin
 use Rattle.isle_core.specs.Match.{Names, with}
 use Rattle.isle_core.specs.Eval.{Evaluated, Answered, Failed, EvaluatedAll, AllAnswered, OneFailed, Bound, AllBound, NotBound, named, then_all, before, then_one, then_bind, then_within, answered, called_with, made_or_called, evaluated, evaluated_all, bound}
 use Rattle.isle_core.specs.Outcome.{Failure}
-use Rattle.isle_core.specs.Path.{Path, ConstPrim, Called, MadeVariant, MadeStruct, Paths, APath}
+use Rattle.isle_core.specs.Path.{Path, ConstPrim, Called, Inner, MadeVariant, MadeStruct, Paths, APath}
 use Rattle.isle_core.specs.OrderedCalls.{if_ordered, calls, calls_all, calls_bindings}
 use Rattle.isle_core.specs.RightSide.{path_or, term_path, answer_path, path, paths, let_places}
 use Rattle.isle_core.specs.Tests.{Places}
@@ -29,7 +29,7 @@ use Rattle.isle_core.specs.ValueAt.{Known, held as held_value, held_of, made_hel
 use Rattle.isle_core.specs.CallRun.{Went, Goes, Ends, then_go, take_turn, make_call, check_call, unless_nothing, run_call, run_calls}
 use Rattle.isle_core.specs.Rule.{Environment}
 use Rattle.isle_core.proofs.PatternTests.{StandsAt, Agree, with_agrees}
-use Rattle.isle_core.proofs.TurnKinds.{IsOfKind, TakesTurns, TermTakes, IsPlaced, CallsByTurns, AllCallByTurns, BindingsCallByTurns}
+use Rattle.isle_core.proofs.AnsweredTerms.{IsOfKind, IsAnswered, IsTermAnswered, IsPlaced, HasAnsweredCalls, AreAnsweredCalls, HaveAnsweredBindings}
 use Rattle.isle_core.proofs.KnownAnswers.{IsUpTo, Kept, Fresh, kept_on, kept_self, fresh_more, stable, PlacesUpTo, places_more, agree_still, path_up_to, with_up_to, let_up_to}
 
 -- ---- evaluation against calls
@@ -155,23 +155,24 @@ within_follows env m args n n1 n2 known places q (NotBound made) (Goes known' ma
 
 -- ---- a call
 
-with_here : (known : Known) (k : ℕ) (a : Answer) → with known k a k ≡ Some a
+-- what is known of a call that was answered, and of any other
+pub with_here : (known : Known) (k : ℕ) (a : Answer) → with known k a k ≡ Some a
 with_here known k a = ap (λ b. cond b (Some a) (known k)) (true_of (eqb k k) (eqb_refl k))
   where
     true_of : (b : Bool) → T b → b ≡ true
     true_of true t = refl
     true_of false t = absurd t
 
-with_else : (known : Known) (k j : ℕ) (a : Answer) → (k ≡ j → ⊥) → with known k a j ≡ known j
+pub with_else : (known : Known) (k j : ℕ) (a : Answer) → (k ≡ j → ⊥) → with known k a j ≡ known j
 with_else known k j a ne = ap (λ b. cond b (Some a) (known j)) (ne_eqb k j ne)
 
 -- an answer of the term's kind gives a value, or it is nothing
-answer_follows : (env : Environment) (m : Meaning) (args : List Value) (n n' : ℕ) (known known' : Known) (made : List Made) (callee : Callee) (p : Path) (kind : ReturnKind) (h : Held) → IsOfKind kind h → value_at env m args known' p ≡ h → Kept n known known' → Fresh n' known'
-    → Follows env m args n n' known (answer_path (ByTurns callee kind) p) (answered h made) (cond (may_be_nothing kind) (unless_nothing h known' made) (Goes known' made))
-answer_follows env m args n n' known known' made callee p return_kind.Plain h (v, e) is k f = rw e (record { held = is ∙ e; kept = k; fresh = f }, refl)
-answer_follows env m args n n' known known' made callee p return_kind.Option h (None, e) is k f = rw e refl
-answer_follows env m args n n' known known' made callee p return_kind.Option h (Some v, e) is k f = rw e (record { held = ap inner_held (is ∙ e); kept = k; fresh = f }, refl)
-answer_follows env m args n n' known known' made callee p return_kind.Iterator h i is k f = absurd i
+answer_follows : (env : Environment) (m : Meaning) (args : List Value) (n n' : ℕ) (known known' : Known) (made : List Made) (p : Path) (kind : ReturnKind) (h : Held) → IsOfKind kind h → value_at env m args known' p ≡ h → Kept n known known' → Fresh n' known'
+    → Follows env m args n n' known (cond (may_be_nothing kind) (Inner p) p) (answered h made) (cond (may_be_nothing kind) (unless_nothing h known' made) (Goes known' made))
+answer_follows env m args n n' known known' made p return_kind.Plain h (v, e) is k f = rw e (record { held = is ∙ e; kept = k; fresh = f }, refl)
+answer_follows env m args n n' known known' made p return_kind.Option h (None, e) is k f = rw e refl
+answer_follows env m args n n' known known' made p return_kind.Option h (Some v, e) is k f = rw e (record { held = ap inner_held (is ∙ e); kept = k; fresh = f }, refl)
+answer_follows env m args n n' known known' made p return_kind.Iterator h i is k f = absurd i
 
 turn_follows : (env : Environment) (m : Meaning) (args : List Value) (n n' : ℕ) (known : Known) (made : List Made) (term : TermId) (ps : Paths) (callee : Callee) (kind : ReturnKind) (vs : List Value) → calling env term ≡ ByTurns callee kind → n' ≡ suc n → IsOfKind kind (answer_held (turn m callee made)) → Fresh n known
     → values_at env m args known ps ≡ Some vs
@@ -191,12 +192,37 @@ turn_follows env m args n n' known made term ps callee kind vs e next of_kind fr
     ∙ ap (λ o. cond (may_be_nothing kind) (unless_nothing (held_of o) known' made') (Goes known' made')) here in
     let held : value_at env m args known' p ≡ answer_held a = ap (λ c. call_held m c (known' (suc n)) (values_at env m args known' ps)) e ∙ ap held_of here in
     subst (λ f. Follows env m args n n' known (answer_path (ByTurns callee kind) p) (called_with m (ByTurns callee kind) vs made) f) (sym (made_now ∙ checked))
-    (answer_follows env m args n n' known known' made' callee p kind (answer_held a) of_kind held
+    (answer_follows env m args n n' known known' made' p kind (answer_held a) of_kind held
     (record { by = λ j low. with_else known (suc n) j a (λ (q : suc n ≡ j). let bad : ⊥ = omega arith in bad) })
     (record { by = λ j lt. with_else known (suc n) j a (λ (q : suc n ≡ j). let bad : ⊥ = omega arith in bad) ∙ fr.by j (omega arith) }))
 
+-- a pure call makes no call: where it may be nothing, it is checked
+case_run : (env : Environment) (m : Meaning) (args : List Value) (term : TermId) (ps : Paths) (callee : Callee) (kind : ReturnKind) (cs : List Path) (known : Known) (made : List Made) → calling env term ≡ ByCases callee kind
+    → run_calls env m args (cs ++ if_ordered (ByCases callee kind) (Called term ps 0)) known made
+    ≡ then_go (run_calls env m args cs known made) (λ known' made'. cond (may_be_nothing kind) (unless_nothing (value_at env m args known' (Called term ps 0)) known' made') (Goes known' made'))
+case_run env m args term ps callee return_kind.Plain cs known made e = ap (λ qs. run_calls env m args qs known made) (append-nil cs) ∙ sym (goes_end (run_calls env m args cs known made))
+case_run env m args term ps callee return_kind.Iterator cs known made e = ap (λ qs. run_calls env m args qs known made) (append-nil cs) ∙ sym (goes_end (run_calls env m args cs known made))
+case_run env m args term ps callee return_kind.Option cs known made e = run_last env m args cs (Called term ps 0) known made ∙ same_went (run_calls env m args cs known made)
+  where
+    same_went : (f : Went) → then_go f (run_call env m args (Called term ps 0)) ≡ then_go f (λ known' made'. unless_nothing (value_at env m args known' (Called term ps 0)) known' made')
+    same_went (Goes known' made') =
+        ap (λ c. then_go (make_call m c 0 (values_at env m args known' ps) known' made') (check_call env m args (Called term ps 0))) e
+        ∙ ap (λ c. cond (is_fallible c) (unless_nothing (value_at env m args known' (Called term ps 0)) known' made') (Goes known' made')) e
+    same_went (Ends o) = refl
+
+-- a pure call's answer to its arguments
+case_follows : (env : Environment) (m : Meaning) (args : List Value) (n : ℕ) (known : Known) (made : List Made) (term : TermId) (ps : Paths) (callee : Callee) (kind : ReturnKind) (vs : List Value) → calling env term ≡ ByCases callee kind → IsOfKind kind (answer_held (case m callee vs)) → Fresh n known
+    → values_at env m args known ps ≡ Some vs
+    → Follows env m args n n known (answer_path (ByCases callee kind) (Called term ps 0)) (called_with m (ByCases callee kind) vs made) (cond (may_be_nothing kind) (unless_nothing (value_at env m args known (Called term ps 0)) known made) (Goes known made))
+case_follows env m args n known made term ps callee kind vs e of_kind fr is =
+    let p = Called term ps 0 in
+    let c = ByCases callee kind in
+    let held : value_at env m args known p ≡ answer_held (case m callee vs) = ap (λ x. call_held m x (known 0) (values_at env m args known ps)) e ∙ ap (call_held m c (known 0)) is in
+    subst (λ h. Follows env m args n n known (answer_path c p) (called_with m c vs made) (cond (may_be_nothing kind) (unless_nothing h known made) (Goes known made))) (sym held)
+    (answer_follows env m args n n known known made p kind (answer_held (case m callee vs)) of_kind held (kept_self n known) fr)
+
 -- the calls of the arguments, then that of the term
-term_follows : (c : Calling) (env : Environment) (m : Meaning) (args : List Value) (n k : ℕ) (known : Known) (made : List Made) (term : TermId) (ps : Paths) (cs : List Path) (r : EvaluatedAll) → calling env term ≡ c → TakesTurns m c → FollowsAll env m args n (n + k) known ps r (run_calls env m args cs known made)
+term_follows : (c : Calling) (env : Environment) (m : Meaning) (args : List Value) (n k : ℕ) (known : Known) (made : List Made) (term : TermId) (ps : Paths) (cs : List Path) (r : EvaluatedAll) → calling env term ≡ c → IsAnswered m c → FollowsAll env m args n (n + k) known ps r (run_calls env m args cs known made)
     → Follows env m args n (n + one_more c k) known (answer_path c (Called term ps (instance_of c (n + k)))) (then_one r (called_with m c)) (run_calls env m args (cs ++ if_ordered c (Called term ps (instance_of c (n + k)))) known made)
 term_follows (ByTurns callee kind) env m args n k known made term ps cs r e t h =
     let c = ByTurns callee kind in
@@ -206,7 +232,14 @@ term_follows (ByTurns callee kind) env m args n k known made term ps cs r e t h 
     subst (λ f. Follows env m args n (n + suc k) known (answer_path c p) (then_one r (called_with m c)) f) (sym (run_last env m args cs p known made))
     (args_follow env m args n (n + k) (n + suc k) known ps (answer_path c p) r (run_calls env m args cs known made) (called_with m c) (run_call env m args p) le h
     (λ vs known' made' a. turn_follows env m args (n + k) (n + suc k) known' made' term ps callee kind vs e last (t made') a.fresh a.held))
-term_follows (ByCases callee kind) env m args n k known made term ps cs r e t h = absurd t
+term_follows (ByCases callee kind) env m args n k known made term ps cs r e t h =
+    let c = ByCases callee kind in
+    let p = Called term ps 0 in
+    let le : n ≤ n + k = omega arith in
+    subst (λ f. Follows env m args n (n + k) known (answer_path c p) (then_one r (called_with m c)) f) (sym (case_run env m args term ps callee kind cs known made e))
+    (args_follow env m args n (n + k) (n + k) known ps (answer_path c p) r (run_calls env m args cs known made) (called_with m c)
+    (λ known' made'. cond (may_be_nothing kind) (unless_nothing (value_at env m args known' p) known' made') (Goes known' made')) le h
+    (λ vs known' made' a. case_follows env m args (n + k) known' made' term ps callee kind vs e (t vs) a.fresh a.held))
 term_follows NoCall env m args n k known made term ps cs r e t h = absurd t
 
 made_now : (mk : Making) (env : Environment) (m : Meaning) (args : List Value) (n n' : ℕ) (known : Known) (p : Path) (ps : Paths) (r : EvaluatedAll) (f : Went) → ((known' : Known) → value_at env m args known' p ≡ made_held env mk (values_at env m args known' ps)) → FollowsAll env m args n n' known ps r f
@@ -227,7 +260,7 @@ made_follows mk NoCall env m args n k known made p ps cs r e is h =
     (made_now mk env m args n (n + k) known p ps r (run_calls env m args cs known made) is h)
 
 -- the calls of the arguments, then what the term makes, or its call
-making_follows : (mk : Making) (c : Calling) (env : Environment) (m : Meaning) (args : List Value) (n k : ℕ) (known : Known) (made : List Made) (term : TermId) (ps : Paths) (cs : List Path) (r : EvaluatedAll) → calling env term ≡ c → TermTakes m mk c
+making_follows : (mk : Making) (c : Calling) (env : Environment) (m : Meaning) (args : List Value) (n k : ℕ) (known : Known) (made : List Made) (term : TermId) (ps : Paths) (cs : List Path) (r : EvaluatedAll) → calling env term ≡ c → IsTermAnswered m mk c
     → FollowsAll env m args n (n + k) known ps r (run_calls env m args cs known made)
     → Follows env m args n (n + one_more c k) known (answer_path c (term_path mk term ps (instance_of c (n + k)))) (then_one r (made_or_called env m mk c))
     (run_calls env m args (cs ++ if_ordered c (term_path mk term ps (instance_of c (n + k)))) known made)
@@ -249,7 +282,7 @@ var_follows env m args n n' known made o None le fr i h = absurd i
 
 mutual
   -- the calls of an expression do what its evaluation does
-  pub expr_follows : (e : Expr) (env : Environment) (m : Meaning) (args : List Value) (n : ℕ) (known : Known) (names : Names) (places : Places) (made : List Made) → CallsByTurns env m places n e → Agree (value_at env m args known) names places → PlacesUpTo n places → Fresh n known
+  pub expr_follows : (e : Expr) (env : Environment) (m : Meaning) (args : List Value) (n : ℕ) (known : Known) (names : Names) (places : Places) (made : List Made) → HasAnsweredCalls env m places n e → Agree (value_at env m args known) names places → PlacesUpTo n places → Fresh n known
       → Follows env m args n (n + impure env e) known (path env e places n) (evaluated env m e names made) (run_calls env m args (calls env e places n) known made)
   expr_follows (expr.Var ty x) env m args n known names places made t a b fr = var_follows env m args n (n + 0) known made (names x.0) (places x.0) (omega arith) fr t (a.by x.0)
   expr_follows (expr.ConstBool c) env m args n known names places made t a b fr = (record { held = refl; kept = kept_self n known; fresh = fresh_more n (n + 0) known (omega arith) fr }, refl)
@@ -270,7 +303,7 @@ mutual
       (expr_follows inner env m args n1 known' names' mid made' t.1 h.agree (let_up_to bs env places n b) h.fresh)))
 
   -- so of expressions in order
-  pub exprs_follow : (es : Exprs) (env : Environment) (m : Meaning) (args : List Value) (n : ℕ) (known : Known) (names : Names) (places : Places) (made : List Made) → AllCallByTurns env m places n es → Agree (value_at env m args known) names places → PlacesUpTo n places → Fresh n known
+  pub exprs_follow : (es : Exprs) (env : Environment) (m : Meaning) (args : List Value) (n : ℕ) (known : Known) (names : Names) (places : Places) (made : List Made) → AreAnsweredCalls env m places n es → Agree (value_at env m args known) names places → PlacesUpTo n places → Fresh n known
       → FollowsAll env m args n (n + impure_all env es) known (paths env es places n) (evaluated_all env m es names made) (run_calls env m args (calls_all env es places n) known made)
   exprs_follow NoExpr env m args n known names places made t a b fr = (record { held = refl; kept = kept_self n known; fresh = fresh_more n (n + 0) known (omega arith) fr }, refl)
   exprs_follow (AnExpr e es) env m args n known names places made t a b fr =
@@ -286,7 +319,7 @@ mutual
       (exprs_follow es env m args n1 known' names places made' t.1 (agree_still env m args n known known' names places b h.kept a) (places_more places n n1 le b) h.fresh)))
 
   -- so of the values of a `let`
-  pub bindings_follow : (bs : LetBindings) (env : Environment) (m : Meaning) (args : List Value) (n : ℕ) (known : Known) (names : Names) (places : Places) (made : List Made) → BindingsCallByTurns env m places n bs → Agree (value_at env m args known) names places → PlacesUpTo n places → Fresh n known
+  pub bindings_follow : (bs : LetBindings) (env : Environment) (m : Meaning) (args : List Value) (n : ℕ) (known : Known) (names : Names) (places : Places) (made : List Made) → HaveAnsweredBindings env m places n bs → Agree (value_at env m args known) names places → PlacesUpTo n places → Fresh n known
       → FollowsBound env m args n (n + impure_bindings env bs) known (let_places env bs places n) (bound env m bs names made) (run_calls env m args (calls_bindings env bs places n) known made)
   bindings_follow NoBinding env m args n known names places made t a b fr = (record { agree = a; kept = kept_self n known; fresh = fresh_more n (n + 0) known (omega arith) fr }, refl)
   bindings_follow (ABinding x ty e more) env m args n known names places made t a b fr =

@@ -19,7 +19,7 @@ use Rattle.isle_core.specs.RulePaths.{with_inner, expr_paths, exprs_paths, bindi
 use Rattle.isle_core.specs.Rule.{Environment}
 use Rattle.isle_core.specs.Tests.{Places}
 use Rattle.isle_core.proofs.Contained.{head_contained}
-use Rattle.isle_core.proofs.TurnKinds.{called_here}
+use Rattle.isle_core.proofs.AnsweredTerms.{called_here}
 
 -- a term that an expression calls
 abbrev pub constructed : TermId → CalledTerm
@@ -42,7 +42,7 @@ pub record HoldsOfParts (P : Path → Type 0) (env : Environment) (terms : List 
   pub named : (ty : TypeId) (name : Sym) → Contains constants (ty, Named name) → P (ConstPrim name)
   pub term : (term : TermId) (ps : Paths) (k : ℕ) → (is_made env term ≡ false → Contains terms (constructed term)) → AllByRecursion P (with_inner (calling env term) (term_path (making env term) term ps k))
 
-all_append : (P : Path → Type 0) (xs ys : List Path) → AllByRecursion P xs → AllByRecursion P ys → AllByRecursion P (xs ++ ys)
+pub all_append : (P : Path → Type 0) (xs ys : List Path) → AllByRecursion P xs → AllByRecursion P ys → AllByRecursion P (xs ++ ys)
 all_append P [] ys h k = k
 all_append P (x ∷ xs) ys h k = (h.0, all_append P xs ys h.1 k)
 
@@ -50,7 +50,7 @@ all_behind : (P : Path → Type 0) (xs ys : List Path) → AllByRecursion P (xs 
 all_behind P [] ys h = h
 all_behind P (x ∷ xs) ys h = all_behind P xs ys h.1
 
-picked : (P : Path → Type 0) (b : Bool) (p : Path) (o : Option Path) → P p → IsPlaceSo P o → IsPlaceSo P (cond b (Some p) o)
+pub picked : (P : Path → Type 0) (b : Bool) (p : Path) (o : Option Path) → P p → IsPlaceSo P o → IsPlaceSo P (cond b (Some p) o)
 picked P true p o h k = h
 picked P false p o h k = k
 
@@ -67,7 +67,7 @@ module _ (P : Path → Type 0) (env : Environment) where
   answer_so false p h = h.0
 
   -- an expression's path is one of its paths
-  path_so : (e : Expr) (places : Places) (n : ℕ) → AllByRecursion P (expr_paths env e places n) → P (path env e places n)
+  pub path_so : (e : Expr) (places : Places) (n : ℕ) → AllByRecursion P (expr_paths env e places n) → P (path env e places n)
   path_so (expr.Var ty x) places n h = h.0
   path_so (expr.ConstBool b) places n h = h.0
   path_so (expr.ConstInt ty k) places n h = h.0

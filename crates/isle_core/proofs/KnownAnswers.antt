@@ -156,7 +156,7 @@ part_up_to (AsStruct ty) n i p h = h
 part_up_to (ByExtractor term c count) n i p h = result_up_to count n i (answer_path c (Extracted term p)) (answer_up_to c n (Extracted term p) h)
 
 mutual
-  after_up_to : (q : Pattern) (env : Environment) (n : ℕ) (p : Path) (places : Places) → IsUpTo n p → PlacesUpTo n places → PlacesUpTo n (after env q p places)
+  pub after_up_to : (q : Pattern) (env : Environment) (n : ℕ) (p : Path) (places : Places) → IsUpTo n p → PlacesUpTo n places → PlacesUpTo n (after env q p places)
   after_up_to (Var ty x) env n p places h b = met_up_to (places x.0) n x.0 p places h b
   after_up_to (pattern.Term ty term qs) env n p places h b = parts_up_to qs env (opening env term) n 0 p places h b
   after_up_to (pattern.BindPattern ty x q) env n p places h b = after_up_to q env n p (met_after (places x.0) x.0 p places) h (met_up_to (places x.0) n x.0 p places h b)

@@ -19,7 +19,7 @@ use Rattle.isle_core.specs.Value.{Value, Truth, Int, Opaque, Variant, Struct, Fi
 
 -- ---- fields
 
-abbrev types_of : List (List ℕ × TypeId) → List TypeId
+abbrev pub types_of : List (List ℕ × TypeId) → List TypeId
 types_of fields = map (λ (f : List ℕ × TypeId). f.1) fields
 
 -- the values of fields have the fields' types
@@ -77,7 +77,7 @@ id_place i v e = ap (λ (x : VariantId). x.0) e
 
 module _ (env : Environment) (apart : AreVariantsApart env) (ty : TypeId) (variant : VariantId) where
   -- the first variant of the name is this one
-  first_is : (name : Sym) (is_extern is_nodebug : Bool) (variants : List VariantDef) (place : _) (w : VariantDef) (n : List ℕ) → slice_get env.types.types ty.0 ≡ Some (def.Enum name is_extern is_nodebug variants place)
+  pub first_is : (name : Sym) (is_extern is_nodebug : Bool) (variants : List VariantDef) (place : _) (w : VariantDef) (n : List ℕ) → slice_get env.types.types ty.0 ≡ Some (def.Enum name is_extern is_nodebug variants place)
       → slice_get variants variant.0 ≡ Some w → bytes_eq n (sym_text env w.name) ≡ true → find (λ (v : VariantDef). bytes_eq n (sym_text env v.name)) variants ≡ Some w
   first_is name is_extern is_nodebug variants place w n e k t =
       let f = find_there (λ (v : VariantDef). bytes_eq n (sym_text env v.name)) variants variant.0 w k t in

@@ -229,7 +229,7 @@ term_both env m val ty term MakesNothing c (Some x) v at ps names places apart f
     extractor_both env m val term c x.arg_tys v at (λ vs. matches_parts env m ps vs names) (all_hold env m val (parts_tests env (ByExtractor term c (length x.arg_tys)) ps 0 at places)) (after_parts env (ByExtractor term c (length x.arg_tys)) ps 0 at places) f (served refl).1 is e
     (λ vs types stand. go vs x.arg_tys refl types (λ j w g. ap (λ i. val (result_path (length x.arg_tys) i (answer_path c (Extracted term at)))) (from_zero j) ∙ stand j w g)) (served refl).0
 
-parts_given : (env : Environment) (o : Option (List TypeId)) (ps : Patterns) (tys : List TypeId) → o ≡ Some tys → ArePartsOf env o ps → ArePartsOf env (Some tys) ps
+pub parts_given : (env : Environment) (o : Option (List TypeId)) (ps : Patterns) (tys : List TypeId) → o ≡ Some tys → ArePartsOf env o ps → ArePartsOf env (Some tys) ps
 parts_given env o ps tys e h = subst (λ x. ArePartsOf env x ps) e h
 
 -- ---- what patterns call
@@ -238,20 +238,20 @@ parts_given env o ps tys e h = subst (λ x. ArePartsOf env x ps) e h
 abbrev pub AreServed : Environment → Meaning → List CalledTerm → Type 0
 AreServed env m terms = (o : CalledTerm) → Contains terms o → CalledTermFits env m o
 
-served_first : (env : Environment) (m : Meaning) (xs ys : List CalledTerm) → AreServed env m (xs ++ ys) → AreServed env m xs
+pub served_first : (env : Environment) (m : Meaning) (xs ys : List CalledTerm) → AreServed env m (xs ++ ys) → AreServed env m xs
 served_first env m xs ys h o c = h o (Contains-append_left xs ys o c)
 
-served_rest : (env : Environment) (m : Meaning) (xs ys : List CalledTerm) → AreServed env m (xs ++ ys) → AreServed env m ys
+pub served_rest : (env : Environment) (m : Meaning) (xs ys : List CalledTerm) → AreServed env m (xs ++ ys) → AreServed env m ys
 served_rest env m xs ys h o c = h o (Contains-append_right xs ys o c)
 
 -- a term as an extractor
-abbrev extractor_of : TermId → CalledTerm
+abbrev pub extractor_of : TermId → CalledTerm
 extractor_of term = record { term = term; role = Extractor }
 
-extracted_here : (env : Environment) (term : TermId) → is_made env term ≡ false → Contains (unless_made env Extractor term) (extractor_of term)
+pub extracted_here : (env : Environment) (term : TermId) → is_made env term ≡ false → Contains (unless_made env Extractor term) (extractor_of term)
 extracted_here env term e = subst (λ b. Contains (cond b [] (extractor_of term ∷ [])) (extractor_of term)) (sym e) (head_contained (extractor_of term) [])
 
-not_made : (o : Option Term) → making_of o ≡ MakesNothing → is_made_term o ≡ false
+pub not_made : (o : Option Term) → making_of o ≡ MakesNothing → is_made_term o ≡ false
 not_made None e = refl
 not_made (Some t) e = of_kind t.kind e
   where

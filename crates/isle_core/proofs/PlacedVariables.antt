@@ -1,19 +1,20 @@
 -- Each variable of a rule's patterns has a path behind them.
-use Rattle.std.proofs.Common.{◌≡◌, ⊎_elim, ℕ, suc, List, [], ◌∷◌, Bool, true, false, cond, eqb, Option, Some, None, T, refl, sym, subst}
+use Rattle.std.proofs.Common.{◌≡◌, ⊎_elim, ℕ, suc, List, [], ◌∷◌, ◌++◌, Bool, true, false, cond, eqb, Option, Some, None, T, refl, sym, subst}
 use Rattle.std.proofs.Math.Dec.{eqb_refl}
 use Rattle.std.specs.Prelude.{Contains}
 use Rattle.std.specs.List.{AllByRecursion}
-use Rattle.std.proofs.lemmas.List.Elements.{Contains-append_cases}
+use Rattle.std.proofs.lemmas.List.Elements.{recursion_from_All, Contains-append_cases}
 use Rattle.isle_core.specs.declared.types.Term.{Term as CodeTerm}
-use Rattle.isle_core.specs.BuiltRule.{IsBuiltPattern, AreBuiltPatterns}
+use Rattle.isle_core.specs.BuiltRule.{IsBuiltPattern, AreBuiltPatterns, IsBuiltIfLet, IsBuiltRule}
 use Rattle.isle_core.specs.Opening.{Opening, opening, part_path}
 use Rattle.isle_core.specs.Pattern.{Pattern, Patterns, NoPattern, APattern, Var, ConstBool, ConstInt, ConstPrim, Wildcard, Term, BindPattern, And}
-use Rattle.isle_core.specs.Scope.{variables, variables_within, all_variables}
+use Rattle.isle_core.specs.Scope.{variables, variables_within, all_variables, iflets_scope}
 use Rattle.isle_core.specs.Path.{Path, Arg}
-use Rattle.isle_core.specs.Tests.{Places, met_after, after, after_parts, after_each, args_after}
+use Rattle.isle_core.specs.Tests.{Places, no_places, met_after, after, after_parts, after_each, args_after, iflets_after, rule_places}
 use Rattle.isle_core.proofs.Contained.{contained_cases, none_contained}
-use Rattle.isle_core.proofs.TurnKinds.{IsPlaced}
-use Rattle.isle_core.specs.Rule.{Environment}
+use Rattle.isle_core.proofs.AnsweredTerms.{IsPlaced}
+use Rattle.isle_core.specs.RightSide.{path}
+use Rattle.isle_core.specs.Rule.{Environment, IfLet, Rule}
 
 with_keeps : (b : Bool) (p : Path) (o : Option Path) → IsPlaced o → IsPlaced (cond b (Some p) o)
 with_keeps true p o h = tt
@@ -83,3 +84,17 @@ args_placed env terms [] i places x b c = absurd (none_contained x c)
 args_placed env terms (q ∷ qs) i places x b c =
     ⊎_elim (λ d. args_keep env qs (suc i) (after env q (Arg i) places) x (pattern_places q env terms (Arg i) places x b.0 d))
     (λ d. args_placed env terms qs (suc i) (after env q (Arg i) places) x b.1 d) (Contains-append_cases (variables q) (all_variables qs) x c)
+
+-- so has one of conditions' patterns
+iflets_placed : (env : Environment) (terms : List CodeTerm) (cs : List IfLet) (scope : List ℕ) (places : Places) → AllByRecursion (IsBuiltIfLet terms) cs → ((x : ℕ) → Contains scope x → IsPlaced (places x)) → (x : ℕ) → Contains (iflets_scope scope cs) x → IsPlaced (iflets_after env cs places x)
+iflets_placed env terms [] scope places b h x c = h x c
+iflets_placed env terms (i ∷ is) scope places b h x c =
+    let p = path env i.rhs places 0 in
+    iflets_placed env terms is (scope ++ variables i.lhs) (after env i.lhs p places) b.1
+    (λ y d. ⊎_elim (λ e. after_keeps i.lhs env p places y (h y e)) (λ e. pattern_places i.lhs env terms p places y b.0.lhs e) (Contains-append_cases scope (variables i.lhs) y d)) x c
+
+-- a variable that a rule's right side may speak of has a path
+pub rule_placed : (env : Environment) (terms : List CodeTerm) (r : Rule) → IsBuiltRule terms r → (x : ℕ) → Contains (iflets_scope (all_variables r.args) r.iflets) x → IsPlaced (rule_places env r x)
+rule_placed env terms r b x c =
+    iflets_placed env terms r.iflets (all_variables r.args) (args_after env r.args 0 no_places) (recursion_from_All (IsBuiltIfLet terms) r.iflets b.iflets)
+    (λ y d. args_placed env terms r.args 0 no_places y (recursion_from_All (IsBuiltPattern terms) r.args b.args) d) x c

@@ -1,43 +1,47 @@
 -- A rule set that stands for rules gives what they give.
-use Rattle.std.proofs.Common.{◌≡◌, ⊎_elim, ℕ, ◌+◌, List, [], ◌∷◌, ◌++◌, Bool, true, false, cond, get_or, map, Option, Some, None, refl, sym, ap, ◌∙◌, subst, arith}
-use Rattle.std.specs.Prelude.{Contains, option_and_then}
+use Rattle.std.proofs.Common.{◌≡◌, ⊎_elim, ℕ, ◌+◌, List, [], ◌∷◌, ◌++◌, Bool, true, false, cond, get_or, map, Option, Some, None, refl, sym, ap, ◌∙◌, subst}
+use Rattle.std.specs.Prelude.{Contains, IsSome, IsSomeAnd}
 use Rattle.std.specs.Ordering.{int_cmp, is_lt}
 use Rattle.std.specs.List.{list_all, AllByRecursion}
 use Rattle.std.proofs.lemmas.List.{append-nil}
-use Rattle.std.proofs.lemmas.List.Elements.{All-contains, recursion_from_All, Contains-get_or, Contains-append_left, Contains-append_right}
+use Rattle.std.proofs.lemmas.List.Elements.{All-contains, Contains-get_or, Contains-append_left, Contains-append_right}
 use Rattle.std.proofs.lemmas.List.Sums.{AllPass-from_list_all, list_all-from_AllPass}
 use Rattle.isle_core.specs.declared.rule_sets.FlatRule.{FlatRule}
 use Rattle.isle_core.specs.declared.types.ReturnKind.{ReturnKind}
 use Rattle.isle_core.specs.Value.{Value}
 use Rattle.isle_core.specs.Meaning.{Meaning}
 use Rattle.isle_core.specs.Calling.{impure}
-use Rattle.isle_core.specs.Match.{Names, no_names, matches_all}
-use Rattle.isle_core.specs.Eval.{Evaluated, Answered, Failed, evaluated, iflets_names}
+use Rattle.isle_core.specs.Match.{Names}
+use Rattle.isle_core.specs.Eval.{Evaluated, Answered, Failed, evaluated}
 use Rattle.isle_core.specs.Outcome.{prescription_of, rule_names}
 use Rattle.isle_core.specs.HighestMatch.{better, or_later, highest_match, given_by, outcome_of}
-use Rattle.isle_core.specs.Path.{Path, Arg, at}
+use Rattle.isle_core.specs.Path.{Path, at}
 use Rattle.isle_core.specs.OrderedCalls.{rule_calls}
-use Rattle.isle_core.specs.Tests.{Test, Is, Equal, Never, no_places, Places, args_tests, args_after, iflets_tests, iflets_after, rule_tests, rule_places, rule_result}
+use Rattle.isle_core.specs.Tests.{Test, Is, Equal, Never, no_places, args_tests, args_after, iflets_tests, iflets_after, rule_tests, rule_places, rule_result}
 use Rattle.isle_core.specs.ValueAt.{Item, AValue, ATuple, Held, Absent, One, Optional, Listed, Known, nothing_known, value_at, equal_values, equal_item, equal_items, equal_held, holds, all_hold}
 use Rattle.isle_core.specs.CallRun.{Went, Goes, Ends, then_go, returns, run_calls}
 use Rattle.isle_core.specs.RuleSet.{flat_tests, flat_holds, gave, flat_run, higher, highest, given, set_outcome}
 use Rattle.isle_core.specs.StandsFor.{IsTrivial, IsFlat, AreFlat}
 use Rattle.isle_core.specs.HasType.{HaveTypes}
-use Rattle.isle_core.specs.OccurringConstants.{expr_constants, args_constants, iflets_constants, rule_constants, rules_constants}
-use Rattle.isle_core.specs.PatternType.{AreVariantsApart, ArePatternsOf}
+use Rattle.isle_core.specs.OccurringConstants.{TypedConstant, expr_constants, args_constants, iflets_constants, rule_constants, rules_constants}
+use Rattle.isle_core.specs.PatternType.{AreVariantsApart}
 use Rattle.isle_base.specs.declared.ids.TypeId.{TypeId}
-use Rattle.isle_core.specs.CalledTerms.{extracted_in, called_in_iflets, called_by, called_in, called}
-use Rattle.isle_core.specs.BuiltRule.{IsBuiltPattern, IsBuiltRule, CallsBuiltTerms}
-use Rattle.isle_core.specs.Rule.{Environment, IfLet, Rule}
+use Rattle.isle_core.specs.CalledTerms.{CalledTerm, extracted_in, called_in_iflets, called_by, called_in, called}
+use Rattle.isle_core.specs.BuiltRule.{IsBuiltRule, CallsBuiltTerms}
+use Rattle.isle_core.specs.Rule.{Environment, Rule}
 use Rattle.isle_core.proofs.SameValueLaws.{same_value-self}
-use Rattle.isle_core.proofs.PatternTests.{HoldsParts, AreServed, Agree, Both, none_agrees, patterns_both}
-use Rattle.isle_core.proofs.TurnKinds.{IsPlaced, CallsByTurns, Supplies, supplies_less, calls_by_turns}
-use Rattle.isle_core.proofs.PlacedVariables.{args_placed}
-use Rattle.isle_core.proofs.ScopeLaws.{rhs_in_scope}
-use Rattle.isle_core.specs.Scope.{all_variables, IsScopedRule}
-use Rattle.isle_core.proofs.KnownAnswers.{PlacesUpTo, nothing_fresh, none_up_to, args_up_to}
+use Rattle.isle_core.proofs.PatternTests.{AreServed, Agree, Both}
+use Rattle.isle_core.proofs.AnsweredTerms.{HasAnsweredCalls, Supplies, supplies_less, calls_answered}
+use Rattle.isle_core.proofs.PlacedVariables.{rule_placed}
+use Rattle.isle_core.proofs.RuleMatches.{IsTested, rule_both, rule_up_to}
+use Rattle.isle_core.proofs.ConditionTests.{IsSupplied, supplied_less}
+use Rattle.isle_core.specs.Having.{const_of}
+use Rattle.isle_core.specs.Terms.{sym_text}
+use Rattle.isle_core.specs.Scope.{all_variables, iflets_scope, IsScopedRule}
+use Rattle.isle_core.proofs.KnownAnswers.{nothing_fresh}
 use Rattle.isle_core.proofs.CallsFollow.{Follows, expr_follows}
-use Rattle.isle_core.proofs.CallOccurrences.{calls_are_rising, rising_firsts}
+use Rattle.isle_core.proofs.FirstCalls.{firsts_run_all}
+use Rattle.isle_core.proofs.ReadyCalls.{expr_ready}
 
 -- ---- the same tests
 
@@ -86,42 +90,13 @@ flat_same env m args ps r n f h =
 
 -- ---- one rule
 
-no_iflets : (env : Environment) (m : Meaning) (is : List IfLet) (o : Option Names) → is ≡ [] → option_and_then (iflets_names env m is) o ≡ o
-no_iflets env m is None e = refl
-no_iflets env m is (Some names) e = rw e refl
+-- a rule's calls are answered
+abbrev HasAnswers : Environment → Meaning → Rule → Type 0
+HasAnswers env m r = (n : ℕ) → HasAnsweredCalls env m (rule_places env r) n r.rhs
 
--- the tests of a rule without conditions are those of its patterns
-pub without_iflets : (env : Environment) (r : Rule) → r.iflets ≡ [] → rule_tests env r ≡ args_tests env r.args 0 no_places
-without_iflets env r e = ap (λ is. args_tests env r.args 0 no_places ++ iflets_tests env is (args_after env r.args 0 no_places)) e ∙ append-nil (args_tests env r.args 0 no_places)
-
--- so are the places of its variables
-pub places_without : (env : Environment) (r : Rule) → r.iflets ≡ [] → rule_places env r ≡ args_after env r.args 0 no_places
-places_without env r e = ap (λ is. iflets_after env is (args_after env r.args 0 no_places)) e
-
--- the values of paths hold fields
-at_fields : (env : Environment) (m : Meaning) (args : List Value) (known : Known) → HoldsParts env m (value_at env m args known)
-at_fields env m args known = record { variant = λ variant i p. refl; struct = λ i p. refl; extracted = λ term p. refl; inner = λ p. refl; part = λ i p. refl }
-
--- a rule matches exactly where its tests hold
-pub rule_both : (env : Environment) (m : Meaning) (args : List Value) (tys : List TypeId) (r : Rule) → AreVariantsApart env → r.iflets ≡ [] → ArePatternsOf env tys r.args → HaveTypes env args tys → AreServed env m (extracted_in env r.args)
-    → Both (value_at env m args nothing_known) (rule_names env m args r) (all_hold env m (value_at env m args nothing_known) (rule_tests env r)) (rule_places env r)
-rule_both env m args tys r apart none h t served =
-    let val = value_at env m args nothing_known in
-    subst (λ ps. Both val (rule_names env m args r) (all_hold env m val (rule_tests env r)) ps) (sym (places_without env r none))
-    (subst (λ ts. Both val (rule_names env m args r) (all_hold env m val ts) (args_after env r.args 0 no_places)) (sym (without_iflets env r none))
-    (subst (λ o. Both val o (all_hold env m val (args_tests env r.args 0 no_places)) (args_after env r.args 0 no_places)) (sym (no_iflets env m r.iflets (matches_all env m r.args args no_names) none))
-    (patterns_both env m val apart (at_fields env m args nothing_known) r.args args tys 0 no_names no_places h t (λ j. ap (λ n. val (Arg n)) (from_zero j)) served (none_agrees val))))
-  where
-    from_zero : (j : ℕ) → j + 0 ≡ j
-    from_zero j = omega arith
-
--- a rule's calls take turns
-abbrev RuleByTurns : Environment → Meaning → Rule → Type 0
-RuleByTurns env m r = (n : ℕ) → CallsByTurns env m (rule_places env r) n r.rhs
-
-rule_by_turns : (env : Environment) (m : Meaning) (r : Rule) → IsBuiltRule env.terms r → IsScopedRule r → CallsBuiltTerms env.terms r → Supplies env m (called_in env r) (rule_constants r) → RuleByTurns env m r
-rule_by_turns env m r b v i h n =
-    calls_by_turns r.rhs env m (all_variables r.args) (rule_places env r) n (λ x c. subst (λ (ps : Places). IsPlaced (ps x)) (sym (places_without env r b.iflets)) (args_placed env env.terms r.args 0 no_places x (recursion_from_All (IsBuiltPattern env.terms) r.args b.args) c)) b.rhs (rhs_in_scope env.terms r b v) i
+rule_answers : (env : Environment) (m : Meaning) (r : Rule) → IsBuiltRule env.terms r → IsScopedRule r → CallsBuiltTerms env.terms r → Supplies env m (called_in env r) (rule_constants r) → HasAnswers env m r
+rule_answers env m r b v i h n =
+    calls_answered r.rhs env m (iflets_scope (all_variables r.args) r.iflets) (rule_places env r) n (rule_placed env env.terms r b) b.rhs v.rhs i
     (supplies_less env m (called_in env r) (called_by env r.rhs) (rule_constants r) (expr_constants r.rhs) (λ o k. Contains-append_right (extracted_in env r.args ++ called_in_iflets env r.iflets) (called_by env r.rhs) o k)
     (λ c k. Contains-append_right (args_constants r.args ++ iflets_constants r.iflets) (expr_constants r.rhs) c k) h)
 
@@ -132,13 +107,15 @@ follows_returns env m args n n' known p (Answered v made) (Ends o) h = absurd h
 follows_returns env m args n n' known p (Failed made) (Goes known' made') h = absurd h
 
 -- a flat rule's calls and result are what the evaluation of its right side gives
-flat_gives : (env : Environment) (m : Meaning) (args : List Value) (ps : List Path) (r : Rule) (n : ℕ) (f : FlatRule) (names : Names) → r.iflets ≡ [] → RuleByTurns env m r → IsFlat env ps r n f → Agree (value_at env m args nothing_known) names (rule_places env r)
+flat_gives : (env : Environment) (m : Meaning) (args : List Value) (ps : List Path) (r : Rule) (n : ℕ) (f : FlatRule) (names : Names) (tys : List TypeId) → IsTested env tys r → HasAnswers env m r → IsFlat env ps r n f → Agree (value_at env m args nothing_known) names (rule_places env r)
     → flat_run env m args ps f ≡ Ends (prescription_of (evaluated env m r.rhs names []))
-flat_gives env m args ps r n f names none t h a =
-    ap (λ cs. then_go (run_calls env m args cs nothing_known []) (returns env m args (at ps f.result))) (rising_firsts n (rule_calls env r n) (map (at ps) f.ordered) (calls_are_rising r.rhs env m (rule_places env r) n (t n)) h.ordered)
+flat_gives env m args ps r n f names tys tested t h a =
+    let places = rule_places env r in
+    let up = rule_up_to env tys r n tested in
+    ap (λ w. then_go w (returns env m args (at ps f.result))) (firsts_run_all env m args (rule_calls env r n) (map (at ps) f.ordered) nothing_known [] h.ordered (expr_ready r.rhs env m args n nothing_known names places [] (t n) a up (nothing_fresh n)))
     ∙ ap (λ p. then_go (run_calls env m args (rule_calls env r n) nothing_known []) (returns env m args p)) h.result
     ∙ follows_returns env m args n (n + impure env r.rhs) nothing_known (rule_result env r n) (evaluated env m r.rhs names []) (run_calls env m args (rule_calls env r n) nothing_known [])
-    (expr_follows r.rhs env m args n nothing_known names (rule_places env r) [] (t n) a (subst (PlacesUpTo n) (sym (places_without env r none)) (args_up_to env r.args n 0 no_places (none_up_to n))) (nothing_fresh n))
+    (expr_follows r.rhs env m args n nothing_known names places [] (t n) a up (nothing_fresh n))
 
 -- ---- the highest
 
@@ -162,25 +139,37 @@ alike_higher env m args ps r names f (Some g) (Some p) h k =
 alike_higher env m args ps r names f None (Some p) h k = absurd k
 alike_higher env m args ps r names f (Some g) None h k = absurd k
 
-alike_more : (env : Environment) (m : Meaning) (args : List Value) (ps : List Path) (r : Rule) (n : ℕ) (f : FlatRule) (b : Bool) (here : Option Names) (later : Option FlatRule) (best : Option (Rule × Names)) → r.iflets ≡ [] → RuleByTurns env m r → IsFlat env ps r n f
+alike_more : (env : Environment) (m : Meaning) (args : List Value) (ps : List Path) (r : Rule) (n : ℕ) (f : FlatRule) (b : Bool) (here : Option Names) (later : Option FlatRule) (best : Option (Rule × Names)) (tys : List TypeId) → IsTested env tys r → HasAnswers env m r → IsFlat env ps r n f
     → Both (value_at env m args nothing_known) here b (rule_places env r) → Alike env m args ps later best → Alike env m args ps (cond b (Some (higher f later)) later) (or_later r here best)
-alike_more env m args ps r n f b None later best none t h k s = subst (λ x. Alike env m args ps (cond x (Some (higher f later)) later) best) (sym k) s
-alike_more env m args ps r n f b (Some names) later best none t h k s =
-    subst (λ x. Alike env m args ps (cond x (Some (higher f later)) later) (Some (better r names best))) (sym k.0) (alike_higher env m args ps r names f later best (h.prio, flat_gives env m args ps r n f names none t h k.1) s)
+alike_more env m args ps r n f b None later best tys tested t h k s = subst (λ x. Alike env m args ps (cond x (Some (higher f later)) later) best) (sym k) s
+alike_more env m args ps r n f b (Some names) later best tys tested t h k s =
+    subst (λ x. Alike env m args ps (cond x (Some (higher f later)) later) (Some (better r names best))) (sym k.0) (alike_higher env m args ps r names f later best (h.prio, flat_gives env m args ps r n f names tys tested t h k.1) s)
 
 -- what the rules of a term are like whose arguments have these types, and how the meaning serves them
 pub record AreMet (env : Environment) (m : Meaning) (tys : List TypeId) (rules : List Rule) : Type 0 where
   pub built : AllByRecursion (IsBuiltRule env.terms) rules
   pub scoped : AllByRecursion IsScopedRule rules
   pub terms : AllByRecursion (CallsBuiltTerms env.terms) rules
-  pub typed : AllByRecursion (λ (r : Rule). ArePatternsOf env tys r.args) rules
-  pub served : Supplies env m (called env rules) (rules_constants rules)
+  pub typed : AllByRecursion (IsTested env tys) rules
+  pub served : IsSupplied env m (called env rules) (rules_constants rules)
 
-first_served : (env : Environment) (m : Meaning) (r : Rule) (rs : List Rule) → Supplies env m (called env (r ∷ rs)) (rules_constants (r ∷ rs)) → Supplies env m (called_in env r) (rule_constants r)
-first_served env m r rs h = supplies_less env m (called env (r ∷ rs)) (called_in env r) (rules_constants (r ∷ rs)) (rule_constants r) (λ o k. Contains-append_left (called_in env r) (called env rs) o k) (λ c k. Contains-append_left (rule_constants r) (rules_constants rs) c k) h
+first_served : (env : Environment) (m : Meaning) (r : Rule) (rs : List Rule) → IsSupplied env m (called env (r ∷ rs)) (rules_constants (r ∷ rs)) → IsSupplied env m (called_in env r) (rule_constants r)
+first_served env m r rs h = supplied_less env m (called env (r ∷ rs)) (called_in env r) (rules_constants (r ∷ rs)) (rule_constants r) (λ o k. Contains-append_left (called_in env r) (called env rs) o k) (λ c k. Contains-append_left (rule_constants r) (rules_constants rs) c k) h
 
-patterns_served : (env : Environment) (m : Meaning) (r : Rule) → Supplies env m (called_in env r) (rule_constants r) → AreServed env m (extracted_in env r.args)
+patterns_served : (env : Environment) (m : Meaning) (r : Rule) → IsSupplied env m (called_in env r) (rule_constants r) → AreServed env m (extracted_in env r.args)
 patterns_served env m r h o c = h.answers o (Contains-append_left (extracted_in env r.args ++ called_in_iflets env r.iflets) (called_by env r.rhs) o (Contains-append_left (extracted_in env r.args) (called_in_iflets env r.iflets) o c))
+
+conditions_served : (env : Environment) (m : Meaning) (r : Rule) → IsSupplied env m (called_in env r) (rule_constants r) → IsSupplied env m (called_in_iflets env r.iflets) (iflets_constants r.iflets)
+conditions_served env m r h = supplied_less env m (called_in env r) (called_in_iflets env r.iflets) (rule_constants r) (iflets_constants r.iflets)
+    (λ o k. Contains-append_left (extracted_in env r.args ++ called_in_iflets env r.iflets) (called_by env r.rhs) o (Contains-append_right (extracted_in env r.args) (called_in_iflets env r.iflets) o k))
+    (λ c k. Contains-append_left (args_constants r.args ++ iflets_constants r.iflets) (expr_constants r.rhs) c (Contains-append_right (args_constants r.args) (iflets_constants r.iflets) c k)) h
+
+has_some : {A : Type 0} (o : Option A) (P : A → Type 0) → IsSomeAnd o P → IsSome o
+has_some None P h = absurd h
+has_some (Some x) P h = refl
+
+supplies_all : (env : Environment) (m : Meaning) (terms : List CalledTerm) (constants : List TypedConstant) → IsSupplied env m terms constants → Supplies env m terms constants
+supplies_all env m terms constants h = record { answers = h.answers; named = λ ty name k. has_some (const_of m (sym_text env name)) _ (h.named ty name k) }
 
 rest_met : (env : Environment) (m : Meaning) (tys : List TypeId) (r : Rule) (rs : List Rule) → AreMet env m tys (r ∷ rs) → AreMet env m tys rs
 rest_met env m tys r rs h = record {
@@ -188,7 +177,7 @@ rest_met env m tys r rs h = record {
   scoped = h.scoped.1;
   terms = h.terms.1;
   typed = h.typed.1;
-  served = supplies_less env m (called env (r ∷ rs)) (called env rs) (rules_constants (r ∷ rs)) (rules_constants rs) (λ o k. Contains-append_right (called_in env r) (called env rs) o k) (λ c k. Contains-append_right (rule_constants r) (rules_constants rs) c k) h.served;
+  served = supplied_less env m (called env (r ∷ rs)) (called env rs) (rules_constants (r ∷ rs)) (rules_constants rs) (λ o k. Contains-append_right (called_in env r) (called env rs) o k) (λ c k. Contains-append_right (rule_constants r) (rules_constants rs) c k) h.served;
 }
 
 highest_alike : (rules : List Rule) (fs : List FlatRule) (env : Environment) (m : Meaning) (args : List Value) (tys : List TypeId) (ps : List Path) (n : ℕ) → AreVariantsApart env → HaveTypes env args tys → AreMet env m tys rules → AreFlat env ps rules n fs
@@ -196,9 +185,10 @@ highest_alike : (rules : List Rule) (fs : List FlatRule) (env : Environment) (m 
 highest_alike [] [] env m args tys ps n apart t met h = tt
 highest_alike (r ∷ rs) (f ∷ fs) env m args tys ps n apart t met h =
     let val = value_at env m args nothing_known in
-    alike_more env m args ps r n f (flat_holds env m args ps f) (rule_names env m args r) (highest (flat_holds env m args ps) fs) (highest_match env m args rs)
-    met.built.0.iflets (rule_by_turns env m r met.built.0 met.scoped.0 met.terms.0 (first_served env m r rs met.served)) h.0
-    (subst (λ x. Both val (rule_names env m args r) x (rule_places env r)) (sym (flat_same env m args ps r n f h.0)) (rule_both env m args tys r apart met.built.0.iflets met.typed.0 t (patterns_served env m r (first_served env m r rs met.served))))
+    let served = first_served env m r rs met.served in
+    alike_more env m args ps r n f (flat_holds env m args ps f) (rule_names env m args r) (highest (flat_holds env m args ps) fs) (highest_match env m args rs) tys
+    met.typed.0 (rule_answers env m r met.built.0 met.scoped.0 met.terms.0 (supplies_all env m (called_in env r) (rule_constants r) served)) h.0
+    (subst (λ x. Both val (rule_names env m args r) x (rule_places env r)) (sym (flat_same env m args ps r n f h.0)) (rule_both env m args tys r apart met.typed.0 t (patterns_served env m r served) (conditions_served env m r served)))
     (highest_alike rs fs env m args tys ps (n + impure env r.rhs) apart t (rest_met env m tys r rs met) h.1)
 highest_alike [] (f ∷ fs) env m args tys ps n apart t met h = absurd h
 highest_alike (r ∷ rs) [] env m args tys ps n apart t met h = absurd h

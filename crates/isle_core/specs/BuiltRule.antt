@@ -1,5 +1,5 @@
 -- The forms of rules that are built.
-use Rattle.std.specs.Prelude.{◌≡◌, ℕ, suc, ◌≤◌, List, [], true, false, Option, All, IsSomeAnd, slice_get}
+use Rattle.std.specs.Prelude.{ℕ, suc, ◌≤◌, List, true, false, Option, All, IsSomeAnd, slice_get}
 use Rattle.isle_core.specs.declared.types.Term.{Term}
 use Rattle.isle_core.specs.declared.types.TermKind.{TermKind}
 use Rattle.isle_core.specs.declared.types.TermKind.TheVariants as kind
@@ -10,7 +10,7 @@ use Rattle.isle_core.specs.Making.{Making, MakesVariant, MakesStruct, MakesNothi
 use Rattle.isle_core.specs.Pattern.{Pattern, Patterns, NoPattern, APattern}
 use Rattle.isle_core.specs.Expr as expr
 use Rattle.isle_core.specs.Expr.{Expr, Exprs, NoExpr, AnExpr, LetBindings, NoBinding, ABinding}
-use Rattle.isle_core.specs.Rule.{Rule}
+use Rattle.isle_core.specs.Rule.{IfLet, Rule}
 
 -- an external extractor that answers at most once
 abbrev pub IsExtractorKind : TermKind → Type 0
@@ -69,44 +69,71 @@ abbrev mutual
   AreBuiltBindings NoBinding = Unit {0}
   AreBuiltBindings (ABinding x ty e more) = IsBuiltExpr e × AreBuiltBindings more
 
--- a rule without conditions, of such patterns and such a right side
-pub record IsBuiltRule (terms : List Term) (r : Rule) : Type 0 where
-  pub args : All (IsBuiltPattern terms) r.args
-  pub iflets : r.iflets ≡ []
-  pub rhs : IsBuiltExpr r.rhs
+-- ---- the terms of expressions
 
--- ---- the terms of right sides
-
--- a made term, or an impure one that has a constructor and answers at most once
+-- a made term, or one that has a constructor and answers at most once
 abbrev pub IsBuiltKind : TermKind → Type 0
-IsBuiltKind (kind.Decl false false partial recursive constructor.Internal extractor) = Unit {0}
-IsBuiltKind (kind.Decl false false partial recursive (constructor.External func) extractor) = Unit {0}
+IsBuiltKind (kind.Decl pure false partial recursive constructor.Internal extractor) = Unit {0}
+IsBuiltKind (kind.Decl pure false partial recursive (constructor.External func) extractor) = Unit {0}
 IsBuiltKind (kind.Variant ty variant) = Unit {0}
 IsBuiltKind (kind.Struct ty) = Unit {0}
-IsBuiltKind (kind.Decl false false partial recursive constructor.Absent extractor) = ⊥
-IsBuiltKind (kind.Decl false true partial recursive by extractor) = ⊥
-IsBuiltKind (kind.Decl true multi partial recursive by extractor) = ⊥
+IsBuiltKind (kind.Decl pure false partial recursive constructor.Absent extractor) = ⊥
+IsBuiltKind (kind.Decl pure true partial recursive by extractor) = ⊥
 
--- each term of an expression is one; calls of others are not built
+-- a made term, or a pure one that has a constructor and answers at most once
+abbrev pub IsPureKind : TermKind → Type 0
+IsPureKind (kind.Decl true false partial recursive constructor.Internal extractor) = Unit {0}
+IsPureKind (kind.Decl true false partial recursive (constructor.External func) extractor) = Unit {0}
+IsPureKind (kind.Variant ty variant) = Unit {0}
+IsPureKind (kind.Struct ty) = Unit {0}
+IsPureKind (kind.Decl true false partial recursive constructor.Absent extractor) = ⊥
+IsPureKind (kind.Decl true true partial recursive by extractor) = ⊥
+IsPureKind (kind.Decl false multi partial recursive by extractor) = ⊥
+
+-- each term of an expression is of such a kind; calls of others are not built
 abbrev mutual
-  pub HasBuiltTerms : List Term → Expr → Type 0
-  HasBuiltTerms terms (expr.Term ty term es) = IsSomeAnd (slice_get terms term.0) (λ (t : Term). IsBuiltKind t.kind) × AllHaveBuiltTerms terms es
-  HasBuiltTerms terms (expr.Var of x) = Unit {0}
-  HasBuiltTerms terms (expr.ConstBool b) = Unit {0}
-  HasBuiltTerms terms (expr.ConstInt of n) = Unit {0}
-  HasBuiltTerms terms (expr.ConstPrim of name) = Unit {0}
-  HasBuiltTerms terms (expr.Let of bindings inner) = BindingsHaveBuiltTerms terms bindings × HasBuiltTerms terms inner
+  pub HasTerms : (TermKind → Type 0) → List Term → Expr → Type 0
+  HasTerms K terms (expr.Term ty term es) = IsSomeAnd (slice_get terms term.0) (λ (t : Term). K t.kind) × AllHaveTerms K terms es
+  HasTerms K terms (expr.Var of x) = Unit {0}
+  HasTerms K terms (expr.ConstBool b) = Unit {0}
+  HasTerms K terms (expr.ConstInt of n) = Unit {0}
+  HasTerms K terms (expr.ConstPrim of name) = Unit {0}
+  HasTerms K terms (expr.Let of bindings inner) = BindingsHaveTerms K terms bindings × HasTerms K terms inner
 
   -- so of expressions in order
-  pub AllHaveBuiltTerms : List Term → Exprs → Type 0
-  AllHaveBuiltTerms terms NoExpr = Unit {0}
-  AllHaveBuiltTerms terms (AnExpr e es) = HasBuiltTerms terms e × AllHaveBuiltTerms terms es
+  pub AllHaveTerms : (TermKind → Type 0) → List Term → Exprs → Type 0
+  AllHaveTerms K terms NoExpr = Unit {0}
+  AllHaveTerms K terms (AnExpr e es) = HasTerms K terms e × AllHaveTerms K terms es
 
   -- so of the values of a `let`
-  pub BindingsHaveBuiltTerms : List Term → LetBindings → Type 0
-  BindingsHaveBuiltTerms terms NoBinding = Unit {0}
-  BindingsHaveBuiltTerms terms (ABinding x ty e more) = HasBuiltTerms terms e × BindingsHaveBuiltTerms terms more
+  pub BindingsHaveTerms : (TermKind → Type 0) → List Term → LetBindings → Type 0
+  BindingsHaveTerms K terms NoBinding = Unit {0}
+  BindingsHaveTerms K terms (ABinding x ty e more) = HasTerms K terms e × BindingsHaveTerms K terms more
+
+-- so where each is built
+abbrev pub HasBuiltTerms : List Term → Expr → Type 0
+HasBuiltTerms terms e = HasTerms IsBuiltKind terms e
+
+abbrev pub AllHaveBuiltTerms : List Term → Exprs → Type 0
+AllHaveBuiltTerms terms es = AllHaveTerms IsBuiltKind terms es
+
+abbrev pub BindingsHaveBuiltTerms : List Term → LetBindings → Type 0
+BindingsHaveBuiltTerms terms bs = BindingsHaveTerms IsBuiltKind terms bs
 
 -- so of a rule's right side
 abbrev pub CallsBuiltTerms : List Term → Rule → Type 0
 CallsBuiltTerms terms r = HasBuiltTerms terms r.rhs
+
+-- ---- rules
+
+-- a condition of such a pattern and such an expression, which calls only pure terms
+pub record IsBuiltIfLet (terms : List Term) (c : IfLet) : Type 0 where
+  pub lhs : IsBuiltPattern terms c.lhs
+  pub rhs : IsBuiltExpr c.rhs
+  pub calls : HasTerms IsPureKind terms c.rhs
+
+-- a rule of such patterns, such conditions and such a right side
+pub record IsBuiltRule (terms : List Term) (r : Rule) : Type 0 where
+  pub args : All (IsBuiltPattern terms) r.args
+  pub iflets : All (IsBuiltIfLet terms) r.iflets
+  pub rhs : IsBuiltExpr r.rhs

@@ -10,11 +10,10 @@ abbrev pub IsExternal : Callee → Type 0
 IsExternal (External name) = Unit {0}
 IsExternal (Internal name) = ⊥
 
--- an impure call of an external function that answers so often, and at most once; pure calls and several answers are not
--- built
+-- a call of an external function that answers so often, and at most once; several answers are not built
 abbrev pub IsCall : ReturnKind → Calling → Type 0
 IsCall kind (ByTurns callee of) = (of ≡ kind) × IsExternal callee × AnswersOnce kind
-IsCall kind (ByCases callee of) = ⊥
+IsCall kind (ByCases callee of) = (of ≡ kind) × IsExternal callee × AnswersOnce kind
 IsCall kind NoCall = ⊥
 
 -- a call of an external extractor that answers so often, and at most once

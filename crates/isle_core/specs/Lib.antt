@@ -31,6 +31,8 @@ pub mod Tests
 pub mod OrderedCalls
 pub mod RulePaths
 pub mod PatternType
+pub mod TypedVariables
+pub mod ExprType
 pub mod NamesApart
 pub mod ValueAt
 pub mod CallRun

@@ -1,5 +1,5 @@
 -- Which rule sets have lawful blocks.
-use Rattle.std.specs.Prelude.{◌≡◌, ◌↔◌, ℕ, List, [], ◌∷◌, true, Some, IsTrue, Contains, map, slice_get}
+use Rattle.std.specs.Prelude.{◌≡◌, ◌↔◌, ◌⊎◌, ℕ, List, [], ◌∷◌, true, Some, IsTrue, Contains, map, slice_get}
 use Rattle.std.specs.List.{AllByRecursion}
 use Rattle.isle_base.specs.declared.ids.BindingId.{BindingId}
 use Rattle.isle_base.specs.declared.ids.TermId.{TermId}
@@ -9,7 +9,7 @@ use Rattle.isle_core.specs.declared.rule_sets.FlatRule.{FlatRule}
 use Rattle.isle_core.specs.declared.rule_sets.RuleSet.{RuleSet}
 use Rattle.isle_core.specs.declared.types.Term.{Term}
 use Rattle.isle_core.specs.declared.types.ReturnKind.{ReturnKind}
-use Rattle.isle_core.specs.Calling.{calling, kind_of, may_be_nothing}
+use Rattle.isle_core.specs.Calling.{Calling, ByTurns, ByCases, NoCall, calling, kind_of, may_be_nothing}
 use Rattle.isle_core.specs.Path.{Path, Nowhere, Arg, ConstBool, ConstInt, ConstPrim, Extracted, Called, Chosen, MadeVariant, MadeStruct, VariantField, StructField, Wrapped, Inner, Part, Paths, NoPath, APath, at, paths_of}
 use Rattle.isle_core.specs.StandsFor.{EachOnce}
 use Rattle.isle_core.specs.ConstraintType.{IsConstraintOf}
@@ -23,9 +23,9 @@ use Rattle.isle_core.specs.Rule.{Environment}
 
 -- ---- what may be read
 
--- an inner value may be read behind the call that answers it, or behind the test that an extractor's answer is something
+-- an inner value may be read behind the call that answers it, or behind the test that the answer is something
 abbrev pub StandsWithin : (tests : List Test) → (done : List Path) → Path → Type 0
-StandsWithin tests done (Called term ps instance) = Contains done (Called term ps instance)
+StandsWithin tests done (Called term ps instance) = Contains done (Called term ps instance) ⊎ Contains tests (Is (Called term ps instance) constraint.Some)
 StandsWithin tests done (Extracted term q) = Contains tests (Is (Extracted term q) constraint.Some)
 StandsWithin tests done Nowhere = Unit {0}
 StandsWithin tests done (Arg i) = Unit {0}
@@ -41,30 +41,37 @@ StandsWithin tests done (Wrapped q) = Unit {0}
 StandsWithin tests done (Inner q) = Unit {0}
 StandsWithin tests done (Part part q) = Unit {0}
 
--- a path may be read behind these tests and these calls: a field behind the test that shows it, a call behind itself, an
--- extractor's answer where what it takes apart may be read, a part where its tuple may be, and a made value where its parts may be
+-- an impure call may be read behind itself, a pure one where its arguments may be
+abbrev pub StandsCalled : Calling → (itself arguments : Type 0) → Type 0
+StandsCalled (ByTurns callee kind) itself arguments = itself
+StandsCalled (ByCases callee kind) itself arguments = arguments
+StandsCalled NoCall itself arguments = ⊥
+
+-- a path may be read behind these tests and these calls: a field behind the test that shows it, an impure call behind itself, a pure call
+-- where its arguments may be read, an extractor's answer where what it takes apart may be, a part where its tuple may be, and a made value
+-- where its parts may be
 abbrev mutual
-  pub StandsOn : (tests : List Test) → (done : List Path) → Path → Type 0
-  StandsOn tests done (Called term ps instance) = Contains done (Called term ps instance)
-  StandsOn tests done (Inner p) = StandsWithin tests done p
-  StandsOn tests done (VariantField variant field q) = (ty : TypeId) × Contains tests (Is q (constraint.Variant ty variant))
-  StandsOn tests done (StructField field q) = (ty : TypeId) × Contains tests (Is q (constraint.Struct ty))
-  StandsOn tests done (MadeVariant of variant ps) = AllStandOn tests done ps
-  StandsOn tests done (MadeStruct of ps) = AllStandOn tests done ps
-  StandsOn tests done Nowhere = Unit {0}
-  StandsOn tests done (Arg i) = Unit {0}
-  StandsOn tests done (ConstBool of b) = Unit {0}
-  StandsOn tests done (ConstInt of n) = Unit {0}
-  StandsOn tests done (ConstPrim name) = Unit {0}
-  StandsOn tests done (Extracted term q) = StandsOn tests done q
-  StandsOn tests done (Chosen q) = Unit {0}
-  StandsOn tests done (Wrapped q) = Unit {0}
-  StandsOn tests done (Part part q) = StandsOn tests done q
+  pub StandsOn : Environment → (tests : List Test) → (done : List Path) → Path → Type 0
+  StandsOn env tests done (Called term ps instance) = StandsCalled (calling env term) (Contains done (Called term ps instance)) (AllStandOn env tests done ps)
+  StandsOn env tests done (Inner p) = StandsWithin tests done p
+  StandsOn env tests done (VariantField variant field q) = (ty : TypeId) × Contains tests (Is q (constraint.Variant ty variant))
+  StandsOn env tests done (StructField field q) = (ty : TypeId) × Contains tests (Is q (constraint.Struct ty))
+  StandsOn env tests done (MadeVariant of variant ps) = AllStandOn env tests done ps
+  StandsOn env tests done (MadeStruct of ps) = AllStandOn env tests done ps
+  StandsOn env tests done Nowhere = Unit {0}
+  StandsOn env tests done (Arg i) = Unit {0}
+  StandsOn env tests done (ConstBool of b) = Unit {0}
+  StandsOn env tests done (ConstInt of n) = Unit {0}
+  StandsOn env tests done (ConstPrim name) = Unit {0}
+  StandsOn env tests done (Extracted term q) = StandsOn env tests done q
+  StandsOn env tests done (Chosen q) = Unit {0}
+  StandsOn env tests done (Wrapped q) = Unit {0}
+  StandsOn env tests done (Part part q) = StandsOn env tests done q
 
   -- so of each
-  pub AllStandOn : (tests : List Test) → (done : List Path) → Paths → Type 0
-  AllStandOn tests done NoPath = Unit {0}
-  AllStandOn tests done (APath p ps) = StandsOn tests done p × AllStandOn tests done ps
+  pub AllStandOn : Environment → (tests : List Test) → (done : List Path) → Paths → Type 0
+  AllStandOn env tests done NoPath = Unit {0}
+  AllStandOn env tests done (APath p ps) = StandsOn env tests done p × AllStandOn env tests done ps
 
 -- ---- tests
 
@@ -86,7 +93,7 @@ IsTest env t p (constraint.Struct of) = IsValueTest env t p (constraint.Struct o
 -- a test of its binding's path, which may be read behind the tests before
 pub record IsTestable (env : Environment) (t : Term) (ps : List Path) (before : List Test) (c : BindingId × Constraint) : Type 0 where
   pub test : IsTest env t (at ps c.0) c.1
-  pub stands : StandsOn before [] (at ps c.0)
+  pub stands : StandsOn env before [] (at ps c.0)
 
 -- constraints in order, behind these tests
 abbrev pub AreTestable : Environment → Term → List Path → (before : List Test) → List (BindingId × Constraint) → Type 0
@@ -97,9 +104,9 @@ AreTestable env t ps before (c ∷ cs) = IsTestable env t ps before c × AreTest
 pub record AreComparable (env : Environment) (t : Term) (ps : List Path) (tests : List Test) (e : BindingId × BindingId) : Type 0 where
   pub ty : TypeId
   pub left : IsPathOf env t (at ps e.0) ty
-  pub left_stands : StandsOn tests [] (at ps e.0)
+  pub left_stands : StandsOn env tests [] (at ps e.0)
   pub right : IsPathOf env t (at ps e.1) ty
-  pub right_stands : StandsOn tests [] (at ps e.1)
+  pub right_stands : StandsOn env tests [] (at ps e.1)
 
 -- ---- calls
 
@@ -113,7 +120,7 @@ pub record IsSerializableCall (env : Environment) (t : Term) (tests : List Test)
   pub called : Term
   pub found : slice_get env.terms term.0 ≡ Some called
   pub args : ArePathsOf env t parameters called.arg_tys
-  pub stand : AllStandOn tests done parameters
+  pub stand : AllStandOn env tests done parameters
   pub kind : ReturnKind
   pub external : IsCall kind (calling env term)
   pub inner : IsTrue (may_be_nothing kind) ↔ Contains ps (Inner p)
@@ -138,7 +145,7 @@ pub record IsSerializableRule (env : Environment) (t : Term) (ps : List Path) (f
   pub calls : AreSerializableCalls env t (constraint_tests ps f) ps [] (map (at ps) f.ordered)
   pub once : EachOnce (occurrences env ps f.ordered)
   pub result : IsPathOf env t (at ps f.result) t.ret_ty
-  pub stands : StandsOn (constraint_tests ps f) (map (at ps) f.ordered) (at ps f.result)
+  pub stands : StandsOn env (constraint_tests ps f) (map (at ps) f.ordered) (at ps f.result)
 
 -- a field of a path
 abbrev pub IsFieldPath : Path → Type 0

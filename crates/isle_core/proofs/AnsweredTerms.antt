@@ -1,4 +1,4 @@
--- A lawful impure term is answered by turns of its kind.
+-- A lawful term is answered with its kind, by turns or by cases.
 use Rattle.std.proofs.Common.{◌≡◌, ⊎_elim, ℕ, zero, suc, ◌+◌, List, [], ◌∷◌, ◌++◌, Bool, true, false, cond, eqb, Option, Some, None, T, refl, sym, subst}
 use Rattle.std.proofs.Math.Dec.{eqb_refl}
 use Rattle.std.specs.Prelude.{IsSomeAnd, IsSome, All, slice_get, slice_index_or, Contains}
@@ -16,9 +16,9 @@ use Rattle.isle_core.specs.declared.values.Callee.TheVariants.{External, Interna
 use Rattle.isle_core.specs.declared.types.ReturnKind.{ReturnKind}
 use Rattle.isle_core.specs.declared.types.ReturnKind.TheVariants as return_kind
 use Rattle.isle_core.specs.Value.{Value, Answer, Plain, Found, Nothing, Several, Made}
-use Rattle.isle_core.specs.Meaning.{Meaning, TurnAnswers, turns_of, turn_at, times, turn}
+use Rattle.isle_core.specs.Meaning.{Meaning, TurnAnswers, turns_of, turn_at, times, turn, cases_of, case}
 use Rattle.isle_core.specs.Answered.{AValue, ATuple, Held, Absent, One, Optional, Listed, a_value, an_option, answer_held}
-use Rattle.isle_core.specs.Calling.{Calling, ByTurns, NoCall, kind_of, kind_by, pure_callee, calling_by, calling_of, calling, impure, impure_bindings}
+use Rattle.isle_core.specs.Calling.{Calling, ByTurns, ByCases, NoCall, kind_of, kind_by, pure_callee, calling_by, calling_of, calling, impure, impure_bindings}
 use Rattle.isle_core.specs.Terms.{sym_text, impure_callee}
 use Rattle.isle_core.specs.HasType.{HasType}
 use Rattle.isle_core.specs.Lawful.{Fits, all_turns, CallingFits, CalledTermFits}
@@ -36,6 +36,7 @@ use Rattle.isle_core.specs.Match.{with}
 use Rattle.isle_core.specs.RightSide.{path, let_places}
 use Rattle.isle_core.specs.Tests.{Places}
 use Rattle.isle_core.specs.Rule.{Environment}
+use Rattle.isle_core.proofs.PatternTests.{case_fits}
 
 -- ---- a turn
 
@@ -109,36 +110,43 @@ turn_type env ty kind (Some a) n h =
     let each = recursion_from_All (Fits env kind (ty ∷ [])) (all_turns a) h in
     fits_type env kind ty (slice_index_or a.turns n a.rest) (turn_in (Fits env kind (ty ∷ [])) a.turns n a.rest each.0 each.1)
 
--- the term takes turns, and each is of its kind
-abbrev pub TakesTurns : Meaning → Calling → Type 0
-TakesTurns m (ByTurns callee kind) = (made : List Made) → IsOfKind kind (answer_held (turn m callee made))
-TakesTurns m c = ⊥
+-- the term is answered by turns or by cases, and each answer is of its kind
+abbrev pub IsAnswered : Meaning → Calling → Type 0
+IsAnswered m (ByTurns callee kind) = (made : List Made) → IsOfKind kind (answer_held (turn m callee made))
+IsAnswered m (ByCases callee kind) = (vs : List Value) → IsOfKind kind (answer_held (case m callee vs))
+IsAnswered m NoCall = ⊥
 
 -- turns that fit are of the term's kind
-pub turns_fit : (env : Environment) (m : Meaning) (ty : TypeId) (callee : Callee) (kind : ReturnKind) → CallingFits env m (ty ∷ []) (ByTurns callee kind) → TakesTurns m (ByTurns callee kind)
+pub turns_fit : (env : Environment) (m : Meaning) (ty : TypeId) (callee : Callee) (kind : ReturnKind) → CallingFits env m (ty ∷ []) (ByTurns callee kind) → IsAnswered m (ByTurns callee kind)
 turns_fit env m ty callee kind h made = turn_at_fits env ty kind (turns_of m callee) (times callee made) h
+
+-- so are cases
+cases_fit : (env : Environment) (m : Meaning) (ty : TypeId) (callee : Callee) (kind : ReturnKind) → CallingFits env m (ty ∷ []) (ByCases callee kind) → IsAnswered m (ByCases callee kind)
+cases_fit env m ty callee kind h vs = fits_kind env kind ty (case m callee vs) (case_fits env (ty ∷ []) kind (cases_of m callee) vs h.0)
 
 -- ---- a term
 
--- a term that is made is not called, and any other one takes turns
-abbrev pub TermTakes : Meaning → Making → Calling → Type 0
-TermTakes m (MakesVariant ty variant) c = c ≡ NoCall
-TermTakes m (MakesStruct ty) c = c ≡ NoCall
-TermTakes m MakesNothing c = TakesTurns m c
+-- a term that is made is not called, and any other one is answered
+abbrev pub IsTermAnswered : Meaning → Making → Calling → Type 0
+IsTermAnswered m (MakesVariant ty variant) c = c ≡ NoCall
+IsTermAnswered m (MakesStruct ty) c = c ≡ NoCall
+IsTermAnswered m MakesNothing c = IsAnswered m c
 
-kind_takes : (env : Environment) (m : Meaning) (ty : TypeId) (t : Term) (k : TermKind) → IsBuiltKind k
+kind_answered : (env : Environment) (m : Meaning) (ty : TypeId) (t : Term) (k : TermKind) → IsBuiltKind k
     → (is_made_kind k ≡ false → CallingFits env m (ty ∷ []) (calling_by (kind_of k) (impure_callee env t k) (pure_callee env t k)))
-    → TermTakes m (making_kind k) (calling_by (kind_of k) (impure_callee env t k) (pure_callee env t k))
-kind_takes env m ty t (term_kind.Decl false false partial recursive constructor.Internal extractor) i h = turns_fit env m ty (Internal (sym_text env t.name)) (kind_by false partial) (h refl)
-kind_takes env m ty t (term_kind.Decl false false partial recursive (constructor.External func) extractor) i h = turns_fit env m ty (External (sym_text env func)) (kind_by false partial) (h refl)
-kind_takes env m ty t (term_kind.Variant of variant) i h = refl
-kind_takes env m ty t (term_kind.Struct of) i h = refl
-kind_takes env m ty t k i h = absurd i
+    → IsTermAnswered m (making_kind k) (calling_by (kind_of k) (impure_callee env t k) (pure_callee env t k))
+kind_answered env m ty t (term_kind.Decl false false partial recursive constructor.Internal extractor) i h = turns_fit env m ty (Internal (sym_text env t.name)) (kind_by false partial) (h refl)
+kind_answered env m ty t (term_kind.Decl false false partial recursive (constructor.External func) extractor) i h = turns_fit env m ty (External (sym_text env func)) (kind_by false partial) (h refl)
+kind_answered env m ty t (term_kind.Decl true false partial recursive constructor.Internal extractor) i h = cases_fit env m ty (Internal (sym_text env t.name)) (kind_by false partial) (h refl)
+kind_answered env m ty t (term_kind.Decl true false partial recursive (constructor.External func) extractor) i h = cases_fit env m ty (External (sym_text env func)) (kind_by false partial) (h refl)
+kind_answered env m ty t (term_kind.Variant of variant) i h = refl
+kind_answered env m ty t (term_kind.Struct of) i h = refl
+kind_answered env m ty t k i h = absurd i
 
-term_takes : (env : Environment) (m : Meaning) (o : Option Term) → IsSomeAnd o (λ (t : Term). IsBuiltKind t.kind)
-    → (is_made_term o ≡ false → IsSomeAnd o (λ (t : Term). CallingFits env m (t.ret_ty ∷ []) (calling_of env o))) → TermTakes m (making_of o) (calling_of env o)
-term_takes env m None i h = absurd i
-term_takes env m (Some t) i h = kind_takes env m t.ret_ty t t.kind i h
+term_answered : (env : Environment) (m : Meaning) (o : Option Term) → IsSomeAnd o (λ (t : Term). IsBuiltKind t.kind)
+    → (is_made_term o ≡ false → IsSomeAnd o (λ (t : Term). CallingFits env m (t.ret_ty ∷ []) (calling_of env o))) → IsTermAnswered m (making_of o) (calling_of env o)
+term_answered env m None i h = absurd i
+term_answered env m (Some t) i h = kind_answered env m t.ret_ty t t.kind i h
 
 -- a term that is not made is called where it stands
 pub called_here : (env : Environment) (term : TermId) → is_made env term ≡ false → Contains {X = CalledTerm} (unless_made env Constructor term) (record { term = term; role = Constructor })
@@ -153,25 +161,25 @@ abbrev pub IsPlaced : Option Path → Type 0
 IsPlaced None = ⊥
 IsPlaced (Some p) = Unit {0}
 
--- a built expression behind n impure calls, whose variables have paths, whose named constants have values and whose calls take turns
+-- a built expression behind n impure calls, whose variables have paths, whose named constants have values and whose calls are answered
 abbrev mutual
-  pub CallsByTurns : Environment → Meaning → Places → ℕ → Expr → Type 0
-  CallsByTurns env m places n (expr.Var ty x) = IsPlaced (places x.0)
-  CallsByTurns env m places n (expr.ConstBool b) = Unit {0}
-  CallsByTurns env m places n (expr.ConstInt ty k) = Unit {0}
-  CallsByTurns env m places n (expr.ConstPrim ty name) = IsSome (const_of m (sym_text env name))
-  CallsByTurns env m places n (expr.Term ty term es) = TermTakes m (making env term) (calling env term) × AllCallByTurns env m places n es
-  CallsByTurns env m places n (expr.Let ty bs inner) = BindingsCallByTurns env m places n bs × CallsByTurns env m (let_places env bs places n) (n + impure_bindings env bs) inner
+  pub HasAnsweredCalls : Environment → Meaning → Places → ℕ → Expr → Type 0
+  HasAnsweredCalls env m places n (expr.Var ty x) = IsPlaced (places x.0)
+  HasAnsweredCalls env m places n (expr.ConstBool b) = Unit {0}
+  HasAnsweredCalls env m places n (expr.ConstInt ty k) = Unit {0}
+  HasAnsweredCalls env m places n (expr.ConstPrim ty name) = IsSome (const_of m (sym_text env name))
+  HasAnsweredCalls env m places n (expr.Term ty term es) = IsTermAnswered m (making env term) (calling env term) × AreAnsweredCalls env m places n es
+  HasAnsweredCalls env m places n (expr.Let ty bs inner) = HaveAnsweredBindings env m places n bs × HasAnsweredCalls env m (let_places env bs places n) (n + impure_bindings env bs) inner
 
   -- so of expressions in order
-  pub AllCallByTurns : Environment → Meaning → Places → ℕ → Exprs → Type 0
-  AllCallByTurns env m places n NoExpr = Unit {0}
-  AllCallByTurns env m places n (AnExpr e es) = CallsByTurns env m places n e × AllCallByTurns env m places (n + impure env e) es
+  pub AreAnsweredCalls : Environment → Meaning → Places → ℕ → Exprs → Type 0
+  AreAnsweredCalls env m places n NoExpr = Unit {0}
+  AreAnsweredCalls env m places n (AnExpr e es) = HasAnsweredCalls env m places n e × AreAnsweredCalls env m places (n + impure env e) es
 
   -- so of the values of a `let`
-  pub BindingsCallByTurns : Environment → Meaning → Places → ℕ → LetBindings → Type 0
-  BindingsCallByTurns env m places n NoBinding = Unit {0}
-  BindingsCallByTurns env m places n (ABinding x ty e more) = CallsByTurns env m places n e × BindingsCallByTurns env m (with places x.0 (path env e places n)) (n + impure env e) more
+  pub HaveAnsweredBindings : Environment → Meaning → Places → ℕ → LetBindings → Type 0
+  HaveAnsweredBindings env m places n NoBinding = Unit {0}
+  HaveAnsweredBindings env m places n (ABinding x ty e more) = HasAnsweredCalls env m places n e × HaveAnsweredBindings env m (with places x.0 (path env e places n)) (n + impure env e) more
 
 picked_true : (b : Bool) (p : Path) (o : Option Path) → T b → IsPlaced (cond b (Some p) o)
 picked_true true p o t = tt
@@ -205,48 +213,48 @@ pub supplies_less : (env : Environment) (m : Meaning) (terms others : List Calle
 supplies_less env m terms others constants those f g s = record { answers = λ o k. s.answers o (f o k); named = λ ty name k. s.named ty name (g (ty, Named name) k) }
 
 mutual
-  -- terms that are answered lawfully take turns or are made
-  pub calls_by_turns : (e : Expr) (env : Environment) (m : Meaning) (scope : List ℕ) (places : Places) (n : ℕ) → ((x : ℕ) → Contains scope x → IsPlaced (places x))
-      → IsBuiltExpr e → IsInScope scope e → HasBuiltTerms env.terms e → Supplies env m (called_by env e) (expr_constants e) → CallsByTurns env m places n e
-  calls_by_turns (expr.Var ty x) env m scope places n p b v i h = p x.0 v
-  calls_by_turns (expr.ConstBool c) env m scope places n p b v i h = tt
-  calls_by_turns (expr.ConstInt ty k) env m scope places n p b v i h = tt
-  calls_by_turns (expr.ConstPrim ty name) env m scope places n p b v i h = h.named ty name (head_contained (ty, Named name) [])
-  calls_by_turns (expr.Term ty term es) env m scope places n p b v i h =
+  -- terms that are called lawfully are answered
+  pub calls_answered : (e : Expr) (env : Environment) (m : Meaning) (scope : List ℕ) (places : Places) (n : ℕ) → ((x : ℕ) → Contains scope x → IsPlaced (places x))
+      → IsBuiltExpr e → IsInScope scope e → HasBuiltTerms env.terms e → Supplies env m (called_by env e) (expr_constants e) → HasAnsweredCalls env m places n e
+  calls_answered (expr.Var ty x) env m scope places n p b v i h = p x.0 v
+  calls_answered (expr.ConstBool c) env m scope places n p b v i h = tt
+  calls_answered (expr.ConstInt ty k) env m scope places n p b v i h = tt
+  calls_answered (expr.ConstPrim ty name) env m scope places n p b v i h = h.named ty name (head_contained (ty, Named name) [])
+  calls_answered (expr.Term ty term es) env m scope places n p b v i h =
       let o : CalledTerm = record { term = term; role = Constructor } in (
-        term_takes env m (slice_get env.terms term.0) i.0 (λ e. h.answers o (Contains-append_right (called_by_all env es) (unless_made env Constructor term) o (called_here env term e))),
-        all_call_by_turns es env m scope places n p b v i.1 (supplies_less env m (called_by env (expr.Term ty term es)) (called_by_all env es) (exprs_constants es) (exprs_constants es) (λ q k. Contains-append_left (called_by_all env es) (unless_made env Constructor term) q k) (λ c k. k) h),
+        term_answered env m (slice_get env.terms term.0) i.0 (λ e. h.answers o (Contains-append_right (called_by_all env es) (unless_made env Constructor term) o (called_here env term e))),
+        all_calls_answered es env m scope places n p b v i.1 (supplies_less env m (called_by env (expr.Term ty term es)) (called_by_all env es) (exprs_constants es) (exprs_constants es) (λ q k. Contains-append_left (called_by_all env es) (unless_made env Constructor term) q k) (λ c k. k) h),
       )
-  calls_by_turns (expr.Let ty bs inner) env m scope places n p b v i h =
+  calls_answered (expr.Let ty bs inner) env m scope places n p b v i h =
       let e = expr.Let ty bs inner in (
-        bindings_call_by_turns bs env m scope places n p b.0 v.0 i.0
+        bindings_answered bs env m scope places n p b.0 v.0 i.0
             (supplies_less env m (called_by env e) (called_by_bindings env bs) (expr_constants e) (bindings_constants bs) (λ o k. Contains-append_left (called_by_bindings env bs) (called_by env inner) o k) (λ c k. Contains-append_left (bindings_constants bs) (expr_constants inner) c k) h),
-        calls_by_turns inner env m (let_scope scope bs) (let_places env bs places n) (n + impure_bindings env bs) (let_placed bs env scope places n p) b.1 v.1 i.1
+        calls_answered inner env m (let_scope scope bs) (let_places env bs places n) (n + impure_bindings env bs) (let_placed bs env scope places n p) b.1 v.1 i.1
             (supplies_less env m (called_by env e) (called_by env inner) (expr_constants e) (expr_constants inner) (λ o k. Contains-append_right (called_by_bindings env bs) (called_by env inner) o k) (λ c k. Contains-append_right (bindings_constants bs) (expr_constants inner) c k) h),
       )
 
   -- so of expressions in order
-  pub all_call_by_turns : (es : Exprs) (env : Environment) (m : Meaning) (scope : List ℕ) (places : Places) (n : ℕ) → ((x : ℕ) → Contains scope x → IsPlaced (places x))
-      → AreBuiltExprs es → AreInScope scope es → AllHaveBuiltTerms env.terms es → Supplies env m (called_by_all env es) (exprs_constants es) → AllCallByTurns env m places n es
-  all_call_by_turns NoExpr env m scope places n p b v i h = tt
-  all_call_by_turns (AnExpr e es) env m scope places n p b v i h =
+  pub all_calls_answered : (es : Exprs) (env : Environment) (m : Meaning) (scope : List ℕ) (places : Places) (n : ℕ) → ((x : ℕ) → Contains scope x → IsPlaced (places x))
+      → AreBuiltExprs es → AreInScope scope es → AllHaveBuiltTerms env.terms es → Supplies env m (called_by_all env es) (exprs_constants es) → AreAnsweredCalls env m places n es
+  all_calls_answered NoExpr env m scope places n p b v i h = tt
+  all_calls_answered (AnExpr e es) env m scope places n p b v i h =
       let terms = called_by_all env (AnExpr e es) in
       let constants = exprs_constants (AnExpr e es) in (
-        calls_by_turns e env m scope places n p b.0 v.0 i.0
+        calls_answered e env m scope places n p b.0 v.0 i.0
             (supplies_less env m terms (called_by env e) constants (expr_constants e) (λ o k. Contains-append_left (called_by env e) (called_by_all env es) o k) (λ c k. Contains-append_left (expr_constants e) (exprs_constants es) c k) h),
-        all_call_by_turns es env m scope places (n + impure env e) p b.1 v.1 i.1
+        all_calls_answered es env m scope places (n + impure env e) p b.1 v.1 i.1
             (supplies_less env m terms (called_by_all env es) constants (exprs_constants es) (λ o k. Contains-append_right (called_by env e) (called_by_all env es) o k) (λ c k. Contains-append_right (expr_constants e) (exprs_constants es) c k) h),
       )
 
   -- so of the values of a `let`
-  pub bindings_call_by_turns : (bs : LetBindings) (env : Environment) (m : Meaning) (scope : List ℕ) (places : Places) (n : ℕ) → ((x : ℕ) → Contains scope x → IsPlaced (places x))
-      → AreBuiltBindings bs → AreLetsInScope scope bs → BindingsHaveBuiltTerms env.terms bs → Supplies env m (called_by_bindings env bs) (bindings_constants bs) → BindingsCallByTurns env m places n bs
-  bindings_call_by_turns NoBinding env m scope places n p b v i h = tt
-  bindings_call_by_turns (ABinding x ty e more) env m scope places n p b v i h =
+  pub bindings_answered : (bs : LetBindings) (env : Environment) (m : Meaning) (scope : List ℕ) (places : Places) (n : ℕ) → ((x : ℕ) → Contains scope x → IsPlaced (places x))
+      → AreBuiltBindings bs → AreLetsInScope scope bs → BindingsHaveBuiltTerms env.terms bs → Supplies env m (called_by_bindings env bs) (bindings_constants bs) → HaveAnsweredBindings env m places n bs
+  bindings_answered NoBinding env m scope places n p b v i h = tt
+  bindings_answered (ABinding x ty e more) env m scope places n p b v i h =
       let terms = called_by_bindings env (ABinding x ty e more) in
       let constants = bindings_constants (ABinding x ty e more) in (
-        calls_by_turns e env m scope places n p b.0 v.0 i.0
+        calls_answered e env m scope places n p b.0 v.0 i.0
             (supplies_less env m terms (called_by env e) constants (expr_constants e) (λ o k. Contains-append_left (called_by env e) (called_by_bindings env more) o k) (λ c k. Contains-append_left (expr_constants e) (bindings_constants more) c k) h),
-        bindings_call_by_turns more env m (scope ++ x.0 ∷ []) (with places x.0 (path env e places n)) (n + impure env e) (with_placed scope places x.0 (path env e places n) p) b.1 v.1 i.1
+        bindings_answered more env m (scope ++ x.0 ∷ []) (with places x.0 (path env e places n)) (n + impure env e) (with_placed scope places x.0 (path env e places n) p) b.1 v.1 i.1
             (supplies_less env m terms (called_by_bindings env more) constants (bindings_constants more) (λ o k. Contains-append_right (called_by env e) (called_by_bindings env more) o k) (λ c k. Contains-append_right (expr_constants e) (bindings_constants more) c k) h),
       )
