@@ -20,7 +20,7 @@ use Rattle.isle_core.specs.Block.{Control}
 use Rattle.isle_core.specs.BlockViews.{SeenStep, block_of}
 use Rattle.isle_core.specs.BlockRun.{bind_all, block_run, control_run, block_outcome}
 use Rattle.isle_core.specs.StandsFor.{EachOnce}
-use Rattle.isle_core.specs.Serializable.{constraint_tests, IsSerializableRule}
+use Rattle.isle_core.specs.Serializable.{IsSerializableRule}
 use Rattle.isle_core.specs.Rule.{Environment}
 use Rattle.isle_blocks.specs.Order.{by_priority}
 use Rattle.isle_blocks.specs.Inners.{FindsInners}
@@ -30,10 +30,11 @@ use Rattle.isle_blocks.specs.Chain.{no_tests, chain_steps, chain}
 use Rattle.isle_blocks.proofs.LawFirst.{first, first_is_highest}
 use Rattle.isle_blocks.proofs.LawOrder.{all_in_order}
 use Rattle.isle_blocks.proofs.LawBinds.{last_binds_run}
-use Rattle.isle_blocks.proofs.NeededRuns.{goes_on, needs_still}
+use Rattle.isle_blocks.proofs.NeededRuns.{AreStill, goes_on, needs_still}
+use Rattle.isle_blocks.proofs.StillRules.{StillLast, StillEquated, StillMatched, StillRule}
 
-if_inside : (b c : Bool) (x y z : Went) → x ≡ cond c y z → cond b x z ≡ cond (b && c) y z
-if_inside true c x y z e = e
+if_inside : (b c : Bool) (x y z : Went) → (b ≡ true → x ≡ cond c y z) → cond b x z ≡ cond (b && c) y z
+if_inside true c x y z e = e refl
 if_inside false c x y z e = refl
 
 -- what a step does at first
@@ -44,44 +45,52 @@ step_run env m args ps s = then_go (bind_all env m args ps s.0 nothing_known [])
 abbrev DoesWhere : Environment → Meaning → List Value → List Path → SeenStep → List Test → Went → Type 0
 DoesWhere env m args ps s ts y = step_run env m args ps s ≡ cond (all_hold env m (value_at env m args nothing_known) ts) y (Goes nothing_known [])
 
--- binding what is needed changes nothing
-step_still : (env : Environment) (m : Meaning) (args : List Value) (bs : List Binding) (bound : List ℕ) (reads : List BindingId) (c : Control) → step_run env m args (paths_of bs) (needs bs bound reads, c) ≡ control_run env m args (paths_of bs) c nothing_known []
-step_still env m args bs bound reads c = ap (λ w. then_go w (control_run env m args (paths_of bs) c)) (needs_still env m args bs bound reads nothing_known [])
+-- these constraints hold
+abbrev pub AllHold : Environment → Meaning → List Value → List Path → List (BindingId × Constraint) → Type 0
+AllHold env m args ps cs = all_hold env m (value_at env m args nothing_known) (map (is_test ps) cs) ≡ true
 
-matched_does : (shows : Shows) (cs : List (BindingId × Constraint)) (ts : List Test) (inner : Behind) (y : Went) (env : Environment) (m : Meaning) (args : List Value) (bs : List Binding)
-    → ((bound : List ℕ) → DoesWhere env m args (paths_of bs) (inner bound) ts y) → (bound : List ℕ) → DoesWhere env m args (paths_of bs) (all_matched bs shows cs inner bound) (map (is_test (paths_of bs)) cs ++ ts) y
-matched_does shows [] ts inner y env m args bs h bound = h bound
-matched_does shows (c ∷ cs) ts inner y env m args bs h bound =
+-- one before others that hold
+pub hold_more : (env : Environment) (m : Meaning) (args : List Value) (ps : List Path) (c : BindingId × Constraint) (cs : List (BindingId × Constraint)) → meets env m c.1 (value_at env m args nothing_known (at ps c.0)) ≡ true → AllHold env m args ps cs → AllHold env m args ps (c ∷ cs)
+hold_more env m args ps c cs is all = ap (λ b. b && all_hold env m (value_at env m args nothing_known) (map (is_test ps) cs)) is ∙ all
+
+-- binding what is needed changes nothing
+step_still : (env : Environment) (m : Meaning) (args : List Value) (ps : List Path) (ns : List BindingId) (c : Control) → AreStill env ps ns → step_run env m args ps (ns, c) ≡ control_run env m args ps c nothing_known []
+step_still env m args ps ns c h = ap (λ w. then_go w (control_run env m args ps c)) (needs_still env m args ps ns nothing_known [] h)
+
+matched_does : (shows : Shows) (cs : List (BindingId × Constraint)) (ts : List Test) (inner : Behind) (y : Went) (env : Environment) (m : Meaning) (args : List Value) (bs : List Binding) (P : List ℕ → Type 0)
+    → ((bound : List ℕ) → P bound → AllHold env m args (paths_of bs) cs → DoesWhere env m args (paths_of bs) (inner bound) ts y) → (bound : List ℕ) → StillMatched env bs shows cs P bound → DoesWhere env m args (paths_of bs) (all_matched bs shows cs inner bound) (map (is_test (paths_of bs)) cs ++ ts) y
+matched_does shows [] ts inner y env m args bs P h bound still = h bound still refl
+matched_does shows (c ∷ cs) ts inner y env m args bs P h bound still =
     let ps = paths_of bs in
     let within = bound_within (bound_by bound (needs bs bound (c.0 ∷ []))) (shows c.0 c.1) in
-    step_still env m args bs bound (c.0 ∷ []) (all_matched bs shows (c ∷ cs) inner bound).1
+    step_still env m args ps (needs bs bound (c.0 ∷ [])) (all_matched bs shows (c ∷ cs) inner bound).1 still.0
     ∙ if_inside (meets env m c.1 (value_at env m args nothing_known (at ps c.0))) (all_hold env m (value_at env m args nothing_known) (map (is_test ps) cs ++ ts)) _ _ _
-    (goes_on (step_run env m args ps (all_matched bs shows cs inner within)) ∙ matched_does shows cs ts inner y env m args bs h within)
+    (λ is. goes_on (step_run env m args ps (all_matched bs shows cs inner within)) ∙ matched_does shows cs ts inner y env m args bs P (λ b k all. h b k (hold_more env m args ps c cs is all)) within still.1)
 
-equated_does : (es : List (BindingId × BindingId)) (inner : Behind) (y : Went) (env : Environment) (m : Meaning) (args : List Value) (bs : List Binding)
-    → ((bound : List ℕ) → step_run env m args (paths_of bs) (inner bound) ≡ y) → (bound : List ℕ) → DoesWhere env m args (paths_of bs) (all_equated bs es inner bound) (map (equal_test (paths_of bs)) es) y
-equated_does [] inner y env m args bs h bound = h bound
-equated_does (e ∷ es) inner y env m args bs h bound =
+equated_does : (es : List (BindingId × BindingId)) (inner : Behind) (y : Went) (env : Environment) (m : Meaning) (args : List Value) (bs : List Binding) (P : List ℕ → Type 0)
+    → ((bound : List ℕ) → P bound → step_run env m args (paths_of bs) (inner bound) ≡ y) → (bound : List ℕ) → StillEquated env bs es P bound → DoesWhere env m args (paths_of bs) (all_equated bs es inner bound) (map (equal_test (paths_of bs)) es) y
+equated_does [] inner y env m args bs P h bound still = h bound still
+equated_does (e ∷ es) inner y env m args bs P h bound still =
     let ps = paths_of bs in
     let within = bound_by bound (needs bs bound (e.0 ∷ e.1 ∷ [])) in
-    step_still env m args bs bound (e.0 ∷ e.1 ∷ []) (all_equated bs (e ∷ es) inner bound).1
+    step_still env m args ps (needs bs bound (e.0 ∷ e.1 ∷ [])) (all_equated bs (e ∷ es) inner bound).1 still.0
     ∙ if_inside (equal_held (value_at env m args nothing_known (at ps e.0)) (value_at env m args nothing_known (at ps e.1))) (all_hold env m (value_at env m args nothing_known) (map (equal_test ps) es)) _ _ _
-    (goes_on (step_run env m args ps (all_equated bs es inner within)) ∙ equated_does es inner y env m args bs h within)
+    (λ is. goes_on (step_run env m args ps (all_equated bs es inner within)) ∙ equated_does es inner y env m args bs P h within still.1)
 
 -- ---- rules that are ready
 
 last_runs : (env : Environment) (t : Term) (m : Meaning) (args : List Value) (bs : List Binding) (inners : ℕ → Option BindingId) (f : FlatRule) → FindsInners bs inners → EachOnce (paths_of bs) → IsSerializableRule env t (paths_of bs) f
-    → (bound : List ℕ) → step_run env m args (paths_of bs) (last_step bs inners f bound) ≡ flat_run env m args (paths_of bs) f
-last_runs env t m args bs inners f found once h bound =
-    ap (λ w. then_go w (returns env m args (at (paths_of bs) f.result))) (last_binds_run env t (constraint_tests (paths_of bs) f) m args bs inners found once f bound h.calls nothing_known [])
+    → AllHold env m args (paths_of bs) f.constraints → (bound : List ℕ) → StillLast env bs inners f bound → step_run env m args (paths_of bs) (last_step bs inners f bound) ≡ flat_run env m args (paths_of bs) f
+last_runs env t m args bs inners f found once h all bound still =
+    ap (λ w. then_go w (returns env m args (at (paths_of bs) f.result))) (last_binds_run env t m args bs inners found once f bound all h.calls still nothing_known [])
 
-pub rule_does : (shows : Shows) (env : Environment) (t : Term) (m : Meaning) (args : List Value) (bs : List Binding) (inners : ℕ → Option BindingId) (f : FlatRule) → FindsInners bs inners → EachOnce (paths_of bs) → IsSerializableRule env t (paths_of bs) f
+pub rule_does : (shows : Shows) (env : Environment) (t : Term) (m : Meaning) (args : List Value) (bs : List Binding) (inners : ℕ → Option BindingId) (f : FlatRule) → FindsInners bs inners → EachOnce (paths_of bs) → IsSerializableRule env t (paths_of bs) f → StillRule env bs shows inners f
     → DoesWhere env m args (paths_of bs) (rule_step bs shows inners f) (flat_tests (paths_of bs) f) (flat_run env m args (paths_of bs) f)
-rule_does shows env t m args bs inners f found once h =
+rule_does shows env t m args bs inners f found once h still =
     let ps = paths_of bs in
     let y = flat_run env m args ps f in
-    matched_does shows f.constraints (map (equal_test ps) f.equals) (all_equated bs f.equals (last_step bs inners f)) y env m args bs
-    (equated_does f.equals (last_step bs inners f) y env m args bs (last_runs env t m args bs inners f found once h)) []
+    matched_does shows f.constraints (map (equal_test ps) f.equals) (all_equated bs f.equals (last_step bs inners f)) y env m args bs (StillEquated env bs f.equals (StillLast env bs inners f))
+    (λ bound k all. equated_does f.equals (last_step bs inners f) y env m args bs (StillLast env bs inners f) (last_runs env t m args bs inners f found once h all) bound k) [] still
 
 -- a rule without tests holds
 pub untested_holds : (cs : List (BindingId × Constraint)) (es : List (BindingId × BindingId)) (env : Environment) (m : Meaning) (args : List Value) (ps : List Path) → no_tests cs es ≡ true → all_hold env m (value_at env m args nothing_known) (map (is_test ps) cs ++ map (equal_test ps) es) ≡ true
@@ -95,12 +104,12 @@ result_ends (Goes known made) env m args p more = refl
 result_ends (Ends o) env m args p more = refl
 
 chain_gives : (shows : Shows) (env : Environment) (t : Term) (m : Meaning) (args : List Value) (bs : List Binding) (inners : ℕ → Option BindingId) (kind : ReturnKind) → FindsInners bs inners → EachOnce (paths_of bs)
-    → (fs : List FlatRule) → AllByRecursion (IsSerializableRule env t (paths_of bs)) fs
+    → (fs : List FlatRule) → AllByRecursion (IsSerializableRule env t (paths_of bs)) fs → AllByRecursion (StillRule env bs shows inners) fs
     → gave kind (block_run env m args (paths_of bs) (block_of (chain_steps bs shows inners fs)) nothing_known []) ≡ given env m args (paths_of bs) kind (first (flat_holds env m args (paths_of bs)) fs)
-chain_gives shows env t m args bs inners kind found once [] h = refl
-chain_gives shows env t m args bs inners kind found once (f ∷ fs) h =
-    ap (λ w. gave kind (then_go w (block_run env m args (paths_of bs) (block_of (cond (no_tests f.constraints f.equals) [] (chain_steps bs shows inners fs)))))) (rule_does shows env t m args bs inners f found once h.0)
-    ∙ pick (flat_holds env m args (paths_of bs) f) (no_tests f.constraints f.equals) (untested_holds f.constraints f.equals env m args (paths_of bs)) (chain_gives shows env t m args bs inners kind found once fs h.1)
+chain_gives shows env t m args bs inners kind found once [] h still = refl
+chain_gives shows env t m args bs inners kind found once (f ∷ fs) h still =
+    ap (λ w. gave kind (then_go w (block_run env m args (paths_of bs) (block_of (cond (no_tests f.constraints f.equals) [] (chain_steps bs shows inners fs)))))) (rule_does shows env t m args bs inners f found once h.0 still.0)
+    ∙ pick (flat_holds env m args (paths_of bs) f) (no_tests f.constraints f.equals) (untested_holds f.constraints f.equals env m args (paths_of bs)) (chain_gives shows env t m args bs inners kind found once fs h.1 still.1)
   where
     ps : List Path
     ps = paths_of bs
@@ -112,6 +121,6 @@ chain_gives shows env t m args bs inners kind found once (f ∷ fs) h =
     pick false true k e = let bad = k refl in cc
 
 pub chain_means : (shows : Shows) (env : Environment) (t : Term) (m : Meaning) (args : List Value) (bs : List Binding) (inners : ℕ → Option BindingId) (kind : ReturnKind) → FindsInners bs inners → EachOnce (paths_of bs)
-    → (fs : List FlatRule) → AllByRecursion (IsSerializableRule env t (paths_of bs)) fs → block_outcome env m args (paths_of bs) (chain bs shows inners fs) kind ≡ set_outcome env m args (paths_of bs) fs kind
-chain_means shows env t m args bs inners kind found once fs h =
-    chain_gives shows env t m args bs inners kind found once (by_priority fs) (all_in_order (IsSerializableRule env t (paths_of bs)) fs h) ∙ ap (given env m args (paths_of bs) kind) (first_is_highest (flat_holds env m args (paths_of bs)) fs)
+    → (fs : List FlatRule) → AllByRecursion (IsSerializableRule env t (paths_of bs)) fs → AllByRecursion (StillRule env bs shows inners) fs → block_outcome env m args (paths_of bs) (chain bs shows inners fs) kind ≡ set_outcome env m args (paths_of bs) fs kind
+chain_means shows env t m args bs inners kind found once fs h still =
+    chain_gives shows env t m args bs inners kind found once (by_priority fs) (all_in_order (IsSerializableRule env t (paths_of bs)) fs h) (all_in_order (StillRule env bs shows inners) fs still) ∙ ap (given env m args (paths_of bs) kind) (first_is_highest (flat_holds env m args (paths_of bs)) fs)

@@ -8,8 +8,10 @@ pub mod LawOrder
 pub mod LawFirst
 pub mod MoreBound
 pub mod NeededRuns
+pub mod StillRules
 pub mod Behind
 pub mod NeededBound
+pub mod MadeBefore
 pub mod LawBinds
 pub mod LawBound
 pub mod LawChain

@@ -1,11 +1,12 @@
 -- Bind orders behind one another.
-use Rattle.std.proofs.Common.{◌≡◌, ℕ, ◌+◌, ◌<◌, zero, suc, List, [], ◌∷◌, ◌++◌, length, drop, get_or, true, false, cond, Some, refl, sym, ap, ◌∙◌, append_assoc, subst}
+use Rattle.std.proofs.Common.{◌≡◌, ℕ, ◌+◌, ◌<◌, zero, suc, List, [], ◌∷◌, ◌++◌, length, drop, get_or, true, false, cond, Option, Some, refl, sym, ap, ◌∙◌, append_assoc, subst}
 use Rattle.std.specs.Prelude.{slice_get}
 use Rattle.std.proofs.lemmas.List.{drop_more, append-nil}
 use Rattle.isle_core.specs.declared.BindingId.{BindingId}
 use Rattle.isle_core.specs.declared.rule_sets.Binding.{Binding}
 use Rattle.isle_core.specs.Bindable.{bound_by}
 use Rattle.isle_blocks.specs.Needed.{parts_of, is_bound, each_needed, with_parts, needed}
+use Rattle.isle_blocks.specs.Nest.{was_bound, left_one, left_calls}
 use Rattle.isle_blocks.specs.Pushed.{Pushes}
 
 pub bound_append : (bound : List ℕ) (xs ys : List BindingId) → bound_by bound (xs ++ ys) ≡ bound_by (bound_by bound xs) ys
@@ -67,3 +68,14 @@ left_more one each all bs i b d start bound mid begun out between begins lt item
 
 pub left_none : (all left : List BindingId) (start bound : List ℕ) (begun out : List BindingId) → left ≡ [] → Left all left start bound begun out → Pushes all start bound begun out
 left_none all left start bound begun out none k = k bound out (so_named (sym none) (pushed_nil bound out))
+
+-- ---- calls that are left
+
+-- one call more
+pub left_step : (inners : ℕ → Option BindingId) (bound : List ℕ) (calls : List BindingId) (i : ℕ) (call d : BindingId) (out new all : List BindingId) → i < length calls → call ≡ get_or calls i d → new ≡ out ++ left_one (was_bound inners bound call) call
+    → out ++ left_calls inners bound (drop i calls) ≡ all → new ++ left_calls inners bound (drop (i + 1) calls) ≡ all
+left_step inners bound calls i call d out new all lt item is h =
+    let each = left_calls inners bound in
+    let rest = each (drop (i + 1) calls) in
+    let first : each (drop i calls) ≡ left_one (was_bound inners bound call) call ++ rest = ap each (drop_more calls i d lt) ∙ ap (λ x. each (x ∷ drop (i + 1) calls)) (sym item) in
+    ap (λ x. x ++ rest) is ∙ append_assoc out (left_one (was_bound inners bound call) call) rest ∙ ap (λ x. out ++ x) (sym first) ∙ h

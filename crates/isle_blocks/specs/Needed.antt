@@ -1,4 +1,5 @@
--- What is bound before bindings are read: the calls of extractors, parts of their answers, and the made values on the way to them.
+-- What is bound before bindings are read: calls that aren't bound yet, also of extractors, parts of their answers, and the made values on the
+-- way to them.
 use Rattle.std.specs.Prelude.{ℕ, zero, suc, List, [], ◌∷◌, ◌++◌, length, Bool, ◌==◌, Option, Some, None, if◌then◌else◌, slice_get}
 use Rattle.std.specs.List.{list_any}
 use Rattle.isle_core.specs.declared.BindingId.{BindingId}
@@ -6,8 +7,8 @@ use Rattle.isle_core.specs.declared.rule_sets.Binding.{Binding}
 use Rattle.isle_core.specs.declared.rule_sets.Binding.TheVariants as binding
 use Rattle.isle_core.specs.Bindable.{bound_by}
 
--- what a binding is made over that is bound where it is first read: the call of an extractor, a part of a tuple, or a made value; a
--- struct without fields is read by its name
+-- what a binding is made over that is bound where it is first read: a call, also of an extractor, a part of a tuple, or a made value; a
+-- struct without fields is read by its name. An impure call is bound before all that reads it, so only pure ones are bound here
 abbrev pub parts_of : Option Binding → Option (List BindingId)
 parts_of (Some (binding.Extractor term parameter)) = Some (parameter ∷ [])
 parts_of (Some (binding.MakeVariant ty variant fields)) = Some fields
@@ -17,7 +18,7 @@ parts_of (Some (binding.ConstBool val ty)) = None
 parts_of (Some (binding.ConstInt val ty)) = None
 parts_of (Some (binding.ConstPrim val)) = None
 parts_of (Some (binding.Argument index)) = None
-parts_of (Some (binding.Constructor term parameters instance)) = None
+parts_of (Some (binding.Constructor term parameters instance)) = Some parameters
 parts_of (Some (binding.Iterator source)) = None
 parts_of (Some (binding.MatchVariant source variant field)) = None
 parts_of (Some (binding.ExtractStruct source field)) = None

@@ -1,5 +1,5 @@
 -- The step of a rule: its tests, nested round its calls and its result.
-use Rattle.std.specs.Prelude.{ℕ, List, [], ◌∷◌, ◌++◌, Option, Some, None, slice_get}
+use Rattle.std.specs.Prelude.{ℕ, List, [], ◌∷◌, ◌++◌, Bool, true, false, ◌&&◌, Option, Some, None, slice_get}
 use Rattle.isle_core.specs.declared.BindingId.{BindingId}
 use Rattle.isle_core.specs.declared.rule_sets.Binding.{Binding}
 use Rattle.isle_core.specs.declared.rule_sets.Constraint.{Constraint}
@@ -8,7 +8,7 @@ use Rattle.isle_core.specs.ArmPlaces.{bound_within}
 use Rattle.isle_core.specs.Bindable.{bound_by}
 use Rattle.isle_core.specs.Block.{Block, Stop, Step, Match, Equal, Return, NoArm, Arm}
 use Rattle.isle_core.specs.BlockViews.{SeenStep}
-use Rattle.isle_blocks.specs.Needed.{needs, parameters_of}
+use Rattle.isle_blocks.specs.Needed.{is_bound, needs, parameters_of}
 
 -- ---- calls
 
@@ -26,9 +26,29 @@ abbrev pub binds : List Binding → (ℕ → Option BindingId) → List ℕ → 
 binds bs inners bound [] = []
 binds bs inners bound (c ∷ cs) = call_binds bs inners bound c ++ binds bs inners (bound_by bound (call_binds bs inners bound c)) cs
 
--- calls in order, and then what the result is read with
+-- a call is bound, and its inner value where it has one
+abbrev pub bound_with : List ℕ → BindingId → Option BindingId → Bool
+bound_with bound c None = is_bound bound c
+bound_with bound c (Some b) = is_bound bound c && is_bound bound b
+
+-- so of a call by its number
+abbrev pub was_bound : (ℕ → Option BindingId) → List ℕ → BindingId → Bool
+was_bound inners bound c = bound_with bound c (inners c.0)
+
+-- a call, where it is not bound
+abbrev pub left_one : Bool → BindingId → List BindingId
+left_one true c = []
+left_one false c = c ∷ []
+
+-- the calls that are still to be bound: a test before may have bound a pure one
+abbrev pub left_calls : (ℕ → Option BindingId) → List ℕ → List BindingId → List BindingId
+left_calls inners bound [] = []
+left_calls inners bound (c ∷ cs) = left_one (was_bound inners bound c) c ++ left_calls inners bound cs
+
+-- these in order, and then what the result is read with
 abbrev pub last_binds : List Binding → (ℕ → Option BindingId) → List ℕ → FlatRule → List BindingId
-last_binds bs inners bound f = binds bs inners bound f.ordered ++ needs bs (bound_by bound (binds bs inners bound f.ordered)) (f.result ∷ [])
+last_binds bs inners bound f =
+    binds bs inners bound (left_calls inners bound f.ordered) ++ needs bs (bound_by bound (binds bs inners bound (left_calls inners bound f.ordered))) (f.result ∷ [])
 
 -- a rule's calls and its result
 abbrev pub last_step : List Binding → (ℕ → Option BindingId) → FlatRule → List ℕ → SeenStep

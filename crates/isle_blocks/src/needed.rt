@@ -1,4 +1,5 @@
-//! What is bound before bindings are read: the calls of extractors, parts of their answers, and the made values on the way to them.
+//! What is bound before bindings are read: calls that aren't bound yet, also of extractors, parts of their answers, and the made
+//! values on the way to them.
 
 ghost use Rattle.std.specs.Prelude.{◌≡◌, OnOk, [], ◌∷◌, Some as Is, option_map, slice_get};
 ghost use Rattle.isle_core.specs.declared.TypeId.{TypeId as TypeIdOf};
@@ -40,6 +41,7 @@ fn parts_of<'a>(binding: &'a Binding) -> Option<&'a [BindingId]>
     ensures { option_map (λ parts. parts.now) result ≡ Needed.parts_of (Is binding.now) }
 {
     match binding {
+        Binding::Constructor { parameters, .. } => Some(parameters.as_slice()),
         Binding::Extractor { parameter, .. } => Some(slice::from_ref(parameter)),
         Binding::MatchTuple { source, .. } => Some(slice::from_ref(source)),
         Binding::MakeVariant { fields, .. } => Some(fields.as_slice()),
@@ -48,7 +50,6 @@ fn parts_of<'a>(binding: &'a Binding) -> Option<&'a [BindingId]>
         | Binding::ConstInt { .. }
         | Binding::ConstPrim { .. }
         | Binding::Argument { .. }
-        | Binding::Constructor { .. }
         | Binding::Iterator { .. }
         | Binding::MatchVariant { .. }
         | Binding::ExtractStruct { .. }
@@ -67,8 +68,8 @@ fn parts_at<'a>(bindings: &'a [Binding], binding: BindingId) -> Option<&'a [Bind
     }
 }
 
-// Whether a binding is among those that are bound.
-fn is_bound(bound: &Scope, binding: BindingId) -> bool
+/// Whether a binding is among those that are bound.
+pub fn is_bound(bound: &Scope, binding: BindingId) -> bool
     ensures { result ≡ Needed.is_bound bound.now binding }
 {
     bound.has(binding.index())

@@ -1,4 +1,4 @@
-ghost use Rattle.std.specs.Prelude.{◌≡◌, IfOk, OnOk, [], ◌∷◌};
+ghost use Rattle.std.specs.Prelude.{◌≡◌, IfOk, OnOk, [], ◌∷◌, ◌++◌};
 ghost use Rattle.isle_core.specs.ArmPlaces.{bound_within};
 ghost use Rattle.isle_core.specs.Block as Blocks;
 ghost use Rattle.isle_core.specs.BlockViews as BlockViews;
@@ -6,7 +6,7 @@ ghost use Rattle.isle_blocks.specs.Nest as Nest;
 ghost use Rattle.isle_blocks.specs.Pushed.{Pushes};
 ghost use Rattle.isle_blocks.specs.Tables.{shows_in, inners_in};
 
-use crate::needed::{parameters_at, push_needs, push_one};
+use crate::needed::{is_bound, parameters_at, push_needs, push_one};
 use crate::tables::Tables;
 use isle_core::{
     BindingId, Block, Constraint, ControlFlow, EvalStep, FlatRule, List, MatchArm, Pos,
@@ -112,8 +112,51 @@ fn push_calls(
     Ok(())
 }
 
-// Binds the calls of a rule, and then what its result is read with.
+// Whether a call is bound, and its inner value where it has one.
+fn was_bound(tables: &Tables<'_>, bound: &Scope, call: BindingId) -> bool
+    ensures { result ≡ Nest.was_bound (inners_in tables.now) bound.now call }
+{
+    match tables.inners.get(&call.index()) {
+        None => is_bound(bound, call),
+        Some(inner) => is_bound(bound, call) && is_bound(bound, *inner),
+    }
+}
+
+// Puts a call behind others, where it is still to be bound.
+fn push_left(
+    tables: &Tables<'_>,
+    bound: &Scope,
+    call: BindingId,
+    left: &mut Vec<BindingId>,
+) -> Result<(), AllocError>
+    ensures { OnOk result (left.new.items ≡ left.old.items ++ Nest.left_one (Nest.was_bound (inners_in tables.now) bound.now call) call) }
+{
+    if was_bound(tables, bound, call) {
+        return Ok(());
+    }
+    left.push(call)?;
+    Ok(())
+}
+
+// The calls that are still to be bound, in order.
+fn left_calls(
+    alloc: Global,
+    tables: &Tables<'_>,
+    bound: &Scope,
+    calls: &[BindingId],
+) -> Result<Vec<BindingId>, AllocError>
+    ensures { IfOk result (λ left. left.items ≡ Nest.left_calls (inners_in tables.now) bound.now calls.now) }
+{
+    let mut left = Vec::new(alloc);
+    for call in calls {
+        push_left(tables, bound, *call, &mut left)?;
+    }
+    Ok(left)
+}
+
+// Binds the calls of a rule that no test bound, and then what its result is read with.
 fn push_last(
+    alloc: Global,
     tables: &Tables<'_>,
     bound: &mut Scope,
     rule: &FlatRule,
@@ -121,7 +164,8 @@ fn push_last(
 ) -> Result<(), AllocError>
     ensures { OnOk result (Pushes (Nest.last_binds tables.now.bindings.now (inners_in tables.now) bound.old rule.now) bound.old bound.new order.old.items order.new.items) }
 {
-    push_calls(tables, bound, rule.ordered.as_slice(), order)?;
+    let calls = left_calls(alloc, tables, bound, rule.ordered.as_slice())?;
+    push_calls(tables, bound, calls.as_slice(), order)?;
     push_needs(tables.bindings, bound, slice::from_ref(&rule.result), order)?;
     Ok(())
 }
@@ -144,7 +188,7 @@ fn last_step(
     ensures { IfOk result (λ s. BlockViews.step s ≡ Nest.last_step tables.now.bindings.now (inners_in tables.now) rule.now bound.old) }
 {
     let mut order = Vec::new(alloc);
-    push_last(tables, bound, rule, &mut order)?;
+    push_last(alloc, tables, bound, rule, &mut order)?;
     Ok(step_of(order, returned(rule.pos, rule.result)))
 }
 

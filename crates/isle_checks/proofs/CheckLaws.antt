@@ -9,14 +9,13 @@ use Rattle.isle_core.specs.Path.{Path, at}
 use Rattle.isle_core.specs.Tests.{Is, Equal, rule_tests}
 use Rattle.isle_core.specs.RuleSet.{is_test, equal_test, flat_tests}
 use Rattle.isle_core.specs.StandsFor.{EachOnce, IsFlat}
-use Rattle.isle_core.specs.BuiltRule.{IsBuiltRule}
 use Rattle.isle_core.specs.Rule.{Environment, Rule}
 use Rattle.isle_core.proofs.Contained.{head_contained, contained_cases, none_contained}
 use Rattle.isle_checks.specs.Bears.{Constraints, IsOther, HasOther, Agree, IsAmong, AreAmong}
 use Rattle.isle_checks.specs.Makes.{Overlap, Shadow}
 use Rattle.isle_checks.specs.RuleChecks.{Overlaps, EquatesNone, Shadows}
 use Rattle.isle_checks.proofs.ApartLaws.{other_among, agree_at, among_at}
-use Rattle.isle_checks.proofs.FlatTests.{somewhere, same_binding, bears, tested_by}
+use Rattle.isle_checks.proofs.FlatTests.{IsReady, somewhere, same_binding, bears, tested_by}
 
 -- the other constraint
 record AnOther (xs : Constraints) (b : BindingId) (c : Constraint) : Type 0 where
@@ -58,7 +57,7 @@ module _ (env : Environment) (ps : List Path) (once : EachOnce ps) where
           let t = flat.no_other (equal_test ps x) c in
           absurd (t.1 (none (at ps x.0) (at ps x.1) t.0))
 
-  module _ (q r : Rule) (m n : ℕ) (f g : FlatRule) (one : IsFlat env ps q m f) (other : IsFlat env ps r n g) (built : IsBuiltRule env.terms q) (also_built : IsBuiltRule env.terms r) where
+  module _ (q r : Rule) (m n : ℕ) (f g : FlatRule) (one : IsFlat env ps q m f) (other : IsFlat env ps r n g) (built : IsReady env q) (also_built : IsReady env r) where
     pub rules_overlap : (i j : ℕ) → Overlap i f j g → (i < j) × Overlaps env q r
     rules_overlap i j h = (
       h.earlier,

@@ -10,6 +10,7 @@ use Rattle.isle_core.specs.Tests.{Is, Equal, met_tests, rule_tests}
 use Rattle.isle_core.specs.RuleSet.{is_test, equal_test}
 use Rattle.isle_core.specs.StandsFor.{EachOnce, IsFlat}
 use Rattle.isle_core.specs.BuiltRule.{IsBuiltRule}
+use Rattle.isle_core.specs.Scope.{IsScopedRule}
 use Rattle.isle_core.specs.Rule.{Environment, Rule}
 use Rattle.isle_core.proofs.Contained.{head_contained, tail_contained, contained_cases, none_contained}
 use Rattle.isle_rulesets.proofs.RuleTests.{rule_stands}
@@ -28,8 +29,13 @@ pub met_none : (o : Option Path) (q p : Path) (c : Constraint) → Contains (met
 met_none None q p c h = none_contained (Is p c) h
 met_none (Some x) q p c h = let e = only_one (Equal x q) (Is p c) h in cc
 
-pub somewhere : (env : Environment) (r : Rule) (p : Path) (c : Constraint) → IsBuiltRule env.terms r → Contains (rule_tests env r) (Is p c) → p ≡ Nowhere → ⊥
-somewhere env r p c b h = rule_stands env r (Is p c) b h
+-- a rule of built forms, whose variables are bound
+pub record IsReady (env : Environment) (r : Rule) : Type 0 where
+  pub built : IsBuiltRule env.terms r
+  pub scoped : IsScopedRule r
+
+pub somewhere : (env : Environment) (r : Rule) (p : Path) (c : Constraint) → IsReady env r → Contains (rule_tests env r) (Is p c) → p ≡ Nowhere → ⊥
+somewhere env r p c b h = rule_stands env r (Is p c) b.built b.scoped h
 
 -- ---- a path stands at one place
 

@@ -12,6 +12,7 @@ pub mod ListChecks
 pub mod ErrorLaws
 pub mod TermErrors
 pub mod TestedTypes
+pub mod ConditionTypes
 pub mod MetOnce
 pub mod OneHighest
 pub mod ListOnce

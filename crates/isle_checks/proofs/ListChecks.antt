@@ -6,7 +6,7 @@ use Rattle.isle_core.specs.declared.rule_sets.FlatRule.{FlatRule}
 use Rattle.isle_core.specs.Path.{Path}
 use Rattle.isle_core.specs.Calling.{impure}
 use Rattle.isle_core.specs.StandsFor.{EachOnce, IsFlat, AreFlat}
-use Rattle.isle_core.specs.BuiltRule.{IsBuiltRule}
+use Rattle.isle_checks.proofs.FlatTests.{IsReady}
 use Rattle.isle_core.specs.Rule.{Environment, Rule}
 use Rattle.isle_checks.specs.declared.placed.Check.{Check}
 use Rattle.isle_checks.specs.declared.placed.Check.TheVariants as check
@@ -28,12 +28,12 @@ pub record BothAt (env : Environment) (ps : List Path) (rules : List Rule) (fs :
   pub rule_at : slice_get rules i ≡ Some rule
   pub flat_at : slice_get fs i ≡ Some flat
   pub is : IsFlat env ps rule n flat
-  pub built : IsBuiltRule env.terms rule
+  pub built : IsReady env rule
 
 some_same : {X : Type 0} (x y : X) → Some x ≡ Some y → x ≡ y
 some_same x y e = cc
 
-both_of_rule : (env : Environment) (ps : List Path) (rules : List Rule) (fs : List FlatRule) (n i : ℕ) (r : Rule) → AllByRecursion (IsBuiltRule env.terms) rules → AreFlat env ps rules n fs → slice_get rules i ≡ Some r → BothAt env ps rules fs i
+both_of_rule : (env : Environment) (ps : List Path) (rules : List Rule) (fs : List FlatRule) (n i : ℕ) (r : Rule) → AllByRecursion (IsReady env) rules → AreFlat env ps rules n fs → slice_get rules i ≡ Some r → BothAt env ps rules fs i
 both_of_rule env ps [] fs n i r b h e = cc
 both_of_rule env ps (q ∷ rules) [] n i r b h e = absurd h
 both_of_rule env ps (q ∷ rules) (f ∷ fs) n zero r b h e = record { rule = q; flat = f; n = n; rule_at = refl; flat_at = refl; is = h.0; built = b.0 }
@@ -41,7 +41,7 @@ both_of_rule env ps (q ∷ rules) (f ∷ fs) n (suc i) r b h e =
     let x = both_of_rule env ps rules fs (n + impure env q.rhs) i r b.1 h.1 e in
     record { rule = x.rule; flat = x.flat; n = x.n; rule_at = x.rule_at; flat_at = x.flat_at; is = x.is; built = x.built }
 
-both_of_flat : (env : Environment) (ps : List Path) (rules : List Rule) (fs : List FlatRule) (n i : ℕ) (f : FlatRule) → AllByRecursion (IsBuiltRule env.terms) rules → AreFlat env ps rules n fs → slice_get fs i ≡ Some f → BothAt env ps rules fs i
+both_of_flat : (env : Environment) (ps : List Path) (rules : List Rule) (fs : List FlatRule) (n i : ℕ) (f : FlatRule) → AllByRecursion (IsReady env) rules → AreFlat env ps rules n fs → slice_get fs i ≡ Some f → BothAt env ps rules fs i
 both_of_flat env ps [] [] n i f b h e = cc
 both_of_flat env ps [] (g ∷ fs) n i f b h e = absurd h
 both_of_flat env ps (q ∷ rules) [] n i f b h e = cc
@@ -78,7 +78,7 @@ abbrev pub RulesMake : Check → Environment → List Rule → ℕ → ℕ → T
 RulesMake check.Overlaps env rules i j = OverlapsAt env rules i j
 RulesMake check.Shadows env rules i j = ShadowsAt env rules i j
 
-module _ (env : Environment) (ps : List Path) (once : EachOnce ps) (rules : List Rule) (fs : List FlatRule) (n : ℕ) (built : AllByRecursion (IsBuiltRule env.terms) rules) (flat : AreFlat env ps rules n fs) where
+module _ (env : Environment) (ps : List Path) (once : EachOnce ps) (rules : List Rule) (fs : List FlatRule) (n : ℕ) (built : AllByRecursion (IsReady env) rules) (flat : AreFlat env ps rules n fs) where
   to_rules : (c : Check) (i j : ℕ) → MakesAt c fs i j → RulesMake c env rules i j
   to_rules check.Overlaps i j h =
       let m = made_of check.Overlaps i j (slice_get fs i) (slice_get fs j) h in

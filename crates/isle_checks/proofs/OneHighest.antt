@@ -1,8 +1,7 @@
 -- Where no rule of a term is in error, no two that match have one priority.
 use Rattle.std.proofs.Common.{◌≡◌, ℕ, zero, suc, ◌<◌, List, [], ◌∷◌, ◌++◌, length, map, Bool, true, false, Option, Some, None, refl, sym, ap, ◌∙◌, subst, arith, ◌⊎◌, ⊎_elim}
 use Rattle.std.specs.Prelude.{All, Contains, slice_get}
-use Rattle.std.specs.List.{AllByRecursion}
-use Rattle.std.proofs.lemmas.List.Elements.{All-contains, All-from_recursion, recursion_from_All, Contains-append_left, Contains-append_right}
+use Rattle.std.proofs.lemmas.List.Elements.{All-contains, Contains-append_left, Contains-append_right}
 use Rattle.std.proofs.lemmas.List.Sums.{AllPass-from_list_all}
 use Rattle.std.proofs.lemmas.Option.{slice_get-get_or}
 use Rattle.isle_core.specs.declared.TermId.{TermId}
@@ -18,25 +17,25 @@ use Rattle.isle_core.specs.Path.{Path}
 use Rattle.isle_core.specs.Tests.{Is, Places, rule_places, rule_tests}
 use Rattle.isle_core.specs.Terms.{with_rules}
 use Rattle.isle_core.specs.ValueAt.{nothing_known, value_at, meets, holds, all_hold}
-use Rattle.isle_core.specs.BuiltRule.{IsBuiltRule}
 use Rattle.isle_core.specs.HasType.{HaveTypes}
 use Rattle.isle_core.specs.Lawful.{IsLawful}
-use Rattle.isle_core.specs.OccurringConstants.{TypedConstant, rule_constants, rules_constants}
+use Rattle.isle_core.specs.OccurringConstants.{TypedConstant, Named, expr_constants, args_constants, iflets_constants, rule_constants, rules_constants}
 use Rattle.isle_core.specs.NamesApart.{AreConstantsPlain}
-use Rattle.isle_core.specs.PatternType.{AreVariantsApart, ArePatternsOf, FitsTerm}
+use Rattle.isle_core.specs.PatternType.{AreVariantsApart}
 use Rattle.isle_core.specs.Rule.{Environment, Rule, rules_of}
 use Rattle.isle_core.proofs.Contained.{contained_cases, none_contained}
-use Rattle.isle_core.specs.CalledTerms.{CalledTerm, extracted_in, called_in_iflets, called_by, called_in, called}
+use Rattle.isle_core.specs.CalledTerms.{extracted_in, called_in_iflets, called_by, called_in, called}
 use Rattle.isle_core.proofs.PatternTests.{Values, Both, AreServed}
-use Rattle.isle_core.proofs.SetMeans.{rule_both}
-use Rattle.isle_checks.specs.Built.{AreBuilt}
+use Rattle.isle_core.proofs.ConditionTests.{IsSupplied}
+use Rattle.isle_core.proofs.RuleMatches.{IsTested, rule_both}
+use Rattle.isle_core.specs.TypedVariables.{rule_typed, HaveOneType}
 use Rattle.isle_checks.specs.CheckList.{RuleError, overlap_of, shadow_of, positions, is_multi, AreErrorsAt, AreErrorsBelow, AreErrorsOf, AreErrorsOfTerm, AreErrorsOfTerms, IsClean}
 use Rattle.isle_checks.specs.Firsts.{IsFirst}
 use Rattle.isle_checks.specs.RuleChecks.{Overlaps, OverlapsAt}
 use Rattle.isle_checks.proofs.ListChecks.{of_two}
-use Rattle.isle_checks.proofs.TestedTypes.{IsOn, IsTyped, rule_typed}
+use Rattle.isle_checks.proofs.ConditionTypes.{rule_tests_typed}
+use Rattle.isle_checks.proofs.TestedTypes.{IsOn, IsTyped}
 use Rattle.isle_checks.proofs.MetOnce.{AreConstantsApart, one_constraint}
-use Rattle.isle_checks.proofs.TermErrors.{all_filter}
 
 -- ---- two rules that match overlap, where they have one priority
 
@@ -50,18 +49,19 @@ some_type a b e = cc
 module _ (env : Environment) (m : Meaning) (args : List Value) (tys : List TypeId) (known : List TypedConstant) (variants : AreVariantsApart env) (plain : AreConstantsPlain env) (constants : AreConstantsApart env m known) (typed : HaveTypes env args tys) where
   -- a rule of the types, whose constants are known
   record IsOf (r : Rule) : Type 0 where
-    none : r.iflets ≡ []
-    fits : ArePatternsOf env tys r.args
+    tested : IsTested env tys r
+    variables : HaveOneType (rule_typed r)
     among : (c : TypedConstant) → Contains (rule_constants r) c → Contains known c
     served : AreServed env m (extracted_in env r.args)
+    supplied : IsSupplied env m (called_in_iflets env r.iflets) (iflets_constants r.iflets)
 
   -- a rule that matches tests paths that have types, by constraints on values of these that what stands there meets
   meets_test : (r : Rule) (names : Names) → IsOf r → rule_names env m args r ≡ Some names → (p : Path) (c : Constraint) → Contains (rule_tests env r) (Is p c)
       → IsTyped env plain known tys p c × (meets env m c (value_at env m args nothing_known p) ≡ true)
   meets_test r names h e p c k =
       let val = value_at env m args nothing_known in
-      let all = matched_holds val (rule_names env m args r) (all_hold env m val (rule_tests env r)) (rule_places env r) names e (rule_both env m args tys r variants h.none h.fits typed h.served) in
-      (rule_typed env plain known tys r p c h.none h.fits h.among k, All-contains (λ t. holds env m val t ≡ true) (rule_tests env r) (Is p c) (AllPass-from_list_all (holds env m val) (rule_tests env r) all) k)
+      let all = matched_holds val (rule_names env m args r) (all_hold env m val (rule_tests env r)) (rule_places env r) names e (rule_both env m args tys r variants h.tested typed h.served h.supplied) in
+      (rule_tests_typed env plain known tys r p c h.tested h.variables h.among k, All-contains (λ t. holds env m val t ≡ true) (rule_tests env r) (Is p c) (AllPass-from_list_all (holds env m val) (rule_tests env r) all) k)
 
   matched_overlap : (q r : Rule) (names others : Names) → IsOf q → IsOf r → rule_names env m args q ≡ Some names → rule_names env m args r ≡ Some others → q.prio ≡ r.prio → Overlaps env q r
   matched_overlap q r names others h h' e e' same = record {
@@ -127,31 +127,39 @@ constants_among (x ∷ rules) r c k h = ⊎_elim
     (λ d. Contains-append_right (rule_constants x) (rules_constants rules) c (constants_among rules r c d h))
     (contained_cases x rules r k)
 
--- what a rule's patterns call is among what the rules call
-served_among : (env : Environment) (m : Meaning) (rules : List Rule) (r : Rule) → AreServed env m (called env rules) → Contains rules r → AreServed env m (extracted_in env r.args)
+-- what a rule calls is among what the rules call
+served_among : (env : Environment) (m : Meaning) (rules : List Rule) (r : Rule) → AreServed env m (called env rules) → Contains rules r → AreServed env m (called_in env r)
 served_among env m [] r h c o k = absurd (none_contained r c)
 served_among env m (x ∷ rules) r h c o k = ⊎_elim
-    (λ (e : x ≡ r). h o (Contains-append_left (called_in env x) (called env rules) o (subst (λ (y : Rule). Contains (called_in env y) o) (sym e) (of_rule o k))))
+    (λ (e : x ≡ r). h o (Contains-append_left (called_in env x) (called env rules) o (subst (λ (y : Rule). Contains (called_in env y) o) (sym e) k)))
     (λ d. served_among env m rules r (λ y i. h y (Contains-append_right (called_in env x) (called env rules) y i)) d o k)
     (contained_cases x rules r c)
-  where
-    of_rule : (o : CalledTerm) → Contains (extracted_in env r.args) o → Contains (called_in env r) o
-    of_rule o k = Contains-append_left (extracted_in env r.args ++ called_in_iflets env r.iflets) (called_by env r.rhs) o (Contains-append_left (extracted_in env r.args) (called_in_iflets env r.iflets) o k)
 
--- of a term that answers at most once, whose rules are built and fit its arguments, where the meaning is lawful and the values have the arguments' types
-pub one_highest : (env : Environment) (id : TermId) (t : Term) → Contains (with_rules env) id → is_multi env id ≡ false → AreBuilt env → All (FitsTerm env t) (rules_of env id) → IsClean env → AreVariantsApart env → AreConstantsPlain env
+-- so are what its patterns call
+patterns_served : (env : Environment) (m : Meaning) (r : Rule) → AreServed env m (called_in env r) → AreServed env m (extracted_in env r.args)
+patterns_served env m r h o k = h o (Contains-append_left (extracted_in env r.args ++ called_in_iflets env r.iflets) (called_by env r.rhs) o (Contains-append_left (extracted_in env r.args) (called_in_iflets env r.iflets) o k))
+
+-- and what its conditions call and name
+conditions_supplied : (env : Environment) (id : TermId) (m : Meaning) (r : Rule) → IsLawful env id m → Contains (rules_of env id) r → AreServed env m (called_in env r) → IsSupplied env m (called_in_iflets env r.iflets) (iflets_constants r.iflets)
+conditions_supplied env id m r lawful c h = record {
+  answers = λ o k. h o (Contains-append_left (extracted_in env r.args ++ called_in_iflets env r.iflets) (called_by env r.rhs) o (Contains-append_right (extracted_in env r.args) (called_in_iflets env r.iflets) o k));
+  named = λ ty name k. lawful.named ty name (constants_among (rules_of env id) r (ty, Named name) c (Contains-append_left (args_constants r.args ++ iflets_constants r.iflets) (expr_constants r.rhs) (ty, Named name) (Contains-append_right (args_constants r.args) (iflets_constants r.iflets) (ty, Named name) k)));
+}
+
+-- of a term that answers at most once, whose rules are built and have its types, where the meaning is lawful and the values have the arguments' types
+pub one_highest : (env : Environment) (id : TermId) (t : Term) → Contains (with_rules env) id → is_multi env id ≡ false → All (IsTested env t.arg_tys) (rules_of env id) → All (λ (r : Rule). HaveOneType (rule_typed r)) (rules_of env id) → IsClean env → AreVariantsApart env → AreConstantsPlain env
     → (m : Meaning) (args : List Value) → IsLawful env id m → HaveTypes env args t.arg_tys → AreApart env m args (rules_of env id)
-one_highest env id t listed single built fit clean variants plain m args lawful typed q r names others c d e k same =
+one_highest env id t listed single fit once clean variants plain m args lawful typed q r names others c d e k same =
     let rules = rules_of env id in
     let known = rules_constants rules in
     let none = term_clean env (with_rules env) id (subst (AreErrorsOfTerms env (with_rules env)) (nil_of_told clean.0 clean.2) clean.1) listed in
     let of_rules : AreErrorsOf env rules [] = rw single at none in
-    let all : AllByRecursion (IsBuiltRule env.terms) rules = all_filter (IsBuiltRule env.terms) _ env.rules (recursion_from_All (IsBuiltRule env.terms) env.rules built) in
     let is_of : (x : Rule) → Contains rules x → IsOf env m args t.arg_tys known variants plain lawful.apart typed x = λ x h. record {
-      none = (All-contains (IsBuiltRule env.terms) rules x (All-from_recursion (IsBuiltRule env.terms) rules all) h).iflets;
-      fits = All-contains (FitsTerm env t) rules x fit h;
+      tested = All-contains (IsTested env t.arg_tys) rules x fit h;
+      variables = All-contains (λ (r : Rule). HaveOneType (rule_typed r)) rules x once h;
       among = λ y i. constants_among rules x y h i;
-      served = served_among env m rules x lawful.answers h;
+      served = patterns_served env m x (served_among env m rules x lawful.answers h);
+      supplied = conditions_supplied env id m x lawful h (served_among env m rules x lawful.answers h);
     } in
     let first = place_of rules q c in
     let second = place_of rules r d in

@@ -10,11 +10,13 @@ use Rattle.isle_core.specs.declared.rule_sets.RuleSet.{RuleSet}
 use Rattle.isle_core.specs.Path.{paths_of}
 use Rattle.isle_core.specs.StandsFor.{StandsFor}
 use Rattle.isle_core.specs.BuiltRule.{IsBuiltRule}
-use Rattle.isle_core.specs.Rule.{Environment, rules_of}
+use Rattle.isle_core.specs.Rule.{Environment, Rule, rules_of}
 use Rattle.isle_rulesets.specs.Grouping.{AreRuleSets}
 use Rattle.isle_checks.specs.CheckList.{RuleError, positions, is_multi, AreErrorsOf, AreErrorsOfTerm, AreErrorsOfTerms, Tell, TellTerms, IsCheckList}
 use Rattle.isle_checks.specs.Errors.{places_of, errors_below, Joined, JoinedOf}
+use Rattle.isle_core.specs.Scope.{IsScopedRule}
 use Rattle.isle_checks.specs.Built.{AreBuilt}
+use Rattle.isle_checks.proofs.FlatTests.{IsReady}
 use Rattle.isle_checks.proofs.ListChecks.{same_length, same_positions, are_errors}
 use Rattle.isle_checks.proofs.MakerLaws.{of_all, at_contained}
 
@@ -43,12 +45,17 @@ multi_more env ids id errors multi h =
     let none : AreErrorsOfTerm env id [] = rw multi refl in
     (h.0 ++ [], terms_push env ids id h.0 [] h.1 none, subst (Tell errors) (sym (append-nil h.0)) h.2)
 
+-- rules of built forms whose variables are bound are ready
+all_ready : (env : Environment) (rules : List Rule) → AllByRecursion (IsBuiltRule env.terms) rules → AllByRecursion IsScopedRule rules → AllByRecursion (IsReady env) rules
+all_ready env [] b s = tt
+all_ready env (r ∷ rules) b s = (record { built = b.0; scoped = s.0 }, all_ready env rules b.1 s.1)
+
 -- the errors of any other term join
 pub term_more : (env : Environment) (ids : List TermId) (id : TermId) (set : RuleSet) (old new : List Error) → is_multi env id ≡ false → AreBuilt env → StandsFor env set (rules_of env id) → JoinedOf set.rules old new → TellTerms env ids old → TellTerms env (ids ++ id ∷ []) new
 term_more env ids id set old new single built stands joined h =
     let rules = rules_of env id in
     let ps = paths_of set.bindings in
-    let all : AllByRecursion (IsBuiltRule env.terms) rules = all_filter (IsBuiltRule env.terms) _ env.rules (recursion_from_All (IsBuiltRule env.terms) env.rules built) in
+    let all : AllByRecursion (IsReady env) rules = all_filter (IsReady env) _ env.rules (all_ready env env.rules (recursion_from_All (IsBuiltRule env.terms) env.rules built.forms) (recursion_from_All IsScopedRule env.rules built.bound)) in
     let es = errors_below (places_of set.rules) joined.overlaps joined.shadows (length set.rules) in
     let same : es ≡ errors_below (positions rules) joined.overlaps joined.shadows (length rules) =
     ap (λ xs. errors_below xs joined.overlaps joined.shadows (length set.rules)) (same_positions env ps rules set.rules 0 stands.flat) ∙ ap (errors_below (positions rules) joined.overlaps joined.shadows) (same_length env ps rules set.rules 0 stands.flat) in

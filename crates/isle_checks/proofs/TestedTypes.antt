@@ -1,5 +1,5 @@
 -- The types of the paths that a rule tests, and what it may ask of them.
-use Rattle.std.proofs.Common.{◌≡◌, ℕ, ◌+◌, zero, suc, List, [], ◌∷◌, ◌++◌, length, Bool, true, false, Option, Some, None, refl, sym, ap, ◌∙◌, subst, arith, ⊎_elim}
+use Rattle.std.proofs.Common.{◌≡◌, ℕ, ◌+◌, zero, suc, List, [], ◌∷◌, length, Bool, true, false, Option, Some, None, refl, sym, ap, ◌∙◌, subst, arith, ⊎_elim}
 use Rattle.std.specs.Prelude.{Contains, IsSomeAnd, option_and_then, option_map, slice_get}
 use Rattle.std.proofs.lemmas.List.Elements.{Contains-append_left, Contains-append_right, Contains-append_cases}
 use Rattle.isle_core.specs.declared.TypeId.{TypeId}
@@ -17,16 +17,16 @@ use Rattle.isle_core.specs.Calling.{Calling, is_fallible, answers_often, extract
 use Rattle.isle_core.specs.Opening.{Opening, opening, opening_by, answer_path, result_path, part_path}
 use Rattle.isle_rulesets.proofs.OpenedLaws.{extracts}
 use Rattle.isle_core.specs.Making.{Making, MakesVariant, MakesStruct, MakesNothing, making}
-use Rattle.isle_core.specs.OccurringConstants.{Constant, Truth, Number, Named, TypedConstant, pattern_constants, patterns_constants, args_constants, iflets_constants, expr_constants, rule_constants}
+use Rattle.isle_core.specs.OccurringConstants.{Constant, Truth, Number, Named, TypedConstant, pattern_constants, patterns_constants, args_constants}
 use Rattle.isle_core.specs.Path.{Path, Nowhere, Arg, ConstBool, ConstInt, ConstPrim, Extracted, Called, Chosen, MadeVariant, MadeStruct, VariantField, StructField, Wrapped, Inner, Part}
 use Rattle.isle_core.specs.Pattern as pattern
 use Rattle.isle_core.specs.Pattern.{Pattern, Patterns, NoPattern, APattern}
 use Rattle.isle_core.specs.PatternType.{IsNumericDef, OpensType, arguments_of, part_types, IsPatternOf, ArePartsOf, AreEachOf, ArePatternsOf}
-use Rattle.isle_core.specs.Tests.{Test, Is, Places, no_places, met_tests, met_after, found_tests, opening_tests, tests, parts_tests, each_tests, after, args_tests, rule_tests}
+use Rattle.isle_core.specs.Tests.{Is, Places, met_tests, met_after, found_tests, opening_tests, tests, parts_tests, each_tests, after, args_tests}
 use Rattle.isle_core.specs.Value as value
-use Rattle.isle_core.specs.Rule.{Environment, Rule}
+use Rattle.isle_core.specs.Rule.{Environment}
 use Rattle.isle_core.proofs.Contained.{none_contained}
-use Rattle.isle_core.proofs.SetMeans.{without_iflets}
+use Rattle.isle_core.specs.Constants.{const_type}
 use Rattle.isle_core.specs.NamesApart.{IsPlainDef, AreConstantsPlain}
 use Rattle.isle_checks.specs.PlainTypes.{IsPlainType}
 use Rattle.isle_checks.proofs.FlatTests.{is_path, is_constraint, met_none}
@@ -65,7 +65,7 @@ result_type env i (StructField j p) = None
 result_type env i (Wrapped p) = None
 result_type env i (Part part p) = None
 
--- the type of an argument, of a field within one, or of what an extractor gives
+-- the type of an argument, a constant, a made value or a field, or of what a call gives
 abbrev pub path_type : Environment → List TypeId → Path → Option TypeId
 path_type env tys (Arg i) = slice_get tys i
 path_type env tys (VariantField variant i p) = option_and_then (λ ty. field_type env (MakesVariant ty variant) i) (path_type env tys p)
@@ -74,13 +74,13 @@ path_type env tys (Extracted term p) = answer_type (slice_get env.terms term.0)
 path_type env tys (Inner p) = path_type env tys p
 path_type env tys (Part part p) = result_type env part p
 path_type env tys Nowhere = None
-path_type env tys (ConstBool ty b) = None
-path_type env tys (ConstInt ty n) = None
-path_type env tys (ConstPrim name) = None
-path_type env tys (Called term ps instance) = None
+path_type env tys (ConstBool ty b) = Some ty
+path_type env tys (ConstInt ty n) = Some ty
+path_type env tys (ConstPrim name) = const_type env name
+path_type env tys (Called term ps instance) = option_map (λ (t : Term). t.ret_ty) (slice_get env.terms term.0)
 path_type env tys (Chosen p) = None
-path_type env tys (MadeVariant ty variant ps) = None
-path_type env tys (MadeStruct ty ps) = None
+path_type env tys (MadeVariant ty variant ps) = Some ty
+path_type env tys (MadeStruct ty ps) = Some ty
 path_type env tys (Wrapped p) = None
 
 -- ---- constraints of types
@@ -116,13 +116,13 @@ numbers_plain (Some (def.Struct name is_extern is_nodebug fields pos)) h = h
 
 -- ---- what a rule tests
 
-from_zero : (j : ℕ) → j + 0 ≡ j
+pub from_zero : (j : ℕ) → j + 0 ≡ j
 from_zero j = omega arith
 
-first : (i : ℕ) → 0 + i ≡ i
+pub first : (i : ℕ) → 0 + i ≡ i
 first i = omega arith
 
-next : (j i : ℕ) → suc j + i ≡ j + suc i
+pub next : (j i : ℕ) → suc j + i ≡ j + suc i
 next j i = omega arith
 
 module _ (env : Environment) (plain : AreConstantsPlain env) (known : List TypedConstant) (tys : List TypeId) where
@@ -133,7 +133,7 @@ module _ (env : Environment) (plain : AreConstantsPlain env) (known : List Typed
     pub on : IsOn env known ty c
 
   -- these are among the known constants
-  abbrev AreKnown : List TypedConstant → Type 0
+  abbrev pub AreKnown : List TypedConstant → Type 0
   AreKnown cs = (c : TypedConstant) → Contains cs c → Contains known c
 
   this_typed : (at p : Path) (ty : TypeId) (c d : Constraint) → path_type env tys at ≡ Some ty → IsOn env known ty c → Is at c ≡ Is p d → IsTyped p d
@@ -147,10 +147,10 @@ module _ (env : Environment) (plain : AreConstantsPlain env) (known : List Typed
       head x = (0, omega arith, refl)
 
   -- the types of the parts
-  abbrev PartsTyped : Opening → ℕ → Path → Option (List TypeId) → Type 0
+  abbrev pub PartsTyped : Opening → ℕ → Path → Option (List TypeId) → Type 0
   PartsTyped opened i at o = (j : ℕ) (ty : TypeId) → option_and_then (λ ts. slice_get ts j) o ≡ Some ty → path_type env tys (part_path opened (j + i) at) ≡ Some ty
 
-  found_typed : (c : Calling) (at p : Path) (d : Constraint) (b : Bool) → is_fallible c ≡ b → answers_often c ≡ false → (ty : TypeId) → path_type env tys at ≡ Some ty → Contains (found_tests c at) (Is p d) → IsTyped p d
+  pub found_typed : (c : Calling) (at p : Path) (d : Constraint) (b : Bool) → is_fallible c ≡ b → answers_often c ≡ false → (ty : TypeId) → path_type env tys at ≡ Some ty → Contains (found_tests c at) (Is p d) → IsTyped p d
   found_typed c at p d true f o ty t k = this_typed at p ty constraint.Some d t on_some (only_one _ _ (subst (λ ts. Contains ts (Is p d)) (tests_some c at f o) k))
     where
       tests_some : (c : Calling) (at : Path) → is_fallible c ≡ true → answers_often c ≡ false → found_tests c at ≡ Is at constraint.Some ∷ []
@@ -187,7 +187,7 @@ module _ (env : Environment) (plain : AreConstantsPlain env) (known : List Typed
   results_typed (of ∷ []) ret c term t at (suc j) ty e is h = cc
   results_typed (of ∷ (more ∷ ts)) ret c term t at j ty e is h = part_of c term at j ∙ ap (λ o. option_and_then (λ us. slice_get us j) (arguments_of o)) e ∙ ap (λ us. slice_get us j) is ∙ h
 
-  parts_of : (mk : Making) (term : TermId) (t : Option Term) (at : Path) (ty : TypeId) → OpensType ty mk t → slice_get env.terms term.0 ≡ t → path_type env tys at ≡ Some ty → PartsTyped (opening_by term mk (extracting_of env t) t) 0 at (part_types env mk t)
+  pub parts_of : (mk : Making) (term : TermId) (t : Option Term) (at : Path) (ty : TypeId) → OpensType ty mk t → slice_get env.terms term.0 ≡ t → path_type env tys at ≡ Some ty → PartsTyped (opening_by term mk (extracting_of env t) t) 0 at (part_types env mk t)
   parts_of (MakesVariant of variant) term t at ty is e h j part k =
       ap (λ n. path_type env tys (VariantField variant n at)) (from_zero j) ∙ ap (option_and_then (λ x. field_type env (MakesVariant x variant) j)) (h ∙ ap Some (sym is)) ∙ k
   parts_of (MakesStruct of) term t at ty is e h j part k =
@@ -197,7 +197,7 @@ module _ (env : Environment) (plain : AreConstantsPlain env) (known : List Typed
       ap (λ n. path_type env tys (result_path (length t.arg_tys) n (answer_path (extracting_kind env t.kind) (Extracted term at)))) (from_zero j) ∙ results_typed t.arg_tys t.ret_ty (extracting_kind env t.kind) term t at j part e refl k
 
   mutual
-    pattern_typed : (q : Pattern) (at : Path) (ty : TypeId) (places : Places) (p : Path) (c : Constraint) → IsPatternOf env ty q → path_type env tys at ≡ Some ty → AreKnown (pattern_constants q) → Contains (tests env q at places) (Is p c) → IsTyped p c
+    pub pattern_typed : (q : Pattern) (at : Path) (ty : TypeId) (places : Places) (p : Path) (c : Constraint) → IsPatternOf env ty q → path_type env tys at ≡ Some ty → AreKnown (pattern_constants q) → Contains (tests env q at places) (Is p c) → IsTyped p c
     pattern_typed (pattern.Var of x) at ty places p c h t k is = absurd (met_none (places x.0) at p c is)
     pattern_typed (pattern.ConstBool b) at ty places p c h t k is =
         constant_typed at p ty (Truth b) c t (subst (λ x. AreKnown ((x, Truth b) ∷ [])) h.0 k) (truths_plain env (slice_get env.types.types ty.0) b h.1) is
@@ -235,17 +235,10 @@ module _ (env : Environment) (plain : AreConstantsPlain env) (known : List Typed
     parts_typed (APattern q qs) None opened at i places p c h t k is = absurd h
 
   -- patterns on the arguments from the i-th on
-  args_typed : (qs : List Pattern) (ts : List TypeId) (i : ℕ) (places : Places) (p : Path) (c : Constraint) → ArePatternsOf env ts qs → ((j : ℕ) → slice_get tys (j + i) ≡ slice_get ts j) → AreKnown (args_constants qs) → Contains (args_tests env qs i places) (Is p c) → IsTyped p c
+  pub args_typed : (qs : List Pattern) (ts : List TypeId) (i : ℕ) (places : Places) (p : Path) (c : Constraint) → ArePatternsOf env ts qs → ((j : ℕ) → slice_get tys (j + i) ≡ slice_get ts j) → AreKnown (args_constants qs) → Contains (args_tests env qs i places) (Is p c) → IsTyped p c
   args_typed [] ts i places p c h t k is = absurd (none_contained (Is p c) is)
   args_typed (q ∷ qs) (ty ∷ ts) i places p c h t k is =
       ⊎_elim (λ d. pattern_typed q (Arg i) ty places p c h.0 (subst (λ n. slice_get tys n ≡ Some ty) (first i) (t 0)) (λ x s. k x (Contains-append_left (pattern_constants q) (args_constants qs) x s)) d)
       (λ d. args_typed qs ts (suc i) (after env q (Arg i) places) p c h.1 (λ j. subst (λ n. slice_get tys n ≡ slice_get ts j) (next j i) (t (suc j))) (λ x s. k x (Contains-append_right (pattern_constants q) (args_constants qs) x s)) d)
       (Contains-append_cases (tests env q (Arg i) places) (args_tests env qs (suc i) (after env q (Arg i) places)) (Is p c) is)
   args_typed (q ∷ qs) [] i places p c h t k is = absurd h
-
-  -- a rule that fits the types tests paths that have types, by constraints on values of these
-  pub rule_typed : (r : Rule) (p : Path) (c : Constraint) → r.iflets ≡ [] → ArePatternsOf env tys r.args → AreKnown (rule_constants r) → Contains (rule_tests env r) (Is p c) → IsTyped p c
-  rule_typed r p c none h k is =
-      args_typed r.args tys 0 no_places p c h (λ j. ap (slice_get tys) (from_zero j))
-      (λ x s. k x (Contains-append_left (args_constants r.args ++ iflets_constants r.iflets) (expr_constants r.rhs) x (Contains-append_left (args_constants r.args) (iflets_constants r.iflets) x s)))
-      (subst (λ (ts : List Test). Contains ts (Is p c)) (without_iflets env r none) is)

@@ -1,7 +1,8 @@
--- The tests of a flat rule are its rule's, each once.
+-- The tests and the calls of a flat rule are its rule's, each once.
 use Rattle.std.proofs.Common.{◌≡◌, ◌⊎◌, inl, inr, ⊎_elim, ℕ, zero, suc, List, [], ◌∷◌, ◌++◌, map, get_or, Bool, true, false, Some, eqb, eqb-true, not, refl, sym, ap, ◌∙◌, subst}
 use Rattle.std.specs.Prelude.{Contains, filter, slice_get}
-use Rattle.std.proofs.lemmas.List.Elements.{Contains-append_left, Contains-append_right, Contains-append_cases}
+use Rattle.std.specs.List.{AllByRecursion}
+use Rattle.std.proofs.lemmas.List.Elements.{All-contains, All-from_recursion, Contains-append_left, Contains-append_right, Contains-append_cases}
 use Rattle.isle_core.specs.declared.BindingId.{BindingId}
 use Rattle.isle_core.specs.declared.rule_sets.Constraint.{Constraint}
 use Rattle.isle_core.specs.Path.{Path, Nowhere, at}
@@ -51,6 +52,15 @@ not_one a b e same = two_apart (eqb a.0 a.0) (itself a.0) (subst (λ (c : Bindin
     two_apart : (t : Bool) → t ≡ true → not t ≡ true → ⊥
     two_apart true f h = cc
     two_apart false f h = cc
+
+-- ---- a rule's calls, where no path stands twice
+
+-- the calls that stand first are those whose paths do
+pub calls_first : (ps : List Path) (calls fs : List BindingId) → EachOnce ps → AllByRecursion (IsThere ps) calls → AreFirsts [] calls fs → AreFirsts [] (map (at ps) calls) (map (at ps) fs)
+calls_first ps calls fs once there h = firsts_map (at ps) h (λ x y a b e. there_once ps x y once (stands x a) (stands y b) e)
+  where
+    stands : (x : BindingId) → Contains [] x ⊎ Contains calls x → IsThere ps x
+    stands x a = ⊎_elim (λ c. absurd (none_contained x c)) (λ c. All-contains (IsThere ps) calls x (All-from_recursion (IsThere ps) calls there) c) a
 
 -- ---- a rule's tests, where no path stands twice
 

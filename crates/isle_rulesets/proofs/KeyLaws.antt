@@ -1,5 +1,5 @@
 -- Keys are told by their order, and by their paths where their parts are there.
-use Rattle.std.proofs.Common.{◌≡◌, ℕ, ℤ, List, [], ◌∷◌, Bool, true, false, refl, ap, ◌∙◌, Ordering}
+use Rattle.std.proofs.Common.{◌≡◌, ℕ, ℤ, List, [], ◌∷◌, Bool, true, false, refl, ap, ◌∙◌, arith, Ordering}
 use Rattle.std.specs.List.{AllByRecursion}
 use Rattle.std.specs.declared.cmp.Ordering.TheVariants.{Less, Equal, Greater}
 use Rattle.std.specs.Ordering.{is_eq, ordering_then, nat_cmp, int_cmp, bool_cmp}
@@ -10,7 +10,7 @@ use Rattle.isle_core.specs.declared.TermId.{TermId}
 use Rattle.isle_core.specs.declared.TupleIndex.{TupleIndex}
 use Rattle.isle_core.specs.declared.TypeId.{TypeId}
 use Rattle.isle_core.specs.declared.VariantId.{VariantId}
-use Rattle.isle_core.specs.Path.{Path, Paths, Extracted, MadeVariant, MadeStruct, VariantField, StructField, Inner, Part, at, at_all}
+use Rattle.isle_core.specs.Path.{Path, Paths, Extracted, Called, MadeVariant, MadeStruct, VariantField, StructField, Inner, Part, at, at_all}
 use Rattle.isle_core.specs.StandsFor.{EachOnce}
 use Rattle.isle_rulesets.specs.declared.keys.Key.{Key}
 use Rattle.isle_rulesets.specs.declared.keys.Key.TheVariants as key
@@ -77,6 +77,11 @@ extractor_same s t a b e =
     let h = then_same (nat_cmp s.0 t.0) (nat_cmp a.0 b.0) e in
     ap (λ x. key.Extractor x a) (ap (λ n. record { 0 = n }) (exact_unsigned s.0 t.0 h.0)) ∙ ap (key.Extractor t) (number_same a b h.1)
 
+constructor_same : (s t : TermId) (xs ys : List BindingId) → ordering_then (nat_cmp s.0 t.0) (parts_cmp xs ys) ≡ Equal → key.Constructor s xs ≡ key.Constructor t ys
+constructor_same s t xs ys e =
+    let h = then_same (nat_cmp s.0 t.0) (parts_cmp xs ys) e in
+    ap (λ x. key.Constructor x xs) (ap (λ n. record { 0 = n }) (exact_unsigned s.0 t.0 h.0)) ∙ ap (key.Constructor t) (parts_same xs ys h.1)
+
 tuple_same : (a b : BindingId) (i j : TupleIndex) → ordering_then (nat_cmp a.0 b.0) (nat_cmp i.0 j.0) ≡ Equal → key.MatchTuple a i ≡ key.MatchTuple b j
 tuple_same a b i j e =
     let h = then_same (nat_cmp a.0 b.0) (nat_cmp i.0 j.0) e in
@@ -99,6 +104,7 @@ key_equal (key.ConstBool a) (key.ConstBool b) e = ap key.ConstBool (bool_same a 
 key_equal (key.ConstInt s a) (key.ConstInt t b) e = const_same s t a b e
 key_equal (key.ConstPrim s) (key.ConstPrim t) e = ap key.ConstPrim (name_same s t e)
 key_equal (key.Extractor s a) (key.Extractor t b) e = extractor_same s t a b e
+key_equal (key.Constructor s xs) (key.Constructor t ys) e = constructor_same s t xs ys e
 key_equal (key.MatchVariant a v i) (key.MatchVariant b w j) e = match_same a b v w i j e
 key_equal (key.ExtractStruct a i) (key.ExtractStruct b j) e = extract_same a b i j e
 key_equal (key.MakeVariant s v xs) (key.MakeVariant t w ys) e = variant_key_same s t v w xs ys e
@@ -157,6 +163,16 @@ extractor_path_same ps s t a b once h k e = ap (λ x. key.Extractor x a) (term (
     term : (p q : Path) → Extracted s p ≡ Extracted t q → s ≡ t
     term p q f = cc
 
+constructor_path_same : (ps : List Path) (s t : TermId) (xs ys : List BindingId) → EachOnce ps → AllByRecursion (IsThere ps) xs → AllByRecursion (IsThere ps) ys → Called s (at_all ps xs) 0 ≡ Called t (at_all ps ys) 0 → key.Constructor s xs ≡ key.Constructor t ys
+constructor_path_same ps s t xs ys once h k e =
+    ap (λ x. key.Constructor x xs) (term (at_all ps xs) (at_all ps ys) e) ∙ ap (key.Constructor t) (all_there_once ps xs ys once h k (inner (at_all ps xs) (at_all ps ys) e))
+  where
+    inner : (qs rs : Paths) → Called s qs 0 ≡ Called t rs 0 → qs ≡ rs
+    inner qs rs f = cc
+
+    term : (qs rs : Paths) → Called s qs 0 ≡ Called t rs 0 → s ≡ t
+    term qs rs f = cc
+
 some_path_same : (ps : List Path) (a b : BindingId) → EachOnce ps → IsThere ps a → IsThere ps b → Inner (at ps a) ≡ Inner (at ps b) → key.MatchSome a ≡ key.MatchSome b
 some_path_same ps a b once h k e = ap key.MatchSome (there_once ps a b once h k (inner (at ps a) (at ps b) e))
   where
@@ -207,6 +223,7 @@ path_same ps (key.ConstBool a) (key.ConstBool b) once h g e = cc
 path_same ps (key.ConstInt s a) (key.ConstInt t b) once h g e = cc
 path_same ps (key.ConstPrim s) (key.ConstPrim t) once h g e = cc
 path_same ps (key.Extractor s a) (key.Extractor t b) once h g e = extractor_path_same ps s t a b once h g e
+path_same ps (key.Constructor s xs) (key.Constructor t ys) once h g e = constructor_path_same ps s t xs ys once h g e
 path_same ps (key.MatchVariant a v i) (key.MatchVariant b w j) once h g e = match_path_same ps a b v w i j once h g e
 path_same ps (key.ExtractStruct a i) (key.ExtractStruct b j) once h g e = extract_path_same ps a b i j once h g e
 path_same ps (key.MakeVariant s v xs) (key.MakeVariant t w ys) once h g e = variant_path_same ps s t v w xs ys once h g e
@@ -223,6 +240,7 @@ parts_kept ps qs (key.ConstBool a) x h = tt
 parts_kept ps qs (key.ConstInt s a) x h = tt
 parts_kept ps qs (key.ConstPrim s) x h = tt
 parts_kept ps qs (key.Extractor s a) x h = there_kept ps qs a x h
+parts_kept ps qs (key.Constructor s xs) x h = all_there_kept ps qs xs x h
 parts_kept ps qs (key.MatchVariant a v i) x h = there_kept ps qs a x h
 parts_kept ps qs (key.ExtractStruct a i) x h = there_kept ps qs a x h
 parts_kept ps qs (key.MakeVariant s v xs) x h = all_there_kept ps qs xs x h
@@ -237,6 +255,7 @@ path_kept ps qs (key.ConstBool a) x h = refl
 path_kept ps qs (key.ConstInt s a) x h = refl
 path_kept ps qs (key.ConstPrim s) x h = refl
 path_kept ps qs (key.Extractor s a) x h = ap (Extracted s) (at_same ps qs a x h)
+path_kept ps qs (key.Constructor s xs) x h = ap (λ rs. Called s rs 0) (all_at_same ps qs xs x h)
 path_kept ps qs (key.MatchVariant a v i) x h = ap (VariantField v i.0) (at_same ps qs a x h)
 path_kept ps qs (key.ExtractStruct a i) x h = ap (StructField i.0) (at_same ps qs a x h)
 path_kept ps qs (key.MakeVariant s v xs) x h = ap (MadeVariant s v) (all_at_same ps qs xs x h)
@@ -244,13 +263,14 @@ path_kept ps qs (key.MakeStruct s xs) x h = ap (MadeStruct s) (all_at_same ps qs
 path_kept ps qs (key.MatchSome a) x h = ap Inner (at_same ps qs a x h)
 path_kept ps qs (key.MatchTuple a i) x h = ap (Part i.0) (at_same ps qs a x h)
 
--- no key has the path of a call
+-- no key has the path of an impure call
 pub not_called : (ps : List Path) (n : ℕ) (k : Key) → IsCallUpTo n (key_path ps k) → ⊥
 not_called ps n (key.Argument a) h = h
 not_called ps n (key.ConstBool a) h = h
 not_called ps n (key.ConstInt s a) h = h
 not_called ps n (key.ConstPrim s) h = h
 not_called ps n (key.Extractor s a) h = h
+not_called ps n (key.Constructor s xs) h = let low = h.0 in omega arith
 not_called ps n (key.MatchVariant a v i) h = h
 not_called ps n (key.ExtractStruct a i) h = h
 not_called ps n (key.MakeVariant s v xs) h = h

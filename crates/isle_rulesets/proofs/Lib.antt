@@ -5,12 +5,14 @@ pub mod PatternTestLaws
 pub mod OpenedLaws
 pub mod FirstLaws
 pub mod VariablePlaces
-pub mod RuleTests
 pub mod CallLaws
 pub mod RightSideLaws
 pub mod LetLaws
+pub mod ConditionCalls
+pub mod ExprPlaces
+pub mod RuleTests
 pub mod FlatTests
-pub mod CallsOnce
 pub mod NoIterators
+pub mod ConditionLaws
 pub mod RuleSetLaws
 pub mod GroupingLaws

@@ -37,7 +37,7 @@ use Rattle.isle_rulesets.proofs.PlacedPaths.{extends_self, extends_more, at_kept
 pub joins_self : (n : Numbered) → Joins n n []
 joins_self n = record { extends = extends_self (paths_of n.bindings); only = λ p c. inl c; all = λ p c. absurd (none_contained p c); calls = refl }
 
-joins_then : (a b c : Numbered) (ps qs : List Path) → Joins a b ps → Joins b c qs → Joins a c (ps ++ qs)
+pub joins_then : (a b c : Numbered) (ps qs : List Path) → Joins a b ps → Joins b c qs → Joins a c (ps ++ qs)
 joins_then a b c ps qs g h = record {
   extends = extends_more (paths_of a.bindings) (paths_of b.bindings) (paths_of c.bindings) g.extends h.extends;
   only = λ p d. ⊎_elim (λ e. ⊎_elim (λ f. inl f) (λ f. inr (Contains-append_left ps qs p f)) (g.only p e)) (λ e. inr (Contains-append_right ps qs p e)) (h.only p d);

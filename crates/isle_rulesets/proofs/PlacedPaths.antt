@@ -36,6 +36,9 @@ place_of xs x c = (c.0, slice_get-get_or xs c.0 x c.1 ∙ ap Some c.2)
 pub at_get : (ps : List Path) (b : ℕ) (p : Path) → slice_get ps b ≡ Some p → get_or ps b Nowhere ≡ p
 at_get ps b p e = get_or_from_slice_get ps b p Nowhere e
 
+pub there_at : (ps : List Path) (b : BindingId) → IsThere ps b → slice_get ps b.0 ≡ Some (at ps b)
+there_at ps b h = h.1 ∙ ap Some (sym (at_get ps b.0 h.0 h.1))
+
 pub contains_there : (ps : List Path) (b : ℕ) (p : Path) → slice_get ps b ≡ Some p → Contains ps p
 contains_there ps b p e = (b, slice_get_within ps b p e, get_or_from_slice_get ps b p p e)
 

@@ -1,6 +1,6 @@
 -- The right side of a rule is numbered, call by call.
 use Rattle.std.proofs.Common.{◌≡◌, inl, inr, ⊎_elim, ℕ, zero, suc, ◌<◌, ◌≤◌, ◌+◌, ℤ, List, [], ◌∷◌, ◌++◌, length, map, take, get_or, if◌then◌else◌, Bool, true, false, Option, Some, None, Result, Ok, Err, refl, sym, ap, ◌∙◌, subst, arith, append_assoc, append-nil}
-use Rattle.std.specs.Prelude.{Contains, IsSomeAnd, IfOk, slice_get}
+use Rattle.std.specs.Prelude.{Contains, IsSomeAnd, IfOk, OnOk, slice_get}
 use Rattle.std.specs.List.{AllByRecursion}
 use Rattle.std.proofs.lemmas.List.{map_more, map-append, length-map, get_or-map, take_all}
 use Rattle.std.proofs.lemmas.List.Elements.{Contains-append_left, Contains-append_right, Contains-append_cases}
@@ -10,7 +10,6 @@ use Rattle.isle_core.specs.declared.TermId.{TermId}
 use Rattle.isle_core.specs.declared.Sym.{Sym}
 use Rattle.isle_core.specs.declared.TypeId.{TypeId}
 use Rattle.isle_core.specs.declared.VarId.{VarId}
-use Rattle.isle_core.specs.declared.types.ReturnKind.{ReturnKind}
 use Rattle.isle_core.specs.declared.types.Term.{Term}
 use Rattle.isle_core.specs.declared.types.TermKind.{TermKind}
 use Rattle.isle_core.specs.declared.types.TermKind.TheVariants as kind
@@ -23,8 +22,8 @@ use Rattle.isle_core.specs.Expr as expr
 use Rattle.isle_core.specs.Expr.{Expr, Exprs, NoExpr, AnExpr}
 use Rattle.isle_core.specs.RuleViews.{expr as seen, exprs_of}
 use Rattle.isle_core.specs.BuiltRule.{IsBuiltKind, HasBuiltTerms, AllHaveBuiltTerms}
-use Rattle.isle_core.specs.Making.{Making, MakesNothing, making_kind, making_of as making_at, making_in, making}
-use Rattle.isle_core.specs.Calling.{Calling, ByTurns, ByCases, NoCall, kind_by, kind_of, may_be_nothing, pure_callee, calling_by, calling_of, calling, instance_of, one_more, impure, impure_all}
+use Rattle.isle_core.specs.Making.{MakesNothing, making_kind, making_of as making_at, making_in, making}
+use Rattle.isle_core.specs.Calling.{Calling, ByTurns, ByCases, NoCall, kind_of, may_be_nothing, pure_callee, calling_by, calling_of, calling, is_fallible, is_ordered, instance_of, one_more, impure, impure_all}
 use Rattle.isle_core.specs.Path as path
 use Rattle.isle_core.specs.Path.{Path, Paths, NoPath, APath, at, at_all, paths_of}
 use Rattle.isle_core.specs.OrderedCalls.{calls as calls_of, calls_all, if_ordered}
@@ -39,10 +38,10 @@ use Rattle.isle_rulesets.specs.declared.made.Made.{Made}
 use Rattle.isle_rulesets.specs.declared.made.Made.TheVariants as made
 use Rattle.isle_rulesets.specs.Keys.{key_path, IsThere, HasParts}
 use Rattle.isle_rulesets.specs.Made.{making_of, whole_key}
-use Rattle.isle_rulesets.specs.Numbering.{Numbered, Extends, Numbers, next_call, Calls}
+use Rattle.isle_rulesets.specs.Numbering.{Numbered, Extends, Numbers, next_call, same_call, Calls}
 use Rattle.isle_rulesets.specs.PatternTests.{path_at}
-use Rattle.isle_rulesets.specs.RightSides.{Variables, StandsAt, Stand, AreThere, Grows, NumbersExpr, NumbersTerm, AllAt, NumbersExprs, Given, AllGiven}
-use Rattle.isle_rulesets.proofs.PlacedPaths.{extends_self, extends_more, at_get, at_kept, contains_there, contains_kept, there_kept}
+use Rattle.isle_rulesets.specs.RightSides.{is_pure, Variables, StandsAt, Stand, AreThere, Grows, NumbersExpr, NumbersTerm, AllAt, NumbersExprs, Given, AllGiven}
+use Rattle.isle_rulesets.proofs.PlacedPaths.{extends_self, extends_more, at_get, at_kept, contains_there, contains_kept, there_kept, all_there_kept}
 use Rattle.isle_rulesets.proofs.PatternTestLaws.{env_of}
 
 -- ---- one step after another
@@ -53,6 +52,7 @@ grows_self n bs = record {
   only = λ p c. inl c;
   all = λ p c. absurd (none_contained p c);
   ordered = λ qs x. sym (append-nil (map (at qs) bs));
+  there = λ h. h;
   calls = omega arith;
 }
 
@@ -62,6 +62,7 @@ grows_then a b c xs ys zs ps qs cs ds k l g h = record {
   only = λ p d. ⊎_elim (λ e. ⊎_elim (λ f. inl f) (λ f. inr (Contains-append_left ps qs p f)) (g.only p e)) (λ e. inr (Contains-append_right ps qs p e)) (h.only p d);
   all = λ p d. ⊎_elim (λ e. contains_kept (paths_of b.bindings) (paths_of c.bindings) p h.extends (g.all p e)) (λ e. h.all p e) (Contains-append_cases ps qs p d);
   ordered = λ rs x. h.ordered rs x ∙ ap (λ ms. ms ++ ds) (g.ordered rs (extends_more (paths_of b.bindings) (paths_of c.bindings) rs h.extends x)) ∙ append_assoc (map (at rs) xs) cs ds;
+  there = λ k. h.there (g.there k);
   calls = h.calls ∙ ap (λ n. n + l) g.calls ∙ assoc;
 }
   where
@@ -76,6 +77,7 @@ gives_key old new bs p b h = record {
   only = λ q c. ⊎_elim (λ d. inl d) (λ e. inr (subst (Contains (p ∷ [])) (sym e) (head_contained p []))) (h.only q c);
   all = λ q c. ⊎_elim (λ e. subst (Contains (paths_of new.bindings)) e (contains_there (paths_of new.bindings) b.0 p h.found)) (λ d. absurd (none_contained q d)) (contained_cases p [] q c);
   ordered = λ qs x. sym (append-nil (map (at qs) bs));
+  there = λ k. all_there_kept (paths_of old.bindings) (paths_of new.bindings) bs h.extends k;
   calls = h.calls ∙ zero_more;
 }
   where
@@ -161,18 +163,26 @@ some_there P [] i x h e = absurd h
 some_there P (y ∷ xs) zero x h e = ap Some (sym e)
 some_there P (y ∷ xs) (suc i) x h e = some_there P xs i x h e
 
-turns_by : (env : Environment) (t : Term) (k : TermKind) → IsBuiltKind k → making_kind k ≡ MakesNothing → (callee : Callee) × (calling_by (kind_of k) (impure_callee env t k) (pure_callee env t k) ≡ ByTurns callee (kind_of k))
-turns_by env t (kind.Decl false false partial recursive constructor.Internal extractor) h m = (Internal (sym_text env t.name), refl)
-turns_by env t (kind.Decl false false partial recursive (constructor.External func) extractor) h m = (External (sym_text env func), refl)
-turns_by env t (kind.Variant ty variant) h m = cc
-turns_by env t (kind.Struct ty) h m = cc
-turns_by env t k h m = absurd h
+-- by turns where it is impure, and by cases where it is pure
+pub data IsCalled (k : TermKind) (c : Calling) : Type 0 where
+  by_turns : (callee : Callee) → is_pure k ≡ false → c ≡ ByTurns callee (kind_of k) → IsCalled k c
+  by_cases : (callee : Callee) → is_pure k ≡ true → c ≡ ByCases callee (kind_of k) → IsCalled k c
 
--- a built term that makes nothing is called by turns
-called_by_turns : (env : Environment) (terms : List Term) (term : TermId) (t : Term) → env.terms ≡ terms → slice_get terms term.0 ≡ Some t → IsBuiltKind t.kind → making_kind t.kind ≡ MakesNothing → (callee : Callee) × (calling env term ≡ ByTurns callee (kind_of t.kind))
-called_by_turns env terms term t same there h m =
-    let k = turns_by env t t.kind h m in
-    (k.0, ap (λ ts. calling_of env (slice_get ts term.0)) same ∙ ap (calling_of env) there ∙ k.1)
+called_kind : (env : Environment) (t : Term) (k : TermKind) → IsBuiltKind k → making_kind k ≡ MakesNothing → IsCalled k (calling_by (kind_of k) (impure_callee env t k) (pure_callee env t k))
+called_kind env t (kind.Decl false false partial recursive constructor.Internal extractor) h m = by_turns (Internal (sym_text env t.name)) refl refl
+called_kind env t (kind.Decl false false partial recursive (constructor.External func) extractor) h m = by_turns (External (sym_text env func)) refl refl
+called_kind env t (kind.Decl true false partial recursive constructor.Internal extractor) h m = by_cases (Internal (sym_text env t.name)) refl refl
+called_kind env t (kind.Decl true false partial recursive (constructor.External func) extractor) h m = by_cases (External (sym_text env func)) refl refl
+called_kind env t (kind.Variant ty variant) h m = absurd cc
+called_kind env t (kind.Struct ty) h m = absurd cc
+called_kind env t k h m = absurd h
+
+-- a built term that makes nothing is called so
+called_in : (terms : List Term) (term : TermId) (t : Term) → IsSomeAnd (slice_get terms term.0) (λ (x : Term). IsBuiltKind x.kind) → making_in terms term ≡ MakesNothing → t ≡ get_or terms term.0 t → (env : Environment) → env.terms ≡ terms → IsCalled t.kind (calling env term)
+called_in terms term t h none here env same =
+    let there = some_there (λ (x : Term). IsBuiltKind x.kind) terms term.0 t h here in
+    subst (IsCalled t.kind) (sym (ap (λ ts. calling_of env (slice_get ts term.0)) same ∙ ap (calling_of env) there))
+    (called_kind env t t.kind (some_at (λ (x : Term). IsBuiltKind x.kind) terms term.0 t h here) (sym (ap making_at there) ∙ none))
 
 no_call_by : (env : Environment) (t : Term) (k : TermKind) (m : Made) → making_kind k ≡ making_of m → calling_by (kind_of k) (impure_callee env t k) (pure_callee env t k) ≡ NoCall
 no_call_by env t (kind.Variant ty variant) m e = refl
@@ -187,29 +197,6 @@ no_call_of env (Some t) m e = no_call_by env t t.kind m e
 -- a term that makes something is not called
 no_call : (env : Environment) (terms : List Term) (term : TermId) (m : Made) → env.terms ≡ terms → making_in terms term ≡ making_of m → calling env term ≡ NoCall
 no_call env terms term m same e = no_call_of env (slice_get env.terms term.0) m (ap (λ ts. making_in ts term) same ∙ e)
-
--- so of a term that is there
-some_item : {A : Type 0} (P : A → Type 0) (o : Option A) → IsSomeAnd o P → (x : A) × (o ≡ Some x) × P x
-some_item P None h = absurd h
-some_item P (Some x) h = (x, refl, h)
-
--- by turns where it makes nothing, or not at all
-pub data IsTurns (mk : Making) (c : Calling) : Type 0 where
-  takes : (callee : Callee) (kind : ReturnKind) → mk ≡ MakesNothing → c ≡ ByTurns callee kind → IsTurns mk c
-  never : c ≡ NoCall → IsTurns mk c
-
-turns_kind : (env : Environment) (t : Term) (k : TermKind) → IsBuiltKind k → IsTurns (making_kind k) (calling_by (kind_of k) (impure_callee env t k) (pure_callee env t k))
-turns_kind env t (kind.Decl false false partial recursive constructor.Internal extractor) h = takes (Internal (sym_text env t.name)) (kind_by false partial) refl refl
-turns_kind env t (kind.Decl false false partial recursive (constructor.External func) extractor) h = takes (External (sym_text env func)) (kind_by false partial) refl refl
-turns_kind env t (kind.Variant ty variant) h = never refl
-turns_kind env t (kind.Struct ty) h = never refl
-turns_kind env t k h = absurd h
-
--- a built term is called so
-pub turns_of : (env : Environment) (terms : List Term) (term : TermId) → env.terms ≡ terms → IsSomeAnd (slice_get terms term.0) (λ (x : Term). IsBuiltKind x.kind) → IsTurns (making env term) (calling env term)
-turns_of env terms term same h =
-    let t = some_item (λ (x : Term). IsBuiltKind x.kind) (slice_get terms term.0) h in
-    subst (λ o. IsTurns (making_at o) (calling_of env o)) (sym (ap (λ ts. slice_get ts term.0) same ∙ t.1)) (turns_kind env t.0 t.0.kind t.2)
 
 -- the key of what is made has the path of the term
 whole_path : (ps : List Path) (m : Made) (term : TermId) (bs : List BindingId) (instance : ℕ) → key_path ps (whole_key m bs) ≡ term_path (making_of m) term (at_all ps bs) instance
@@ -241,44 +228,88 @@ pub made_given : {E : Type 0} (r : Result BindingId E) (terms : List Term) (term
 made_given (Err x) terms term m bs old new ordered makes h = tt
 made_given (Ok b) terms term m bs old new ordered makes h = made_numbers terms term m bs old new ordered b makes h
 
--- a call that was added
-pub call_given : (old new : Numbered) (before after : List BindingId) (terms : List Term) (term : TermId) (t : Term) (partial : Bool) (bs : List BindingId) (call value : BindingId) → IsSomeAnd (slice_get terms term.0) (λ (x : Term). IsBuiltKind x.kind) → making_in terms term ≡ MakesNothing → t ≡ get_or terms term.0 t
-    → partial ≡ may_be_nothing (kind_of t.kind) → Calls old new (next_call old term bs) partial call value → after ≡ before ++ call ∷ []
-    → (env : Environment) → env.terms ≡ terms → NumbersTerm old new before after (calling env term) (call_path env term (at_all (paths_of old.bindings) bs) old.calls) value
-call_given old new before after terms term t partial bs call value h called here of k more env same =
-    let fallible = may_be_nothing (kind_of t.kind) in
-    let added : Calls old new (next_call old term bs) fallible call value = subst (λ b. Calls old new (next_call old term bs) b call value) of k in
-    let making_is : making env term ≡ MakesNothing = ap (λ ts. making_in ts term) same ∙ called in
-    subst (λ mk. NumbersTerm old new before after (calling env term) (term_path mk term (at_all (paths_of old.bindings) bs) (instance_of (calling env term) old.calls)) value) (sym making_is)
-    (subst (λ c. NumbersTerm old new before after c (path.Called term (at_all (paths_of old.bindings) bs) (instance_of c old.calls)) value) (sym turns.1)
-    (record {
-      grows = record {
-        extends = added.extends;
-        only = added.only;
-        all = all fallible added;
-        ordered = λ qs x. ap (map (at qs)) more ∙ map-append (at qs) before (call ∷ []) ∙ ap (λ q. map (at qs) before ++ q ∷ []) (at_kept (paths_of new.bindings) qs call p x added.found);
-        calls = added.calls ∙ one_more_is;
-      };
-      found = added.value;
-    }))
+-- ---- a call that has numbers
+
+all_there_push : (ps : List Path) (bs : List BindingId) (b : BindingId) → AllByRecursion (IsThere ps) bs → IsThere ps b → AllByRecursion (IsThere ps) (bs ++ b ∷ [])
+all_there_push ps [] b h k = (k, tt)
+all_there_push ps (c ∷ bs) b h k = (h.0, all_there_push ps bs b h.1 k)
+
+-- it joins those before where its place counts
+call_numbers : (old new : Numbered) (before after : List BindingId) (c : Calling) (p : Path) (n : ℕ) (call value : BindingId) → Calls old new p (is_fallible c) n call value → n ≡ old.calls + one_more c 0 → after ≡ before ++ (if is_ordered c then call ∷ [] else [])
+    → NumbersTerm old new before after c p value
+call_numbers old new before after c p n call value k count more = record {
+  grows = record {
+    extends = k.extends;
+    only = k.only;
+    all = λ q d. all (is_fallible c) k q d;
+    ordered = λ qs x. joined qs x (is_ordered c) more;
+    there = λ h. behind_it (is_ordered c) more h;
+    calls = k.calls ∙ count;
+  };
+  found = k.value;
+}
   where
-    turns : (callee : Callee) × (calling env term ≡ ByTurns callee (kind_of t.kind))
-    turns =
-        let there = some_there (λ (x : Term). IsBuiltKind x.kind) terms term.0 t h here in
-        called_by_turns env terms term t same there (some_at (λ (x : Term). IsBuiltKind x.kind) terms term.0 t h here) (sym (ap making_at there) ∙ called)
-
-    p : Path
-    p = next_call old term bs
-
-    one_more_is : suc old.calls ≡ old.calls + 1
-    one_more_is = omega arith
-
-    all : (b : Bool) → Calls old new (next_call old term bs) b call value → (q : Path) → Contains (if b then next_call old term bs ∷ path.Inner (next_call old term bs) ∷ [] else next_call old term bs ∷ []) q → Contains (paths_of new.bindings) q
-    all true c q d =
-        ⊎_elim (λ e. subst (Contains (paths_of new.bindings)) e (contains_there (paths_of new.bindings) call.0 p c.found))
-        (λ f. ⊎_elim (λ e. subst (Contains (paths_of new.bindings)) e (contains_there (paths_of new.bindings) value.0 (path.Inner p) c.value)) (λ n. absurd (none_contained q n)) (contained_cases (path.Inner p) [] q f))
+    all : (b : Bool) → Calls old new p b n call value → (q : Path) → Contains (if b then p ∷ path.Inner p ∷ [] else p ∷ []) q → Contains (paths_of new.bindings) q
+    all true h q d =
+        ⊎_elim (λ e. subst (Contains (paths_of new.bindings)) e (contains_there (paths_of new.bindings) call.0 p h.found))
+        (λ f. ⊎_elim (λ e. subst (Contains (paths_of new.bindings)) e (contains_there (paths_of new.bindings) value.0 (path.Inner p) h.value)) (λ n. absurd (none_contained q n)) (contained_cases (path.Inner p) [] q f))
         (contained_cases p (path.Inner p ∷ []) q d)
-    all false c q d = ⊎_elim (λ e. subst (Contains (paths_of new.bindings)) e (contains_there (paths_of new.bindings) call.0 p c.found)) (λ n. absurd (none_contained q n)) (contained_cases p [] q d)
+    all false h q d = ⊎_elim (λ e. subst (Contains (paths_of new.bindings)) e (contains_there (paths_of new.bindings) call.0 p h.found)) (λ n. absurd (none_contained q n)) (contained_cases p [] q d)
+
+    joined : (qs : List Path) → Extends (paths_of new.bindings) qs → (b : Bool) → after ≡ before ++ (if b then call ∷ [] else []) → map (at qs) after ≡ map (at qs) before ++ (if b then p ∷ [] else [])
+    joined qs x true e = ap (map (at qs)) e ∙ map-append (at qs) before (call ∷ []) ∙ ap (λ q. map (at qs) before ++ q ∷ []) (at_kept (paths_of new.bindings) qs call p x k.found)
+    joined qs x false e = ap (map (at qs)) e ∙ map-append (at qs) before []
+
+    behind_it : (b : Bool) → after ≡ before ++ (if b then call ∷ [] else []) → AllByRecursion (IsThere (paths_of old.bindings)) before → AllByRecursion (IsThere (paths_of new.bindings)) after
+    behind_it true e h = subst (AllByRecursion (IsThere (paths_of new.bindings))) (sym e) (all_there_push (paths_of new.bindings) before call (all_there_kept (paths_of old.bindings) (paths_of new.bindings) before k.extends h) (p, k.found))
+    behind_it false e h = subst (AllByRecursion (IsThere (paths_of new.bindings))) (sym (e ∙ append-nil before)) (all_there_kept (paths_of old.bindings) (paths_of new.bindings) before k.extends h)
+
+-- of a term that is called so
+as_called : (terms : List Term) (term : TermId) (bs : List BindingId) (c : Calling) (old new : Numbered) (before after : List BindingId) (b value : BindingId) (env : Environment) → env.terms ≡ terms → making_in terms term ≡ MakesNothing → calling env term ≡ c → b ≡ value
+    → NumbersTerm old new before after c (path.Called term (at_all (paths_of old.bindings) bs) (instance_of c old.calls)) value → NumbersTerm old new before after (calling env term) (call_path env term (at_all (paths_of old.bindings) bs) old.calls) b
+as_called terms term bs c old new before after b value env same none is of h =
+    let making_is : making env term ≡ MakesNothing = ap (λ ts. making_in ts term) same ∙ none in
+    subst (λ mk. NumbersTerm old new before after (calling env term) (term_path mk term (at_all (paths_of old.bindings) bs) (instance_of (calling env term) old.calls)) b) (sym making_is)
+    (subst (λ d. NumbersTerm old new before after d (path.Called term (at_all (paths_of old.bindings) bs) (instance_of d old.calls)) b) (sym is)
+    (subst (NumbersTerm old new before after c (path.Called term (at_all (paths_of old.bindings) bs) (instance_of c old.calls))) (sym of) h))
+
+not_both : (b : Bool) → b ≡ true → b ≡ false → ⊥
+not_both true e f = cc
+not_both false e f = cc
+
+one_more_is : (n : ℕ) → suc n ≡ n + 1
+one_more_is n = omega arith
+
+none_more : (n : ℕ) → n ≡ n + 0
+none_more n = omega arith
+
+-- an impure call
+pub impure_given : {E : Type 0} (r : Result BindingId E) (old new : Numbered) (before after : List BindingId) (terms : List Term) (term : TermId) (t : Term) (partial : Bool) (bs : List BindingId) (call value : BindingId)
+    → IsSomeAnd (slice_get terms term.0) (λ (x : Term). IsBuiltKind x.kind) → making_in terms term ≡ MakesNothing → t ≡ get_or terms term.0 t → is_pure t.kind ≡ false → partial ≡ may_be_nothing (kind_of t.kind)
+    → Calls old new (next_call old term bs) partial (suc old.calls) call value → IfOk r (λ b. b ≡ value) → OnOk r (after ≡ before ++ call ∷ []) → IfOk r (TermGiven terms term bs old new before after)
+impure_given (Err x) old new before after terms term t partial bs call value h none here pure of k is more = tt
+impure_given (Ok b) old new before after terms term t partial bs call value h none here pure of k is more = λ env same. pick env same (called_in terms term t h none here env same)
+  where
+    pick : (env : Environment) → env.terms ≡ terms → IsCalled t.kind (calling env term) → NumbersTerm old new before after (calling env term) (call_path env term (at_all (paths_of old.bindings) bs) old.calls) b
+    pick env same (by_turns callee impure called) =
+        let c = ByTurns callee (kind_of t.kind) in
+        as_called terms term bs c old new before after b value env same none called is
+        (call_numbers old new before after c (next_call old term bs) (suc old.calls) call value (subst (λ f. Calls old new (next_call old term bs) f (suc old.calls) call value) of k) (one_more_is old.calls) more)
+    pick env same (by_cases callee is_so called) = absurd (not_both (is_pure t.kind) is_so pure)
+
+-- a pure one
+pub pure_given : {E : Type 0} (r : Result BindingId E) (old new : Numbered) (before after : List BindingId) (terms : List Term) (term : TermId) (t : Term) (partial : Bool) (bs : List BindingId) (call value : BindingId)
+    → IsSomeAnd (slice_get terms term.0) (λ (x : Term). IsBuiltKind x.kind) → making_in terms term ≡ MakesNothing → t ≡ get_or terms term.0 t → is_pure t.kind ≡ true → partial ≡ may_be_nothing (kind_of t.kind)
+    → Calls old new (same_call old term bs) partial old.calls call value → IfOk r (λ b. b ≡ value) → OnOk r (after ≡ before ++ (if partial then call ∷ [] else [])) → IfOk r (TermGiven terms term bs old new before after)
+pure_given (Err x) old new before after terms term t partial bs call value h none here pure of k is more = tt
+pure_given (Ok b) old new before after terms term t partial bs call value h none here pure of k is more = λ env same. pick env same (called_in terms term t h none here env same)
+  where
+    pick : (env : Environment) → env.terms ≡ terms → IsCalled t.kind (calling env term) → NumbersTerm old new before after (calling env term) (call_path env term (at_all (paths_of old.bindings) bs) old.calls) b
+    pick env same (by_turns callee impure called) = absurd (not_both (is_pure t.kind) pure impure)
+    pick env same (by_cases callee is_so called) =
+        let c = ByCases callee (kind_of t.kind) in
+        as_called terms term bs c old new before after b value env same none called is
+        (call_numbers old new before after c (same_call old term bs) old.calls call value (subst (λ f. Calls old new (same_call old term bs) f old.calls call value) of k) (none_more old.calls) (subst (λ f. after ≡ before ++ (if f then call ∷ [] else [])) of more))
 
 -- a call behind its arguments, where it was added
 pub given_call : {E : Type 0} (r : Result BindingId E) (terms : List Term) (variables : Variables) (old mid new : Numbered) (before middle after : List BindingId) (e : Expr) (ty : TypeId) (term : TermId) (es : Exprs) (bs : List BindingId) → e ≡ expr.Term ty term es

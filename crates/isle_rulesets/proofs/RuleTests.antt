@@ -4,17 +4,25 @@ use Rattle.std.specs.Prelude.{Contains, filter}
 use Rattle.std.specs.List.{AllByRecursion}
 use Rattle.std.proofs.lemmas.Bool.{false≢true}
 use Rattle.std.proofs.lemmas.List.Elements.{All-contains, All-from_recursion, recursion_from_All}
-use Rattle.isle_core.specs.BuiltRule.{IsBuiltPattern, AreBuiltPatterns, IsBuiltRule}
-use Rattle.isle_core.specs.Calling.{Calling, is_fallible, answers_often}
+use Rattle.isle_core.specs.BuiltRule.{IsBuiltPattern, AreBuiltPatterns, IsBuiltIfLet, IsBuiltRule, HasBuiltTerms, AllHaveBuiltTerms, BindingsHaveBuiltTerms}
+use Rattle.isle_core.specs.declared.types.Term.{Term}
+use Rattle.isle_core.specs.Calling.{Calling, calling, instance_of, is_fallible, answers_often}
+use Rattle.isle_core.specs.Expr as expr
+use Rattle.isle_core.specs.Expr.{Expr, Exprs, NoExpr, AnExpr, LetBindings, NoBinding, ABinding}
+use Rattle.isle_core.specs.Making.{making}
+use Rattle.isle_core.specs.Match.{with}
+use Rattle.isle_core.specs.RightSide.{call_path, path, paths, let_places}
 use Rattle.isle_core.specs.Opening.{Opening, AsVariant, AsStruct, ByExtractor, opening, part_path}
 use Rattle.isle_core.specs.Pattern as pattern
 use Rattle.isle_core.specs.Pattern.{Pattern, Patterns, NoPattern, APattern, Var, ConstBool, ConstInt, ConstPrim, Wildcard, BindPattern, And}
 use Rattle.isle_core.specs.Path.{Path, Nowhere, Arg, Extracted}
-use Rattle.isle_core.specs.Tests.{Test, Is, Equal, Never, Places, no_places, met_tests, met_after, found_tests, opening_tests, tests, parts_tests, each_tests, after, args_tests, rule_tests}
-use Rattle.isle_core.proofs.SetMeans.{without_iflets}
-use Rattle.isle_core.specs.Rule.{Environment, Rule}
+use Rattle.isle_core.specs.Tests.{Test, Is, Equal, Never, Places, no_places, met_tests, met_after, found_tests, opening_tests, tests, parts_tests, each_tests, after, args_tests, args_after, called_tests, all_called_tests, bindings_called_tests, iflets_tests, rule_tests}
+use Rattle.isle_core.specs.Scope.{IsScopedRule}
+use Rattle.isle_core.specs.Rule.{Environment, IfLet, Rule}
 use Rattle.isle_core.proofs.Contained.{head_contained, tail_contained, contained_cases, none_contained}
-use Rattle.isle_rulesets.proofs.VariablePlaces.{IsLone, AreLone, IsLoneOpening, opening_lone, call_lone, part_lone, after_lone, arg_lone, none_lone}
+use Rattle.isle_rulesets.proofs.VariablePlaces.{IsLone, AreLone, IsLoneOpening, opening_lone, call_lone, part_lone, after_lone, arg_lone, none_lone, place_lone}
+use Rattle.isle_rulesets.proofs.ConditionCalls.{terms_built}
+use Rattle.isle_rulesets.proofs.ExprPlaces.{called_once, term_somewhere, all_both, AreReached, rule_reached}
 
 -- ---- tests of what stands somewhere
 
@@ -27,10 +35,6 @@ abbrev pub Stands : Test → Type 0
 Stands (Is q c) = IsSomewhere q
 Stands (Equal r q) = IsSomewhere r × IsSomewhere q
 Stands Never = ⊥
-
-all_both : {A : Type 0} (P : A → Type 0) (xs ys : List A) → AllByRecursion P xs → AllByRecursion P ys → AllByRecursion P (xs ++ ys)
-all_both P [] ys h k = k
-all_both P (x ∷ xs) ys h k = (h.0, all_both P xs ys h.1 k)
 
 met_stand : (o : Option Path) (p : Path) → ((r : Path) → o ≡ Some r → IsSomewhere r) → IsSomewhere p → AllByRecursion Stands (met_tests o p)
 met_stand None p w a = tt
@@ -79,11 +83,49 @@ args_stand env (q ∷ qs) i places b w =
     let rest = after env q (Arg i) places in
     all_both Stands (tests env q (Arg i) places) (args_tests env qs (suc i) rest) (tests_stand q env (Arg i) places b.0 (arg_lone env i) w) (args_stand env qs (suc i) rest b.1 (after_lone q env (Arg i) places b.0 (arg_lone env i) w))
 
+-- that calls find something is said of what stands somewhere
+mutual
+  called_stand : (e : Expr) (env : Environment) (terms : List Term) (places : Places) → env.terms ≡ terms → HasBuiltTerms terms e → AllByRecursion Stands (called_tests env e places)
+  called_stand (expr.Var ty x) env terms places same i = tt
+  called_stand (expr.ConstBool v) env terms places same i = tt
+  called_stand (expr.ConstInt ty v) env terms places same i = tt
+  called_stand (expr.ConstPrim ty name) env terms places same i = tt
+  called_stand (expr.Term ty term es) env terms places same i =
+      let p = call_path env term (paths env es places 0) 0 in
+      all_both Stands (all_called_tests env es places) (found_tests (calling env term) p) (all_called_stand es env terms places same i.1)
+      (found_stand (calling env term) p (is_fallible (calling env term)) refl (called_once env terms term same i.0) (term_somewhere (making env term) term (paths env es places 0) (instance_of (calling env term) 0)))
+  called_stand (expr.Let ty bs inner) env terms places same i =
+      all_both Stands (bindings_called_tests env bs places) (called_tests env inner (let_places env bs places 0)) (bindings_called_stand bs env terms places same i.0) (called_stand inner env terms (let_places env bs places 0) same i.1)
+
+  all_called_stand : (es : Exprs) (env : Environment) (terms : List Term) (places : Places) → env.terms ≡ terms → AllHaveBuiltTerms terms es → AllByRecursion Stands (all_called_tests env es places)
+  all_called_stand NoExpr env terms places same i = tt
+  all_called_stand (AnExpr e es) env terms places same i = all_both Stands (called_tests env e places) (all_called_tests env es places) (called_stand e env terms places same i.0) (all_called_stand es env terms places same i.1)
+
+  bindings_called_stand : (bs : LetBindings) (env : Environment) (terms : List Term) (places : Places) → env.terms ≡ terms → BindingsHaveBuiltTerms terms bs → AllByRecursion Stands (bindings_called_tests env bs places)
+  bindings_called_stand NoBinding env terms places same i = tt
+  bindings_called_stand (ABinding x ty e bs) env terms places same i =
+      let mid = with places x.0 (path env e places 0) in
+      all_both Stands (called_tests env e places) (bindings_called_tests env bs mid) (called_stand e env terms places same i.0) (bindings_called_stand bs env terms mid same i.1)
+
+iflets_stand : (env : Environment) (cs : List IfLet) (places : Places) → AllByRecursion (IsBuiltIfLet env.terms) cs → AreReached env cs places → AreLone env places → AllByRecursion Stands (iflets_tests env cs places)
+iflets_stand env [] places b r w = tt
+iflets_stand env (c ∷ cs) places b r w =
+    let p = path env c.rhs places 0 in
+    let rest = after env c.lhs p places in
+    all_both Stands (called_tests env c.rhs places ++ tests env c.lhs p places) (iflets_tests env cs rest)
+    (all_both Stands (called_tests env c.rhs places) (tests env c.lhs p places) (called_stand c.rhs env env.terms places refl (terms_built c.rhs env.terms b.0.calls)) (tests_stand c.lhs env p places b.0.lhs r.0 w))
+    (iflets_stand env cs rest b.1 r.1 (after_lone c.lhs env p places b.0.lhs r.0 w))
+
 -- each test of a rule is one of what stands somewhere
-pub rule_stands : (env : Environment) (r : Rule) (t : Test) → IsBuiltRule env.terms r → Contains (rule_tests env r) t → Stands t
-rule_stands env r t b c =
+pub rule_stands : (env : Environment) (r : Rule) (t : Test) → IsBuiltRule env.terms r → IsScopedRule r → Contains (rule_tests env r) t → Stands t
+rule_stands env r t b s c =
+    let args = recursion_from_All (IsBuiltPattern env.terms) r.args b.args in
     let ts = args_tests env r.args 0 no_places in
-    All-contains Stands ts t (All-from_recursion Stands ts (args_stand env r.args 0 no_places (recursion_from_All (IsBuiltPattern env.terms) r.args b.args) (none_lone env))) (subst (λ us. Contains us t) (without_iflets env r b.iflets) c)
+    let places = args_after env r.args 0 no_places in
+    let us = iflets_tests env r.iflets places in
+    All-contains Stands (ts ++ us) t
+    (All-from_recursion Stands (ts ++ us)
+    (all_both Stands ts us (args_stand env r.args 0 no_places args (none_lone env)) (iflets_stand env r.iflets places (recursion_from_All (IsBuiltIfLet env.terms) r.iflets b.iflets) (rule_reached env r b s.iflets) (place_lone env r.args args)))) c
 
 -- ---- what is left of a list
 

@@ -67,7 +67,7 @@ with_lone env true q o p h k e = subst (IsLone env) (some_same q p e) h
     some_same a b f = cc
 with_lone env false q o p h k e = k e
 
-met_lone : (env : Environment) (o : Option Path) (x : ℕ) (p : Path) (places : Places) → IsLone env p → AreLone env places → AreLone env (met_after o x p places)
+pub met_lone : (env : Environment) (o : Option Path) (x : ℕ) (p : Path) (places : Places) → IsLone env p → AreLone env places → AreLone env (met_after o x p places)
 met_lone env None x p places a w y r e = with_lone env (eqb x y) p (places y) r a (w y r) e
 met_lone env (Some q) x p places a w y r e = w y r e
 

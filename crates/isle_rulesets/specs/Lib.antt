@@ -6,5 +6,6 @@ pub mod PatternTests
 pub mod Opened
 pub mod Firsts
 pub mod RightSides
+pub mod Conditions
 pub mod FlatRules
 pub mod Grouping

@@ -1,5 +1,5 @@
 -- Bindings numbered in order, each path once.
-use Rattle.std.specs.Prelude.{◌≡◌, ◌⊎◌, ◌≤◌, ℕ, suc, List, [], ◌∷◌, length, Bool, false, Option, Some, ◌==◌, ◌&&◌, nat_lt, if◌then◌else◌, slice_get, Contains}
+use Rattle.std.specs.Prelude.{◌≡◌, ◌⊎◌, ◌<◌, ◌≤◌, ℕ, suc, List, [], ◌∷◌, length, Bool, false, Option, Some, ◌==◌, ◌&&◌, nat_lt, if◌then◌else◌, slice_get, Contains}
 use Rattle.std.specs.BTreeMap.{BTreeMap, get}
 use Rattle.isle_core.specs.declared.BindingId.{BindingId}
 use Rattle.isle_core.specs.declared.TermId.{TermId}
@@ -10,7 +10,7 @@ use Rattle.isle_rulesets.specs.declared.keys.Key.{Key}
 use Rattle.isle_rulesets.specs.declared.keys.Key.TheVariants as key
 use Rattle.isle_rulesets.specs.Keys.{key_cmp, key_path, HasParts}
 
--- bindings, and how many of them are calls
+-- bindings, and how many of them are impure calls
 pub record Numbered : Type 0 where
   pub bindings : List Binding
   pub calls : ℕ
@@ -33,17 +33,21 @@ pub record Numbers (old new : Numbered) (p : Path) (b : BindingId) : Type 0 wher
   pub only : (q : Path) → Contains (paths_of new.bindings) q → Contains (paths_of old.bindings) q ⊎ (q ≡ p)
   pub calls : new.calls ≡ old.calls
 
--- the next call of a term on numbers
+-- the next impure call of a term on numbers
 abbrev pub next_call : Numbered → TermId → List BindingId → Path
 next_call old term parameters = Called term (at_all (paths_of old.bindings) parameters) (suc old.calls)
 
--- the next call has a number and its value one, its inner value where it may be nothing, and nothing else was added
-pub record Calls (old new : Numbered) (p : Path) (partial : Bool) (call result : BindingId) : Type 0 where
+-- the pure call of a term on numbers
+abbrev pub same_call : Numbered → TermId → List BindingId → Path
+same_call old term parameters = Called term (at_all (paths_of old.bindings) parameters) 0
+
+-- the call has a number and its value one, its inner value where it may be nothing, nothing else was added, and so many calls were counted
+pub record Calls (old new : Numbered) (p : Path) (partial : Bool) (count : ℕ) (call result : BindingId) : Type 0 where
   pub found : slice_get (paths_of new.bindings) call.0 ≡ Some p
   pub value : slice_get (paths_of new.bindings) result.0 ≡ Some (if partial then Inner p else p)
   pub extends : Extends (paths_of old.bindings) (paths_of new.bindings)
   pub only : (q : Path) → Contains (paths_of new.bindings) q → Contains (paths_of old.bindings) q ⊎ Contains (if partial then p ∷ Inner p ∷ [] else p ∷ []) q
-  pub calls : new.calls ≡ suc old.calls
+  pub calls : new.calls ≡ count
 
 -- the number of a key: an argument below the count has its index, and any other key what the map has
 abbrev pub known : ℕ → BTreeMap Key BindingId → Key → Option BindingId
@@ -52,6 +56,7 @@ known count numbers (key.ConstBool val) = get key_cmp numbers (key.ConstBool val
 known count numbers (key.ConstInt ty val) = get key_cmp numbers (key.ConstInt ty val)
 known count numbers (key.ConstPrim val) = get key_cmp numbers (key.ConstPrim val)
 known count numbers (key.Extractor term parameter) = get key_cmp numbers (key.Extractor term parameter)
+known count numbers (key.Constructor term parameters) = get key_cmp numbers (key.Constructor term parameters)
 known count numbers (key.MatchVariant source variant field) = get key_cmp numbers (key.MatchVariant source variant field)
 known count numbers (key.ExtractStruct source field) = get key_cmp numbers (key.ExtractStruct source field)
 known count numbers (key.MakeVariant ty variant fields) = get key_cmp numbers (key.MakeVariant ty variant fields)
@@ -66,6 +71,7 @@ is_next count number (key.ConstBool val) = false
 is_next count number (key.ConstInt ty val) = false
 is_next count number (key.ConstPrim val) = false
 is_next count number (key.Extractor term parameter) = false
+is_next count number (key.Constructor term parameters) = false
 is_next count number (key.MatchVariant source variant field) = false
 is_next count number (key.ExtractStruct source field) = false
 is_next count number (key.MakeVariant ty variant fields) = false
@@ -77,9 +83,9 @@ is_next count number (key.MatchTuple source field) = false
 abbrev pub IsKeyed : List Path → (Key → Option BindingId) → ℕ → Path → Type 0
 IsKeyed ps numbers b p = (k : Key) × (p ≡ key_path ps k) × (numbers k ≡ Some (record { 0 = b }))
 
--- a call of an occurrence up to this one
+-- an impure call, of an occurrence up to this one
 abbrev pub IsCallUpTo : ℕ → Path → Type 0
-IsCallUpTo n (Called term ps instance) = instance ≤ n
+IsCallUpTo n (Called term ps instance) = (0 < instance) × (instance ≤ n)
 IsCallUpTo n Nowhere = ⊥
 IsCallUpTo n (Arg i) = ⊥
 IsCallUpTo n (ConstBool of b) = ⊥

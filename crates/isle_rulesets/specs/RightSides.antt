@@ -1,7 +1,10 @@
 -- How the right side of a rule is numbered.
-use Rattle.std.specs.Prelude.{◌≡◌, ◌⊎◌, ℕ, ◌+◌, List, [], ◌∷◌, ◌++◌, Option, Some, None, map, slice_get, Contains}
+use Rattle.std.specs.Prelude.{◌≡◌, ◌⊎◌, ℕ, ◌+◌, List, [], ◌∷◌, ◌++◌, Bool, false, Option, Some, None, map, slice_get, Contains}
+use Rattle.std.specs.List.{AllByRecursion}
 use Rattle.isle_core.specs.declared.BindingId.{BindingId}
 use Rattle.isle_core.specs.declared.types.Term.{Term}
+use Rattle.isle_core.specs.declared.types.TermKind.{TermKind}
+use Rattle.isle_core.specs.declared.types.TermKind.TheVariants as kind
 use Rattle.isle_core.specs.declared.rules.LetBinding.{LetBinding}
 use Rattle.isle_core.specs.Expr.{Expr, Exprs, LetBindings}
 use Rattle.isle_core.specs.RuleViews.{SeenBinding, expr}
@@ -16,6 +19,12 @@ use Rattle.isle_core.specs.Rule.{Environment}
 use Rattle.isle_scope.specs.Table.{held}
 use Rattle.isle_rulesets.specs.Keys.{IsThere}
 use Rattle.isle_rulesets.specs.Numbering.{Numbered, Extends}
+
+-- whether a term of this kind is pure
+abbrev pub is_pure : TermKind → Bool
+is_pure (kind.Variant ty variant) = false
+is_pure (kind.Struct ty) = false
+is_pure (kind.Decl pure multi partial recursive constructor extractor) = pure
 
 -- variables with their numbers, in the order in which they were bound
 abbrev pub Variables : Type 0
@@ -44,12 +53,14 @@ pub record Stand (ps : List Path) (variables : Variables) (places : Places) : Ty
 pub record AreThere (ps : List Path) (variables : Variables) : Type 0 where
   pub by : (x : ℕ) (b : BindingId) → held variables x ≡ Some b → IsThere ps b
 
--- these paths are numbered and nothing else was, and these calls, of which so many count, stand in order behind those before
+-- these paths are numbered and nothing else was, these calls, of which so many count, stand in order behind those before, and
+-- a path stands at the number of each
 pub record Grows (old new : Numbered) (before after : List BindingId) (ps cs : List Path) (more : ℕ) : Type 0 where
   pub extends : Extends (paths_of old.bindings) (paths_of new.bindings)
   pub only : (p : Path) → Contains (paths_of new.bindings) p → Contains (paths_of old.bindings) p ⊎ Contains ps p
   pub all : (p : Path) → Contains ps p → Contains (paths_of new.bindings) p
   pub ordered : (qs : List Path) → Extends (paths_of new.bindings) qs → map (at qs) after ≡ map (at qs) before ++ cs
+  pub there : AllByRecursion (IsThere (paths_of old.bindings)) before → AllByRecursion (IsThere (paths_of new.bindings)) after
   pub calls : new.calls ≡ old.calls + more
 
 -- what a term makes of numbers, or its call on them, was numbered, and its value has this number

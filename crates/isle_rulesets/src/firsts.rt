@@ -44,6 +44,13 @@ fn of_two(
     Ok(kept)
 }
 
+/// Returns each call where it stands first. The only error is want of memory.
+pub fn first_calls(alloc: Global, calls: &[BindingId]) -> Result<Vec<BindingId>, AllocError>
+    ensures { IfOk result (λ found. AreFirsts [] calls.now found.items) }
+{
+    firsts(alloc, calls)
+}
+
 /// Returns each constraint where it stands first. The only error is want of memory.
 pub fn first_constraints(
     alloc: Global,

@@ -6,9 +6,9 @@ ghost use Rattle.isle_core.specs.StandsFor.{StandsFor};
 ghost use Rattle.isle_core.specs.Rule.{Environment};
 ghost use Rattle.isle_rulesets.specs.FlatRules.{Adds};
 
-use crate::firsts::{first_constraints, first_equals};
+use crate::conditions::number_patterns;
+use crate::firsts::{first_calls, first_constraints, first_equals};
 use crate::numbering::Numbering;
-use crate::patterns::number_arguments;
 use crate::right_side::number_expr;
 use isle_core::{FlatRule, List, Rule, RuleSet, Term};
 use std::alloc::{AllocError, Global};
@@ -25,17 +25,18 @@ fn flat_rule(
     requires terms { CallsBuiltTerms terms.now (seen rule.now) }
     ensures { IfOk result (λ f. (env : Environment) → env.terms ≡ terms.now → Adds env numbering.old numbering.new (seen rule.now) f) }
 {
-    let mut pattern_tests = number_arguments(alloc, terms, numbering, rule.args.as_slice())?;
-    let mut ordered = Vec::new(alloc);
+    let mut pattern_tests = number_patterns(alloc, terms, numbering, rule)?;
+    let mut calls = Vec::new(alloc);
     let result = number_expr(
         alloc,
         terms,
         &mut pattern_tests.variables,
         numbering,
-        &mut ordered,
+        &mut calls,
         &rule.rhs,
     )?;
     let constraints = first_constraints(alloc, pattern_tests.constraints.as_slice())?;
+    let ordered = first_calls(alloc, calls.as_slice())?;
     let equals = first_equals(alloc, pattern_tests.equals.as_slice())?;
     Ok(FlatRule {
         pos: rule.pos,

@@ -5,7 +5,7 @@ use crate::parts::Parts;
 use isle_core::{Binding, BindingId, Sym, TermId, TupleIndex, TypeId, VariantId};
 use std::alloc::{AllocError, Global};
 
-/// What tells a binding from the others.
+/// What tells a binding from the others; the call of a constructor is a pure one.
 #[derive(PartialEq, Eq, PartialOrd, Ord)]
 pub enum Key {
     Argument(usize),
@@ -15,6 +15,10 @@ pub enum Key {
     Extractor {
         term: TermId,
         parameter: BindingId,
+    },
+    Constructor {
+        term: TermId,
+        parameters: Parts,
     },
     MatchVariant {
         source: BindingId,
@@ -54,6 +58,10 @@ impl Drop for Key {
             Key::Extractor {
                 term: _term,
                 parameter: _parameter,
+            } => {}
+            Key::Constructor {
+                term: _term,
+                parameters: _parameters,
             } => {}
             Key::MatchVariant {
                 source: _source,
@@ -98,6 +106,11 @@ impl Key {
             Key::Extractor { term, parameter } => Binding::Extractor {
                 term: *term,
                 parameter: *parameter,
+            },
+            Key::Constructor { term, parameters } => Binding::Constructor {
+                term: *term,
+                parameters: parameters.copied(alloc)?,
+                instance: 0,
             },
             Key::MatchVariant {
                 source,

@@ -1,6 +1,7 @@
 //! From rules to rule sets that stand for them.
 #![tactic(auto)]
 
+mod conditions;
 mod firsts;
 mod flat_rules;
 mod grouping;

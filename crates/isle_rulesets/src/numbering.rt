@@ -1,11 +1,13 @@
-ghost use Rattle.std.specs.Prelude.{◌≡◌, ◌++◌, ◌∷◌, IfOk, OnOk, OnErr, Some, [], false};
+ghost use Rattle.std.specs.Prelude.{◌≡◌, ◌++◌, ◌∷◌, IfOk, OnOk, OnErr, Some, [], suc, false};
 ghost use Rattle.std.specs.BTreeMap.{Updates, IsUnchanged};
-ghost use Rattle.isle_rulesets.specs.Keys.{key_cmp, key_binding, key_path, HasParts};
-ghost use Rattle.isle_rulesets.specs.Numbering.{known, is_next, Numbers, Calls, next_call};
-ghost use Rattle.isle_core.specs.Path.{paths_of};
+ghost use Rattle.isle_rulesets.specs.Keys.{key_cmp, key_binding, key_path, IsThere, HasParts};
+ghost use Rattle.isle_rulesets.specs.Numbering.{known, is_next, Numbers, Calls, next_call, same_call};
+ghost use Rattle.std.specs.List.{AllByRecursion};
+ghost use Rattle.isle_core.specs.Path.{at, paths_of};
 ghost use Rattle.isle_core.specs.StandsFor.{EachOnce};
 
 use crate::keys::Key;
+use crate::parts::Parts;
 use isle_core::{Binding, BindingId, List, TermId};
 use std::alloc::{AllocError, Global};
 use std::collections::BTreeMap;
@@ -40,6 +42,7 @@ fn is_next(count: usize, number: usize, key: &Key) -> bool
         | Key::ConstInt(..)
         | Key::ConstPrim(_)
         | Key::Extractor { .. }
+        | Key::Constructor { .. }
         | Key::MatchVariant { .. }
         | Key::ExtractStruct { .. }
         | Key::MakeVariant { .. }
@@ -73,7 +76,7 @@ fn put(
 }
 
 /// Bindings, each once. The first ones may be arguments in order, which are counted; of the others the map has the
-/// number by the key. Calls have no key, and are counted too.
+/// number by the key. Impure calls have no key, and are counted too.
 #[derive(Drop)]
 pub struct Numbering {
     bindings: Vec<Binding>,
@@ -128,13 +131,13 @@ impl Numbering {
         }
     }
 
-    // Adds the next call, of an occurrence of its own. The only error is want of memory.
+    // Adds the next impure call, of an occurrence of its own. The only error is want of memory.
     fn push_call(
         &mut self,
         term: TermId,
         parameters: List<BindingId>,
     ) -> Result<BindingId, AllocError>
-        ensures { IfOk result (λ b. Calls self.old self.new (next_call self.old term parameters) false b b) }
+        ensures { IfOk result (λ b. Calls self.old self.new (next_call self.old term parameters) false (suc self.old.calls) b b) }
     {
         let instance = self.calls + 1;
         let number = BindingId(self.bindings.len());
@@ -147,18 +150,17 @@ impl Numbering {
         Ok(number)
     }
 
-    /// Adds the next call, of an occurrence of its own, and its inner value where it may be nothing. The only error is want
-    /// of memory.
-    pub fn call(
+    // Numbers the value of a call that has a number: its inner value where it may be nothing, or else itself. The only error
+    // is want of memory.
+    fn answered(
         &mut self,
         alloc: Global,
-        term: TermId,
-        parameters: List<BindingId>,
+        number: BindingId,
         is_partial: bool,
     ) -> Result<Call, AllocError>
-        ensures { IfOk result (λ c. Calls self.old self.new (next_call self.old term parameters) is_partial c.number c.value) }
+        requires { IsThere (paths_of self.old.bindings) number }
+        ensures { IfOk result (λ c. Calls self.old self.new (at (paths_of self.old.bindings) number) is_partial self.old.calls c.number c.value) }
     {
-        let number = self.push_call(term, parameters)?;
         if !is_partial {
             return Ok(Call {
                 number,
@@ -167,6 +169,37 @@ impl Numbering {
         }
         let value = self.intern(alloc, Key::MatchSome { source: number })?;
         Ok(Call { number, value })
+    }
+
+    /// Adds the next impure call, of an occurrence of its own, and its inner value where it may be nothing. The only error
+    /// is want of memory.
+    pub fn call(
+        &mut self,
+        alloc: Global,
+        term: TermId,
+        parameters: List<BindingId>,
+        is_partial: bool,
+    ) -> Result<Call, AllocError>
+        ensures { IfOk result (λ c. Calls self.old self.new (next_call self.old term parameters) is_partial (suc self.old.calls) c.number c.value) }
+    {
+        let number = self.push_call(term, parameters)?;
+        self.answered(alloc, number, is_partial)
+    }
+
+    /// Numbers a pure call, and its inner value where it may be nothing; equal ones are one. The only error is want of
+    /// memory.
+    pub fn pure_call(
+        &mut self,
+        alloc: Global,
+        term: TermId,
+        parameters: Parts,
+        is_partial: bool,
+    ) -> Result<Call, AllocError>
+        requires { AllByRecursion (IsThere (paths_of self.old.bindings)) parameters }
+        ensures { IfOk result (λ c. Calls self.old self.new (same_call self.old term parameters) is_partial self.old.calls c.number c.value) }
+    {
+        let number = self.intern(alloc, Key::Constructor { term, parameters })?;
+        self.answered(alloc, number, is_partial)
     }
 
     /// Returns the bindings, no two of one path.

@@ -14,9 +14,9 @@ use crate::pattern_tests::{PatternTests, bind_or_equate, constrain};
 use isle_core::{BindingId, Constraint, Pattern, Term, TermId, TupleIndex};
 use std::alloc::{AllocError, Global};
 
-// A pattern's tests on a numbered path, and the numbers of what it takes apart.
+/// Gathers a pattern's tests on a numbered path, and numbers what it takes apart. The only error is want of memory.
 #[cycle(pattern)]
-fn number_pattern(
+pub fn number_pattern(
     alloc: Global,
     terms: &[Term],
     numbering: &mut Numbering,

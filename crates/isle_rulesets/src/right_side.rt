@@ -1,4 +1,4 @@
-ghost use Rattle.std.specs.Prelude.{◌≡◌, Some, IfOk, OnOk, IsSomeAnd, map, slice_get, Contains};
+ghost use Rattle.std.specs.Prelude.{◌≡◌, Some, ◌∷◌, ◌++◌, [], if◌then◌else◌, IfOk, OnOk, IsSomeAnd, map, slice_get, Contains};
 ghost use Rattle.std.specs.List.{AllByRecursion};
 ghost use Rattle.isle_core.specs.declared.types.Term.{Term as CodeTerm};
 ghost use Rattle.isle_core.specs.RuleViews.{expr as seen, exprs_of, bindings_of};
@@ -11,11 +11,11 @@ ghost use Rattle.isle_core.specs.Rule.{Environment};
 ghost use Rattle.isle_core.specs.Scope.{let_scope, IsInScope, AreInScope, AreLetsInScope};
 ghost use Rattle.isle_scope.specs.Table.{held};
 ghost use Rattle.isle_rulesets.specs.Keys.{IsThere};
-ghost use Rattle.isle_rulesets.specs.RightSides.{names, bound, AreThere, NumbersTerm, Given, AllGiven, Binds};
+ghost use Rattle.isle_rulesets.specs.RightSides.{is_pure, names, bound, AreThere, NumbersTerm, Given, AllGiven, Binds};
 
 use crate::keys::Key;
 use crate::made::made_by;
-use crate::numbering::Numbering;
+use crate::numbering::{Call, Numbering};
 use crate::parts::Parts;
 use isle_core::{BindingId, Expr, LetBinding, List, Term, TermId, TermKind, VarId};
 use isle_scope::Table;
@@ -36,6 +36,16 @@ fn is_partial(kind: &TermKind) -> bool
     }
 }
 
+// Whether equal calls of the term are one.
+fn is_pure(kind: &TermKind) -> bool
+    ensures { result ≡ is_pure kind.now }
+{
+    match kind {
+        TermKind::Variant { .. } | TermKind::Struct { .. } => false,
+        TermKind::Decl { pure, .. } => *pure,
+    }
+}
+
 // The number that a variable in scope stands for.
 fn number_of(variables: &Table<BindingId>, var: VarId) -> BindingId
     requires { Contains (names variables.now) var.0 }
@@ -47,7 +57,23 @@ fn number_of(variables: &Table<BindingId>, var: VarId) -> BindingId
     }
 }
 
-// The number of the value of a call on numbered arguments.
+// The number of a call's value; the call joins those before where its place counts.
+fn ordered_call(
+    ordered: &mut Vec<BindingId>,
+    call: Call,
+    counts: bool,
+) -> Result<BindingId, AllocError>
+    ensures value { IfOk result (λ b. b ≡ call.value) }
+    ensures joins { OnOk result (ordered.new.items ≡ ordered.old.items ++ (if counts then call.number ∷ [] else [])) }
+{
+    if counts {
+        ordered.push(call.number)?;
+    }
+    Ok(call.value)
+}
+
+// The number of the value of a call on numbered arguments. An impure one is new, and equal pure ones are one: of these only
+// those that may be nothing join the calls before.
 fn number_call(
     alloc: Global,
     terms: &[Term],
@@ -58,13 +84,18 @@ fn number_call(
 ) -> Result<BindingId, AllocError>
     requires kind { IsSomeAnd (slice_get terms.now term.0) (λ (t : CodeTerm). IsBuiltKind t.kind) }
     requires called { making_in terms.now term ≡ MakesNothing }
+    requires there { AllByRecursion (IsThere (paths_of numbering.old.bindings)) parameters.items }
     ensures { IfOk result (λ b. (env : Environment) → env.terms ≡ terms.now
         → NumbersTerm numbering.old numbering.new ordered.old.items ordered.new.items (calling env term) (call_path env term (at_all (paths_of numbering.old.bindings) parameters.items) numbering.old.calls) b) }
 {
-    let is_partial = is_partial(&terms[term.index()].kind);
+    let kind = &terms[term.index()].kind;
+    let is_partial = is_partial(kind);
+    if is_pure(kind) {
+        let call = numbering.pure_call(alloc, term, Parts::new(parameters), is_partial)?;
+        return ordered_call(ordered, call, is_partial);
+    }
     let call = numbering.call(alloc, term, List::new(parameters), is_partial)?;
-    ordered.push(call.number)?;
-    Ok(call.value)
+    ordered_call(ordered, call, true)
 }
 
 // The number of the value of a term on numbered arguments: what it makes, or its call.

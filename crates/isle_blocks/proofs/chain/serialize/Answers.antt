@@ -14,7 +14,7 @@ use Rattle.isle_blocks.specs.Fields.{key_cmp, shown_cmp, FindsFields, places}
 use Rattle.isle_blocks.specs.Inners.{FindsInners}
 use Rattle.isle_blocks.specs.Chain.{chain}
 use Rattle.isle_blocks.proofs.LawChain.{chain_means}
-use Rattle.isle_blocks.proofs.LawSerializable.{chain_lawful, chain_single}
+use Rattle.isle_blocks.proofs.LawSerializable.{rules_still, chain_lawful, chain_single}
 use Rattle.isle_blocks.proofs.LawPositions.{chain_positions}
 use Rattle.isle_blocks.proofs.chain.serialize.Goals as goal
 
@@ -26,7 +26,9 @@ returns-clause-means c = λ env m t args kind h.
     let found : FindsInners s.bindings inners = subst (λ bs. FindsInners bs inners) c.as_slice-2.ensures c.in_ok-inners.ensures in
     let shows = places fields inners in
     let is_chain : block c.in_ok-chained.field-0 ≡ chain s.bindings shows inners s.rules = c.in_ok-chained.ensures ∙ ap (λ bs. chain bs shows inners c.as_slice-4.result.now) c.as_slice-3.ensures ∙ ap (chain s.bindings shows inners) c.as_slice-4.ensures in
-    ap (λ b. block_outcome env m args (paths_of s.bindings) b kind) is_chain ∙ chain_means shows env t m args s.bindings inners kind found h.once s.rules h.rules
+    let finds : FindsFields s.bindings (get key_cmp fields.found) (get shown_cmp fields.counts) = subst (λ bs. FindsFields bs (get key_cmp fields.found) (get shown_cmp fields.counts)) c.as_slice.ensures c.in_ok-fields.ensures in
+    let still = rules_still env t s.bindings (get key_cmp fields.found) (get shown_cmp fields.counts) inners finds found h.once h.fields s.rules h.rules in
+    ap (λ b. block_outcome env m args (paths_of s.bindings) b kind) is_chain ∙ chain_means shows env t m args s.bindings inners kind found h.once s.rules h.rules still
 
 pub returns-clause-lawful : goal.returns-clause-lawful
 returns-clause-lawful c = λ env t h.
@@ -56,4 +58,6 @@ returns-clause-positions c = λ env m t args h.
     let found : FindsInners s.bindings inners = subst (λ bs. FindsInners bs inners) c.as_slice-2.ensures c.in_ok-inners.ensures in
     let shows = places fields inners in
     let is_chain : block c.in_ok-chained.field-0 ≡ chain s.bindings shows inners s.rules = c.in_ok-chained.ensures ∙ ap (λ bs. chain bs shows inners c.as_slice-4.result.now) c.as_slice-3.ensures ∙ ap (chain s.bindings shows inners) c.as_slice-4.ensures in
-    ap (λ b. block_position env m args (paths_of s.bindings) b nothing_known []) is_chain ∙ chain_positions shows env t m args s.bindings inners found h.once s.rules h.rules
+    let finds : FindsFields s.bindings (get key_cmp fields.found) (get shown_cmp fields.counts) = subst (λ bs. FindsFields bs (get key_cmp fields.found) (get shown_cmp fields.counts)) c.as_slice.ensures c.in_ok-fields.ensures in
+    let still = rules_still env t s.bindings (get key_cmp fields.found) (get shown_cmp fields.counts) inners finds found h.once h.fields s.rules h.rules in
+    ap (λ b. block_position env m args (paths_of s.bindings) b nothing_known []) is_chain ∙ chain_positions shows env t m args s.bindings inners found h.once s.rules h.rules still

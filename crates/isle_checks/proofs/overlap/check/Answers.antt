@@ -18,7 +18,7 @@ rules_given es fs r e h = cc
 pub returns-then-is_empty-clause-clean : goal.returns-then-is_empty-clause-clean
 returns-then-is_empty-clause-clean c = λ types.
     let env = environment types c.args.termenv.now in
-    let told = c.in_ok-errors.ensures env (rw c.as_slice.ensures refl) c.requires.built (rw c.as_slice-2.ensures.value (c.in_ok-sets.ensures types)) in
+    let told = c.in_ok-errors.ensures env (rw c.as_slice.ensures refl) (record { forms = c.requires.built; bound = c.requires.bound }) (rw c.as_slice-2.ensures.value (c.in_ok-sets.ensures types)) in
     let is = c.if-is_empty.ensures in
     let none_counted : length c.in_ok-errors.errors.items ≡ 0 = grind (arith, nat_tests) in
     subst (IsCheckList env) {y = []} (nil_of c.in_ok-errors.errors.items none_counted) told
@@ -26,5 +26,5 @@ returns-then-is_empty-clause-clean c = λ types.
 pub returns-clause-err : goal.returns-clause-err
 returns-clause-err c = λ errors is types.
     let env = environment types c.args.termenv.now in
-    let told = c.in_ok-errors.ensures env (rw c.as_slice.ensures refl) c.requires.built (rw c.as_slice-2.ensures.value (c.in_ok-sets.ensures types)) in
+    let told = c.in_ok-errors.ensures env (rw c.as_slice.ensures refl) (record { forms = c.requires.built; bound = c.requires.bound }) (rw c.as_slice-2.ensures.value (c.in_ok-sets.ensures types)) in
     subst (IsCheckList env) (sym c.new.ensures ∙ rules_given c.new.result errors _ refl is) told

@@ -1,15 +1,11 @@
-use Rattle.std.proofs.Common.{◌≡◌, rules, true, false}
 use Rattle.isle_rulesets.specs.Numbering.{next_call}
-use Rattle.isle_rulesets.proofs.CallLaws.{inner_more}
+use Rattle.std.proofs.Common.{suc}
+use Rattle.isle_rulesets.proofs.CallLaws.{call_valued}
 use Rattle.isle_rulesets.proofs.numbering.Numbering.call.Goals as goal
 
-pub returns-then-not-is_partial : goal.returns-then-not-is_partial
-returns-then-not-is_partial c =
-    let plain : c.args.is_partial ≡ false = search rules in
-    rw plain c.in_ok-number.ensures
+pub answered-requires : goal.answered-requires
+answered-requires c = (next_call c.args.self.now c.args.term c.args.parameters, c.in_ok-number.ensures.found)
 
 pub returns : goal.returns
 returns c =
-    let partial : c.args.is_partial ≡ true = search rules in
-    rw partial
-    (inner_more c.args.self.now c.push_call.new.self c.intern.new.self (next_call c.args.self.now c.args.term c.args.parameters) c.in_ok-number.number c.in_ok-value.value c.in_ok-number.ensures c.in_ok-value.ensures)
+    call_valued c.answered.result c.args.self.now c.push_call.new.self c.answered.new.self (next_call c.args.self.now c.args.term c.args.parameters) c.args.is_partial (suc c.args.self.now.calls) c.in_ok-number.number c.in_ok-number.ensures c.answered.ensures
