@@ -1,7 +1,6 @@
 -- Where a term can be run there are lines, or memory ran out.
-use Rattle.std.proofs.Common.{◌≡◌, ℕ, List, [], ◌∷◌, ◌++◌, map, true, false, Some, ⊎_elim, refl, sym, ap, ◌∙◌, subst}
+use Rattle.std.proofs.Common.{◌≡◌, ℕ, List, ◌++◌, map, true, false, Some, ⊎_elim, refl, sym, ap, ◌∙◌, subst}
 use Rattle.std.specs.Prelude.{Result, Ok, Err, IfErr, IsOkUnless}
-use Rattle.isle_core.specs.declared.TypeId.{TypeId}
 use Rattle.isle_core.specs.declared.files.Files.{Files}
 use Rattle.isle_core.specs.declared.options.CodegenOptions.{CodegenOptions}
 use Rattle.isle_core.specs.declared.types.Term.{Term}
@@ -45,7 +44,7 @@ use Rattle.isle_run.proofs.LawfulNames.{HasLawfulNames}
 use Rattle.isle_run.proofs.SourceNames.{lawful_names}
 use Rattle.isle_run.proofs.RequestedTerms.{HasFunction, requested_function}
 use Rattle.isle_run.proofs.NamedTypes.{are_named}
-use Rattle.isle_run.proofs.RightEntries.{as_entries, all_front, all_back, all_right, cased_back, answered_back, given_back}
+use Rattle.isle_run.proofs.RightEntries.{names_of, as_entries, all_front, all_back, all_right, cased_back, answered_back, given_back}
 
 -- ---- the source
 
@@ -65,10 +64,6 @@ forms_same : (text : List ℕ) (fs gs : List Form) → SpellsForms text fs → S
 forms_same text fs gs s t = forms_once _ fs gs s.tokens t.tokens
 
 -- ---- the function
-
-names_of : (env : Environment) (tys : List TypeId) → map (type_text env) tys ≡ type_names (map (parameter env) tys)
-names_of env [] = refl
-names_of env (ty ∷ tys) = ap (λ ns. type_text env ty ∷ ns) (names_of env tys)
 
 -- refusals before any answer is looked at are the same under all answers
 no_term_of : (p : Program) (term : List ℕ) (args : List Value) (m n : Meaning) → IsRefused p term args m error.NoTerm → IsRefused p term args n error.NoTerm

@@ -9,7 +9,7 @@ use Rattle.isle_core.specs.declared.types.TypeDef.{TypeDef}
 use Rattle.isle_core.specs.declared.types.TypeDef.TheVariants as def
 use Rattle.isle_core.specs.declared.types.TypeEnv.{TypeEnv}
 use Rattle.isle_tree.specs.declared.tree.TypeItem.{TypeItem}
-use Rattle.isle_items.specs.TypeItems.{type_item, items_in}
+use Rattle.isle_items.specs.TypeItems.{type_item}
 use Rattle.isle_items.specs.LawfulNames.{emitted_name, emitted_names}
 use Rattle.isle_places.specs.DeclaredTypes as asked
 

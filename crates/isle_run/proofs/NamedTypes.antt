@@ -10,7 +10,6 @@ use Rattle.isle_core.specs.declared.types.Field.{Field as FieldDef}
 use Rattle.isle_core.specs.declared.types.Fields.{Fields}
 use Rattle.isle_core.specs.declared.types.Fields.TheVariants as fields
 use Rattle.isle_core.specs.declared.types.IntType.{IntType}
-use Rattle.isle_core.specs.declared.types.IntType.TheVariants.{U8, U16, U32, U64, U128, USize, I8, I16, I32, I64, I128, ISize}
 use Rattle.isle_core.specs.declared.types.BuiltinType.{BuiltinType}
 use Rattle.isle_core.specs.declared.types.BuiltinType.TheVariants as builtin
 use Rattle.isle_core.specs.declared.types.ReturnKind.{ReturnKind}

@@ -4,12 +4,12 @@ use Rattle.std.specs.Prelude.{ℕ, IsSomeAnd, option_map}
 use Rattle.std.specs.List.{AllByRecursion, IsDistinct}
 use Rattle.std.specs.Str.{bytes_eq}
 use Rattle.std.proofs.lemmas.List.{map-append}
+use Rattle.isle_core.specs.declared.TypeId.{TypeId}
 use Rattle.isle_core.specs.declared.files.Files.{Files}
 use Rattle.isle_core.specs.declared.options.CodegenOptions.{CodegenOptions}
 use Rattle.isle_core.specs.declared.types.ReturnKind.{ReturnKind}
 use Rattle.isle_core.specs.declared.types.Term.{Term}
 use Rattle.isle_core.specs.declared.values.Callee.{Callee}
-use Rattle.isle_core.specs.declared.Sym.{Sym}
 use Rattle.isle_core.specs.Calling.{kind_of}
 use Rattle.isle_core.specs.Lawful.{Fits}
 use Rattle.isle_core.specs.Meaning.{PureAnswers, TurnAnswers, Meaning}
@@ -21,23 +21,30 @@ use Rattle.isle_tree.specs.Program.{Function, Program}
 use Rattle.isle_tree.specs.WellFormed.{trait_fn, fn_names}
 use Rattle.isle_interpreter.specs.Apart.{IsApart}
 use Rattle.isle_interpreter.specs.Entries.{Entry, Constant, Cases, Turns, IsUnanswered, IsUngiven, CaseFits, EntryFits, has_constant, FitsPlaces, IsRight, AreRight}
-use Rattle.isle_places.specs.Signatures.{Signature, trait_signature, term_signature, signature_of}
-use Rattle.isle_interpreter.specs.Named.{AnswerFits}
+use Rattle.isle_places.specs.Signatures.{Signature, trait_signature, term_signature, signature_of, type_names}
+use Rattle.isle_interpreter.specs.Named.{AreNamed, AnswerFits}
 use Rattle.isle_interpreter.proofs.AnswersHold.{no_constants, both_unanswered}
-use Rattle.isle_simulation.specs.TypeTexts.{type_text}
+use Rattle.isle_simulation.specs.TypeTexts.{type_text, parameter}
 use Rattle.isle_simulation.specs.TraitFns.{constructor_fn, extractor_fn, trait_fns_of}
 use Rattle.isle_items.specs.TypeItems.{type_items_of}
+use Rattle.isle_run_inputs.specs.Asked.{Asked, constructor_types}
 use Rattle.isle_run.specs.Conforming.{Conforms}
-use Rattle.isle_run.specs.Valid.{IsServed, external, internal, IsExtracted, extractor, HasNoCases, HasNoTurns, IsRightCase, AreRightCases, AllCasesRight, AreRightTurns, AllRight, HasNoValue, IsRightConstant, AreRightConstants}
+use Rattle.isle_run.specs.Valid.{IsServed, external, internal, IsAsked, extractor, constructor, HasNoCases, HasNoTurns, IsRightCase, AreRightCases, AllCasesRight, AreRightTurns, AllRight, HasNoValue, IsRightConstant, AreRightConstants}
 use Rattle.isle_run.proofs.LawfulNames.{HasLawfulNames}
 use Rattle.isle_run.proofs.RequestedTerms.{requested_function}
 use Rattle.isle_run.proofs.NamedTypes.{answer_named, are_named, value_typed}
 use Rattle.isle_run.proofs.ServedCallees.{served_fn, extracted_fn}
 
--- a signature with the result and the kind of a term
-pub record IsSignatureOf (env : Environment) (t : Term) (s : Signature) : Type 0 where
-  pub results : s.results ≡ map (type_text env) (t.ret_ty ∷ [])
-  pub kind : s.kind ≡ kind_of t.kind
+-- a signature with these types, which answers so often
+pub record IsSignatureOf (env : Environment) (a : Asked) (often : ReturnKind) (s : Signature) : Type 0 where
+  pub params : s.params ≡ map (type_text env) a.params
+  pub results : s.results ≡ map (type_text env) a.results
+  pub kind : s.kind ≡ often
+
+-- the types' texts are the names of parameters' types
+pub names_of : (env : Environment) (tys : List TypeId) → map (type_text env) tys ≡ type_names (map (parameter env) tys)
+names_of env [] = refl
+names_of env (ty ∷ tys) = ap (λ ns. type_text env ty ∷ ns) (names_of env tys)
 
 -- the entries of constants
 abbrev pub as_entries : List (List ℕ × Value) → List Entry
@@ -83,30 +90,41 @@ some_with : {A : Type 0} (P : A → Type 0) (o : Option A) (x : A) → o ≡ Som
 some_with P o x e h = subst (λ z. IsSomeAnd z P) (sym e) h
 
 module _ (options : CodegenOptions) (files : Files) (env : Environment) (names : HasLawfulNames env) (p : Program) (conforms : Conforms options files env p) (f : Function) (m : Meaning) where
-  -- ---- turns
+  -- ---- signatures
 
-  -- each answer fits such a signature
-  fits_signature : (t : Term) (s : Signature) (a : Answer) → IsSignatureOf env t s → Fits env (kind_of t.kind) (t.ret_ty ∷ []) a → AnswerFits (type_items_of env) s a
-  fits_signature t s a is h =
-      let by : AnswerFits (type_items_of env) (record { params = s.params; results = map (type_text env) (t.ret_ty ∷ []); kind = kind_of t.kind }) a =
-      answer_named env names.has_rules names.lawful names.builtins (t.ret_ty ∷ []) (kind_of t.kind) s.params a h in
-      let kinds = subst (λ k. AnswerFits (type_items_of env) (record { params = s.params; results = map (type_text env) (t.ret_ty ∷ []); kind = k }) a) (sym is.kind) by in
-      subst (λ rs. AnswerFits (type_items_of env) (record { params = s.params; results = rs; kind = s.kind }) a) (sym is.results) kinds
+  -- an answer fits such a signature
+  answer_fits : (a : Asked) (often : ReturnKind) (s : Signature) (x : Answer) → IsSignatureOf env a often s → Fits env often a.results x → AnswerFits (type_items_of env) s x
+  answer_fits a often s x is h =
+      let by : AnswerFits (type_items_of env) (record { params = s.params; results = map (type_text env) a.results; kind = often }) x =
+      answer_named env names.has_rules names.lawful names.builtins a.results often s.params x h in
+      let kinds = subst (λ k. AnswerFits (type_items_of env) (record { params = s.params; results = map (type_text env) a.results; kind = k }) x) (sym is.kind) by in
+      subst (λ rs. AnswerFits (type_items_of env) (record { params = s.params; results = rs; kind = s.kind }) x) (sym is.results) kinds
 
-  all_fit : (t : Term) (s : Signature) (given : List Answer) → IsSignatureOf env t s → AllByRecursion (Fits env (kind_of t.kind) (t.ret_ty ∷ [])) given → AllByRecursion (AnswerFits (type_items_of env) s) given
-  all_fit t s [] is h = tt
-  all_fit t s (a ∷ given) is h = (fits_signature t s a is h.0, all_fit t s given is h.1)
+  answers_fit : (a : Asked) (often : ReturnKind) (s : Signature) (xs : List Answer) → IsSignatureOf env a often s → AllByRecursion (Fits env often a.results) xs → AllByRecursion (AnswerFits (type_items_of env) s) xs
+  answers_fit a often s [] is h = tt
+  answers_fit a often s (x ∷ xs) is h = (answer_fits a often s x is h.0, answers_fit a often s xs is h.1)
+
+  -- a case fits it
+  case_fits : (a : Asked) (often : ReturnKind) (s : Signature) (c : List Value × Answer) → IsSignatureOf env a often s → IsRightCase env a often c → CaseFits (type_items_of env) s c
+  case_fits a often s c is h = (
+    subst (λ ps. AreNamed (type_items_of env) ps c.0) (sym is.params) (are_named env names.has_rules names.lawful names.builtins a.params c.0 h.0),
+    answer_fits a often s c.1 is h.1,
+  )
+
+  cases_fit : (a : Asked) (often : ReturnKind) (s : Signature) (cs : List (List Value × Answer)) → IsSignatureOf env a often s → AllByRecursion (IsRightCase env a often) cs → AllByRecursion (CaseFits (type_items_of env) s) cs
+  cases_fit a often s [] is h = tt
+  cases_fit a often s (c ∷ cs) is h = (case_fits a often s c is h.0, cases_fit a often s cs is h.1)
 
   -- the program's functions of the trait are those of the environment
   distinct_names : IsDistinct bytes_eq (fn_names (trait_fns_of env))
   distinct_names = subst (λ (fs : List TraitFn). IsDistinct bytes_eq (fn_names fs)) conforms.frame.trait_fns conforms.well_formed.trait_names
 
   -- the signature of what is served
-  served_signature : (c : Callee) (t : Term) → IsServed env c t → (s : Signature) × (signature_of p c ≡ Some s) × IsSignatureOf env t s
+  served_signature : (c : Callee) (t : Term) → IsServed env c t → (s : Signature) × (signature_of p c ≡ Some s) × IsSignatureOf env (constructor_types t) (kind_of t.kind) s
   served_signature _ _ (external i t func at e) = (
     trait_signature (constructor_fn env t func),
     ap (option_map trait_signature) (ap (λ (fs : List TraitFn). trait_fn fs (sym_text env func)) conforms.frame.trait_fns ∙ served_fn env env.terms i t func distinct_names at e),
-    record { results = refl; kind = refl },
+    record { params = sym (names_of env t.arg_tys); results = refl; kind = refl },
   )
   served_signature _ _ (internal name id t requested at) =
       let h = requested_function files env name (with_rules env) p.fns id conforms.functions.declared conforms.functions.blocks requested in
@@ -114,6 +132,7 @@ module _ (options : CodegenOptions) (files : Files) (env : Environment) (names :
         term_signature h.function,
         ap (option_map term_signature) h.found,
         record {
+          params = ap type_names (h.declared.of_term.params ∙ ap (λ (x : Term). map (parameter env) x.arg_tys) same) ∙ sym (names_of env t.arg_tys);
           results = ap (λ r. r ∷ []) (h.declared.of_term.result ∙ ap (λ (x : Term). type_text env x.ret_ty) same);
           kind = h.declared.of_term.kind ∙ ap (λ (x : Term). kind_of x.kind) same;
         },
@@ -122,13 +141,24 @@ module _ (options : CodegenOptions) (files : Files) (env : Environment) (names :
       some_same : (a b : Term) → Some a ≡ Some b → a ≡ b
       some_same a b e = cc
 
+  -- the signature of what is asked by cases
+  asked_signature : (c : Callee) (a : Asked) (often : ReturnKind) → IsAsked env c a often → (s : Signature) × (signature_of p c ≡ Some s) × IsSignatureOf env a often s
+  asked_signature _ _ _ (extractor i t func often at e) = (
+    trait_signature (extractor_fn env t (func, often)),
+    ap (option_map trait_signature) (ap (λ (fs : List TraitFn). trait_fn fs (sym_text env func)) conforms.frame.trait_fns ∙ extracted_fn env env.terms i t (func, often) distinct_names at e),
+    record { params = refl; results = refl; kind = refl },
+  )
+  asked_signature _ _ _ (constructor c t served pure) = served_signature c t served
+
+  -- ---- turns
+
   turns_right : (consts : List (List ℕ × Value)) (cases : List PureAnswers) (earlier : List TurnAnswers) (a : TurnAnswers) → AreRightTurns env cases earlier a → IsRight p f m ((as_entries consts ++ map Cases cases) ++ map Turns earlier) (Turns a)
   turns_right consts cases earlier a h =
       let s = served_signature a.callee h.term h.served in
       let front = both_unanswered a.callee (as_entries consts) (map Cases cases) (no_constants a.callee consts) (uncased a.callee cases h.alone) in (
         both_unanswered a.callee (as_entries consts ++ map Cases cases) (map Turns earlier) front (unanswered a.callee earlier h.first),
         some_with (EntryFits p.types (Turns a)) (signature_of p a.callee) s.0 s.1
-            (subst (λ types. AllByRecursion (AnswerFits types s.0) a.turns × AnswerFits types s.0 a.rest) (sym conforms.frame.types) (all_fit h.term s.0 a.turns s.2 h.turns, fits_signature h.term s.0 a.rest s.2 h.rest)),
+            (subst (λ types. AllByRecursion (AnswerFits types s.0) a.turns × AnswerFits types s.0 a.rest) (sym conforms.frame.types) (answers_fit (constructor_types h.term) (kind_of h.term.kind) s.0 a.turns s.2 h.turns, answer_fits (constructor_types h.term) (kind_of h.term.kind) s.0 a.rest s.2 h.rest)),
       )
 
   all_turns : (consts : List (List ℕ × Value)) (cases : List PureAnswers) (earlier later : List TurnAnswers) → AllRight env cases earlier later → AreRight p f m ((as_entries consts ++ map Cases cases) ++ map Turns earlier) (map Turns later)
@@ -142,32 +172,13 @@ module _ (options : CodegenOptions) (files : Files) (env : Environment) (names :
 
   -- ---- cases
 
-  -- the signature of an extractor
-  extracted_signature : (c : Callee) (t : Term) (kind : ReturnKind) → IsExtracted env c t kind → (func : Sym) × (signature_of p c ≡ Some (trait_signature (extractor_fn env t (func, kind))))
-  extracted_signature _ _ _ (extractor i t func kind at e) = (
-    func,
-    ap (option_map trait_signature) (ap (λ (fs : List TraitFn). trait_fn fs (sym_text env func)) conforms.frame.trait_fns ∙ extracted_fn env env.terms i t (func, kind) distinct_names at e),
-  )
-
-  -- cases and answers fit it
-  case_fits : (t : Term) (func : Sym) (kind : ReturnKind) (c : List Value × Answer) → IsRightCase env t kind c → CaseFits (type_items_of env) (trait_signature (extractor_fn env t (func, kind))) c
-  case_fits t func kind c h = (
-    are_named env names.has_rules names.lawful names.builtins (t.ret_ty ∷ []) c.0 h.0,
-    answer_named env names.has_rules names.lawful names.builtins t.arg_tys kind (type_text env t.ret_ty ∷ []) c.1 h.1,
-  )
-
-  all_cases_fit : (t : Term) (func : Sym) (kind : ReturnKind) (cs : List (List Value × Answer)) → AllByRecursion (IsRightCase env t kind) cs → AllByRecursion (CaseFits (type_items_of env) (trait_signature (extractor_fn env t (func, kind)))) cs
-  all_cases_fit t func kind [] h = tt
-  all_cases_fit t func kind (c ∷ cs) h = (case_fits t func kind c h.0, all_cases_fit t func kind cs h.1)
-
   cases_right : (consts : List (List ℕ × Value)) (earlier : List PureAnswers) (a : PureAnswers) → AreRightCases env earlier a → IsRight p f m (as_entries consts ++ map Cases earlier) (Cases a)
   cases_right consts earlier a h =
-      let s = extracted_signature a.callee h.term h.kind h.served in
-      let signature = trait_signature (extractor_fn env h.term (s.0, h.kind)) in (
+      let s = asked_signature a.callee h.types h.kind h.asked in (
         both_unanswered a.callee (as_entries consts) (map Cases earlier) (no_constants a.callee consts) (uncased a.callee earlier h.first),
-        some_with (EntryFits p.types (Cases a)) (signature_of p a.callee) signature s.1
-            (subst (λ types. AllByRecursion (CaseFits types signature) a.cases × AnswerFits types signature a.rest) (sym conforms.frame.types)
-            (all_cases_fit h.term s.0 h.kind a.cases h.cases, answer_named env names.has_rules names.lawful names.builtins h.term.arg_tys h.kind (type_text env h.term.ret_ty ∷ []) a.rest h.rest)),
+        some_with (EntryFits p.types (Cases a)) (signature_of p a.callee) s.0 s.1
+            (subst (λ types. AllByRecursion (CaseFits types s.0) a.cases × AnswerFits types s.0 a.rest) (sym conforms.frame.types)
+            (cases_fit h.types h.kind s.0 a.cases s.2 h.cases, answer_fits h.types h.kind s.0 a.rest s.2 h.rest)),
       )
 
   -- cases in front of what is right behind them all

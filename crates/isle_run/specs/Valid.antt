@@ -1,5 +1,5 @@
 -- When a term of a source may be run under the answers of a text.
-use Rattle.std.specs.Prelude.{◌≡◌, ℕ, List, [], ◌∷◌, ◌++◌, Some, true, false, slice_get}
+use Rattle.std.specs.Prelude.{◌≡◌, ℕ, List, [], ◌∷◌, ◌++◌, Bool, true, false, Some, slice_get}
 use Rattle.std.specs.List.{AllByRecursion}
 use Rattle.std.specs.Str.{bytes_eq}
 use Rattle.isle_core.specs.declared.Sym.{Sym}
@@ -9,6 +9,8 @@ use Rattle.isle_core.specs.declared.files.Files.{Files}
 use Rattle.isle_core.specs.declared.options.CodegenOptions.{CodegenOptions}
 use Rattle.isle_core.specs.declared.types.ReturnKind.{ReturnKind}
 use Rattle.isle_core.specs.declared.types.Term.{Term}
+use Rattle.isle_core.specs.declared.types.TermKind.{TermKind}
+use Rattle.isle_core.specs.declared.types.TermKind.TheVariants as term_kind
 use Rattle.isle_core.specs.declared.values.Callee.{Callee}
 use Rattle.isle_core.specs.declared.values.Callee.TheVariants as callee
 use Rattle.isle_core.specs.Calling.{kind_of}
@@ -29,6 +31,7 @@ use Rattle.isle_interpreter.specs.Apart.{IsApart}
 use Rattle.isle_interpreter.specs.Entries.{has_constant, FitsPlaces}
 use Rattle.isle_places.specs.Places.{StandsAt}
 use Rattle.isle_run_inputs.specs.Requested.{requested_term, constant_type}
+use Rattle.isle_run_inputs.specs.Asked.{Asked, constructor_types, extractor_types}
 use Rattle.isle_run_inputs.specs.Built.{are_built}
 use Rattle.isle_run_inputs.specs.AnswersAt.{constants_at, cases_at, turns_at, answers_at}
 use Rattle.isle_codegen.specs.CalledBy.{IsCalledBy}
@@ -38,14 +41,21 @@ use Rattle.isle_run.specs.Conforming.{Conforms}
 use Rattle.isle_run.specs.LeftOut.{leave_out}
 use Rattle.isle_run.specs.Trial.{args_given}
 
+-- whether a term is declared pure; a made one isn't
+abbrev pub is_pure : TermKind → Bool
+is_pure (term_kind.Decl pure multi partial recursive by how) = pure
+is_pure (term_kind.Variant ty variant) = false
+is_pure (term_kind.Struct ty) = false
+
 -- what calls go to: the external constructor of a term, or a term with rules
 pub data IsServed (env : Environment) : Callee → Term → Type 0 where
   external : (i : ℕ) (t : Term) (func : Sym) → slice_get env.terms i ≡ Some t → func_of t.kind ≡ Some func → IsServed env (callee.External (sym_text env func)) t
   internal : (name : List ℕ) (id : TermId) (t : Term) → requested_term env name ≡ Some id → slice_get env.terms id.0 ≡ Some t → IsServed env (callee.Internal name) t
 
--- what calls of a term's external extractor go to, and how often it answers
-pub data IsExtracted (env : Environment) : Callee → Term → ReturnKind → Type 0 where
-  extractor : (i : ℕ) (t : Term) (func : Sym) (kind : ReturnKind) → slice_get env.terms i ≡ Some t → extracted_of t.kind ≡ Some (func, kind) → IsExtracted env (callee.External (sym_text env func)) t kind
+-- what is asked by cases, with its types, and how often it answers: the external extractor of a term, or what calls of a pure term go to
+pub data IsAsked (env : Environment) : Callee → Asked → ReturnKind → Type 0 where
+  extractor : (i : ℕ) (t : Term) (func : Sym) (often : ReturnKind) → slice_get env.terms i ≡ Some t → extracted_of t.kind ≡ Some (func, often) → IsAsked env (callee.External (sym_text env func)) (extractor_types t) often
+  constructor : (c : Callee) (t : Term) → IsServed env c t → is_pure t.kind ≡ true → IsAsked env c (constructor_types t) (kind_of t.kind)
 
 -- no cases of these are the callee's
 abbrev pub HasNoCases : Callee → List PureAnswers → Type 0
@@ -55,30 +65,31 @@ HasNoCases c = AllByRecursion (λ (a : PureAnswers). goes_to c (Some a.callee) �
 abbrev pub HasNoTurns : Callee → List TurnAnswers → Type 0
 HasNoTurns c = AllByRecursion (λ (a : TurnAnswers). goes_to c (Some a.callee) ≡ false)
 
--- a case of an extractor is right: its argument is of the type that the extractor takes, and its answer of the kind and the type of what
+-- a case of a function is right: its arguments are of the types that the function takes, and its answer of the kind and the types of what
 -- that gives
-abbrev pub IsRightCase : Environment → Term → ReturnKind → List Value × Answer → Type 0
-IsRightCase env t kind c = HaveTypes env c.0 (t.ret_ty ∷ []) × Fits env kind t.arg_tys c.1
+abbrev pub IsRightCase : Environment → Asked → ReturnKind → List Value × Answer → Type 0
+IsRightCase env a kind c = HaveTypes env c.0 a.params × Fits env kind a.results c.1
 
--- cases behind these are right: their callee is an extractor that is there, none of these is its, and each case and the rest are so
+-- cases behind these are right: their callee is there and asked by cases, none of these is its, and each case and the rest are so
 pub record AreRightCases (env : Environment) (earlier : List PureAnswers) (a : PureAnswers) : Type 0 where
-  pub term : Term
+  pub types : Asked
   pub kind : ReturnKind
-  pub served : IsExtracted env a.callee term kind
+  pub asked : IsAsked env a.callee types kind
   pub first : HasNoCases a.callee earlier
-  pub cases : AllByRecursion (IsRightCase env term kind) a.cases
-  pub rest : Fits env kind term.arg_tys a.rest
+  pub cases : AllByRecursion (IsRightCase env types kind) a.cases
+  pub rest : Fits env kind types.results a.rest
 
 -- so of each
 abbrev pub AllCasesRight : Environment → (earlier later : List PureAnswers) → Type 0
 AllCasesRight env earlier [] = Unit {0}
 AllCasesRight env earlier (a ∷ more) = AreRightCases env earlier a × AllCasesRight env (earlier ++ a ∷ []) more
 
--- turns behind these, and beside cases, are right: their callee is there, none of these and no cases are its, and each answer is of its
--- kind and type
+-- turns behind these, and beside cases, are right: their callee is that of an impure term, none of these and no cases are its, and each
+-- answer is of its kind and type
 pub record AreRightTurns (env : Environment) (cases : List PureAnswers) (earlier : List TurnAnswers) (a : TurnAnswers) : Type 0 where
   pub term : Term
   pub served : IsServed env a.callee term
+  pub impure : is_pure term.kind ≡ false
   pub alone : HasNoCases a.callee cases
   pub first : HasNoTurns a.callee earlier
   pub turns : AllByRecursion (Fits env (kind_of term.kind) (term.ret_ty ∷ [])) a.turns

@@ -18,7 +18,7 @@ use Rattle.isle_core.specs.Rule.{Environment}
 use Rattle.isle_core.specs.Terms.{impure_callee, goes_to}
 use Rattle.isle_run_inputs.specs.AnswerTypes.{type_at, FindsTypes}
 use Rattle.isle_run_inputs.specs.Requested.{first_type}
-use Rattle.isle_run_inputs.specs.declared.answer_types.Called.{Called}
+use Rattle.isle_run_inputs.specs.declared.callees.Called.{Called}
 use Rattle.isle_run_inputs.specs.Called.{called}
 
 -- what a term's calls go to, whatever else the environment has

@@ -3,7 +3,6 @@ use Rattle.std.proofs.Common.{◌≡◌, ℕ, ◌+◌, ◌<◌, ◌≤◌, List,
 use Rattle.std.proofs.lemmas.List.{drop_more, map-append, append_assoc, append-nil}
 use Rattle.std.proofs.Math.ListN.{drop_of_length-le}
 use Rattle.isle_core.specs.declared.TypeId.{TypeId}
-use Rattle.isle_core.specs.declared.types.Term.{Term}
 use Rattle.isle_core.specs.declared.values.Callee.{Callee}
 use Rattle.isle_core.specs.declared.values.Answer.{Answer as CodeAnswer}
 use Rattle.isle_core.specs.declared.values.Value.{Value as CodeValue}
@@ -12,6 +11,7 @@ use Rattle.isle_core.specs.ValueViews.{answer, case, pure_answers, turn_answers}
 use Rattle.isle_values.specs.declared.written.Written.{Written as CodeWritten}
 use Rattle.isle_answers.specs.declared.form.AnswerForm.{AnswerForm as CodeAnswerForm}
 use Rattle.isle_answers.specs.Views.{answer_seen, case_seen}
+use Rattle.isle_run_inputs.specs.Asked.{Asked}
 use Rattle.isle_run_inputs.specs.AnswersAt.{answer_at, turns_by, case_at, cases_by}
 
 -- ---- lists
@@ -37,6 +37,24 @@ one_more f g forms i form old new x lt is at e were =
 pub all_made : {X Y Z : Type 0} (f : X → Z) (g : Y → Z) (forms : List Y) (i : ℕ) (found : List X) → length forms ≤ i → map g forms ≡ map f found ++ map g (drop i forms) → map f found ≡ map g forms
 all_made f g forms i found le were = sym (append-nil (map f found)) ∙ ap (λ xs. map f found ++ map g xs) (sym (drop_of_length-le forms le)) ∙ sym were
 
+-- what forms give, where one more gives this
+pub given_more : {X Y F : Type 0} (f : X → Y) (g : List F → List Y) (forms : List F) (i : ℕ) (form : F) (old new : List X) (x : X) (all : List Y) → i < length forms → form ≡ get_or forms i form → g (form ∷ drop (i + 1) forms) ≡ f x ∷ g (drop (i + 1) forms)
+    → new ≡ old ++ x ∷ [] → all ≡ map f old ++ g (drop i forms) → all ≡ map f new ++ g (drop (i + 1) forms)
+given_more f g forms i form old new x all lt is gives e were =
+    were
+    ∙ ap (λ fs. map f old ++ g fs) (drop_more forms i form lt ∙ ap (λ y. y ∷ drop (i + 1) forms) (sym is))
+    ∙ ap (λ ys. map f old ++ ys) gives
+    ∙ pushed f old new x (g (drop (i + 1) forms)) e
+
+-- where one more gives nothing
+pub given_nothing : {X Y F : Type 0} (f : X → Y) (g : List F → List Y) (forms : List F) (i : ℕ) (form : F) (old new : List X) (all : List Y) → i < length forms → form ≡ get_or forms i form → g (form ∷ drop (i + 1) forms) ≡ g (drop (i + 1) forms)
+    → new ≡ old → all ≡ map f old ++ g (drop i forms) → all ≡ map f new ++ g (drop (i + 1) forms)
+given_nothing f g forms i form old new all lt is gives e were =
+    were
+    ∙ ap (λ fs. map f old ++ g fs) (drop_more forms i form lt ∙ ap (λ y. y ∷ drop (i + 1) forms) (sym is))
+    ∙ ap (λ ys. map f old ++ ys) gives
+    ∙ ap (λ xs. map f xs ++ g (drop (i + 1) forms)) (sym e)
+
 -- ---- turns
 
 -- those of a callee that are answered at a type
@@ -50,11 +68,11 @@ turns_made env ty tys callee copy turns rest found last one same all end =
 
 -- ---- cases
 
--- those of the extractor of a term
-pub cases_made : (env : Environment) (t : Term) (callee copy : Callee) (cases : List (List CodeWritten × CodeAnswerForm)) (rest : CodeAnswerForm) (found : List (List CodeValue × CodeAnswer)) (last : CodeAnswer)
-    → copy ≡ callee → map case found ≡ map (λ (x : List CodeWritten × CodeAnswerForm). case_at env t (case_seen x)) cases → answer last ≡ answer_at env t.arg_tys (answer_seen rest)
-    → pure_answers (record { callee = copy; cases = found; rest = last }) ≡ cases_by env (Some t) callee (map case_seen cases) (answer_seen rest)
-cases_made env t callee copy cases rest found last same all end =
+-- those of a function of these types
+pub cases_made : (env : Environment) (a : Asked) (callee copy : Callee) (cases : List (List CodeWritten × CodeAnswerForm)) (rest : CodeAnswerForm) (found : List (List CodeValue × CodeAnswer)) (last : CodeAnswer)
+    → copy ≡ callee → map case found ≡ map (λ (x : List CodeWritten × CodeAnswerForm). case_at env a (case_seen x)) cases → answer last ≡ answer_at env a.results (answer_seen rest)
+    → pure_answers (record { callee = copy; cases = found; rest = last }) ≡ cases_by env (Some a) callee (map case_seen cases) (answer_seen rest)
+cases_made env a callee copy cases rest found last same all end =
     ap (λ c. record { callee = c; cases = map case found; rest = answer last }) same
-    ∙ ap (λ cs. record { callee = callee; cases = cs; rest = answer last }) (all ∙ seen_first (case_at env t) case_seen cases)
-    ∙ ap (λ a. record { callee = callee; cases = map (case_at env t) (map case_seen cases); rest = a }) end
+    ∙ ap (λ cs. record { callee = callee; cases = cs; rest = answer last }) (all ∙ seen_first (case_at env a) case_seen cases)
+    ∙ ap (λ x. record { callee = callee; cases = map (case_at env a) (map case_seen cases); rest = x }) end

@@ -7,7 +7,7 @@ mod InFields
 mod AllSeen
 mod FindTypes
 mod FindConstants
-mod FindExtractors
+mod AskedTerms
 mod Counted
 mod Rest
 mod FirstNamed

@@ -1,7 +1,6 @@
 -- The answers that forms give.
 use Rattle.std.specs.Prelude.{ℕ, List, [], ◌∷◌, map, Option, Some, None}
 use Rattle.isle_core.specs.declared.TypeId.{TypeId}
-use Rattle.isle_core.specs.declared.types.Term.{Term}
 use Rattle.isle_core.specs.declared.values.Callee.{Callee}
 use Rattle.isle_core.specs.Rule.{Environment}
 use Rattle.isle_core.specs.Value.{Answer}
@@ -11,7 +10,8 @@ use Rattle.isle_answers.specs.Form.{ResultForm, One, Tuple, AnswerForm, Plain, F
 use Rattle.isle_values.specs.Views.{in_order}
 use Rattle.isle_values.specs.Written.{Written}
 use Rattle.isle_run_inputs.specs.ValuesAt.{misfit, value_at_any, values_at}
-use Rattle.isle_run_inputs.specs.Requested.{answer_type, extractor_term, constant_type}
+use Rattle.isle_run_inputs.specs.Requested.{answer_type, constant_type}
+use Rattle.isle_run_inputs.specs.Asked.{Asked, asked_as}
 
 -- the type where there is only one
 abbrev pub one_type : List TypeId → Option TypeId
@@ -56,20 +56,20 @@ turns_at env (Max count at ∷ forms) = turns_at env forms
 turns_at env (Const name v at ∷ forms) = turns_at env forms
 turns_at env (Answers callee cases rest at ∷ forms) = turns_at env forms
 
--- a case of the extractor of a term: its argument at what the term gives, and its answer at what the term takes
-abbrev pub case_at : Environment → Term → CaseForm → List value.Value × Answer
-case_at env t c = (values_at env (t.ret_ty ∷ []) (in_order c.args), answer_at env t.arg_tys c.answer)
+-- a case of a function that is asked by cases: its arguments at what the function takes, and its answer at what it gives
+abbrev pub case_at : Environment → Asked → CaseForm → List value.Value × Answer
+case_at env a c = (values_at env a.params (in_order c.args), answer_at env a.results c.answer)
 
--- cases of a callee to which calls of the term's extractor go; where it is that of no extractor, they fit no function, so that the form is
+-- cases of a callee whose function is of these types; where it is none that is asked by cases, they fit no function, so that the form is
 -- refused whatever it says
-abbrev pub cases_by : Environment → Option Term → Callee → List CaseForm → (rest : AnswerForm) → PureAnswers
+abbrev pub cases_by : Environment → Option Asked → Callee → List CaseForm → (rest : AnswerForm) → PureAnswers
 cases_by env None callee cases rest = record { callee = callee; cases = []; rest = unfit }
-cases_by env (Some t) callee cases rest = record { callee = callee; cases = map (case_at env t) cases; rest = answer_at env t.arg_tys rest }
+cases_by env (Some a) callee cases rest = record { callee = callee; cases = map (case_at env a) cases; rest = answer_at env a.results rest }
 
 -- the cases of forms that are built
 abbrev pub cases_at : Environment → List Form → List PureAnswers
 cases_at env [] = []
-cases_at env (Answers callee cases rest at ∷ forms) = cases_by env (extractor_term env callee) callee cases rest ∷ cases_at env forms
+cases_at env (Answers callee cases rest at ∷ forms) = cases_by env (asked_as env callee) callee cases rest ∷ cases_at env forms
 cases_at env (Held count at ∷ forms) = cases_at env forms
 cases_at env (Max count at ∷ forms) = cases_at env forms
 cases_at env (Const name v at ∷ forms) = cases_at env forms

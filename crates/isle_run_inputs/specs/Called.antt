@@ -2,8 +2,8 @@
 use Rattle.std.specs.Prelude.{Option, Some, None}
 use Rattle.isle_core.specs.declared.values.Callee.{Callee}
 use Rattle.isle_core.specs.declared.values.Callee.TheVariants as callee
-use Rattle.isle_run_inputs.specs.declared.answer_types.Called.{Called}
-use Rattle.isle_run_inputs.specs.declared.answer_types.Called.TheVariants as code
+use Rattle.isle_run_inputs.specs.declared.callees.Called.{Called}
+use Rattle.isle_run_inputs.specs.declared.callees.Called.TheVariants as code
 
 -- the callee, where there is one
 abbrev pub called : Called → Option Callee

@@ -3,10 +3,11 @@ pub mod MakerViews
 pub mod VariantFields
 pub mod ValuesAt
 pub mod Requested
+pub mod Asked
 pub mod Built
 pub mod AnswersAt
 pub mod AnswerTypes
-pub mod Extractors
+pub mod AskedFunctions
 pub mod ConstantTypes
 pub mod Called
 pub mod Places

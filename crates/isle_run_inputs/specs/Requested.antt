@@ -1,14 +1,12 @@
--- What names stand for in an environment: the term that is run, what callees take and answer, and constants.
-use Rattle.std.specs.Prelude.{ℕ, List, [], Option, Some, None, find, option_map, slice_get}
+-- What names stand for in an environment: the term that is run, what impure callees answer, and constants.
+use Rattle.std.specs.Prelude.{ℕ, List, [], Option, find, option_map, slice_get}
 use Rattle.std.specs.Str.{bytes_eq}
 use Rattle.std.specs.Option.{option_map_or}
 use Rattle.isle_core.specs.declared.Sym.{Sym}
 use Rattle.isle_core.specs.declared.TermId.{TermId}
 use Rattle.isle_core.specs.declared.TypeId.{TypeId}
 use Rattle.isle_core.specs.declared.types.Term.{Term}
-use Rattle.isle_core.specs.declared.types.TermKind.{TermKind}
 use Rattle.isle_core.specs.declared.values.Callee.{Callee}
-use Rattle.isle_core.specs.Calling.{Calling, ByTurns, ByCases, NoCall, extracting_kind}
 use Rattle.isle_core.specs.Rule.{Environment}
 use Rattle.isle_core.specs.Terms.{with_rules, term_name, sym_text, impure_callee, goes_to}
 
@@ -31,24 +29,6 @@ first_type env terms callee = option_map (λ (t : Term). t.ret_ty) (find (λ (t 
 -- the type of what a call of an impure callee answers
 abbrev pub answer_type : Environment → Callee → Option TypeId
 answer_type env callee = first_type env env.terms callee
-
--- what is answered by cases
-abbrev pub by_cases : Calling → Option Callee
-by_cases (ByTurns callee kind) = None
-by_cases (ByCases callee kind) = Some callee
-by_cases NoCall = None
-
--- what calls of a term of this kind as an extractor go to, where that is external
-abbrev pub extractor_callee : Environment → TermKind → Option Callee
-extractor_callee env kind = by_cases (extracting_kind env kind)
-
--- the first of these terms whose extractor calls of the callee go to
-abbrev pub first_extractor : Environment → List Term → Callee → Option Term
-first_extractor env terms callee = find (λ (t : Term). goes_to callee (extractor_callee env t.kind)) terms
-
--- the term whose extractor calls of the callee go to: what it gives is what the extractor takes, and what it takes is what that gives
-abbrev pub extractor_term : Environment → Callee → Option Term
-extractor_term env callee = first_extractor env env.terms callee
 
 -- the type of the first of these constants that has the name
 abbrev pub first_constant : Environment → List (Sym × TypeId) → List ℕ → Option TypeId

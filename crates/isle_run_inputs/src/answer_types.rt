@@ -1,13 +1,11 @@
 //! The types of what callees answer.
 
 ghost use Rattle.std.specs.Prelude.{◌≡◌, IfOk};
-ghost use Rattle.isle_core.specs.Rule.{Environment};
-ghost use Rattle.isle_core.specs.Terms.{impure_callee};
 ghost use Rattle.isle_run_inputs.specs.Requested.{answer_type};
-ghost use Rattle.isle_run_inputs.specs.AnswerTypes.{OfTypes, FindsTypes};
-ghost use Rattle.isle_run_inputs.specs.Called.{called};
+ghost use Rattle.isle_run_inputs.specs.AnswerTypes.{OfTypes};
 
-use isle_core::{Callee, ConstructorKind, Term, TermKind, TypeEnv, TypeId};
+use crate::callees::{Called, impure_callee};
+use isle_core::{Callee, Term, TypeEnv, TypeId};
 use std::alloc::{AllocError, Global};
 use std::collections::BTreeMap;
 use std::marker::Model;
@@ -32,34 +30,6 @@ impl<'e> Model for AnswerTypes<'e> {
     ghost view = { λ a. (a.typeenv.now, a.terms.now) };
 
     ghost invariant = { λ a. FindsTypes a.typeenv.now a.terms.now a.external a.internal };
-}
-
-/// What a call of an impure term goes to, by its name.
-#[derive(Clone, Copy, Debug)]
-pub enum Called<'e> {
-    External(&'e str),
-    Internal(&'e str),
-    Nothing,
-}
-
-// What a call of an impure term goes to.
-fn impure_callee<'e>(typeenv: &'e TypeEnv, term: &Term) -> Called<'e>
-    ensures { (env : Environment) → env.types ≡ typeenv.now → called result ≡ impure_callee env term.now term.now.kind }
-{
-    match &term.kind {
-        TermKind::Decl {
-            pure: false,
-            constructor,
-            ..
-        } => match constructor {
-            ConstructorKind::Absent => Called::Nothing,
-            ConstructorKind::Internal => Called::Internal(typeenv.symbol(term.name)),
-            ConstructorKind::External { func } => Called::External(typeenv.symbol(*func)),
-        },
-        TermKind::Decl { pure: true, .. } | TermKind::Variant { .. } | TermKind::Struct { .. } => {
-            Called::Nothing
-        }
-    }
 }
 
 impl<'e> AnswerTypes<'e> {

@@ -4,11 +4,12 @@
 mod answer;
 mod answer_types;
 mod answers;
+mod asked;
 mod built;
+mod callees;
 mod cases;
 mod constant_types;
 mod constants;
-mod extractors;
 mod field;
 mod made_value;
 mod maker;

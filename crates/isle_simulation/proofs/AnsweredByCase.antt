@@ -1,4 +1,4 @@
--- An extractor is answered by the same case in a run and where a block runs.
+-- An extractor, or a pure term, is answered by the same case in a run and where a block runs.
 use Rattle.std.proofs.Common.{◌≡◌, List, [], ◌∷◌, map, cond, ◌&&◌, Option, Some, None, refl, ap, ◌∙◌, subst}
 use Rattle.std.specs.Prelude.{IsSomeAnd, find, option_map, slice_get}
 use Rattle.std.proofs.lemmas.Option.{same_Some}
@@ -10,9 +10,9 @@ use Rattle.isle_core.specs.declared.types.Term.{Term}
 use Rattle.isle_core.specs.declared.values.Callee.{Callee}
 use Rattle.isle_core.specs.Answered.{answer_held, answer_by, answer, item_of}
 use Rattle.isle_core.specs.CalledTerms.{Extractor}
-use Rattle.isle_core.specs.Calling.{ByCases, AnswersOnce, extracting}
+use Rattle.isle_core.specs.Calling.{ByCases, AnswersOnce, calling, extracting}
 use Rattle.isle_core.specs.HasType.{HaveTypes}
-use Rattle.isle_core.specs.Lawful.{Fits, CallingFits, RoleFits}
+use Rattle.isle_core.specs.Lawful.{Fits, CallingFits, RoleFits, AnswersFit}
 use Rattle.isle_core.specs.Meaning.{PureAnswers, Meaning, case, case_at, case_or, cases_of, same_values}
 use Rattle.isle_core.specs.Nameless.{nameless}
 use Rattle.isle_core.specs.Rule.{Environment}
@@ -44,7 +44,7 @@ case_at_like : (o : Option PureAnswers) (rs vs : List Value) → map nameless rs
 case_at_like None rs vs e = refl
 case_at_like (Some a) rs vs e = ap (case_or a.rest) (found_like a.cases rs vs e)
 
--- ---- an extractor
+-- ---- a term
 
 -- an answer of a kind with results of these types
 abbrev pub HoldsResults : Environment → ReturnKind → List TypeId → Held → Type 0
@@ -70,7 +70,14 @@ cases_answer env m callee kind tys h once = record {
   holds = λ vs. fits_holds env kind tys (case m callee vs) (case_fits env tys kind (cases_of m callee) vs h.0) once;
 }
 
--- so of the extractor of a term
+-- so of a pure term
+pub constructor_answers : (env : Environment) (m : Meaning) (term : TermId) (callee : Callee) (kind : ReturnKind) (called : Term)
+    → AnswersFit env m term → calling env term ≡ ByCases callee kind → AnswersOnce kind → slice_get env.terms term.0 ≡ Some called → IsAnsweredByCase env m callee kind (called.ret_ty ∷ [])
+constructor_answers env m term callee kind called h c once found =
+    let here : CallingFits env m (called.ret_ty ∷ []) (calling env term) = subst (λ o. IsSomeAnd o (λ (t : Term). CallingFits env m (t.ret_ty ∷ []) (calling env term))) found h in
+    cases_answer env m callee kind (called.ret_ty ∷ []) (subst (CallingFits env m (called.ret_ty ∷ [])) c here) once
+
+-- and of the extractor of a term
 pub extractor_answers : (env : Environment) (m : Meaning) (term : TermId) (callee : Callee) (kind : ReturnKind) (called : Term)
     → RoleFits env m term Extractor → extracting env term ≡ ByCases callee kind → AnswersOnce kind → slice_get env.terms term.0 ≡ Some called → IsAnsweredByCase env m callee kind called.arg_tys
 extractor_answers env m term callee kind called h c once found =

@@ -32,7 +32,7 @@ use Rattle.isle_simulation.specs.Statements.{callee_of}
 use Rattle.isle_simulation.proofs.LocalsAgree.{Agree, agree_later, bind_agrees}
 use Rattle.isle_simulation.proofs.MadeBinds.{made_binds, variant_over, struct_over}
 use Rattle.isle_simulation.proofs.NamelessLaws.{AreSameCalls}
-use Rattle.isle_simulation.proofs.OneBind.{AreUnanswered, Keeps, once_parts, done, EndsSo, ends_on, ends_as_well, BindsOne, plain_binds, call_binds, extractor_binds, inner_binds, part_binds}
+use Rattle.isle_simulation.proofs.OneBind.{AreUnanswered, Keeps, once_parts, done, EndsSo, ends_on, ends_as_well, BindsOne, plain_binds, call_binds, case_binds, extractor_binds, inner_binds, part_binds}
 use Rattle.isle_simulation.proofs.PathTypes.{tuple_many}
 use Rattle.isle_simulation.proofs.PathValues.{Grounds}
 use Rattle.isle_simulation.proofs.Ready.{IsReadyBind, AreReadyBinds}
@@ -77,7 +77,9 @@ bound_binds s u bound b (Some (binding.Constructor term parameters k)) known mad
         let none : known k ≡ None = subst (AreUnanswered known) (ap (occurrence_at s.env) is.path ∙ ap (λ d. occurrence d k) c) new k (head_contained k []) in
         subst (λ x. BindsOne s u b.0 x known locals (run_let u b.0 (bound_expr s bound b (Some (binding.Constructor term parameters k))) locals (done those)) (bind_one s.env u.meaning u.args x known made)) (sym is.path)
         (call_binds s u bound b.0 term parameters k callee kind is.called known made those locals g same a c is.found is.args (binding_answers s.env u.meaning s.bindings b.0 term parameters k g.answers at_b) none)
-    one (ByCases callee kind) c of = absurd of
+    one (ByCases callee kind) c of =
+        subst (λ x. BindsOne s u b.0 x known locals (run_let u b.0 (bound_expr s bound b (Some (binding.Constructor term parameters k))) locals (done those)) (bind_one s.env u.meaning u.args x known made)) (sym is.path)
+        (case_binds s u bound b.0 term parameters k callee kind is.called known made those locals g same a c (subst AnswersOnce (sym of.0) of.2) of.1 is.found is.args (binding_answers s.env u.meaning s.bindings b.0 term parameters k g.answers at_b))
     one NoCall c of = absurd of
 bound_binds s u bound b (Some (binding.Extractor term parameter)) known made those locals at_b g same a new is = one (extracting s.env term) refl is.external
   where

@@ -195,7 +195,7 @@ answer_holds return_kind.Iterator x once = absurd once
 
 called_once : (of : ReturnKind) (c : Calling) → IsCall of c → AnswersOnce of
 called_once of (ByTurns callee p) h = h.2
-called_once of (ByCases callee p) h = absurd h
+called_once of (ByCases callee p) h = h.2
 called_once of NoCall h = absurd h
 
 extracted_once : (of : ReturnKind) (c : Calling) → IsExtraction of c → AnswersOnce of
@@ -206,7 +206,7 @@ extracted_once of NoCall h = absurd h
 -- a call is of one kind
 one_call : (a b : ReturnKind) (c : Calling) → IsCall a c → IsCall b c → a ≡ b
 one_call a b (ByTurns callee p) h k = sym h.0 ∙ k.0
-one_call a b (ByCases callee p) h k = absurd h
+one_call a b (ByCases callee p) h k = sym h.0 ∙ k.0
 one_call a b NoCall h k = absurd h
 
 one_extraction : (a b : ReturnKind) (c : Calling) → IsExtraction a c → IsExtraction b c → a ≡ b

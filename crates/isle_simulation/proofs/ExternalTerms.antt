@@ -37,8 +37,8 @@ by_kind : (env : Environment) (t : Term) (k : TermKind) (of : ReturnKind) → t.
 by_kind env t (kind.Decl false multi p recursive (constructor.External func) extractor) of e h = record { func = func; fn = ap (λ x. option_map (constructor_fn env t) (func_of x)) e; callee = refl; answers = ap kind_of e ∙ h.0 }
 by_kind env t (kind.Decl false multi p recursive constructor.Internal extractor) of e h = absurd h.1
 by_kind env t (kind.Decl false multi p recursive constructor.Absent extractor) of e h = absurd h
-by_kind env t (kind.Decl true multi p recursive (constructor.External func) extractor) of e h = absurd h
-by_kind env t (kind.Decl true multi p recursive constructor.Internal extractor) of e h = absurd h
+by_kind env t (kind.Decl true multi p recursive (constructor.External func) extractor) of e h = record { func = func; fn = ap (λ x. option_map (constructor_fn env t) (func_of x)) e; callee = refl; answers = ap kind_of e ∙ h.0 }
+by_kind env t (kind.Decl true multi p recursive constructor.Internal extractor) of e h = absurd h.1
 by_kind env t (kind.Decl true multi p recursive constructor.Absent extractor) of e h = absurd h
 by_kind env t (kind.Variant ty variant) of e h = absurd h
 by_kind env t (kind.Struct ty) of e h = absurd h

@@ -21,7 +21,7 @@ use Rattle.isle_simulation.specs.Shape.{HasShape}
 use Rattle.isle_simulation.specs.TermFunction.{term_function}
 use Rattle.isle_simulation.specs.TraitFns.{trait_fns_of, HasFnNames}
 use Rattle.isle_simulation.proofs.BlockCalls.{IsBoundCall, written_calls}
-use Rattle.isle_simulation.proofs.FunctionsApart.{pure_extractors}
+use Rattle.isle_simulation.proofs.FunctionsApart.{pure_extractors, pure_constructors}
 use Rattle.isle_simulation.proofs.Made.{function_made}
 use Rattle.isle_simulation.proofs.Shapes.{written_shape}
 use Rattle.isle_simulation.proofs.Simulation.{written_runs}
@@ -44,7 +44,7 @@ module _ (files : Files) (env : Environment) (t : Term) (bs : List Binding) (b :
   has_shape = subst (λ (g : Function). HasShape (setting env t bs) g.body b) given_is (written_shape files env t bs b once lawful single)
 
   pub runs_as_block : HasRustNames env → HasFnNames env → RunsAsBlock env t bs b f
-  runs_as_block names fns = subst (RunsAsBlock env t bs b) given_is (written_runs files env t bs b once names (pure_extractors env bs fns) lawful single)
+  runs_as_block names fns = subst (RunsAsBlock env t bs b) given_is (written_runs files env t bs b once names (pure_extractors env bs fns) (pure_constructors env fns) lawful single)
 
   pub of_its_term : IsOfTerm files env t f
   of_its_term = subst (IsOfTerm files env t) given_is (written_of_term files env t bs b lawful single)

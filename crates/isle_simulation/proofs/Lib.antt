@@ -7,7 +7,6 @@ pub mod Written
 pub mod Ready
 pub mod PathValues
 pub mod ResultsAt
-pub mod HeldStays
 pub mod LocalsAgree
 pub mod OneBind
 pub mod ArmsRun

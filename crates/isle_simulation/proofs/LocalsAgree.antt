@@ -20,7 +20,7 @@ use Rattle.isle_tree.specs.declared.tree.Operand.{Operand}
 use Rattle.isle_tree.specs.Run.{Around, Env, newer, look, bind, value_of, read_value, read_values, read_fields, field_before}
 use Rattle.isle_simulation.specs.Operands.{is_bound}
 use Rattle.isle_simulation.specs.References.{is_declared, is_reference_in, read_as}
-use Rattle.isle_simulation.proofs.HeldStays.{IsThere, Grows, held_stays}
+use Rattle.isle_core.proofs.HeldStays.{IsThere, Grows, held_stays}
 use Rattle.isle_simulation.proofs.PathValues.{Grounds, IsValueAt, constant_valued, path_reads}
 use Rattle.isle_simulation.proofs.Ready.{IsSpelled, IsReady, AreReady}
 use Rattle.isle_simulation.proofs.ResultsAt.{AreResultsAt, IsOptionAt}

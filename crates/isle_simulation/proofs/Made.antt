@@ -138,7 +138,7 @@ fields_there s bound [] (b ∷ more) h = absurd h
 
 pub callee_made : (of : ReturnKind) (c : Calling) → IsCall of c → callee_of c ≡ Some (written.callee_of c)
 callee_made of (ByTurns callee kind) h = refl
-callee_made of (ByCases callee kind) h = absurd h
+callee_made of (ByCases callee kind) h = refl
 callee_made of NoCall h = absurd h
 
 pub extractor_made : (of : ReturnKind) (c : Calling) → IsExtraction of c → callee_of c ≡ Some (written.callee_of c)

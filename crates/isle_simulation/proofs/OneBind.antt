@@ -22,13 +22,13 @@ use Rattle.isle_core.specs.Outcome.{Failure, Prescription}
 use Rattle.isle_core.specs.HasType.{HasType, HaveTypes}
 use Rattle.isle_core.specs.Lawful.{RoleFits, AnswersFit}
 use Rattle.isle_core.specs.Path.{Path, Paths, Arg, ConstBool, ConstInt, ConstPrim, Extracted, Called, Inner, Part, at, at_all}
-use Rattle.isle_core.specs.ValueAt.{Held, Absent, One, Optional, Listed, Known, a_value, an_option, case_held, extracted_held, held as held_value, inner_held, part_held, value_at, values_at}
+use Rattle.isle_core.specs.ValueAt.{Held, Absent, One, Optional, Listed, Known, a_value, an_option, call_held, case_held, extracted_held, held as held_value, inner_held, part_held, value_at, values_at}
 use Rattle.isle_core.specs.CallRun as went
 use Rattle.isle_core.specs.CallRun.{Went, then_go, take_turn, make_call, unless_nothing}
 use Rattle.isle_core.specs.BlockRun.{bind_one}
 use Rattle.isle_core.specs.StandsFor.{EachOnce}
 use Rattle.isle_core.specs.Bindable.{IsPlain}
-use Rattle.isle_core.specs.ExternalCall.{IsCall, IsExtraction}
+use Rattle.isle_core.specs.ExternalCall.{IsCall, IsExtraction, IsExternal}
 use Rattle.isle_core.specs.Occurrences.{occurrence, occurrence_at}
 use Rattle.isle_core.specs.PathType.{AreTuple, IsPathOf, IsTupleOf, IsOptionOf, ArePathsOf}
 use Rattle.isle_core.specs.Readable.{IsInPlace}
@@ -37,15 +37,15 @@ use Rattle.isle_core.specs.Setting.{Setting, paths_in}
 use Rattle.isle_core.specs.Terms.{is_impure}
 use Rattle.isle_core.proofs.Contained.{head_contained, contained_cases, none_contained}
 use Rattle.isle_core.proofs.AnsweredByTurn.{turn_is, turn_held, turn_typed}
-use Rattle.isle_core.proofs.TurnKinds as turn_kind
-use Rattle.isle_core.proofs.TurnKinds.{IsHeldOf}
+use Rattle.isle_core.proofs.AnsweredTerms as turn_kind
+use Rattle.isle_core.proofs.AnsweredTerms.{IsHeldOf}
 use Rattle.isle_tree.specs.declared.tree.Read.TheVariants as read
 use Rattle.isle_tree.specs.declared.tree.TExpr.{TExpr}
 use Rattle.isle_tree.specs.declared.tree.TExpr.TheVariants as expr
 use Rattle.isle_tree.specs.Run.{Around, State, Env, Flow, bind, value_of, read_values, Goes, Ends, then_run, run_bind, run_call, run_try, part_of, run_part, run_let}
-use Rattle.isle_simulation.proofs.AnsweredByCase.{HoldsResults, extractor_answers}
+use Rattle.isle_simulation.proofs.AnsweredByCase.{HoldsResults, constructor_answers, extractor_answers}
 use Rattle.isle_simulation.proofs.BoundTests.{found}
-use Rattle.isle_simulation.proofs.HeldStays.{IsThere, Grows}
+use Rattle.isle_core.proofs.HeldStays.{IsThere, Grows}
 use Rattle.isle_simulation.proofs.LocalsAgree.{Stands, Agree, option_reads, tuple_reads, operands_read}
 use Rattle.isle_simulation.proofs.NamelessLaws.{AreSameCalls, turn_like, impure_push, pure_push, turned_impure}
 use Rattle.isle_simulation.proofs.PathTypes.{one_type, one_within}
@@ -267,12 +267,75 @@ call_binds s u bound n term parameters k callee kind called known made those loc
       keeps = subst (λ d. Keeps (occurrence d k) known later) (sym c) (with_keeps known k (turn u.meaning callee made));
     })
 
+-- ---- a call of a pure term
+
+-- something stands there
+results_there : (env : Environment) (kind : ReturnKind) (tys : List TypeId) (h : Held) → HoldsResults env kind tys h → IsThere h
+results_there env return_kind.Plain tys h is = subst IsThere (sym is.1) tt
+results_there env return_kind.Option tys h is = subst IsThere (sym is.1) tt
+results_there env return_kind.Iterator tys h is = absurd is
+
+-- what is said of a term that is there
+said_of : {A : Type 0} (f : Term → A) (o : Option Term) (called : Term) (x : A) (P : Term → Type 0) → o ≡ Some called → IsSomeAnd o (λ (c : Term). (f c ≡ x) × P c) → f called ≡ x
+said_of f None called x P e h = absurd h
+said_of f (Some c) called x P e h = ap f (sym (same_Some c called e)) ∙ h.0
+
+-- a place that holds what a pure term of the kind answers
+held_case : (kind : ReturnKind) (h g : Held) → g ≡ h → (env : Environment) (t : Term) (term : TermId) (callee : Callee) (called : Term)
+    → calling env term ≡ ByCases callee kind → slice_get env.terms term.0 ≡ Some called → HoldsResults env kind (called.ret_ty ∷ []) h → (ps : Paths) (k : ℕ) → Stands env t (Called term ps k) h g
+held_case return_kind.Iterator h g there env t term callee called c found is ps k = absurd is
+held_case return_kind.Plain h g there env t term callee called c found is ps k = record {
+  value = λ ty of. value_of_one env h g ty (results (ty ∷ []) (ap (λ x. x ∷ []) (said_of (λ (x : Term). x.ret_ty) (slice_get env.terms term.0) called ty (λ (x : Term). ArePathsOf env t ps x.arg_tys) found of.1)));
+  tuple = λ tys of. absurd of;
+  option = λ tys of. absurd (let call : IsCall return_kind.Option (ByCases callee return_kind.Plain) = subst (IsCall return_kind.Option) c of.0 in let q = call.0 in cc);
+}
+  where
+    results : (tys : List TypeId) → called.ret_ty ∷ [] ≡ tys → AreResultsAt env h g tys
+    results tys same = record { vs = is.0; rs = is.0; run = is.1; block = there ∙ is.1; same = refl; typed = subst (HaveTypes env is.0) same is.2 }
+held_case return_kind.Option h g there env t term callee called c found is ps k = record {
+  value = λ ty of. absurd (let call : IsCall return_kind.Plain (ByCases callee return_kind.Option) = subst (IsCall return_kind.Plain) c of.0 in let q = call.0 in cc);
+  tuple = λ tys of. absurd of;
+  option = λ tys of.
+      let same = said_of (λ (x : Term). x.ret_ty ∷ []) (slice_get env.terms term.0) called tys (λ (x : Term). ArePathsOf env t ps x.arg_tys) found of.1 in
+      record { o = is.0; q = is.0; run = is.1; block = there ∙ is.1; same = refl; typed = λ vs e. subst (HaveTypes env vs) same (is.2 vs e) };
+}
+
+-- nothing is made by such a call
+case_run : (env : Environment) (u : Around) (term : TermId) (ps : Paths) (k : ℕ) (callee : Callee) (kind : ReturnKind) (known : Known) (made : List Made) → calling env term ≡ ByCases callee kind
+    → bind_one env u.meaning u.args (Called term ps k) known made ≡ went.Goes known made
+case_run env u term ps k callee kind known made c = rw c refl
+
+pub case_binds : (s : Setting) (u : Around) (bound : List ℕ) (n : ℕ) (term : TermId) (parameters : List BindingId) (k : ℕ) (callee : Callee) (kind : ReturnKind) (called : Term) (known : Known) (made those : List Made) (locals : Env)
+    → Grounds s u → AreSameCalls s.env those made → Agree s u bound known locals → calling s.env term ≡ ByCases callee kind → AnswersOnce kind → IsExternal callee → slice_get s.env.terms term.0 ≡ Some called
+    → AreReady s bound parameters called.arg_tys → AnswersFit s.env u.meaning term
+    → BindsOne s u n (Called term (at_all (paths_in s) parameters) k) known locals (run_let u n (call_expr s bound (slice_get s.env.terms term.0) (callee_of (calling s.env term)) parameters) locals (done those)) (bind_one s.env u.meaning u.args (Called term (at_all (paths_in s) parameters) k) known made)
+case_binds s u bound n term parameters k callee kind called known made those locals g same a c once external found' r fit =
+    let l = operands_read s u bound known locals called.arg_tys parameters g a r in
+    let ps = at_all (paths_in s) parameters in
+    let x = constructor_answers s.env u.meaning term callee kind called fit c once found' in
+    let answered = answer_held (case u.meaning callee l.vs) in
+    let held : value_at s.env u.meaning u.args known (Called term ps k) ≡ answered = ap (λ d. call_held u.meaning d (known k) (values_at s.env u.meaning u.args known ps)) c ∙ ap (case_held u.meaning (ByCases callee kind)) l.block in
+    let here : List Made = those ++ record { callee = callee; args = l.rs } ∷ [] in
+    subst (BindsOne s u n (Called term ps k) known locals (run_let u n (call_expr s bound (slice_get s.env.terms term.0) (callee_of (calling s.env term)) parameters) locals (done those))) (sym (case_run s.env u term ps k callee kind known made c)) (record {
+      h = answered;
+      those = here;
+      is =
+          ap (λ o. run_let u n (call_expr s bound o (callee_of (calling s.env term)) parameters) locals (done those)) found'
+          ∙ ap (λ d. run_call u n (callee_of d) (read_values u locals (reads s bound called.arg_tys parameters)) locals (done those)) c
+          ∙ ap (λ vs. run_call u n callee vs locals (done those)) l.run
+          ∙ ap (λ y. run_bind n (answer_held y) locals (done here)) (x.is l.rs l.vs those l.same)
+          ∙ bind_there n answered locals (done here) (results_there s.env kind (called.ret_ty ∷ []) answered (x.holds l.vs));
+      made = pure_push s.env those made (record { callee = callee; args = l.rs }) (g.pure_made term callee kind c external) same;
+      stands = held_case kind answered (value_at s.env u.meaning u.args known (Called term ps k)) held s.env s.term term callee called c found' (x.holds l.vs) ps k;
+      grows = same_known known;
+      keeps = λ j not_j. refl;
+    })
+
 -- ---- a call of an extractor
 
 -- the results of a term that is there
 pub results_are : (o : Option Term) (called : Term) (tys : List TypeId) (P : Term → Type 0) → o ≡ Some called → IsSomeAnd o (λ (c : Term). (c.arg_tys ≡ tys) × P c) → called.arg_tys ≡ tys
-results_are None called tys P e h = absurd h
-results_are (Some c) called tys P e h = ap (λ (x : Term). x.arg_tys) (sym (same_Some c called e)) ∙ h.0
+results_are o called tys P e h = said_of (λ (x : Term). x.arg_tys) o called tys P e h
 
 -- a place that holds what an extractor of the kind answers
 held_extracted : (kind : ReturnKind) (h g : Held) → g ≡ h → (env : Environment) (t : Term) (term : TermId) (callee : Callee) (called : Term)
@@ -293,12 +356,6 @@ held_extracted return_kind.Option h g there env t term callee called c found is 
       let same = results_are (slice_get env.terms term.0) called tys (λ (x : Term). IsPathOf env t q x.ret_ty) found of.1 in
       record { o = is.0; q = is.0; run = is.1; block = there ∙ is.1; same = refl; typed = λ vs e. subst (HaveTypes env vs) same (is.2 vs e) };
 }
-
--- something stands there
-results_there : (env : Environment) (kind : ReturnKind) (tys : List TypeId) (h : Held) → HoldsResults env kind tys h → IsThere h
-results_there env return_kind.Plain tys h is = subst IsThere (sym is.1) tt
-results_there env return_kind.Option tys h is = subst IsThere (sym is.1) tt
-results_there env return_kind.Iterator tys h is = absurd is
 
 pub extractor_binds : (s : Setting) (u : Around) (bound : List ℕ) (n : ℕ) (term : TermId) (parameter : BindingId) (callee : Callee) (kind : ReturnKind) (called : Term) (known : Known) (made those : List Made) (locals : Env)
     → Grounds s u → AreSameCalls s.env those made → Agree s u bound known locals → extracting s.env term ≡ ByCases callee kind → AnswersOnce kind → slice_get s.env.terms term.0 ≡ Some called → IsReady s bound parameter called.ret_ty

@@ -32,7 +32,7 @@ use Rattle.isle_core.specs.Value.{Value, Truth, Int, Opaque, Variant, Struct, No
 use Rattle.isle_core.specs.ValueAt.{Held, Known, a_value, held, value_at, is_const, meets}
 use Rattle.isle_core.proofs.BindingPaths.{at_before, binding_at}
 use Rattle.isle_tree.specs.Run.{Around, Env, name_value, value_of}
-use Rattle.isle_simulation.specs.Emitted.{AnswersBindings, HasPureExtractors}
+use Rattle.isle_simulation.specs.Emitted.{AnswersBindings, HasPureExtractors, HasPureConstructors}
 use Rattle.isle_simulation.specs.Operands.{constant, in_place}
 use Rattle.isle_simulation.specs.RustNames.{HasRustNames}
 use Rattle.isle_simulation.proofs.MadeValues.{made_typed}
@@ -47,6 +47,7 @@ pub record Grounds (s : Setting) (u : Around) : Type 0 where
   pub constants : ValuesConstants s.env u.meaning
   pub names : HasRustNames s.env
   pub pure : HasPureExtractors s.env s.bindings
+  pub pure_made : HasPureConstructors s.env
 
 -- a place holds in the run what another one holds where a block runs, a value of the type, but for names
 pub record IsValueAt (env : Environment) (h g : Held) (ty : TypeId) : Type 0 where

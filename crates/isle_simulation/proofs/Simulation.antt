@@ -46,14 +46,14 @@ use Rattle.isle_simulation.specs.Completed.{completed}
 use Rattle.isle_simulation.specs.Patterns.{pattern_of}
 use Rattle.isle_simulation.specs.TermFunction.{ends_in_return, mark_of, tail_body}
 use Rattle.isle_simulation.specs.Ends.{end_of as ending}
-use Rattle.isle_simulation.specs.Emitted.{HasPureExtractors, impure_ran, AreSameRuns, RunsAsBlock, ran_with}
+use Rattle.isle_simulation.specs.Emitted.{HasPureExtractors, HasPureConstructors, impure_ran, AreSameRuns, RunsAsBlock, ran_with}
 use Rattle.isle_simulation.specs.RustNames.{HasRustNames}
 use Rattle.isle_simulation.proofs.ArmsRun.{FitsBy, IsForm, ArmFits, arm_fits, some_fits}
 use Rattle.isle_simulation.proofs.BindsRun.{LetsRun, lets_run}
 use Rattle.isle_simulation.proofs.OneBind.{AreUnanswered, Keeps, done, EndsSo, ends_on, ends_as_well}
 use Rattle.isle_simulation.proofs.CompletedReady.{completed_ready}
 use Rattle.isle_simulation.proofs.CompletedRuns.{completed_runs, completed_single}
-use Rattle.isle_simulation.proofs.HeldStays.{Grows}
+use Rattle.isle_core.proofs.HeldStays.{Grows}
 use Rattle.isle_simulation.proofs.LocalsAgree.{Agree, none_agree, agree_later, operand_reads, option_reads, written_reads}
 use Rattle.isle_simulation.proofs.Made.{over_value, over_option}
 use Rattle.isle_simulation.proofs.NamelessLaws.{AreSameCalls, run_same}
@@ -406,14 +406,14 @@ ends_as return_kind.Option once Unmatched = refl
 ends_as return_kind.Iterator once r = absurd once
 
 -- the function of a term whose block is lawful runs as the block
-pub written_runs : (files : Files) (env : Environment) (t : Term) (bs : List Binding) (b : Block) → AnswersOnce (kind_of t.kind) → HasRustNames env → HasPureExtractors env bs → IsLawfulBlock (setting env t bs) b → HasSingleArms b → RunsAsBlock env t bs b (function_of files env t bs b)
-written_runs files env t bs b once names pure h o p args m e k answers values =
+pub written_runs : (files : Files) (env : Environment) (t : Term) (bs : List Binding) (b : Block) → AnswersOnce (kind_of t.kind) → HasRustNames env → HasPureExtractors env bs → HasPureConstructors env → IsLawfulBlock (setting env t bs) b → HasSingleArms b → RunsAsBlock env t bs b (function_of files env t bs b)
+written_runs files env t bs b once names pure pure_made h o p args m e k answers values =
     let kind = kind_of t.kind in
     let name = sym_text env t.name in
     let place = place_in files t.decl_pos in
     let s = setting env t bs in
     let u : Around = record { meaning = m; program = p; function = function_of files env t bs b; args = args; limit = None } in
-    let g : Grounds s u = record { typed = k; answers = answers; constants = values; names = names; pure = pure } in
+    let g : Grounds s u = record { typed = k; answers = answers; constants = values; names = names; pure = pure; pure_made = pure_made } in
     let c = completed s [] b in
     let f : Body → Flow = λ end. run_body u (block_body s [] c end) [] (done []) in
     let r = block_runs s u g c [] [] [] nothing_known [] [] (λ j apart. refl) refl (completed_ready s b h) (completed_single s [] b o) (none_agree s u nothing_known) in
