@@ -6,14 +6,12 @@ use Rattle.isle_declarations.specs.Signatures.{Signature}
 pub both : {b : Bool} → b ≡ true → b ≡ false → ⊥
 both e f = let bad : true ≡ false = sym e ∙ f in cc
 
--- a declaration with at most the flag `partial`
+-- a declaration that is neither `multi` nor `rec`
 pub record IsPlain (s : Signature) : Type 0 where
-  pub pure : s.pure ≡ false
   pub multi : s.multi ≡ false
   pub recursive : s.recursive ≡ false
 
-pub plain_flags : (pure multi recursive : Bool) → not pure && not multi && not recursive ≡ true → (pure ≡ false) × (multi ≡ false) × (recursive ≡ false)
-plain_flags true multi recursive h = absurd cc
-plain_flags false true recursive h = absurd cc
-plain_flags false false true h = absurd cc
-plain_flags false false false h = (refl, refl, refl)
+pub plain_flags : (multi recursive : Bool) → not multi && not recursive ≡ true → (multi ≡ false) × (recursive ≡ false)
+plain_flags true recursive h = absurd cc
+plain_flags false true h = absurd cc
+plain_flags false false h = (refl, refl)

@@ -1,6 +1,6 @@
 -- What typed rules are: built, in scope, on built terms, and of their term's types.
-use Rattle.std.proofs.Common.{◌≡◌, ℕ, suc, ◌≤◌, List, [], ◌∷◌, false, length, Option, Some, None, refl, sym, ap, ◌∙◌, subst, arith}
-use Rattle.std.specs.Prelude.{All, option_map, get_or, slice_get}
+use Rattle.std.proofs.Common.{◌≡◌, ℕ, suc, ◌≤◌, List, [], ◌∷◌, ◌++◌, false, length, Option, Some, None, refl, sym, ap, ◌∙◌, subst, arith}
+use Rattle.std.specs.Prelude.{All, option_map, slice_get}
 use Rattle.std.specs.List.{AllByRecursion}
 use Rattle.std.proofs.lemmas.List.{length-map}
 use Rattle.std.proofs.lemmas.List.Elements.{All-from_recursion}
@@ -13,7 +13,7 @@ use Rattle.isle_core.specs.declared.types.Field.{Field}
 use Rattle.isle_core.specs.declared.types.Term.{Term}
 use Rattle.isle_core.specs.declared.types.TermKind.{TermKind}
 use Rattle.isle_core.specs.declared.types.TermKind.TheVariants as kind
-use Rattle.isle_core.specs.BuiltRule.{IsOpening, count, IsBuiltPattern, AreBuiltPatterns, IsBuiltRule, CallsBuiltTerms}
+use Rattle.isle_core.specs.BuiltRule.{IsOpening, count, IsBuiltPattern, AreBuiltPatterns, IsBuiltIfLet, IsBuiltRule, CallsBuiltTerms}
 use Rattle.isle_core.specs.CalledTerms.{is_made_kind}
 use Rattle.isle_core.specs.Calling.{kind_of, may_be_nothing}
 use Rattle.isle_core.specs.Form.{Form, form, form_types}
@@ -21,16 +21,19 @@ use Rattle.isle_core.specs.HasType.{tuple_fields, typed_fields}
 use Rattle.isle_core.specs.Making.{Making, MakesVariant, MakesStruct, MakesNothing, making_kind, making_of, making}
 use Rattle.isle_core.specs.Pattern as pattern
 use Rattle.isle_core.specs.Pattern.{Pattern, Patterns, NoPattern, APattern}
-use Rattle.isle_core.specs.PatternType.{OpensType, part_types, IsPatternOf, ArePartsOf, AreEachOf, ArePatternsOf, FitsTerm}
-use Rattle.isle_core.specs.Rule.{Rule, Environment, rules_of}
-use Rattle.isle_core.specs.Scope.{all_variables, iflets_scope, IsInScope, AreIfLetsInScope, IsScopedRule}
+use Rattle.isle_core.specs.PatternType.{OpensType, part_types, IsPatternOf, ArePartsOf, AreEachOf, ArePatternsOf}
+use Rattle.isle_core.proofs.RuleMatches.{IsTested}
+use Rattle.isle_core.specs.Rule.{IfLet, Rule, Environment, rules_of}
+use Rattle.isle_core.specs.Scope.{IsScopedRule}
+use Rattle.isle_core.specs.ExprType.{in_condition, in_right_side, AreIfLetsOf}
+use Rattle.isle_core.specs.TypedVariables.{typed_variables, rule_typed, HaveOneType}
 use Rattle.isle_core.specs.TypedParts.{field_types}
 use Rattle.isle_ast.specs.Tree.{Def}
 use Rattle.isle_types.proofs.SoundTypes.{form_sound}
 use Rattle.isle_sema.specs.Typing.{Typed}
 use Rattle.isle_sema.proofs.TypedParts.{typed_in}
 use Rattle.isle_sema.proofs.TypedRules.{typed_rules, typed_of}
-use Rattle.isle_sema.proofs.TypedSides.{built_expr, scoped_expr, built_terms}
+use Rattle.isle_sema.proofs.TypedSides.{built_expr, scoped_rule, built_terms, pure_terms}
 use Rattle.isle_sema.proofs.TypedTerms.{typed_few}
 
 -- ---- at most 256 parts
@@ -127,36 +130,41 @@ built_patterns env few (ty ∷ tys) [] h = absurd h
 
 -- ---- rules
 
+-- typed conditions are built
+built_iflets : (env : Environment) → HasFewParts env → (vars : List (TypeId × ℕ)) (cs : List IfLet) → AreIfLetsOf env vars cs → AllByRecursion (IsBuiltIfLet env.terms) cs
+built_iflets env few vars [] h = tt
+built_iflets env few vars (c ∷ cs) h = (
+  record { lhs = built_pattern env few h.0.ty c.lhs h.0.lhs; rhs = built_expr env in_condition vars h.0.ty c.rhs h.0.rhs; calls = pure_terms env vars h.0.ty c.rhs h.0.rhs },
+  built_iflets env few (vars ++ typed_variables c.lhs) cs h.1,
+)
+
 -- the rules are built
 pub typed_built : (defs : List Def) (env : Environment) → Typed defs env → All (IsBuiltRule env.terms) env.rules
 typed_built defs env h k d lt =
     let t = typed_rules defs env h k d lt in
+    let few = few_parts defs env h in
     record {
-      args = All-from_recursion (IsBuiltPattern env.terms) _ (built_patterns env (few_parts defs env h) t.term.arg_tys _ t.typed.args);
-      iflets = t.typed.iflets;
-      rhs = built_expr env (may_be_nothing (kind_of t.term.kind)) _ t.term.ret_ty _ t.typed.rhs;
+      args = All-from_recursion (IsBuiltPattern env.terms) _ (built_patterns env few t.term.arg_tys _ t.typed.args);
+      iflets = All-from_recursion (IsBuiltIfLet env.terms) _ (built_iflets env few _ _ t.typed.iflets);
+      rhs = built_expr env (in_right_side (may_be_nothing (kind_of t.term.kind))) _ t.term.ret_ty _ t.typed.rhs;
     }
 
--- a right side in scope of the patterns of a rule without conditions
-without_conditions : (r : Rule) → r.iflets ≡ [] → IsInScope (all_variables r.args) r.rhs → IsScopedRule r
-without_conditions r e h = record {
-  iflets = subst (AreIfLetsInScope (all_variables r.args)) (sym e) tt;
-  rhs = subst (λ is. IsInScope (iflets_scope (all_variables r.args) is) r.rhs) (sym e) h;
-}
-
--- each variable of a right side is in scope
+-- each variable of a condition and of a right side is in scope
 pub typed_scoped : (defs : List Def) (env : Environment) → Typed defs env → All IsScopedRule env.rules
 typed_scoped defs env h k d lt =
     let t = typed_rules defs env h k d lt in
-    let rhs = scoped_expr env (may_be_nothing (kind_of t.term.kind)) (get_or env.rules k d).args t.term.ret_ty _ t.typed.rhs in
-    without_conditions _ t.typed.iflets rhs
+    scoped_rule env (in_right_side (may_be_nothing (kind_of t.term.kind))) t.term.ret_ty _ t.typed.iflets t.typed.rhs
 
 -- each term of a right side is built
 pub typed_terms : (defs : List Def) (env : Environment) → Typed defs env → All (CallsBuiltTerms env.terms) env.rules
-typed_terms defs env h k d lt = let t = typed_rules defs env h k d lt in built_terms env (may_be_nothing (kind_of t.term.kind)) _ t.term.ret_ty _ t.typed.rhs
+typed_terms defs env h k d lt = let t = typed_rules defs env h k d lt in built_terms env (in_right_side (may_be_nothing (kind_of t.term.kind))) _ t.term.ret_ty _ t.typed.rhs
 
 -- ---- the rules of a term
 
--- they have patterns of its types
-pub typed_patterns : (defs : List Def) (env : Environment) (id : TermId) (t : Term) → Typed defs env → slice_get env.terms id.0 ≡ Some t → All (FitsTerm env t) (rules_of env id)
-typed_patterns defs env id t h at k d lt = (typed_of defs env id t h at k d lt).args
+-- they have patterns and conditions of its types
+pub typed_tests : (defs : List Def) (env : Environment) (id : TermId) (t : Term) → Typed defs env → slice_get env.terms id.0 ≡ Some t → All (IsTested env t.arg_tys) (rules_of env id)
+typed_tests defs env id t h at k d lt = let r = typed_of defs env id t h at k d lt in record { args = r.args; iflets = r.iflets }
+
+-- each of their variables has one type
+pub typed_variables_once : (defs : List Def) (env : Environment) (id : TermId) (t : Term) → Typed defs env → slice_get env.terms id.0 ≡ Some t → All (λ (r : Rule). HaveOneType (rule_typed r)) (rules_of env id)
+typed_variables_once defs env id t h at k d lt = (typed_of defs env id t h at k d lt).variables

@@ -1,5 +1,5 @@
 -- What is judged of parts, one after the other, is what the rows say of all.
-use Rattle.std.proofs.Common.{◌≡◌, ℕ, ◌+◌, ◌-◌, ◌^◌, ◌≤◌, Bool, true, false, cond, List, [], ◌∷◌, ◌++◌, length, map, Option, Some, None, refl, sym, ap, ◌∙◌, subst, arith}
+use Rattle.std.proofs.Common.{◌≡◌, ℕ, ◌+◌, ◌-◌, ◌^◌, ◌≤◌, Bool, true, false, cond, List, [], ◌∷◌, ◌++◌, length, Option, Some, None, refl, sym, ap, ◌∙◌, subst, arith}
 use Rattle.std.specs.Prelude.{◌==◌, ◌&&◌, ◌||◌, not, is_some, min, nat_le}
 use Rattle.std.specs.List.{list_any}
 use Rattle.std.proofs.Math.Nat.{min-le_right}
@@ -7,18 +7,17 @@ use Rattle.std.proofs.lemmas.Bool.{leb-true, le-leb}
 use Rattle.std.proofs.lemmas.List.{length-map, length-append}
 use Rattle.std.proofs.lemmas.List.Folds.{list_any-append}
 use Rattle.isle_core.specs.declared.TypeId.{TypeId}
-use Rattle.isle_ast.specs.Tree.{IfLet}
 use Rattle.isle_sema.specs.declared.judged.Judged.{Judged}
 use Rattle.isle_sema.specs.declared.known.Called.{Called}
 use Rattle.isle_declarations.specs.Signatures.{Signature, RuleDef, externs, extractors, rule_defs, func_named, extractor_named, has_rule}
-use Rattle.isle_sema.specs.Site.{Site, CalledAt, TakenAt, NotBuiltAt}
+use Rattle.isle_sema.specs.Site.{Site, CalledAt, TakenAt}
 use Rattle.isle_terms.specs.Whole.{Whole, termed}
 use Rattle.isle_declarations.specs.Terms.{is_made}
 use Rattle.isle_terms.specs.TypeNames.{type_named}
 use Rattle.isle_types.specs.declared.row.Row.TheVariants as row
 use Rattle.isle_types.specs.declared.row.Row.{Row}
 use Rattle.isle_types.specs.TypeRows.{on}
-use Rattle.isle_sema.specs.RulePass.{patterns_of, right_side_of, sites_of}
+use Rattle.isle_sema.specs.RulePass.{right_side_of, left_of, sites_of}
 use Rattle.isle_sema.specs.RuleRows.{differ, is_untaken, is_mistaken, is_misplaced, is_undeclared, is_met_otherwise, is_unknown, is_mistyped}
 use Rattle.isle_sema.specs.Known.{IsCalled, MayBeCalled}
 use Rattle.isle_sema.specs.Judging.{is_partial_call, is_impure_call, is_multi_call, unjudged, judge, judge_all, lowest}
@@ -146,10 +145,8 @@ any_both w f test step new ps rs =
     ap (λ b. b || f (judge_all w unjudged rs)) (any_new w f test step new ps) ∙ ap (λ b. list_any test ps || b) (any_new w f test step new rs) ∙ sym (list_any-append test ps rs)
 
 -- a use of a term that has a rule, on either side
-pub ruled_both : (w : Whole) (r : RuleDef) → r.iflets ≡ [] → (judge_all w unjudged (patterns_of w r).sites).ruled || (judge_all w unjudged (right_side_of w r).sites).ruled ≡ uses_ruled w r
-ruled_both w r none =
-    any_both w (λ j. j.ruled) (is_ruled w) (λ j s. refl) refl (patterns_of w r).sites (right_side_of w r).sites
-    ∙ ap (λ (cs : List IfLet). list_any (is_ruled w) ((patterns_of w r).sites ++ (map (λ (c : IfLet). NotBuiltAt) cs ++ (right_side_of w r).sites))) (sym none)
+pub ruled_both : (w : Whole) (r : RuleDef) → (judge_all w unjudged (left_of w r)).ruled || (judge_all w unjudged (right_side_of w r).sites).ruled ≡ uses_ruled w r
+ruled_both w r = any_both w (λ j. j.ruled) (is_ruled w) (λ j s. refl) refl (left_of w r) (right_side_of w r).sites
 
 -- ---- how many there are
 
@@ -175,12 +172,13 @@ small_both w ps rs =
 -- ---- the row of a rule
 
 -- the tests in order
-abbrev pub tests : (a b c d e f g h i k l : Bool) → Option Row
-tests a b c d e f g h i k l =
-    cond a (Some row.PatternTermMisfit) (cond b (Some row.PatternTypeMisfit) (cond c (Some row.LiteralMisfit) (cond d (Some row.ConstantUndeclared) (cond e (Some row.VariableTypeMisfit) (cond f (Some row.ExprNameMisfit) (cond g (Some row.ExprTypeMisfit) (cond h (Some row.PartialCall) (cond i (Some row.ImpureCall) (cond k (Some row.MultiCall) (cond l (Some row.ManyNodes) None))))))))))
+abbrev pub tests : (a b c d e f g x h i k l : Bool) → Option Row
+tests a b c d e f g x h i k l =
+    cond a (Some row.PatternTermMisfit) (cond b (Some row.PatternTypeMisfit) (cond c (Some row.LiteralMisfit) (cond d (Some row.ConstantUndeclared) (cond e (Some row.VariableTypeMisfit) (cond f (Some row.ExprNameMisfit) (cond g (Some row.ExprTypeMisfit) (cond x (Some row.ImpureCondition)
+    (cond h (Some row.PartialCall) (cond i (Some row.ImpureCall) (cond k (Some row.MultiCall) (cond l (Some row.ManyNodes) None)))))))))))
 
 -- where they give no row, each fails
-pub record AllFail (a b c d e f g h i k l : Bool) : Type 0 where
+pub record AllFail (a b c d e f g x h i k l : Bool) : Type 0 where
   pub arity : a ≡ false
   pub taken : b ≡ false
   pub literal : c ≡ false
@@ -188,72 +186,69 @@ pub record AllFail (a b c d e f g h i k l : Bool) : Type 0 where
   pub met : e ≡ false
   pub name : f ≡ false
   pub typing : g ≡ false
+  pub condition : x ≡ false
   pub partial : h ≡ false
   pub impure : i ≡ false
   pub multi : k ≡ false
   pub size : l ≡ false
 
-pub tests_fail : (a b c d e f g h i k l : Bool) → tests a b c d e f g h i k l ≡ None → AllFail a b c d e f g h i k l
-tests_fail true b c d e f g h i k l none = absurd cc
-tests_fail false true c d e f g h i k l none = absurd cc
-tests_fail false false true d e f g h i k l none = absurd cc
-tests_fail false false false true e f g h i k l none = absurd cc
-tests_fail false false false false true f g h i k l none = absurd cc
-tests_fail false false false false false true g h i k l none = absurd cc
-tests_fail false false false false false false true h i k l none = absurd cc
-tests_fail false false false false false false false true i k l none = absurd cc
-tests_fail false false false false false false false false true k l none = absurd cc
-tests_fail false false false false false false false false false true l none = absurd cc
-tests_fail false false false false false false false false false false true none = absurd cc
-tests_fail false false false false false false false false false false false none = record { arity = refl; taken = refl; literal = refl; constants = refl; met = refl; name = refl; typing = refl; partial = refl; impure = refl; multi = refl; size = refl }
+pub tests_fail : (a b c d e f g x h i k l : Bool) → tests a b c d e f g x h i k l ≡ None → AllFail a b c d e f g x h i k l
+tests_fail true b c d e f g x h i k l none = absurd cc
+tests_fail false true c d e f g x h i k l none = absurd cc
+tests_fail false false true d e f g x h i k l none = absurd cc
+tests_fail false false false true e f g x h i k l none = absurd cc
+tests_fail false false false false true f g x h i k l none = absurd cc
+tests_fail false false false false false true g x h i k l none = absurd cc
+tests_fail false false false false false false true x h i k l none = absurd cc
+tests_fail false false false false false false false true h i k l none = absurd cc
+tests_fail false false false false false false false false true i k l none = absurd cc
+tests_fail false false false false false false false false false true k l none = absurd cc
+tests_fail false false false false false false false false false false true l none = absurd cc
+tests_fail false false false false false false false false false false false true none = absurd cc
+tests_fail false false false false false false false false false false false false none = record { arity = refl; taken = refl; literal = refl; constants = refl; met = refl; name = refl; typing = refl; condition = refl; partial = refl; impure = refl; multi = refl; size = refl }
 
--- the tests of a rule under what gives its head, over the parts of both sides
+-- the tests of a rule under what gives its head, over the parts before its right side and those of it
 abbrev pub tests_of : Whole → RuleDef → Option Signature → List Site → List Site → Option Row
-tests_of w r o sites rs =
-    tests (on o (λ (s : Signature). not (length r.args == length s.args)) || list_any (is_untaken w) sites) (list_any (is_mistaken w) sites) (list_any (is_misplaced w) sites) (list_any is_undeclared sites) (list_any is_met_otherwise sites) (list_any (is_unknown w) sites)
-    (list_any (is_mistyped w) sites) (on o (λ (s : Signature). not s.partial && list_any is_partial_call rs)) (on o (λ (s : Signature). s.pure && list_any is_impure_call rs))
-    (on o (λ (s : Signature). not s.multi && list_any is_multi_call sites)) (not (nat_le (length sites) 4096))
+tests_of w r o ls rs =
+    tests (on o (λ (s : Signature). not (length r.args == length s.args)) || list_any (is_untaken w) (ls ++ rs)) (list_any (is_mistaken w) (ls ++ rs)) (list_any (is_misplaced w) (ls ++ rs)) (list_any is_undeclared (ls ++ rs)) (list_any is_met_otherwise (ls ++ rs)) (list_any (is_unknown w) (ls ++ rs))
+    (list_any (is_mistyped w) (ls ++ rs)) (list_any is_impure_call ls) (on o (λ (s : Signature). not s.partial && list_any is_partial_call rs)) (on o (λ (s : Signature). s.pure && list_any is_impure_call rs))
+    (on o (λ (s : Signature). not s.multi && list_any is_multi_call (ls ++ rs))) (not (nat_le (length (ls ++ rs)) 4096))
 
-row_tests : (w : Whole) (r : RuleDef) → row_of w r ≡ tests_of w r (termed w r.term) (sites_of w r) (right_side_of w r).sites
+row_tests : (w : Whole) (r : RuleDef) → row_of w r ≡ tests_of w r (termed w r.term) (left_of w r) (right_side_of w r).sites
 row_tests w r = refl
 
--- where a term is declared, its types are expected
-sites_at : (w : Whole) (r : RuleDef) (s : Signature) → termed w r.term ≡ Some s → r.iflets ≡ [] → row_of w r ≡ tests_of w r (Some s) ((patterns_of w r).sites ++ (right_side_of w r).sites) (right_side_of w r).sites
-sites_at w r s is none =
-    row_tests w r ∙ ap (λ (o : Option Signature). tests_of w r o (sites_of w r) (right_side_of w r).sites) is
-    ∙ ap (λ (cs : List IfLet). tests_of w r (Some s) ((patterns_of w r).sites ++ (map (λ (c : IfLet). NotBuiltAt) cs ++ (right_side_of w r).sites)) (right_side_of w r).sites) none
-
 -- tests that are the same give one row
-same_tests : {a a2 : Bool} {b b2 : Bool} {c c2 : Bool} {d d2 : Bool} {e e2 : Bool} {f f2 : Bool} {g g2 : Bool} {h h2 : Bool} {i i2 : Bool} {k k2 : Bool} {l l2 : Bool} → a ≡ a2 → b ≡ b2 → c ≡ c2 → d ≡ d2 → e ≡ e2 → f ≡ f2 → g ≡ g2 → h ≡ h2 → i ≡ i2 → k ≡ k2 → l ≡ l2 → tests a b c d e f g h i k l ≡ tests a2 b2 c2 d2 e2 f2 g2 h2 i2 k2 l2
-same_tests ea eb ec ed ee ef eg eh ei ek el = rw (ea, eb, ec, ed, ee, ef, eg, eh, ei, ek, el) refl
+same_tests : {a a2 : Bool} {b b2 : Bool} {c c2 : Bool} {d d2 : Bool} {e e2 : Bool} {f f2 : Bool} {g g2 : Bool} {x x2 : Bool} {h h2 : Bool} {i i2 : Bool} {k k2 : Bool} {l l2 : Bool} → a ≡ a2 → b ≡ b2 → c ≡ c2 → d ≡ d2 → e ≡ e2 → f ≡ f2 → g ≡ g2 → x ≡ x2 → h ≡ h2 → i ≡ i2 → k ≡ k2 → l ≡ l2
+    → tests a b c d e f g x h i k l ≡ tests a2 b2 c2 d2 e2 f2 g2 x2 h2 i2 k2 l2
+same_tests ea eb ec ed ee ef eg ex eh ei ek el = rw (ea, eb, ec, ed, ee, ef, eg, ex, eh, ei, ek, el) refl
 
--- what is judged of both sides of a rule is the row that it breaks
-pub lowest_is : (w : Whole) (r : RuleDef) (s : Signature) (own : Called) → termed w r.term ≡ Some s → IsCalled w s own → r.iflets ≡ []
-    → lowest own (length r.args) (judge_all w unjudged (patterns_of w r).sites) (judge_all w unjudged (right_side_of w r).sites) ≡ row_of w r
-lowest_is w r s own is h none =
-    let ps = (patterns_of w r).sites in
+-- what is judged of a rule is the row that it breaks
+pub lowest_is : (w : Whole) (r : RuleDef) (s : Signature) (own : Called) → termed w r.term ≡ Some s → IsCalled w s own → lowest own (length r.args) (judge_all w unjudged (left_of w r)) (judge_all w unjudged (right_side_of w r).sites) ≡ row_of w r
+lowest_is w r s own is h =
+    let ls = left_of w r in
     let rs = (right_side_of w r).sites in
-    let all = ps ++ rs in
+    let all = ls ++ rs in
     let long : length own.args.now ≡ length s.args = sym (length-map own.args.now Some) ∙ ap length (sym h.args) ∙ length-map s.args (type_named w.defs) in
-    let l = judge_all w unjudged ps in
+    let l = judge_all w unjudged ls in
     let m = judge_all w unjudged rs in
-    let both : (f : Judged → Bool) (test : Site → Bool) → ((j : Judged) (x : Site) → f (judge w j x) ≡ test x || f j) → f unjudged ≡ false → f l || f m ≡ list_any test all = λ f test step new. any_both w f test step new ps rs in
+    let both : (f : Judged → Bool) (test : Site → Bool) → ((j : Judged) (x : Site) → f (judge w j x) ≡ test x || f j) → f unjudged ≡ false → f l || f m ≡ list_any test all = λ f test step new. any_both w f test step new ls rs in
     let arity : not (length r.args == length own.args.now) || (l.untaken || m.untaken) ≡ not (length r.args == length s.args) || list_any (is_untaken w) all =
     ap (λ n. not (length r.args == n) || (l.untaken || m.untaken)) long ∙ ap (λ b. not (length r.args == length s.args) || b) (both (λ j. j.untaken) (is_untaken w) (λ j x. refl) refl) in
+    let condition : l.impure ≡ list_any is_impure_call ls = any_new w (λ j. j.impure) is_impure_call (λ j x. refl) refl ls in
     let partial : not own.partial && m.partial ≡ not s.partial && list_any is_partial_call rs = ap (λ b. not b && m.partial) (sym h.partial) ∙ ap (λ b. not s.partial && b) (any_new w (λ j. j.partial) is_partial_call (λ j x. refl) refl rs) in
     let impure : own.pure && m.impure ≡ s.pure && list_any is_impure_call rs = ap (λ b. b && m.impure) (sym h.pure) ∙ ap (λ b. s.pure && b) (any_new w (λ j. j.impure) is_impure_call (λ j x. refl) refl rs) in
     let multi : not own.multi && (l.multi || m.multi) ≡ not s.multi && list_any is_multi_call all = ap (λ b. not b && (l.multi || m.multi)) (sym h.multi) ∙ ap (λ b. not s.multi && b) (both (λ j. j.multi) is_multi_call (λ j x. refl) refl) in
     same_tests arity (both (λ j. j.mistaken) (is_mistaken w) (λ j x. refl) refl) (both (λ j. j.misplaced) (is_misplaced w) (λ j x. refl) refl) (both (λ j. j.undeclared) is_undeclared (λ j x. refl) refl)
-    (both (λ j. j.met_otherwise) is_met_otherwise (λ j x. refl) refl) (both (λ j. j.unknown) (is_unknown w) (λ j x. refl) refl) (both (λ j. j.mistyped) (is_mistyped w) (λ j x. refl) refl) partial impure multi (ap not (small_both w ps rs))
-    ∙ sym (sites_at w r s is none)
+    (both (λ j. j.met_otherwise) is_met_otherwise (λ j x. refl) refl) (both (λ j. j.unknown) (is_unknown w) (λ j x. refl) refl) (both (λ j. j.mistyped) (is_mistyped w) (λ j x. refl) refl) condition partial impure multi (ap not (small_both w ls rs))
+    ∙ sym (row_tests w r ∙ ap (λ (o : Option Signature). tests_of w r o ls rs) is)
 
 -- where a rule breaks no row, each test fails
 pub row_fails : (w : Whole) (r : RuleDef) → row_of w r ≡ None
     → AllFail (on (termed w r.term) (λ (s : Signature). not (length r.args == length s.args)) || list_any (is_untaken w) (sites_of w r)) (list_any (is_mistaken w) (sites_of w r)) (list_any (is_misplaced w) (sites_of w r)) (list_any is_undeclared (sites_of w r))
-    (list_any is_met_otherwise (sites_of w r)) (list_any (is_unknown w) (sites_of w r)) (list_any (is_mistyped w) (sites_of w r))
+    (list_any is_met_otherwise (sites_of w r)) (list_any (is_unknown w) (sites_of w r)) (list_any (is_mistyped w) (sites_of w r)) (list_any is_impure_call (left_of w r))
     (on (termed w r.term) (λ (s : Signature). not s.partial && list_any is_partial_call (right_side_of w r).sites)) (on (termed w r.term) (λ (s : Signature). s.pure && list_any is_impure_call (right_side_of w r).sites))
     (on (termed w r.term) (λ (s : Signature). not s.multi && list_any is_multi_call (sites_of w r))) (not (nat_le (length (sites_of w r)) 4096))
-row_fails w r h = tests_fail _ _ _ _ _ _ _ _ _ _ _ h
+row_fails w r h = tests_fail _ _ _ _ _ _ _ _ _ _ _ _ h
 
 -- no part of its right side is unknown
 pub all_known : (w : Whole) (r : RuleDef) → row_of w r ≡ None → list_any (is_unknown w) (sites_of w r) ≡ false

@@ -1,10 +1,9 @@
 -- The variables of expressions, by their names.
-use Rattle.std.proofs.Common.{◌≡◌, ℕ, zero, suc, ◌+◌, ◌-◌, Bool, true, false, cond, List, [], ◌∷◌, ◌++◌, length, map, take, Option, Some, None, refl, sym, ap, ◌∙◌, arith}
+use Rattle.std.proofs.Common.{◌≡◌, ℕ, zero, suc, ◌-◌, Bool, true, false, cond, List, [], ◌∷◌, ◌++◌, length, map, take, Option, Some, None, refl, sym, ap, ◌∙◌, arith}
 use Rattle.std.specs.Prelude.{◌==◌, fold, option_map, zip}
 use Rattle.std.specs.Str.{bytes_eq}
 use Rattle.std.proofs.lemmas.List.{length-map, length-append, map-append, append_assoc}
 use Rattle.std.proofs.lemmas.List.Sums.{fold-append}
-use Rattle.std.proofs.lemmas.Option.{same_Some}
 use Rattle.std.proofs.lemmas.Slice.Eq.{bytes_eq-Decides}
 use Rattle.isle_core.specs.declared.TypeId.{TypeId}
 use Rattle.isle_scope.specs.Scope.{last_place}
@@ -16,9 +15,10 @@ use Rattle.isle_declarations.proofs.NumberLaws.{first_number, numbered_kept, num
 use Rattle.isle_declarations.proofs.SymbolLaws.{same_number}
 use Rattle.isle_sema.specs.declared.locals.LetVariable.{LetVariable}
 use Rattle.isle_sema.specs.LocalViews.{local, name_of}
-use Rattle.isle_sema.specs.Locals.{Local, newest, local_named, local_type, numbered, bound_local, Bound, locals_of}
+use Rattle.isle_sema.specs.Locals.{newest, local_named, latest_first, of_patterns, bound_local, Bound, locals_of}
 use Rattle.isle_sema.specs.PatternPass.{is_blank}
-use Rattle.isle_sema.specs.Scope.{Scope, scope_names, bound_at, variable_by, variable}
+use Rattle.isle_sema.specs.Scope.{Local, Scope, found_in, variable}
+use Rattle.isle_sema.proofs.ScopeLaws.{known_local}
 
 -- ---- variables behind others
 
@@ -46,55 +46,14 @@ one_named ls l name = fold-append (newest name) None ls (l ∷ [])
 
 -- ---- variables of patterns
 
--- a variable of a pattern with its number
-abbrev placed : List ℕ × Option TypeId → ℕ → Local
-placed v place = record { name = v.0; ty = v.1; number = place }
-
--- one is bound at its type
-pub type_found : (place : ℕ) (scope : Scope) (name : List ℕ) → local_type (local_named (numbered place scope) name) ≡ bound_at scope name
-type_found place [] name = refl
-type_found place (v ∷ scope) name = ap local_type (one_named (numbered (suc place) scope) (placed v place) name) ∙ by (bytes_eq v.0 name) (local_named (numbered (suc place) scope) name) (type_found (suc place) scope name)
-  where
-    by : (b : Bool) (o : Option Local) → local_type o ≡ bound_at scope name → local_type (cond b (Some (placed v place)) o) ≡ cond b (Some v.1) (bound_at scope name)
-    by true o h = refl
-    by false o h = h
-
--- and its number is its place
-pub number_found : (place : ℕ) (scope : Scope) (name : List ℕ) → option_map (λ (l : Local). l.number) (local_named (numbered place scope) name) ≡ option_map (λ (n : ℕ). n + place) (index_of (scope_names scope) name)
-number_found place [] name = refl
-number_found place (v ∷ scope) name =
-    ap (option_map (λ (l : Local). l.number)) (one_named (numbered (suc place) scope) (placed v place) name)
-    ∙ by (bytes_eq v.0 name) (local_named (numbered (suc place) scope) name) (index_of (scope_names scope) name) (number_found (suc place) scope name)
-  where
-    by : (b : Bool) (o : Option Local) (i : Option ℕ) → option_map (λ (l : Local). l.number) o ≡ option_map (λ (n : ℕ). n + suc place) i
-        → option_map (λ (l : Local). l.number) (cond b (Some (placed v place)) o) ≡ option_map (λ (n : ℕ). n + place) (cond b (Some 0) (option_map (λ (n : ℕ). n + 1) i))
-    by true o i h = let same : place ≡ 0 + place = omega arith in ap Some same
-    by false o None h = h
-    by false o (Some n) h = let same : n + suc place ≡ n + 1 + place = omega arith in h ∙ ap Some same
-
--- the type and the number of a variable are what is found of it
-pub pair_found : (r : Option (Option TypeId × ℕ)) (o : Option Local) → option_map (λ (v : Option TypeId × ℕ). v.0) r ≡ local_type o → option_map (λ (v : Option TypeId × ℕ). v.1) r ≡ option_map (λ (l : Local). l.number) o → r ≡ option_map (λ (l : Local). (l.ty, l.number)) o
-pair_found None None e f = refl
-pair_found None (Some l) e f = absurd cc
-pair_found (Some v) None e f = absurd cc
-pair_found (Some v) (Some l) e f = ap (λ (t : Option TypeId). Some (t, v.1)) (same_Some v.0 l.ty e) ∙ ap (λ (n : ℕ). Some (l.ty, n)) (same_Some v.1 l.number f)
-
-same_number_at : (i : Option ℕ) → option_map (λ (n : ℕ). n + 0) i ≡ i
-same_number_at None = refl
-same_number_at (Some n) = let same : n + 0 ≡ n = omega arith in ap Some same
-
--- what is found of a variable of patterns
-pub pattern_found : (scope : Scope) (name : List ℕ) (r : Option (Option TypeId × ℕ)) → option_map (λ (v : Option TypeId × ℕ). v.0) r ≡ bound_at scope name → option_map (λ (v : Option TypeId × ℕ). v.1) r ≡ index_of (scope_names scope) name
-    → r ≡ option_map (λ (l : Local). (l.ty, l.number)) (local_named (numbered 0 scope) name)
-pattern_found scope name r e f =
-    pair_found r (local_named (numbered 0 scope) name) (e ∙ sym (type_found 0 scope name)) (f ∙ sym (number_found 0 scope name ∙ same_number_at (index_of (scope_names scope) name)))
+-- what is found first is what is found last in the other order
+pub latest_found : (ls : List Local) (name : List ℕ) → local_named (latest_first ls) name ≡ found_in ls name
+latest_found [] name = refl
+latest_found (l ∷ ls) name = one_named (latest_first ls) l name ∙ ap (λ o. cond (bytes_eq l.name name) (Some l) o) (latest_found ls name)
 
 -- a variable of patterns with a type is a variable of the scope
-pub pattern_variable : (scope : Scope) (name : List ℕ) (l : Local) (ty : TypeId) → local_named (numbered 0 scope) name ≡ Some l → l.ty ≡ Some ty → variable scope name ≡ Some (ty, record { 0 = l.number })
-pattern_variable scope name l ty h is =
-    let bound : bound_at scope name ≡ Some (Some ty) = sym (type_found 0 scope name) ∙ ap local_type h ∙ ap Some is in
-    let place : index_of (scope_names scope) name ≡ Some l.number = sym (number_found 0 scope name ∙ same_number_at (index_of (scope_names scope) name)) ∙ ap (option_map (λ (x : Local). x.number)) h in
-    ap (λ o. variable_by o (index_of (scope_names scope) name)) bound ∙ ap (variable_by (Some (Some ty))) place
+pub pattern_variable : (scope : Scope) (name : List ℕ) (l : Local) (ty : TypeId) → local_named (of_patterns scope) name ≡ Some l → l.ty ≡ Some ty → variable scope name ≡ Some (ty, record { 0 = l.number })
+pattern_variable scope name l ty h is = known_local (found_in scope.variables name) l ty (sym (latest_found scope.variables name) ∙ h) is
 
 -- ---- variables of `let`s by the numbers of their names
 
@@ -195,18 +154,18 @@ found_outer xs ys name r q h none k = k ∙ by (local_named ys name) (sym none �
 
 -- those in scope stay where those of patterns and those of `let`s do
 pub kept_locals : (old new : Bound) → new.patterns ≡ old.patterns → new.lets ≡ old.lets → locals_of new ≡ locals_of old
-kept_locals old new p l = ap (λ (s : Scope). numbered 0 s ++ new.lets) p ∙ ap (λ (ls : List Local). numbered 0 old.patterns ++ ls) l
+kept_locals old new p l = ap (λ (s : Scope). of_patterns s ++ new.lets) p ∙ ap (λ (ls : List Local). of_patterns old.patterns ++ ls) l
 
 -- one of a `let` joins them
 pub joined_locals : (old new : Bound) (name : List ℕ) (ty : Option TypeId) (number : ℕ) → new.patterns ≡ old.patterns → new.lets ≡ bound_local old.lets name ty number → locals_of new ≡ bound_local (locals_of old) name ty number
-joined_locals old new name ty number p l = ap (λ (s : Scope). numbered 0 s ++ new.lets) p ∙ ap (λ (ls : List Local). numbered 0 old.patterns ++ ls) l ∙ by (is_blank name)
+joined_locals old new name ty number p l = ap (λ (s : Scope). of_patterns s ++ new.lets) p ∙ ap (λ (ls : List Local). of_patterns old.patterns ++ ls) l ∙ by (is_blank name)
   where
     one : List Local
     one = record { name = name; ty = ty; number = number } ∷ []
 
-    by : (b : Bool) → numbered 0 old.patterns ++ cond b old.lets (old.lets ++ one) ≡ cond b (locals_of old) (locals_of old ++ one)
+    by : (b : Bool) → of_patterns old.patterns ++ cond b old.lets (old.lets ++ one) ≡ cond b (locals_of old) (locals_of old ++ one)
     by true = refl
-    by false = sym (append_assoc (numbered 0 old.patterns) old.lets one)
+    by false = sym (append_assoc (of_patterns old.patterns) old.lets one)
 
 take_front : {A : Type 0} (s xs ys : List A) → take (length s) xs ≡ s → take (length s) (xs ++ ys) ≡ s
 take_front [] xs ys h = refl

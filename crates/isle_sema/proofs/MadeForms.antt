@@ -47,7 +47,7 @@ use Rattle.isle_types.specs.TypeNames.{declared_names, type_names}
 use Rattle.isle_types.proofs.SymbolsApart.{Stands, AllStand, names_stand}
 use Rattle.isle_terms.specs.Whole.{whole_of}
 use Rattle.isle_terms.specs.TermPass.{types_named, kind_from, term_pass}
-use Rattle.isle_sema.specs.TypedRule.{IsTermKind}
+use Rattle.isle_core.specs.ExprType.{Allowed, IsTermKind}
 use Rattle.isle_terms.specs.TypeNames.{type_named}
 use Rattle.isle_terms.specs.Whole.{Whole, termed, constant_type}
 use Rattle.isle_terms.proofs.MadeTerms.{first_there, term_made, made_of, term_is, types_are, all_at}
@@ -244,13 +244,13 @@ made_origin w s ret (origin.Variant number) k is made = refl
 made_origin w s ret origin.Struct k is made = refl
 made_origin w s ret origin.Declared k is made = let bad : false ≡ true = ap is_made_kind is ∙ made in absurd cc
 
-kind_is : (w : Whole) (env : Environment) (allowed : Bool) (s : Signature) (t : Term) (from : Origin) → is_made from ≡ true → option_map (form_types env) (form env (making_from t.ret_ty from)) ≡ Some t.arg_tys → IsTermKind env allowed t (kind_from w s t.ret_ty from)
+kind_is : (w : Whole) (env : Environment) (allowed : Allowed) (s : Signature) (t : Term) (from : Origin) → is_made from ≡ true → option_map (form_types env) (form env (making_from t.ret_ty from)) ≡ Some t.arg_tys → IsTermKind env allowed t (kind_from w s t.ret_ty from)
 kind_is w env allowed s t (origin.Variant number) made h = (refl, h)
 kind_is w env allowed s t origin.Struct made h = (refl, h)
 kind_is w env allowed s t origin.Declared made h = absurd cc
 
 -- so does a made term of the environment
-pub made_term : (defs : List Def) (env : Environment) (i : ℕ) (t : Term) → IsTypedIn defs env → type_fault defs ≡ None → slice_get env.terms i ≡ Some t → is_made_kind t.kind ≡ true → (allowed : Bool) → IsTermKind env allowed t t.kind
+pub made_term : (defs : List Def) (env : Environment) (i : ℕ) (t : Term) → IsTypedIn defs env → type_fault defs ≡ None → slice_get env.terms i ≡ Some t → is_made_kind t.kind ≡ true → (allowed : Allowed) → IsTermKind env allowed t t.kind
 made_term defs env i t g none at made allowed =
     let w = whole_of defs in
     let m = made_of w (terms defs) env.terms i t g.terms at in

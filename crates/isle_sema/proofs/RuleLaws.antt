@@ -2,31 +2,33 @@
 use Rattle.std.proofs.Common.{◌≡◌, ℕ, zero, suc, ◌+◌, ◌≤◌, length, arith, Bool, true, false, cond, List, [], ◌∷◌, ◌++◌, map, Option, Some, None, refl, sym, ap, ◌∙◌}
 use Rattle.std.specs.Prelude.{◌||◌, is_some, option_map, option_and_then, slice_get}
 use Rattle.std.specs.List.{list_any}
-use Rattle.std.proofs.lemmas.List.{length-map, append-nil}
+use Rattle.std.proofs.lemmas.List.{length-map}
+use Rattle.std.proofs.lemmas.List.Sums.{fold-append}
+use Rattle.isle_core.specs.declared.rules.Expr.{Expr as CodeExpr}
+use Rattle.isle_core.specs.RuleViews.{expr as elaborated_expr}
 use Rattle.std.proofs.lemmas.Bool.{or_parts, or_from}
 use Rattle.isle_core.specs.declared.TermId.{TermId}
 use Rattle.isle_core.specs.declared.TypeId.{TypeId}
 use Rattle.isle_core.specs.Pattern.{Pattern as CorePattern}
 use Rattle.isle_core.specs.Expr.{Expr as CoreExpr}
 use Rattle.isle_core.specs.Rule.{Rule as CoreRule, IfLet as CoreIfLet}
-use Rattle.isle_ast.specs.declared.tree.AstIfLet.{AstIfLet}
-use Rattle.isle_ast.specs.Views.{iflet, patterns_of as seen_patterns}
+use Rattle.isle_ast.specs.Views.{patterns_of as seen_patterns}
 use Rattle.isle_ast.specs.Tree as tree
-use Rattle.isle_ast.specs.Tree.{Expr, Exprs, NoExpr, AnExpr, Lets, NoLet, ALet, IfLet, Def}
+use Rattle.isle_ast.specs.Tree.{Def}
 use Rattle.isle_declarations.specs.Terms.{terms}
 use Rattle.isle_declarations.specs.Signatures.{Signature, RuleDef, rule_defs, signature_named, term_named}
 use Rattle.isle_types.specs.declared.row.Row.{Row}
-use Rattle.isle_sema.specs.Locals.{Local, Bound, of_patterns, locals_of}
-use Rattle.isle_sema.specs.Scope.{Scope}
+use Rattle.isle_sema.specs.Locals.{of_patterns}
+use Rattle.isle_sema.specs.Scope.{Scope, no_variables}
 use Rattle.isle_terms.specs.Whole.{Whole, termed, arg_types, ret_type}
 use Rattle.isle_sema.specs.PatternPass.{PatternsPass, patterns_pass}
 use Rattle.isle_sema.specs.ExprPass.{ExprPass, expr_pass}
-use Rattle.isle_sema.specs.RulePass.{patterns_of, right_side_of, conditions_of, rule_from, rule_pass, rules_pass}
+use Rattle.isle_sema.specs.RulePass.{ConditionsPass, patterns_of, conditions_pass, conditions_of, right_side_of, left_of, rule_from, rule_pass, rules_pass}
 use Rattle.isle_sema.specs.Fault.{OfRules, broken_in, fault_after}
 use Rattle.isle_sema.specs.Language.{uses_ruled}
-use Rattle.isle_sema.specs.Judging.{unjudged, judge_all, lowest}
+use Rattle.isle_sema.specs.Judging.{unjudged, judge, judge_all, lowest}
 use Rattle.isle_sema.specs.Known.{IsHead, MayBeCalled}
-use Rattle.isle_sema.specs.ElaboratedAt.{ArePatternsAt, IsExprAt, AreSides}
+use Rattle.isle_sema.specs.ElaboratedAt.{ArePatternsAt, AreConditionsAt, IsExprOver, AreSides}
 use Rattle.isle_sema.specs.declared.judged.Judged.{Judged}
 use Rattle.isle_sema.specs.declared.sides.Sides.{Sides}
 use Rattle.isle_sema.specs.declared.known.Called.{Called}
@@ -108,22 +110,24 @@ number_is sigs name = by (signature_named sigs name) refl
     by None e = sym (none_named sigs name e)
     by (Some s) e = ap (term_named sigs) (named_is sigs name s e)
 
--- what is elaborated at the types of a declared head are both sides of the rule
-pub sides_are : (w : Whole) (r : RuleDef) (own : Called) (sides : Sides) (old vars : Scope) (bound last : Bound) (before first : Judged) → IsHead w r.term own → old ≡ [] → before ≡ unjudged → bound ≡ record { patterns = vars; lets = []; next = length vars } → first ≡ unjudged
-    → ArePatternsAt w own.args.now (seen_patterns r.args) old vars before sides.left sides.args → IsExprAt w (Some own.ret) r.rhs bound last first sides.right sides.rhs → AreSides w r sides
-sides_are w r own sides old vars bound last before first h none start begun again ps e =
+-- what is elaborated at the types of a declared head are both sides of the rule, and its conditions
+pub sides_are : (w : Whole) (r : RuleDef) (own : Called) (sides : Sides) (old bound vars : Scope) (next : ℕ) (found : Option CodeExpr × ℕ) (before middle first : Judged) → IsHead w r.term own → old ≡ no_variables → before ≡ unjudged → next ≡ vars.next → first ≡ unjudged → sides.rhs ≡ found.0
+    → ArePatternsAt w own.args.now (seen_patterns r.args) old bound before middle sides.args → AreConditionsAt w r.iflets bound vars middle sides.left sides.iflets → IsExprOver w (Some own.ret) r.rhs vars next first sides.right found → AreSides w r sides
+sides_are w r own sides old bound vars next found before middle first h none start begun again whole ps cs e =
     let is = h.there in
     let patterns : patterns_pass w (map Some own.args.now) old (seen_patterns r.args) ≡ patterns_of w r =
-    ap (λ (scope : Scope). patterns_pass w (map Some own.args.now) scope (seen_patterns r.args)) none ∙ ap (λ os. patterns_pass w os [] (seen_patterns r.args)) (sym h.called.args) ∙ ap (λ o. patterns_pass w (arg_types w o) [] (seen_patterns r.args)) (sym is) in
-    let own_side : Option TypeId → ExprPass = λ ty. expr_pass w (of_patterns (patterns_of w r).scope) (length (patterns_of w r).scope) ty r.rhs in
-    let right : expr_pass w (locals_of bound) bound.next (Some own.ret) r.rhs ≡ right_side_of w r =
-    ap (λ (b : Bound). expr_pass w (locals_of b) b.next (Some own.ret) r.rhs) begun
-    ∙ ap (λ (ls : List Local). expr_pass w ls (length vars) (Some own.ret) r.rhs) (append-nil (of_patterns vars))
-    ∙ ap (λ (scope : Scope). expr_pass w (of_patterns scope) (length scope) (Some own.ret) r.rhs) (ps.scope ∙ ap (λ (p : PatternsPass). p.scope) patterns) ∙ ap own_side (sym h.called.ret) ∙ ap (λ o. own_side (ret_type w o)) (sym is) in
+    ap (λ (scope : Scope). patterns_pass w (map Some own.args.now) scope (seen_patterns r.args)) none ∙ ap (λ os. patterns_pass w os no_variables (seen_patterns r.args)) (sym h.called.args) ∙ ap (λ o. patterns_pass w (arg_types w o) no_variables (seen_patterns r.args)) (sym is) in
+    let conditions : conditions_pass w bound r.iflets ≡ conditions_of w r = ap (λ (scope : Scope). conditions_pass w scope r.iflets) (ps.scope ∙ ap (λ (p : PatternsPass). p.scope) patterns) in
+    let scope : vars ≡ (conditions_of w r).scope = cs.scope ∙ ap (λ (c : ConditionsPass). c.scope) conditions in
+    let own_side : Option TypeId → ExprPass = λ ty. expr_pass w (of_patterns (conditions_of w r).scope) (conditions_of w r).scope.next ty r.rhs in
+    let right : expr_pass w (of_patterns vars) next (Some own.ret) r.rhs ≡ right_side_of w r =
+    ap (λ n. expr_pass w (of_patterns vars) n (Some own.ret) r.rhs) begun ∙ ap (λ (s : Scope). expr_pass w (of_patterns s) s.next (Some own.ret) r.rhs) scope ∙ ap own_side (sym h.called.ret) ∙ ap (λ o. own_side (ret_type w o)) (sym is) in
+    let argued : middle ≡ judge_all w unjudged (patterns_of w r).sites = ps.sites ∙ ap (λ (p : PatternsPass). judge_all w before p.sites) patterns ∙ ap (λ (j : Judged). judge_all w j (patterns_of w r).sites) start in
     record {
       trees = ps.trees ∙ ap (λ (p : PatternsPass). p.trees) patterns;
-      tree = e.tree ∙ ap (λ (x : ExprPass). x.tree) right;
-      left = ps.sites ∙ ap (λ (p : PatternsPass). judge_all w before p.sites) patterns ∙ ap (λ (j : Judged). judge_all w j (patterns_of w r).sites) start;
+      tree = ap (option_map elaborated_expr) whole ∙ e.tree ∙ ap (λ (x : ExprPass). x.tree) right;
+      conditions = cs.trees ∙ ap (λ (c : ConditionsPass). c.trees) conditions;
+      left = cs.sites ∙ ap (λ (c : ConditionsPass). judge_all w middle c.sites) conditions ∙ ap (λ (j : Judged). judge_all w j (conditions_of w r).sites) argued ∙ sym (fold-append (judge w) unjudged (patterns_of w r).sites (conditions_of w r).sites);
       right = e.sites ∙ ap (λ (x : ExprPass). judge_all w first x.sites) right ∙ ap (λ (j : Judged). judge_all w j (right_side_of w r).sites) again;
     }
 
@@ -141,62 +145,64 @@ untreed w i r h = by (is_broken w r || uses_ruled w r)
     by true = refl
     by false = sym h
 
-pub no_conditions : (cs : List AstIfLet) → length cs ≡ 0 → map iflet cs ≡ []
-no_conditions [] h = refl
-no_conditions (c ∷ cs) h = absurd (omega (arith, h))
-
 -- whether a rule uses a term that has a rule is what is judged of both sides
-pub ruled_is : (w : Whole) (r : RuleDef) (sides : Sides) (ruled : Bool) → r.iflets ≡ [] → AreSides w r sides → ruled ≡ sides.left.ruled || sides.right.ruled → ruled ≡ uses_ruled w r
-ruled_is w r sides ruled none p h = h ∙ ap (λ (j : Judged). j.ruled || sides.right.ruled) p.left ∙ ap (λ (j : Judged). (judge_all w unjudged (patterns_of w r).sites).ruled || j.ruled) p.right ∙ ruled_both w r none
+pub ruled_is : (w : Whole) (r : RuleDef) (sides : Sides) (ruled : Bool) → AreSides w r sides → ruled ≡ sides.left.ruled || sides.right.ruled → ruled ≡ uses_ruled w r
+ruled_is w r sides ruled p h = h ∙ ap (λ (j : Judged). j.ruled || sides.right.ruled) p.left ∙ ap (λ (j : Judged). (judge_all w unjudged (left_of w r)).ruled || j.ruled) p.right ∙ ruled_both w r
 
 -- a rule that does so is not taken
 pub with_ruled : (w : Whole) (i : ℕ) (r : RuleDef) → uses_ruled w r ≡ true → None ≡ taken_rule w i r
 with_ruled w i r h = refused w i r (or_true (is_broken w r) (uses_ruled w r) h)
 
 -- what the code finds is a row where the rule breaks one
-pub row_found : (w : Whole) (r : RuleDef) (own : Called) (sides : Sides) (found : Option Row) (count : ℕ) → IsHead w r.term own → r.iflets ≡ [] → AreSides w r sides → count ≡ length r.args
-    → found ≡ lowest own count sides.left sides.right → is_some (row_of w r) ≡ is_some found
-row_found w r own sides found count h none p as_many f =
+pub row_found : (w : Whole) (r : RuleDef) (own : Called) (sides : Sides) (found : Option Row) (count : ℕ) → IsHead w r.term own → AreSides w r sides → count ≡ length r.args → found ≡ lowest own count sides.left sides.right → is_some (row_of w r) ≡ is_some found
+row_found w r own sides found count h p as_many f =
     ap is_some (sym (f ∙ ap (λ n. lowest own n sides.left sides.right) as_many ∙ ap (λ (j : Judged). lowest own (length r.args) j sides.right) p.left
-    ∙ ap (λ (j : Judged). lowest own (length r.args) (judge_all w unjudged (patterns_of w r).sites) j) p.right ∙ lowest_is w r h.signature own h.there h.called none))
+    ∙ ap (λ (j : Judged). lowest own (length r.args) (judge_all w unjudged (left_of w r)) j) p.right ∙ lowest_is w r h.signature own h.there h.called))
 
 -- a rule that breaks a row
 pub with_row : (w : Whole) (i : ℕ) (r : RuleDef) → is_some (row_of w r) ≡ true → None ≡ taken_rule w i r
 with_row w i r h = refused w i r (ap (λ b. b || uses_ruled w r) h)
 
+-- the tree of a rule of these parts
+abbrev made : Whole → ℕ → RuleDef → Option TermId → Option (List CorePattern) → Option (List CoreIfLet) → Option CoreExpr → Option CoreRule
+made w i r term trees cs e = option_and_then (λ (term : TermId). option_and_then (λ (args : List CorePattern). option_and_then (λ (iflets : List CoreIfLet). option_map (rule_from w i r term args iflets) e) cs) trees) term
+
 -- a rule without trees
 pub without_trees : (w : Whole) (i : ℕ) (r : RuleDef) → (patterns_of w r).trees ≡ None → None ≡ taken_rule w i r
-without_trees w i r h = untreed w i r (ap (λ o. option_and_then (λ (term : TermId). option_and_then (λ (args : List CorePattern). option_and_then (λ (iflets : List CoreIfLet). option_map (rule_from w i r term args iflets) (right_side_of w r).tree) (conditions_of r.iflets)) o) (term_named (terms w.defs) r.term)) h ∙ by (term_named (terms w.defs) r.term))
+without_trees w i r h = untreed w i r (ap (λ o. made w i r (term_named (terms w.defs) r.term) o (conditions_of w r).trees (right_side_of w r).tree) h ∙ by (term_named (terms w.defs) r.term))
   where
-    no_rule : Option CoreRule
-    no_rule = None
-
-    by : (o : Option TermId) → option_and_then (λ (term : TermId). no_rule) o ≡ None
+    by : (o : Option TermId) → made w i r o None (conditions_of w r).trees (right_side_of w r).tree ≡ None
     by None = refl
     by (Some term) = refl
 
-pub without_tree : (w : Whole) (i : ℕ) (r : RuleDef) → (right_side_of w r).tree ≡ None → None ≡ taken_rule w i r
-without_tree w i r h = untreed w i r (by (term_named (terms w.defs) r.term) (patterns_of w r).trees (conditions_of r.iflets))
+-- a rule whose conditions have none
+pub without_conditions : (w : Whole) (i : ℕ) (r : RuleDef) → (conditions_of w r).trees ≡ None → None ≡ taken_rule w i r
+without_conditions w i r h = untreed w i r (ap (λ o. made w i r (term_named (terms w.defs) r.term) (patterns_of w r).trees o (right_side_of w r).tree) h ∙ by (term_named (terms w.defs) r.term) (patterns_of w r).trees)
   where
-    by : (term : Option TermId) (trees : Option (List CorePattern)) (cs : Option (List CoreIfLet))
-        → option_and_then (λ (term : TermId). option_and_then (λ (args : List CorePattern). option_and_then (λ (iflets : List CoreIfLet). option_map (rule_from w i r term args iflets) (right_side_of w r).tree) cs) trees) term ≡ None
+    by : (o : Option TermId) (trees : Option (List CorePattern)) → made w i r o trees None (right_side_of w r).tree ≡ None
+    by None trees = refl
+    by (Some term) None = refl
+    by (Some term) (Some args) = refl
+
+pub without_tree : (w : Whole) (i : ℕ) (r : RuleDef) → (right_side_of w r).tree ≡ None → None ≡ taken_rule w i r
+without_tree w i r h = untreed w i r (ap (made w i r (term_named (terms w.defs) r.term) (patterns_of w r).trees (conditions_of w r).trees) h ∙ by (term_named (terms w.defs) r.term) (patterns_of w r).trees (conditions_of w r).trees)
+  where
+    by : (term : Option TermId) (trees : Option (List CorePattern)) (cs : Option (List CoreIfLet)) → made w i r term trees cs None ≡ None
     by None trees cs = refl
     by (Some term) None cs = refl
     by (Some term) (Some args) None = refl
-    by (Some term) (Some args) (Some iflets) = ap (option_map (rule_from w i r term args iflets)) h
+    by (Some term) (Some args) (Some iflets) = refl
 
 -- a rule that is taken
-pub taken_made : (w : Whole) (i : ℕ) (r : RuleDef) (own : Called) (args : List CorePattern) (rhs : CoreExpr) → IsHead w r.term own → r.iflets ≡ [] → is_some (row_of w r) ≡ false → uses_ruled w r ≡ false
-    → (patterns_of w r).trees ≡ Some args → (right_side_of w r).tree ≡ Some rhs → Some (rule_from w i r own.term args [] rhs) ≡ taken_rule w i r
-taken_made w i r own args rhs h none row calls trees tree =
-    let all : Option TermId → Option (List CorePattern) → List IfLet → Option CoreExpr → Option CoreRule = λ term ts cs t.
-    option_and_then (λ (term : TermId). option_and_then (λ (xs : List CorePattern). option_and_then (λ (iflets : List CoreIfLet). option_map (rule_from w i r term xs iflets) t) (conditions_of cs)) ts) term in
+pub taken_made : (w : Whole) (i : ℕ) (r : RuleDef) (own : Called) (args : List CorePattern) (iflets : List CoreIfLet) (rhs : CoreExpr) → IsHead w r.term own → is_some (row_of w r) ≡ false → uses_ruled w r ≡ false
+    → (patterns_of w r).trees ≡ Some args → (conditions_of w r).trees ≡ Some iflets → (right_side_of w r).tree ≡ Some rhs → Some (rule_from w i r own.term args iflets rhs) ≡ taken_rule w i r
+taken_made w i r own args iflets rhs h row calls trees cs tree =
     let number : term_named (terms w.defs) r.term ≡ Some own.term = ap (term_named (terms w.defs)) (sym (named_is (terms w.defs) r.term h.signature h.there)) ∙ h.called.term in
     sym (ap (λ b. cond b None (rule_pass w i r)) (or_from (is_broken w r) (uses_ruled w r) row calls)
-    ∙ ap (λ o. all o (patterns_of w r).trees r.iflets (right_side_of w r).tree) number
-    ∙ ap (λ o. all (Some own.term) o r.iflets (right_side_of w r).tree) trees
-    ∙ ap (λ cs. all (Some own.term) (Some args) cs (right_side_of w r).tree) none
-    ∙ ap (λ o. all (Some own.term) (Some args) [] o) tree)
+    ∙ ap (λ o. made w i r o (patterns_of w r).trees (conditions_of w r).trees (right_side_of w r).tree) number
+    ∙ ap (λ o. made w i r (Some own.term) o (conditions_of w r).trees (right_side_of w r).tree) trees
+    ∙ ap (λ o. made w i r (Some own.term) (Some args) o (right_side_of w r).tree) cs
+    ∙ ap (λ o. made w i r (Some own.term) (Some args) (Some iflets) o) tree)
 
 pub none_called : (w : Whole) (o : Option Signature) → MayBeCalled w o None → o ≡ None
 none_called w None h = refl
@@ -204,7 +210,7 @@ none_called w (Some s) h = absurd h
 
 -- a rule whose head is not declared
 pub without_term : (w : Whole) (i : ℕ) (r : RuleDef) → termed w r.term ≡ None → None ≡ taken_rule w i r
-without_term w i r h = untreed w i r (ap (λ o. option_and_then (λ (term : TermId). option_and_then (λ (args : List CorePattern). option_and_then (λ (iflets : List CoreIfLet). option_map (rule_from w i r term args iflets) (right_side_of w r).tree) (conditions_of r.iflets)) (patterns_of w r).trees) o) (none_named (terms w.defs) r.term h))
+without_term w i r h = untreed w i r (ap (λ o. made w i r o (patterns_of w r).trees (conditions_of w r).trees (right_side_of w r).tree) (none_named (terms w.defs) r.term h))
 
 -- ---- the rules that are taken
 

@@ -39,14 +39,14 @@ signature_at w name s term is number = sym (named_at (terms w.defs) name ∙ ap 
 pub record IsRuleMade (w : Whole) (r : RuleDef) (x : Rule) : Type 0 where
   pub root : term_named (terms w.defs) r.term ≡ Some x.root_term
   pub args : (patterns_of w r).trees ≡ Some x.args
-  pub iflets : conditions_of r.iflets ≡ Some x.iflets
+  pub iflets : (conditions_of w r).trees ≡ Some x.iflets
   pub rhs : (right_side_of w r).tree ≡ Some x.rhs
   pub pos : r.pos ≡ x.pos
 
 pub rule_made : (w : Whole) (i : ℕ) (r : RuleDef) (x : Rule) → rule_pass w i r ≡ Some x → IsRuleMade w r x
-rule_made w i r x h = by (term_named (terms w.defs) r.term) (patterns_of w r).trees (conditions_of r.iflets) (right_side_of w r).tree refl refl refl refl h
+rule_made w i r x h = by (term_named (terms w.defs) r.term) (patterns_of w r).trees (conditions_of w r).trees (right_side_of w r).tree refl refl refl refl h
   where
-    by : (term : Option TermId) (trees : Option (List CorePattern)) (cs : Option (List IfLet)) (e : Option CoreExpr) → term_named (terms w.defs) r.term ≡ term → (patterns_of w r).trees ≡ trees → conditions_of r.iflets ≡ cs → (right_side_of w r).tree ≡ e
+    by : (term : Option TermId) (trees : Option (List CorePattern)) (cs : Option (List IfLet)) (e : Option CoreExpr) → term_named (terms w.defs) r.term ≡ term → (patterns_of w r).trees ≡ trees → (conditions_of w r).trees ≡ cs → (right_side_of w r).tree ≡ e
         → option_and_then (λ (term : TermId). option_and_then (λ (args : List CorePattern). option_and_then (λ (iflets : List IfLet). option_map (rule_from w i r term args iflets) e) cs) trees) term ≡ Some x → IsRuleMade w r x
     by None trees cs e t p c s k = absurd cc
     by (Some term) None cs e t p c s k = absurd cc

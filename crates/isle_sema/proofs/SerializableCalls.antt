@@ -1,11 +1,9 @@
 -- The calls of typed right sides are ready for a block.
-use Rattle.std.proofs.Common.{◌≡◌, ⊎_elim, ℕ, suc, ◌+◌, ◌≤◌, List, [], ◌∷◌, ◌++◌, map, Bool, true, false, cond, Option, Some, None, refl, sym, ap, ◌∙◌, subst, arith}
+use Rattle.std.proofs.Common.{◌≡◌, ⊎_elim, ℕ, ◌+◌, List, [], ◌∷◌, ◌++◌, true, false, cond, Option, Some, None, refl, sym, ap, ◌∙◌, subst, inl}
 use Rattle.std.specs.Prelude.{Contains, IsSomeAnd, IsTrue, option_map, slice_get}
 use Rattle.std.proofs.lemmas.Bool.{eq-eqb, ne_eqb}
-use Rattle.std.proofs.lemmas.List.{append-nil, append_assoc}
 use Rattle.std.proofs.lemmas.List.Elements.{Contains-append_left, Contains-append_right}
 use Rattle.std.proofs.lemmas.Option.{same_Some}
-use Rattle.isle_core.specs.declared.BindingId.{BindingId}
 use Rattle.isle_core.specs.declared.TermId.{TermId}
 use Rattle.isle_core.specs.declared.TypeId.{TypeId}
 use Rattle.isle_core.specs.declared.VariantId.{VariantId}
@@ -18,26 +16,26 @@ use Rattle.isle_core.specs.declared.types.TermKind.TheVariants as kind
 use Rattle.isle_core.specs.declared.values.Callee.{Callee}
 use Rattle.isle_core.specs.declared.values.Callee.TheVariants.{External}
 use Rattle.isle_core.specs.ExternalCall.{IsCall}
-use Rattle.isle_core.specs.Occurrences.{occurrence, occurrence_at, occurrences}
 use Rattle.isle_core.specs.PathType.{IsPathOf, ArePathsOf}
-use Rattle.isle_core.specs.Calling.{Calling, ByTurns, ByCases, NoCall, calling, calling_of, calling_by, pure_callee, kind_of, may_be_nothing, AnswersOnce, is_fallible, instance_of, one_more, impure, impure_all, impure_bindings}
+use Rattle.isle_core.specs.Calling.{Calling, ByTurns, ByCases, NoCall, calling, calling_of, calling_by, pure_callee, kind_of, may_be_nothing, AnswersOnce, is_fallible, instance_of, impure, impure_all, impure_bindings}
 use Rattle.isle_core.specs.Expr as expr
 use Rattle.isle_core.specs.Expr.{Expr, Exprs, NoExpr, AnExpr, LetBindings, NoBinding, ABinding}
 use Rattle.isle_core.specs.Match.{with}
 use Rattle.isle_core.specs.Form.{form, form_types}
-use Rattle.isle_core.specs.Path.{Path, Called, Inner, Paths, at}
-use Rattle.isle_core.specs.Serializable.{StandsOn, AllStandOn, AreSerializableCalls}
+use Rattle.isle_core.specs.Path.{Path, Called, Inner, Paths}
+use Rattle.isle_core.specs.Serializable.{StandsCalled, StandsOn, AllStandOn, IsSerializableCall, AreSerializableCalls}
 use Rattle.isle_core.specs.Rule.{Environment}
-use Rattle.isle_core.specs.StandsFor.{EachOnce}
+use Rattle.isle_core.specs.StandsFor.{AreFirsts, no_more, again, first}
 use Rattle.isle_core.specs.Terms.{sym_text, impure_callee}
 use Rattle.isle_core.specs.OrderedCalls.{if_ordered, calls, calls_all, calls_bindings}
 use Rattle.isle_core.specs.Making.{Making, MakesVariant, MakesStruct, MakesNothing, making_kind, making_of, making}
 use Rattle.isle_core.specs.RightSide.{path_or, term_path, call_path, answer_path, path, paths as all_paths, let_places}
 use Rattle.isle_core.specs.RulePaths.{with_inner, expr_paths, exprs_paths, bindings_paths}
 use Rattle.isle_core.specs.Tests.{Test, Places}
-use Rattle.isle_core.proofs.CallOccurrences.{AreRising, occurrence as occurrence_of}
 use Rattle.isle_core.proofs.Contained.{head_contained, tail_contained, contained_cases, none_contained}
-use Rattle.isle_sema.specs.TypedRule.{IsMadeOf, let_variables, IsNew, IsTermKind, IsExprOf, AreExprsOf, AreBindingsOf}
+use Rattle.isle_core.specs.ExprType.{Allowed, IsMadeOf, IsTermKind, IsExprOf, AreExprsOf, AreBindingsOf}
+use Rattle.isle_core.specs.TypedVariables.{let_variables, IsNew}
+use Rattle.isle_sema.proofs.StandingPaths.{Among, all_stand_later}
 use Rattle.isle_sema.proofs.TestablePatterns.{ArePlacedAs}
 
 -- ---- terms of right sides
@@ -47,30 +45,29 @@ pub some_of : {A : Type 0} (o : Option A) (P : A → Type 0) → IsSomeAnd o P �
 some_of None P h = absurd h
 some_of (Some x) P h = (x, refl, h)
 
--- a term that makes nothing takes turns, answers once and may answer nothing only where that is allowed; a made one is not called,
--- and makes a value of its type
-data IsServed (env : Environment) (allowed : Bool) (c : Term) : Making → Calling → Type 0 where
-  takes_turns : (name : List ℕ) (kind : ReturnKind) → AnswersOnce kind → (IsTrue (may_be_nothing kind) → IsTrue allowed) → IsServed env allowed c MakesNothing (ByTurns (External name) kind)
+-- a term that makes nothing takes turns, where impure calls are allowed, or has cases, answers once and may answer nothing only where that is
+-- allowed; a made one is not called, and makes a value of its type
+pub data IsServed (env : Environment) (allowed : Allowed) (c : Term) : Making → Calling → Type 0 where
+  takes_turns : (name : List ℕ) (kind : ReturnKind) → AnswersOnce kind → (IsTrue (may_be_nothing kind) → IsTrue allowed.nothing) → IsTrue allowed.impure → IsServed env allowed c MakesNothing (ByTurns (External name) kind)
+  has_cases : (name : List ℕ) (kind : ReturnKind) → AnswersOnce kind → (IsTrue (may_be_nothing kind) → IsTrue allowed.nothing) → IsServed env allowed c MakesNothing (ByCases (External name) kind)
   makes_variant : (ty : TypeId) (variant : VariantId) → IsMadeOf env c ty (MakesVariant ty variant) → IsServed env allowed c (MakesVariant ty variant) NoCall
   makes_struct : (ty : TypeId) → IsMadeOf env c ty (MakesStruct ty) → IsServed env allowed c (MakesStruct ty) NoCall
 
 -- a typed term is served by its kind
-served_kind : (env : Environment) (allowed : Bool) (c : Term) (k : TermKind) → IsTermKind env allowed c k → IsServed env allowed c (making_kind k) (calling_by (kind_of k) (impure_callee env c k) (pure_callee env c k))
-served_kind env allowed c (kind.Decl false false true false (constructor.External func) extractor) h = takes_turns (sym_text env func) return_kind.Option tt h
-served_kind env allowed c (kind.Decl false false false false (constructor.External func) extractor) h = takes_turns (sym_text env func) return_kind.Plain tt h
+served_kind : (env : Environment) (allowed : Allowed) (c : Term) (k : TermKind) → IsTermKind env allowed c k → IsServed env allowed c (making_kind k) (calling_by (kind_of k) (impure_callee env c k) (pure_callee env c k))
+served_kind env allowed c (kind.Decl false false true false (constructor.External func) extractor) h = takes_turns (sym_text env func) return_kind.Option tt h.0 (h.1 refl)
+served_kind env allowed c (kind.Decl false false false false (constructor.External func) extractor) h = takes_turns (sym_text env func) return_kind.Plain tt h.0 (h.1 refl)
+served_kind env allowed c (kind.Decl true false true false (constructor.External func) extractor) h = has_cases (sym_text env func) return_kind.Option tt h.0
+served_kind env allowed c (kind.Decl true false false false (constructor.External func) extractor) h = has_cases (sym_text env func) return_kind.Plain tt h.0
 served_kind env allowed c (kind.Variant ty variant) h = makes_variant ty variant h
 served_kind env allowed c (kind.Struct ty) h = makes_struct ty h
 served_kind env allowed c k h = absurd h
 
 -- a typed term that is there is served
-served : (env : Environment) (allowed : Bool) (term : TermId) (c : Term) → slice_get env.terms term.0 ≡ Some c → IsTermKind env allowed c c.kind → IsServed env allowed c (making env term) (calling env term)
+pub served : (env : Environment) (allowed : Allowed) (term : TermId) (c : Term) → slice_get env.terms term.0 ≡ Some c → IsTermKind env allowed c c.kind → IsServed env allowed c (making env term) (calling env term)
 served env allowed term c there h = subst (λ o. IsServed env allowed c (making_of o) (calling_of env o)) (sym there) (served_kind env allowed c c.kind h)
 
 -- ---- where variables stand
-
--- each of these paths is one of those
-abbrev pub Among : List Path → List Path → Type 0
-Among xs ys = (p : Path) → Contains xs p → Contains ys p
 
 -- where a variable stands is of its type
 pub record IsTypedPlace (env : Environment) (t : Term) (o : Option Path) (ty : TypeId) : Type 0 where
@@ -83,28 +80,28 @@ abbrev pub AreTypedPlaces : Environment → Term → List (TypeId × ℕ) → Pl
 AreTypedPlaces env t vars places = (ty : TypeId) (x : ℕ) → Contains vars (ty, x) → IsTypedPlace env t (places x) ty
 
 -- where a variable stands may be read behind these tests wherever these calls were made
-pub record IsStandingPlace (tests : List Test) (done : List Path) (o : Option Path) : Type 0 where
+pub record IsStandingPlace (env : Environment) (tests : List Test) (done : List Path) (o : Option Path) : Type 0 where
   pub path : Path
   pub is : o ≡ Some path
-  pub stands : (later : List Path) → Among done later → StandsOn tests later path
+  pub stands : (later : List Path) → Among done later → StandsOn env tests later path
 
 -- so of each variable
-abbrev pub AreStandingPlaces : (tests : List Test) (done : List Path) → List (TypeId × ℕ) → Places → Type 0
-AreStandingPlaces tests done vars places = (ty : TypeId) (x : ℕ) → Contains vars (ty, x) → IsStandingPlace tests done (places x)
+abbrev pub AreStandingPlaces : Environment → (tests : List Test) (done : List Path) → List (TypeId × ℕ) → Places → Type 0
+AreStandingPlaces env tests done vars places = (ty : TypeId) (x : ℕ) → Contains vars (ty, x) → IsStandingPlace env tests done (places x)
 
 -- variables of patterns
 pub typed_places : (env : Environment) (t : Term) (tests : List Test) (vars : List (TypeId × ℕ)) (places : Places) → ArePlacedAs env t tests vars places → AreTypedPlaces env t vars places
 typed_places env t tests vars places h ty x c = let k = h ty x c in record { path = k.path; is = k.is; typed = k.typed }
 
-pub standing_places : (env : Environment) (t : Term) (tests : List Test) (done : List Path) (vars : List (TypeId × ℕ)) (places : Places) → ArePlacedAs env t tests vars places → AreStandingPlaces tests done vars places
+pub standing_places : (env : Environment) (t : Term) (tests : List Test) (done : List Path) (vars : List (TypeId × ℕ)) (places : Places) → ArePlacedAs env t tests vars places → AreStandingPlaces env tests done vars places
 standing_places env t tests done vars places h ty x c = let k = h ty x c in record { path = k.path; is = k.is; stands = λ later a. k.stands later }
 
 -- where more calls were made
-later_places : (tests : List Test) (done later : List Path) (vars : List (TypeId × ℕ)) (places : Places) → Among done later → AreStandingPlaces tests done vars places → AreStandingPlaces tests later vars places
-later_places tests done later vars places a h ty x c = let k = h ty x c in record { path = k.path; is = k.is; stands = λ more b. k.stands more (λ p d. b p (a p d)) }
+later_places : (env : Environment) (tests : List Test) (done later : List Path) (vars : List (TypeId × ℕ)) (places : Places) → Among done later → AreStandingPlaces env tests done vars places → AreStandingPlaces env tests later vars places
+later_places env tests done later vars places a h ty x c = let k = h ty x c in record { path = k.path; is = k.is; stands = λ more b. k.stands more (λ p d. b p (a p d)) }
 
 -- what holds of a new variable's path, and of where each other stands, holds of all
-with_place : (P : TypeId → Option Path → Type 0) (vars : List (TypeId × ℕ)) (places : Places) (x : ℕ) (of : TypeId) (p : Path) → IsNew vars x → P of (Some p) → ((ty : TypeId) (y : ℕ) → Contains vars (ty, y) → P ty (places y))
+pub with_place : (P : TypeId → Option Path → Type 0) (vars : List (TypeId × ℕ)) (places : Places) (x : ℕ) (of : TypeId) (p : Path) → IsNew vars x → P of (Some p) → ((ty : TypeId) (y : ℕ) → Contains vars (ty, y) → P ty (places y))
     → (ty : TypeId) (y : ℕ) → Contains ((of, x) ∷ vars) (ty, y) → P ty (with places x p y)
 with_place P vars places x of p new h k ty y c =
     ⊎_elim (λ (e : (of, x) ≡ (ty, y)). subst (λ (v : TypeId × ℕ). P v.0 (with places x p v.1)) e (subst (λ b. P of (cond b (Some p) (places x))) (sym (eq-eqb x x refl)) h))
@@ -112,15 +109,15 @@ with_place P vars places x of p new h k ty y c =
 
 -- ---- paths of right sides
 
-module _ (env : Environment) (t : Term) (allowed : Bool) (tests : List Test) where
+module _ (env : Environment) (t : Term) (allowed : Allowed) (tests : List Test) where
   -- the answer of an external term has its type
-  answer_typed : (kind : ReturnKind) → AnswersOnce kind → (term : TermId) (c : Term) (name : List ℕ) (ps : Paths) (k : ℕ) (ty : TypeId) → calling env term ≡ ByTurns (External name) kind → slice_get env.terms term.0 ≡ Some c → c.ret_ty ≡ ty → ArePathsOf env t ps c.arg_tys
-      → IsPathOf env t (answer_path (ByTurns (External name) kind) (Called term ps k)) ty
-  answer_typed return_kind.Option once term c name ps k ty is there ret are =
-      (subst (IsCall return_kind.Option) (sym is) (refl, tt, tt), subst (λ o. IsSomeAnd o (λ (x : Term). (x.ret_ty ∷ [] ≡ ty ∷ []) × ArePathsOf env t ps x.arg_tys)) (sym there) (ap (λ of. of ∷ []) ret, are))
-  answer_typed return_kind.Plain once term c name ps k ty is there ret are =
-      (subst (IsCall return_kind.Plain) (sym is) (refl, tt, tt), subst (λ o. IsSomeAnd o (λ (x : Term). (x.ret_ty ≡ ty) × ArePathsOf env t ps x.arg_tys)) (sym there) (ret, are))
-  answer_typed return_kind.Iterator once term c name ps k ty is there ret are = absurd once
+  answer_typed : (d : Calling) (kind : ReturnKind) → IsCall kind d → AnswersOnce kind → (term : TermId) (c : Term) (ps : Paths) (k : ℕ) (ty : TypeId) → calling env term ≡ d → slice_get env.terms term.0 ≡ Some c → c.ret_ty ≡ ty → ArePathsOf env t ps c.arg_tys
+      → IsPathOf env t (answer_path (ByTurns (External []) kind) (Called term ps k)) ty
+  answer_typed d return_kind.Option call once term c ps k ty is there ret are =
+      (subst (IsCall return_kind.Option) (sym is) call, subst (λ o. IsSomeAnd o (λ (x : Term). (x.ret_ty ∷ [] ≡ ty ∷ []) × ArePathsOf env t ps x.arg_tys)) (sym there) (ap (λ of. of ∷ []) ret, are))
+  answer_typed d return_kind.Plain call once term c ps k ty is there ret are =
+      (subst (IsCall return_kind.Plain) (sym is) call, subst (λ o. IsSomeAnd o (λ (x : Term). (x.ret_ty ≡ ty) × ArePathsOf env t ps x.arg_tys)) (sym there) (ret, are))
+  answer_typed d return_kind.Iterator call once term c ps k ty is there ret are = absurd once
 
   -- paths of a form's types
   form_paths : {A : Type 0} (o : Option A) (types : A → List TypeId) (tys : List TypeId) (ps : Paths) → option_map types o ≡ Some tys → ArePathsOf env t ps tys → IsSomeAnd o (λ f. ArePathsOf env t ps (types f))
@@ -130,7 +127,8 @@ module _ (env : Environment) (t : Term) (allowed : Bool) (tests : List Test) whe
   -- the value of a typed term on paths of its types
   term_typed : {mk : Making} {d : Calling} (term : TermId) (c : Term) (ps : Paths) (k : ℕ) (ty : TypeId) → IsServed env allowed c mk d → calling env term ≡ d → slice_get env.terms term.0 ≡ Some c → c.ret_ty ≡ ty → ArePathsOf env t ps c.arg_tys
       → IsPathOf env t (answer_path d (term_path mk term ps k)) ty
-  term_typed term c ps k ty (takes_turns name kind once fits) is there ret are = answer_typed kind once term c name ps k ty is there ret are
+  term_typed term c ps k ty (takes_turns name kind once fits impure) is there ret are = answer_typed (ByTurns (External name) kind) kind (refl, tt, once) once term c ps k ty is there ret are
+  term_typed term c ps k ty (has_cases name kind once fits) is there ret are = answer_typed (ByCases (External name) kind) kind (refl, tt, once) once term c ps k ty is there ret are
   term_typed term c ps k ty (makes_variant of variant h) is there ret are = (h.0 ∙ ret, form_paths (form env (MakesVariant of variant)) (form_types env) c.arg_tys ps h.1 are)
   term_typed term c ps k ty (makes_struct of h) is there ret are = (h.0 ∙ ret, form_paths (form env (MakesStruct of)) (form_types env) c.arg_tys ps h.1 are)
 
@@ -147,7 +145,7 @@ module _ (env : Environment) (t : Term) (allowed : Bool) (tests : List Test) whe
     path_typed vars places placed (expr.Let of bindings inner) n ty h = path_typed (let_variables vars bindings) (let_places env bindings places n) (let_typed vars places placed bindings n h.1) inner (n + impure_bindings env bindings) ty h.2
 
     -- so of expressions in order
-    paths_typed : (vars : List (TypeId × ℕ)) (places : Places) → AreTypedPlaces env t vars places → (es : Exprs) (n : ℕ) (tys : List TypeId) → AreExprsOf env allowed vars tys es → ArePathsOf env t (all_paths env es places n) tys
+    pub paths_typed : (vars : List (TypeId × ℕ)) (places : Places) → AreTypedPlaces env t vars places → (es : Exprs) (n : ℕ) (tys : List TypeId) → AreExprsOf env allowed vars tys es → ArePathsOf env t (all_paths env es places n) tys
     paths_typed vars places placed NoExpr n [] h = tt
     paths_typed vars places placed (AnExpr e es) n (ty ∷ tys) h = (path_typed vars places placed e n ty h.0, paths_typed vars places placed es (n + impure env e) tys h.1)
     paths_typed vars places placed NoExpr n (ty ∷ tys) h = absurd h
@@ -163,29 +161,37 @@ module _ (env : Environment) (t : Term) (allowed : Bool) (tests : List Test) whe
 
   -- ---- they stand on their calls
 
-  -- an answer stands on its call
-  stands_by : (kind : ReturnKind) (callee : Callee) (done : List Path) (term : TermId) (ps : Paths) (k : ℕ) → Contains done (Called term ps k) → StandsOn tests done (answer_path (ByTurns callee kind) (Called term ps k))
-  stands_by return_kind.Plain callee done term ps k c = c
-  stands_by return_kind.Option callee done term ps k c = c
-  stands_by return_kind.Iterator callee done term ps k c = c
+  -- an impure answer stands on its call
+  turn_stands : (kind : ReturnKind) (callee : Callee) (done : List Path) (term : TermId) (ps : Paths) (k : ℕ) → calling env term ≡ ByTurns callee kind → Contains done (Called term ps k) → StandsOn env tests done (answer_path (ByTurns callee kind) (Called term ps k))
+  turn_stands return_kind.Plain callee done term ps k is c = subst (λ d. StandsCalled d (Contains done (Called term ps k)) (AllStandOn env tests done ps)) (sym is) c
+  turn_stands return_kind.Option callee done term ps k is c = inl c
+  turn_stands return_kind.Iterator callee done term ps k is c = subst (λ d. StandsCalled d (Contains done (Called term ps k)) (AllStandOn env tests done ps)) (sym is) c
+
+  -- a pure one stands on its arguments, and one that may be nothing on its call
+  case_stands : (kind : ReturnKind) (callee : Callee) (done : List Path) (term : TermId) (ps : Paths) (k : ℕ) → calling env term ≡ ByCases callee kind → AllStandOn env tests done ps → Among (if_ordered (ByCases callee kind) (Called term ps k)) done
+      → StandsOn env tests done (answer_path (ByCases callee kind) (Called term ps k))
+  case_stands return_kind.Plain callee done term ps k is stand a = subst (λ d. StandsCalled d (Contains done (Called term ps k)) (AllStandOn env tests done ps)) (sym is) stand
+  case_stands return_kind.Option callee done term ps k is stand a = inl (a (Called term ps k) (head_contained (Called term ps k) []))
+  case_stands return_kind.Iterator callee done term ps k is stand a = subst (λ d. StandsCalled d (Contains done (Called term ps k)) (AllStandOn env tests done ps)) (sym is) stand
 
   -- the value of a term stands on its call, or on its parts
-  term_stands : {mk : Making} {d : Calling} (term : TermId) (c : Term) (done : List Path) (ps : Paths) (k : ℕ) → IsServed env allowed c mk d → AllStandOn tests done ps → Among (if_ordered d (term_path mk term ps k)) done → StandsOn tests done (answer_path d (term_path mk term ps k))
-  term_stands term c done ps k (takes_turns name kind once fits) stand a = stands_by kind (External name) done term ps k (a (Called term ps k) (head_contained (Called term ps k) []))
-  term_stands term c done ps k (makes_variant of variant h) stand a = stand
-  term_stands term c done ps k (makes_struct of h) stand a = stand
+  term_stands : {mk : Making} {d : Calling} (term : TermId) (c : Term) (done : List Path) (ps : Paths) (k : ℕ) → IsServed env allowed c mk d → calling env term ≡ d → AllStandOn env tests done ps → Among (if_ordered d (term_path mk term ps k)) done → StandsOn env tests done (answer_path d (term_path mk term ps k))
+  term_stands term c done ps k (takes_turns name kind once fits impure) is stand a = turn_stands kind (External name) done term ps k is (a (Called term ps k) (head_contained (Called term ps k) []))
+  term_stands term c done ps k (has_cases name kind once fits) is stand a = case_stands kind (External name) done term ps k is stand a
+  term_stands term c done ps k (makes_variant of variant h) is stand a = stand
+  term_stands term c done ps k (makes_struct of h) is stand a = stand
 
   mutual
     -- the value of a typed expression stands on the calls within it
-    pub path_stands : (vars : List (TypeId × ℕ)) (places : Places) (done : List Path) → AreStandingPlaces tests done vars places → (e : Expr) (n : ℕ) (ty : TypeId) → IsExprOf env allowed vars ty e → Among (calls env e places n) done → StandsOn tests done (path env e places n)
-    path_stands vars places done placed (expr.Var of x) n ty h a = let k = placed ty x.0 h.1 in subst (λ o. StandsOn tests done (path_or o)) (sym k.is) (k.stands done (λ p c. c))
+    pub path_stands : (vars : List (TypeId × ℕ)) (places : Places) (done : List Path) → AreStandingPlaces env tests done vars places → (e : Expr) (n : ℕ) (ty : TypeId) → IsExprOf env allowed vars ty e → Among (calls env e places n) done → StandsOn env tests done (path env e places n)
+    path_stands vars places done placed (expr.Var of x) n ty h a = let k = placed ty x.0 h.1 in subst (λ o. StandsOn env tests done (path_or o)) (sym k.is) (k.stands done (λ p c. c))
     path_stands vars places done placed (expr.ConstBool b) n ty h a = tt
     path_stands vars places done placed (expr.ConstInt of v) n ty h a = tt
     path_stands vars places done placed (expr.ConstPrim of name) n ty h a = tt
     path_stands vars places done placed (expr.Term of term es) n ty h a =
         let c = some_of (slice_get env.terms term.0) _ h.1 in
         let last = if_ordered (calling env term) (call_path env term (all_paths env es places n) (n + impure_all env es)) in
-        term_stands term c.0 done (all_paths env es places n) (instance_of (calling env term) (n + impure_all env es)) (served env allowed term c.0 c.1 c.2.0)
+        term_stands term c.0 done (all_paths env es places n) (instance_of (calling env term) (n + impure_all env es)) (served env allowed term c.0 c.1 c.2.0) refl
         (paths_stand vars places done placed es n c.0.arg_tys c.2.2 (λ p d. a p (Contains-append_left (calls_all env es places n) last p d))) (λ p d. a p (Contains-append_right (calls_all env es places n) last p d))
     path_stands vars places done placed (expr.Let of bindings inner) n ty h a =
         let mid = let_places env bindings places n in
@@ -194,8 +200,8 @@ module _ (env : Environment) (t : Term) (allowed : Bool) (tests : List Test) whe
         (λ p c. a p (Contains-append_right (calls_bindings env bindings places n) (calls env inner mid m) p c))
 
     -- so of expressions in order
-    paths_stand : (vars : List (TypeId × ℕ)) (places : Places) (done : List Path) → AreStandingPlaces tests done vars places → (es : Exprs) (n : ℕ) (tys : List TypeId) → AreExprsOf env allowed vars tys es → Among (calls_all env es places n) done
-        → AllStandOn tests done (all_paths env es places n)
+    paths_stand : (vars : List (TypeId × ℕ)) (places : Places) (done : List Path) → AreStandingPlaces env tests done vars places → (es : Exprs) (n : ℕ) (tys : List TypeId) → AreExprsOf env allowed vars tys es → Among (calls_all env es places n) done
+        → AllStandOn env tests done (all_paths env es places n)
     paths_stand vars places done placed NoExpr n [] h a = tt
     paths_stand vars places done placed (AnExpr e es) n (ty ∷ tys) h a =
         let n1 = n + impure env e in (
@@ -206,16 +212,16 @@ module _ (env : Environment) (t : Term) (allowed : Bool) (tests : List Test) whe
     paths_stand vars places done placed (AnExpr e es) n [] h a = absurd h
 
     -- so of where the variables of a `let` stand
-    let_stands : (vars : List (TypeId × ℕ)) (places : Places) (done : List Path) → AreStandingPlaces tests done vars places → (bs : LetBindings) (n : ℕ) → AreBindingsOf env allowed vars bs → Among (calls_bindings env bs places n) done
-        → AreStandingPlaces tests done (let_variables vars bs) (let_places env bs places n)
+    let_stands : (vars : List (TypeId × ℕ)) (places : Places) (done : List Path) → AreStandingPlaces env tests done vars places → (bs : LetBindings) (n : ℕ) → AreBindingsOf env allowed vars bs → Among (calls_bindings env bs places n) done
+        → AreStandingPlaces env tests done (let_variables vars bs) (let_places env bs places n)
     let_stands vars places done placed NoBinding n h a = placed
     let_stands vars places done placed (ABinding x of e bs) n h a =
         let p = path env e places n in
         let n1 = n + impure env e in
         let rest = calls_bindings env bs (with places x.0 p) n1 in
         let_stands ((of, x.0) ∷ vars) (with places x.0 p) done
-        (with_place (λ ty o. IsStandingPlace tests done o) vars places x.0 of p h.0
-        (record { path = p; is = refl; stands = λ later b. path_stands vars places later (later_places tests done later vars places b placed) e n of h.1 (λ q c. b q (a q (Contains-append_left (calls env e places n) rest q c))) }) placed) bs n1 h.2
+        (with_place (λ ty o. IsStandingPlace env tests done o) vars places x.0 of p h.0
+        (record { path = p; is = refl; stands = λ later b. path_stands vars places later (later_places env tests done later vars places b placed) e n of h.1 (λ q c. b q (a q (Contains-append_left (calls env e places n) rest q c))) }) placed) bs n1 h.2
         (λ q c. a q (Contains-append_right (calls env e places n) rest q c))
 
   -- ---- the calls are ready
@@ -235,33 +241,45 @@ module _ (env : Environment) (t : Term) (allowed : Bool) (tests : List Test) whe
   inner_of return_kind.Plain callee q ps a h = cc
   inner_of return_kind.Iterator callee q ps a h = cc
 
-  -- the call of a typed term, if it is called
-  term_serializable : {mk : Making} {d : Calling} (ps done : List Path) (term : TermId) (c : Term) (qs : Paths) (k : ℕ) → IsServed env allowed c mk d → calling env term ≡ d → slice_get env.terms term.0 ≡ Some c → ArePathsOf env t qs c.arg_tys → AllStandOn tests done qs
-      → allowed ≡ may_be_nothing (kind_of t.kind) → InnersFit ps → Among (with_inner d (term_path mk term qs k)) ps → AreSerializableCalls env t tests ps done (if_ordered d (term_path mk term qs k))
-  term_serializable ps done term c qs k (takes_turns name kind once fits) is there are stand same fit a = (
-    record {
-      term = term;
-      parameters = qs;
-      instance = k;
-      path = refl;
-      called = c;
-      found = there;
-      args = are;
-      stand = stand;
-      kind = kind;
-      external = subst (IsCall kind) (sym is) (refl, tt, once);
-      inner = (inner_of kind (External name) (Called term qs k) ps a, λ d. sym (ap is_fallible is) ∙ fit term qs k d);
-      fits = λ h. sym same ∙ fits h;
-    },
-    tt,
-  )
+  -- a call of a term
+  call_serializable : (d : Calling) (kind : ReturnKind) (ps done : List Path) (term : TermId) (c : Term) (qs : Paths) (k : ℕ) → IsCall kind d → is_fallible d ≡ may_be_nothing kind → (IsTrue (may_be_nothing kind) → IsTrue allowed.nothing) → calling env term ≡ d → slice_get env.terms term.0 ≡ Some c
+      → ArePathsOf env t qs c.arg_tys → AllStandOn env tests done qs → allowed.nothing ≡ may_be_nothing (kind_of t.kind) → InnersFit ps → (IsTrue (may_be_nothing kind) → Contains ps (Inner (Called term qs k))) → IsSerializableCall env t tests ps done (Called term qs k)
+  call_serializable d kind ps done term c qs k call same_kind fits is there are stand same fit inner = record {
+    term = term;
+    parameters = qs;
+    instance = k;
+    path = refl;
+    called = c;
+    found = there;
+    args = are;
+    stand = stand;
+    kind = kind;
+    external = subst (IsCall kind) (sym is) call;
+    inner = (inner, λ d. sym same_kind ∙ sym (ap is_fallible is) ∙ fit term qs k d);
+    fits = λ h. sym same ∙ fits h;
+  }
+
+  -- a pure call that may be nothing
+  case_serializable : (kind : ReturnKind) (name : List ℕ) (ps done : List Path) (term : TermId) (c : Term) (qs : Paths) (k : ℕ) → AnswersOnce kind → (IsTrue (may_be_nothing kind) → IsTrue allowed.nothing) → calling env term ≡ ByCases (External name) kind → slice_get env.terms term.0 ≡ Some c
+      → ArePathsOf env t qs c.arg_tys → AllStandOn env tests done qs → allowed.nothing ≡ may_be_nothing (kind_of t.kind) → InnersFit ps → Among (with_inner (ByCases (External name) kind) (Called term qs k)) ps → AreSerializableCalls env t tests ps done (if_ordered (ByCases (External name) kind) (Called term qs k))
+  case_serializable return_kind.Plain name ps done term c qs k once fits is there are stand same fit a = tt
+  case_serializable return_kind.Option name ps done term c qs k once fits is there are stand same fit a =
+      (call_serializable (ByCases (External name) return_kind.Option) return_kind.Option ps done term c qs k (refl, tt, tt) refl fits is there are stand same fit (inner_of return_kind.Option (External name) (Called term qs k) ps a), tt)
+  case_serializable return_kind.Iterator name ps done term c qs k once fits is there are stand same fit a = absurd once
+
+  -- the call of a typed term, if its place counts
+  term_serializable : {mk : Making} {d : Calling} (ps done : List Path) (term : TermId) (c : Term) (qs : Paths) (k : ℕ) → IsServed env allowed c mk d → calling env term ≡ d → slice_get env.terms term.0 ≡ Some c → ArePathsOf env t qs c.arg_tys → AllStandOn env tests done qs
+      → allowed.nothing ≡ may_be_nothing (kind_of t.kind) → InnersFit ps → Among (with_inner d (term_path mk term qs k)) ps → AreSerializableCalls env t tests ps done (if_ordered d (term_path mk term qs k))
+  term_serializable ps done term c qs k (takes_turns name kind once fits impure) is there are stand same fit a =
+      (call_serializable (ByTurns (External name) kind) kind ps done term c qs k (refl, tt, once) refl fits is there are stand same fit (inner_of kind (External name) (Called term qs k) ps a), tt)
+  term_serializable ps done term c qs k (has_cases name kind once fits) is there are stand same fit a = case_serializable kind name ps done term c qs k once fits is there are stand same fit a
   term_serializable ps done term c qs k (makes_variant of variant h) is there are stand same fit a = tt
   term_serializable ps done term c qs k (makes_struct of h) is there are stand same fit a = tt
 
   mutual
     -- the calls of a typed expression
-    pub calls_serializable : (vars : List (TypeId × ℕ)) (places : Places) (ps done : List Path) → AreTypedPlaces env t vars places → AreStandingPlaces tests done vars places → (e : Expr) (n : ℕ) (ty : TypeId) → IsExprOf env allowed vars ty e
-        → allowed ≡ may_be_nothing (kind_of t.kind) → InnersFit ps → Among (expr_paths env e places n) ps → AreSerializableCalls env t tests ps done (calls env e places n)
+    pub calls_serializable : (vars : List (TypeId × ℕ)) (places : Places) (ps done : List Path) → AreTypedPlaces env t vars places → AreStandingPlaces env tests done vars places → (e : Expr) (n : ℕ) (ty : TypeId) → IsExprOf env allowed vars ty e
+        → allowed.nothing ≡ may_be_nothing (kind_of t.kind) → InnersFit ps → Among (expr_paths env e places n) ps → AreSerializableCalls env t tests ps done (calls env e places n)
     calls_serializable vars places ps done typed placed (expr.Var of x) n ty h same fit a = tt
     calls_serializable vars places ps done typed placed (expr.ConstBool b) n ty h same fit a = tt
     calls_serializable vars places ps done typed placed (expr.ConstInt of v) n ty h same fit a = tt
@@ -273,31 +291,31 @@ module _ (env : Environment) (t : Term) (allowed : Bool) (tests : List Test) whe
         serializable_more ps done (calls_all env es places n) (if_ordered (calling env term) q)
         (all_calls_serializable vars places ps done typed placed es n c.0.arg_tys c.2.2 same fit (λ p d. a p (Contains-append_left (exprs_paths env es places n) (with_inner (calling env term) q) p d)))
         (λ later among made. term_serializable ps later term c.0 qs (instance_of (calling env term) (n + impure_all env es)) (served env allowed term c.0 c.1 c.2.0) refl c.1 (paths_typed vars places typed es n c.0.arg_tys c.2.2)
-        (paths_stand vars places later (later_places tests done later vars places among placed) es n c.0.arg_tys c.2.2 made) same fit (λ p d. a p (Contains-append_right (exprs_paths env es places n) (with_inner (calling env term) q) p d)))
+        (paths_stand vars places later (later_places env tests done later vars places among placed) es n c.0.arg_tys c.2.2 made) same fit (λ p d. a p (Contains-append_right (exprs_paths env es places n) (with_inner (calling env term) q) p d)))
     calls_serializable vars places ps done typed placed (expr.Let of bindings inner) n ty h same fit a =
         let mid = let_places env bindings places n in
         let m = n + impure_bindings env bindings in
         let others = expr_paths env inner mid m in
         serializable_more ps done (calls_bindings env bindings places n) (calls env inner mid m)
         (let_calls_serializable vars places ps done typed placed bindings n h.1 same fit (λ p c. a p (Contains-append_left (bindings_paths env bindings places n) others p c)))
-        (λ later among made. calls_serializable (let_variables vars bindings) mid ps later (let_typed vars places typed bindings n h.1) (let_stands vars places later (later_places tests done later vars places among placed) bindings n h.1 made) inner m ty h.2 same fit
+        (λ later among made. calls_serializable (let_variables vars bindings) mid ps later (let_typed vars places typed bindings n h.1) (let_stands vars places later (later_places env tests done later vars places among placed) bindings n h.1 made) inner m ty h.2 same fit
         (λ p c. a p (Contains-append_right (bindings_paths env bindings places n) others p c)))
 
     -- those of expressions in order
-    all_calls_serializable : (vars : List (TypeId × ℕ)) (places : Places) (ps done : List Path) → AreTypedPlaces env t vars places → AreStandingPlaces tests done vars places → (es : Exprs) (n : ℕ) (tys : List TypeId) → AreExprsOf env allowed vars tys es
-        → allowed ≡ may_be_nothing (kind_of t.kind) → InnersFit ps → Among (exprs_paths env es places n) ps → AreSerializableCalls env t tests ps done (calls_all env es places n)
+    all_calls_serializable : (vars : List (TypeId × ℕ)) (places : Places) (ps done : List Path) → AreTypedPlaces env t vars places → AreStandingPlaces env tests done vars places → (es : Exprs) (n : ℕ) (tys : List TypeId) → AreExprsOf env allowed vars tys es
+        → allowed.nothing ≡ may_be_nothing (kind_of t.kind) → InnersFit ps → Among (exprs_paths env es places n) ps → AreSerializableCalls env t tests ps done (calls_all env es places n)
     all_calls_serializable vars places ps done typed placed NoExpr n [] h same fit a = tt
     all_calls_serializable vars places ps done typed placed (AnExpr e es) n (ty ∷ tys) h same fit a =
         let n1 = n + impure env e in
         serializable_more ps done (calls env e places n) (calls_all env es places n1)
         (calls_serializable vars places ps done typed placed e n ty h.0 same fit (λ p c. a p (Contains-append_left (expr_paths env e places n) (exprs_paths env es places n1) p c)))
-        (λ later among made. all_calls_serializable vars places ps later typed (later_places tests done later vars places among placed) es n1 tys h.1 same fit (λ p c. a p (Contains-append_right (expr_paths env e places n) (exprs_paths env es places n1) p c)))
+        (λ later among made. all_calls_serializable vars places ps later typed (later_places env tests done later vars places among placed) es n1 tys h.1 same fit (λ p c. a p (Contains-append_right (expr_paths env e places n) (exprs_paths env es places n1) p c)))
     all_calls_serializable vars places ps done typed placed NoExpr n (ty ∷ tys) h same fit a = absurd h
     all_calls_serializable vars places ps done typed placed (AnExpr e es) n [] h same fit a = absurd h
 
     -- those of the values of a `let`
-    let_calls_serializable : (vars : List (TypeId × ℕ)) (places : Places) (ps done : List Path) → AreTypedPlaces env t vars places → AreStandingPlaces tests done vars places → (bs : LetBindings) (n : ℕ) → AreBindingsOf env allowed vars bs
-        → allowed ≡ may_be_nothing (kind_of t.kind) → InnersFit ps → Among (bindings_paths env bs places n) ps → AreSerializableCalls env t tests ps done (calls_bindings env bs places n)
+    let_calls_serializable : (vars : List (TypeId × ℕ)) (places : Places) (ps done : List Path) → AreTypedPlaces env t vars places → AreStandingPlaces env tests done vars places → (bs : LetBindings) (n : ℕ) → AreBindingsOf env allowed vars bs
+        → allowed.nothing ≡ may_be_nothing (kind_of t.kind) → InnersFit ps → Among (bindings_paths env bs places n) ps → AreSerializableCalls env t tests ps done (calls_bindings env bs places n)
     let_calls_serializable vars places ps done typed placed NoBinding n h same fit a = tt
     let_calls_serializable vars places ps done typed placed (ABinding x of e bs) n h same fit a =
         let p = path env e places n in
@@ -307,88 +325,34 @@ module _ (env : Environment) (t : Term) (allowed : Bool) (tests : List Test) whe
         (calls_serializable vars places ps done typed placed e n of h.1 same fit (λ q c. a q (Contains-append_left (expr_paths env e places n) (bindings_paths env bs mid n1) q c)))
         (λ later among made. let_calls_serializable ((of, x.0) ∷ vars) mid ps later
         (with_place (λ ty o. IsTypedPlace env t o ty) vars places x.0 of p h.0 (record { path = p; is = refl; typed = path_typed vars places typed e n of h.1 }) typed)
-        (with_place (λ ty o. IsStandingPlace tests later o) vars places x.0 of p h.0
-        (record { path = p; is = refl; stands = λ more b. path_stands vars places more (later_places tests done more vars places (λ q d. b q (among q d)) placed) e n of h.1 (λ q d. b q (made q d)) }) (later_places tests done later vars places among placed)) bs n1 h.2 same fit
+        (with_place (λ ty o. IsStandingPlace env tests later o) vars places x.0 of p h.0
+        (record { path = p; is = refl; stands = λ more b. path_stands vars places more (later_places env tests done more vars places (λ q d. b q (among q d)) placed) e n of h.1 (λ q d. b q (made q d)) }) (later_places env tests done later vars places among placed)) bs n1 h.2 same fit
         (λ q c. a q (Contains-append_right (expr_paths env e places n) (bindings_paths env bs mid n1) q c)))
 
--- ---- their occurrences rise
+-- ---- each once
 
-module _ (env : Environment) (allowed : Bool) where
-  -- the call of a typed term, if it is called, behind those of its arguments
-  term_rises : {mk : Making} {d : Calling} (n k : ℕ) (term : TermId) (c : Term) (qs : Paths) (cs more : List Path) → IsServed env allowed c mk d → ((after : List Path) → AreRising (n + k) after → AreRising n (cs ++ after)) → AreRising (n + one_more d k) more
-      → AreRising n ((cs ++ if_ordered d (term_path mk term qs (instance_of d (n + k)))) ++ more)
-  term_rises n k term c qs cs more (takes_turns name kind once fits) h r =
-      let p = Called term qs (suc (n + k)) in
-      let last : n + suc k ≡ suc (n + k) = omega arith in
-      subst (AreRising n) (sym (append_assoc cs (p ∷ []) more)) (h (p ∷ more) (refl, subst (λ j. AreRising j more) last r))
-  term_rises n k term c qs cs more (makes_variant of variant made) h r = subst (λ ps. AreRising n (ps ++ more)) (sym (append-nil cs)) (h more r)
-  term_rises n k term c qs cs more (makes_struct of made) h r = subst (λ ps. AreRising n (ps ++ more)) (sym (append-nil cs)) (h more r)
+-- a call that is ready stays so behind more calls
+call_later : (env : Environment) (t : Term) (tests : List Test) (ps done later : List Path) (p : Path) → Among done later → IsSerializableCall env t tests ps done p → IsSerializableCall env t tests ps later p
+call_later env t tests ps done later p a h = record {
+  term = h.term;
+  parameters = h.parameters;
+  instance = h.instance;
+  path = h.path;
+  called = h.called;
+  found = h.found;
+  args = h.args;
+  stand = all_stand_later env h.parameters tests done later a h.stand;
+  kind = h.kind;
+  external = h.external;
+  inner = h.inner;
+  fits = h.fits;
+}
 
-  -- where nothing is called
-  none_rises : (n : ℕ) (more : List Path) → AreRising (n + 0) more → AreRising n more
-  none_rises n more r = let same : n + 0 ≡ n = omega arith in subst (λ j. AreRising j more) same r
-
-  mutual
-    -- the calls of a typed expression, and those behind it
-    calls_rise : (vars : List (TypeId × ℕ)) (places : Places) (e : Expr) (n : ℕ) (ty : TypeId) (more : List Path) → IsExprOf env allowed vars ty e → AreRising (n + impure env e) more → AreRising n (calls env e places n ++ more)
-    calls_rise vars places (expr.Var of x) n ty more h r = none_rises n more r
-    calls_rise vars places (expr.ConstBool b) n ty more h r = none_rises n more r
-    calls_rise vars places (expr.ConstInt of v) n ty more h r = none_rises n more r
-    calls_rise vars places (expr.ConstPrim of name) n ty more h r = none_rises n more r
-    calls_rise vars places (expr.Term of term es) n ty more h r =
-        let c = some_of (slice_get env.terms term.0) _ h.1 in
-        term_rises n (impure_all env es) term c.0 (all_paths env es places n) (calls_all env es places n) more (served env allowed term c.0 c.1 c.2.0) (λ after s. all_calls_rise vars places es n c.0.arg_tys after c.2.2 s) r
-    calls_rise vars places (expr.Let of bindings inner) n ty more h r =
-        let mid = let_places env bindings places n in
-        let m = n + impure_bindings env bindings in
-        let assoc : n + (impure_bindings env bindings + impure env inner) ≡ m + impure env inner = omega arith in
-        subst (AreRising n) (sym (append_assoc (calls_bindings env bindings places n) (calls env inner mid m) more))
-        (let_calls_rise vars places bindings n (calls env inner mid m ++ more) h.1 (calls_rise (let_variables vars bindings) mid inner m ty more h.2 (subst (λ j. AreRising j more) assoc r)))
-
-    -- those of expressions in order
-    all_calls_rise : (vars : List (TypeId × ℕ)) (places : Places) (es : Exprs) (n : ℕ) (tys : List TypeId) (more : List Path) → AreExprsOf env allowed vars tys es → AreRising (n + impure_all env es) more → AreRising n (calls_all env es places n ++ more)
-    all_calls_rise vars places NoExpr n [] more h r = none_rises n more r
-    all_calls_rise vars places (AnExpr e es) n (ty ∷ tys) more h r =
-        let n1 = n + impure env e in
-        let assoc : n + (impure env e + impure_all env es) ≡ n + impure env e + impure_all env es = omega arith in
-        subst (AreRising n) (sym (append_assoc (calls env e places n) (calls_all env es places n1) more))
-        (calls_rise vars places e n ty (calls_all env es places n1 ++ more) h.0 (all_calls_rise vars places es n1 tys more h.1 (subst (λ j. AreRising j more) assoc r)))
-    all_calls_rise vars places NoExpr n (ty ∷ tys) more h r = absurd h
-    all_calls_rise vars places (AnExpr e es) n [] more h r = absurd h
-
-    -- those of the values of a `let`
-    let_calls_rise : (vars : List (TypeId × ℕ)) (places : Places) (bs : LetBindings) (n : ℕ) (more : List Path) → AreBindingsOf env allowed vars bs → AreRising (n + impure_bindings env bs) more → AreRising n (calls_bindings env bs places n ++ more)
-    let_calls_rise vars places NoBinding n more h r = none_rises n more r
-    let_calls_rise vars places (ABinding x of e bs) n more h r =
-        let n1 = n + impure env e in
-        let mid = with places x.0 (path env e places n) in
-        let assoc : n + (impure env e + impure_bindings env bs) ≡ n + impure env e + impure_bindings env bs = omega arith in
-        subst (AreRising n) (sym (append_assoc (calls env e places n) (calls_bindings env bs mid n1) more))
-        (calls_rise vars places e n of (calls_bindings env bs mid n1 ++ more) h.1 (let_calls_rise ((of, x.0) ∷ vars) mid bs n1 more h.2 (subst (λ j. AreRising j more) assoc r)))
-
-  -- the calls of a typed expression rise
-  pub expr_rises : (vars : List (TypeId × ℕ)) (places : Places) (e : Expr) (n : ℕ) (ty : TypeId) → IsExprOf env allowed vars ty e → AreRising n (calls env e places n)
-  expr_rises vars places e n ty h = subst (AreRising n) (append-nil (calls env e places n)) (calls_rise vars places e n ty [] h tt)
-
--- ---- each occurrence once
-
--- the occurrences of bindings whose calls rise
-rising_occurrences : (env : Environment) (ps : List Path) (bs : List BindingId) (n : ℕ) → AreRising n (map (at ps) bs) → ((k : ℕ) → Contains (occurrences env ps bs) k → suc n ≤ k) × EachOnce (occurrences env ps bs)
-rising_occurrences env ps [] n r = (λ k c. absurd (none_contained k c), tt)
-rising_occurrences env ps (b ∷ bs) n r = one (at ps b) r.0 (rising_occurrences env ps bs (suc n) r.1)
-  where
-    others : List ℕ
-    others = occurrences env ps bs
-
-    one : (p : Path) → occurrence_of p ≡ suc n → ((k : ℕ) → Contains others k → suc (suc n) ≤ k) × EachOnce others → ((k : ℕ) → Contains (occurrence_at env p ++ others) k → suc n ≤ k) × EachOnce (occurrence_at env p ++ others)
-    one (Called term qs k) e rest = by_calling (calling env term)
-      where
-        by_calling : (c : Calling) → ((j : ℕ) → Contains (occurrence c k ++ others) j → suc n ≤ j) × EachOnce (occurrence c k ++ others)
-        by_calling (ByTurns callee kind) = (λ j c. ⊎_elim (λ (s : k ≡ j). let le : suc n ≤ j = omega arith in le) (λ d. let low = rest.0 j d in omega (arith, low)) (contained_cases k others j c), (λ c. let low = rest.0 k c in omega (arith, low, e), rest.1))
-        by_calling (ByCases callee kind) = (λ j c. let low = rest.0 j c in omega (arith, low), rest.1)
-        by_calling NoCall = (λ j c. let low = rest.0 j c in omega (arith, low), rest.1)
-    one p e rest = (λ j c. let low = rest.0 j c in omega (arith, low), rest.1)
-
--- the occurrences of calls that rise stand once
-pub ordered_once : (env : Environment) (ps : List Path) (bs : List BindingId) (n : ℕ) → AreRising n (map (at ps) bs) → EachOnce (occurrences env ps bs)
-ordered_once env ps bs n r = (rising_occurrences env ps bs n r).1
+-- the firsts of calls that are ready
+pub firsts_ready : {seen xs ys : List Path} (env : Environment) (t : Term) (tests : List Test) (ps done : List Path) → AreFirsts seen xs ys → Among done seen → AreSerializableCalls env t tests ps done xs → AreSerializableCalls env t tests ps seen ys
+firsts_ready env t tests ps done (no_more seen) a h = tt
+firsts_ready env t tests ps done (again seen x xs ys s more) a h = firsts_ready env t tests ps (x ∷ done) more (λ p c. ⊎_elim (λ (e : x ≡ p). subst (Contains seen) e s) (a p) (contained_cases x done p c)) h.1
+firsts_ready env t tests ps done (first seen x xs ys new more) a h = (
+  call_later env t tests ps done seen x a h.0,
+  firsts_ready env t tests ps (x ∷ done) more (λ p c. ⊎_elim (λ (e : x ≡ p). subst (Contains (x ∷ seen)) e (head_contained x seen)) (λ d. tail_contained x seen p (a p d)) (contained_cases x done p c)) h.1,
+)

@@ -20,8 +20,8 @@ use Rattle.isle_declarations.specs.declared.collected.RuleDef.{RuleDef as CodeRu
 use Rattle.isle_sema.specs.declared.judged.Judged.{Judged}
 use Rattle.isle_declarations.specs.Collected.{rule as seen_rule}
 use Rattle.isle_sema.specs.ElaboratedAt.{expr_trees, IsExprAt, AreExprsAt}
-use Rattle.isle_sema.specs.Locals.{Local, Bound, locals_of}
-use Rattle.isle_sema.specs.Scope.{Scope}
+use Rattle.isle_sema.specs.Locals.{Bound, locals_of}
+use Rattle.isle_sema.specs.Scope.{Local, Scope}
 use Rattle.isle_terms.proofs.TermSteps.{before, one_before}
 use Rattle.isle_terms.specs.Whole.{Whole}
 use Rattle.isle_terms.specs.Whole.{whole_of}

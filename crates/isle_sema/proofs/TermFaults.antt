@@ -122,10 +122,9 @@ decl_from false false false true ha hb hc hd = absurd cc
 decl_from false false false false ha hb hc hd = refl
 
 -- a declaration that is built is not `multi`
-single : (pure multi recursive partial : Bool) → not pure && not multi && not recursive ≡ true → multi && partial ≡ false
-single true multi recursive partial h = absurd cc
-single false true recursive partial h = absurd cc
-single false false recursive partial h = refl
+single : (multi recursive partial : Bool) → not multi && not recursive ≡ true → multi && partial ≡ false
+single true recursive partial h = absurd cc
+single false recursive partial h = refl
 
 -- one that names a term, which is declared and has none of its kind before
 named_kept : (a b c : Bool) → cond a (Some row.TermUndeclared) (cond (b || c) (Some row.SecondOfTerm) None) ≡ None → (a ≡ false) × (b ≡ false) × (c ≡ false)
@@ -316,7 +315,7 @@ terms_none all before (tree.Decl term pure multi partial recursive args ret pos 
     let rest : AreTestedIn all (names ++ term ∷ []) (extern_terms (externs before)) (extractor_terms (extractors before)) ds =
     record { apart = a.1; unmade = u.1; typed = t.1; few = m.1; externs_apart = p.externs_apart; extractors_apart = p.extractors_apart; known = p.known; extracted = p.extracted; heads = p.heads } in
     none_later (λ (r : Row). (r, pos)) (broken_in OfTerms (record { whole = whole_of all; before = before }) d) (fault_after OfTerms (whole_of all) (before ++ d ∷ []) ds)
-    (decl_from (again || is_made_twice all s) (names_no_type all s) (has_too_many s) (multi && partial) (or_from again (is_made_twice all s) a.0 u.0) t.0 m.0 (single pure multi recursive partial g.0))
+    (decl_from (again || is_made_twice all s) (names_no_type all s) (has_too_many s) (multi && partial) (or_from again (is_made_twice all s) a.0 u.0) t.0 m.0 (single multi recursive partial g.0))
     (terms_none all (before ++ d ∷ []) ds g.1 (same_tests (sym (grown signature_of (λ (x : Signature). x.term) before d)) (sym (not_external before d refl)) (sym (not_extracting before d refl)) rest) (ap (λ cs. have_misfit all cs (converters ds)) (unconverted before d refl) ∙ c))
 terms_none all before (tree.ExternConstructor term func pos ∷ ds) f p c =
     let d = tree.ExternConstructor term func pos in

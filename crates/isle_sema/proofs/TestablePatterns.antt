@@ -16,24 +16,24 @@ use Rattle.isle_core.specs.ExternalCall.{IsExtraction}
 use Rattle.isle_core.specs.Form.{form, form_types}
 use Rattle.isle_core.specs.Making.{MakesVariant, MakesStruct, making}
 use Rattle.isle_core.specs.Opening.{Opening, AsVariant, AsStruct, ByExtractor, opening, answer_path, result_path, part_path}
-use Rattle.isle_core.specs.Path.{Path, Arg, Called, Inner, MadeVariant, MadeStruct, VariantField, StructField, Extracted, Part, Paths, NoPath, APath}
+use Rattle.isle_core.specs.Path.{Path, Arg, Inner, Extracted}
 use Rattle.isle_core.specs.PathType.{IsPathOf}
 use Rattle.isle_core.specs.Pattern as pattern
 use Rattle.isle_core.specs.Pattern.{Pattern, Patterns, NoPattern, APattern, Var, ConstBool, ConstInt, ConstPrim, Wildcard, BindPattern, And}
 use Rattle.isle_core.specs.PatternType.{part_types, IsPatternOf, ArePartsOf, AreEachOf, ArePatternsOf}
 use Rattle.isle_core.specs.Rule.{Environment}
-use Rattle.isle_core.specs.RulePaths.{opening_paths, pattern_paths, parts_paths, each_paths, args_paths}
-use Rattle.isle_core.specs.Serializable.{StandsWithin, StandsOn, AllStandOn, IsTest, IsFieldPath}
-use Rattle.isle_core.specs.Tests.{Test, Is, Equal, Never, is_constraint, Places, no_places, met_tests, met_after, found_tests, opening_tests, tests, parts_tests, each_tests, after, after_parts, after_each, args_tests, args_after}
+use Rattle.isle_core.specs.Serializable.{StandsOn, IsTest}
+use Rattle.isle_core.specs.Tests.{Test, Is, Equal, Never, is_constraint, Places, met_tests, met_after, found_tests, opening_tests, tests, parts_tests, each_tests, after, after_parts, after_each, args_tests, args_after}
 use Rattle.isle_core.proofs.Contained.{head_contained, tail_contained, contained_cases, none_contained}
 use Rattle.isle_core.proofs.KeptPlaces.{after_keeps, each_keep, parts_keep, args_keep}
-use Rattle.isle_sema.specs.TypedRule.{typed_variables, typed_within, all_typed, HaveOneType}
+use Rattle.isle_core.specs.TypedVariables.{typed_variables, typed_within, all_typed, HaveOneType}
+use Rattle.isle_sema.proofs.StandingPaths.{AreAlso, stands_still}
 use Rattle.isle_sema.proofs.OpenedTypes.{IsFinding, finds, may_find, OpensInto, opens_into}
 
 -- ---- types of paths in order
 
 -- the paths from the i-th on have these types
-abbrev AreTyped : Environment → Term → (ℕ → Path) → ℕ → List TypeId → Type 0
+abbrev pub AreTyped : Environment → Term → (ℕ → Path) → ℕ → List TypeId → Type 0
 AreTyped env t path i [] = Unit {0}
 AreTyped env t path i (ty ∷ tys) = IsPathOf env t (path i) ty × AreTyped env t path (suc i) tys
 
@@ -51,7 +51,7 @@ from_start : (env : Environment) (t : Term) (path : ℕ → Path) (tys : List Ty
 from_start env t path tys h = each_typed env t path 0 tys (λ k ty e. let same : k ≡ 0 + k = omega arith in subst (λ n. IsPathOf env t (path n) ty) same (h k ty e))
 
 -- the arguments of a term have its types
-args_are : (env : Environment) (t : Term) → AreTyped env t Arg 0 t.arg_tys
+pub args_are : (env : Environment) (t : Term) → AreTyped env t Arg 0 t.arg_tys
 args_are env t = from_start env t Arg t.arg_tys (λ k ty e. e)
 
 -- a form's types are there
@@ -65,7 +65,7 @@ form_at None types tys k ty e at = cc
 form_at (Some f) types tys k ty e at = ap (λ xs. slice_get xs k) (same_Some (types f) tys e) ∙ at
 
 -- the types of parts
-parts_there : (env : Environment) (o : Option (List TypeId)) (qs : Patterns) → ArePartsOf env o qs → (tys : List TypeId) × (o ≡ Some tys) × ArePartsOf env (Some tys) qs
+pub parts_there : (env : Environment) (o : Option (List TypeId)) (qs : Patterns) → ArePartsOf env o qs → (tys : List TypeId) × (o ≡ Some tys) × ArePartsOf env (Some tys) qs
 parts_there env None qs h = absurd h
 parts_there env (Some tys) qs h = (tys, refl, h)
 
@@ -98,66 +98,38 @@ part_typed env t (ByExtractor term c count) p ty tys into h k part at =
     (result_typed env t term p tys k part into.finding (λ kind. extractor_gives env t term c count p ty tys kind into h) at)
 
 -- so of the parts in order
-parts_are : (env : Environment) (t : Term) (opened : Opening) (p : Path) (ty : TypeId) (tys : List TypeId) → OpensInto env ty opened tys → IsPathOf env t p ty → AreTyped env t (λ k. part_path opened k p) 0 tys
+pub parts_are : (env : Environment) (t : Term) (opened : Opening) (p : Path) (ty : TypeId) (tys : List TypeId) → OpensInto env ty opened tys → IsPathOf env t p ty → AreTyped env t (λ k. part_path opened k p) 0 tys
 parts_are env t opened p ty tys into h = from_start env t (λ k. part_path opened k p) tys (part_typed env t opened p ty tys into h)
 
 -- ---- what may be read
-
--- each of these tests is one of those
-abbrev pub AreAlso : (xs ys : List Test) → Type 0
-AreAlso xs ys = (x : Test) → Contains xs x → Contains ys x
-
--- what is within may be read behind more tests
-within_still : (p : Path) (xs ys : List Test) (done : List Path) → AreAlso xs ys → StandsWithin xs done p → StandsWithin ys done p
-within_still (Called term ps instance) xs ys done a h = h
-within_still (Extracted term q) xs ys done a h = a (Is (Extracted term q) constraint.Some) h
-within_still p xs ys done a h = tt
-
-mutual
-  -- what may be read behind tests may be so behind more of them
-  pub stands_still : (p : Path) (xs ys : List Test) (done : List Path) → AreAlso xs ys → StandsOn xs done p → StandsOn ys done p
-  stands_still (Called term ps instance) xs ys done a h = h
-  stands_still (Inner p) xs ys done a h = within_still p xs ys done a h
-  stands_still (Extracted term q) xs ys done a h = stands_still q xs ys done a h
-  stands_still (Part part q) xs ys done a h = stands_still q xs ys done a h
-  stands_still (VariantField variant field q) xs ys done a h = (h.0, a (Is q (constraint.Variant h.0 variant)) h.1)
-  stands_still (StructField field q) xs ys done a h = (h.0, a (Is q (constraint.Struct h.0)) h.1)
-  stands_still (MadeVariant of variant ps) xs ys done a h = all_stand_still ps xs ys done a h
-  stands_still (MadeStruct of ps) xs ys done a h = all_stand_still ps xs ys done a h
-  stands_still p xs ys done a h = tt
-
-  -- so of each
-  all_stand_still : (ps : Paths) (xs ys : List Test) (done : List Path) → AreAlso xs ys → AllStandOn xs done ps → AllStandOn ys done ps
-  all_stand_still NoPath xs ys done a h = tt
-  all_stand_still (APath p ps) xs ys done a h = (stands_still p xs ys done a h.0, all_stand_still ps xs ys done a h.1)
 
 -- the constraints among these tests are among those
 abbrev pub HasConstraints : (all ts : List Test) → Type 0
 HasConstraints all ts = (y : Test) → is_constraint y ≡ true → Contains ts y → Contains all y
 
 -- what an extractor finds stands behind the test that it is something
-found_stands : {c : Calling} (term : TermId) (tests : List Test) (done : List Path) (p : Path) → IsFinding c → StandsOn tests done p → HasConstraints tests (found_tests c (Extracted term p)) → StandsOn tests done (answer_path c (Extracted term p))
-found_stands term tests done p (finds name) s among = s
-found_stands term tests done p (may_find name) s among = among (Is (Extracted term p) constraint.Some) refl (head_contained (Is (Extracted term p) constraint.Some) [])
+found_stands : {c : Calling} (env : Environment) (term : TermId) (tests : List Test) (done : List Path) (p : Path) → IsFinding c → StandsOn env tests done p → HasConstraints tests (found_tests c (Extracted term p)) → StandsOn env tests done (answer_path c (Extracted term p))
+found_stands env term tests done p (finds name) s among = s
+found_stands env term tests done p (may_find name) s among = among (Is (Extracted term p) constraint.Some) refl (head_contained (Is (Extracted term p) constraint.Some) [])
 
 -- a result stands where the answer does
-result_stands : (count i : ℕ) (tests : List Test) (done : List Path) (p : Path) → StandsOn tests done p → StandsOn tests done (result_path count i p)
-result_stands zero i tests done p h = h
-result_stands (suc zero) i tests done p h = h
-result_stands (suc (suc count)) i tests done p h = h
+result_stands : (env : Environment) (count i : ℕ) (tests : List Test) (done : List Path) (p : Path) → StandsOn env tests done p → StandsOn env tests done (result_path count i p)
+result_stands env zero i tests done p h = h
+result_stands env (suc zero) i tests done p h = h
+result_stands env (suc (suc count)) i tests done p h = h
 
 -- a part stands behind the tests of what takes it apart
-part_stands : (env : Environment) (ty : TypeId) (opened : Opening) (tys : List TypeId) (tests : List Test) (done : List Path) (p : Path) (i : ℕ) → OpensInto env ty opened tys → StandsOn tests done p → HasConstraints tests (opening_tests opened p) → StandsOn tests done (part_path opened i p)
+part_stands : (env : Environment) (ty : TypeId) (opened : Opening) (tys : List TypeId) (tests : List Test) (done : List Path) (p : Path) (i : ℕ) → OpensInto env ty opened tys → StandsOn env tests done p → HasConstraints tests (opening_tests opened p) → StandsOn env tests done (part_path opened i p)
 part_stands env ty (AsVariant of variant) tys tests done p i into s among = (of, among (Is p (constraint.Variant of variant)) refl (head_contained (Is p (constraint.Variant of variant)) []))
 part_stands env ty (AsStruct of) tys tests done p i into s among = (of, among (Is p (constraint.Struct of)) refl (head_contained (Is p (constraint.Struct of)) []))
-part_stands env ty (ByExtractor term c count) tys tests done p i into s among = result_stands count i tests done (answer_path c (Extracted term p)) (found_stands term tests done p into.finding s among)
+part_stands env ty (ByExtractor term c count) tys tests done p i into s among = result_stands env count i tests done (answer_path c (Extracted term p)) (found_stands env term tests done p into.finding s among)
 
 -- ---- constraints
 
 -- a constraint tests what stands at its path, which may be read behind these tests
 pub record IsTestableAt (env : Environment) (t : Term) (before : List Test) (p : Path) (c : Constraint) : Type 0 where
   pub test : IsTest env t p c
-  pub stands : StandsOn before [] p
+  pub stands : StandsOn env before [] p
 
 -- the constraints among tests in order, behind these
 abbrev pub AreTestableAt : Environment → Term → (before : List Test) → List Test → Type 0
@@ -175,7 +147,7 @@ constraints_testable env t before (Never ∷ ts) h = constraints_testable env t 
 
 module _ (env : Environment) (t : Term) where
   -- tests behind tests
-  testable_more : (before xs ys : List Test) → AreTestableAt env t before xs → ((later : List Test) → AreAlso before later → HasConstraints later xs → AreTestableAt env t later ys) → AreTestableAt env t before (xs ++ ys)
+  pub testable_more : (before xs ys : List Test) → AreTestableAt env t before xs → ((later : List Test) → AreAlso before later → HasConstraints later xs → AreTestableAt env t later ys) → AreTestableAt env t before (xs ++ ys)
   testable_more before [] ys h go = go before (λ x c. c) (λ y e c. absurd (none_contained y c))
   testable_more before (Is p c ∷ xs) ys h go = (
     h.0,
@@ -191,19 +163,19 @@ module _ (env : Environment) (t : Term) where
   met_testable (Some q) p before = tt
 
   -- so is the constraint on what an extractor finds
-  found_testable : {c : Calling} (term : TermId) (p : Path) (tys : List TypeId) (before : List Test) → IsFinding c → ((kind : ReturnKind) → IsExtraction kind c → Gives env t term p tys kind) → StandsOn before [] p → AreTestableAt env t before (found_tests c (Extracted term p))
+  found_testable : {c : Calling} (term : TermId) (p : Path) (tys : List TypeId) (before : List Test) → IsFinding c → ((kind : ReturnKind) → IsExtraction kind c → Gives env t term p tys kind) → StandsOn env before [] p → AreTestableAt env t before (found_tests c (Extracted term p))
   found_testable term p tys before (finds name) g s = tt
   found_testable term p tys before (may_find name) g s = (record { test = (tys, g return_kind.Option (refl, tt, tt)); stands = s }, tt)
 
   -- the constraints of what takes a path of a type apart
-  opening_testable : (opened : Opening) (p : Path) (ty : TypeId) (tys : List TypeId) (before : List Test) → OpensInto env ty opened tys → IsPathOf env t p ty → StandsOn before [] p → AreTestableAt env t before (opening_tests opened p)
+  opening_testable : (opened : Opening) (p : Path) (ty : TypeId) (tys : List TypeId) (before : List Test) → OpensInto env ty opened tys → IsPathOf env t p ty → StandsOn env before [] p → AreTestableAt env t before (opening_tests opened p)
   opening_testable (AsVariant of variant) p ty tys before into h s = (record { test = record { ty = ty; path = h; constraint = (into.0, form_there (form env (MakesVariant of variant)) (form_types env) tys into.1) }; stands = s }, tt)
   opening_testable (AsStruct of) p ty tys before into h s = (record { test = record { ty = ty; path = h; constraint = (into.0, form_there (form env (MakesStruct of)) (form_types env) tys into.1) }; stands = s }, tt)
   opening_testable (ByExtractor term c count) p ty tys before into h s = found_testable term p tys before into.finding (λ kind. extractor_gives env t term c count p ty tys kind into h) s
 
   mutual
     -- the constraints of a typed pattern on a path of its type
-    pattern_testable : (q : Pattern) (p : Path) (ty : TypeId) (places : Places) (before : List Test) → IsPatternOf env ty q → IsPathOf env t p ty → StandsOn before [] p → AreTestableAt env t before (tests env q p places)
+    pub pattern_testable : (q : Pattern) (p : Path) (ty : TypeId) (places : Places) (before : List Test) → IsPatternOf env ty q → IsPathOf env t p ty → StandsOn env before [] p → AreTestableAt env t before (tests env q p places)
     pattern_testable (Var of x) p ty places before h typed s = met_testable (places x.0) p before
     pattern_testable (ConstBool b) p ty places before h typed s = (record { test = record { ty = ty; path = typed; constraint = h.1 }; stands = s }, tt)
     pattern_testable (ConstInt of n) p ty places before h typed s = (record { test = record { ty = ty; path = typed; constraint = h }; stands = s }, tt)
@@ -214,91 +186,91 @@ module _ (env : Environment) (t : Term) where
         let k = parts_there env (part_types env (making env term) (slice_get env.terms term.0)) qs h.2 in
         let into = opens_into env ty term k.0 h.1 k.1 in
         testable_more before (opening_tests opened p) (parts_tests env opened qs 0 p places) (opening_testable opened p ty k.0 before into typed s)
-        (λ later a c. parts_testable qs opened p 0 k.0 places later k.2 (parts_are env t opened p ty k.0 into typed) (λ j. part_stands env ty opened k.0 later [] p j into (stands_still p before later [] a s) c))
+        (λ later a c. parts_testable qs opened p 0 k.0 places later k.2 (parts_are env t opened p ty k.0 into typed) (λ j. part_stands env ty opened k.0 later [] p j into (stands_still env p before later [] a s) c))
     pattern_testable (BindPattern of x q) p ty places before h typed s =
         let mid = met_after (places x.0) x.0 p places in
-        testable_more before (met_tests (places x.0) p) (tests env q p mid) (met_testable (places x.0) p before) (λ later a c. pattern_testable q p ty mid later h.1 typed (stands_still p before later [] a s))
+        testable_more before (met_tests (places x.0) p) (tests env q p mid) (met_testable (places x.0) p before) (λ later a c. pattern_testable q p ty mid later h.1 typed (stands_still env p before later [] a s))
     pattern_testable (And of qs) p ty places before h typed s = each_testable qs p ty places before h.1 typed s
 
     -- those of parts, each on its path
-    parts_testable : (qs : Patterns) (opened : Opening) (p : Path) (i : ℕ) (tys : List TypeId) (places : Places) (before : List Test) → ArePartsOf env (Some tys) qs → AreTyped env t (λ k. part_path opened k p) i tys → ((k : ℕ) → StandsOn before [] (part_path opened k p))
+    parts_testable : (qs : Patterns) (opened : Opening) (p : Path) (i : ℕ) (tys : List TypeId) (places : Places) (before : List Test) → ArePartsOf env (Some tys) qs → AreTyped env t (λ k. part_path opened k p) i tys → ((k : ℕ) → StandsOn env before [] (part_path opened k p))
         → AreTestableAt env t before (parts_tests env opened qs i p places)
     parts_testable NoPattern opened p i tys places before h typed stand = tt
     parts_testable (APattern q qs) opened p i (ty ∷ tys) places before h typed stand =
         let r = part_path opened i p in
         let mid = after env q r places in
         testable_more before (tests env q r places) (parts_tests env opened qs (suc i) p mid) (pattern_testable q r ty places before h.0 typed.0 (stand i))
-        (λ later a c. parts_testable qs opened p (suc i) tys mid later h.1 typed.1 (λ k. stands_still (part_path opened k p) before later [] a (stand k)))
+        (λ later a c. parts_testable qs opened p (suc i) tys mid later h.1 typed.1 (λ k. stands_still env (part_path opened k p) before later [] a (stand k)))
     parts_testable (APattern q qs) opened p i [] places before h typed stand = absurd h
 
     -- those of several patterns on one path
-    each_testable : (qs : Patterns) (p : Path) (ty : TypeId) (places : Places) (before : List Test) → AreEachOf env ty qs → IsPathOf env t p ty → StandsOn before [] p → AreTestableAt env t before (each_tests env qs p places)
+    each_testable : (qs : Patterns) (p : Path) (ty : TypeId) (places : Places) (before : List Test) → AreEachOf env ty qs → IsPathOf env t p ty → StandsOn env before [] p → AreTestableAt env t before (each_tests env qs p places)
     each_testable NoPattern p ty places before h typed s = tt
     each_testable (APattern q qs) p ty places before h typed s =
         let mid = after env q p places in
-        testable_more before (tests env q p places) (each_tests env qs p mid) (pattern_testable q p ty places before h.0 typed s) (λ later a c. each_testable qs p ty mid later h.1 typed (stands_still p before later [] a s))
+        testable_more before (tests env q p places) (each_tests env qs p mid) (pattern_testable q p ty places before h.0 typed s) (λ later a c. each_testable qs p ty mid later h.1 typed (stands_still env p before later [] a s))
 
   -- those of patterns on arguments
-  args_testable : (qs : List Pattern) (i : ℕ) (tys : List TypeId) (places : Places) (before : List Test) → ArePatternsOf env tys qs → AreTyped env t Arg i tys → AreTestableAt env t before (args_tests env qs i places)
+  pub args_testable : (qs : List Pattern) (i : ℕ) (tys : List TypeId) (places : Places) (before : List Test) → ArePatternsOf env tys qs → AreTyped env t Arg i tys → AreTestableAt env t before (args_tests env qs i places)
   args_testable [] i tys places before h typed = tt
   args_testable (q ∷ qs) i (ty ∷ tys) places before h typed =
       let mid = after env q (Arg i) places in
       testable_more before (tests env q (Arg i) places) (args_tests env qs (suc i) mid) (pattern_testable q (Arg i) ty places before h.0 typed.0 tt) (λ later a c. args_testable qs (suc i) tys mid later h.1 typed.1)
   args_testable (q ∷ qs) i [] places before h typed = absurd h
 
--- the constraints of patterns of a term's types are ready
-pub rule_testable : (env : Environment) (t : Term) (qs : List Pattern) → ArePatternsOf env t.arg_tys qs → AreTestableAt env t [] (args_tests env qs 0 no_places)
-rule_testable env t qs h = args_testable env t qs 0 t.arg_tys no_places [] h (args_are env t)
-
 -- ---- variables
 
 -- a path that may be read behind these tests, whatever calls were made
-abbrev pub IsStanding : (tests : List Test) → Path → Type 0
-IsStanding tests p = (done : List Path) → StandsOn tests done p
+abbrev pub IsStanding : Environment → (tests : List Test) → Path → Type 0
+IsStanding env tests p = (done : List Path) → StandsOn env tests done p
 
 -- where a variable stands is of its type, and may be read behind these tests
 pub record IsPlacedAs (env : Environment) (t : Term) (tests : List Test) (o : Option Path) (ty : TypeId) : Type 0 where
   pub path : Path
   pub is : o ≡ Some path
   pub typed : IsPathOf env t path ty
-  pub stands : IsStanding tests path
+  pub stands : IsStanding env tests path
 
 -- so of each variable with its type
 abbrev pub ArePlacedAs : Environment → Term → (tests : List Test) → List (TypeId × ℕ) → Places → Type 0
 ArePlacedAs env t tests vars places = (ty : TypeId) (x : ℕ) → Contains vars (ty, x) → IsPlacedAs env t tests (places x) ty
 
 -- a variable that has a path has one of its type, which may be read behind these tests
-abbrev AreHeld : Environment → Term → (tests : List Test) → List (TypeId × ℕ) → Places → Type 0
-AreHeld env t tests vars places = (ty : TypeId) (x : ℕ) (p : Path) → Contains vars (ty, x) → places x ≡ Some p → IsPathOf env t p ty × IsStanding tests p
+abbrev pub AreHeld : Environment → Term → (tests : List Test) → List (TypeId × ℕ) → Places → Type 0
+AreHeld env t tests vars places = (ty : TypeId) (x : ℕ) (p : Path) → Contains vars (ty, x) → places x ≡ Some p → IsPathOf env t p ty × IsStanding env tests p
 
 -- two paths of one type, which may be read behind these tests
 pub record AreComparableAt (env : Environment) (t : Term) (tests : List Test) (p q : Path) : Type 0 where
   pub ty : TypeId
   pub left : IsPathOf env t p ty
-  pub left_stands : StandsOn tests [] p
+  pub left_stands : StandsOn env tests [] p
   pub right : IsPathOf env t q ty
-  pub right_stands : StandsOn tests [] q
+  pub right_stands : StandsOn env tests [] q
 
 -- behind patterns that put these tests: what the places hold, what the tests equate, and that the patterns' variables have paths
-record IsPassed (env : Environment) (t : Term) (all : List Test) (vars : List (TypeId × ℕ)) (ts : List Test) (xs : List (TypeId × ℕ)) (places : Places) : Type 0 where
-  held : AreHeld env t all vars places
-  equals : (p q : Path) → Contains ts (Equal p q) → AreComparableAt env t all p q
-  there : (v : TypeId × ℕ) → Contains xs v → (p : Path) × (places v.1 ≡ Some p)
+pub record IsPassed (env : Environment) (t : Term) (all : List Test) (vars : List (TypeId × ℕ)) (ts : List Test) (xs : List (TypeId × ℕ)) (places : Places) : Type 0 where
+  pub held : AreHeld env t all vars places
+  pub equals : (p q : Path) → Contains ts (Equal p q) → AreComparableAt env t all p q
+  pub there : (v : TypeId × ℕ) → Contains xs v → (p : Path) × (places v.1 ≡ Some p)
 
 -- what is no equality, alone
 is_no_equality : (p a b : Path) (c : Constraint) → Contains (Is p c ∷ []) (Equal a b) → ⊥
 is_no_equality p a b c k = ⊎_elim (λ (e : Is p c ≡ Equal a b). absurd cc) (λ d. none_contained (Equal a b) d) (contained_cases (Is p c) [] (Equal a b) k)
 
+-- whether a call finds something is no equality
+pub found_no_equality : (c : Calling) (p a b : Path) → Contains (found_tests c p) (Equal a b) → ⊥
+found_no_equality c p a b k = pick (answers_often c) (is_fallible c) k
+  where
+    pick : (x y : Bool) → Contains (cond x (Never ∷ []) (cond y (Is p constraint.Some ∷ []) [])) (Equal a b) → ⊥
+    pick true y k = ⊎_elim (λ (e : Never ≡ Equal a b). absurd cc) (λ d. none_contained (Equal a b) d) (contained_cases Never [] (Equal a b) k)
+    pick false true k = is_no_equality p a b constraint.Some k
+    pick false false k = none_contained (Equal a b) k
+
 -- before a pattern takes a path apart no equality is tested
 opening_no_equality : (opened : Opening) (p a b : Path) → Contains (opening_tests opened p) (Equal a b) → ⊥
 opening_no_equality (AsVariant of variant) p a b k = is_no_equality p a b (constraint.Variant of variant) k
 opening_no_equality (AsStruct of) p a b k = is_no_equality p a b (constraint.Struct of) k
-opening_no_equality (ByExtractor term c count) p a b k = pick (answers_often c) (is_fallible c) k
-  where
-    pick : (x y : Bool) → Contains (cond x (Never ∷ []) (cond y (Is (Extracted term p) constraint.Some ∷ []) [])) (Equal a b) → ⊥
-    pick true y k = ⊎_elim (λ (e : Never ≡ Equal a b). absurd cc) (λ d. none_contained (Equal a b) d) (contained_cases Never [] (Equal a b) k)
-    pick false true k = is_no_equality (Extracted term p) a b constraint.Some k
-    pick false false k = none_contained (Equal a b) k
+opening_no_equality (ByExtractor term c count) p a b k = found_no_equality c (Extracted term p) a b k
 
 -- what equalities equate on the left
 left_same : (p q a b : Path) → Equal p q ≡ Equal a b → p ≡ a
@@ -334,17 +306,17 @@ module _ (env : Environment) (t : Term) (all : List Test) (vars : List (TypeId �
   }
 
   -- where one variable more has a path, each is held
-  held_more : (of ty : TypeId) (x : ℕ) (p : Path) (places : Places) → of ≡ ty → Contains vars (of, x) → IsPathOf env t p ty → IsStanding all p → AreHeld env t all vars places → AreHeld env t all vars (met_after None x p places)
+  held_more : (of ty : TypeId) (x : ℕ) (p : Path) (places : Places) → of ≡ ty → Contains vars (of, x) → IsPathOf env t p ty → IsStanding env all p → AreHeld env t all vars places → AreHeld env t all vars (met_after None x p places)
   held_more of ty x p places is within typed s h other y q c e = pick (eqb x y) refl e
     where
-      pick : (b : Bool) → eqb x y ≡ b → cond b (Some p) (places y) ≡ Some q → IsPathOf env t q other × IsStanding all q
+      pick : (b : Bool) → eqb x y ≡ b → cond b (Some p) (places y) ≡ Some q → IsPathOf env t q other × IsStanding env all q
       pick true same k =
           let there : Contains vars (of, y) = subst (λ z. Contains {X = TypeId × ℕ} vars (of, z)) (eqb-true x y same) within in
-          subst (λ r. IsPathOf env t r other × IsStanding all r) (same_Some p q k) (subst (IsPathOf env t p) (sym is ∙ one of other y there c) typed, s)
+          subst (λ r. IsPathOf env t r other × IsStanding env all r) (same_Some p q k) (subst (IsPathOf env t p) (sym is ∙ one of other y there c) typed, s)
       pick false same k = h other y q c k
 
   -- a variable
-  met_passed : (of ty : TypeId) (x : ℕ) (p : Path) (places : Places) (o : Option Path) → places x ≡ o → of ≡ ty → Contains vars (of, x) → IsPathOf env t p ty → IsStanding all p → AreHeld env t all vars places → IsPassed env t all vars (met_tests o p) ((of, x) ∷ []) (met_after o x p places)
+  met_passed : (of ty : TypeId) (x : ℕ) (p : Path) (places : Places) (o : Option Path) → places x ≡ o → of ≡ ty → Contains vars (of, x) → IsPathOf env t p ty → IsStanding env all p → AreHeld env t all vars places → IsPassed env t all vars (met_tests o p) ((of, x) ∷ []) (met_after o x p places)
   met_passed of ty x p places None at is within typed s h = record {
     held = held_more of ty x p places is within typed s h;
     equals = λ a b c. absurd (none_contained (Equal a b) c);
@@ -361,7 +333,7 @@ module _ (env : Environment) (t : Term) (all : List Test) (vars : List (TypeId �
 
   mutual
     -- a typed pattern on a path of its type
-    pattern_passed : (q : Pattern) (p : Path) (ty : TypeId) (places : Places) → IsPatternOf env ty q → IsPathOf env t p ty → IsStanding all p → AreHeld env t all vars places → HasConstraints all (tests env q p places) → ((v : TypeId × ℕ) → Contains (typed_variables q) v → Contains vars v)
+    pub pattern_passed : (q : Pattern) (p : Path) (ty : TypeId) (places : Places) → IsPatternOf env ty q → IsPathOf env t p ty → IsStanding env all p → AreHeld env t all vars places → HasConstraints all (tests env q p places) → ((v : TypeId × ℕ) → Contains (typed_variables q) v → Contains vars v)
         → IsPassed env t all vars (tests env q p places) (typed_variables q) (after env q p places)
     pattern_passed (Var of x) p ty places h typed s held among within = met_passed of ty x.0 p places (places x.0) refl h (within (of, x.0) (head_contained {A = TypeId × ℕ} (of, x.0) [])) typed s held
     pattern_passed (ConstBool b) p ty places h typed s held among within = constraint_passed p (constraint.ConstBool b) places held
@@ -386,7 +358,7 @@ module _ (env : Environment) (t : Term) (all : List Test) (vars : List (TypeId �
     pattern_passed (And of qs) p ty places h typed s held among within = each_passed qs p ty places h.1 typed s held among within
 
     -- parts, each on its path
-    parts_passed : (qs : Patterns) (opened : Opening) (p : Path) (i : ℕ) (tys : List TypeId) (places : Places) → ArePartsOf env (Some tys) qs → AreTyped env t (λ k. part_path opened k p) i tys → ((k : ℕ) → IsStanding all (part_path opened k p)) → AreHeld env t all vars places
+    parts_passed : (qs : Patterns) (opened : Opening) (p : Path) (i : ℕ) (tys : List TypeId) (places : Places) → ArePartsOf env (Some tys) qs → AreTyped env t (λ k. part_path opened k p) i tys → ((k : ℕ) → IsStanding env all (part_path opened k p)) → AreHeld env t all vars places
         → HasConstraints all (parts_tests env opened qs i p places) → ((v : TypeId × ℕ) → Contains (typed_within qs) v → Contains vars v) → IsPassed env t all vars (parts_tests env opened qs i p places) (typed_within qs) (after_parts env opened qs i p places)
     parts_passed NoPattern opened p i tys places h typed stand held among within = none_passed places held
     parts_passed (APattern q qs) opened p i (ty ∷ tys) places h typed stand held among within =
@@ -400,7 +372,7 @@ module _ (env : Environment) (t : Term) (all : List Test) (vars : List (TypeId �
     parts_passed (APattern q qs) opened p i [] places h typed stand held among within = absurd h
 
     -- several patterns on one path
-    each_passed : (qs : Patterns) (p : Path) (ty : TypeId) (places : Places) → AreEachOf env ty qs → IsPathOf env t p ty → IsStanding all p → AreHeld env t all vars places → HasConstraints all (each_tests env qs p places) → ((v : TypeId × ℕ) → Contains (typed_within qs) v → Contains vars v)
+    each_passed : (qs : Patterns) (p : Path) (ty : TypeId) (places : Places) → AreEachOf env ty qs → IsPathOf env t p ty → IsStanding env all p → AreHeld env t all vars places → HasConstraints all (each_tests env qs p places) → ((v : TypeId × ℕ) → Contains (typed_within qs) v → Contains vars v)
         → IsPassed env t all vars (each_tests env qs p places) (typed_within qs) (after_each env qs p places)
     each_passed NoPattern p ty places h typed s held among within = none_passed places held
     each_passed (APattern q qs) p ty places h typed s held among within =
@@ -412,7 +384,7 @@ module _ (env : Environment) (t : Term) (all : List Test) (vars : List (TypeId �
         (each_passed qs p ty mid h.1 typed s k.held (λ y e c. among y e (Contains-append_right first rest y c)) (λ v c. within v (Contains-append_right (typed_variables q) (typed_within qs) v c))) (λ y r e. each_keep qs env p mid y r e)
 
   -- patterns on arguments
-  args_passed : (qs : List Pattern) (i : ℕ) (tys : List TypeId) (places : Places) → ArePatternsOf env tys qs → AreTyped env t Arg i tys → AreHeld env t all vars places → HasConstraints all (args_tests env qs i places) → ((v : TypeId × ℕ) → Contains (all_typed qs) v → Contains vars v)
+  pub args_passed : (qs : List Pattern) (i : ℕ) (tys : List TypeId) (places : Places) → ArePatternsOf env tys qs → AreTyped env t Arg i tys → AreHeld env t all vars places → HasConstraints all (args_tests env qs i places) → ((v : TypeId × ℕ) → Contains (all_typed qs) v → Contains vars v)
       → IsPassed env t all vars (args_tests env qs i places) (all_typed qs) (args_after env qs i places)
   args_passed [] i tys places h typed held among within = none_passed places held
   args_passed (q ∷ qs) i (ty ∷ tys) places h typed held among within =
@@ -423,88 +395,3 @@ module _ (env : Environment) (t : Term) (all : List Test) (vars : List (TypeId �
       both_passed first rest (typed_variables q) (all_typed qs) mid (args_after env qs (suc i) mid) k
       (args_passed qs (suc i) tys mid h.1 typed.1 k.held (λ y e c. among y e (Contains-append_right first rest y c)) (λ v c. within v (Contains-append_right (typed_variables q) (all_typed qs) v c))) (λ y r e. args_keep env qs (suc i) mid y r e)
   args_passed (q ∷ qs) i [] places h typed held among within = absurd h
-
--- the patterns of a term's types, each of whose variables has one type
-rule_passed : (env : Environment) (t : Term) (all : List Test) (qs : List Pattern) → ArePatternsOf env t.arg_tys qs → HaveOneType (all_typed qs) → HasConstraints all (args_tests env qs 0 no_places) → IsPassed env t all (all_typed qs) (args_tests env qs 0 no_places) (all_typed qs) (args_after env qs 0 no_places)
-rule_passed env t all qs h one among = args_passed env t all (all_typed qs) one qs 0 t.arg_tys no_places h (args_are env t) (λ ty x p c e. absurd cc) among (λ v c. c)
-
--- their variables stand at paths of their types
-pub rule_placed : (env : Environment) (t : Term) (all : List Test) (qs : List Pattern) → ArePatternsOf env t.arg_tys qs → HaveOneType (all_typed qs) → HasConstraints all (args_tests env qs 0 no_places) → ArePlacedAs env t all (all_typed qs) (args_after env qs 0 no_places)
-rule_placed env t all qs h one among ty x c =
-    let k = rule_passed env t all qs h one among in
-    let at = k.there (ty, x) c in
-    let held = k.held ty x at.0 c at.1 in
-    record { path = at.0; is = at.1; typed = held.0; stands = held.1 }
-
--- and what they equate may be compared
-pub rule_compares : (env : Environment) (t : Term) (all : List Test) (qs : List Pattern) → ArePatternsOf env t.arg_tys qs → HaveOneType (all_typed qs) → HasConstraints all (args_tests env qs 0 no_places) → (p q : Path) → Contains (args_tests env qs 0 no_places) (Equal p q) → AreComparableAt env t all p q
-rule_compares env t all qs h one among p q c = (rule_passed env t all qs h one among).equals p q c
-
--- ---- fields
-
--- each field among the paths has a type
-abbrev pub AreFieldsTyped : Environment → Term → List Path → Type 0
-AreFieldsTyped env t ps = (p : Path) → Contains ps p → IsFieldPath p → (ty : TypeId) × IsPathOf env t p ty
-
--- no path
-pub no_fields : (env : Environment) (t : Term) → AreFieldsTyped env t []
-no_fields env t p c f = absurd (none_contained p c)
-
--- one path more
-pub one_field : (env : Environment) (t : Term) (q : Path) (ps : List Path) → (IsFieldPath q → (ty : TypeId) × IsPathOf env t q ty) → AreFieldsTyped env t ps → AreFieldsTyped env t (q ∷ ps)
-one_field env t q ps h k p c f = ⊎_elim (λ (e : q ≡ p). subst (λ r. (ty : TypeId) × IsPathOf env t r ty) e (h (subst IsFieldPath (sym e) f))) (λ d. k p d f) (contained_cases q ps p c)
-
--- paths behind paths
-pub both_fields : (env : Environment) (t : Term) (xs ys : List Path) → AreFieldsTyped env t xs → AreFieldsTyped env t ys → AreFieldsTyped env t (xs ++ ys)
-both_fields env t xs ys h k p c f = ⊎_elim (λ d. h p d f) (λ d. k p d f) (Contains-append_cases xs ys p c)
-
--- what is no field, and its inner value
-pub inner_fields : (env : Environment) (t : Term) (b : Bool) (p : Path) → (IsFieldPath p → ⊥) → AreFieldsTyped env t (cond b (p ∷ Inner p ∷ []) (p ∷ []))
-inner_fields env t true p h = one_field env t p (Inner p ∷ []) (λ f. absurd (h f)) (one_field env t (Inner p) [] (λ f. absurd f) (no_fields env t))
-inner_fields env t false p h = one_field env t p [] (λ f. absurd (h f)) (no_fields env t)
-
--- what is called to take a path apart is no field
-opening_fields : (env : Environment) (t : Term) (opened : Opening) (p : Path) → AreFieldsTyped env t (opening_paths opened p)
-opening_fields env t (AsVariant of variant) p = no_fields env t
-opening_fields env t (AsStruct of) p = no_fields env t
-opening_fields env t (ByExtractor term c count) p = inner_fields env t (is_fallible c) (Extracted term p) (λ f. f)
-
-module _ (env : Environment) (t : Term) where
-  mutual
-    -- the fields that a typed pattern takes apart
-    pattern_fields : (q : Pattern) (p : Path) (ty : TypeId) → IsPatternOf env ty q → IsPathOf env t p ty → AreFieldsTyped env t (pattern_paths env q p)
-    pattern_fields (Var of x) p ty h typed = no_fields env t
-    pattern_fields (ConstBool b) p ty h typed = no_fields env t
-    pattern_fields (ConstInt of n) p ty h typed = no_fields env t
-    pattern_fields (ConstPrim of name) p ty h typed = no_fields env t
-    pattern_fields (Wildcard of) p ty h typed = no_fields env t
-    pattern_fields (pattern.Term of term qs) p ty h typed =
-        let opened = opening env term in
-        let k = parts_there env (part_types env (making env term) (slice_get env.terms term.0)) qs h.2 in
-        both_fields env t (opening_paths opened p) (parts_paths env opened qs 0 p) (opening_fields env t opened p) (parts_fields qs opened p 0 k.0 k.2 (parts_are env t opened p ty k.0 (opens_into env ty term k.0 h.1 k.1) typed))
-    pattern_fields (BindPattern of x q) p ty h typed = pattern_fields q p ty h.1 typed
-    pattern_fields (And of qs) p ty h typed = each_fields qs p ty h.1 typed
-
-    -- those of parts
-    parts_fields : (qs : Patterns) (opened : Opening) (p : Path) (i : ℕ) (tys : List TypeId) → ArePartsOf env (Some tys) qs → AreTyped env t (λ k. part_path opened k p) i tys → AreFieldsTyped env t (parts_paths env opened qs i p)
-    parts_fields NoPattern opened p i tys h typed = no_fields env t
-    parts_fields (APattern q qs) opened p i (ty ∷ tys) h typed =
-        let r = part_path opened i p in
-        one_field env t r (pattern_paths env q r ++ parts_paths env opened qs (suc i) p) (λ f. (ty, typed.0)) (both_fields env t (pattern_paths env q r) (parts_paths env opened qs (suc i) p) (pattern_fields q r ty h.0 typed.0) (parts_fields qs opened p (suc i) tys h.1 typed.1))
-    parts_fields (APattern q qs) opened p i [] h typed = absurd h
-
-    -- those of several patterns on one path
-    each_fields : (qs : Patterns) (p : Path) (ty : TypeId) → AreEachOf env ty qs → IsPathOf env t p ty → AreFieldsTyped env t (each_paths env qs p)
-    each_fields NoPattern p ty h typed = no_fields env t
-    each_fields (APattern q qs) p ty h typed = both_fields env t (pattern_paths env q p) (each_paths env qs p) (pattern_fields q p ty h.0 typed) (each_fields qs p ty h.1 typed)
-
-  -- those of patterns on arguments
-  args_fields : (qs : List Pattern) (i : ℕ) (tys : List TypeId) → ArePatternsOf env tys qs → AreTyped env t Arg i tys → AreFieldsTyped env t (args_paths env qs i)
-  args_fields [] i tys h typed = no_fields env t
-  args_fields (q ∷ qs) i (ty ∷ tys) h typed =
-      one_field env t (Arg i) (pattern_paths env q (Arg i) ++ args_paths env qs (suc i)) (λ f. (ty, typed.0)) (both_fields env t (pattern_paths env q (Arg i)) (args_paths env qs (suc i)) (pattern_fields q (Arg i) ty h.0 typed.0) (args_fields qs (suc i) tys h.1 typed.1))
-  args_fields (q ∷ qs) i [] h typed = absurd h
-
--- the fields that patterns of a term's types take apart have types
-pub rule_fields : (env : Environment) (t : Term) (qs : List Pattern) → ArePatternsOf env t.arg_tys qs → AreFieldsTyped env t (args_paths env qs 0)
-rule_fields env t qs h = args_fields env t qs 0 t.arg_tys h (args_are env t)

@@ -27,8 +27,8 @@ use Rattle.isle_ast.specs.Tree.{Def}
 use Rattle.isle_ast.specs.declared.tree.AstBody.TheVariants as Body
 use Rattle.isle_types.specs.TypeEnvironment.{type_def_in, type_env_of}
 use Rattle.isle_types.specs.Builtins.{type_id}
-use Rattle.isle_sema.specs.Reduced.{reduced, integer_by, typed_integer}
-use Rattle.isle_sema.specs.Expected.{is_bool_def, takes_truths}
+use Rattle.isle_terms.specs.Reduced.{reduced, integer_by, typed_integer}
+use Rattle.isle_terms.specs.Expected.{is_bool_def, takes_truths}
 
 -- ---- a reduced number is held by its type
 

@@ -27,25 +27,26 @@ use Rattle.isle_declarations.specs.Symbols.{sym_of}
 use Rattle.isle_declarations.specs.Signatures.{Signature, externs, rule_defs, func_named, has_rule, term_named}
 use Rattle.isle_declarations.specs.Terms.{terms, is_made}
 use Rattle.isle_types.specs.TypeEnvironment.{type_env_of}
-use Rattle.isle_sema.specs.Reduced.{typed_integer}
-use Rattle.isle_sema.specs.Locals.{Local, local_named, local_type, typed_local, bound_local}
+use Rattle.isle_terms.specs.Reduced.{typed_integer}
+use Rattle.isle_sema.specs.Locals.{local_named, bound_local}
+use Rattle.isle_sema.specs.Scope.{Local, local_type, typed_local}
 use Rattle.isle_sema.specs.Site.{Site, TruthAt, UsedAt, CalledAt, ConstantAt, BoundAt}
 use Rattle.isle_sema.specs.PatternPass.{is_blank, first_expected, later_expected}
 use Rattle.isle_terms.specs.TypeNames.{type_named}
-use Rattle.isle_sema.specs.Expected.{takes_truths}
+use Rattle.isle_terms.specs.Expected.{takes_truths}
 use Rattle.isle_terms.specs.Whole.{Whole, termed, has_constructor, constant_type}
 use Rattle.isle_terms.specs.Whole as whole
 use Rattle.isle_sema.specs.ExprPass.{LetsPass, count_of, local_tree, known_type, constant_tree, call_tree, expr_within, called_by, expr_before, expr_type, binding_tree, binding_before, let_tree, expr_pass, exprs_pass, lets_pass}
-use Rattle.isle_sema.specs.RuleRows.{differ, is_other_type, is_misplaced, is_call_misfit, is_unknown, is_mistyped}
+use Rattle.isle_sema.specs.RuleRows.{differ, is_other_type, is_misplaced, is_call_misfit, is_mistyped}
 use Rattle.isle_terms.specs.Whole.{whole_of}
 use Rattle.isle_terms.specs.TermPass.{constructor_of, extracting_named, kind_from}
-use Rattle.isle_sema.specs.Judging.{is_partial_call}
-use Rattle.isle_sema.specs.Language.{is_ruled}
 use Rattle.isle_terms.specs.Converters.{conversion, within}
 use Rattle.isle_sema.proofs.Conversions.{conversion_is}
-use Rattle.isle_sema.specs.TypedRule.{let_variables, IsNew, IsTermKind, IsExprOf, AreExprsOf, AreBindingsOf}
-use Rattle.isle_sema.proofs.Firsts.{any_parts}
+use Rattle.isle_core.specs.ExprType.{Allowed, IsTermKind, IsExprOf, AreExprsOf, AreBindingsOf}
+use Rattle.isle_core.specs.TypedVariables.{let_variables, IsNew}
+use Rattle.isle_sema.proofs.KeptParts.{AreKept, kept_parts}
 use Rattle.isle_sema.proofs.LocalLaws.{one_named}
+use Rattle.isle_sema.proofs.ScopeLaws.{local_is}
 use Rattle.isle_sema.proofs.MadeForms.{made_term, constant_typed}
 use Rattle.isle_terms.proofs.MadeTerms.{term_made, term_is, types_are, all_at}
 use Rattle.isle_sema.proofs.RuleRoots.{mapped, signature_at}
@@ -53,30 +54,6 @@ use Rattle.isle_sema.proofs.TypedConstants.{integer_typed, truth_typed}
 use Rattle.isle_sema.proofs.TypedParts.{IsTypedIn}
 use Rattle.isle_sema.proofs.TypedPatterns.{same_type}
 use Rattle.isle_sema.proofs.TypedTerms.{IsPlainTerm, plain_terms}
-
--- ---- what parts keep
-
--- no part breaks the rows of literals, names and types, none is of a term that has a rule, and none calls a term that may answer nothing
--- where that is not allowed
-pub record AreKept (w : Whole) (allowed : Bool) (sites : List Site) : Type 0 where
-  pub placed : list_any (is_misplaced w) sites ≡ false
-  pub known : list_any (is_unknown w) sites ≡ false
-  pub typed : list_any (is_mistyped w) sites ≡ false
-  pub ruled : list_any (is_ruled w) sites ≡ false
-  pub partial : not allowed && list_any is_partial_call sites ≡ false
-
-partial_parts : (allowed : Bool) (xs ys : List Site) → not allowed && list_any is_partial_call (xs ++ ys) ≡ false → (not allowed && list_any is_partial_call xs ≡ false) × (not allowed && list_any is_partial_call ys ≡ false)
-partial_parts true xs ys h = (refl, refl)
-partial_parts false xs ys h = any_parts is_partial_call xs ys h
-
-kept_parts : (w : Whole) (allowed : Bool) (xs ys : List Site) → AreKept w allowed (xs ++ ys) → AreKept w allowed xs × AreKept w allowed ys
-kept_parts w allowed xs ys k =
-    let p = any_parts (is_misplaced w) xs ys k.placed in
-    let u = any_parts (is_unknown w) xs ys k.known in
-    let t = any_parts (is_mistyped w) xs ys k.typed in
-    let r = any_parts (is_ruled w) xs ys k.ruled in
-    let q = partial_parts allowed xs ys k.partial in
-    (record { placed = p.0; known = u.0; typed = t.0; ruled = r.0; partial = q.0 }, record { placed = p.1; known = u.1; typed = t.1; ruled = r.1; partial = q.1 })
 
 -- ---- the kind of a term that is called
 
@@ -89,47 +66,51 @@ allowed_where true partial h is = refl
 allowed_where false true h is = cc
 allowed_where false false h is = is
 
-flagless : (env : Environment) (t : Term) (allowed partial has : Bool) (syms : List (List ℕ)) (func : Option (List ℕ)) (how : ExtractorKind) → is_some func ≡ true → (IsTrue partial → IsTrue allowed)
-    → IsTermKind env allowed t (kind.Decl false false partial false (constructor_of syms func has) how)
-flagless env t allowed partial has syms None how some h = absurd cc
-flagless env t allowed partial has syms (Some func) how some h = h
+-- what calls of a term that may answer nothing, and of one that isn't pure, are allowed
+abbrev Fits : Allowed → (pure partial : Bool) → Type 0
+Fits allowed pure partial = (IsTrue partial → IsTrue allowed.nothing) × (IsTrue (not pure) → IsTrue allowed.impure)
+
+flagless : (env : Environment) (t : Term) (allowed : Allowed) (pure partial has : Bool) (syms : List (List ℕ)) (func : Option (List ℕ)) (how : ExtractorKind) → is_some func ≡ true → Fits allowed pure partial
+    → IsTermKind env allowed t (kind.Decl pure false partial false (constructor_of syms func has) how)
+flagless env t allowed pure partial has syms None how some h = absurd cc
+flagless env t allowed pure partial has syms (Some func) how some h = h
 
 -- a plain term that has an external constructor
-external_kind : (env : Environment) (t : Term) (allowed pure multi recursive partial has : Bool) (syms : List (List ℕ)) (func : Option (List ℕ)) (how : ExtractorKind) → pure ≡ false → multi ≡ false → recursive ≡ false → is_some func ≡ true → (IsTrue partial → IsTrue allowed)
+external_kind : (env : Environment) (t : Term) (allowed : Allowed) (pure multi recursive partial has : Bool) (syms : List (List ℕ)) (func : Option (List ℕ)) (how : ExtractorKind) → multi ≡ false → recursive ≡ false → is_some func ≡ true → Fits allowed pure partial
     → IsTermKind env allowed t (kind.Decl pure multi partial recursive (constructor_of syms func has) how)
-external_kind env t allowed false false false partial has syms func how p m r some h = flagless env t allowed partial has syms func how some h
-external_kind env t allowed true multi recursive partial has syms func how p m r some h = absurd cc
-external_kind env t allowed false true recursive partial has syms func how p m r some h = absurd cc
-external_kind env t allowed false false true partial has syms func how p m r some h = absurd cc
+external_kind env t allowed pure false false partial has syms func how m r some h = flagless env t allowed pure partial has syms func how some h
+external_kind env t allowed pure true recursive partial has syms func how m r some h = absurd cc
+external_kind env t allowed pure false true partial has syms func how m r some h = absurd cc
 
 -- a term that has a constructor and no rule is made or external
-kind_typed : (defs : List Def) (env : Environment) (allowed : Bool) (i : ℕ) (s : Signature) (t : Term) (from : Origin) → IsTypedIn defs env → slice_get env.terms i ≡ Some t → IsPlainTerm s → s.origin ≡ from → kind_from (whole_of defs) s t.ret_ty s.origin ≡ t.kind
-    → has_constructor (whole_of defs) s ≡ true → has_rule (rule_defs defs) s.term ≡ false → not allowed && s.partial ≡ false → IsTermKind env allowed t t.kind
-kind_typed defs env allowed i s t origin.Declared g at plain is same has ruled partial =
+kind_typed : (defs : List Def) (env : Environment) (allowed : Allowed) (i : ℕ) (s : Signature) (t : Term) (from : Origin) → IsTypedIn defs env → slice_get env.terms i ≡ Some t → IsPlainTerm s → s.origin ≡ from → kind_from (whole_of defs) s t.ret_ty s.origin ≡ t.kind
+    → has_constructor (whole_of defs) s ≡ true → has_rule (rule_defs defs) s.term ≡ false → not allowed.nothing && s.partial ≡ false → not allowed.impure && not s.pure ≡ false → IsTermKind env allowed t t.kind
+kind_typed defs env allowed i s t origin.Declared g at plain is same has ruled partial impure =
     let func = func_named (externs defs) s.term in
     let flags = plain (ap is_made is) in
     let either : is_made s.origin || is_some func ≡ true = first_true (is_made s.origin || is_some func) (has_rule (rule_defs defs) s.term) has ruled in
     let external : is_some func ≡ true = ap (λ o. is_made o || is_some func) (sym is) ∙ either in
     subst (IsTermKind env allowed t) (ap (kind_from (whole_of defs) s t.ret_ty) (sym is) ∙ same)
-    (external_kind env t allowed s.pure s.multi s.recursive s.partial (has_rule (rule_defs defs) s.term) (type_env_of defs).syms func (extracting_named (whole_of defs) s.term) flags.pure flags.multi flags.recursive external (allowed_where allowed s.partial partial))
-kind_typed defs env allowed i s t (origin.Variant number) g at plain is same has ruled partial = made_term defs env i t g g.types_kept at (ap is_made_kind (sym (ap (kind_from (whole_of defs) s t.ret_ty) (sym is) ∙ same))) allowed
-kind_typed defs env allowed i s t origin.Struct g at plain is same has ruled partial = made_term defs env i t g g.types_kept at (ap is_made_kind (sym (ap (kind_from (whole_of defs) s t.ret_ty) (sym is) ∙ same))) allowed
+    (external_kind env t allowed s.pure s.multi s.recursive s.partial (has_rule (rule_defs defs) s.term) (type_env_of defs).syms func (extracting_named (whole_of defs) s.term) flags.multi flags.recursive external (allowed_where allowed.nothing s.partial partial, allowed_where allowed.impure (not s.pure) impure))
+kind_typed defs env allowed i s t (origin.Variant number) g at plain is same has ruled partial impure = made_term defs env i t g g.types_kept at (ap is_made_kind (sym (ap (kind_from (whole_of defs) s t.ret_ty) (sym is) ∙ same))) allowed
+kind_typed defs env allowed i s t origin.Struct g at plain is same has ruled partial impure = made_term defs env i t g g.types_kept at (ap is_made_kind (sym (ap (kind_from (whole_of defs) s t.ret_ty) (sym is) ∙ same))) allowed
 
 -- ---- a call
 
 -- what a call keeps
-record IsKeptCall (w : Whole) (allowed : Bool) (ty : TypeId) (s : Signature) (count : ℕ) : Type 0 where
+record IsKeptCall (w : Whole) (allowed : Allowed) (ty : TypeId) (s : Signature) (count : ℕ) : Type 0 where
   many : count ≡ length s.args
   has : has_constructor w s ≡ true
   typed : differ (type_named w.defs s.ret) (Some ty) ≡ false
   ruled : has_rule (rule_defs w.defs) s.term ≡ false
-  partial : not allowed && s.partial ≡ false
+  partial : not allowed.nothing && s.partial ≡ false
+  impure : not allowed.impure && not s.pure ≡ false
 
-partial_first : (allowed b : Bool) (sites : List Site) → not allowed && (b || list_any is_partial_call sites) ≡ false → (not allowed && b ≡ false) × (not allowed && list_any is_partial_call sites ≡ false)
-partial_first true b sites h = (refl, refl)
-partial_first false b sites h = or_parts b (list_any is_partial_call sites) h
+guarded_first : (allowed b c : Bool) → not allowed && (b || c) ≡ false → not allowed && b ≡ false
+guarded_first true b c h = refl
+guarded_first false b c h = (or_parts b c h).0
 
-kept_call : (w : Whole) (allowed : Bool) (ty : TypeId) (s : Signature) (count : ℕ) → AreKept w allowed (CalledAt (Some ty) (Some s) count ∷ []) → IsKeptCall w allowed ty s count
+kept_call : (w : Whole) (allowed : Allowed) (ty : TypeId) (s : Signature) (count : ℕ) → AreKept w allowed (CalledAt (Some ty) (Some s) count ∷ []) → IsKeptCall w allowed ty s count
 kept_call w allowed ty s count k =
     let u = or_parts (not (count == length s.args)) (not (has_constructor w s)) (or_parts (is_call_misfit w (Some s) count) false k.known).0 in
     record {
@@ -137,20 +118,21 @@ kept_call w allowed ty s count k =
       has = not-false (has_constructor w s) u.1;
       typed = (or_parts (differ (type_named w.defs s.ret) (Some ty)) false k.typed).0;
       ruled = (or_parts (has_rule (rule_defs w.defs) s.term) false k.ruled).0;
-      partial = (partial_first allowed s.partial [] k.partial).0;
+      partial = guarded_first allowed.nothing s.partial false k.partial;
+      impure = guarded_first allowed.impure (not s.pure) false k.impure;
     }
 
 -- what a call's tree is made of
-record IsCallTree (ty : Option TypeId) (term : Option TermId) (es : Option CoreExprs) (x : CoreExpr) : Type 0 where
-  of : TypeId
-  number : TermId
-  args : CoreExprs
-  of_is : ty ≡ Some of
-  number_is : term ≡ Some number
-  args_are : es ≡ Some args
-  is : core_expr.Term of number args ≡ x
+pub record IsCallTree (ty : Option TypeId) (term : Option TermId) (es : Option CoreExprs) (x : CoreExpr) : Type 0 where
+  pub of : TypeId
+  pub number : TermId
+  pub args : CoreExprs
+  pub of_is : ty ≡ Some of
+  pub number_is : term ≡ Some number
+  pub args_are : es ≡ Some args
+  pub is : core_expr.Term of number args ≡ x
 
-call_is : (ty : Option TypeId) (term : Option TermId) (es : Option CoreExprs) (x : CoreExpr) → call_tree ty term es ≡ Some x → IsCallTree ty term es x
+pub call_is : (ty : Option TypeId) (term : Option TermId) (es : Option CoreExprs) (x : CoreExpr) → call_tree ty term es ≡ Some x → IsCallTree ty term es x
 call_is None term es x h = absurd cc
 call_is (Some ty) None es x h = absurd cc
 call_is (Some ty) (Some term) None x h = absurd cc
@@ -168,15 +150,15 @@ over_later : (defs : List Def) (env : Environment) (locals : List Local) (vars :
 over_later defs env locals vars next later le over = record { given = over.given; bound = over.bound; below = λ ty x c. let lt = over.below ty x c in omega (arith, lt, le) }
 
 -- the arguments of a call, where they are kept at its term's types
-abbrev ArgsTyped : (defs : List Def) (env : Environment) (allowed : Bool) (locals : List Local) (vars : List (TypeId × ℕ)) (next : ℕ) → Exprs → Type 0
+abbrev ArgsTyped : (defs : List Def) (env : Environment) (allowed : Allowed) (locals : List Local) (vars : List (TypeId × ℕ)) (next : ℕ) → Exprs → Type 0
 ArgsTyped defs env allowed locals vars next es = (tys : List TypeId) (xs : CoreExprs) → count_of es ≡ length tys → (exprs_pass (whole_of defs) locals next (map Some tys) es).trees ≡ Some xs → AreKept (whole_of defs) allowed (exprs_pass (whole_of defs) locals next (map Some tys) es).sites
     → AreExprsOf env allowed vars tys xs
 
 -- a call of a term of this signature, on arguments of its types
-called_typed : (defs : List Def) (env : Environment) (allowed : Bool) (vars : List (TypeId × ℕ)) (ty of : TypeId) (name : List ℕ) (s : Signature) (number : TermId) (args : CoreExprs) → IsTypedIn defs env → termed (whole_of defs) name ≡ Some s → term_named (terms defs) name ≡ Some number
-    → has_constructor (whole_of defs) s ≡ true → has_rule (rule_defs defs) s.term ≡ false → not allowed && s.partial ≡ false → type_named defs s.ret ≡ Some of → of ≡ ty
+called_typed : (defs : List Def) (env : Environment) (allowed : Allowed) (vars : List (TypeId × ℕ)) (ty of : TypeId) (name : List ℕ) (s : Signature) (number : TermId) (args : CoreExprs) → IsTypedIn defs env → termed (whole_of defs) name ≡ Some s → term_named (terms defs) name ≡ Some number
+    → has_constructor (whole_of defs) s ≡ true → has_rule (rule_defs defs) s.term ≡ false → not allowed.nothing && s.partial ≡ false → not allowed.impure && not s.pure ≡ false → type_named defs s.ret ≡ Some of → of ≡ ty
     → ((tys : List TypeId) → map (type_named defs) s.args ≡ map Some tys → AreExprsOf env allowed vars tys args) → IsExprOf env allowed vars ty (core_expr.Term of number args)
-called_typed defs env allowed vars ty of name s number args g is numbered has ruled partial ret gives typed =
+called_typed defs env allowed vars ty of name s number args g is numbered has ruled partial impure ret gives typed =
     let w = whole_of defs in
     let at = signature_at w name s number is numbered in
     let m = term_made w (terms defs) env.terms number.0 s g.terms at in
@@ -184,10 +166,10 @@ called_typed defs env allowed vars ty of name s number args g is numbered has ru
     let same : m.term.ret_ty ≡ ty = same_Some m.term.ret_ty of (sym t.ret ∙ ret) ∙ gives in
     let takes = typed m.term.arg_tys (types_are defs s.args m.term.arg_tys t.args) in
     let plain = all_at IsPlainTerm (terms defs) number.0 s (plain_terms defs g.built) at in
-    let made = kind_typed defs env allowed number.0 s m.term s.origin g m.there plain refl (ap (λ (u : Term). u.kind) t.is) has ruled partial in
+    let made = kind_typed defs env allowed number.0 s m.term s.origin g m.there plain refl (ap (λ (u : Term). u.kind) t.is) has ruled partial impure in
     (gives, subst (λ (o : Option Term). IsSomeAnd o (λ (u : Term). IsTermKind env allowed u u.kind × (u.ret_ty ≡ ty) × AreExprsOf env allowed vars u.arg_tys args)) (sym m.there) (made, same, takes))
 
-call_typed : (defs : List Def) (env : Environment) (allowed : Bool) (locals : List Local) (vars : List (TypeId × ℕ)) (next : ℕ) (ty : TypeId) (name : List ℕ) (es : Exprs) (x : CoreExpr) (o : Option Signature) → IsOver defs env locals vars next → termed (whole_of defs) name ≡ o
+call_typed : (defs : List Def) (env : Environment) (allowed : Allowed) (locals : List Local) (vars : List (TypeId × ℕ)) (next : ℕ) (ty : TypeId) (name : List ℕ) (es : Exprs) (x : CoreExpr) (o : Option Signature) → IsOver defs env locals vars next → termed (whole_of defs) name ≡ o
     → AreKept (whole_of defs) allowed (CalledAt (Some ty) o (count_of es) ∷ (exprs_pass (whole_of defs) locals next (whole.arg_types (whole_of defs) o) es).sites)
     → call_tree (whole.ret_type (whole_of defs) o) (term_named (terms defs) name) (exprs_pass (whole_of defs) locals next (whole.arg_types (whole_of defs) o) es).trees ≡ Some x → ArgsTyped defs env allowed locals vars next es → IsExprOf env allowed vars ty x
 call_typed defs env allowed locals vars next ty name es x None over is kept h args_typed = absurd cc
@@ -197,7 +179,7 @@ call_typed defs env allowed locals vars next ty name es x (Some s) over is kept 
     let own = kept_call w allowed ty s (count_of es) k.0 in
     let c = call_is (type_named defs s.ret) (term_named (terms defs) name) (exprs_pass w locals next (map (type_named defs) s.args) es).trees x h in
     let gives : c.of ≡ ty = same_type c.of ty (ap (λ o. differ o (Some ty)) (sym c.of_is) ∙ own.typed) in
-    subst (IsExprOf env allowed vars ty) c.is (called_typed defs env allowed vars ty c.of name s c.number c.args over.given is c.number_is own.has own.ruled own.partial c.of_is gives
+    subst (IsExprOf env allowed vars ty) c.is (called_typed defs env allowed vars ty c.of name s c.number c.args over.given is c.number_is own.has own.ruled own.partial own.impure c.of_is gives
     (λ tys are.
     let count : count_of es ≡ length tys = own.many ∙ sym (length-map s.args (type_named defs)) ∙ ap length are ∙ length-map tys Some in
     args_typed tys c.args count (ap (λ os. (exprs_pass w locals next os es).trees) (sym are) ∙ c.args_are) (subst (λ (os : List (Option TypeId)). AreKept w allowed (exprs_pass w locals next os es).sites) are k.1)))
@@ -205,7 +187,7 @@ call_typed defs env allowed locals vars next ty name es x (Some s) over is kept 
 -- ---- converters
 
 -- the call of a converter, on what is of the other type
-converter_typed : (defs : List Def) (env : Environment) (allowed : Bool) (vars : List (TypeId × ℕ)) (ty of : TypeId) (s : Signature) (e : Option CoreExpr) (x : CoreExpr) → IsTypedIn defs env → conversion (whole_of defs) (Some of) (Some ty) ≡ Some s
+converter_typed : (defs : List Def) (env : Environment) (allowed : Allowed) (vars : List (TypeId × ℕ)) (ty of : TypeId) (s : Signature) (e : Option CoreExpr) (x : CoreExpr) → IsTypedIn defs env → conversion (whole_of defs) (Some of) (Some ty) ≡ Some s
     → AreKept (whole_of defs) allowed (CalledAt (Some ty) (Some s) 1 ∷ []) → ((y : CoreExpr) → e ≡ Some y → IsExprOf env allowed vars of y) → expr_within (whole_of defs) (Some s) e ≡ Some x → IsExprOf env allowed vars ty x
 converter_typed defs env allowed vars ty of s e x g is kept typed h =
     let w = whole_of defs in
@@ -214,7 +196,7 @@ converter_typed defs env allowed vars ty of s e x g is kept typed h =
     let t = call_is (type_named defs s.ret) (term_named (terms defs) s.term) (option_map (λ (y : CoreExpr). core_expr.AnExpr y core_expr.NoExpr) e) x h in
     let m = mapped (λ (y : CoreExpr). core_expr.AnExpr y core_expr.NoExpr) e t.args t.args_are in
     let gives : t.of ≡ ty = same_Some t.of ty (sym t.of_is ∙ c.ret) in
-    subst (IsExprOf env allowed vars ty) t.is (called_typed defs env allowed vars ty t.of s.term s t.number t.args g c.there t.number_is own.has own.ruled own.partial t.of_is gives
+    subst (IsExprOf env allowed vars ty) t.is (called_typed defs env allowed vars ty t.of s.term s t.number t.args g c.there t.number_is own.has own.ruled own.partial own.impure t.of_is gives
     (λ tys are. subst (AreExprsOf env allowed vars tys) m.is (one_typed m.from tys (sym c.args ∙ are) (typed m.from m.there))))
   where
     one_typed : (y : CoreExpr) (tys : List TypeId) → Some of ∷ [] ≡ map Some tys → IsExprOf env allowed vars of y → AreExprsOf env allowed vars tys (core_expr.AnExpr y core_expr.NoExpr)
@@ -223,7 +205,7 @@ converter_typed defs env allowed vars ty of s e x g is kept typed h =
     one_typed y (t ∷ u ∷ tys) e k = absurd cc
 
 -- what is of the type that is expected, or of another one within a converter
-within_typed : (defs : List Def) (env : Environment) (allowed : Bool) (vars : List (TypeId × ℕ)) (ty : TypeId) (of : Option TypeId) (by : Option Signature) (e : Option CoreExpr) (x : CoreExpr) (first : Option TypeId → Site) (rest : List Site) → IsTypedIn defs env
+within_typed : (defs : List Def) (env : Environment) (allowed : Allowed) (vars : List (TypeId × ℕ)) (ty : TypeId) (of : Option TypeId) (by : Option Signature) (e : Option CoreExpr) (x : CoreExpr) (first : Option TypeId → Site) (rest : List Site) → IsTypedIn defs env
     → conversion (whole_of defs) of (Some ty) ≡ by → ((t : TypeId) (y : CoreExpr) → e ≡ Some y → AreKept (whole_of defs) allowed (first (Some t) ∷ rest) → IsExprOf env allowed vars t y) → expr_within (whole_of defs) by e ≡ Some x
     → AreKept (whole_of defs) allowed (called_by by (Some ty) ++ first (within by of (Some ty)) ∷ rest) → IsExprOf env allowed vars ty x
 within_typed defs env allowed vars ty of None e x first rest g is typed h kept = typed ty x h kept
@@ -248,14 +230,14 @@ before_is (Some x) (Some others) xs h = record { first = x; others = others; her
 -- ---- expressions
 
 -- a number of a type
-number_typed : (env : Environment) (allowed : Bool) (vars : List (TypeId × ℕ)) (ty : TypeId) (types : TypeEnv) (n : ℤ) (x : CoreExpr) → env.types ≡ types → (m : TypeId × ℤ) → typed_integer types (Some ty) n ≡ Some m → core_expr.ConstInt m.0 m.1 ≡ x → IsExprOf env allowed vars ty x
+number_typed : (env : Environment) (allowed : Allowed) (vars : List (TypeId × ℕ)) (ty : TypeId) (types : TypeEnv) (n : ℤ) (x : CoreExpr) → env.types ≡ types → (m : TypeId × ℤ) → typed_integer types (Some ty) n ≡ Some m → core_expr.ConstInt m.0 m.1 ≡ x → IsExprOf env allowed vars ty x
 number_typed env allowed vars ty types n x same m there is = subst (IsExprOf env allowed vars ty) is (integer_typed env ty n m (ap (λ (ts : TypeEnv). typed_integer ts (Some ty) n) same ∙ there))
 
 -- ---- numbers
 
 mutual
   -- the next number after an expression is no earlier one
-  next_grows : (w : Whole) (locals : List Local) (next : ℕ) (expected : Option TypeId) (e : Expr) → next ≤ (expr_pass w locals next expected e).next
+  pub next_grows : (w : Whole) (locals : List Local) (next : ℕ) (expected : Option TypeId) (e : Expr) → next ≤ (expr_pass w locals next expected e).next
   next_grows w locals next expected (tree.Number n) = omega arith
   next_grows w locals next expected (tree.Fact b) = omega arith
   next_grows w locals next expected (tree.Name name) = omega arith
@@ -287,7 +269,7 @@ mutual
 -- ---- `let`
 
 -- the type of a typed expression
-type_is : (env : Environment) (allowed : Bool) (vars : List (TypeId × ℕ)) (ty : TypeId) (e : CoreExpr) → IsExprOf env allowed vars ty e → expr_type e ≡ ty
+type_is : (env : Environment) (allowed : Allowed) (vars : List (TypeId × ℕ)) (ty : TypeId) (e : CoreExpr) → IsExprOf env allowed vars ty e → expr_type e ≡ ty
 type_is env allowed vars ty (core_expr.Var of x) h = h.0
 type_is env allowed vars ty (core_expr.ConstBool b) h = h.0
 type_is env allowed vars ty (core_expr.ConstInt of n) h = h.0
@@ -296,14 +278,14 @@ type_is env allowed vars ty (core_expr.Term of term es) h = h.0
 type_is env allowed vars ty (core_expr.Let of bs inner) h = h.0
 
 -- what the tree of a `let` is made of
-record IsLetTree (bs : Option LetBindings) (e : Option CoreExpr) (x : CoreExpr) : Type 0 where
-  bindings : LetBindings
-  inner : CoreExpr
-  bindings_are : bs ≡ Some bindings
-  inner_is : e ≡ Some inner
-  is : core_expr.Let (expr_type inner) bindings inner ≡ x
+pub record IsLetTree (bs : Option LetBindings) (e : Option CoreExpr) (x : CoreExpr) : Type 0 where
+  pub bindings : LetBindings
+  pub inner : CoreExpr
+  pub bindings_are : bs ≡ Some bindings
+  pub inner_is : e ≡ Some inner
+  pub is : core_expr.Let (expr_type inner) bindings inner ≡ x
 
-let_is : (bs : Option LetBindings) (e : Option CoreExpr) (x : CoreExpr) → let_tree bs e ≡ Some x → IsLetTree bs e x
+pub let_is : (bs : Option LetBindings) (e : Option CoreExpr) (x : CoreExpr) → let_tree bs e ≡ Some x → IsLetTree bs e x
 let_is None e x h = absurd cc
 let_is (Some bs) None x h = absurd cc
 let_is (Some bs) (Some e) x h = record { bindings = bs; inner = e; bindings_are = refl; inner_is = refl; is = same_Some (core_expr.Let (expr_type e) bs e) x h }
@@ -354,34 +336,17 @@ over_more defs env locals vars next later var ty of is le over = record { given 
 
 -- ---- typed expressions
 
--- what the type and the number of a variable come of
-record IsLocal (o : Option Local) (v : TypeId × VarId) : Type 0 where
-  local : Local
-  found : o ≡ Some local
-  typed : local.ty ≡ Some v.0
-  numbered : local.number ≡ v.1.0
-
-local_typed : (l : Local) (o : Option TypeId) (v : TypeId × VarId) → l.ty ≡ o → option_map (λ (ty : TypeId). (ty, record { 0 = l.number })) o ≡ Some v → IsLocal (Some l) v
-local_typed l None v e h = absurd cc
-local_typed l (Some ty) v e h =
-    let same = same_Some {A = TypeId × VarId} (ty, record { 0 = l.number }) v h in
-    record { local = l; found = refl; typed = e ∙ ap (λ (x : TypeId × VarId). Some x.0) same; numbered = ap (λ (x : TypeId × VarId). x.1.0) same }
-
-local_is : (found : Option Local) (v : TypeId × VarId) → typed_local found ≡ Some v → IsLocal found v
-local_is None v h = absurd cc
-local_is (Some l) v h = local_typed l l.ty v refl h
-
 -- the variables of a `let` have their types, and those behind them are in scope
-record AreTypedLets (defs : List Def) (env : Environment) (allowed : Bool) (vars : List (TypeId × ℕ)) (bs : LetBindings) (pass : LetsPass) : Type 0 where
+record AreTypedLets (defs : List Def) (env : Environment) (allowed : Allowed) (vars : List (TypeId × ℕ)) (bs : LetBindings) (pass : LetsPass) : Type 0 where
   typed : AreBindingsOf env allowed vars bs
   over : IsOver defs env pass.locals (let_variables vars bs) pass.next
 
 -- what a variable of a `let` and what is behind it keep
-bound_kept : (w : Whole) (allowed : Bool) (ty : Option TypeId) (sites : List Site) → AreKept w allowed (BoundAt ty ∷ sites) → AreKept w allowed sites
-bound_kept w allowed ty sites k = record { placed = k.placed; known = k.known; typed = (or_parts (not (is_some ty)) (list_any (is_mistyped w) sites) k.typed).1; ruled = k.ruled; partial = k.partial }
+bound_kept : (w : Whole) (allowed : Allowed) (ty : Option TypeId) (sites : List Site) → AreKept w allowed (BoundAt ty ∷ sites) → AreKept w allowed sites
+bound_kept w allowed ty sites k = record { placed = k.placed; known = k.known; typed = (or_parts (not (is_some ty)) (list_any (is_mistyped w) sites) k.typed).1; ruled = k.ruled; partial = k.partial; impure = k.impure }
 
 -- a variable of the type that is expected
-variable_typed : (defs : List Def) (env : Environment) (allowed : Bool) (locals : List Local) (vars : List (TypeId × ℕ)) (next : ℕ) (ty : TypeId) (name : List ℕ) (x : CoreExpr) → IsOver defs env locals vars next → local_tree (local_named locals name) ≡ Some x
+variable_typed : (defs : List Def) (env : Environment) (allowed : Allowed) (locals : List Local) (vars : List (TypeId × ℕ)) (next : ℕ) (ty : TypeId) (name : List ℕ) (x : CoreExpr) → IsOver defs env locals vars next → local_tree (local_named locals name) ≡ Some x
     → AreKept (whole_of defs) allowed (UsedAt (Some ty) (local_type (local_named locals name)) ∷ []) → IsExprOf env allowed vars ty x
 variable_typed defs env allowed locals vars next ty name x over h kept =
     let m = mapped (λ (v : TypeId × VarId). core_expr.Var v.0 v.1) (typed_local (local_named locals name)) x h in
@@ -393,7 +358,7 @@ variable_typed defs env allowed locals vars next ty name x over h kept =
     subst (IsExprOf env allowed vars ty) m.is (is, subst (λ (t : TypeId). Contains vars (t, m.from.1.0)) is there)
 
 -- so a constant
-named_typed : (defs : List Def) (env : Environment) (allowed : Bool) (vars : List (TypeId × ℕ)) (ty : TypeId) (name : List ℕ) (x : CoreExpr) → IsTypedIn defs env → constant_tree (type_env_of defs) (constant_type (whole_of defs) name) name ≡ Some x
+named_typed : (defs : List Def) (env : Environment) (allowed : Allowed) (vars : List (TypeId × ℕ)) (ty : TypeId) (name : List ℕ) (x : CoreExpr) → IsTypedIn defs env → constant_tree (type_env_of defs) (constant_type (whole_of defs) name) name ≡ Some x
     → AreKept (whole_of defs) allowed (ConstantAt false (Some ty) (constant_type (whole_of defs) name) ∷ []) → IsExprOf env allowed vars ty x
 named_typed defs env allowed vars ty name x g h kept =
     let w = whole_of defs in
@@ -406,7 +371,7 @@ named_typed defs env allowed vars ty name x g h kept =
 
 mutual
   -- an expression whose parts break no row, and use no term that has a rule, is of the type that is expected
-  pub expr_typed : (defs : List Def) (env : Environment) (allowed : Bool) (locals : List Local) (vars : List (TypeId × ℕ)) (next : ℕ) (ty : TypeId) (e : Expr) (x : CoreExpr) → IsOver defs env locals vars next → (expr_pass (whole_of defs) locals next (Some ty) e).tree ≡ Some x
+  pub expr_typed : (defs : List Def) (env : Environment) (allowed : Allowed) (locals : List Local) (vars : List (TypeId × ℕ)) (next : ℕ) (ty : TypeId) (e : Expr) (x : CoreExpr) → IsOver defs env locals vars next → (expr_pass (whole_of defs) locals next (Some ty) e).tree ≡ Some x
       → AreKept (whole_of defs) allowed (expr_pass (whole_of defs) locals next (Some ty) e).sites → IsExprOf env allowed vars ty x
   expr_typed defs env allowed locals vars next ty (tree.Number n) x over h kept =
       let m = mapped (λ (v : TypeId × ℤ). core_expr.ConstInt v.0 v.1) (typed_integer (type_env_of defs) (Some ty) n) x h in
@@ -426,7 +391,7 @@ mutual
       let bound = lets_pass w locals next ls in
       let result = expr_pass w bound.locals bound.next (Some ty) inner in
       let m = let_is bound.trees result.tree x h in
-      let k = kept_parts w allowed bound.sites result.sites (record { placed = kept.placed; known = kept.known; typed = kept.typed; ruled = kept.ruled; partial = kept.partial }) in
+      let k = kept_parts w allowed bound.sites result.sites (record { placed = kept.placed; known = kept.known; typed = kept.typed; ruled = kept.ruled; partial = kept.partial; impure = kept.impure }) in
       let b = lets_typed defs env allowed locals vars next ls m.bindings over m.bindings_are k.0 in
       let typed = expr_typed defs env allowed bound.locals (let_variables vars m.bindings) bound.next ty inner m.inner b.over m.inner_is k.1 in
       subst (IsExprOf env allowed vars ty) m.is (type_is env allowed (let_variables vars m.bindings) ty m.inner typed, b.typed, typed)
@@ -439,7 +404,7 @@ mutual
       (λ t y e k. call_typed defs env allowed locals vars next t name es y o over refl k e (λ tys xs count found j. exprs_typed defs env allowed locals vars next tys es xs over count found j)) h kept
 
   -- so of expressions in order
-  exprs_typed : (defs : List Def) (env : Environment) (allowed : Bool) (locals : List Local) (vars : List (TypeId × ℕ)) (next : ℕ) (tys : List TypeId) (es : Exprs) (xs : CoreExprs) → IsOver defs env locals vars next → count_of es ≡ length tys
+  exprs_typed : (defs : List Def) (env : Environment) (allowed : Allowed) (locals : List Local) (vars : List (TypeId × ℕ)) (next : ℕ) (tys : List TypeId) (es : Exprs) (xs : CoreExprs) → IsOver defs env locals vars next → count_of es ≡ length tys
       → (exprs_pass (whole_of defs) locals next (map Some tys) es).trees ≡ Some xs → AreKept (whole_of defs) allowed (exprs_pass (whole_of defs) locals next (map Some tys) es).sites → AreExprsOf env allowed vars tys xs
   exprs_typed defs env allowed locals vars next [] NoExpr xs over count h kept = subst (AreExprsOf env allowed vars []) (same_Some core_expr.NoExpr xs h) tt
   exprs_typed defs env allowed locals vars next [] (AnExpr e es) xs over count h kept = absurd (omega arith)
@@ -454,7 +419,7 @@ mutual
       subst (AreExprsOf env allowed vars (ty ∷ tys)) b.all (expr_typed defs env allowed locals vars next ty e b.first over b.here k.0, exprs_typed defs env allowed locals vars one.next tys es b.others later (omega arith) b.found k.1)
 
   -- and of the variables of a `let`
-  lets_typed : (defs : List Def) (env : Environment) (allowed : Bool) (locals : List Local) (vars : List (TypeId × ℕ)) (next : ℕ) (ls : Lets) (bs : LetBindings) → IsOver defs env locals vars next → (lets_pass (whole_of defs) locals next ls).trees ≡ Some bs
+  lets_typed : (defs : List Def) (env : Environment) (allowed : Allowed) (locals : List Local) (vars : List (TypeId × ℕ)) (next : ℕ) (ls : Lets) (bs : LetBindings) → IsOver defs env locals vars next → (lets_pass (whole_of defs) locals next ls).trees ≡ Some bs
       → AreKept (whole_of defs) allowed (lets_pass (whole_of defs) locals next ls).sites → AreTypedLets defs env allowed vars bs (lets_pass (whole_of defs) locals next ls)
   lets_typed defs env allowed locals vars next NoLet bs over h kept =
       subst (λ (y : LetBindings). AreTypedLets defs env allowed vars y (lets_pass (whole_of defs) locals next NoLet)) (same_Some NoBinding bs h) (record { typed = tt; over = over })

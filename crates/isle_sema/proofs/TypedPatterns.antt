@@ -23,19 +23,19 @@ use Rattle.isle_core.proofs.Contained.{head_contained, tail_contained}
 use Rattle.isle_ast.specs.Tree as tree
 use Rattle.isle_ast.specs.Tree.{Pattern, Patterns, NoPattern, APattern, Def}
 use Rattle.isle_declarations.specs.Signatures.{Signature, term_named}
-use Rattle.isle_declarations.specs.Symbols.{index_of, sym_of}
+use Rattle.isle_declarations.specs.Symbols.{sym_of}
 use Rattle.isle_declarations.specs.Terms.{terms}
 use Rattle.isle_types.specs.Builtins.{type_id}
 use Rattle.isle_types.specs.TypeEnvironment.{type_env_of}
 use Rattle.isle_terms.specs.Whole.{whole_of}
 use Rattle.isle_sema.specs.PatternPass.{PatternPass, term_tree, pattern_within, taken_by, and_tree, is_blank, bound_tree, count_of, of_each, first_expected, later_expected, pattern_pass, patterns_pass}
-use Rattle.isle_sema.specs.Reduced.{typed_integer}
+use Rattle.isle_terms.specs.Reduced.{typed_integer}
 use Rattle.isle_sema.specs.RuleRows.{differ, is_taken_misfit, is_untaken, is_mistaken, is_misplaced, is_undeclared, is_other_type, is_met_otherwise}
-use Rattle.isle_sema.specs.Scope.{Scope, scope_names, bound_at, met, variable}
+use Rattle.isle_sema.specs.Scope.{Scope, found_in, bound_at, met, variable}
 use Rattle.isle_sema.specs.Site.{Site, TruthAt, PartAt, MetAt, TakenAt}
-use Rattle.isle_sema.specs.TypedRule.{typed_variables, typed_within, all_typed}
+use Rattle.isle_core.specs.TypedVariables.{typed_variables, typed_within, all_typed}
 use Rattle.isle_terms.specs.TypeNames.{type_named}
-use Rattle.isle_sema.specs.Expected.{takes_truths}
+use Rattle.isle_terms.specs.Expected.{takes_truths}
 use Rattle.isle_terms.specs.Whole.{Whole, termed, has_extractor, arg_types, ret_type, number_of, constant_type}
 use Rattle.isle_terms.specs.Converters.{conversion, within}
 use Rattle.isle_sema.proofs.Conversions.{IsConversion}
@@ -43,7 +43,7 @@ use Rattle.isle_sema.proofs.Firsts.{any_parts}
 use Rattle.isle_terms.proofs.MadeTerms.{first_there}
 use Rattle.isle_sema.proofs.OpenedTerms.{IsOpened}
 pub use Rattle.isle_sema.proofs.RuleRoots.{IsMapped, mapped}
-use Rattle.isle_sema.proofs.ScopeLaws.{variable_is, met_again, bound_new, variable_other}
+use Rattle.isle_sema.proofs.ScopeLaws.{local_bound, met_again, bound_new, variable_other}
 use Rattle.isle_sema.proofs.TypedConstants.{integer_typed, truth_typed}
 
 -- two types that don't differ are one
@@ -141,13 +141,13 @@ bound_type ty of (Some (Some t)) e h = let is : t ≡ of = cc in sym is ∙ same
 -- a variable that is met has the type that is expected
 met_type : (scope : Scope) (name : List ℕ) (ty : TypeId) (v : TypeId × VarId) (o : Option (Option TypeId)) → bound_at scope name ≡ o → variable (met scope name (Some ty)) name ≡ Some v → is_other_type o (Some ty) ≡ false → v.0 ≡ ty
 met_type scope name ty v None is h k =
-    let v_is = variable_is (bound_at (met scope name (Some ty)) name) (index_of (scope_names (met scope name (Some ty))) name) v h in
-    let same : Some (Some v.0) ≡ Some (Some ty) = sym v_is.bound_is ∙ bound_new scope name (Some ty) is in
+    let v_is = local_bound (found_in (met scope name (Some ty)).variables name) v h in
+    let same : Some (Some v.0) ≡ Some (Some ty) = sym v_is ∙ bound_new scope name (Some ty) is in
     cc
 met_type scope name ty v (Some of) is h k =
-    let v_is = variable_is (bound_at (met scope name (Some ty)) name) (index_of (scope_names (met scope name (Some ty))) name) v h in
+    let v_is = local_bound (found_in (met scope name (Some ty)).variables name) v h in
     let stays : bound_at (met scope name (Some ty)) name ≡ Some of = ap (λ (s : Scope). bound_at s name) (met_again scope name (Some ty) of is) ∙ is in
-    bound_type ty v.0 (Some of) (sym stays ∙ v_is.bound_is) k
+    bound_type ty v.0 (Some of) (sym stays ∙ v_is) k
 
 -- patterns of a list are the parts of a pattern
 parts_of : (env : Environment) (tys : List TypeId) (qs : List CorePattern) → ArePatternsOf env tys qs → ArePartsOf env (Some tys) (core_patterns qs)
@@ -256,7 +256,7 @@ bind_typed defs env ty scope name p q false go h well =
 
 mutual
   -- a pattern at this type is of it
-  pattern_typed : (defs : List Def) (env : Environment) (ty : TypeId) (scope : Scope) (p : Pattern) (q : CorePattern) → KnowsTerms defs env → env.types ≡ type_env_of defs → (pattern_pass (whole_of defs) (Some ty) scope p).tree ≡ Some q
+  pub pattern_typed : (defs : List Def) (env : Environment) (ty : TypeId) (scope : Scope) (p : Pattern) (q : CorePattern) → KnowsTerms defs env → env.types ≡ type_env_of defs → (pattern_pass (whole_of defs) (Some ty) scope p).tree ≡ Some q
       → AreTakenWell (whole_of defs) (pattern_pass (whole_of defs) (Some ty) scope p).sites → IsPatternOf env ty q
   pattern_typed defs env ty scope (tree.Int n) q knows types h well =
       let m = mapped (λ (v : TypeId × ℤ). core_pattern.ConstInt v.0 v.1) (typed_integer (type_env_of defs) (Some ty) n) q h in
@@ -341,7 +341,7 @@ bind_stands w expected scope x p q name v false go h at =
 
 mutual
   -- a variable after a pattern stands in it, or was there before
-  stands_in : (w : Whole) (expected : Option TypeId) (scope : Scope) (p : Pattern) (q : CorePattern) (name : List ℕ) (v : TypeId × VarId) → (pattern_pass w expected scope p).tree ≡ Some q
+  pub stands_in : (w : Whole) (expected : Option TypeId) (scope : Scope) (p : Pattern) (q : CorePattern) (name : List ℕ) (v : TypeId × VarId) → (pattern_pass w expected scope p).tree ≡ Some q
       → variable (pattern_pass w expected scope p).scope name ≡ Some v → (variable scope name ≡ Some v) ⊎ Contains (typed_variables q) (v.0, v.1.0)
   stands_in w expected scope (tree.Int n) q name v h at = inl at
   stands_in w expected scope (tree.Truth b) q name v h at = inl at

@@ -1,5 +1,5 @@
 -- The rules of an environment have the types of their terms.
-use Rattle.std.proofs.Common.{◌≡◌, ⊎_elim, ℕ, suc, ◌+◌, Bool, true, false, cond, List, [], ◌∷◌, ◌++◌, length, map, Option, Some, None, refl, sym, ap, ◌∙◌, subst, arith}
+use Rattle.std.proofs.Common.{◌≡◌, ℕ, suc, ◌+◌, Bool, true, false, cond, List, [], ◌∷◌, ◌++◌, length, map, Option, Some, None, refl, sym, ap, ◌∙◌, subst, arith}
 use Rattle.std.specs.Prelude.{◌==◌, ◌&&◌, not, All, slice_get, filter}
 use Rattle.std.specs.List.{AllByRecursion, list_any}
 use Rattle.std.proofs.lemmas.Bool.{or_parts, eqb-true, not-false}
@@ -17,7 +17,7 @@ use Rattle.isle_core.specs.declared.types.ExtractorKind.{ExtractorKind}
 use Rattle.isle_core.specs.declared.types.TypeEnv.{TypeEnv}
 use Rattle.isle_core.specs.Calling.{kind_of, may_be_nothing}
 use Rattle.isle_core.specs.Constants.{const_type}
-use Rattle.isle_core.specs.Rule.{Rule, IfLet, Environment, rules_of}
+use Rattle.isle_core.specs.Rule.{Rule, Environment, rules_of}
 use Rattle.isle_ast.specs.Tree as tree
 use Rattle.isle_ast.specs.Tree.{Pattern, Def}
 use Rattle.isle_ast.specs.Views.{patterns_of as seen_patterns}
@@ -35,34 +35,36 @@ use Rattle.isle_declarations.proofs.SymbolLaws.{index_below}
 use Rattle.isle_types.specs.TypeRows.{on}
 use Rattle.isle_sema.specs.Language.{is_ruled, uses_ruled}
 use Rattle.isle_sema.specs.Locals.{of_patterns}
-use Rattle.isle_sema.specs.Scope.{variable}
-use Rattle.isle_sema.specs.Site.{Site, NotBuiltAt}
+use Rattle.isle_sema.specs.Scope.{no_variables}
 use Rattle.isle_terms.specs.TypeNames.{type_named}
 use Rattle.isle_terms.specs.Whole.{Whole, termed, arg_types, ret_type}
 use Rattle.isle_sema.specs.PatternPass.{PatternsPass, patterns_pass, count_of}
 use Rattle.isle_sema.specs.ExprPass.{ExprPass, expr_pass}
-use Rattle.isle_sema.specs.RulePass.{patterns_of, right_side_of, conditions_of, rule_pass, rules_pass}
+use Rattle.isle_sema.specs.RulePass.{patterns_of, right_side_of, conditions_of, left_of, rule_pass, rules_pass}
 use Rattle.isle_sema.specs.RuleRows.{is_untaken, is_mistaken, is_misplaced, is_undeclared, is_met_otherwise, is_unknown, is_mistyped}
 use Rattle.isle_terms.specs.Whole.{whole_of}
 use Rattle.isle_terms.specs.TermPass.{constructor_named, extracting_named, kind_from}
 use Rattle.isle_sema.specs.Judging.{is_partial_call}
 use Rattle.isle_sema.specs.Taken.{row_of}
 use Rattle.isle_sema.specs.Typing.{Typed}
-use Rattle.isle_sema.specs.TypedRule.{IsExprOf, all_typed, IsRuleOf, IsTypedRule}
+use Rattle.isle_core.specs.ExprType.{in_condition, in_right_side, IsExprOf}
+use Rattle.isle_core.specs.TypedVariables.{all_typed, rule_typed}
+use Rattle.isle_sema.specs.TypedRule.{IsRuleOf, IsTypedRule}
 use Rattle.isle_sema.proofs.BuiltForms.{IsPlain}
 use Rattle.isle_sema.proofs.Conversions.{conversion_is}
 use Rattle.isle_sema.proofs.Firsts.{any_parts}
 use Rattle.isle_sema.proofs.Judgements.{row_fails}
-use Rattle.isle_sema.proofs.LocalLaws.{pattern_variable}
+use Rattle.isle_sema.proofs.KeptParts.{AreKept, kept_parts}
 use Rattle.isle_sema.proofs.MadeForms.{constant_typed}
 use Rattle.isle_terms.proofs.MadeTerms.{first_there, term_made, term_is, types_are, all_at}
 use Rattle.isle_sema.proofs.OpenedTerms.{opened_term}
 use Rattle.isle_sema.proofs.RuleLaws.{is_broken, none_fault, none_is}
 use Rattle.isle_sema.proofs.RuleRoots.{place_of, signature_at, rule_made}
-use Rattle.isle_sema.proofs.TypedExprs.{AreKept, IsOver, expr_typed}
+use Rattle.isle_sema.proofs.TypedConditions.{patterns_stage, stage_over, conditions_typed}
+use Rattle.isle_sema.proofs.TypedExprs.{expr_typed}
 use Rattle.isle_sema.proofs.TypedParts.{IsTypedIn, typed_in}
-use Rattle.isle_sema.proofs.TypedPatterns.{KnowsTerms, AreTakenWell, patterns_typed, variable_stands}
-use Rattle.isle_sema.proofs.VariableTypes.{have_one_type, have_places}
+use Rattle.isle_sema.proofs.TypedPatterns.{KnowsTerms, AreTakenWell, taken_parts, patterns_typed}
+use Rattle.isle_sema.proofs.VariableTypes.{have_one_type}
 use Rattle.isle_sema.proofs.TypedTerms.{IsPlainTerm, plain_terms, is_there}
 
 -- ---- what a rule's term is
@@ -115,10 +117,6 @@ kind_answers w s ret origin.Struct k plain answers is = ap (λ (x : TermKind). m
 
 -- ---- a rule that breaks no row
 
-no_iflets : (cs : List tree.IfLet) (iflets : List IfLet) → conditions_of cs ≡ Some iflets → iflets ≡ []
-no_iflets [] iflets h = sym (same_Some [] iflets h)
-no_iflets (c ∷ cs) iflets h = absurd cc
-
 counted : (ps : List Pattern) → count_of (seen_patterns ps) ≡ length ps
 counted [] = refl
 counted (p ∷ ps) = ap suc (counted ps)
@@ -131,8 +129,8 @@ knows defs env g = record {
   constant = λ name ty h. ap (λ (ts : TypeEnv). const_type env (sym_of ts.syms name)) (sym g.types) ∙ constant_typed defs env name ty g.types h;
 }
 
-rule_typed : (defs : List Def) (env : Environment) (i : ℕ) (r : RuleDef) (x : Rule) → IsTypedIn defs env → row_of (whole_of defs) r ≡ None → uses_ruled (whole_of defs) r ≡ false → rule_pass (whole_of defs) i r ≡ Some x → IsTypedRule env x
-rule_typed defs env i r x g row unruled h =
+rule_is_typed : (defs : List Def) (env : Environment) (i : ℕ) (r : RuleDef) (x : Rule) → IsTypedIn defs env → row_of (whole_of defs) r ≡ None → uses_ruled (whole_of defs) r ≡ false → rule_pass (whole_of defs) i r ≡ Some x → IsTypedRule env x
+rule_is_typed defs env i r x g row unruled h =
     let w = whole_of defs in
     let m = rule_made w i r x h in
     let d = signature_there w r.term x.root_term m.root in
@@ -143,17 +141,18 @@ rule_typed defs env i r x g row unruled h =
     let tys = types_are defs s.args t.term.arg_tys is.args in
     let f = row_fails w r row in
     let ps = (patterns_of w r).sites in
+    let cs = (conditions_of w r).sites in
     let rs = (right_side_of w r).sites in
-    let cs : List Site = map (λ (c : tree.IfLet). NotBuiltAt) r.iflets in
-    let a = or_parts (on (termed w r.term) (λ (y : Signature). not (length r.args == length y.args))) (list_any (is_untaken w) (ps ++ (cs ++ rs))) f.arity in
-    let p = any_parts (is_misplaced w) ps (cs ++ rs) f.literal in
-    let u = any_parts (is_unknown w) ps (cs ++ rs) f.name in
-    let v = any_parts (is_mistyped w) ps (cs ++ rs) f.typing in
-    let used = any_parts (is_ruled w) ps (cs ++ rs) unruled in
-    let patterns : patterns_pass w (map Some t.term.arg_tys) [] (seen_patterns r.args) ≡ patterns_of w r = ap (λ os. patterns_pass w os [] (seen_patterns r.args)) (sym tys) ∙ ap (λ o. patterns_pass w (arg_types w o) [] (seen_patterns r.args)) (sym d.1) in
-    let scope = (patterns_of w r).scope in
-    let right : expr_pass w (of_patterns scope) (length scope) (Some t.term.ret_ty) r.rhs ≡ right_side_of w r =
-    ap (λ o. expr_pass w (of_patterns scope) (length scope) o r.rhs) (sym is.ret) ∙ ap (λ o. expr_pass w (of_patterns scope) (length scope) (ret_type w o) r.rhs) (sym d.1) in
+    let a = or_parts (on (termed w r.term) (λ (y : Signature). not (length r.args == length y.args))) (list_any (is_untaken w) (left_of w r ++ rs)) f.arity in
+    let p = any_parts (is_misplaced w) (left_of w r) rs f.literal in
+    let u = any_parts (is_unknown w) (left_of w r) rs f.name in
+    let v = any_parts (is_mistyped w) (left_of w r) rs f.typing in
+    let used = any_parts (is_ruled w) (left_of w r) rs unruled in
+    let patterns : patterns_pass w (map Some t.term.arg_tys) no_variables (seen_patterns r.args) ≡ patterns_of w r =
+    ap (λ os. patterns_pass w os no_variables (seen_patterns r.args)) (sym tys) ∙ ap (λ o. patterns_pass w (arg_types w o) no_variables (seen_patterns r.args)) (sym d.1) in
+    let scope = (conditions_of w r).scope in
+    let right : expr_pass w (of_patterns scope) scope.next (Some t.term.ret_ty) r.rhs ≡ right_side_of w r =
+    ap (λ o. expr_pass w (of_patterns scope) scope.next o r.rhs) (sym is.ret) ∙ ap (λ o. expr_pass w (of_patterns scope) scope.next (ret_type w o) r.rhs) (sym d.1) in
     let arity : not (length r.args == length s.args) ≡ false = ap (λ (o : Option Signature). on o (λ (y : Signature). not (length r.args == length y.args))) (sym d.1) ∙ a.0 in
     let count : count_of (seen_patterns r.args) ≡ length t.term.arg_tys =
     counted r.args ∙ eqb-true (length r.args) (length s.args) (not-false (length r.args == length s.args) arity) ∙ sym (length-map s.args (type_named defs)) ∙ ap length tys ∙ length-map t.term.arg_tys Some in
@@ -161,29 +160,28 @@ rule_typed defs env i r x g row unruled h =
     let answers = all_at Answers (terms defs) x.root_term.0 s (made_answer defs) at in
     let allowed : may_be_nothing (kind_of t.term.kind) ≡ s.partial = kind_answers w s t.term.ret_ty s.origin t.term.kind plain answers (ap (λ (y : Term). y.kind) is.is) in
     let calls : not s.partial && list_any is_partial_call rs ≡ false = ap (λ (o : Option Signature). on o (λ (y : Signature). not y.partial && list_any is_partial_call rs)) (sym d.1) ∙ f.partial in
-    let over : IsOver defs env (of_patterns scope) (all_typed x.args) (length scope) = record {
-      given = g;
-      bound = λ name l ty found typed. ⊎_elim (λ (was : variable [] name ≡ Some (ty, record { 0 = l.number })). absurd cc) (λ c. c)
-          (variable_stands w (arg_types w (termed w r.term)) [] (seen_patterns r.args) x.args name (ty, record { 0 = l.number }) m.args (pattern_variable scope name l ty found typed));
-      below = have_places w (arg_types w (termed w r.term)) [] (seen_patterns r.args) x.args m.args;
-    } in
-    let kept : AreKept w s.partial rs = record { placed = (any_parts (is_misplaced w) cs rs p.1).1; known = (any_parts (is_unknown w) cs rs u.1).1; typed = (any_parts (is_mistyped w) cs rs v.1).1; ruled = (any_parts (is_ruled w) cs rs used.1).1; partial = calls } in
-    let well : AreTakenWell w ps = record {
-      taken = (any_parts (is_untaken w) ps (cs ++ rs) a.1).0;
-      types = (any_parts (is_mistaken w) ps (cs ++ rs) f.taken).0;
+    let well : AreTakenWell w (left_of w r) = record {
+      taken = (any_parts (is_untaken w) (left_of w r) rs a.1).0;
+      types = (any_parts (is_mistaken w) (left_of w r) rs f.taken).0;
       placed = p.0;
-      declared = (any_parts is_undeclared ps (cs ++ rs) f.constants).0;
-      again = (any_parts is_met_otherwise ps (cs ++ rs) f.met).0;
+      declared = (any_parts is_undeclared (left_of w r) rs f.constants).0;
+      again = (any_parts is_met_otherwise (left_of w r) rs f.met).0;
     } in
+    let before : AreKept w in_condition (left_of w r) = record { placed = p.0; known = u.0; typed = v.0; ruled = used.0; partial = refl; impure = f.condition } in
+    let kept : AreKept w (in_right_side s.partial) rs = record { placed = p.1; known = u.1; typed = v.1; ruled = used.1; partial = calls; impure = refl } in
+    let halves = taken_parts w ps cs well in
+    let k = knows defs env g in
+    let conditions = conditions_typed defs env (patterns_of w r).scope (all_typed x.args) r.iflets x.iflets g k (patterns_stage w (arg_types w (termed w r.term)) (seen_patterns r.args) x.args m.args) m.iflets (kept_parts w in_condition ps cs before).1 halves.1 in
+    let over = stage_over defs env scope (rule_typed x) scope.next g conditions.stage (omega arith) in
     record {
       term = t.term;
       root = t.there;
       typed = record {
-        args = patterns_typed defs env t.term.arg_tys [] (seen_patterns r.args) x.args (knows defs env g) g.types count (ap (λ (y : PatternsPass). y.trees) patterns ∙ m.args) (subst (λ (y : PatternsPass). AreTakenWell w y.sites) (sym patterns) well);
-        variables = have_one_type w (arg_types w (termed w r.term)) [] (seen_patterns r.args) x.args m.args;
-        iflets = no_iflets r.iflets x.iflets m.iflets;
-        rhs = subst (λ b. IsExprOf env b (all_typed x.args) t.term.ret_ty x.rhs) (sym allowed)
-            (expr_typed defs env s.partial (of_patterns scope) (all_typed x.args) (length scope) t.term.ret_ty r.rhs x.rhs over (ap (λ (y : ExprPass). y.tree) right ∙ m.rhs) (subst (λ (y : ExprPass). AreKept w s.partial y.sites) (sym right) kept));
+        args = patterns_typed defs env t.term.arg_tys no_variables (seen_patterns r.args) x.args k g.types count (ap (λ (y : PatternsPass). y.trees) patterns ∙ m.args) (subst (λ (y : PatternsPass). AreTakenWell w y.sites) (sym patterns) halves.0);
+        variables = have_one_type scope (rule_typed x) conditions.stage.numbered conditions.stage.stand;
+        iflets = conditions.typed;
+        rhs = subst (λ b. IsExprOf env (in_right_side b) (rule_typed x) t.term.ret_ty x.rhs) (sym allowed)
+            (expr_typed defs env (in_right_side s.partial) (of_patterns scope) (rule_typed x) scope.next t.term.ret_ty r.rhs x.rhs over (ap (λ (y : ExprPass). y.tree) right ∙ m.rhs) (subst (λ (y : ExprPass). AreKept w (in_right_side s.partial) y.sites) (sym right) kept));
       };
     }
 
@@ -196,7 +194,7 @@ rules_typed defs env i (r ∷ rules) xs g rows unruled h =
     let k = or_parts (is_broken w r) (list_any (is_broken w) rules) rows in
     let c = or_parts (uses_ruled w r) (list_any (uses_ruled w) rules) unruled in
     subst (AllByRecursion (IsTypedRule env)) (sym f.all)
-    (rule_typed defs env i r f.first g (none_is (row_of w r) k.0) c.0 f.here, rules_typed defs env (i + 1) rules f.others g k.1 c.1 f.found)
+    (rule_is_typed defs env i r f.first g (none_is (row_of w r) k.0) c.0 f.here, rules_typed defs env (i + 1) rules f.others g k.1 c.1 f.found)
 
 -- the rules of an environment are typed
 pub typed_rules : (defs : List Def) (env : Environment) → Typed defs env → All (IsTypedRule env) env.rules

@@ -69,8 +69,8 @@ body_all P ty (Struct fields) pos rest own h = (own _ refl refl, h)
 
 -- ---- its kind
 
-pub plain_kind : (pure multi partial recursive : Bool) (by : ConstructorKind) (how : ExtractorKind) → pure ≡ false → multi ≡ false → recursive ≡ false → kind.Decl false false partial false by how ≡ kind.Decl pure multi partial recursive by how
-plain_kind pure multi partial recursive by how p m r = ap (λ b. kind.Decl b false partial false by how) (sym p) ∙ ap (λ b. kind.Decl pure b partial false by how) (sym m) ∙ ap (λ b. kind.Decl pure multi partial b by how) (sym r)
+pub plain_kind : (pure multi partial recursive : Bool) (by : ConstructorKind) (how : ExtractorKind) → multi ≡ false → recursive ≡ false → kind.Decl pure false partial false by how ≡ kind.Decl pure multi partial recursive by how
+plain_kind pure multi partial recursive by how m r = ap (λ b. kind.Decl pure b partial false by how) (sym m) ∙ ap (λ b. kind.Decl pure multi partial b by how) (sym r)
 
 -- an extractor is none, or an external one
 abbrev pub IsOuterExtractor : ExtractorKind → Type 0
@@ -82,7 +82,7 @@ outer_extractor : (syms : List (List ℕ)) (o : Option ExtractorDef) → IsOuter
 outer_extractor syms None = tt
 outer_extractor syms (Some x) = tt
 
--- a term that no type makes has at most the flag `partial`
+-- a term that no type makes is neither `multi` nor `rec`
 abbrev pub IsPlainTerm : Signature → Type 0
 IsPlainTerm s = is_made s.origin ≡ false → IsPlain s
 
@@ -92,9 +92,9 @@ made_plain s pos made at other = let bad : true ≡ false = sym made ∙ other i
 pub plain_terms : (ds : List Def) → list_all is_built_def ds ≡ true → AllByRecursion IsPlainTerm (terms ds)
 plain_terms [] h = tt
 plain_terms (tree.Decl term pure multi partial recursive args ret pos ∷ ds) h =
-    let k = and_parts (not pure && not multi && not recursive) (list_all is_built_def ds) h in
-    let f = plain_flags pure multi recursive k.0 in
-    (λ e. record { pure = f.0; multi = f.1; recursive = f.2 }, plain_terms ds k.1)
+    let k = and_parts (not multi && not recursive) (list_all is_built_def ds) h in
+    let f = plain_flags multi recursive k.0 in
+    (λ e. record { multi = f.0; recursive = f.1 }, plain_terms ds k.1)
 plain_terms (tree.TypeDecl name is_extern is_nodebug body pos ∷ ds) h = body_all IsPlainTerm name body pos (terms ds) (λ s made at. made_plain s pos made at) (plain_terms ds h)
 plain_terms (tree.ExternConstructor term func pos ∷ ds) h = plain_terms ds h
 plain_terms (tree.Rule name prio term args iflets rhs pos ∷ ds) h = plain_terms ds (and_parts (is_built_def (tree.Rule name prio term args iflets rhs pos)) (list_all is_built_def ds) h).1
@@ -104,13 +104,14 @@ plain_terms (tree.Extractor term params template pos ∷ ds) h = absurd cc
 plain_terms (tree.Converter from to term pos ∷ ds) h = plain_terms ds h
 plain_terms (tree.Passed head items pos ∷ ds) h = plain_terms ds h
 
--- a term of this kind is declared, with at most the flag `partial`, and no extractor or an external one
+-- a term of this kind is declared, neither `multi` nor `rec`, with no extractor or an external one
 pub record IsPlainKind (k : TermKind) : Type 0 where
+  pub pure : Bool
   pub partial : Bool
   pub by : ConstructorKind
   pub how : ExtractorKind
   pub outer : IsOuterExtractor how
-  pub is : kind.Decl false false partial false by how ≡ k
+  pub is : kind.Decl pure false partial false by how ≡ k
 
 kind_plain : (w : Whole) (s : Signature) (ret : TypeId) (from : Origin) (k : TermKind) → (is_made from ≡ false → IsPlain s) → kind_from w s ret from ≡ k → is_made_kind k ≡ false → IsPlainKind k
 kind_plain w s ret origin.Declared k plain is other =
@@ -118,16 +119,17 @@ kind_plain w s ret origin.Declared k plain is other =
     let by = constructor_named w s.term in
     let how = extracting_named w s.term in
     record {
+      pure = s.pure;
       partial = s.partial;
       by = by;
       how = how;
       outer = outer_extractor w.types.syms (extractor_named (extractors w.defs) s.term);
-      is = plain_kind s.pure s.multi s.partial s.recursive by how flags.pure flags.multi flags.recursive ∙ is;
+      is = plain_kind s.pure s.multi s.partial s.recursive by how flags.multi flags.recursive ∙ is;
     }
 kind_plain w s ret (origin.Variant n) k plain is other = let bad : true ≡ false = ap is_made_kind is ∙ other in absurd cc
 kind_plain w s ret origin.Struct k plain is other = let bad : true ≡ false = ap is_made_kind is ∙ other in absurd cc
 
--- a term that no type makes has at most the flag `partial`, and no extractor or an external one
+-- a term that no type makes is neither `multi` nor `rec`, with no extractor or an external one
 pub typed_kind : (defs : List Def) (env : Environment) (i : ℕ) (t : Term) → Typed defs env → slice_get env.terms i ≡ Some t → is_made_kind t.kind ≡ false → IsPlainKind t.kind
 typed_kind defs env i t h at other =
     let g = typed_in h in

@@ -6,7 +6,7 @@ use Rattle.isle_types.specs.declared.row.Row.{Row}
 use Rattle.isle_types.specs.TypeRows.{type_repeats, field_repeats, field_type_missing, many_fields, made_term_repeats, constant_misfit}
 use Rattle.isle_terms.specs.Context.{Context}
 use Rattle.isle_terms.specs.DeclarationRows.{declaration_repeats, type_missing, many_arguments, multi_and_partial, term_undeclared, second_of_term, converter_misfit, head_misfit}
-use Rattle.isle_sema.specs.RuleRows.{pattern_term_misfit, pattern_type_misfit, literal_misfit, constant_undeclared, variable_type_misfit, expr_name_misfit, expr_type_misfit, partial_call, impure_call, multi_call, many_nodes}
+use Rattle.isle_sema.specs.RuleRows.{pattern_term_misfit, pattern_type_misfit, literal_misfit, constant_undeclared, variable_type_misfit, expr_name_misfit, expr_type_misfit, impure_condition, partial_call, impure_call, multi_call, many_nodes}
 
 -- what a row refuses; nothing is said yet of the rows that no definition of a built form can break
 abbrev pub judge : Row → Option (Context → Def → Bool)
@@ -36,7 +36,7 @@ judge row.VariableTypeMisfit = Some variable_type_misfit
 judge row.MultiExtractor = None
 judge row.ExprNameMisfit = Some expr_name_misfit
 judge row.ExprTypeMisfit = Some expr_type_misfit
-judge row.ImpureCondition = None
+judge row.ImpureCondition = Some impure_condition
 judge row.PartialCall = Some partial_call
 judge row.ImpureCall = Some impure_call
 judge row.MultiCall = Some multi_call

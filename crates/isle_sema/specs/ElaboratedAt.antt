@@ -5,21 +5,23 @@ use Rattle.isle_core.specs.declared.TypeId.{TypeId}
 use Rattle.isle_core.specs.declared.rules.Pattern.{Pattern as CodePattern}
 use Rattle.isle_core.specs.declared.rules.Expr.{Expr as CodeExpr}
 use Rattle.isle_core.specs.declared.rules.LetBinding.{LetBinding}
+use Rattle.isle_core.specs.declared.rules.IfLet.{IfLet as CodeIfLet}
 use Rattle.isle_core.specs.Pattern.{Pattern as CorePattern}
 use Rattle.isle_core.specs.Expr.{Exprs as CoreExprs, LetBindings}
-use Rattle.isle_core.specs.RuleViews.{pattern as elaborated_pattern, expr as elaborated_expr, exprs_of, SeenBinding, bindings_of}
-use Rattle.isle_ast.specs.Tree.{Pattern, Patterns, Expr, Exprs, Lets}
+use Rattle.isle_core.specs.Rule.{IfLet as CoreIfLet}
+use Rattle.isle_core.specs.RuleViews.{pattern as elaborated_pattern, expr as elaborated_expr, iflet as elaborated_iflet, exprs_of, SeenBinding, bindings_of}
+use Rattle.isle_ast.specs.Tree.{Pattern, Patterns, Expr, Exprs, Lets, IfLet}
 use Rattle.isle_sema.specs.declared.judged.Judged.{Judged}
 use Rattle.isle_sema.specs.declared.sides.Sides.{Sides}
 use Rattle.isle_declarations.specs.Signatures.{RuleDef}
-use Rattle.isle_sema.specs.Locals.{Bound, locals_of, bound_local}
+use Rattle.isle_sema.specs.Locals.{Bound, of_patterns, locals_of, bound_local}
 use Rattle.isle_sema.specs.Scope.{Scope}
 use Rattle.isle_sema.specs.Site.{BoundAt}
 use Rattle.isle_terms.specs.TypeNames.{type_named}
 use Rattle.isle_terms.specs.Whole.{Whole}
 use Rattle.isle_sema.specs.PatternPass.{pattern_pass, patterns_pass}
 use Rattle.isle_sema.specs.ExprPass.{binding_tree, expr_pass, exprs_pass, lets_pass}
-use Rattle.isle_sema.specs.RulePass.{patterns_of, right_side_of}
+use Rattle.isle_sema.specs.RulePass.{patterns_of, condition_pass, conditions_pass, conditions_of, right_side_of, left_of}
 use Rattle.isle_sema.specs.Judging.{unjudged, judge_all}
 
 -- the trees of patterns, where they are there
@@ -88,9 +90,36 @@ pub record AreBindingsAt (w : Whole) (ls : Lets) (old new : Bound) (before after
   pub next : new.next ≡ (lets_pass w (locals_of old) old.next ls).next
   pub sites : after ≡ judge_all w before (lets_pass w (locals_of old) old.next ls).sites
 
--- both sides of a rule
+-- the tree of a condition
+abbrev pub condition_tree : Option CodeIfLet → Option CoreIfLet
+condition_tree found = option_map elaborated_iflet found
+
+-- the trees of conditions
+abbrev pub condition_trees : Option (Vec CodeIfLet) → Option (List CoreIfLet)
+condition_trees found = option_map (λ (cs : Vec CodeIfLet). map elaborated_iflet cs.items) found
+
+-- an expression over the variables of patterns, from this number on to that
+pub record IsExprOver (w : Whole) (expected : Option TypeId) (e : Expr) (scope : Scope) (start : ℕ) (before after : Judged) (found : Option CodeExpr × ℕ) : Type 0 where
+  pub tree : option_map elaborated_expr found.0 ≡ (expr_pass w (of_patterns scope) start expected e).tree
+  pub next : found.1 ≡ (expr_pass w (of_patterns scope) start expected e).next
+  pub sites : after ≡ judge_all w before (expr_pass w (of_patterns scope) start expected e).sites
+
+-- a condition, from these variables to those
+pub record IsConditionAt (w : Whole) (c : IfLet) (old new : Scope) (before after : Judged) (found : Option CodeIfLet) : Type 0 where
+  pub tree : condition_tree found ≡ (condition_pass w old c).tree
+  pub scope : new ≡ (condition_pass w old c).scope
+  pub sites : after ≡ judge_all w before (condition_pass w old c).sites
+
+-- conditions in order
+pub record AreConditionsAt (w : Whole) (cs : List IfLet) (old new : Scope) (before after : Judged) (found : Option (Vec CodeIfLet)) : Type 0 where
+  pub trees : condition_trees found ≡ (conditions_pass w old cs).trees
+  pub scope : new ≡ (conditions_pass w old cs).scope
+  pub sites : after ≡ judge_all w before (conditions_pass w old cs).sites
+
+-- both sides of a rule, and its conditions
 pub record AreSides (w : Whole) (r : RuleDef) (sides : Sides) : Type 0 where
   pub trees : pattern_trees sides.args ≡ (patterns_of w r).trees
   pub tree : option_map elaborated_expr sides.rhs ≡ (right_side_of w r).tree
-  pub left : sides.left ≡ judge_all w unjudged (patterns_of w r).sites
+  pub conditions : condition_trees sides.iflets ≡ (conditions_of w r).trees
+  pub left : sides.left ≡ judge_all w unjudged (left_of w r)
   pub right : sides.right ≡ judge_all w unjudged (right_side_of w r).sites

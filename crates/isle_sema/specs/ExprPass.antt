@@ -11,11 +11,12 @@ use Rattle.isle_core.specs.RightSide.{bool_type}
 use Rattle.isle_core.specs.RuleViews.{SeenBinding}
 use Rattle.isle_ast.specs.Tree as tree
 use Rattle.isle_ast.specs.Tree.{Expr, Exprs, NoExpr, AnExpr, Lets, NoLet, ALet}
-use Rattle.isle_sema.specs.Reduced.{typed_integer}
+use Rattle.isle_terms.specs.Reduced.{typed_integer}
 use Rattle.isle_declarations.specs.Signatures.{Signature, term_named}
 use Rattle.isle_declarations.specs.Symbols.{sym_of}
 use Rattle.isle_declarations.specs.Terms.{terms}
-use Rattle.isle_sema.specs.Locals.{Local, local_named, local_type, typed_local, bound_local}
+use Rattle.isle_sema.specs.Locals.{local_named, bound_local}
+use Rattle.isle_sema.specs.Scope.{Local, local_type, typed_local}
 use Rattle.isle_sema.specs.Site.{Site, IntegerAt, TruthAt, PartAt, UsedAt, CalledAt, ConstantAt, BoundAt}
 use Rattle.isle_terms.specs.Converters.{conversion, within}
 use Rattle.isle_terms.specs.TypeNames.{type_named}

@@ -47,7 +47,7 @@ judge w j site = record {
 abbrev pub judge_all : Whole → Judged → List Site → Judged
 judge_all w j sites = fold (judge w) j sites
 
--- the lowest row that a rule of this term breaks, with so many patterns that are judged so, and its right side so
+-- the lowest row that a rule of this term breaks, with so many patterns, which are judged so with its conditions, and its right side so
 abbrev pub lowest : Called → ℕ → Judged → Judged → Option Row
 lowest own count left right =
     if not (count == length own.args.now) || (left.untaken || right.untaken) then Some row.PatternTermMisfit
@@ -57,6 +57,7 @@ lowest own count left right =
     else if left.met_otherwise || right.met_otherwise then Some row.VariableTypeMisfit
     else if left.unknown || right.unknown then Some row.ExprNameMisfit
     else if left.mistyped || right.mistyped then Some row.ExprTypeMisfit
+    else if left.impure then Some row.ImpureCondition
     else if not own.partial && right.partial then Some row.PartialCall
     else if own.pure && right.impure then Some row.ImpureCall
     else if not own.multi && (left.multi || right.multi) then Some row.MultiCall

@@ -1,24 +1,19 @@
 -- The definitions that are built.
-use Rattle.std.specs.Prelude.{List, [], ◌∷◌, Bool, true, false, ◌&&◌, not}
+use Rattle.std.specs.Prelude.{List, Bool, true, false, ◌&&◌, not}
 use Rattle.std.specs.List.{list_all, list_any}
-use Rattle.isle_ast.specs.Tree.{IfLet, Def, TypeDecl, Decl, ExternConstructor, ExternExtractor, ExternConst, Extractor, Converter, Rule, Passed}
+use Rattle.isle_ast.specs.Tree.{Def, TypeDecl, Decl, ExternConstructor, ExternExtractor, ExternConst, Extractor, Converter, Rule, Passed}
 use Rattle.isle_declarations.specs.Signatures.{Signature, RuleDef, rule_defs, has_rule}
 use Rattle.isle_terms.specs.Whole.{Whole, whole_of}
 use Rattle.isle_sema.specs.RulePass.{sites_of}
 use Rattle.isle_sema.specs.RuleRows.{is_use_of}
 use Rattle.isle_sema.specs.Site.{Site}
 
--- no conditions
-abbrev pub are_none : List IfLet → Bool
-are_none [] = true
-are_none (c ∷ cs) = false
-
--- a type, a constant, a declaration with at most the flag `partial`, an external constructor or extractor, a converter, a rule without
--- conditions, or a list that is passed over
+-- a type, a constant, a declaration that is neither `multi` nor `rec`, an external constructor or extractor, a converter, a rule, or a list
+-- that is passed over
 abbrev pub is_built_def : Def → Bool
-is_built_def (Decl term pure multi partial recursive args ret pos) = not pure && not multi && not recursive
+is_built_def (Decl term pure multi partial recursive args ret pos) = not multi && not recursive
 is_built_def (ExternConstructor term func pos) = true
-is_built_def (Rule name prio term args iflets rhs pos) = are_none iflets
+is_built_def (Rule name prio term args iflets rhs pos) = true
 is_built_def (TypeDecl name is_extern is_nodebug body pos) = true
 is_built_def (ExternExtractor term func infallible pos) = true
 is_built_def (ExternConst name ty pos) = true

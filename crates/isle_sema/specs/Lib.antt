@@ -1,9 +1,8 @@
-pub mod Reduced
 pub mod TypedRule
 pub mod Scope
-pub mod Expected
 pub mod Site
 pub mod PatternPass
+pub mod NewVariables
 pub mod Locals
 pub mod LocalViews
 pub mod ExprPass

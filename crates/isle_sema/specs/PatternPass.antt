@@ -14,7 +14,7 @@ use Rattle.isle_ast.specs.Tree.{Pattern, Patterns, NoPattern, APattern}
 use Rattle.isle_declarations.specs.Signatures.{Signature, term_named}
 use Rattle.isle_declarations.specs.Symbols.{sym_of}
 use Rattle.isle_declarations.specs.Terms.{terms}
-use Rattle.isle_sema.specs.Reduced.{typed_integer}
+use Rattle.isle_terms.specs.Reduced.{typed_integer}
 use Rattle.isle_sema.specs.Scope.{Scope, bound_at, met, variable}
 use Rattle.isle_sema.specs.Site.{Site, IntegerAt, TruthAt, PartAt, MetAt, TakenAt, ConstantAt}
 use Rattle.isle_terms.specs.Converters.{conversion, within}

@@ -5,10 +5,10 @@ use Rattle.isle_core.specs.declared.TypeId.{TypeId}
 use Rattle.isle_ast.specs.Tree.{Def}
 use Rattle.isle_declarations.specs.Signatures.{Signature, RuleDef, rule_of}
 use Rattle.isle_terms.specs.TypeNames.{type_named}
-use Rattle.isle_sema.specs.Expected.{takes_integers, takes_truths}
+use Rattle.isle_terms.specs.Expected.{takes_integers, takes_truths}
 use Rattle.isle_terms.specs.Whole.{Whole, termed, has_constructor, has_extractor}
-use Rattle.isle_sema.specs.Site.{Site, IntegerAt, TruthAt, PartAt, MetAt, UsedAt, CalledAt, TakenAt, ConstantAt, BoundAt, NotBuiltAt}
-use Rattle.isle_sema.specs.RulePass.{right_side_of, sites_of}
+use Rattle.isle_sema.specs.Site.{Site, IntegerAt, TruthAt, PartAt, MetAt, UsedAt, CalledAt, TakenAt, ConstantAt, BoundAt}
+use Rattle.isle_sema.specs.RulePass.{right_side_of, left_of, sites_of}
 use Rattle.isle_types.specs.TypeRows.{on}
 use Rattle.isle_terms.specs.Context.{Context}
 
@@ -34,7 +34,6 @@ is_untaken w (CalledAt expected callee count) = false
 is_untaken w (TakenAt expected callee count) = is_taken_misfit w callee count
 is_untaken w (ConstantAt in_pattern expected found) = false
 is_untaken w (BoundAt ty) = false
-is_untaken w NotBuiltAt = false
 
 -- one stands in a rule, or its head has another number of arguments than its term
 abbrev pub pattern_term_misfit : Context → Def → Bool
@@ -51,7 +50,6 @@ is_mistaken w (CalledAt expected callee count) = false
 is_mistaken w (TakenAt expected callee count) = on callee (λ (s : Signature). differ (type_named w.defs s.ret) expected)
 is_mistaken w (ConstantAt in_pattern expected found) = in_pattern && differ found expected
 is_mistaken w (BoundAt ty) = false
-is_mistaken w NotBuiltAt = false
 
 -- one stands in a rule
 abbrev pub pattern_type_misfit : Context → Def → Bool
@@ -68,7 +66,6 @@ is_misplaced w (CalledAt expected callee count) = false
 is_misplaced w (TakenAt expected callee count) = false
 is_misplaced w (ConstantAt in_pattern expected found) = false
 is_misplaced w (BoundAt ty) = false
-is_misplaced w NotBuiltAt = false
 
 -- one stands so in a rule
 abbrev pub literal_misfit : Context → Def → Bool
@@ -85,7 +82,6 @@ is_undeclared (CalledAt expected callee count) = false
 is_undeclared (TakenAt expected callee count) = false
 is_undeclared (ConstantAt in_pattern expected found) = not (is_some found)
 is_undeclared (BoundAt ty) = false
-is_undeclared NotBuiltAt = false
 
 -- one stands in a rule
 abbrev pub constant_undeclared : Context → Def → Bool
@@ -107,7 +103,6 @@ is_met_otherwise (CalledAt expected callee count) = false
 is_met_otherwise (TakenAt expected callee count) = false
 is_met_otherwise (ConstantAt in_pattern expected found) = false
 is_met_otherwise (BoundAt ty) = false
-is_met_otherwise NotBuiltAt = false
 
 -- a variable that is met again has another type
 abbrev pub variable_type_misfit : Context → Def → Bool
@@ -129,7 +124,6 @@ is_unknown w (CalledAt expected callee count) = is_call_misfit w callee count
 is_unknown w (TakenAt expected callee count) = false
 is_unknown w (ConstantAt in_pattern expected found) = false
 is_unknown w (BoundAt ty) = false
-is_unknown w NotBuiltAt = false
 
 -- one stands in a rule
 abbrev pub expr_name_misfit : Context → Def → Bool
@@ -147,7 +141,6 @@ is_mistyped w (CalledAt expected callee count) = on callee (λ (s : Signature). 
 is_mistyped w (TakenAt expected callee count) = false
 is_mistyped w (ConstantAt in_pattern expected found) = not in_pattern && differ found expected
 is_mistyped w (BoundAt ty) = not (is_some ty)
-is_mistyped w NotBuiltAt = false
 
 -- one stands in a rule
 abbrev pub expr_type_misfit : Context → Def → Bool
@@ -164,7 +157,6 @@ is_call_of test (CalledAt expected callee count) = on callee test
 is_call_of test (TakenAt expected callee count) = false
 is_call_of test (ConstantAt in_pattern expected found) = false
 is_call_of test (BoundAt ty) = false
-is_call_of test NotBuiltAt = false
 
 -- a call of such a term, or a pattern of one
 abbrev pub is_use_of : (Signature → Bool) → Site → Bool
@@ -177,7 +169,10 @@ is_use_of test (CalledAt expected callee count) = on callee test
 is_use_of test (TakenAt expected callee count) = on callee test
 is_use_of test (ConstantAt in_pattern expected found) = false
 is_use_of test (BoundAt ty) = false
-is_use_of test NotBuiltAt = false
+
+-- a condition calls a term that is not `pure`: before the right side calls stand in conditions alone
+abbrev pub impure_condition : Context → Def → Bool
+impure_condition c d = on (rule_of d) (λ (r : RuleDef). list_any (is_call_of (λ (t : Signature). not t.pure)) (left_of c.whole r))
 
 -- a right side calls a partial term in a term that is not `partial`
 abbrev pub partial_call : Context → Def → Bool

@@ -1,39 +1,50 @@
--- The variables that are bound, each with the type that it was bound at, where one was known.
-use Rattle.std.specs.Prelude.{ℕ, List, [], ◌∷◌, ◌++◌, Option, Some, None, map, if◌then◌else◌}
+-- The variables that patterns bind, each with the type that it was bound at, where one was known, and its number.
+use Rattle.std.specs.Prelude.{ℕ, suc, List, [], ◌∷◌, ◌++◌, Option, Some, None, if◌then◌else◌, option_map, option_and_then}
 use Rattle.std.specs.Str.{bytes_eq}
 use Rattle.isle_core.specs.declared.TypeId.{TypeId}
 use Rattle.isle_core.specs.declared.VarId.{VarId}
-use Rattle.isle_declarations.specs.Symbols.{index_of}
 
--- names with types, the oldest first; a variable's number is its place
-abbrev pub Scope : Type 0
-Scope = List (List ℕ × Option TypeId)
+-- a variable, the type that it was bound at, where one was known, and its number
+pub record Local : Type 0 where
+  pub name : List ℕ
+  pub ty : Option TypeId
+  pub number : ℕ
 
--- the names
-abbrev pub scope_names : Scope → List (List ℕ)
-scope_names scope = map (λ (v : List ℕ × Option TypeId). v.0) scope
+-- variables, the oldest first, and the next number that is free
+pub record Scope : Type 0 where
+  pub variables : List Local
+  pub next : ℕ
+
+-- before any pattern
+abbrev pub no_variables : Scope
+no_variables = record { variables = []; next = 0 }
+
+-- the first variable of a name
+abbrev pub found_in : List Local → List ℕ → Option Local
+found_in [] name = None
+found_in (l ∷ ls) name = if bytes_eq l.name name then Some l else found_in ls name
 
 -- the type that a variable was bound at, where it is bound
-abbrev pub bound_at : Scope → List ℕ → Option (Option TypeId)
-bound_at [] name = None
-bound_at (v ∷ scope) name = if bytes_eq v.0 name then Some v.1 else bound_at scope name
+abbrev pub local_type : Option Local → Option (Option TypeId)
+local_type found = option_map (λ (l : Local). l.ty) found
 
--- the scope after a variable of a pattern, which is bound where it is met first
-abbrev pub met_by : Option (Option TypeId) → Scope → List ℕ → Option TypeId → Scope
-met_by None scope name expected = scope ++ (name, expected) ∷ []
-met_by (Some ty) scope name expected = scope
+-- so of the variable of a name
+abbrev pub bound_at : Scope → List ℕ → Option (Option TypeId)
+bound_at scope name = local_type (found_in scope.variables name)
+
+-- the scope after a variable of a pattern, which is bound where it is met first, and has the next number then
+abbrev pub met_by : Option Local → Scope → List ℕ → Option TypeId → Scope
+met_by None scope name expected = record { variables = scope.variables ++ record { name = name; ty = expected; number = scope.next } ∷ []; next = suc scope.next }
+met_by (Some l) scope name expected = scope
 
 -- the scope after a variable of a pattern that stands where this type is expected
 abbrev pub met : Scope → List ℕ → Option TypeId → Scope
-met scope name expected = met_by (bound_at scope name) scope name expected
+met scope name expected = met_by (found_in scope.variables name) scope name expected
 
 -- a variable's type and number, where both are known
-abbrev pub variable_by : Option (Option TypeId) → Option ℕ → Option (TypeId × VarId)
-variable_by None place = None
-variable_by (Some None) place = None
-variable_by (Some (Some ty)) None = None
-variable_by (Some (Some ty)) (Some n) = Some (ty, record { 0 = n })
+abbrev pub typed_local : Option Local → Option (TypeId × VarId)
+typed_local found = option_and_then (λ (l : Local). option_map (λ (ty : TypeId). (ty, record { 0 = l.number })) l.ty) found
 
 -- the type and the number of the variable of a name
 abbrev pub variable : Scope → List ℕ → Option (TypeId × VarId)
-variable scope name = variable_by (bound_at scope name) (index_of (scope_names scope) name)
+variable scope name = typed_local (found_in scope.variables name)

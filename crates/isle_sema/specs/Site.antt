@@ -23,5 +23,3 @@ pub data Site : Type 0 where
   ConstantAt : (in_pattern : Bool) (expected found : Option TypeId) → Site
   -- a variable of a `let`, and its type, where it is declared
   BoundAt : (ty : Option TypeId) → Site
-  -- a condition, which is not built
-  NotBuiltAt : Site

@@ -9,17 +9,16 @@ ghost use Rattle.isle_declarations.specs.Signatures.{Signature};
 ghost use Rattle.isle_terms.specs.Whole.{Whole, ret_type, number_of};
 ghost use Rattle.isle_terms.specs.Whole.{whole};
 ghost use Rattle.isle_sema.specs.Known.{MayBeCalled};
-ghost use Rattle.isle_sema.specs.Locals.{Local};
+ghost use Rattle.isle_sema.specs.Scope.{Local};
 ghost use Rattle.isle_sema.specs.ExprPass.{integer_tree, constant_tree, local_tree, call_tree, expr_within, expr_type, binding_tree, let_tree};
 ghost use Rattle.isle_sema.specs.ElaboratedAt.{expr_trees, seen_binding, binding_trees, IsExprAt, AreExprsAt, IsBindingAt, AreBindingsAt};
 
 use crate::judged::Judged;
 use crate::known::{Called, Known, argument_types, result_type, within};
 use crate::locals::Locals;
-use crate::reduced::typed_integer;
 use isle_ast::{AstExpr, AstLet};
 use isle_core::{Boxed, Expr, LetBinding, List, Text, TypeEnv, TypeId, VarId};
-use isle_terms::type_named;
+use isle_terms::{type_named, typed_integer};
 use std::alloc::{AllocError, Global};
 
 // An integer where this type is expected.
@@ -121,9 +120,9 @@ fn named_at(
     converted(alloc, &converter, constant_at(known, of, name))
 }
 
-// The type of an expression.
+/// Returns the type of an expression.
 #[tactic(auto, using(isle_core::proofs::SeesRules::sees))]
-fn type_of(e: &Expr) -> TypeId
+pub fn type_of(e: &Expr) -> TypeId
     ensures { result ≡ expr_type (elaborated e.now) }
 {
     match e {

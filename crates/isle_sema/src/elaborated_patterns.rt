@@ -14,10 +14,10 @@ ghost use Rattle.isle_sema.specs.ElaboratedAt.{pattern_trees, copies, IsPatternA
 
 use crate::judged::Judged;
 use crate::known::{Called, Known, argument_types, result_type, within};
-use crate::reduced::typed_integer;
 use crate::variables::Variables;
 use isle_ast::AstPattern;
 use isle_core::{Boxed, List, Pattern, Text, TypeEnv, TypeId, VarId};
+use isle_terms::typed_integer;
 use std::alloc::{AllocError, Global};
 
 // An integer where this type is expected.
@@ -135,10 +135,10 @@ fn converted(
     Ok(made_of(converter, Some(parts)))
 }
 
-// A pattern where this type is expected: its tree, where its form is built and its types are known.
+/// A pattern where this type is expected: its tree, where its form is built and its types are known.
 #[cycle(patterns)]
 #[tactic(auto, using(isle_ast::proofs::Sees::pattern_sees, isle_core::proofs::SeesRules::sees))]
-fn pattern_at<'d>(
+pub fn pattern_at<'d>(
     alloc: Global,
     known: &Known,
     vars: &mut Variables<'d>,

@@ -1,7 +1,7 @@
 //! Rules with types in them, their names as symbols and variables as numbers.
 
-ghost use Rattle.std.specs.Prelude.{◌≡◌, IfOk, Some, [], map, option_map};
-ghost use Rattle.isle_core.specs.RuleViews.{rule as elaborated_rule, pattern as elaborated_pattern, expr as elaborated_expr};
+ghost use Rattle.std.specs.Prelude.{◌≡◌, IfOk, Some, map, option_map};
+ghost use Rattle.isle_core.specs.RuleViews.{rule as elaborated_rule, pattern as elaborated_pattern, iflet as elaborated_iflet, expr as elaborated_expr};
 ghost use Rattle.isle_ast.specs.Views.{defs as seen_defs};
 ghost use Rattle.isle_declarations.specs.Symbols.{index_of};
 ghost use Rattle.isle_declarations.specs.Collected.{rule as seen, AreRules};
@@ -14,21 +14,21 @@ ghost use Rattle.isle_sema.specs.Taken.{taken_rule, taken_rules};
 use crate::known::{Called, Known};
 use crate::rows::lowest_row;
 use crate::sides::sides_of;
-use isle_core::{Expr, List, Pattern, Rule, RuleId};
+use isle_core::{Expr, IfLet, List, Pattern, Rule, RuleId};
 use isle_declarations::RuleDef;
 use std::alloc::{AllocError, Global};
 
 // The rule of that number, of this term with these parts.
 fn rule_from(
-    alloc: Global,
     known: &Known,
     own: &Called,
     number: usize,
     given: &RuleDef,
     args: Vec<Pattern>,
+    iflets: Vec<IfLet>,
     rhs: Expr,
 ) -> Rule
-    ensures { elaborated_rule result ≡ rule_from (whole known.now) number (seen given.now) own.now.term (map elaborated_pattern args.items) [] (elaborated_expr rhs) }
+    ensures { elaborated_rule result ≡ rule_from (whole known.now) number (seen given.now) own.now.term (map elaborated_pattern args.items) (map elaborated_iflet iflets.items) (elaborated_expr rhs) }
 {
     let name = match given.name {
         Some(name) => Some(known.sym(name)),
@@ -38,7 +38,7 @@ fn rule_from(
         id: RuleId(number),
         root_term: own.term,
         args: List::new(args),
-        iflets: List::new(Vec::new(alloc)),
+        iflets: List::new(iflets),
         rhs,
         prio: given.prio,
         pos: given.pos,
@@ -57,11 +57,9 @@ fn rule_of(
     requires { IsHead (whole known.now) given.now.term.now own.now }
     ensures { IfOk result (λ rule. option_map elaborated_rule rule ≡ taken_rule (whole known.now) number (seen given.now)) }
 {
-    if !given.iflets.is_empty() {
-        return Ok(None);
-    }
     let sides = sides_of(alloc, known, own, given)?;
     let args = sides.args;
+    let iflets = sides.iflets;
     let rhs = sides.rhs;
     let ruled = sides.left.ruled | sides.right.ruled;
     if ruled {
@@ -73,10 +71,13 @@ fn rule_of(
     let Some(args) = args else {
         return Ok(None);
     };
+    let Some(iflets) = iflets else {
+        return Ok(None);
+    };
     let Some(rhs) = rhs else {
         return Ok(None);
     };
-    Ok(Some(rule_from(alloc, known, own, number, given, args, rhs)))
+    Ok(Some(rule_from(known, own, number, given, args, iflets, rhs)))
 }
 
 // The rule of that number, where its term is declared.

@@ -11,9 +11,9 @@ ghost use Rattle.isle_sema.specs.Judging.{unjudged, judge, judge_all};
 ghost use Rattle.isle_sema.specs.PatternPass.{taken_by};
 ghost use Rattle.isle_sema.specs.ExprPass.{called_by};
 
-use crate::expected::{takes_integers, takes_truths};
 use crate::known::Called;
 use isle_core::{TypeEnv, TypeId};
+use isle_terms::{takes_integers, takes_truths};
 
 /// Which rows the parts of a rule that were met so far break, whether one is of a term that has a rule, and how many
 /// parts there are.

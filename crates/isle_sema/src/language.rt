@@ -7,21 +7,20 @@ ghost use Rattle.isle_sema.specs.Language.{is_built_def};
 
 use isle_ast::Def;
 
-// Whether the form of a definition is built: a type, a constant, a declaration with at most the flag `partial`, an external constructor or
-// extractor, a converter, a rule without conditions, or a list that is passed over. All forms of patterns and expressions are built.
+// Whether the form of a definition is built: a type, a constant, a declaration that is neither `multi` nor `rec`, an external constructor
+// or extractor, a converter, a rule, or a list that is passed over. All forms of patterns and expressions are built.
 fn is_built_def(given: &Def) -> bool
     ensures { result ≡ is_built_def (def given.now) }
 {
     match given {
         Def::Decl {
-            pure,
             multi,
             recursive,
             ..
-        } => !*pure && !*multi && !*recursive,
+        } => !*multi && !*recursive,
         Def::TypeDecl { .. } | Def::ExternConst { .. } | Def::ExternExtractor { .. } => true,
         Def::ExternConstructor { .. } | Def::Converter { .. } | Def::Passed { .. } => true,
-        Def::Rule { iflets, .. } => iflets.as_slice().is_empty(),
+        Def::Rule { .. } => true,
         _ => false,
     }
 }

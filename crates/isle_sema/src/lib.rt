@@ -1,15 +1,15 @@
 //! From definitions to environments: symbols, types, terms and rules.
 #![tactic(auto)]
 
+mod conditions;
 mod elaborated_exprs;
 mod elaborated_patterns;
 mod elaborated_rules;
-mod expected;
 mod judged;
 mod known;
 mod language;
 mod locals;
-mod reduced;
+mod new_variables;
 mod rows;
 mod sides;
 mod term_env;

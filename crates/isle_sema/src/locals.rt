@@ -1,7 +1,7 @@
 //! The variables of an expression, as `let`s bind them and go out of scope.
 
 ghost use Rattle.std.specs.Prelude.{◌≡◌, ◌++◌, [], ◌∷◌, suc, length, take, option_map, IfOk, OnOk};
-ghost use Rattle.isle_sema.specs.Locals.{Local, local_named, bound_local, locals_of};
+ghost use Rattle.isle_sema.specs.Locals.{local_named, bound_local, locals_of};
 
 use crate::elaborated_patterns::is_blank;
 use crate::variables::Variables;
@@ -46,16 +46,16 @@ impl<'v, 'd> Model for Locals<'v, 'd> {
 }
 
 impl<'v, 'd> Locals<'v, 'd> {
-    /// Begins with the variables of patterns.
-    pub fn new(alloc: Global, patterns: &'v Variables<'d>) -> Locals<'v, 'd>
-        ensures { result ≡ record { patterns = patterns.now; lets = []; next = length patterns.now } }
+    /// Begins with the variables of patterns, and with this number.
+    pub fn new(alloc: Global, patterns: &'v Variables<'d>, next: usize) -> Locals<'v, 'd>
+        ensures { result ≡ record { patterns = patterns.now; lets = []; next = next } }
     {
         Locals {
             patterns,
             names: Symbols::new(alloc),
             scope: Scope::new(alloc),
             lets: Vec::new(alloc),
-            next: patterns.len(),
+            next,
         }
     }
 
@@ -83,6 +83,13 @@ impl<'v, 'd> Locals<'v, 'd> {
         ensures { result ≡ length self.now.lets }
     {
         self.lets.len()
+    }
+
+    /// Returns the next number.
+    pub fn next(&self) -> usize
+        ensures { result ≡ self.now.next }
+    {
+        self.next
     }
 
     /// Takes the next number. The only error is that there are no more.

@@ -7,8 +7,8 @@ use crate::judged::Judged;
 use crate::known::Called;
 use isle_types::Row;
 
-/// Returns the lowest row that a rule of a term breaks, on so many patterns, by what its patterns and its right side are
-/// judged.
+/// Returns the lowest row that a rule of a term breaks, on so many patterns, by what its patterns with its conditions, and
+/// its right side, are judged.
 pub fn lowest_row(own: &Called, count: usize, left: &Judged, right: &Judged) -> Option<Row>
     ensures { result ≡ lowest own.now count left.now right.now }
 {
@@ -26,6 +26,8 @@ pub fn lowest_row(own: &Called, count: usize, left: &Judged, right: &Judged) -> 
         Some(Row::ExprNameMisfit)
     } else if left.mistyped || right.mistyped {
         Some(Row::ExprTypeMisfit)
+    } else if left.impure {
+        Some(Row::ImpureCondition)
     } else if !own.partial && right.partial {
         Some(Row::PartialCall)
     } else if own.pure && right.impure {

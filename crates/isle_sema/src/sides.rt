@@ -1,4 +1,4 @@
-//! Both sides of a rule with types in them.
+//! Both sides of a rule, and its conditions, with types in them.
 
 ghost use Rattle.std.specs.Prelude.{IfOk};
 ghost use Rattle.isle_declarations.specs.Collected.{rule as seen};
@@ -6,26 +6,27 @@ ghost use Rattle.isle_terms.specs.Whole.{whole};
 ghost use Rattle.isle_sema.specs.Known.{IsHead};
 ghost use Rattle.isle_sema.specs.ElaboratedAt.{AreSides};
 
-use crate::elaborated_exprs::expr_at;
+use crate::conditions::{conditions_at, expr_over};
 use crate::elaborated_patterns::patterns_at;
 use crate::judged::Judged;
 use crate::known::{Called, Known};
-use crate::locals::Locals;
 use crate::variables::Variables;
-use isle_core::{Expr, Pattern};
+use isle_core::{Expr, IfLet, Pattern};
 use isle_declarations::RuleDef;
 use std::alloc::{AllocError, Global};
 
-/// The patterns and the right side of a rule, where they have trees, and what the rows say of their parts.
+/// The patterns, the conditions and the right side of a rule, where they have trees, and what the rows say of the parts of the
+/// patterns and conditions, and of those of the right side.
 #[derive(Drop)]
 pub struct Sides {
     pub args: Option<Vec<Pattern>>,
+    pub iflets: Option<Vec<IfLet>>,
     pub rhs: Option<Expr>,
     pub left: Judged,
     pub right: Judged,
 }
 
-/// Elaborates both sides of a rule of this term.
+/// Elaborates both sides of a rule of this term, and its conditions.
 pub fn sides_of(
     alloc: Global,
     known: &Known,
@@ -38,19 +39,21 @@ pub fn sides_of(
     let mut vars = Variables::new(alloc);
     let mut left = Judged::new();
     let args = patterns_at(alloc, known, &mut vars, &mut left, own.args, given.args)?;
+    let iflets = conditions_at(alloc, known, &mut vars, &mut left, given.iflets)?;
     let mut right = Judged::new();
-    let mut locals = Locals::new(alloc, &vars);
-    let rhs = expr_at(
+    let found = expr_over(
         alloc,
         known,
-        &mut locals,
+        &vars,
         &mut right,
+        vars.next(),
         Some(own.ret),
         given.rhs,
     )?;
     Ok(Sides {
         args,
-        rhs,
+        iflets,
+        rhs: found.0,
         left,
         right,
     })

@@ -1,64 +1,67 @@
 //! The variables that patterns bind, with the types that they are bound at.
 
-ghost use Rattle.std.specs.Prelude.{◌≡◌, [], IfOk, OnOk, length, option_map};
-ghost use Rattle.isle_declarations.specs.Symbols.{index_of};
-ghost use Rattle.isle_sema.specs.Scope.{scope_names, bound_at, met};
+ghost use Rattle.std.specs.Prelude.{◌≡◌, IfOk, OnOk, option_map};
+ghost use Rattle.isle_sema.specs.RulePass.{behind};
+ghost use Rattle.isle_sema.specs.Scope.{no_variables, found_in, bound_at, met};
 
 use isle_core::{Text, TypeId};
 use isle_declarations::Symbols;
 use std::alloc::{AllocError, Global};
 use std::marker::Model;
 
-/// Variables, each once, with the types that they are bound at, where those are known. Contracts see the names with the
-/// types.
+/// Variables, each once, with the types that they are bound at, where those are known, and their numbers, and the next
+/// number that is free. Contracts see them in order.
 #[derive(Drop)]
 pub struct Variables<'d> {
     names: Symbols<'d>,
-    types: Vec<Option<TypeId>>,
+    bound: Vec<(Option<TypeId>, usize)>,
+    next: usize,
 }
 
 impl<'d> Model for Variables<'d> {
-    ghost use Rattle.std.specs.Prelude.{◌≡◌, List, ℕ, Option, length};
-    ghost use Rattle.std.specs.List.{zip};
-    ghost use Rattle.isle_core.specs.declared.TypeId.{TypeId as OfType};
+    ghost use Rattle.std.specs.Prelude.{◌≡◌, length};
+    ghost use Rattle.isle_sema.specs.LocalViews.{entries, coded_scope};
+    ghost use Rattle.isle_sema.specs.Scope.{Scope};
 
-    ghost Value = { List (List ℕ × Option OfType) };
+    ghost Value = { Scope };
 
-    ghost view = { λ v. zip v.names v.types.items };
+    ghost coded = { coded_scope };
 
-    ghost invariant = { λ v. length v.names ≡ length v.types.items };
+    ghost view = { λ v. record { variables = entries v.names v.bound.items; next = v.next } };
+
+    ghost invariant = { λ v. length v.names ≡ length v.bound.items };
 }
 
 impl<'d> Variables<'d> {
     /// Begins with no variables.
     pub fn new(alloc: Global) -> Variables<'d>
-        ensures { result ≡ [] }
+        ensures { result ≡ no_variables }
     {
         Variables {
             names: Symbols::new(alloc),
-            types: Vec::new(alloc),
+            bound: Vec::new(alloc),
+            next: 0,
         }
     }
 
-    /// Returns how many there are.
-    pub fn len(&self) -> usize
-        ensures { result ≡ length self.now }
+    /// Returns the next number that is free.
+    pub fn next(&self) -> usize
+        ensures { result ≡ self.now.next }
     {
-        self.types.len()
+        self.next
     }
 
     /// Returns the type that a variable is bound at and its number, where it is bound.
     pub fn find(&self, name: &Text) -> Option<(Option<TypeId>, usize)>
-        ensures bound { option_map (λ v. v.0) result ≡ bound_at self.now name.now }
-        ensures number { option_map (λ v. v.1) result ≡ index_of (scope_names self.now) name.now }
+        ensures { result ≡ option_map (λ l. (l.ty, l.number)) (found_in self.now.variables name.now) }
     {
         let place = self.names.find(name.as_str())?;
-        let ty = self.types.get(place)?;
-        Some((*ty, place))
+        let found = self.bound.get(place)?;
+        Some(*found)
     }
 
-    /// Meets a variable of a pattern, which is bound at this type where it is met first; returns the type that it was bound
-    /// at before, where it was.
+    /// Meets a variable of a pattern, which is bound at this type where it is met first, with the next number; returns the
+    /// type that it was bound at before, where it was. Errors are want of memory or of numbers.
     pub fn meet(
         &mut self,
         name: &'d Text,
@@ -70,13 +73,28 @@ impl<'d> Variables<'d> {
         if let Some(found) = self.find(name) {
             return Ok(Some(found.0));
         }
-        self.types.push(expected)?;
+        let Some(next) = self.next.checked_add(1) else {
+            return Err(AllocError);
+        };
+        self.bound.push((expected, self.next))?;
         match self.names.intern(name.as_str()) {
-            Ok(_) => Ok(None),
+            Ok(_) => {
+                self.next = next;
+                Ok(None)
+            }
             Err(_) => {
-                self.types.pop();
+                self.bound.pop();
                 Err(AllocError)
             }
+        }
+    }
+
+    /// Leaves the numbers before this one.
+    pub fn leave(&mut self, next: usize)
+        ensures { self.new ≡ behind self.old next }
+    {
+        if self.next < next {
+            self.next = next;
         }
     }
 }

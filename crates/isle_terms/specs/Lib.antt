@@ -6,3 +6,5 @@ pub mod Converters
 pub mod DeclarationRows
 pub mod Tests
 pub mod ConverterViews
+pub mod Reduced
+pub mod Expected

@@ -1,20 +1,19 @@
-use Rattle.std.proofs.Common.{◌≡◌, rules, None, Some, true, false, [], length, map, ap, sym, ◌∙◌}
+use Rattle.std.proofs.Common.{◌≡◌, rules, None, Some, true, false, length, map, ap, sym, ◌∙◌}
 use Rattle.std.specs.Prelude.{option_map, is_some}
 use Rattle.std.proofs.lemmas.List.{length-map}
-use Rattle.isle_core.specs.RuleViews.{pattern as elaborated_pattern, expr as elaborated_expr}
+use Rattle.isle_core.specs.RuleViews.{pattern as elaborated_pattern, iflet as elaborated_iflet, expr as elaborated_expr}
 use Rattle.isle_ast.specs.Views.{pattern}
 use Rattle.isle_declarations.specs.Collected.{rule as seen}
-use Rattle.isle_sema.specs.ElaboratedAt.{pattern_trees}
+use Rattle.isle_sema.specs.ElaboratedAt.{pattern_trees, condition_trees}
 use Rattle.isle_terms.specs.Whole.{whole}
-use Rattle.isle_sema.proofs.RuleLaws.{no_conditions, row_found, ruled_is, with_ruled, with_row, without_trees, without_tree, taken_made}
+use Rattle.isle_sema.proofs.RuleLaws.{row_found, ruled_is, with_ruled, with_row, without_trees, without_conditions, without_tree, taken_made}
 use Rattle.isle_sema.proofs.elaborated_rules.rule_of.Goals as goal
 
 pub returns-then-ruled : goal.returns-then-ruled
 returns-then-ruled c =
     let w = whole c.args.known.now in
     let r = seen c.args.given.now in
-    let none : r.iflets ≡ [] = no_conditions c.args.given.now.iflets.now (search rules) in
-    let ruled = ruled_is w r c.in_ok-sides.sides true none c.in_ok-sides.ensures (search rules) in
+    let ruled = ruled_is w r c.in_ok-sides.sides true c.in_ok-sides.ensures (search rules) in
     with_ruled w c.args.number r (sym ruled)
 
 pub returns-then-is_some : goal.returns-then-is_some
@@ -22,14 +21,18 @@ returns-then-is_some c =
     let w = whole c.args.known.now in
     let r = seen c.args.given.now in
     let sides = c.in_ok-sides.sides in
-    let none : r.iflets ≡ [] = no_conditions c.args.given.now.iflets.now (search rules) in
     let found : is_some c.lowest_row.result ≡ true = search rules in
-    with_row w c.args.number r (row_found w r c.args.own.now sides c.lowest_row.result (length c.args.given.now.args.now) c.requires none c.in_ok-sides.ensures (sym (length-map c.args.given.now.args.now pattern)) c.lowest_row.ensures ∙ found)
+    with_row w c.args.number r (row_found w r c.args.own.now sides c.lowest_row.result (length c.args.given.now.args.now) c.requires c.in_ok-sides.ensures (sym (length-map c.args.given.now.args.now pattern)) c.lowest_row.ensures ∙ found)
 
 pub returns-in_default : goal.returns-in_default
 returns-in_default c =
     let nothing : c.in_ok-sides.sides.args ≡ None = search rules in
     without_trees (whole c.args.known.now) c.args.number (seen c.args.given.now) (sym c.in_ok-sides.ensures.trees ∙ ap pattern_trees nothing)
+
+pub returns-in_default-iflets : goal.returns-in_default-iflets
+returns-in_default-iflets c =
+    let nothing : c.in_ok-sides.sides.iflets ≡ None = search rules in
+    without_conditions (whole c.args.known.now) c.args.number (seen c.args.given.now) (sym c.in_ok-sides.ensures.conditions ∙ ap condition_trees nothing)
 
 pub returns-in_default-rhs : goal.returns-in_default-rhs
 returns-in_default-rhs c =
@@ -41,9 +44,8 @@ returns c =
     let w = whole c.args.known.now in
     let r = seen c.args.given.now in
     let sides = c.in_ok-sides.sides in
-    let none : r.iflets ≡ [] = no_conditions c.args.given.now.iflets.now (search rules) in
     let found : is_some c.lowest_row.result ≡ false = search rules in
-    let row = row_found w r c.args.own.now sides c.lowest_row.result (length c.args.given.now.args.now) c.requires none c.in_ok-sides.ensures (sym (length-map c.args.given.now.args.now pattern)) c.lowest_row.ensures ∙ found in
+    let row = row_found w r c.args.own.now sides c.lowest_row.result (length c.args.given.now.args.now) c.requires c.in_ok-sides.ensures (sym (length-map c.args.given.now.args.now pattern)) c.lowest_row.ensures ∙ found in
     ap Some c.rule_from.ensures
-    ∙ taken_made w c.args.number r c.args.own.now (map elaborated_pattern c.in-Some.args.items) (elaborated_expr c.in-Some-rhs.rhs) c.requires none row (sym (ruled_is w r sides false none c.in_ok-sides.ensures (search rules)))
-    (sym c.in_ok-sides.ensures.trees ∙ ap pattern_trees c.in-Some.is) (sym c.in_ok-sides.ensures.tree ∙ ap (option_map elaborated_expr) c.in-Some-rhs.is)
+    ∙ taken_made w c.args.number r c.args.own.now (map elaborated_pattern c.in-Some.args.items) (map elaborated_iflet c.in-Some-iflets.iflets.items) (elaborated_expr c.in-Some-rhs.rhs) c.requires row (sym (ruled_is w r sides false c.in_ok-sides.ensures (search rules)))
+    (sym c.in_ok-sides.ensures.trees ∙ ap pattern_trees c.in-Some.is) (sym c.in_ok-sides.ensures.conditions ∙ ap condition_trees c.in-Some-iflets.is) (sym c.in_ok-sides.ensures.tree ∙ ap (option_map elaborated_expr) c.in-Some-rhs.is)

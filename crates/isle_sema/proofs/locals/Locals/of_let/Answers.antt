@@ -7,7 +7,8 @@ use Rattle.isle_declarations.specs.Symbols.{index_of}
 use Rattle.isle_declarations.proofs.LookUps.{got, there}
 use Rattle.isle_sema.specs.declared.locals.LetVariable.{LetVariable}
 use Rattle.isle_sema.specs.LocalViews.{local}
-use Rattle.isle_sema.specs.Locals.{Local, local_named}
+use Rattle.isle_sema.specs.Locals.{local_named}
+use Rattle.isle_sema.specs.Scope.{Local}
 use Rattle.isle_sema.proofs.LocalLaws.{let_found, let_absent}
 use Rattle.isle_sema.proofs.locals.Locals.of_let.Goals as goal
 

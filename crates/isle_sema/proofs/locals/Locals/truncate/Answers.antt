@@ -1,7 +1,8 @@
 use Rattle.std.proofs.Common.{◌≡◌, rules, List, map, take, ap, ◌∙◌}
 use Rattle.isle_sema.specs.declared.locals.LetVariable.{LetVariable}
 use Rattle.isle_sema.specs.LocalViews.{local}
-use Rattle.isle_sema.specs.Locals.{Local, Bound}
+use Rattle.isle_sema.specs.Locals.{Bound}
+use Rattle.isle_sema.specs.Scope.{Local}
 use Rattle.isle_sema.proofs.LocalLaws.{map_take, numbered_fewer}
 use Rattle.isle_sema.proofs.locals.Locals.truncate.Goals as goal
 

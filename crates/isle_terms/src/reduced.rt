@@ -3,7 +3,7 @@
 ghost use Rattle.std.specs.Prelude.{◌≡◌, Some};
 ghost use Rattle.std.specs.Int.{w8, w16, w32, w64};
 ghost use Rattle.isle_core.specs.Int.{residue};
-ghost use Rattle.isle_sema.specs.Reduced.{reduced, integer_by, typed_integer};
+ghost use Rattle.isle_terms.specs.Reduced.{reduced, integer_by, typed_integer};
 
 use isle_core::{BuiltinType, IntType, TypeDef, TypeEnv, TypeId};
 

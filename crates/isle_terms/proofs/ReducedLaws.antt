@@ -6,7 +6,7 @@ use Rattle.std.specs.Int.RustNames.{FitsSigned}
 use Rattle.std.proofs.lemmas.Int.{int_wrap_fits}
 use Rattle.isle_core.specs.declared.types.IntType.TheVariants.{U128, I128}
 use Rattle.isle_core.specs.Int.{wrapped}
-use Rattle.isle_sema.specs.Reduced.{reduced}
+use Rattle.isle_terms.specs.Reduced.{reduced}
 
 -- 128 bits hold a number of 128 bits as it is
 pub reduced-u128 : (z : ℤ) → FitsSigned w128 z → reduced U128 z ≡ z

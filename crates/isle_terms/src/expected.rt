@@ -1,7 +1,7 @@
 //! What may stand where a type is expected.
 
 ghost use Rattle.std.specs.Prelude.{◌≡◌};
-ghost use Rattle.isle_sema.specs.Expected.{takes_integers, takes_truths};
+ghost use Rattle.isle_terms.specs.Expected.{takes_integers, takes_truths};
 
 use isle_core::{BuiltinType, TypeDef, TypeEnv, TypeId};
 

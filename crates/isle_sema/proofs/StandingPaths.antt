@@ -1,0 +1,54 @@
+-- What may be read behind tests and calls may be so behind more of them.
+use Rattle.std.proofs.Common.{List, ⊎_elim, inl, inr}
+use Rattle.std.specs.Prelude.{Contains}
+use Rattle.isle_core.specs.declared.rule_sets.Constraint.TheVariants as constraint
+use Rattle.isle_core.specs.Calling.{Calling, ByTurns, ByCases, NoCall, calling}
+use Rattle.isle_core.specs.Path.{Path, Called, Inner, MadeVariant, MadeStruct, VariantField, StructField, Extracted, Part, Paths, NoPath, APath}
+use Rattle.isle_core.specs.Rule.{Environment}
+use Rattle.isle_core.specs.Serializable.{StandsWithin, StandsCalled, StandsOn, AllStandOn}
+use Rattle.isle_core.specs.Tests.{Test, Is}
+
+-- each of these tests is one of those
+abbrev pub AreAlso : (xs ys : List Test) → Type 0
+AreAlso xs ys = (x : Test) → Contains xs x → Contains ys x
+
+-- each of these paths is one of those
+abbrev pub Among : List Path → List Path → Type 0
+Among xs ys = (p : Path) → Contains xs p → Contains ys p
+
+-- what is within
+within_still : (p : Path) (xs ys : List Test) (done later : List Path) → AreAlso xs ys → Among done later → StandsWithin xs done p → StandsWithin ys later p
+within_still (Called term ps instance) xs ys done later a b h = ⊎_elim (λ c. inl (b (Called term ps instance) c)) (λ c. inr (a (Is (Called term ps instance) constraint.Some) c)) h
+within_still (Extracted term q) xs ys done later a b h = a (Is (Extracted term q) constraint.Some) h
+within_still p xs ys done later a b h = tt
+
+-- a call
+called_still : {itself arguments after others : Type 0} (c : Calling) → (itself → after) → (arguments → others) → StandsCalled c itself arguments → StandsCalled c after others
+called_still (ByTurns callee kind) f g h = f h
+called_still (ByCases callee kind) f g h = g h
+called_still NoCall f g h = absurd h
+
+mutual
+  stands_behind : (env : Environment) (p : Path) (xs ys : List Test) (done later : List Path) → AreAlso xs ys → Among done later → StandsOn env xs done p → StandsOn env ys later p
+  stands_behind env (Called term ps instance) xs ys done later a b h = called_still (calling env term) (b (Called term ps instance)) (λ k. all_stand_behind env ps xs ys done later a b k) h
+  stands_behind env (Inner p) xs ys done later a b h = within_still p xs ys done later a b h
+  stands_behind env (Extracted term q) xs ys done later a b h = stands_behind env q xs ys done later a b h
+  stands_behind env (Part part q) xs ys done later a b h = stands_behind env q xs ys done later a b h
+  stands_behind env (VariantField variant field q) xs ys done later a b h = (h.0, a (Is q (constraint.Variant h.0 variant)) h.1)
+  stands_behind env (StructField field q) xs ys done later a b h = (h.0, a (Is q (constraint.Struct h.0)) h.1)
+  stands_behind env (MadeVariant of variant ps) xs ys done later a b h = all_stand_behind env ps xs ys done later a b h
+  stands_behind env (MadeStruct of ps) xs ys done later a b h = all_stand_behind env ps xs ys done later a b h
+  stands_behind env p xs ys done later a b h = tt
+
+  -- so of each
+  all_stand_behind : (env : Environment) (ps : Paths) (xs ys : List Test) (done later : List Path) → AreAlso xs ys → Among done later → AllStandOn env xs done ps → AllStandOn env ys later ps
+  all_stand_behind env NoPath xs ys done later a b h = tt
+  all_stand_behind env (APath p ps) xs ys done later a b h = (stands_behind env p xs ys done later a b h.0, all_stand_behind env ps xs ys done later a b h.1)
+
+-- behind more tests
+pub stands_still : (env : Environment) (p : Path) (xs ys : List Test) (done : List Path) → AreAlso xs ys → StandsOn env xs done p → StandsOn env ys done p
+stands_still env p xs ys done a h = stands_behind env p xs ys done done a (λ q c. c) h
+
+-- behind more calls
+pub all_stand_later : (env : Environment) (ps : Paths) (tests : List Test) (done later : List Path) → Among done later → AllStandOn env tests done ps → AllStandOn env tests later ps
+all_stand_later env ps tests done later b h = all_stand_behind env ps tests tests done later (λ x c. c) b h

@@ -1,0 +1,97 @@
+//! Conditions with types in them.
+
+ghost use Rattle.std.specs.Prelude.{◌≡◌, IfOk, map, option_map};
+ghost use Rattle.isle_ast.specs.Views.{expr, iflet};
+ghost use Rattle.isle_core.specs.RuleViews.{pattern as elaborated_pattern, expr as elaborated_expr};
+ghost use Rattle.isle_sema.specs.ElaboratedAt.{condition_tree, IsExprOver, IsConditionAt, AreConditionsAt};
+ghost use Rattle.isle_sema.specs.ExprPass.{expr_type};
+ghost use Rattle.isle_sema.specs.RulePass.{iflet_tree};
+ghost use Rattle.isle_terms.specs.Whole.{whole};
+
+use crate::elaborated_exprs::{expr_at, type_of};
+use crate::elaborated_patterns::pattern_at;
+use crate::judged::Judged;
+use crate::known::Known;
+use crate::locals::Locals;
+use crate::new_variables::new_count;
+use crate::variables::Variables;
+use isle_ast::{AstExpr, AstIfLet};
+use isle_core::{Expr, IfLet, Pattern, TypeId};
+use std::alloc::{AllocError, Global};
+
+/// Elaborates an expression over the variables of patterns, from this number on; returns the next number after it.
+pub fn expr_over<'d>(
+    alloc: Global,
+    known: &Known,
+    vars: &Variables<'d>,
+    judged: &mut Judged,
+    next: usize,
+    expected: Option<TypeId>,
+    e: &'d AstExpr,
+) -> Result<(Option<Expr>, usize), AllocError>
+    ensures { IfOk result (λ found. IsExprOver (whole known.now) expected (expr e.now) vars.now next judged.old judged.new found) }
+{
+    let mut locals = Locals::new(alloc, vars, next);
+    let found = expr_at(alloc, known, &mut locals, judged, expected, e)?;
+    Ok((found, locals.next()))
+}
+
+// The type of an expression, where it is there.
+fn found_type(found: &Option<Expr>) -> Option<TypeId>
+    ensures { result ≡ option_map expr_type (option_map elaborated_expr found.now) }
+{
+    match found {
+        Some(e) => Some(type_of(e)),
+        None => None,
+    }
+}
+
+// A condition of these parts, where both are there.
+fn condition_of(lhs: Option<Pattern>, rhs: Option<Expr>) -> Option<IfLet>
+    ensures { condition_tree result ≡ iflet_tree (option_map elaborated_pattern lhs) (option_map elaborated_expr rhs) }
+{
+    let lhs = lhs?;
+    let rhs = rhs?;
+    Some(IfLet { lhs, rhs })
+}
+
+// A condition: its expression, over the variables before it, and then its pattern.
+fn condition_at<'d>(
+    alloc: Global,
+    known: &Known,
+    vars: &mut Variables<'d>,
+    judged: &mut Judged,
+    given: &'d AstIfLet,
+) -> Result<Option<IfLet>, AllocError>
+    ensures { IfOk result (λ found. IsConditionAt (whole known.now) (iflet given.now) vars.old vars.new judged.old judged.new found) }
+{
+    let count = new_count(alloc, vars, &given.lhs)?;
+    let Some(next) = vars.next().checked_add(count) else {
+        return Err(AllocError);
+    };
+    let (rhs, after) = expr_over(alloc, known, vars, judged, next, None, &given.rhs)?;
+    let lhs = pattern_at(alloc, known, vars, judged, found_type(&rhs), &given.lhs)?;
+    vars.leave(after);
+    Ok(condition_of(lhs, rhs))
+}
+
+/// Elaborates conditions in order, each over the variables before it: gives their trees, where all have one.
+pub fn conditions_at<'d>(
+    alloc: Global,
+    known: &Known,
+    vars: &mut Variables<'d>,
+    judged: &mut Judged,
+    given: &'d [AstIfLet],
+) -> Result<Option<Vec<IfLet>>, AllocError>
+    ensures { IfOk result (λ found. AreConditionsAt (whole known.now) (map iflet given.now) vars.old vars.new judged.old judged.new found) }
+{
+    let mut made = Vec::with_capacity(alloc, given.len())?;
+    let mut complete = true;
+    for c in given {
+        match condition_at(alloc, known, vars, judged, c)? {
+            Some(found) => made.push(found)?,
+            None => complete = false,
+        }
+    }
+    Ok(if complete { Some(made) } else { None })
+}
