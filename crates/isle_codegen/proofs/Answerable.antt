@@ -3,7 +3,7 @@ use Rattle.std.proofs.Common.{◌≡◌, ◌⊎◌, inl, inr, ⊎_elim, ℕ, zer
 use Rattle.std.specs.Prelude.{Contains, IsSomeAnd, slice_get, option_map}
 use Rattle.std.specs.List.{AllByRecursion, IsDistinct, cons_option}
 use Rattle.std.specs.Str.{bytes_eq}
-use Rattle.std.proofs.lemmas.List.Elements.{All-contains, All-from_recursion, recursion_from_All, Contains-append_cases}
+use Rattle.std.proofs.lemmas.List.Elements.{recursion_from_All, Contains-append_cases}
 use Rattle.std.proofs.lemmas.Slice.Eq.{bytes_eq-Decides}
 use Rattle.isle_core.specs.declared.Sym.{Sym}
 use Rattle.isle_core.specs.declared.TermId.{TermId}
@@ -17,7 +17,7 @@ use Rattle.isle_core.specs.declared.types.TermKind.{TermKind}
 use Rattle.isle_core.specs.declared.types.TermKind.TheVariants as term_kind
 use Rattle.isle_core.specs.declared.values.Callee.{Callee}
 use Rattle.isle_core.specs.declared.values.Callee.TheVariants.{External, Internal}
-use Rattle.isle_core.specs.BuiltRule.{IsExtractorKind, IsOpening, IsBuiltPattern, AreBuiltPatterns, IsBuiltExpr, AreBuiltExprs, AreBuiltBindings, IsBuiltRule, IsBuiltKind, HasBuiltTerms, AllHaveBuiltTerms, BindingsHaveBuiltTerms, CallsBuiltTerms}
+use Rattle.isle_core.specs.BuiltRule.{IsExtractorKind, IsOpening, IsBuiltPattern, AreBuiltPatterns, IsBuiltExpr, AreBuiltExprs, AreBuiltBindings, IsBuiltIfLet, IsBuiltRule, IsBuiltKind, IsPureKind, HasTerms, AllHaveTerms, BindingsHaveTerms, HasBuiltTerms, AllHaveBuiltTerms, BindingsHaveBuiltTerms, CallsBuiltTerms}
 use Rattle.isle_core.specs.Calling.{calling_of, calling_by, kind_of, kind_by, pure_callee, extractor_kind, extracting_of, extracting_kind}
 use Rattle.isle_core.specs.CalledTerms.{Role, Constructor, Extractor, CalledTerm, is_made_kind, is_made_term, is_made, unless_made, called_by, called_by_all, called_by_bindings, extracted_by, extracted_by_all, extracted_in, called_in_iflets, called_in, called}
 use Rattle.isle_core.specs.Expr as expr
@@ -28,7 +28,7 @@ use Rattle.isle_core.specs.Lawful.{Fits, called_as, result_types}
 use Rattle.isle_core.specs.Making.{making_kind, making_of}
 use Rattle.isle_core.specs.Pattern as pattern
 use Rattle.isle_core.specs.Pattern.{Pattern, Patterns, NoPattern, APattern}
-use Rattle.isle_core.specs.Rule.{Environment, Rule}
+use Rattle.isle_core.specs.Rule.{Environment, IfLet, Rule}
 use Rattle.isle_core.specs.Terms.{sym_text, callee_by, impure_callee}
 use Rattle.isle_core.specs.Value.{Value, Answer, Plain, Nothing}
 use Rattle.isle_core.proofs.Contained.{contained_cases, none_contained}
@@ -41,16 +41,17 @@ use Rattle.isle_codegen.specs.Meant.{HasValue, AnswersInhabited}
 
 -- ---- what rules call
 
--- an impure term that answers at most once, called as a constructor
+-- a term that answers at most once, called as a constructor
 record IsCallable (env : Environment) (o : CalledTerm) : Type 0 where
   term : Term
   found : slice_get env.terms o.term.0 ≡ Some term
   role : o.role ≡ Constructor
+  pure : Bool
   partial : Bool
   recursive : Bool
   by : ConstructorKind
   extractor : ExtractorKind
-  kind : term.kind ≡ term_kind.Decl false false partial recursive by extractor
+  kind : term.kind ≡ term_kind.Decl pure false partial recursive by extractor
   callee : Callee
   to : callee_by env term by ≡ Some callee
 
@@ -69,20 +70,20 @@ record IsExtractable (env : Environment) (o : CalledTerm) : Type 0 where
 
 -- what kind a built term has that no type makes
 record IsCalledKind (env : Environment) (t : Term) (k : TermKind) : Type 0 where
+  pure : Bool
   partial : Bool
   recursive : Bool
   by : ConstructorKind
   extractor : ExtractorKind
-  is : k ≡ term_kind.Decl false false partial recursive by extractor
+  is : k ≡ term_kind.Decl pure false partial recursive by extractor
   callee : Callee
   to : callee_by env t by ≡ Some callee
 
 called_kind : (env : Environment) (t : Term) (k : TermKind) → IsBuiltKind k → is_made_kind k ≡ false → IsCalledKind env t k
-called_kind env t (term_kind.Decl false false partial recursive constructor.Internal x) h e = record { partial = partial; recursive = recursive; by = constructor.Internal; extractor = x; is = refl; callee = Internal (sym_text env t.name); to = refl }
-called_kind env t (term_kind.Decl false false partial recursive (constructor.External func) x) h e = record { partial = partial; recursive = recursive; by = constructor.External func; extractor = x; is = refl; callee = External (sym_text env func); to = refl }
-called_kind env t (term_kind.Decl false false partial recursive constructor.Absent x) h e = absurd h
-called_kind env t (term_kind.Decl false true partial recursive by x) h e = absurd h
-called_kind env t (term_kind.Decl true multi partial recursive by x) h e = absurd h
+called_kind env t (term_kind.Decl pure false partial recursive constructor.Internal x) h e = record { pure = pure; partial = partial; recursive = recursive; by = constructor.Internal; extractor = x; is = refl; callee = Internal (sym_text env t.name); to = refl }
+called_kind env t (term_kind.Decl pure false partial recursive (constructor.External func) x) h e = record { pure = pure; partial = partial; recursive = recursive; by = constructor.External func; extractor = x; is = refl; callee = External (sym_text env func); to = refl }
+called_kind env t (term_kind.Decl pure false partial recursive constructor.Absent x) h e = absurd h
+called_kind env t (term_kind.Decl pure true partial recursive by x) h e = absurd h
 called_kind env t (term_kind.Variant ty variant) h e = cc
 called_kind env t (term_kind.Struct ty) h e = cc
 
@@ -99,7 +100,38 @@ term_callable env term o h c =
     let t = some_of (slice_get env.terms term.0) _ h in
     let d = in_unless (is_made env term) (record { term = term; role = Constructor }) o c in
     let k = called_kind env t.0 t.0.kind t.2 (ap is_made_term (sym t.1) ∙ d.0) in
-    subst (IsCallable env) d.1 (record { term = t.0; found = t.1; role = refl; partial = k.partial; recursive = k.recursive; by = k.by; extractor = k.extractor; kind = k.is; callee = k.callee; to = k.to })
+    subst (IsCallable env) d.1 (record { term = t.0; found = t.1; role = refl; pure = k.pure; partial = k.partial; recursive = k.recursive; by = k.by; extractor = k.extractor; kind = k.is; callee = k.callee; to = k.to })
+
+-- a pure term is a built one
+pure_kind : (k : TermKind) → IsPureKind k → IsBuiltKind k
+pure_kind (term_kind.Decl true false partial recursive constructor.Internal x) h = tt
+pure_kind (term_kind.Decl true false partial recursive (constructor.External func) x) h = tt
+pure_kind (term_kind.Decl true false partial recursive constructor.Absent x) h = absurd h
+pure_kind (term_kind.Decl true true partial recursive by x) h = absurd h
+pure_kind (term_kind.Decl false multi partial recursive by x) h = absurd h
+pure_kind (term_kind.Variant ty variant) h = tt
+pure_kind (term_kind.Struct ty) h = tt
+
+pure_there : (o : Option Term) → IsSomeAnd o (λ (t : Term). IsPureKind t.kind) → IsSomeAnd o (λ (t : Term). IsBuiltKind t.kind)
+pure_there None h = absurd h
+pure_there (Some t) h = pure_kind t.kind h
+
+mutual
+  pure_terms : (terms : List Term) (e : Expr) → HasTerms IsPureKind terms e → HasBuiltTerms terms e
+  pure_terms terms (expr.Var of x) h = tt
+  pure_terms terms (expr.ConstBool v) h = tt
+  pure_terms terms (expr.ConstInt of n) h = tt
+  pure_terms terms (expr.ConstPrim of name) h = tt
+  pure_terms terms (expr.Term of term es) h = (pure_there (slice_get terms term.0) h.0, all_pure_terms terms es h.1)
+  pure_terms terms (expr.Let of bs inner) h = (bindings_pure_terms terms bs h.0, pure_terms terms inner h.1)
+
+  all_pure_terms : (terms : List Term) (es : Exprs) → AllHaveTerms IsPureKind terms es → AllHaveBuiltTerms terms es
+  all_pure_terms terms NoExpr h = tt
+  all_pure_terms terms (AnExpr e es) h = (pure_terms terms e h.0, all_pure_terms terms es h.1)
+
+  bindings_pure_terms : (terms : List Term) (bs : LetBindings) → BindingsHaveTerms IsPureKind terms bs → BindingsHaveBuiltTerms terms bs
+  bindings_pure_terms terms NoBinding h = tt
+  bindings_pure_terms terms (ABinding x ty e more) h = (pure_terms terms e h.0, bindings_pure_terms terms more h.1)
 
 mutual
   expr_callable : (env : Environment) (e : Expr) → IsBuiltExpr e → HasBuiltTerms env.terms e → (o : CalledTerm) → Contains (called_by env e) o → IsCallable env o
@@ -169,13 +201,18 @@ arguments_extractable env (p ∷ ps) h o c = ⊎_elim (λ d. pattern_extractable
 abbrev IsServed : Environment → CalledTerm → Type 0
 IsServed env o = IsCallable env o ⊎ IsExtractable env o
 
+-- what conditions call
+conditions_served : (env : Environment) (cs : List IfLet) → AllByRecursion (IsBuiltIfLet env.terms) cs → (o : CalledTerm) → Contains (called_in_iflets env cs) o → IsServed env o
+conditions_served env [] b o c = absurd (none_contained o c)
+conditions_served env (i ∷ cs) b o c =
+    ⊎_elim (λ d. ⊎_elim (λ k. inl (expr_callable env i.rhs b.0.rhs (pure_terms env.terms i.rhs b.0.calls) o k)) (λ k. inr (pattern_extractable env i.lhs b.0.lhs o k)) (Contains-append_cases (called_by env i.rhs) (extracted_by env i.lhs) o d))
+    (λ d. conditions_served env cs b.1 o d) (Contains-append_cases (called_by env i.rhs ++ extracted_by env i.lhs) (called_in_iflets env cs) o c)
+
 rule_served : (env : Environment) (r : Rule) → IsBuiltRule env.terms r → CallsBuiltTerms env.terms r → (o : CalledTerm) → Contains (called_in env r) o → IsServed env o
 rule_served env r b h o c =
-    ⊎_elim (λ d. ⊎_elim (λ k. inr (arguments_extractable env r.args (recursion_from_All (IsBuiltPattern env.terms) r.args b.args) o k)) (λ k. absurd (no_condition k)) (Contains-append_cases (extracted_in env r.args) (called_in_iflets env r.iflets) o d))
+    ⊎_elim (λ d. ⊎_elim (λ k. inr (arguments_extractable env r.args (recursion_from_All (IsBuiltPattern env.terms) r.args b.args) o k))
+    (λ k. conditions_served env r.iflets (recursion_from_All (IsBuiltIfLet env.terms) r.iflets b.iflets) o k) (Contains-append_cases (extracted_in env r.args) (called_in_iflets env r.iflets) o d))
     (λ d. inl (expr_callable env r.rhs b.rhs h o d)) (Contains-append_cases (extracted_in env r.args ++ called_in_iflets env r.iflets) (called_by env r.rhs) o c)
-  where
-    no_condition : Contains (called_in_iflets env r.iflets) o → ⊥
-    no_condition k = none_contained o (subst (λ is. Contains (called_in_iflets env is) o) b.iflets k)
 
 rules_served : (env : Environment) (rules : List Rule) → AllByRecursion (IsBuiltRule env.terms) rules → AllByRecursion (CallsBuiltTerms env.terms) rules → (o : CalledTerm) → Contains (called env rules) o → IsServed env o
 rules_served env [] b h o c = absurd (none_contained o c)
@@ -184,14 +221,20 @@ rules_served env (r ∷ rules) b h o c = ⊎_elim (λ d. rule_served env r b.0 h
 -- ---- what is asked of it
 
 abbrev asked_of : (env : Environment) (o : CalledTerm) → IsCallable env o → Service
-asked_of env o x = record { callee = x.callee; pure = false; kind = kind_by false x.partial; types = x.term.ret_ty ∷ [] }
+asked_of env o x = record { callee = x.callee; pure = x.pure; kind = kind_by false x.partial; types = x.term.ret_ty ∷ [] }
+
+-- a call goes to the term's callee, by turns or by cases
+calls_to : (env : Environment) (t : Term) (pure partial recursive : Bool) (by : ConstructorKind) (x : ExtractorKind) (callee : Callee) → callee_by env t by ≡ Some callee → service_by Constructor (Some t) (calling_by (kind_by false partial) (impure_callee env t (term_kind.Decl pure false partial recursive by x)) (pure_callee env t (term_kind.Decl pure false partial recursive by x)))
+    ≡ Some (record { callee = callee; pure = pure; kind = kind_by false partial; types = t.ret_ty ∷ [] })
+calls_to env t false partial recursive by x callee to = ap (λ (c : Option Callee). service_by Constructor (Some t) (calling_by (kind_by false partial) c None)) to
+calls_to env t true partial recursive by x callee to = ap (λ (c : Option Callee). service_by Constructor (Some t) (calling_by (kind_by false partial) None c)) to
 
 service_is : (env : Environment) (o : CalledTerm) (x : IsCallable env o) → service_of env o ≡ Some (asked_of env o x)
 service_is env o x =
     subst (λ (r : Role). service_by r (slice_get env.terms o.term.0) (called_as env o.term r) ≡ Some (asked_of env o x)) (sym x.role)
     (subst (λ (t : Option Term). service_by Constructor t (calling_of env t) ≡ Some (asked_of env o x)) (sym x.found)
     (subst (λ (k : TermKind). service_by Constructor (Some x.term) (calling_by (kind_of k) (impure_callee env x.term k) (pure_callee env x.term k)) ≡ Some (asked_of env o x)) (sym x.kind)
-    (subst (λ (c : Option Callee). service_by Constructor (Some x.term) (calling_by (kind_by false x.partial) c None) ≡ Some (asked_of env o x)) (sym x.to) refl)))
+    (calls_to env x.term x.pure x.partial x.recursive x.by x.extractor x.callee x.to)))
 
 -- the same of an extractor
 abbrev extraction_of : (env : Environment) (o : CalledTerm) → IsExtractable env o → Service
@@ -286,8 +329,8 @@ named_once name (x ∷ ts) (suc i) (suc j) t u d a b same = ap suc (named_once n
 
 -- ---- of one callee the same is asked
 
-fn_is : (env : Environment) (t : Term) (partial recursive : Bool) (func : Sym) (x : ExtractorKind) → t.kind ≡ term_kind.Decl false false partial recursive (constructor.External func) x → constructor_fn_of env t ≡ Some (constructor_fn env t func)
-fn_is env t partial recursive func x e = ap (λ (k : TermKind). option_map (constructor_fn env t) (func_of k)) e
+fn_is : (env : Environment) (t : Term) (pure partial recursive : Bool) (func : Sym) (x : ExtractorKind) → t.kind ≡ term_kind.Decl pure false partial recursive (constructor.External func) x → constructor_fn_of env t ≡ Some (constructor_fn env t func)
+fn_is env t pure partial recursive func x e = ap (λ (k : TermKind). option_map (constructor_fn env t) (func_of k)) e
 
 external_name : (a b : List ℕ) → Some (External a) ≡ Some (External b) → a ≡ b
 external_name a b e = cc
@@ -305,10 +348,10 @@ names_of env = map (λ (t : Term). sym_text env t.name) env.terms
 one_term : (env : Environment) → HasFnNames env → IsDistinct bytes_eq (names_of env) → (o p : CalledTerm) (x : IsCallable env o) (y : IsCallable env p) → x.callee ≡ y.callee → o.term.0 ≡ p.term.0
 one_term env names apart o p x y same = by x.by y.by x.kind y.kind (x.to ∙ ap Some same ∙ sym y.to) x.to
   where
-    by : (a b : ConstructorKind) → x.term.kind ≡ term_kind.Decl false false x.partial x.recursive a x.extractor → y.term.kind ≡ term_kind.Decl false false y.partial y.recursive b y.extractor
+    by : (a b : ConstructorKind) → x.term.kind ≡ term_kind.Decl x.pure false x.partial x.recursive a x.extractor → y.term.kind ≡ term_kind.Decl y.pure false y.partial y.recursive b y.extractor
         → callee_by env x.term a ≡ callee_by env y.term b → callee_by env x.term a ≡ Some x.callee → o.term.0 ≡ p.term.0
     by (constructor.External f) (constructor.External g) k l e t =
-        one_place env (constructor_fn_of env) (of_constructors env) env.terms o.term.0 p.term.0 x.term y.term (constructor_fn env x.term f) (constructor_fn env y.term g) names.distinct x.found y.found (fn_is env x.term x.partial x.recursive f x.extractor k) (fn_is env y.term y.partial y.recursive g y.extractor l)
+        one_place env (constructor_fn_of env) (of_constructors env) env.terms o.term.0 p.term.0 x.term y.term (constructor_fn env x.term f) (constructor_fn env y.term g) names.distinct x.found y.found (fn_is env x.term x.pure x.partial x.recursive f x.extractor k) (fn_is env y.term y.pure y.partial y.recursive g y.extractor l)
         (external_name (sym_text env f) (sym_text env g) e)
     by constructor.Internal constructor.Internal k l e t = named_once (λ (u : Term). sym_text env u.name) env.terms o.term.0 p.term.0 x.term y.term apart x.found y.found (internal_name (sym_text env x.term.name) (sym_text env y.term.name) e)
     by (constructor.External f) constructor.Internal k l e t = cc
@@ -342,9 +385,9 @@ extracted_alike env names o p x y s t a b same =
 roles_apart : (env : Environment) → HasFnNames env → (o p : CalledTerm) (x : IsCallable env o) (y : IsExtractable env p) → x.callee ≡ External (sym_text env y.func) → ⊥
 roles_apart env names o p x y same = by x.by x.kind (x.to ∙ ap Some same)
   where
-    by : (c : ConstructorKind) → x.term.kind ≡ term_kind.Decl false false x.partial x.recursive c x.extractor → callee_by env x.term c ≡ Some (External (sym_text env y.func)) → ⊥
+    by : (c : ConstructorKind) → x.term.kind ≡ term_kind.Decl x.pure false x.partial x.recursive c x.extractor → callee_by env x.term c ≡ Some (External (sym_text env y.func)) → ⊥
     by (constructor.External func) e to =
-        extractor_apart env env.terms p.term.0 o.term.0 y.term x.term _ (constructor_fn env x.term func) names.distinct y.found x.found (extraction_fn env p y) (fn_is env x.term x.partial x.recursive func x.extractor e)
+        extractor_apart env env.terms p.term.0 o.term.0 y.term x.term _ (constructor_fn env x.term func) names.distinct y.found x.found (extraction_fn env p y) (fn_is env x.term x.pure x.partial x.recursive func x.extractor e)
         (sym (external_name (sym_text env func) (sym_text env y.func) to))
     by constructor.Internal e to = cc
     by constructor.Absent e to = cc

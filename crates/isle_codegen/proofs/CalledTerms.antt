@@ -1,8 +1,7 @@
 -- The calls among the bindings of a rule set are of terms that its rules call.
-use Rattle.std.proofs.Common.{◌≡◌, ⊎_elim, ℕ, zero, suc, ◌+◌, List, [], ◌∷◌, ◌++◌, Bool, true, false, cond, Option, Some, None, refl, sym, subst}
+use Rattle.std.proofs.Common.{◌≡◌, ⊎_elim, ℕ, zero, suc, List, [], ◌∷◌, Bool, true, false, cond, Some, refl, subst}
 use Rattle.std.specs.Prelude.{Contains, IsSome, slice_get}
 use Rattle.std.specs.List.{AllByRecursion}
-use Rattle.std.proofs.lemmas.List.Elements.{Contains-append_left, Contains-append_right, Contains-append_cases}
 use Rattle.isle_core.specs.declared.Sym.{Sym}
 use Rattle.isle_core.specs.declared.TermId.{TermId}
 use Rattle.isle_core.specs.declared.rule_sets.Binding.{Binding}
@@ -10,20 +9,18 @@ use Rattle.isle_core.specs.declared.rule_sets.Binding.TheVariants as binding
 use Rattle.isle_core.specs.declared.rule_sets.RuleSet.{RuleSet}
 use Rattle.isle_core.specs.Having.{const_of}
 use Rattle.isle_core.specs.Meaning.{Meaning}
-use Rattle.isle_core.specs.Calling.{Calling, ByTurns, ByCases, NoCall, calling, extracting, is_fallible, impure}
+use Rattle.isle_core.specs.Calling.{Calling, ByTurns, ByCases, NoCall, calling, extracting, is_fallible}
 use Rattle.isle_core.specs.Making.{Making, MakesVariant, MakesStruct, MakesNothing, making}
-use Rattle.isle_core.specs.OccurringConstants.{TypedConstant, expr_constants}
-use Rattle.isle_core.proofs.OpenedPaths.{IsOpened, IsOpenedPlace, args_open}
-use Rattle.isle_core.specs.CalledTerms.{CalledTerm, Extractor, is_made, called_by, extracted_in, called_in_iflets, called_in, called}
+use Rattle.isle_core.specs.OccurringConstants.{TypedConstant, rules_constants}
+use Rattle.isle_core.specs.Opening.{Opening, AsVariant, AsStruct, ByExtractor, opening, answer_path, result_path, part_path}
+use Rattle.isle_core.specs.CalledTerms.{CalledTerm, Extractor, is_made, called}
 use Rattle.isle_core.specs.Lawful.{AnswersFit, RoleFits, IsLawful}
-use Rattle.isle_core.specs.Path.{Path, Called, Inner, MadeVariant, MadeStruct, Paths, paths_of}
-use Rattle.isle_core.specs.Rule.{Environment, IfLet, Rule, rules_of}
-use Rattle.isle_core.specs.RulePaths.{rules_paths}
+use Rattle.isle_core.specs.Path.{Path, Called, Extracted, Inner, MadeVariant, MadeStruct, Paths, paths_of}
+use Rattle.isle_core.specs.Rule.{Environment, Rule, rules_of}
 use Rattle.isle_core.specs.StandsFor.{StandsFor}
 use Rattle.isle_core.specs.RightSide.{term_path}
-use Rattle.isle_core.specs.RulePaths.{args_paths, iflets_paths, with_inner, expr_paths, rule_paths}
-use Rattle.isle_core.specs.Tests.{Places, no_places, args_after, rule_places}
-use Rattle.isle_core.proofs.ExprPaths.{constructed, IsPlaceSo, HoldsOfParts, expr_each}
+use Rattle.isle_core.specs.RulePaths.{opening_paths, with_inner, rules_paths}
+use Rattle.isle_core.proofs.ExprPaths.{constructed}
 use Rattle.isle_core.proofs.Contained.{head_contained, tail_contained, contained_cases, none_contained}
 use Rattle.isle_core.proofs.BindingPaths.{path_before}
 use Rattle.isle_core.specs.declared.values.Callee.{Callee}
@@ -32,23 +29,11 @@ use Rattle.isle_simulation.specs.Emitted.{AnswersBindings}
 use Rattle.isle_simulation.specs.Statements.{callee_of}
 use Rattle.isle_core.specs.Terms.{sym_text}
 use Rattle.isle_codegen.specs.CalledBy.{GoesTo, IsCalledBy}
-use Rattle.isle_codegen.proofs.ExtractedPaths.{extracted, not_made, extractors_called}
-use Rattle.isle_codegen.proofs.NamedConstants.{AreUnconditional, rule_opened, rules_named, named_valued}
+use Rattle.isle_codegen.proofs.EachPath.{extracted, HoldsOfEach, rules_each}
+use Rattle.isle_codegen.proofs.ExtractedPaths.{not_made, extractors_called}
+use Rattle.isle_codegen.proofs.NamedConstants.{rules_named, named_valued}
 
 -- ---- the calls among paths
-
--- the calls among paths are of these terms
-abbrev AreOf : List CalledTerm → List Path → Type 0
-AreOf terms ps = (term : TermId) (qs : Paths) (k : ℕ) → Contains ps (Called term qs k) → Contains terms (constructed term)
-
-both_of : (terms : List CalledTerm) (xs ys : List Path) → AreOf terms xs → AreOf terms ys → AreOf terms (xs ++ ys)
-both_of terms xs ys h l term qs k c = ⊎_elim (h term qs k) (l term qs k) (Contains-append_cases xs ys (Called term qs k) c)
-
-wider : (terms more : List CalledTerm) (ps : List Path) → ((t : CalledTerm) → Contains terms t → Contains more t) → AreOf terms ps → AreOf more ps
-wider terms more ps among h term qs k c = among (constructed term) (h term qs k c)
-
-opened_apart : (p : Path) → IsOpened p → (term : TermId) (qs : Paths) (k : ℕ) → p ≡ Called term qs k → ⊥
-opened_apart p h term qs k e = subst IsOpened e h
 
 same_term : (a b : TermId) (ps qs : Paths) (j k : ℕ) → Called a ps j ≡ Called b qs k → a ≡ b
 same_term a b ps qs j k e = cc
@@ -56,14 +41,6 @@ same_term a b ps qs j k e = cc
 -- a path that calls one of these, if it calls a term
 abbrev IsOf : List CalledTerm → Path → Type 0
 IsOf terms p = (term : TermId) (qs : Paths) (k : ℕ) → p ≡ Called term qs k → Contains terms (constructed term)
-
-each_of : (terms : List CalledTerm) (ps : List Path) → AllByRecursion (IsOf terms) ps → AreOf terms ps
-each_of terms [] h term qs k c = absurd (none_contained (Called term qs k) c)
-each_of terms (p ∷ ps) h term qs k c = ⊎_elim (h.0 term qs k) (each_of terms ps h.1 term qs k) (contained_cases p ps (Called term qs k) c)
-
-place_of : (terms : List CalledTerm) (o : Option Path) → IsOpenedPlace o → IsPlaceSo (IsOf terms) o
-place_of terms None h = tt
-place_of terms (Some p) h = λ term qs k e. absurd (opened_apart p h term qs k e)
 
 -- a path and its inner value, which is no call
 inner_of : (b : Bool) (terms : List CalledTerm) (p : Path) → IsOf terms p → AllByRecursion (IsOf terms) (cond b (p ∷ Inner p ∷ []) (p ∷ []))
@@ -76,38 +53,50 @@ term_of env MakesNothing terms term ps j e h =
 term_of env (MakesVariant ty variant) terms term ps j e h = inner_of (is_fallible (calling env term)) terms (MadeVariant ty variant ps) (λ other qs k d. cc)
 term_of env (MakesStruct ty) terms term ps j e h = inner_of (is_fallible (calling env term)) terms (MadeStruct ty ps) (λ other qs k d. cc)
 
--- what an expression's parts make calls these
-parts_of : (env : Environment) (terms : List CalledTerm) (constants : List TypedConstant) → HoldsOfParts (IsOf terms) env terms constants
-parts_of env terms constants = record {
-  nowhere = λ term qs k e. cc;
-  truth = λ b term qs k e. cc;
-  number = λ ty v term qs k e. cc;
-  named = λ ty name c term qs k e. cc;
-  term = λ term ps j h. term_of env (making env term) terms term ps j refl h;
+-- what a term's pattern calls is no constructor's call
+opening_of : (terms : List CalledTerm) (opened : Opening) (p : Path) → AllByRecursion (IsOf terms) (opening_paths opened p)
+opening_of terms (AsVariant ty variant) p = tt
+opening_of terms (AsStruct ty) p = tt
+opening_of terms (ByExtractor term c count) p = inner_of (is_fallible c) terms (Extracted term p) (λ other qs k e. cc)
+
+-- nor is what it gives
+answer_of : (terms : List CalledTerm) (b : Bool) (term : TermId) (p : Path) → IsOf terms (cond b (Inner (Extracted term p)) (Extracted term p))
+answer_of terms true term p other qs k e = cc
+answer_of terms false term p other qs k e = cc
+
+result_of : (terms : List CalledTerm) (count i : ℕ) (p : Path) → IsOf terms p → IsOf terms (result_path count i p)
+result_of terms zero i p h = λ other qs k e. cc
+result_of terms (suc zero) i p h = h
+result_of terms (suc (suc count)) i p h = λ other qs k e. cc
+
+part_of : (terms : List CalledTerm) (opened : Opening) (i : ℕ) (p : Path) → IsOf terms (part_path opened i p)
+part_of terms (AsVariant ty variant) i p = λ other qs k e. cc
+part_of terms (AsStruct ty) i p = λ other qs k e. cc
+part_of terms (ByExtractor term c count) i p = result_of terms count i (answer_path c (Extracted term p)) (answer_of terms (is_fallible c) term p)
+
+-- what rules' parts make calls these
+each_of : (env : Environment) (terms : List CalledTerm) (constants : List TypedConstant) → HoldsOfEach (IsOf terms) env terms constants
+each_of env terms constants = record {
+  arg = λ i term qs k e. cc;
+  exprs = record {
+    nowhere = λ term qs k e. cc;
+    truth = λ b term qs k e. cc;
+    number = λ ty v term qs k e. cc;
+    named = λ ty name c term qs k e. cc;
+    term = λ term ps j h. term_of env (making env term) terms term ps j refl h;
+  };
+  opened = λ term p h. opening_of terms (opening env term) p;
+  part = λ term i p h. part_of terms (opening env term) i p;
 }
 
-opened_of : (terms : List CalledTerm) (ps : List Path) → AllByRecursion IsOpened ps → AreOf terms ps
-opened_of terms [] h term qs k c = absurd (none_contained (Called term qs k) c)
-opened_of terms (p ∷ ps) h term qs k c = ⊎_elim (λ e. absurd (opened_apart p h.0 term qs k e)) (opened_of terms ps h.1 term qs k) (contained_cases p ps (Called term qs k) c)
+one_of : (terms : List CalledTerm) (ps : List Path) (term : TermId) (qs : Paths) (k : ℕ) → AllByRecursion (IsOf terms) ps → Contains ps (Called term qs k) → Contains terms (constructed term)
+one_of terms [] term qs k h c = absurd (none_contained (Called term qs k) c)
+one_of terms (p ∷ ps) term qs k h c = ⊎_elim (h.0 term qs k) (one_of terms ps term qs k h.1) (contained_cases p ps (Called term qs k) c)
 
-of_conditions : (terms : List CalledTerm) (env : Environment) (is : List IfLet) (places : Places) → is ≡ [] → AreOf terms (iflets_paths env is places)
-of_conditions terms env is places none = subst (λ ks. AreOf terms (iflets_paths env ks places)) (sym none) (λ term qs k c. absurd (none_contained (Called term qs k) c))
-
-rules_of_called : (rules : List Rule) (env : Environment) (n : ℕ) → AreUnconditional rules → AreOf (called env rules) (rules_paths env rules n)
-rules_of_called [] env n none term qs k c = absurd (none_contained (Called term qs k) c)
-rules_of_called (r ∷ rules) env n none term qs k c =
-    let all = called env (r ∷ rules) in
-    let before = extracted_in env r.args ++ called_in_iflets env r.iflets in
-    let bound = args_after env r.args 0 no_places in
-    let conditions = iflets_paths env r.iflets bound in
-    let right = expr_paths env r.rhs (rule_places env r) n in
-    both_of all (rule_paths env r n) (rules_paths env rules (n + impure env r.rhs))
-    (both_of all (args_paths env r.args 0) (conditions ++ right) (opened_of all (args_paths env r.args 0) (args_open env r.args 0))
-    (both_of all conditions right (of_conditions all env r.iflets bound none.0)
-    (each_of all right
-    (expr_each (IsOf all) env all (expr_constants r.rhs) (parts_of env all (expr_constants r.rhs)) r.rhs (rule_places env r) n (record { by = λ x. place_of all (rule_places env r x) (rule_opened env r none.0 x) })
-    (λ t d. Contains-append_left (called_in env r) (called env rules) t (Contains-append_right before (called_by env r.rhs) t d)) (λ c d. d)))))
-    (wider (called env rules) all (rules_paths env rules (n + impure env r.rhs)) (λ t d. Contains-append_right (called_in env r) (called env rules) t d) (rules_of_called rules env (n + impure env r.rhs) none.1)) term qs k c
+rules_of_called : (rules : List Rule) (env : Environment) (n : ℕ) (term : TermId) (qs : Paths) (k : ℕ) → Contains (rules_paths env rules n) (Called term qs k) → Contains (called env rules) (constructed term)
+rules_of_called rules env n term qs k c =
+    let terms = called env rules in
+    one_of terms (rules_paths env rules n) term qs k (rules_each (IsOf terms) env terms (rules_constants rules) (each_of env terms (rules_constants rules)) rules n (λ o d. d) (λ o d. d)) c
 
 -- ---- bindings
 
@@ -124,18 +113,18 @@ answers_each env m (binding.Extractor term parameter ∷ bs) h x k = (x 0 term p
 answers_each env m (binding.ConstPrim name ∷ bs) h x k = (k 0 name refl, answers_each env m bs (λ i t ps j e. h (suc i) t ps j e) (λ i t p e. x (suc i) t p e) (λ i other e. k (suc i) other e))
 answers_each env m (b ∷ bs) h x k = answers_each env m bs (λ i t ps j e. h (suc i) t ps j e) (λ i t p e. x (suc i) t p e) (λ i name e. k (suc i) name e)
 
-module _ (env : Environment) (id : TermId) (s : RuleSet) (none : AreUnconditional (rules_of env id)) (stands : StandsFor env s (rules_of env id)) where
+module _ (env : Environment) (id : TermId) (s : RuleSet) (stands : StandsFor env s (rules_of env id)) where
   -- a call among the bindings is of a term that the rules call
   constructor_called : (i : ℕ) (term : TermId) (parameters : _) (k : ℕ) → slice_get s.bindings i ≡ Some (binding.Constructor term parameters k) → Contains (called env (rules_of env id)) (constructed term)
   constructor_called i term parameters k e =
       let at_i = path_before s.bindings i (binding.Constructor term parameters k) e in
-      rules_of_called (rules_of env id) env 0 none term _ k ((stands.paths _).0 (place_contained (paths_of s.bindings) i _ at_i))
+      rules_of_called (rules_of env id) env 0 term _ k ((stands.paths _).0 (place_contained (paths_of s.bindings) i _ at_i))
 
   -- so is that of an extractor
   extractor_called : (i : ℕ) (term : TermId) (parameter : _) → slice_get s.bindings i ≡ Some (binding.Extractor term parameter) → Contains (called env (rules_of env id)) (extracted term)
   extractor_called i term parameter e =
       let at_i = path_before s.bindings i (binding.Extractor term parameter) e in
-      extractors_called env (rules_of env id) 0 none term _ ((stands.paths _).0 (place_contained (paths_of s.bindings) i _ at_i))
+      extractors_called env (rules_of env id) 0 term _ ((stands.paths _).0 (place_contained (paths_of s.bindings) i _ at_i))
 
   -- a meaning that is lawful for a term answers the calls of its rule set, and gives its constants values
   pub bindings_answered : (m : Meaning) → IsLawful env id m → AnswersBindings env m s.bindings
@@ -144,7 +133,7 @@ module _ (env : Environment) (id : TermId) (s : RuleSet) (none : AreUnconditiona
       (λ i term parameter e. lawful.answers (extracted term) (extractor_called i term parameter e))
       (λ i name e.
       let at_i = path_before s.bindings i (binding.ConstPrim name) e in
-      let c = rules_named (rules_of env id) env 0 none name ((stands.paths _).0 (place_contained (paths_of s.bindings) i _ at_i)) in
+      let c = rules_named (rules_of env id) env 0 name ((stands.paths _).0 (place_contained (paths_of s.bindings) i _ at_i)) in
       named_valued env id m c.0 name lawful c.1)
 
   -- ---- the calls of a function

@@ -26,18 +26,14 @@ use Rattle.isle_simulation.specs.TraitFns.{trait_fns_of, HasFnNames}
 use Rattle.isle_simulation.proofs.TraitFnForms.{IsPlainTerm, fns_are}
 use Rattle.isle_codegen.proofs.PlainTerms.{typed_once, typed_extractor}
 use Rattle.isle_simulation.specs.OfTerm.{AreDeclared}
-use Rattle.isle_core.specs.declared.TypeId.{TypeId}
 use Rattle.isle_core.specs.BuiltRule.{IsBuiltRule, CallsBuiltTerms}
-use Rattle.isle_core.specs.HasType.{HaveTypes}
-use Rattle.isle_core.specs.Value.{Value}
 use Rattle.isle_core.proofs.LawfulExists.{lawful_with}
 use Rattle.isle_codegen.specs.FromBlock.{AreFromBlocks}
-use Rattle.isle_codegen.specs.Meant.{HasValue, IsMeant}
+use Rattle.isle_codegen.specs.Meant.{IsMeant}
 use Rattle.isle_codegen.specs.Names.{has_a_rule}
 use Rattle.isle_codegen.specs.Headline.{FunctionsMean}
 use Rattle.isle_codegen.proofs.EmittedNames.{emitted_names, distinct_names}
-use Rattle.isle_codegen.proofs.MeanRules.{HasFunction, has_function, means_rules, of_term, unconditional}
-use Rattle.isle_codegen.proofs.NamedConstants.{AreUnconditional}
+use Rattle.isle_codegen.proofs.MeanRules.{HasFunction, has_function, means_rules, of_term}
 use Rattle.isle_codegen.proofs.CalledTerms.{bound_called}
 use Rattle.isle_codegen.proofs.InhabitedTypes.{inhabited_valued}
 use Rattle.isle_codegen.proofs.TypedNames.{typed_parts}
@@ -65,10 +61,10 @@ are_declared files env [] (f ∷ fs) h = absurd h
 are_declared files env (s ∷ sets) [] h = absurd h
 
 -- each function is made from a block
-are_from_blocks : (files : Files) (env : Environment) (sets : List (TermId × RuleSet)) (fs : List Function) → ((id : TermId) → AreUnconditional (rules_of env id)) → AllByRecursion (λ (s : TermId × RuleSet). StandsFor env s.1 (rules_of env s.0)) sets → AreEmitted files env sets fs
+are_from_blocks : (files : Files) (env : Environment) (sets : List (TermId × RuleSet)) (fs : List Function) → AllByRecursion (λ (s : TermId × RuleSet). StandsFor env s.1 (rules_of env s.0)) sets → AreEmitted files env sets fs
     → AreFromBlocks files env (map (λ (s : TermId × RuleSet). s.0) sets) fs
-are_from_blocks files env [] [] none stand h = tt
-are_from_blocks files env (s ∷ sets) (f ∷ fs) none stand h = (
+are_from_blocks files env [] [] stand h = tt
+are_from_blocks files env (s ∷ sets) (f ∷ fs) stand h = (
   record {
     term = h.0.term;
     found = h.0.found;
@@ -79,12 +75,12 @@ are_from_blocks files env (s ∷ sets) (f ∷ fs) none stand h = (
     means = h.0.means;
     shape = has_shape files env h.0.term s.1.bindings h.0.block f h.0.lawful h.0.single h.0.once h.0.given;
     statements = h.0.given;
-    calls = λ callee c. bound_called env s.0 s.1 (none s.0) stand.0 callee (function_calls files env h.0.term s.1.bindings h.0.block f h.0.lawful h.0.single h.0.once h.0.given callee c);
+    calls = λ callee c. bound_called env s.0 s.1 stand.0 callee (function_calls files env h.0.term s.1.bindings h.0.block f h.0.lawful h.0.single h.0.once h.0.given callee c);
   },
-  are_from_blocks files env sets fs none stand.1 h.1,
+  are_from_blocks files env sets fs stand.1 h.1,
 )
-are_from_blocks files env [] (f ∷ fs) none stand h = absurd h
-are_from_blocks files env (s ∷ sets) [] none stand h = absurd h
+are_from_blocks files env [] (f ∷ fs) stand h = absurd h
+are_from_blocks files env (s ∷ sets) [] stand h = absurd h
 
 some_same : (a b : Term) → Some a ≡ Some b → a ≡ b
 some_same a b e = cc
@@ -151,7 +147,7 @@ module _ (defs : List Def) (files : Files) (env : Environment) (typed : Typed de
       record {
         names = ap (map (λ (f : Function). f.term)) e ∙ names_of;
         declared = subst (λ (xs : List Function). AreDeclared files env (with_rules env) xs) (sym e) (subst (λ (ids : List TermId). AreDeclared files env ids fs) stand.ids (are_declared files env sets fs emitted));
-        blocks = subst (λ (xs : List Function). AreFromBlocks files env (with_rules env) xs) (sym e) (subst (λ (ids : List TermId). AreFromBlocks files env ids fs) stand.ids (are_from_blocks files env sets fs (λ id. unconditional defs env id typed) (recursion_from_All (λ (s : TermId × RuleSet). StandsFor env s.1 (rules_of env s.0)) sets stand.stand) emitted));
+        blocks = subst (λ (xs : List Function). AreFromBlocks files env (with_rules env) xs) (sym e) (subst (λ (ids : List TermId). AreFromBlocks files env ids fs) stand.ids (are_from_blocks files env sets fs (recursion_from_All (λ (s : TermId × RuleSet). StandsFor env s.1 (rules_of env s.0)) sets stand.stand) emitted));
         mean = λ id c. means_rules defs files env p id typed clean (has_rust_names (has_a_rule env.rules) env lawful (typed_parts defs env typed)) names c (subst (λ (xs : List Function). HasFunction files env xs id) (sym e) (function_for id c));
         meant = λ id c. meant_of names id (function_for id c).emitted.term (function_for id c).emitted.found;
         values = inhabited_valued env (typed_parts defs env typed).variants;

@@ -2,6 +2,7 @@ pub mod Sources
 pub mod Headers
 pub mod Refusals
 pub mod EmittedNames
+pub mod EachPath
 pub mod NamedConstants
 pub mod ExtractedPaths
 pub mod CalledTerms

@@ -14,7 +14,7 @@ use Rattle.isle_core.specs.Value.{Value, End, Ran}
 use Rattle.isle_core.specs.Meaning.{Meaning}
 use Rattle.isle_core.specs.HasType.{HaveTypes}
 use Rattle.isle_core.specs.Nameless.{nameless_end, nameless_ran}
-use Rattle.isle_core.specs.PatternType.{FitsTerm}
+use Rattle.isle_core.proofs.RuleMatches.{IsTested}
 use Rattle.isle_core.specs.Lawful.{IsLawful}
 use Rattle.isle_core.specs.HighestMatch.{outcome_of}
 use Rattle.isle_core.specs.Calling.{kind_of, AnswersOnce}
@@ -34,7 +34,7 @@ use Rattle.isle_printer.specs.Bytes.{same_bytes}
 use Rattle.isle_printer.proofs.Bytes.{same_bytes_refl, same_bytes_sound}
 use Rattle.isle_ast.specs.Tree.{Def}
 use Rattle.isle_sema.specs.Typing.{Typed}
-use Rattle.isle_sema.proofs.BuiltRules.{typed_built, typed_scoped, typed_terms, typed_patterns}
+use Rattle.isle_sema.proofs.BuiltRules.{typed_built, typed_scoped, typed_terms, typed_tests}
 use Rattle.isle_checks.specs.CheckList.{IsClean}
 use Rattle.isle_codegen.proofs.RulesApart.{rules_apart}
 use Rattle.isle_tree.specs.Program.{Function, Program}
@@ -48,7 +48,6 @@ use Rattle.isle_codegen.specs.Headline.{GivesAs, GivesOutcome, MeansRules}
 use Rattle.isle_simulation.proofs.GivenFunctions.{runs_as_block}
 use Rattle.isle_simulation.proofs.Simulation.{ends_as}
 use Rattle.isle_codegen.proofs.CalledTerms.{bindings_answered}
-use Rattle.isle_codegen.proofs.NamedConstants.{AreUnconditional, named_valued}
 use Rattle.isle_codegen.proofs.EmittedNames.{name_of_term, emitted_name}
 
 -- ---- the function of a term is found by its name
@@ -141,10 +140,6 @@ keep_all P keep (r ∷ rs) h = pick_all P r (filter keep rs) (keep r) h.0 (keep_
 pub of_term : (P : Rule → Type 0) (env : Environment) (id : TermId) → All P env.rules → All P (rules_of env id)
 of_term P env id h = All-from_recursion P (rules_of env id) (keep_all P (λ (r : Rule). r.root_term.0 == id.0) env.rules (recursion_from_All P env.rules h))
 
--- the rules of a term have no conditions
-pub unconditional : (defs : List Def) (env : Environment) (id : TermId) → Typed defs env → AreUnconditional (rules_of env id)
-unconditional defs env id typed = recursion_from_All (λ (r : Rule). r.iflets ≡ []) (rules_of env id) (of_term (λ (r : Rule). r.iflets ≡ []) env id (λ k d lt. (typed_built defs env typed k d lt).iflets))
-
 module _ (defs : List Def) (files : Files) (env : Environment) (p : Program) (id : TermId) (typed : Typed defs env) (clean : IsClean env) (names : HasRustNames env) (fns : HasFnNames env) (listed : Contains (with_rules env) id) (h : HasFunction files env p.fns id) where
   abbrev the_term : Term
   the_term = h.emitted.term
@@ -162,8 +157,8 @@ module _ (defs : List Def) (files : Files) (env : Environment) (p : Program) (id
         built = all_of (IsBuiltRule env.terms) (typed_built defs env typed);
         scoped = all_of IsScopedRule (typed_scoped defs env typed);
         terms = all_of (CallsBuiltTerms env.terms) (typed_terms defs env typed);
-        typed = recursion_from_All (FitsTerm env the_term) (rules_of env id) (typed_patterns defs env id the_term typed h.emitted.found);
-        served = record { answers = lawful.answers; named = λ ty name c. named_valued env id m ty name lawful c };
+        typed = recursion_from_All (IsTested env the_term.arg_tys) (rules_of env id) (typed_tests defs env id the_term typed h.emitted.found);
+        served = record { answers = lawful.answers; named = lawful.named };
       }) h.stands.flat
     where
       all_of : (P : Rule → Type 0) → All P env.rules → AllByRecursion P (rules_of env id)
@@ -174,7 +169,7 @@ module _ (defs : List Def) (files : Files) (env : Environment) (p : Program) (id
       let named = name_of_term env id the_term h.emitted.found in
       ap (λ (n : List ℕ). option_map (λ (q : Ran). nameless_ran (impure_ran env q)) (run p n args m)) named
       ∙ runs_as_block files env the_term h.set.bindings h.emitted.block h.function h.emitted.lawful h.emitted.single h.emitted.once h.emitted.given names fns p args m
-      (ap (λ (n : List ℕ). function_of n p.fns) (sym named) ∙ h.found) types (bindings_answered env id h.set (unconditional defs env id typed) h.stands m lawful) lawful.declared
+      (ap (λ (n : List ℕ). function_of n p.fns) (sym named) ∙ h.found) types (bindings_answered env id h.set h.stands m lawful) lawful.declared
       ∙ ap (λ (o : Prescription). option_map nameless_ran (ran_of the_term o)) (same_outcome args m types lawful)
 
   gives_outcome : (args : List Value) (m : Meaning) → HaveTypes env args the_term.arg_tys → IsLawful env id m → GivesOutcome env p id the_term args m

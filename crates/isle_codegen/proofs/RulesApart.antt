@@ -17,7 +17,7 @@ use Rattle.isle_ast.specs.Tree.{Def}
 use Rattle.isle_core.specs.HasType.{HaveTypes}
 use Rattle.isle_core.specs.Lawful.{IsLawful}
 use Rattle.isle_sema.specs.Typing.{Typed}
-use Rattle.isle_sema.proofs.BuiltRules.{typed_built, typed_patterns}
+use Rattle.isle_sema.proofs.BuiltRules.{typed_tests, typed_variables_once}
 use Rattle.isle_sema.proofs.TypedRules.{typed_rules}
 use Rattle.isle_checks.specs.CheckList.{is_multi, IsClean}
 use Rattle.isle_checks.proofs.OneHighest.{one_highest}
@@ -35,7 +35,7 @@ pub rules_apart : (defs : List Def) (env : Environment) (id : TermId) (t : Term)
 rules_apart defs env id t typed clean listed at once m args lawful types =
     let names = typed_parts defs env typed in
     let single : is_multi env id ≡ false = ap (λ (o : Option Term). option_map_or (λ (u : Term). is_several (kind_of u.kind)) o false) at ∙ not_several (kind_of t.kind) once in
-    one_highest env id t listed single (typed_built defs env typed) (typed_patterns defs env id t typed at) clean names.variants names.constants m args lawful types
+    one_highest env id t listed single (typed_tests defs env id t typed at) (typed_variables_once defs env id t typed at) clean names.variants names.constants m args lawful types
 
 -- each rule is of a term that is there
 pub typed_roots : (defs : List Def) (env : Environment) → Typed defs env → All (λ (r : Rule). r.root_term.0 < length env.terms) env.rules
