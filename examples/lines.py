@@ -1,4 +1,4 @@
-"""The lines of examples/cases."""
+"""The lines of examples/cases, and the lists of rule files."""
 import pathlib
 import re
 
@@ -22,3 +22,18 @@ def blocks():
     for block in re.split(r"^\$ ", (HERE / "cases").read_text(), flags=re.M)[1:]:
         line, want = block.split("\n", 1)
         yield line, words_of(line), want
+
+
+def lists(text):
+    """The lists of a rule file, of a text of answers, or of values: nested lists of words."""
+    text = re.sub(r"\(;.*?;\)|;[^\n]*", " ", text, flags=re.S)
+    stack = [[]]
+    for token in re.findall(r"[()]|[^\s()]+", text):
+        if token == "(":
+            stack.append([])
+        elif token == ")":
+            last = stack.pop()
+            stack[-1].append(last)
+        else:
+            stack[-1].append(token)
+    return stack[0]
