@@ -1,13 +1,15 @@
 -- Definitions that are gathered one after the other, with the numbers of their names.
 use Rattle.std.proofs.Common.{◌≡◌, ℕ, ◌+◌, ◌<◌, List, [], ◌∷◌, ◌++◌, length, map, get_or, Option, Some, None, refl, sym, ap, ◌∙◌}
 use Rattle.std.specs.Prelude.{fold, flat_map, drop, filter_map, option_to_list}
-use Rattle.std.specs.List.{cons_option}
+use Rattle.std.specs.List.{AllByRecursion, cons_option}
 use Rattle.std.proofs.lemmas.List.{drop_more, map-append, append_assoc}
 use Rattle.isle_ast.specs.declared.tree.Def.{Def as CodeDef}
 use Rattle.isle_ast.specs.Tree.{Def}
 use Rattle.isle_ast.specs.Views.{def}
 use Rattle.isle_declarations.specs.declared.collected.Signature.{Signature as CodeSignature}
 use Rattle.isle_declarations.specs.declared.collected.Extern.{Extern as CodeExtern}
+use Rattle.isle_declarations.specs.declared.collected.Extracting.{Extracting as CodeExtracting}
+use Rattle.isle_declarations.specs.declared.collected.Extracting.TheVariants as by
 use Rattle.isle_declarations.specs.declared.collected.ExtractorDef.{ExtractorDef as CodeExtractor}
 use Rattle.isle_declarations.specs.declared.collected.RuleDef.{RuleDef as CodeRule}
 use Rattle.isle_declarations.specs.declared.collected.Item.{Item}
@@ -17,7 +19,7 @@ use Rattle.isle_declarations.specs.Names.{def_names}
 use Rattle.isle_declarations.specs.Symbols.{index_of, added}
 use Rattle.isle_declarations.specs.Numbered.{AreNumbered}
 use Rattle.isle_declarations.specs.Signatures.{signature_of, extern_of, extractor_of, rule_of}
-use Rattle.isle_declarations.specs.Collected.{signature, extern, extractor, rule, item_signatures, item_externs, item_extractors, item_rules, HaveNumbers, IsItem, AreFound, AreCollected}
+use Rattle.isle_declarations.specs.Collected.{signature, extern, extractor, rule, item_signatures, item_externs, item_extractors, item_rules, IsFunctionNumbered, HaveNumbers, IsItem, AreFound, AreCollected}
 use Rattle.isle_declarations.proofs.SymbolLaws.{kept}
 use Rattle.isle_declarations.proofs.Interned.{def_names_from, defs_more, flat_mapped}
 use Rattle.isle_declarations.proofs.NumberLaws.{numbered_kept, numbered_more}
@@ -29,6 +31,10 @@ stays_numbered more names new name n is e = ap (λ ns. index_of ns name) is ∙ 
 -- one name with its number
 pub numbered_one : (syms : List (List ℕ)) (name : List ℕ) (n : ℕ) → index_of syms name ≡ Some n → AreNumbered syms (name ∷ []) (n ∷ [])
 numbered_one syms name n e = ap (λ o. o ∷ []) e
+
+-- each function has its name's number
+abbrev AreFunctions : List (List ℕ) → List CodeExtractor → Type 0
+AreFunctions syms es = AllByRecursion (λ (x : CodeExtractor). IsFunctionNumbered syms x.by) es
 
 -- some definitions are gathered, and the others are left
 pub record AreGathered (ds : List CodeDef) (i : ℕ) (syms : List (List ℕ)) (sigs : List CodeSignature) (xs : List CodeExtern) (es : List CodeExtractor) (rules : List CodeRule) : Type 0 where
@@ -60,6 +66,23 @@ numbers_more name_of number_of more syms new xs all one is added_one h k =
     let old : AreNumbered new (map name_of xs) (map number_of xs) = rw is (numbered_kept more syms (map name_of xs) (map number_of xs) h) in
     rw (added_one, map-append name_of xs one, map-append number_of xs one) (numbered_more new (map name_of xs) (map name_of one) (map number_of xs) (map number_of one) old k)
 
+-- a function's number stays while names are added
+function_kept : (more syms new : List (List ℕ)) (x : CodeExtracting) → new ≡ fold added syms more → IsFunctionNumbered syms x → IsFunctionNumbered new x
+function_kept more syms new (by.Function func_number func infallible) is h = stays_numbered more syms new func.now func_number is h
+function_kept more syms new (by.Template params template) is h = tt
+
+functions_kept : (more syms new : List (List ℕ)) (es : List CodeExtractor) → new ≡ fold added syms more → AreFunctions syms es → AreFunctions new es
+functions_kept more syms new [] is h = tt
+functions_kept more syms new (x ∷ es) is h = (function_kept more syms new x.by is h.0, functions_kept more syms new es is h.1)
+
+functions_behind : (syms : List (List ℕ)) (es one : List CodeExtractor) → AreFunctions syms es → AreFunctions syms one → AreFunctions syms (es ++ one)
+functions_behind syms [] one h k = k
+functions_behind syms (x ∷ es) one h k = (h.0, functions_behind syms es one h.1 k)
+
+-- numbers of functions, with one more
+functions_more : (more syms new : List (List ℕ)) (es all one : List CodeExtractor) → new ≡ fold added syms more → all ≡ es ++ one → AreFunctions syms es → AreFunctions new one → AreFunctions new all
+functions_more more syms new es all one is added_one h k = rw added_one (functions_behind new es one (functions_kept more syms new es is h) k)
+
 -- one definition more
 pub gathered_more : (ds : List CodeDef) (i : ℕ) (x d : CodeDef) (item : Item) (syms new : List (List ℕ)) (sigs all_sigs : List CodeSignature) (xs all_xs : List CodeExtern) (es all_es : List CodeExtractor) (rules all_rules : List CodeRule) → i < length ds → x ≡ get_or ds i d
     → new ≡ fold added syms (def_names (def x)) → IsItem new (def x) item → all_sigs ≡ sigs ++ item_signatures item → all_xs ≡ xs ++ item_externs item → all_es ≡ es ++ item_extractors item → all_rules ≡ rules ++ item_rules item
@@ -75,7 +98,7 @@ gathered_more ds i x d item syms new sigs all_sigs xs all_xs es all_es rules all
     of_externs = numbers_more (λ (x : CodeExtern). x.term.now) (λ (x : CodeExtern). x.number) (def_names (def x)) syms new xs all_xs (item_externs item) named e h.numbers.of_externs it.numbers.of_externs;
     of_funcs = numbers_more (λ (x : CodeExtern). x.func.now) (λ (x : CodeExtern). x.func_number) (def_names (def x)) syms new xs all_xs (item_externs item) named e h.numbers.of_funcs it.numbers.of_funcs;
     of_extractors = numbers_more (λ (x : CodeExtractor). x.term.now) (λ (x : CodeExtractor). x.number) (def_names (def x)) syms new es all_es (item_extractors item) named k h.numbers.of_extractors it.numbers.of_extractors;
-    of_extracting = numbers_more (λ (x : CodeExtractor). x.func.now) (λ (x : CodeExtractor). x.func_number) (def_names (def x)) syms new es all_es (item_extractors item) named k h.numbers.of_extracting it.numbers.of_extracting;
+    of_extracting = functions_more (def_names (def x)) syms new es all_es (item_extractors item) named k h.numbers.of_extracting it.numbers.of_extracting;
     of_rules = numbers_more (λ (r : CodeRule). r.term.now) (λ (r : CodeRule). r.number) (def_names (def x)) syms new rules all_rules (item_rules item) named r h.numbers.of_rules it.numbers.of_rules;
   };
 }
@@ -87,7 +110,7 @@ all_kept more syms new sigs xs es rules is h = record {
   of_externs = rw is (numbered_kept more syms (map (λ (x : CodeExtern). x.term.now) xs) (map (λ (x : CodeExtern). x.number) xs) h.of_externs);
   of_funcs = rw is (numbered_kept more syms (map (λ (x : CodeExtern). x.func.now) xs) (map (λ (x : CodeExtern). x.func_number) xs) h.of_funcs);
   of_extractors = rw is (numbered_kept more syms (map (λ (x : CodeExtractor). x.term.now) es) (map (λ (x : CodeExtractor). x.number) es) h.of_extractors);
-  of_extracting = rw is (numbered_kept more syms (map (λ (x : CodeExtractor). x.func.now) es) (map (λ (x : CodeExtractor). x.func_number) es) h.of_extracting);
+  of_extracting = functions_kept more syms new es is h.of_extracting;
   of_rules = rw is (numbered_kept more syms (map (λ (r : CodeRule). r.term.now) rules) (map (λ (r : CodeRule). r.number) rules) h.of_rules);
 }
 

@@ -1,18 +1,23 @@
 -- What contracts see of the collected declarations and rules.
-use Rattle.std.specs.Prelude.{◌≡◌, ℕ, List, [], ◌∷◌, map, fold, flat_map, option_map, option_to_list}
+use Rattle.std.specs.Prelude.{◌≡◌, ℕ, List, [], ◌∷◌, Some, map, fold, flat_map, option_map, option_to_list}
+use Rattle.std.specs.List.{AllByRecursion}
 use Rattle.isle_ast.specs.Tree.{Def}
 use Rattle.isle_ast.specs.Views.{pattern, expr, iflet}
 use Rattle.isle_declarations.specs.declared.collected.Signature.{Signature as CodeSignature}
 use Rattle.isle_declarations.specs.declared.collected.RuleDef.{RuleDef as CodeRule}
 use Rattle.isle_declarations.specs.declared.collected.Extern.{Extern as CodeExtern}
+use Rattle.isle_declarations.specs.declared.collected.Extracting.{Extracting as CodeExtracting}
+use Rattle.isle_declarations.specs.declared.collected.Extracting.TheVariants as by
 use Rattle.isle_declarations.specs.declared.collected.ExtractorDef.{ExtractorDef as CodeExtractor}
+use Rattle.isle_declarations.specs.declared.collected.KnownExtractor.{KnownExtractor}
+use Rattle.isle_declarations.specs.declared.collected.KnownExtractor.TheVariants as known
 use Rattle.isle_declarations.specs.declared.collected.Definitions.{Definitions}
 use Rattle.isle_declarations.specs.declared.collected.Item.{Item}
 use Rattle.isle_declarations.specs.declared.collected.Item.TheVariants as item
 use Rattle.isle_declarations.specs.declared.terms.Origin.TheVariants as origin
 use Rattle.isle_declarations.specs.Names.{def_names}
-use Rattle.isle_declarations.specs.Symbols.{added, symbols}
-use Rattle.isle_declarations.specs.Signatures.{Signature, Extern, ExtractorDef, RuleDef, signature_of, extern_of, extractor_of, rule_of, signatures, externs, extractors, rule_defs}
+use Rattle.isle_declarations.specs.Symbols.{index_of, added, symbols}
+use Rattle.isle_declarations.specs.Signatures.{Signature, Extern, Extracting, ByFunction, ByTemplate, ExtractorDef, RuleDef, signature_of, extern_of, extractor_of, rule_of, signatures, externs, extractors, rule_defs}
 use Rattle.isle_declarations.specs.Numbered.{AreNumbered}
 
 -- a declaration
@@ -23,9 +28,19 @@ signature s = record { term = s.term.now; pure = s.pure; multi = s.multi; partia
 abbrev pub extern : CodeExtern → Extern
 extern x = record { term = x.term.now; func = x.func.now }
 
--- an external extractor
+-- how an extractor takes values apart
+abbrev pub extracting : CodeExtracting → Extracting
+extracting (by.Function func_number func infallible) = ByFunction func.now infallible
+extracting (by.Template params template) = ByTemplate (record { params = params.now; pattern = pattern template.now })
+
+-- what is known of it
+abbrev pub known_by : CodeExtracting → KnownExtractor
+known_by (by.Function func_number func infallible) = known.Function func_number infallible
+known_by (by.Template params template) = known.Template
+
+-- an extractor
 abbrev pub extractor : CodeExtractor → ExtractorDef
-extractor x = record { term = x.term.now; func = x.func.now; infallible = x.infallible }
+extractor x = record { term = x.term.now; by = extracting x.by; pos = x.pos }
 
 -- a rule
 abbrev pub rule : CodeRule → RuleDef
@@ -47,7 +62,7 @@ item_externs (item.Extractor x) = []
 item_externs (item.Rule r) = []
 item_externs item.Other = []
 
--- the external extractor that it is
+-- the extractor that it is
 abbrev pub item_extractors : Item → List CodeExtractor
 item_extractors (item.Declared s) = []
 item_extractors (item.External x) = []
@@ -63,13 +78,18 @@ item_rules (item.Extractor x) = []
 item_rules (item.Rule r) = r ∷ []
 item_rules item.Other = []
 
+-- the number of a function that takes values apart is that of its name; a template has none
+abbrev pub IsFunctionNumbered : List (List ℕ) → CodeExtracting → Type 0
+IsFunctionNumbered syms (by.Function func_number func infallible) = index_of syms func.now ≡ Some func_number
+IsFunctionNumbered syms (by.Template params template) = Unit {0}
+
 -- the numbers of the names are those among these symbols
 pub record HaveNumbers (syms : List (List ℕ)) (sigs : List CodeSignature) (xs : List CodeExtern) (es : List CodeExtractor) (rules : List CodeRule) : Type 0 where
   pub of_signatures : AreNumbered syms (map (λ (s : CodeSignature). s.term.now) sigs) (map (λ (s : CodeSignature). s.number) sigs)
   pub of_externs : AreNumbered syms (map (λ (x : CodeExtern). x.term.now) xs) (map (λ (x : CodeExtern). x.number) xs)
   pub of_funcs : AreNumbered syms (map (λ (x : CodeExtern). x.func.now) xs) (map (λ (x : CodeExtern). x.func_number) xs)
   pub of_extractors : AreNumbered syms (map (λ (x : CodeExtractor). x.term.now) es) (map (λ (x : CodeExtractor). x.number) es)
-  pub of_extracting : AreNumbered syms (map (λ (x : CodeExtractor). x.func.now) es) (map (λ (x : CodeExtractor). x.func_number) es)
+  pub of_extracting : AllByRecursion (λ (x : CodeExtractor). IsFunctionNumbered syms x.by) es
   pub of_rules : AreNumbered syms (map (λ (r : CodeRule). r.term.now) rules) (map (λ (r : CodeRule). r.number) rules)
 
 -- the same of all that was gathered
@@ -84,7 +104,7 @@ pub record IsItem (syms : List (List ℕ)) (d : Def) (i : Item) : Type 0 where
   pub ruled : map rule (item_rules i) ≡ option_to_list (rule_of d)
   pub numbers : HaveNumbers syms (item_signatures i) (item_externs i) (item_extractors i) (item_rules i)
 
--- the names, declarations, external constructors and extractors, and rules in definitions, with their numbers
+-- the names, declarations, external constructors, extractors, and rules in definitions, with their numbers
 pub record AreFound (defs : List Def) (given : Definitions) : Type 0 where
   pub named : given.symbols ≡ fold added [] (flat_map def_names defs)
   pub declared : map signature given.signatures.items ≡ signatures defs
@@ -112,7 +132,7 @@ pub record AreExterns (defs : List Def) (xs : List CodeExtern) : Type 0 where
   pub seen : map extern xs ≡ externs defs
   pub numbered : AreNumbered (symbols defs) (map (λ (x : CodeExtern). x.term.now) xs) (map (λ (x : CodeExtern). x.number) xs)
 
--- their external extractors, with the numbers of their terms
+-- their extractors, with the numbers of their terms
 pub record AreExtractors (defs : List Def) (xs : List CodeExtractor) : Type 0 where
   pub seen : map extractor xs ≡ extractors defs
   pub numbered : AreNumbered (symbols defs) (map (λ (x : CodeExtractor). x.term.now) xs) (map (λ (x : CodeExtractor). x.number) xs)

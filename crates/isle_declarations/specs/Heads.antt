@@ -1,4 +1,4 @@
--- The names of declarations, and of the terms of rules, external constructors and extractors.
+-- The names of declarations, and of the terms of rules, external constructors, and extractors.
 use Rattle.std.specs.Prelude.{ℕ, List, map}
 use Rattle.isle_declarations.specs.Signatures.{Signature, Extern, ExtractorDef, RuleDef}
 
@@ -14,6 +14,6 @@ heads_of rules = map (λ (r : RuleDef). r.term) rules
 abbrev pub extern_terms : List Extern → List (List ℕ)
 extern_terms xs = map (λ (x : Extern). x.term) xs
 
--- the terms of external extractors
+-- the terms of extractors
 abbrev pub extractor_terms : List ExtractorDef → List (List ℕ)
 extractor_terms xs = map (λ (x : ExtractorDef). x.term) xs

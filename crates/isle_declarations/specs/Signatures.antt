@@ -1,4 +1,4 @@
--- The declarations, external constructors and extractors, and rules among definitions.
+-- The declarations, external constructors, extractors, and rules among definitions.
 use Rattle.std.specs.Prelude.{ℕ, ℤ, List, Bool, true, false, Option, Some, None, map, filter_map, option_map, find}
 use Rattle.std.specs.List.{list_any}
 use Rattle.std.specs.Str.{bytes_eq}
@@ -26,11 +26,21 @@ pub record Extern : Type 0 where
   pub term : List ℕ
   pub func : List ℕ
 
--- an external extractor
+-- a template: its parameters, and the pattern that stands for a use of its term
+pub record Template : Type 0 where
+  pub params : List (List ℕ)
+  pub pattern : Pattern
+
+-- how an extractor takes values apart: by a function, which may be infallible, or by a template
+pub data Extracting : Type 0 where
+  ByFunction : (func : List ℕ) (infallible : Bool) → Extracting
+  ByTemplate : (template : Template) → Extracting
+
+-- an extractor, external or internal
 pub record ExtractorDef : Type 0 where
   pub term : List ℕ
-  pub func : List ℕ
-  pub infallible : Bool
+  pub by : Extracting
+  pub pos : Pos
 
 -- a rule
 pub record RuleDef : Type 0 where
@@ -66,14 +76,14 @@ extern_of (Converter from to term pos) = None
 extern_of (Rule name prio term args iflets rhs pos) = None
 extern_of (Passed head items pos) = None
 
--- the external extractor that a definition is
+-- the extractor that a definition is
 abbrev pub extractor_of : Def → Option ExtractorDef
-extractor_of (ExternExtractor term func infallible pos) = Some (record { term = term; func = func; infallible = infallible })
+extractor_of (ExternExtractor term func infallible pos) = Some (record { term = term; by = ByFunction func infallible; pos = pos })
+extractor_of (Extractor term params template pos) = Some (record { term = term; by = ByTemplate (record { params = params; pattern = template }); pos = pos })
 extractor_of (TypeDecl name is_extern is_nodebug body pos) = None
 extractor_of (Decl term pure multi partial recursive args ret pos) = None
 extractor_of (ExternConstructor term func pos) = None
 extractor_of (ExternConst name ty pos) = None
-extractor_of (Extractor term params template pos) = None
 extractor_of (Converter from to term pos) = None
 extractor_of (Rule name prio term args iflets rhs pos) = None
 extractor_of (Passed head items pos) = None
@@ -90,7 +100,7 @@ rule_of (Extractor term params template pos) = None
 rule_of (Converter from to term pos) = None
 rule_of (Passed head items pos) = None
 
--- whether a definition is a declaration, an external constructor or extractor, or a rule
+-- whether a definition is a declaration, an external constructor, an extractor, or a rule
 abbrev pub is_collected : Def → Bool
 is_collected (Decl term pure multi partial recursive args ret pos) = true
 is_collected (ExternConstructor term func pos) = true
@@ -98,7 +108,7 @@ is_collected (Rule name prio term args iflets rhs pos) = true
 is_collected (TypeDecl name is_extern is_nodebug body pos) = false
 is_collected (ExternExtractor term func infallible pos) = true
 is_collected (ExternConst name ty pos) = false
-is_collected (Extractor term params template pos) = false
+is_collected (Extractor term params template pos) = true
 is_collected (Converter from to term pos) = false
 is_collected (Passed head items pos) = false
 
@@ -110,7 +120,7 @@ signatures = filter_map signature_of
 abbrev pub externs : List Def → List Extern
 externs = filter_map extern_of
 
--- the external extractors, in order
+-- the extractors, in order
 abbrev pub extractors : List Def → List ExtractorDef
 extractors = filter_map extractor_of
 
@@ -130,7 +140,7 @@ term_named sigs name = option_map (λ (n : ℕ). record { 0 = n }) (index_of (ma
 abbrev pub func_named : List Extern → List ℕ → Option (List ℕ)
 func_named xs name = option_map (λ (x : Extern). x.func) (find (λ (x : Extern). bytes_eq x.term name) xs)
 
--- the first external extractor of a term of the name
+-- the first extractor of a term of the name
 abbrev pub extractor_named : List ExtractorDef → List ℕ → Option ExtractorDef
 extractor_named xs name = find (λ (x : ExtractorDef). bytes_eq x.term name) xs
 

@@ -2,10 +2,12 @@
 use Rattle.std.specs.Prelude.{◌≡◌, ℕ, List, Bool, ◌||◌, Option, Some, map, option_map}
 use Rattle.isle_ast.specs.Tree.{Def}
 use Rattle.isle_declarations.specs.declared.collected.Definitions.{Definitions}
+use Rattle.isle_declarations.specs.declared.collected.KnownExtractor.{KnownExtractor}
+use Rattle.isle_declarations.specs.declared.collected.KnownExtractor.TheVariants as known
 use Rattle.isle_declarations.specs.declared.first_places.FirstPlaces.{FirstPlaces}
 use Rattle.isle_declarations.specs.Symbols.{index_of, number_or, symbols}
 use Rattle.isle_declarations.specs.Numbered.{place_in}
-use Rattle.isle_declarations.specs.Signatures.{ExtractorDef, signatures, externs, extractors, rule_defs, func_named, extractor_named}
+use Rattle.isle_declarations.specs.Signatures.{ExtractorDef, Extracting, ByFunction, ByTemplate, signatures, externs, extractors, rule_defs, func_named, extractor_named}
 use Rattle.isle_declarations.specs.Heads.{terms_of, extern_terms, extractor_terms, heads_of}
 use Rattle.isle_declarations.specs.Repeats.{repeats}
 use Rattle.isle_declarations.specs.Collected.{signature, extern, extractor, rule, AreCollected}
@@ -18,7 +20,7 @@ declared_names given = terms_of (map signature given.signatures.items)
 abbrev pub external_names : Definitions → List (List ℕ)
 external_names given = extern_terms (map extern given.externs.items)
 
--- the terms of the external extractors
+-- the terms of the extractors
 abbrev pub extracting_names : Definitions → List (List ℕ)
 extracting_names given = extractor_terms (map extractor given.extractors.items)
 
@@ -47,14 +49,19 @@ IsFirstPlace defs number names found = (name : List ℕ) → index_of (symbols d
 abbrev pub IsFuncNumber : List Def → ℕ → Option ℕ → Type 0
 IsFuncNumber defs number found = (name : List ℕ) → index_of (symbols defs) name ≡ Some number → found ≡ option_map (λ (func : List ℕ). number_or (index_of (symbols defs) func)) (func_named (externs defs) name)
 
--- what is known of an external extractor: the number of its function, and whether it is infallible
-abbrev pub extractor_known : List (List ℕ) → ExtractorDef → ℕ × Bool
-extractor_known syms x = (number_or (index_of syms x.func), x.infallible)
+-- what is known of how values are taken apart: the number of the function, and whether it is infallible; or that it is a template
+abbrev pub extracting_known : List (List ℕ) → Extracting → KnownExtractor
+extracting_known syms (ByFunction func infallible) = known.Function (number_or (index_of syms func)) infallible
+extracting_known syms (ByTemplate template) = known.Template
 
--- what is found by a number is what is known of its name's external extractor
-abbrev pub IsExtractorKnown : List Def → ℕ → Option (ℕ × Bool) → Type 0
+-- what is known of an extractor
+abbrev pub extractor_known : List (List ℕ) → ExtractorDef → KnownExtractor
+extractor_known syms x = extracting_known syms x.by
+
+-- what is found by a number is what is known of its name's extractor
+abbrev pub IsExtractorKnown : List Def → ℕ → Option KnownExtractor → Type 0
 IsExtractorKnown defs number found = (name : List ℕ) → index_of (symbols defs) name ≡ Some number → found ≡ option_map (extractor_known (symbols defs)) (extractor_named (extractors defs) name)
 
--- two declarations, external constructors or external extractors are of one term
+-- two declarations, external constructors or extractors are of one term
 abbrev pub any_repeat : List Def → Bool
 any_repeat defs = repeats (terms_of (signatures defs)) || repeats (extern_terms (externs defs)) || repeats (extractor_terms (extractors defs))

@@ -1,4 +1,4 @@
-//! The declarations, external constructors and extractors, and rules among definitions.
+//! The declarations, external constructors, extractors, and rules among definitions.
 
 ghost use Rattle.std.specs.Prelude.{◌≡◌, ◌++◌, OnOk};
 ghost use Rattle.isle_declarations.specs.Collected.{item_signatures, item_externs, item_extractors, item_rules};
@@ -31,14 +31,34 @@ pub struct Extern<'d> {
     pub func: &'d Text,
 }
 
-/// An external extractor: its term and its function, with their numbers, and whether it always answers.
+/// How an extractor takes values apart: by a function, with its number, which may always answer, or by a template.
+#[derive(Clone, Copy)]
+pub enum Extracting<'d> {
+    Function {
+        func_number: usize,
+        func: &'d Text,
+        infallible: bool,
+    },
+    Template {
+        params: &'d [Text],
+        template: &'d AstPattern,
+    },
+}
+
+/// An extractor of either kind, and the number of its term.
 #[derive(Clone, Copy)]
 pub struct ExtractorDef<'d> {
     pub number: usize,
     pub term: &'d Text,
-    pub func_number: usize,
-    pub func: &'d Text,
-    pub infallible: bool,
+    pub by: Extracting<'d>,
+    pub pos: Pos,
+}
+
+/// What is known of an extractor: the number of its function, and whether it always answers; or that it has a template.
+#[derive(Clone, Copy)]
+pub enum KnownExtractor {
+    Function { number: usize, infallible: bool },
+    Template,
 }
 
 /// A rule, and the number of its term's name.

@@ -1,4 +1,4 @@
-//! Declarations, external constructors and extractors, and rules, looked up by the numbers of their names.
+//! Declarations, external constructors, extractors, and rules, looked up by the numbers of their names.
 
 ghost use Rattle.std.specs.Prelude.{◌≡◌, IfOk, length, map};
 ghost use Rattle.isle_ast.specs.Views.{defs as seen};
@@ -6,10 +6,12 @@ ghost use Rattle.isle_declarations.specs.Symbols.{index_of, symbols};
 ghost use Rattle.isle_declarations.specs.DeclaredTypes.{made_of};
 ghost use Rattle.isle_declarations.specs.Signatures.{signatures, externs, extractors, rule_defs};
 ghost use Rattle.isle_declarations.specs.Heads.{terms_of, extern_terms, extractor_terms, heads_of};
-ghost use Rattle.isle_declarations.specs.Collected.{AreSignatures, AreExterns, AreExtractors, AreRules};
+ghost use Rattle.isle_declarations.specs.Collected.{known_by, AreSignatures, AreExterns, AreExtractors, AreRules};
 ghost use Rattle.isle_declarations.specs.Tables.{IsFirstPlace, IsFuncNumber, IsExtractorKnown, any_repeat};
 
-use crate::collected::{Definitions, Extern, ExtractorDef, RuleDef, Signature};
+use crate::collected::{
+    Definitions, Extern, Extracting, ExtractorDef, KnownExtractor, RuleDef, Signature,
+};
 use crate::first_places::{FirstPlaces, place_in};
 use crate::interning::definitions;
 use crate::tables::{declared_places, external_places, extracting_places, ruled_places};
@@ -18,7 +20,7 @@ use isle_core::{List, Text};
 use std::alloc::{AllocError, Global};
 use std::marker::Model;
 
-/// The declarations, external constructors and extractors, and rules of definitions, with the numbers of their names. Contracts see the
+/// The declarations, external constructors, extractors, and rules of definitions, with the numbers of their names. Contracts see the
 /// definitions.
 #[derive(Drop)]
 pub struct Declarations<'d> {
@@ -45,6 +47,23 @@ impl<'d> Model for Declarations<'d> {
     ghost view = { λ k. k.defs.now };
 
     ghost invariant = { λ k. AreTables (seen k.defs.now) k.given k.declared k.external k.extracting k.ruled };
+}
+
+// What is known of how an extractor takes values apart.
+fn known_by(by: Extracting) -> KnownExtractor
+    ensures { result ≡ known_by by.entry }
+{
+    match by {
+        Extracting::Function {
+            func_number,
+            infallible,
+            ..
+        } => KnownExtractor::Function {
+            number: func_number,
+            infallible,
+        },
+        Extracting::Template { .. } => KnownExtractor::Template,
+    }
 }
 
 impl<'d> Declarations<'d> {
@@ -114,7 +133,7 @@ impl<'d> Declarations<'d> {
         self.given.externs.as_slice()
     }
 
-    /// Returns the external extractors, in order.
+    /// Returns the extractors, in order.
     pub fn extractors(&self) -> &[ExtractorDef<'d>]
         ensures { AreExtractors (seen self.now) result.now }
     {
@@ -142,7 +161,7 @@ impl<'d> Declarations<'d> {
         place_in(self.external.table.as_slice(), number)
     }
 
-    /// Returns the place of the first external extractor of the term whose name has this number.
+    /// Returns the place of the first extractor of the term whose name has this number.
     pub fn extracting(&self, number: usize) -> Option<usize>
         ensures { IsFirstPlace (seen self.now) number (extractor_terms (extractors (seen self.now))) result }
     {
@@ -165,17 +184,16 @@ impl<'d> Declarations<'d> {
         Some(found.func_number)
     }
 
-    /// Returns the number of the function of the external extractor of the term whose name has this number, and whether it always
-    /// answers.
-    pub fn extractor(&self, number: usize) -> Option<(usize, bool)>
+    /// Returns what is known of the extractor of the term whose name has this number.
+    pub fn extractor(&self, number: usize) -> Option<KnownExtractor>
         ensures { IsExtractorKnown (seen self.now) number result }
     {
         let place = self.extracting(number)?;
         let found = self.given.extractors.get(place)?;
-        Some((found.func_number, found.infallible))
+        Some(known_by(found.by))
     }
 
-    /// Tells whether two declarations, external constructors or external extractors are of one term.
+    /// Tells whether two declarations, external constructors or extractors are of one term.
     pub fn any_repeat(&self) -> bool
         ensures { result ≡ any_repeat (seen self.now) }
     {

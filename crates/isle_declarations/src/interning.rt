@@ -5,10 +5,12 @@ ghost use Rattle.isle_ast.specs.Views.{pattern, def, defs as seen};
 ghost use Rattle.isle_declarations.specs.Symbols.{index_of, added};
 ghost use Rattle.isle_declarations.specs.Names.{pattern_names, body_names, def_names};
 ghost use Rattle.isle_declarations.specs.DeclaredTypes.{made_of};
-ghost use Rattle.isle_declarations.specs.Signatures.{is_collected, signature_of};
+ghost use Rattle.isle_declarations.specs.Signatures.{is_collected, signature_of, extern_of, rule_of};
 ghost use Rattle.isle_declarations.specs.Collected.{IsItem, AreCollected, AreFound};
 
-use crate::collected::{Definitions, Extern, ExtractorDef, Item, RuleDef, Signature, keep};
+use crate::collected::{
+    Definitions, Extern, Extracting, ExtractorDef, Item, RuleDef, Signature, keep,
+};
 use crate::pattern_interning::intern_pattern;
 use crate::rule_interning::intern_rule;
 use crate::symbols::Symbols;
@@ -72,18 +74,20 @@ fn intern_two<'d>(
     intern(names, second)
 }
 
-// The names in an extractor with a pattern.
-fn intern_extractor<'d>(
+// The names in an extractor with a template, and its term's number.
+fn intern_template<'d>(
     names: &mut Symbols<'d>,
     term: &'d Text,
     params: &'d [Text],
     template: &'d AstPattern,
-) -> Result<(), AllocError>
-    ensures { OnOk result (names.new ≡ fold added names.old (term.now ∷ params.now ++ pattern_names (pattern template.now))) }
+) -> Result<usize, AllocError>
+    ensures names { OnOk result (names.new ≡ fold added names.old (term.now ∷ params.now ++ pattern_names (pattern template.now))) }
+    ensures number { IfOk result (λ number. index_of names.new term.now ≡ Some number) }
 {
-    intern(names, term)?;
+    let number = names.intern(term.as_str())?;
     intern_texts(names, params)?;
-    intern_pattern(names, template)
+    intern_pattern(names, template)?;
+    Ok(number)
 }
 
 // The names in a converter.
@@ -99,7 +103,7 @@ fn intern_converter<'d>(
     intern_two(names, to, term)
 }
 
-// The names in a definition that is no declaration, external constructor, external extractor or rule.
+// The names in a definition that is no declaration, external constructor, extractor or rule.
 fn intern_uncollected<'d>(names: &mut Symbols<'d>, given: &'d Def) -> Result<(), AllocError>
     ensures { OnOk result (is_collected (def given.now) ≡ false → names.new ≡ fold added names.old (def_names (def given.now))) }
 {
@@ -109,15 +113,57 @@ fn intern_uncollected<'d>(names: &mut Symbols<'d>, given: &'d Def) -> Result<(),
         Def::ExternConstructor { .. } => Ok(()),
         Def::ExternExtractor { .. } => Ok(()),
         Def::ExternConst { name, ty, .. } => intern_two(names, name, ty),
+        Def::Extractor { .. } => Ok(()),
+        Def::Converter { from, to, term, .. } => intern_converter(names, from, to, term),
+        Def::Rule { .. } => Ok(()),
+        Def::Passed { .. } => Ok(()),
+    }
+}
+
+// An extractor, and the names in it from left to right, or those in a definition that is not collected.
+#[tactic(auto, using(crate::proofs::Gathered::numbered_one))]
+fn intern_extractor<'d>(names: &mut Symbols<'d>, given: &'d Def) -> Result<Item<'d>, AllocError>
+    ensures names { OnOk result (signature_of (def given.now) ≡ None → extern_of (def given.now) ≡ None → rule_of (def given.now) ≡ None → names.new ≡ fold added names.old (def_names (def given.now))) }
+    ensures item { IfOk result (λ item. signature_of (def given.now) ≡ None → extern_of (def given.now) ≡ None → rule_of (def given.now) ≡ None → IsItem names.new (def given.now) item) }
+{
+    match given {
+        Def::ExternExtractor {
+            term,
+            func,
+            infallible,
+            pos,
+        } => {
+            let (number, func_number) = intern_extern(names, term, func)?;
+            Ok(Item::Extractor(ExtractorDef {
+                number,
+                term,
+                by: Extracting::Function {
+                    func_number,
+                    func,
+                    infallible: *infallible,
+                },
+                pos: *pos,
+            }))
+        }
         Def::Extractor {
             term,
             params,
             template,
-            ..
-        } => intern_extractor(names, term, params.as_slice(), template),
-        Def::Converter { from, to, term, .. } => intern_converter(names, from, to, term),
-        Def::Rule { .. } => Ok(()),
-        Def::Passed { .. } => Ok(()),
+            pos,
+        } => {
+            let params = params.as_slice();
+            let number = intern_template(names, term, params, template)?;
+            Ok(Item::Extractor(ExtractorDef {
+                number,
+                term,
+                by: Extracting::Template { params, template },
+                pos: *pos,
+            }))
+        }
+        _ => {
+            intern_uncollected(names, given)?;
+            Ok(Item::Other)
+        }
     }
 }
 
@@ -135,21 +181,6 @@ fn intern_undeclared<'d>(names: &mut Symbols<'d>, given: &'d Def) -> Result<Item
                 term,
                 func_number,
                 func,
-            }))
-        }
-        Def::ExternExtractor {
-            term,
-            func,
-            infallible,
-            ..
-        } => {
-            let (number, func_number) = intern_extern(names, term, func)?;
-            Ok(Item::Extractor(ExtractorDef {
-                number,
-                term,
-                func_number,
-                func,
-                infallible: *infallible,
             }))
         }
         Def::Rule {
@@ -173,10 +204,7 @@ fn intern_undeclared<'d>(names: &mut Symbols<'d>, given: &'d Def) -> Result<Item
                 pos: *pos,
             }))
         }
-        _ => {
-            intern_uncollected(names, given)?;
-            Ok(Item::Other)
-        }
+        _ => intern_extractor(names, given),
     }
 }
 

@@ -1,5 +1,5 @@
-//! The declarations, external constructors and rules among definitions, gathered and looked up by name; the types and constants
-//! that each declares, and the terms that types make.
+//! The declarations, external constructors, extractors, and rules among definitions, gathered and looked up by name; the types and
+//! constants that each declares, and the terms that types make; and whether names repeat.
 #![tactic(auto)]
 
 mod collected;
@@ -10,6 +10,7 @@ mod first_places;
 mod interning;
 mod made;
 mod pattern_interning;
+mod repeated_names;
 mod rule_interning;
 mod symbols;
 mod tables;
@@ -17,9 +18,10 @@ mod terms;
 mod text_interning;
 mod type_interning;
 
-pub use collected::{Extern, ExtractorDef, RuleDef, Signature};
+pub use collected::{Extern, Extracting, ExtractorDef, KnownExtractor, RuleDef, Signature};
 pub use declarations::Declarations;
 pub use declared_types::{constant_of, type_of};
 pub use made::made_each;
+pub use repeated_names::repeats;
 pub use symbols::Symbols;
 pub use terms::{ArgTypes, Origin, TermDef, Terms, terms_of};

@@ -1,4 +1,4 @@
-//! The first places of declarations, external constructors and extractors, and rules, by the numbers of their terms.
+//! The first places of declarations, external constructors, extractors, and rules, by the numbers of their terms.
 
 ghost use Rattle.std.specs.Prelude.{◌≡◌, IfOk, map};
 ghost use Rattle.isle_declarations.specs.Collected.{AreAllNumbered};
@@ -30,7 +30,7 @@ fn extern_numbers(alloc: Global, externs: &[Extern]) -> Result<Vec<usize>, Alloc
     Ok(numbers)
 }
 
-// The numbers of the terms of external extractors.
+// The numbers of the terms of extractors.
 fn extractor_numbers(alloc: Global, extractors: &[ExtractorDef]) -> Result<Vec<usize>, AllocError>
     ensures { IfOk result (λ numbers. numbers.items ≡ map (λ x. x.number) extractors.now) }
 {
@@ -70,7 +70,7 @@ pub fn external_places(alloc: Global, given: &Definitions) -> Result<FirstPlaces
     first_places(alloc, given.symbols.len(), numbers.as_slice())
 }
 
-/// Returns the first places of external extractors.
+/// Returns the first places of extractors.
 pub fn extracting_places(alloc: Global, given: &Definitions) -> Result<FirstPlaces, AllocError>
     requires { AreAllNumbered given.now }
     ensures { IfOk result (λ found. HasFirsts given.now.symbols (extracting_names given.now) found) }

@@ -4,6 +4,7 @@ use Rattle.std.specs.Option.{option_copied}
 use Rattle.isle_ast.specs.declared.tree.Def.{Def}
 use Rattle.isle_ast.specs.Views.{defs as seen}
 use Rattle.isle_declarations.specs.declared.collected.ExtractorDef.{ExtractorDef}
+use Rattle.isle_declarations.specs.Collected.{known_by}
 use Rattle.isle_declarations.specs.Tables.{AreTables}
 use Rattle.isle_declarations.proofs.LookUps.{got, there}
 use Rattle.isle_declarations.proofs.ExtractorNumbers.{extractor_found, extractor_absent}
@@ -24,7 +25,7 @@ returns-in_err-found c =
     let items : c.deref.result.now ≡ c.self.inside.given.extractors.items = search rules in
     let h = c.get.ensures.lookup in
     let past : slice_get c.deref.result.now c.in_ok-place.place ≡ None = sym (got c.deref.result.now c.in_ok-place.place c.get.result h.1 h.3) ∙ ap option_copied nothing in
-    c.from_residual-in_err-found.ensures ∙ sym (ap (option_map (λ (x : ExtractorDef). (x.func_number, x.infallible))) (ap (λ (xs : List ExtractorDef). slice_get xs c.in_ok-place.place) (sym items) ∙ past))
+    c.from_residual-in_err-found.ensures ∙ sym (ap (option_map (λ (x : ExtractorDef). known_by x.by)) (ap (λ (xs : List ExtractorDef). slice_get xs c.in_ok-place.place) (sym items) ∙ past))
     ∙ extractor_found (seen c.args.self.now) c.self.inside.given name (Some c.in_ok-place.place) known.collected (place ∙ c.extracting.ensures name e)
 
 pub returns : goal.returns
@@ -35,5 +36,5 @@ returns c =
     let items : c.deref.result.now ≡ c.self.inside.given.extractors.items = search rules in
     let h = c.get.ensures.lookup in
     let is = there c.deref.result.now c.in_ok-place.place c.get.result c.in_ok-found.found h.1 h.3 (search rules) in
-    sym (ap (option_map (λ (x : ExtractorDef). (x.func_number, x.infallible))) (ap (λ (xs : List ExtractorDef). slice_get xs c.in_ok-place.place) (sym items) ∙ is))
+    ap Some c.known_by.ensures ∙ sym (ap (option_map (λ (x : ExtractorDef). known_by x.by)) (ap (λ (xs : List ExtractorDef). slice_get xs c.in_ok-place.place) (sym items) ∙ is))
     ∙ extractor_found (seen c.args.self.now) c.self.inside.given name (Some c.in_ok-place.place) known.collected (place ∙ c.extracting.ensures name e)
