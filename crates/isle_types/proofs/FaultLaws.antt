@@ -51,7 +51,8 @@ later_lies : (P : Pos → Type 0) (found : Option Row) (pos : Pos) (rest : Optio
 later_lies P None pos rest f h later e = later e
 later_lies P (Some r) pos rest f h later e = let same : (r, pos) ≡ f = cc in subst (λ (x : Row × Pos). P x.1) same h
 
-after_lies : (P : Pos → Type 0) (broken : List Def → Def → Option Row) (before ds : List Def) (f : Row × Pos) → AllByRecursion (λ (d : Def). P (place_of d)) ds → fault_after broken before ds ≡ Some f → P f.1
+-- a fault of a stage stands where a definition does
+pub after_lies : (P : Pos → Type 0) (broken : List Def → Def → Option Row) (before ds : List Def) (f : Row × Pos) → AllByRecursion (λ (d : Def). P (place_of d)) ds → fault_after broken before ds ≡ Some f → P f.1
 after_lies P broken before [] f h e = absurd cc
 after_lies P broken before (d ∷ ds) f h e = later_lies P (broken before d) (place_of d) (fault_after broken (before ++ d ∷ []) ds) f h.0 (λ k. after_lies P broken (before ++ d ∷ []) ds f h.1 k) e
 
@@ -59,7 +60,8 @@ after_lies P broken before (d ∷ ds) f h e = later_lies P (broken before d) (pl
 pub fault_lies : (P : Pos → Type 0) (ds : List Def) (f : Row × Pos) → AllByRecursion (λ (d : Def). P (place_of d)) ds → type_fault ds ≡ Some f → P f.1
 fault_lies P ds f h e = after_lies P (type_row ds) [] ds f h e
 
-told_by : (P : Pos → Type 0) (fault : Option (Row × Pos)) (error : Error) → ((f : Row × Pos) → fault ≡ Some f → P f.1) → TellsTyping fault (Some error) → (f : Row × Pos) × P f.1 × TellsFault f error
+-- so does the error that tells one
+pub told_by : (P : Pos → Type 0) (fault : Option (Row × Pos)) (error : Error) → ((f : Row × Pos) → fault ≡ Some f → P f.1) → TellsTyping fault (Some error) → (f : Row × Pos) × P f.1 × TellsFault f error
 told_by P None error h t = absurd t
 told_by P (Some f) error h t = (f, h f refl, t)
 

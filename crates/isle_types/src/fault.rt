@@ -105,8 +105,8 @@ fn misfit_of<'d>(
     }
 }
 
-// The place of a definition.
-fn place_of(given: &Def) -> Pos
+/// Returns the place of a definition.
+pub fn place_of(given: &Def) -> Pos
     ensures { result ≡ place_of (def given.now) }
 {
     match given {

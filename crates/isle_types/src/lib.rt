@@ -9,9 +9,11 @@ mod known_types;
 mod misfit;
 mod row;
 mod type_environment;
+mod words;
 
 pub use before::Before;
 pub use builtins::type_named;
-pub use fault::check_types;
+pub use fault::{check_types, place_of};
 pub use row::Row;
 pub use type_environment::type_env;
+pub use words::{push_name, told};

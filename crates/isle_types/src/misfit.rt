@@ -4,6 +4,7 @@ ghost use Rattle.std.specs.Prelude.{◌≡◌};
 ghost use Rattle.isle_types.specs.Gathered.{misfit_row};
 
 use crate::row::Row;
+use crate::words::{push_name, told};
 use isle_core::{OutOfMemory, Text};
 use std::alloc::Global;
 
@@ -53,14 +54,6 @@ impl<'d> Misfit<'d> {
     }
 }
 
-// Words around a name; a byte below 32 in it is told as `?`.
-fn told(alloc: Global, before: &str, name: &Text, behind: &str) -> Result<Text, OutOfMemory> {
-    let mut words = String::from_str(alloc, before)?;
-    push_name(&mut words, name)?;
-    words.push_str(behind)?;
-    Ok(Text::new(words))
-}
-
 // That a constant's type is not one that a constant may have.
 fn not_scalar(alloc: Global, name: &Text, ty: &Text) -> Result<Text, OutOfMemory> {
     let mut words = String::from_str(alloc, "constant '")?;
@@ -69,12 +62,4 @@ fn not_scalar(alloc: Global, name: &Text, ty: &Text) -> Result<Text, OutOfMemory
     push_name(&mut words, ty)?;
     words.push_str("', which is neither builtin nor primitive")?;
     Ok(Text::new(words))
-}
-
-// Adds a name.
-fn push_name(words: &mut String, name: &Text) -> Result<(), OutOfMemory> {
-    for letter in name.as_str().chars() {
-        words.push(if letter < ' ' { '?' } else { letter })?;
-    }
-    Ok(())
 }
