@@ -275,7 +275,7 @@ untaken_left ds i x d c listed lt is some none =
 
 -- ---- all of them
 
-not_kept : {X : Type 0} (b : Bool) (o : Option X) (x : X) → cond b None o ≡ Some x → (b ≡ false) × (o ≡ Some x)
+pub not_kept : {X : Type 0} (b : Bool) (o : Option X) (x : X) → cond b None o ≡ Some x → (b ≡ false) × (o ≡ Some x)
 not_kept true o x h = absurd cc
 not_kept false o x h = (refl, h)
 

@@ -3,3 +3,7 @@ pub mod TermSteps
 pub mod Placing
 pub mod ConverterLaws
 pub mod ReducedLaws
+pub mod EarlierNames
+pub mod DeclaredTerms
+pub mod DeclarationFaults
+pub mod FaultSteps

@@ -20,7 +20,7 @@ undeclared_more sigs xs i x d o found lt is at f =
     let known : is_some (signature_named sigs x.term.now) ≡ found = has_signature sigs x.term.now ∙ ap is_some (sym at) ∙ f in
     ap (λ ys. has_undeclared sigs (map extern ys)) (drop_more xs i d lt ∙ ap (λ y. y ∷ drop (i + 1) xs) (sym is)) ∙ ap (λ b. not b || has_undeclared sigs (map extern (drop (i + 1) xs))) known
 
--- one external extractor more
+-- one extractor more
 pub unknown_more : (sigs : List Signature) (xs : List CodeExtractor) (i : ℕ) (x d : CodeExtractor) (o : Option ℕ) (found : Bool) → i < length xs → x ≡ get_or xs i d → o ≡ index_of (terms_of sigs) x.term.now → is_some o ≡ found
     → has_unknown sigs (map extractor (drop i xs)) ≡ not found || has_unknown sigs (map extractor (drop (i + 1) xs))
 unknown_more sigs xs i x d o found lt is at f =

@@ -6,13 +6,11 @@ use Rattle.isle_ast.specs.Tree.{Def}
 use Rattle.std.proofs.lemmas.List.{drop_more, append_assoc}
 use Rattle.isle_core.specs.declared.TypeId.{TypeId}
 use Rattle.isle_core.specs.declared.types.Term.{Term}
-use Rattle.isle_core.specs.declared.types.ExtractorKind.TheVariants as extractor
 use Rattle.isle_declarations.specs.declared.terms.TermDef.{TermDef}
 use Rattle.isle_declarations.specs.TermViews.{term_def}
 use Rattle.isle_declarations.specs.Heads.{heads_of}
-use Rattle.isle_declarations.specs.Signatures.{ExtractorDef, externs, rule_defs, func_named, has_rule}
+use Rattle.isle_declarations.specs.Signatures.{externs, rule_defs, func_named, has_rule}
 use Rattle.isle_declarations.specs.Symbols.{index_of, number_or, symbols}
-use Rattle.isle_declarations.specs.Tables.{extractor_known}
 use Rattle.isle_declarations.specs.Terms.{terms}
 use Rattle.isle_declarations.specs.Signatures.{Signature}
 use Rattle.isle_declarations.proofs.DeclaredNames.{AreAmong}
@@ -21,7 +19,7 @@ use Rattle.isle_declarations.proofs.NumberLaws.{has_head}
 use Rattle.isle_terms.specs.Whole.{Whole}
 use Rattle.isle_terms.specs.TermPass.{tree_before}
 use Rattle.isle_terms.specs.TypeNames.{type_named}
-use Rattle.isle_terms.specs.TermPass.{types_named, constructor_of, constructor_named, extractor_from, term_pass, terms_pass}
+use Rattle.isle_terms.specs.TermPass.{types_named, constructor_of, constructor_named, term_pass, terms_pass}
 
 -- ---- in order
 
@@ -33,7 +31,7 @@ pub one_before : {X : Type 0} (xs : List X) (x : X) (o : Option (List X)) → be
 one_before xs x None = refl
 one_before xs x (Some r) = ap Some (sym (append_assoc xs (x ∷ []) r))
 
--- ---- constructors and extractors
+-- ---- constructors
 
 no_func : (number : List ℕ → ℕ) (o : Option (List ℕ)) → None ≡ option_map number o → None ≡ o
 no_func number None h = refl
@@ -45,15 +43,6 @@ pub inside : (w : Whole) (name : List ℕ) (rule : Option ℕ) (ruled : Bool) �
 inside w name rule ruled none at is =
     ap (constructor_of w.types.syms None) (sym is ∙ ap is_some at ∙ has_head (rule_defs w.defs) name)
     ∙ ap (λ o. constructor_of w.types.syms o (has_rule (rule_defs w.defs) name)) (no_func (λ (func : List ℕ). number_or (index_of w.types.syms func)) (func_named (externs w.defs) name) none)
-
--- a term is taken apart by its external extractor
-pub taken_by : (syms : List (List ℕ)) (o : Option ExtractorDef) (func : ℕ) (infallible : Bool) → Some (func, infallible) ≡ option_map (extractor_known syms) o → extractor.External (record { 0 = func }) infallible ≡ extractor_from syms o
-taken_by syms None func infallible h = absurd cc
-taken_by syms (Some x) func infallible h = ap (λ (p : ℕ × Bool). extractor.External (record { 0 = p.0 }) p.1) (same_Some {A = ℕ × Bool} (func, infallible) (extractor_known syms x) h)
-
-pub taken_by_none : (syms : List (List ℕ)) (o : Option ExtractorDef) → None ≡ option_map (extractor_known syms) o → extractor.Absent ≡ extractor_from syms o
-taken_by_none syms None h = refl
-taken_by_none syms (Some x) h = absurd cc
 
 -- ---- what is left
 

@@ -68,3 +68,8 @@ pub record IsJoined (old : Converters) (c : Converter) (new : Converters) : Type
 abbrev pub AreTaken : List Def → Option Converters → Type 0
 AreTaken defs None = taken_converters (whole_of defs) [] (converters defs) ≡ None
 AreTaken defs (Some found) = (taken_converters (whole_of defs) [] (converters defs) ≡ Some found.listed.items) × AreFound defs (converters defs) found
+
+-- the converters among these definitions are taken, and are found by their types
+pub record AreMet (all before : List Def) (found : Converters) : Type 0 where
+  pub taken : taken_converters (whole_of all) [] (converters before) ≡ Some found.listed.items
+  pub finds : AreFound all (converters before) found

@@ -4,7 +4,9 @@ pub mod Context
 pub mod TermPass
 pub mod Converters
 pub mod DeclarationRows
+pub mod TermFault
 pub mod Tests
 pub mod ConverterViews
+pub mod Misfits
 pub mod Reduced
 pub mod Expected

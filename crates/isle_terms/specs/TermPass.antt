@@ -12,7 +12,7 @@ use Rattle.isle_ast.specs.Tree.{Def}
 use Rattle.isle_declarations.specs.declared.terms.Origin.{Origin}
 use Rattle.isle_declarations.specs.declared.terms.Origin.TheVariants as origin
 use Rattle.isle_declarations.specs.Symbols.{sym_of}
-use Rattle.isle_declarations.specs.Signatures.{Signature, ExtractorDef, externs, extractors, rule_defs, func_named, extractor_named, has_rule}
+use Rattle.isle_declarations.specs.Signatures.{Signature, Extracting, ByFunction, ByTemplate, ExtractorDef, externs, extractors, rule_defs, func_named, extractor_named, has_rule}
 use Rattle.isle_terms.specs.TypeNames.{type_named}
 use Rattle.isle_terms.specs.Whole.{Whole}
 
@@ -36,10 +36,15 @@ constructor_of syms None false = constructor.Absent
 abbrev pub constructor_named : Whole → List ℕ → ConstructorKind
 constructor_named w name = constructor_of w.types.syms (func_named (externs w.defs) name) (has_rule (rule_defs w.defs) name)
 
--- a term is taken apart by its external extractor, where it has one
+-- a term is taken apart by the function or by the template of its extractor
+abbrev pub extractor_by : List (List ℕ) → Extracting → ExtractorKind
+extractor_by syms (ByFunction func infallible) = extractor.External (sym_of syms func) infallible
+extractor_by syms (ByTemplate template) = extractor.Internal
+
+-- so where it has one
 abbrev pub extractor_from : List (List ℕ) → Option ExtractorDef → ExtractorKind
 extractor_from syms None = extractor.Absent
-extractor_from syms (Some x) = extractor.External (sym_of syms x.func) x.infallible
+extractor_from syms (Some x) = extractor_by syms x.by
 
 -- what a term of this name is taken apart by
 abbrev pub extracting_named : Whole → List ℕ → ExtractorKind

@@ -1,4 +1,4 @@
--- What the code tests of declarations, external constructors and extractors, converters, and rules.
+-- What the code tests of declarations, external constructors, extractors, converters, and rules.
 use Rattle.std.specs.Prelude.{List, [], ◌∷◌, ◌++◌, Bool, false, ◌||◌, not, is_some}
 use Rattle.std.specs.List.{list_any}
 use Rattle.isle_declarations.specs.Signatures.{Signature, Extern, ExtractorDef, RuleDef, signatures, signature_named, func_named}
@@ -22,7 +22,7 @@ is_misdeclared defs s =
 abbrev pub has_undeclared : List Signature → List Extern → Bool
 has_undeclared sigs xs = list_any (λ (x : Extern). not (is_some (signature_named sigs x.term))) xs
 
--- an external extractor is of a term that is not declared
+-- an extractor is of a term that is not declared
 abbrev pub has_unknown : List Signature → List ExtractorDef → Bool
 has_unknown sigs xs = list_any (λ (x : ExtractorDef). not (is_some (signature_named sigs x.term))) xs
 

@@ -31,7 +31,7 @@ termed w name = signature_named (terms w.defs) name
 abbrev pub has_constructor : Whole → Signature → Bool
 has_constructor w s = is_made s.origin || is_some (func_named (externs w.defs) s.term) || has_rule (rule_defs w.defs) s.term
 
--- a term is made, or has an external extractor
+-- a term is made, or has an extractor
 abbrev pub has_extractor : Whole → Signature → Bool
 has_extractor w s = is_made s.origin || is_some (extractor_named (extractors w.defs) s.term)
 

@@ -1,6 +1,6 @@
 //! Converters, found by the types that they stand between.
 
-ghost use Rattle.std.specs.Prelude.{◌≡◌, List, IfOk, OnOk, option_map};
+ghost use Rattle.std.specs.Prelude.{◌≡◌, List, [], IfOk, OnOk, option_map};
 ghost use Rattle.isle_ast.specs.Tree.{Def as PureDef};
 ghost use Rattle.isle_ast.specs.Views.{def, defs as seen_defs};
 ghost use Rattle.isle_declarations.specs.Collected.{signature as seen_signature};
@@ -73,6 +73,17 @@ fn types_of(before: &Before, given: Conversion) -> Option<(TypeId, TypeId)>
 }
 
 impl Converters {
+    /// Begins without any.
+    pub(crate) fn new(alloc: Global) -> Converters
+        ensures listed { result.listed.items ≡ [] }
+        ensures finds { (defs : List PureDef) → AreFound defs [] result }
+    {
+        Converters {
+            listed: Vec::new(alloc),
+            numbers: BTreeMap::new(alloc),
+        }
+    }
+
     /// Returns the number of the name of the term that makes a value of one type from a value of the other.
     pub fn between(&self, from: TypeId, to: TypeId) -> Option<usize>
         ensures { (defs : List PureDef) (cs : List PureConversion) → AreFound defs cs self.now → IsNumberOf defs (converter_between defs cs from to) result }
@@ -80,8 +91,8 @@ impl Converters {
         self.numbers.get(&(from.index(), to.index())).copied()
     }
 
-    // What is known of a converter that follows these: nothing where it is wrong.
-    fn known(
+    /// Returns what is known of a converter that follows these: nothing where it is wrong.
+    pub(crate) fn known(
         &self,
         declarations: &Declarations,
         before: &Before,
@@ -111,8 +122,8 @@ impl Converters {
         })
     }
 
-    // Adds a converter. The only error is want of memory.
-    fn add(&mut self, given: Converter) -> Result<(), AllocError>
+    /// Adds a converter. The only error is want of memory.
+    pub(crate) fn add(&mut self, given: Converter) -> Result<(), AllocError>
         ensures { OnOk result (IsJoined self.old given self.new) }
     {
         self.listed.push((given.from, given.to, given.term))?;
@@ -133,10 +144,7 @@ pub fn converters_of(
     requires terms { AreTerms (seen_defs declarations.now) terms.now }
     ensures { IfOk result (λ found. AreTaken (seen_defs declarations.now) found) }
 {
-    let mut found = Converters {
-        listed: Vec::new(alloc),
-        numbers: BTreeMap::new(alloc),
-    };
+    let mut found = Converters::new(alloc);
     for given in declarations.defs() {
         if let Some(conversion) = converter_of(given) {
             match found.known(declarations, before, terms, conversion) {

@@ -11,7 +11,7 @@ ghost use Rattle.isle_terms.specs.Whole.{whole};
 
 use crate::named_types::{type_named, types_of};
 use isle_core::{ConstructorKind, ExtractorKind, List, Sym, Term, TermKind, TypeId, VariantId};
-use isle_declarations::{Declarations, Origin, TermDef, Terms};
+use isle_declarations::{Declarations, KnownExtractor, Origin, TermDef, Terms};
 use isle_types::Before;
 use std::alloc::{AllocError, Global};
 
@@ -31,15 +31,16 @@ fn constructor_of(declarations: &Declarations, number: usize) -> ConstructorKind
     }
 }
 
-// A term is taken apart by its external extractor, where it has one.
+// A term is taken apart by its extractor, where it has one.
 fn extractor_of(declarations: &Declarations, number: usize) -> ExtractorKind
     ensures { (name : List ℕ) → index_of (symbols (defs declarations.now)) name ≡ Some number → result ≡ extracting_named (whole declarations.now) name }
 {
     match declarations.extractor(number) {
-        Some((func, infallible)) => ExtractorKind::External {
-            func: Sym(func),
+        Some(KnownExtractor::Function { number, infallible }) => ExtractorKind::External {
+            func: Sym(number),
             infallible,
         },
+        Some(KnownExtractor::Template) => ExtractorKind::Internal,
         None => ExtractorKind::Absent,
     }
 }

@@ -20,7 +20,7 @@ pub fn has_undeclared(declarations: &Declarations) -> bool
     false
 }
 
-/// Tells whether an external extractor is of a term that is not declared.
+/// Tells whether an extractor is of a term that is not declared.
 pub fn has_unknown(declarations: &Declarations) -> bool
     ensures { result ≡ has_unknown (signatures (seen declarations.now)) (extractors (seen declarations.now)) }
 {

@@ -1,6 +1,6 @@
 //! Types by their names.
 
-ghost use Rattle.std.specs.Prelude.{◌≡◌, ℕ, List, IfOk, is_some, map, option_map};
+ghost use Rattle.std.specs.Prelude.{◌≡◌, ℕ, List, IfOk, is_some, not, map, option_map};
 ghost use Rattle.std.specs.List.{list_all};
 ghost use Rattle.isle_ast.specs.Tree.{Def};
 ghost use Rattle.isle_declarations.specs.TermViews.{arg_types};
@@ -33,6 +33,18 @@ pub fn are_types(before: &Before, names: &[Text]) -> bool
         }
     }
     true
+}
+
+/// Returns the first of the names that is not that of a type.
+pub fn missing_type<'d>(before: &Before, names: &'d [Text]) -> Option<&'d Text>
+    ensures { (defs : List Def) → IsBefore defs before.now → is_some result ≡ not (list_all (λ (n : List ℕ). is_some (type_named defs n)) names.now) }
+{
+    for name in names {
+        if type_named(before, name).is_none() {
+            return Some(name);
+        }
+    }
+    None
 }
 
 // The types of names, where all are declared.

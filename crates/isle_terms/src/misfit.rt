@@ -1,0 +1,126 @@
+//! What is wrong with a declaration, with what names a term, with a converter or with a head, and how it is told.
+
+ghost use Rattle.std.specs.Prelude.{◌≡◌};
+ghost use Rattle.isle_terms.specs.Misfits.{misfit_row};
+
+use crate::converters::Conversion;
+use isle_core::{OutOfMemory, Text};
+use isle_types::{Row, push_name, told};
+use std::alloc::Global;
+
+/// What is wrong with a definition, with the names concerned.
+#[derive(Clone, Copy)]
+pub enum Misfit<'d> {
+    DeclaredTwice(&'d Text),
+    Made(&'d Text),
+    TypeMissing(&'d Text),
+    ManyArguments(&'d Text),
+    MultiAndPartial(&'d Text),
+    Undeclared(&'d Text),
+    SecondConstructor(&'d Text),
+    SecondExtractor(&'d Text),
+    InfallibleMulti(&'d Text),
+    /// A term, how many parameters its extractor has, and how many arguments it has itself.
+    ParameterCount(&'d Text, usize, usize),
+    ParameterTwice(&'d Text),
+    ConverterTypeMissing(&'d Text),
+    SecondConverter(Conversion<'d>),
+    ConverterUnfit(Conversion<'d>),
+    HeadUndeclared(&'d Text),
+    HeadExternal(&'d Text),
+}
+
+impl<'d> Misfit<'d> {
+    /// Returns the row of the typing table that it is of.
+    pub fn row(&self) -> Row
+        ensures { result ≡ misfit_row self.now }
+    {
+        match self {
+            Misfit::DeclaredTwice(_) => Row::DeclarationRepeats,
+            Misfit::Made(_) => Row::DeclarationRepeats,
+            Misfit::TypeMissing(_) => Row::TypeMissing,
+            Misfit::ManyArguments(_) => Row::ManyArguments,
+            Misfit::MultiAndPartial(_) => Row::MultiAndPartial,
+            Misfit::Undeclared(_) => Row::TermUndeclared,
+            Misfit::SecondConstructor(_) => Row::SecondOfTerm,
+            Misfit::SecondExtractor(_) => Row::SecondOfTerm,
+            Misfit::InfallibleMulti(_) => Row::InfallibleMulti,
+            Misfit::ParameterCount(_, _, _) => Row::ParametersMisfit,
+            Misfit::ParameterTwice(_) => Row::ParametersMisfit,
+            Misfit::ConverterTypeMissing(_) => Row::ConverterMisfit,
+            Misfit::SecondConverter(_) => Row::ConverterMisfit,
+            Misfit::ConverterUnfit(_) => Row::ConverterMisfit,
+            Misfit::HeadUndeclared(_) => Row::HeadMisfit,
+            Misfit::HeadExternal(_) => Row::HeadMisfit,
+        }
+    }
+
+    /// Tells it in words, for the user: no clause speaks of them.
+    pub fn words(&self, alloc: Global) -> Result<Text, OutOfMemory> {
+        match self {
+            Misfit::ParameterCount(term, params, args) => counts(alloc, term, *params, *args),
+            Misfit::SecondConverter(given) => second(alloc, given),
+            Misfit::ConverterUnfit(given) => unfit(alloc, given),
+            Misfit::DeclaredTwice(term) => told(alloc, "term '", term, "' is declared twice"),
+            Misfit::Made(term) => told(alloc, "term '", term, "' is made by a type"),
+            Misfit::TypeMissing(ty) => told(alloc, "type '", ty, "' is not declared"),
+            Misfit::ManyArguments(term) => told(alloc, "'", term, "' has more than 256 arguments"),
+            Misfit::MultiAndPartial(term) => told(alloc, "'", term, "' is multi and partial"),
+            Misfit::Undeclared(term) => told(alloc, "term '", term, "' is not declared"),
+            Misfit::SecondConstructor(term) => {
+                told(alloc, "term '", term, "' has two external constructors")
+            }
+            Misfit::SecondExtractor(term) => told(alloc, "term '", term, "' has two extractors"),
+            Misfit::InfallibleMulti(term) => {
+                told(alloc, "'", term, "' is multi, and its extractor infallible")
+            }
+            Misfit::ParameterTwice(term) => told(alloc, "'", term, "' has one parameter twice"),
+            Misfit::ConverterTypeMissing(ty) => told(alloc, "type '", ty, "' is not declared"),
+            Misfit::HeadUndeclared(term) => told(alloc, "term '", term, "' is not declared"),
+            Misfit::HeadExternal(term) => {
+                told(alloc, "'", term, "' has a rule and an external constructor")
+            }
+        }
+    }
+}
+
+// That an extractor has that many parameters, and its term that many arguments.
+fn counts(alloc: Global, term: &Text, params: usize, args: usize) -> Result<Text, OutOfMemory> {
+    let many_params = plural(params);
+    let many_args = plural(args);
+    let behind = format!(in alloc;
+        "' has {params} parameter{many_params}, its term has {args} argument{many_args}"
+    )?;
+    told(alloc, "'", term, behind.as_str())
+}
+
+// How a noun ends of which there are so many.
+fn plural(count: usize) -> &'static str {
+    if count == 1 { "" } else { "s" }
+}
+
+// That there is an earlier converter between the types.
+fn second(alloc: Global, given: &Conversion) -> Result<Text, OutOfMemory> {
+    let mut words = converter(alloc, given)?;
+    words.push_str("there is an earlier one")?;
+    Ok(Text::new(words))
+}
+
+// That a converter's term does not fit it.
+fn unfit(alloc: Global, given: &Conversion) -> Result<Text, OutOfMemory> {
+    let mut words = converter(alloc, given)?;
+    words.push_str("term '")?;
+    push_name(&mut words, given.term)?;
+    words.push_str("' does not take the one alone and give the other")?;
+    Ok(Text::new(words))
+}
+
+// Between which types a converter stands.
+fn converter(alloc: Global, given: &Conversion) -> Result<String, OutOfMemory> {
+    let mut words = String::from_str(alloc, "converter from '")?;
+    push_name(&mut words, given.from)?;
+    words.push_str("' to '")?;
+    push_name(&mut words, given.to)?;
+    words.push_str("': ")?;
+    Ok(words)
+}
