@@ -1,0 +1,6 @@
+pub mod ClosedWalks
+pub mod NextNodes
+pub mod NoneClosed
+pub mod Orders
+pub mod Paths
+pub mod Steps
