@@ -1,0 +1,7 @@
+use Rattle.std.proofs.Common.{take}
+use Rattle.isle_templates.specs.Written.{written_of}
+use Rattle.isle_templates.proofs.FilledTable.{IsFilled}
+use Rattle.isle_templates.proofs.templates.filled.Given as goal
+
+abbrev pub invariant-loop-term : goal.invariant-loop-term
+invariant-loop-term l = IsFilled (written_of l.written) (take l.term-index l.order) l.table.items
