@@ -9,9 +9,10 @@ use Rattle.isle_ast.specs.Tree.{Pattern, Patterns, NoPattern, APattern}
 use Rattle.isle_sema.specs.declared.judged.Judged.{Judged}
 use Rattle.isle_sema.specs.ElaboratedAt.{copies, IsPatternAt}
 use Rattle.isle_sema.specs.Judging.{judge, judge_all}
-use Rattle.isle_sema.specs.PatternPass.{PatternsPass, is_blank, bound_tree, count_of, of_each, pattern_pass, patterns_pass}
+use Rattle.isle_sema.specs.PatternPass.{PatternsPass, bound_tree, count_of, of_each, pattern_pass, patterns_pass}
+use Rattle.isle_variables.specs.Scope.{is_blank}
 use Rattle.isle_terms.specs.TermPass.{tree_before}
-use Rattle.isle_sema.specs.Scope.{Scope, bound_at, met, variable}
+use Rattle.isle_variables.specs.Scope.{Scope, bound_at, met, variable}
 use Rattle.isle_sema.specs.Site.{MetAt}
 use Rattle.isle_terms.specs.Whole.{Whole}
 use Rattle.isle_sema.proofs.TypedPatterns.{bind_pass}

@@ -36,7 +36,7 @@ all_contained P [] s h c = absurd (none_contained s c)
 all_contained P (x ∷ sigs) s h c = ⊎_elim (λ (same : x ≡ s). subst (λ (y : Signature). P y.term) same h.0) (λ there. all_contained P sigs s h.1 there) (contained_cases x sigs s c)
 
 -- among names of their own, the term of a name is the one that stands there
-term_alone : (sigs : List Signature) (s : Signature) → IsDistinct bytes_eq (terms_of sigs) → Contains sigs s → signature_named sigs s.term ≡ Some s
+pub term_alone : (sigs : List Signature) (s : Signature) → IsDistinct bytes_eq (terms_of sigs) → Contains sigs s → signature_named sigs s.term ≡ Some s
 unfolding IsDistinct
 term_alone [] s d c = absurd (none_contained s c)
 term_alone (x ∷ sigs) s d c =
@@ -50,7 +50,7 @@ first_there true x s found rest later h = subst (Contains (x ∷ rest)) (same_So
 first_there false x s found rest later h = tail_contained x rest s (later h)
 
 -- a declared term is among all
-declared_there : (defs : List Def) (name : List ℕ) (s : Signature) → signature_named (signatures defs) name ≡ Some s → Contains (terms defs) s
+pub declared_there : (defs : List Def) (name : List ℕ) (s : Signature) → signature_named (signatures defs) name ≡ Some s → Contains (terms defs) s
 declared_there [] name s h = absurd cc
 declared_there (tree.Decl term pure multi partial recursive args ret pos ∷ ds) name s h =
     let x : Signature = record { term = term; pure = pure; multi = multi; partial = partial; recursive = recursive; args = args; ret = ret; pos = pos; origin = origin.Declared } in

@@ -1,10 +1,8 @@
 -- What is judged of parts, one after the other, is what the rows say of all.
-use Rattle.std.proofs.Common.{◌≡◌, ℕ, ◌+◌, ◌-◌, ◌^◌, ◌≤◌, Bool, true, false, cond, List, [], ◌∷◌, ◌++◌, length, Option, Some, None, refl, sym, ap, ◌∙◌, subst, arith}
-use Rattle.std.specs.Prelude.{◌==◌, ◌&&◌, ◌||◌, not, is_some, min, nat_le}
+use Rattle.std.proofs.Common.{◌≡◌, ℕ, Bool, true, false, cond, List, [], ◌∷◌, ◌++◌, length, Option, Some, None, refl, sym, ap, ◌∙◌, subst}
+use Rattle.std.specs.Prelude.{◌==◌, ◌&&◌, ◌||◌, not, is_some}
 use Rattle.std.specs.List.{list_any}
-use Rattle.std.proofs.Math.Nat.{min-le_right}
-use Rattle.std.proofs.lemmas.Bool.{leb-true, le-leb}
-use Rattle.std.proofs.lemmas.List.{length-map, length-append}
+use Rattle.std.proofs.lemmas.List.{length-map}
 use Rattle.std.proofs.lemmas.List.Folds.{list_any-append}
 use Rattle.isle_core.specs.declared.TypeId.{TypeId}
 use Rattle.isle_sema.specs.declared.judged.Judged.{Judged}
@@ -23,6 +21,8 @@ use Rattle.isle_sema.specs.Known.{IsCalled, MayBeCalled}
 use Rattle.isle_sema.specs.Judging.{is_partial_call, is_impure_call, is_multi_call, unjudged, judge, judge_all, lowest}
 use Rattle.isle_sema.specs.Language.{is_ruled, uses_ruled}
 use Rattle.isle_sema.specs.Taken.{row_of}
+use Rattle.isle_sema.specs.RuleRows.{is_large}
+use Rattle.isle_types.specs.Fault.{or_later}
 
 -- ---- a call
 
@@ -32,7 +32,7 @@ when_called w old new site None o c is h k = absurd (subst (MayBeCalled w None) 
 when_called w old new site (Some x) o c is h k = k x (subst (MayBeCalled w (Some x)) is h)
 
 -- a call of a declared term, by what is known of it
-pub called_judged : (w : Whole) (s : Signature) (c : Called) (j : Judged) (expected : Option TypeId) (count nodes : ℕ) (differs : Bool) → differs ≡ differ (Some c.ret) expected → nodes ≡ min (j.nodes + 1) (2 ^ 64 - 1) → IsCalled w s c
+pub called_judged : (w : Whole) (s : Signature) (c : Called) (j : Judged) (expected : Option TypeId) (count : ℕ) (differs : Bool) → differs ≡ differ (Some c.ret) expected → IsCalled w s c
     → record {
       untaken = j.untaken;
       mistaken = j.mistaken;
@@ -45,11 +45,11 @@ pub called_judged : (w : Whole) (s : Signature) (c : Called) (j : Judged) (expec
       impure = not c.pure || j.impure;
       multi = c.multi || j.multi;
       ruled = c.ruled || j.ruled;
-      nodes = nodes;
+      unbound = j.unbound;
     }
     ≡ judge w j (CalledAt expected (Some s) count)
-called_judged w s c j expected count nodes differs other more h =
-    let put : ℕ → Bool → Bool → Bool → Bool → Bool → Bool → Bool → ℕ → Judged = λ n made external ruled differs partial pure multi nodes. record {
+called_judged w s c j expected count differs other h =
+    let put : ℕ → Bool → Bool → Bool → Bool → Bool → Bool → Bool → Judged = λ n made external ruled differs partial pure multi. record {
       untaken = j.untaken;
       mistaken = j.mistaken;
       misplaced = j.misplaced;
@@ -61,25 +61,24 @@ called_judged w s c j expected count nodes differs other more h =
       impure = not pure || j.impure;
       multi = multi || j.multi;
       ruled = ruled || j.ruled;
-      nodes = nodes;
+      unbound = j.unbound;
     } in
     let long : length c.args.now ≡ length s.args = sym (length-map c.args.now Some) ∙ ap length (sym h.args) ∙ length-map s.args (type_named w.defs) in
     let made = is_made s.origin in
     let external = is_some (func_named (externs w.defs) s.term) in
     let ruled = has_rule (rule_defs w.defs) s.term in
     let other_type = differ (type_named w.defs s.ret) expected in
-    ap (λ n. put n c.made c.external c.ruled differs c.partial c.pure c.multi nodes) long
-    ∙ ap (λ b. put (length s.args) b c.external c.ruled differs c.partial c.pure c.multi nodes) (sym h.made)
-    ∙ ap (λ b. put (length s.args) made b c.ruled differs c.partial c.pure c.multi nodes) (sym h.external)
-    ∙ ap (λ b. put (length s.args) made external b differs c.partial c.pure c.multi nodes) (sym h.ruled)
-    ∙ ap (λ b. put (length s.args) made external ruled b c.partial c.pure c.multi nodes) (other ∙ ap (λ ty. differ ty expected) (sym h.ret))
-    ∙ ap (λ b. put (length s.args) made external ruled other_type b c.pure c.multi nodes) (sym h.partial)
-    ∙ ap (λ b. put (length s.args) made external ruled other_type s.partial b c.multi nodes) (sym h.pure)
-    ∙ ap (λ b. put (length s.args) made external ruled other_type s.partial s.pure b nodes) (sym h.multi)
-    ∙ ap (put (length s.args) made external ruled other_type s.partial s.pure s.multi) more
+    ap (λ n. put n c.made c.external c.ruled differs c.partial c.pure c.multi) long
+    ∙ ap (λ b. put (length s.args) b c.external c.ruled differs c.partial c.pure c.multi) (sym h.made)
+    ∙ ap (λ b. put (length s.args) made b c.ruled differs c.partial c.pure c.multi) (sym h.external)
+    ∙ ap (λ b. put (length s.args) made external b differs c.partial c.pure c.multi) (sym h.ruled)
+    ∙ ap (λ b. put (length s.args) made external ruled b c.partial c.pure c.multi) (other ∙ ap (λ ty. differ ty expected) (sym h.ret))
+    ∙ ap (λ b. put (length s.args) made external ruled other_type b c.pure c.multi) (sym h.partial)
+    ∙ ap (λ b. put (length s.args) made external ruled other_type s.partial b c.multi) (sym h.pure)
+    ∙ ap (put (length s.args) made external ruled other_type s.partial s.pure) (sym h.multi)
 
 -- a term in a pattern, by what is known of it
-pub taken_judged : (w : Whole) (s : Signature) (c : Called) (j : Judged) (expected : Option TypeId) (count nodes : ℕ) (differs : Bool) → differs ≡ differ (Some c.ret) expected → nodes ≡ min (j.nodes + 1) (2 ^ 64 - 1) → IsCalled w s c
+pub taken_judged : (w : Whole) (s : Signature) (c : Called) (j : Judged) (expected : Option TypeId) (count : ℕ) (differs : Bool) → differs ≡ differ (Some c.ret) expected → IsCalled w s c
     → record {
       untaken = (not (count == length c.args.now) || not (c.made || c.extracting)) || j.untaken;
       mistaken = differs || j.mistaken;
@@ -92,11 +91,11 @@ pub taken_judged : (w : Whole) (s : Signature) (c : Called) (j : Judged) (expect
       impure = j.impure;
       multi = j.multi;
       ruled = c.ruled || j.ruled;
-      nodes = nodes;
+      unbound = j.unbound;
     }
     ≡ judge w j (TakenAt expected (Some s) count)
-taken_judged w s c j expected count nodes differs other more h =
-    let put : ℕ → Bool → Bool → Bool → Bool → ℕ → Judged = λ n made extracting differs ruled nodes. record {
+taken_judged w s c j expected count differs other h =
+    let put : ℕ → Bool → Bool → Bool → Bool → Judged = λ n made extracting differs ruled. record {
       untaken = (not (count == n) || not (made || extracting)) || j.untaken;
       mistaken = differs || j.mistaken;
       misplaced = j.misplaced;
@@ -108,16 +107,15 @@ taken_judged w s c j expected count nodes differs other more h =
       impure = j.impure;
       multi = j.multi;
       ruled = ruled || j.ruled;
-      nodes = nodes;
+      unbound = j.unbound;
     } in
     let long : length c.args.now ≡ length s.args = sym (length-map c.args.now Some) ∙ ap length (sym h.args) ∙ length-map s.args (type_named w.defs) in
     let made = is_made s.origin in
     let extracting = is_some (extractor_named (extractors w.defs) s.term) in
     let differs_so = differ (type_named w.defs s.ret) expected in
-    ap (λ n. put n c.made c.extracting differs c.ruled nodes) long ∙ ap (λ b. put (length s.args) b c.extracting differs c.ruled nodes) (sym h.made) ∙ ap (λ b. put (length s.args) made b differs c.ruled nodes) (sym h.extracting)
-    ∙ ap (λ b. put (length s.args) made extracting b c.ruled nodes) (other ∙ ap (λ ty. differ ty expected) (sym h.ret))
-    ∙ ap (λ b. put (length s.args) made extracting differs_so b nodes) (sym h.ruled)
-    ∙ ap (put (length s.args) made extracting differs_so (has_rule (rule_defs w.defs) s.term)) more
+    ap (λ n. put n c.made c.extracting differs c.ruled) long ∙ ap (λ b. put (length s.args) b c.extracting differs c.ruled) (sym h.made) ∙ ap (λ b. put (length s.args) made b differs c.ruled) (sym h.extracting)
+    ∙ ap (λ b. put (length s.args) made extracting b c.ruled) (other ∙ ap (λ ty. differ ty expected) (sym h.ret))
+    ∙ ap (put (length s.args) made extracting differs_so) (sym h.ruled)
 
 -- ---- parts in order
 
@@ -135,7 +133,8 @@ any_of : (w : Whole) (f : Judged → Bool) (test : Site → Bool) → ((j : Judg
 any_of w f test step j [] = refl
 any_of w f test step j (s ∷ sites) = any_of w f test step (judge w j s) sites ∙ ap (λ b. list_any test sites || b) (step j s) ∙ or_swap (list_any test sites) (test s) (f j)
 
-any_new : (w : Whole) (f : Judged → Bool) (test : Site → Bool) → ((j : Judged) (s : Site) → f (judge w j s) ≡ test s || f j) → f unjudged ≡ false → (sites : List Site) → f (judge_all w unjudged sites) ≡ list_any test sites
+-- a row's answer to parts
+pub any_new : (w : Whole) (f : Judged → Bool) (test : Site → Bool) → ((j : Judged) (s : Site) → f (judge w j s) ≡ test s || f j) → f unjudged ≡ false → (sites : List Site) → f (judge_all w unjudged sites) ≡ list_any test sites
 any_new w f test step new sites = any_of w f test step unjudged sites ∙ ap (λ b. list_any test sites || b) new ∙ or_false (list_any test sites)
 
 -- a row's answer to the parts of both sides
@@ -147,27 +146,6 @@ any_both w f test step new ps rs =
 -- a use of a term that has a rule, on either side
 pub ruled_both : (w : Whole) (r : RuleDef) → (judge_all w unjudged (left_of w r)).ruled || (judge_all w unjudged (right_side_of w r).sites).ruled ≡ uses_ruled w r
 ruled_both w r = any_both w (λ j. j.ruled) (is_ruled w) (λ j s. refl) refl (left_of w r) (right_side_of w r).sites
-
--- ---- how many there are
-
-nodes_of : (w : Whole) (j : Judged) (sites : List Site) → j.nodes ≤ 2 ^ 64 - 1 → (judge_all w j sites).nodes ≡ min (j.nodes + length sites) (2 ^ 64 - 1)
-nodes_of w j [] le = omega (arith, le)
-nodes_of w j (s ∷ sites) le = let h = nodes_of w (judge w j s) sites (min-le_right (j.nodes + 1) (2 ^ 64 - 1)) in omega (arith, h, le)
-
-small_by : (a b : Bool) → ((a ≡ true) → (b ≡ true)) → ((b ≡ true) → (a ≡ true)) → a ≡ b
-small_by true b f g = sym (f refl)
-small_by false true f g = g refl
-small_by false false f g = refl
-
-small_both : (w : Whole) (ps rs : List Site) → nat_le ((judge_all w unjudged ps).nodes + (judge_all w unjudged rs).nodes) 4096 ≡ nat_le (length (ps ++ rs)) 4096
-small_both w ps rs =
-    let p = nodes_of w unjudged ps (omega arith) in
-    let r = nodes_of w unjudged rs (omega arith) in
-    let both = length-append ps rs in
-    let n = (judge_all w unjudged ps).nodes + (judge_all w unjudged rs).nodes in
-    small_by (nat_le n 4096) (nat_le (length (ps ++ rs)) 4096)
-    (λ h. (let l = leb-true n 4096 h in le-leb (length (ps ++ rs)) 4096 (omega (arith, l, p, r, both))))
-    (λ h. (let l = leb-true (length (ps ++ rs)) 4096 h in le-leb n 4096 (omega (arith, l, p, r, both))))
 
 -- ---- the row of a rule
 
@@ -207,14 +185,14 @@ tests_fail false false false false false false false false false false true l no
 tests_fail false false false false false false false false false false false true none = absurd cc
 tests_fail false false false false false false false false false false false false none = record { arity = refl; taken = refl; literal = refl; constants = refl; met = refl; name = refl; typing = refl; condition = refl; partial = refl; impure = refl; multi = refl; size = refl }
 
--- the tests of a rule under what gives its head, over the parts before its right side and those of it
-abbrev pub tests_of : Whole → RuleDef → Option Signature → List Site → List Site → Option Row
-tests_of w r o ls rs =
+-- the tests of a rule under what gives its head, over the parts before its right side and those of it, and whether it has too many nodes
+abbrev pub tests_of : Whole → RuleDef → Option Signature → List Site → List Site → Bool → Option Row
+tests_of w r o ls rs large =
     tests (on o (λ (s : Signature). not (length r.args == length s.args)) || list_any (is_untaken w) (ls ++ rs)) (list_any (is_mistaken w) (ls ++ rs)) (list_any (is_misplaced w) (ls ++ rs)) (list_any is_undeclared (ls ++ rs)) (list_any is_met_otherwise (ls ++ rs)) (list_any (is_unknown w) (ls ++ rs))
     (list_any (is_mistyped w) (ls ++ rs)) (list_any is_impure_call ls) (on o (λ (s : Signature). not s.partial && list_any is_partial_call rs)) (on o (λ (s : Signature). s.pure && list_any is_impure_call rs))
-    (on o (λ (s : Signature). not s.multi && list_any is_multi_call (ls ++ rs))) (not (nat_le (length (ls ++ rs)) 4096))
+    (on o (λ (s : Signature). not s.multi && list_any is_multi_call (ls ++ rs))) large
 
-row_tests : (w : Whole) (r : RuleDef) → row_of w r ≡ tests_of w r (termed w r.term) (left_of w r) (right_side_of w r).sites
+row_tests : (w : Whole) (r : RuleDef) → row_of w r ≡ tests_of w r (termed w r.term) (left_of w r) (right_side_of w r).sites (is_large w r)
 row_tests w r = refl
 
 -- tests that are the same give one row
@@ -222,8 +200,25 @@ same_tests : {a a2 : Bool} {b b2 : Bool} {c c2 : Bool} {d d2 : Bool} {e e2 : Boo
     → tests a b c d e f g x h i k l ≡ tests a2 b2 c2 d2 e2 f2 g2 x2 h2 i2 k2 l2
 same_tests ea eb ec ed ee ef eg ex eh ei ek el = rw (ea, eb, ec, ed, ee, ef, eg, ex, eh, ei, ek, el) refl
 
--- what is judged of a rule is the row that it breaks
-pub lowest_is : (w : Whole) (r : RuleDef) (s : Signature) (own : Called) → termed w r.term ≡ Some s → IsCalled w s own → lowest own (length r.args) (judge_all w unjudged (left_of w r)) (judge_all w unjudged (right_side_of w r).sites) ≡ row_of w r
+-- the last test stands alone behind the others
+last_test : (a b c d e f g x h i k l : Bool) → tests a b c d e f g x h i k l ≡ or_later (tests a b c d e f g x h i k false) (cond l (Some row.ManyNodes) None)
+last_test true b c d e f g x h i k l = refl
+last_test false true c d e f g x h i k l = refl
+last_test false false true d e f g x h i k l = refl
+last_test false false false true e f g x h i k l = refl
+last_test false false false false true f g x h i k l = refl
+last_test false false false false false true g x h i k l = refl
+last_test false false false false false false true x h i k l = refl
+last_test false false false false false false false true h i k l = refl
+last_test false false false false false false false false true i k l = refl
+last_test false false false false false false false false false true k l = refl
+last_test false false false false false false false false false false true l = refl
+last_test false false false false false false false false false false false true = refl
+last_test false false false false false false false false false false false false = refl
+
+-- what is judged of a rule is the row that it breaks, but for that of its nodes
+pub lowest_is : (w : Whole) (r : RuleDef) (s : Signature) (own : Called) → termed w r.term ≡ Some s → IsCalled w s own
+    → or_later (lowest own (length r.args) (judge_all w unjudged (left_of w r)) (judge_all w unjudged (right_side_of w r).sites)) (cond (is_large w r) (Some row.ManyNodes) None) ≡ row_of w r
 lowest_is w r s own is h =
     let ls = left_of w r in
     let rs = (right_side_of w r).sites in
@@ -238,16 +233,17 @@ lowest_is w r s own is h =
     let partial : not own.partial && m.partial ≡ not s.partial && list_any is_partial_call rs = ap (λ b. not b && m.partial) (sym h.partial) ∙ ap (λ b. not s.partial && b) (any_new w (λ j. j.partial) is_partial_call (λ j x. refl) refl rs) in
     let impure : own.pure && m.impure ≡ s.pure && list_any is_impure_call rs = ap (λ b. b && m.impure) (sym h.pure) ∙ ap (λ b. s.pure && b) (any_new w (λ j. j.impure) is_impure_call (λ j x. refl) refl rs) in
     let multi : not own.multi && (l.multi || m.multi) ≡ not s.multi && list_any is_multi_call all = ap (λ b. not b && (l.multi || m.multi)) (sym h.multi) ∙ ap (λ b. not s.multi && b) (both (λ j. j.multi) is_multi_call (λ j x. refl) refl) in
-    same_tests arity (both (λ j. j.mistaken) (is_mistaken w) (λ j x. refl) refl) (both (λ j. j.misplaced) (is_misplaced w) (λ j x. refl) refl) (both (λ j. j.undeclared) is_undeclared (λ j x. refl) refl)
-    (both (λ j. j.met_otherwise) is_met_otherwise (λ j x. refl) refl) (both (λ j. j.unknown) (is_unknown w) (λ j x. refl) refl) (both (λ j. j.mistyped) (is_mistyped w) (λ j x. refl) refl) condition partial impure multi (ap not (small_both w ls rs))
-    ∙ sym (row_tests w r ∙ ap (λ (o : Option Signature). tests_of w r o ls rs) is)
+    let none : false ≡ false = refl in
+    ap (λ o. or_later o (cond (is_large w r) (Some row.ManyNodes) None)) (same_tests arity (both (λ j. j.mistaken) (is_mistaken w) (λ j x. refl) refl) (both (λ j. j.misplaced) (is_misplaced w) (λ j x. refl) refl) (both (λ j. j.undeclared) is_undeclared (λ j x. refl) refl)
+    (both (λ j. j.met_otherwise) is_met_otherwise (λ j x. refl) refl) (both (λ j. j.unknown) (is_unknown w) (λ j x. refl) refl) (both (λ j. j.mistyped) (is_mistyped w) (λ j x. refl) refl) condition partial impure multi none)
+    ∙ sym (row_tests w r ∙ ap (λ (o : Option Signature). tests_of w r o ls rs (is_large w r)) is ∙ last_test _ _ _ _ _ _ _ _ _ _ _ (is_large w r))
 
 -- where a rule breaks no row, each test fails
 pub row_fails : (w : Whole) (r : RuleDef) → row_of w r ≡ None
     → AllFail (on (termed w r.term) (λ (s : Signature). not (length r.args == length s.args)) || list_any (is_untaken w) (sites_of w r)) (list_any (is_mistaken w) (sites_of w r)) (list_any (is_misplaced w) (sites_of w r)) (list_any is_undeclared (sites_of w r))
     (list_any is_met_otherwise (sites_of w r)) (list_any (is_unknown w) (sites_of w r)) (list_any (is_mistyped w) (sites_of w r)) (list_any is_impure_call (left_of w r))
     (on (termed w r.term) (λ (s : Signature). not s.partial && list_any is_partial_call (right_side_of w r).sites)) (on (termed w r.term) (λ (s : Signature). s.pure && list_any is_impure_call (right_side_of w r).sites))
-    (on (termed w r.term) (λ (s : Signature). not s.multi && list_any is_multi_call (sites_of w r))) (not (nat_le (length (sites_of w r)) 4096))
+    (on (termed w r.term) (λ (s : Signature). not s.multi && list_any is_multi_call (sites_of w r))) (is_large w r)
 row_fails w r h = tests_fail _ _ _ _ _ _ _ _ _ _ _ _ h
 
 -- no part of its right side is unknown

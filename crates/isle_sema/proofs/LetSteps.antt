@@ -20,12 +20,12 @@ use Rattle.isle_sema.specs.ElaboratedAt.{seen_binding, binding_trees, IsExprAt, 
 use Rattle.isle_terms.specs.Whole.{whole_of}
 use Rattle.isle_sema.specs.ExprPass.{ExprPass, LetsPass, binding_tree, binding_before, let_tree, expr_pass, lets_pass}
 use Rattle.isle_sema.specs.Judging.{judge, judge_all}
-use Rattle.isle_sema.specs.Locals.{Bound, bound_local, locals_of}
-use Rattle.isle_sema.specs.Scope.{Local}
+use Rattle.isle_variables.specs.Locals.{Bound, bound_local, locals_of}
+use Rattle.isle_variables.specs.Scope.{Local}
 use Rattle.isle_sema.specs.Site.{Site, PartAt, BoundAt}
 use Rattle.isle_terms.specs.TypeNames.{type_named}
 use Rattle.isle_terms.specs.Whole.{Whole}
-use Rattle.isle_sema.proofs.LocalLaws.{joined_locals, outer_stays}
+use Rattle.isle_variables.proofs.LocalLaws.{joined_locals, outer_stays}
 
 -- ---- trees in order
 

@@ -5,8 +5,6 @@ pub mod TermFaults
 pub mod BuiltForms
 pub mod FormSteps
 pub mod CallLaws
-pub mod VariableLaws
-pub mod LocalLaws
 pub mod Steps
 pub mod LetSteps
 pub mod ConditionSteps
@@ -14,16 +12,21 @@ pub mod Judgements
 pub mod RuleLaws
 pub mod TypedOnce
 pub mod Givings
-pub mod ScopeLaws
 pub mod TypedConstants
 pub mod TypedTerms
 pub mod NamesApart
 pub mod MadeForms
+pub mod NamedExtractors
 pub mod OpenedTerms
 pub mod TypedPatterns
 pub mod RuleRoots
 pub mod Conversions
 pub mod VariableTypes
+pub mod TemplateScopes
+pub mod ParameterScopes
+pub mod UsesSeen
+pub mod TemplateSteps
+pub mod ExtractorLaws
 pub mod BoundPatterns
 pub mod ConvertedParts
 pub mod RulePlaces
@@ -32,6 +35,7 @@ pub mod KeptParts
 pub mod TypedExprs
 pub mod OwnTypes
 pub mod TypedConditions
+pub mod TypedTemplates
 pub mod TypedRules
 pub mod BuiltRules
 pub mod OpenedTypes
@@ -44,3 +48,4 @@ pub mod FalliblePaths
 pub mod PassedConditions
 pub mod TypedFields
 pub mod SerializableRules
+pub mod ToldFaults

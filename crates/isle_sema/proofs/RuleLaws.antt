@@ -1,12 +1,12 @@
 -- The rules that are taken break no row, use no term that has a rule, and have trees.
-use Rattle.std.proofs.Common.{◌≡◌, ℕ, zero, suc, ◌+◌, ◌≤◌, length, arith, Bool, true, false, cond, List, [], ◌∷◌, ◌++◌, map, Option, Some, None, refl, sym, ap, ◌∙◌}
-use Rattle.std.specs.Prelude.{◌||◌, is_some, option_map, option_and_then, slice_get}
+use Rattle.std.proofs.Common.{◌≡◌, ℕ, zero, suc, ◌+◌, ◌<◌, ◌≤◌, length, arith, Bool, true, false, cond, List, [], ◌∷◌, ◌++◌, map, Option, Some, None, Result, Ok, Err, refl, sym, ap, ◌∙◌}
+use Rattle.std.specs.Prelude.{◌||◌, IfOk, not, nat_le, is_some, option_map, option_and_then, slice_get}
 use Rattle.std.specs.List.{list_any}
 use Rattle.std.proofs.lemmas.List.{length-map}
 use Rattle.std.proofs.lemmas.List.Sums.{fold-append}
 use Rattle.isle_core.specs.declared.rules.Expr.{Expr as CodeExpr}
-use Rattle.isle_core.specs.RuleViews.{expr as elaborated_expr}
-use Rattle.std.proofs.lemmas.Bool.{or_parts, or_from}
+use Rattle.isle_core.specs.RuleViews.{expr as elaborated_expr, rule as elaborated_rule}
+use Rattle.std.proofs.lemmas.Bool.{or_parts, or_from, leb-true, le-leb}
 use Rattle.isle_core.specs.declared.TermId.{TermId}
 use Rattle.isle_core.specs.declared.TypeId.{TypeId}
 use Rattle.isle_core.specs.Pattern.{Pattern as CorePattern}
@@ -17,13 +17,23 @@ use Rattle.isle_ast.specs.Tree as tree
 use Rattle.isle_ast.specs.Tree.{Def}
 use Rattle.isle_declarations.specs.Terms.{terms}
 use Rattle.isle_declarations.specs.Signatures.{Signature, RuleDef, rule_defs, signature_named, term_named}
+use Rattle.isle_types.specs.declared.row.Row.TheVariants as row
 use Rattle.isle_types.specs.declared.row.Row.{Row}
-use Rattle.isle_sema.specs.Locals.{of_patterns}
-use Rattle.isle_sema.specs.Scope.{Scope, no_variables}
+use Rattle.isle_types.specs.Fault.{or_later}
+use Rattle.isle_types.specs.TypeRows.{on}
+use Rattle.isle_variables.specs.Locals.{of_patterns}
+use Rattle.isle_variables.specs.Scope.{Scope, no_variables}
 use Rattle.isle_terms.specs.Whole.{Whole, termed, arg_types, ret_type}
 use Rattle.isle_sema.specs.PatternPass.{PatternsPass, patterns_pass}
 use Rattle.isle_sema.specs.ExprPass.{ExprPass, expr_pass}
-use Rattle.isle_sema.specs.RulePass.{ConditionsPass, patterns_of, conditions_pass, conditions_of, right_side_of, left_of, rule_from, rule_pass, rules_pass}
+use Rattle.isle_sema.specs.RulePass.{ConditionsPass, patterns_of, conditions_pass, conditions_of, right_side_of, left_of, rule_from, written_pass, rule_pass, rules_pass}
+use Rattle.isle_sema.specs.RuleRows.{is_large}
+use Rattle.isle_sema.specs.Templates.{templates}
+use Rattle.isle_core.specs.declared.rules.Rule.{Rule as CodeRule}
+use Rattle.isle_templates.specs.Elaborated.{rule_expanded, elaborated}
+use Rattle.isle_templates.specs.ElaboratedRule.{IsElaborated}
+use Rattle.isle_templates.specs.NodeCount.{rule_nodes}
+use Rattle.isle_templates.specs.Substituted.{whole_templates}
 use Rattle.isle_sema.specs.Fault.{OfRules, broken_in, fault_after}
 use Rattle.isle_sema.specs.Language.{uses_ruled}
 use Rattle.isle_sema.specs.Judging.{unjudged, judge, judge_all, lowest}
@@ -138,12 +148,12 @@ or_true : (a b : Bool) → b ≡ true → a || b ≡ true
 or_true true b h = refl
 or_true false b h = h
 
-untreed : (w : Whole) (i : ℕ) (r : RuleDef) → rule_pass w i r ≡ None → None ≡ taken_rule w i r
+untreed : (w : Whole) (i : ℕ) (r : RuleDef) → written_pass w i r ≡ None → None ≡ taken_rule w i r
 untreed w i r h = by (is_broken w r || uses_ruled w r)
   where
     by : (b : Bool) → None ≡ cond b None (rule_pass w i r)
     by true = refl
-    by false = sym h
+    by false = sym (ap (option_map (elaborated (templates w))) h)
 
 -- whether a rule uses a term that has a rule is what is judged of both sides
 pub ruled_is : (w : Whole) (r : RuleDef) (sides : Sides) (ruled : Bool) → AreSides w r sides → ruled ≡ sides.left.ruled || sides.right.ruled → ruled ≡ uses_ruled w r
@@ -153,11 +163,29 @@ ruled_is w r sides ruled p h = h ∙ ap (λ (j : Judged). j.ruled || sides.right
 pub with_ruled : (w : Whole) (i : ℕ) (r : RuleDef) → uses_ruled w r ≡ true → None ≡ taken_rule w i r
 with_ruled w i r h = refused w i r (or_true (is_broken w r) (uses_ruled w r) h)
 
--- what the code finds is a row where the rule breaks one
-pub row_found : (w : Whole) (r : RuleDef) (own : Called) (sides : Sides) (found : Option Row) (count : ℕ) → IsHead w r.term own → AreSides w r sides → count ≡ length r.args → found ≡ lowest own count sides.left sides.right → is_some (row_of w r) ≡ is_some found
-row_found w r own sides found count h p as_many f =
-    ap is_some (sym (f ∙ ap (λ n. lowest own n sides.left sides.right) as_many ∙ ap (λ (j : Judged). lowest own (length r.args) j sides.right) p.left
-    ∙ ap (λ (j : Judged). lowest own (length r.args) (judge_all w unjudged (left_of w r)) j) p.right ∙ lowest_is w r h.signature own h.there h.called))
+later_some : (o rest : Option Row) → is_some o ≡ true → is_some (or_later o rest) ≡ true
+later_some None rest h = absurd cc
+later_some (Some r) rest h = refl
+
+-- what the code finds is a row that the rule breaks, before that of its nodes
+lowest_found : (w : Whole) (r : RuleDef) (own : Called) (sides : Sides) (found : Option Row) (count : ℕ) → IsHead w r.term own → AreSides w r sides → count ≡ length r.args → found ≡ lowest own count sides.left sides.right → or_later found (cond (is_large w r) (Some row.ManyNodes) None) ≡ row_of w r
+lowest_found w r own sides found count h p as_many f =
+    ap (λ o. or_later o (cond (is_large w r) (Some row.ManyNodes) None)) (f ∙ ap (λ n. lowest own n sides.left sides.right) as_many ∙ ap (λ (j : Judged). lowest own (length r.args) j sides.right) p.left
+    ∙ ap (λ (j : Judged). lowest own (length r.args) (judge_all w unjudged (left_of w r)) j) p.right)
+    ∙ lowest_is w r h.signature own h.there h.called
+
+-- so the rule breaks one where the code finds one
+pub row_found : (w : Whole) (r : RuleDef) (own : Called) (sides : Sides) (found : Option Row) (count : ℕ) → IsHead w r.term own → AreSides w r sides → count ≡ length r.args → found ≡ lowest own count sides.left sides.right → is_some found ≡ true → is_some (row_of w r) ≡ true
+row_found w r own sides found count h p as_many f some = ap is_some (sym (lowest_found w r own sides found count h p as_many f)) ∙ later_some found (cond (is_large w r) (Some row.ManyNodes) None) some
+
+-- where it finds none, the rule breaks one by its nodes alone
+pub row_none : (w : Whole) (r : RuleDef) (own : Called) (sides : Sides) (found : Option Row) (count : ℕ) → IsHead w r.term own → AreSides w r sides → count ≡ length r.args → found ≡ lowest own count sides.left sides.right → is_some found ≡ false → is_some (row_of w r) ≡ is_large w r
+row_none w r own sides found count h p as_many f none = ap is_some (sym (lowest_found w r own sides found count h p as_many f)) ∙ by found none (is_large w r)
+  where
+    by : (o : Option Row) → is_some o ≡ false → (large : Bool) → is_some (or_later o (cond large (Some row.ManyNodes) None)) ≡ large
+    by None e true = refl
+    by None e false = refl
+    by (Some x) e large = absurd cc
 
 -- a rule that breaks a row
 pub with_row : (w : Whole) (i : ℕ) (r : RuleDef) → is_some (row_of w r) ≡ true → None ≡ taken_rule w i r
@@ -193,16 +221,47 @@ without_tree w i r h = untreed w i r (ap (made w i r (term_named (terms w.defs) 
     by (Some term) (Some args) None = refl
     by (Some term) (Some args) (Some iflets) = refl
 
--- a rule that is taken
-pub taken_made : (w : Whole) (i : ℕ) (r : RuleDef) (own : Called) (args : List CorePattern) (iflets : List CoreIfLet) (rhs : CoreExpr) → IsHead w r.term own → is_some (row_of w r) ≡ false → uses_ruled w r ≡ false
-    → (patterns_of w r).trees ≡ Some args → (conditions_of w r).trees ≡ Some iflets → (right_side_of w r).tree ≡ Some rhs → Some (rule_from w i r own.term args iflets rhs) ≡ taken_rule w i r
-taken_made w i r own args iflets rhs h row calls trees cs tree =
+-- the rule as it is written, of these parts
+written_made : (w : Whole) (i : ℕ) (r : RuleDef) (own : Called) (args : List CorePattern) (iflets : List CoreIfLet) (rhs : CoreExpr) → IsHead w r.term own
+    → (patterns_of w r).trees ≡ Some args → (conditions_of w r).trees ≡ Some iflets → (right_side_of w r).tree ≡ Some rhs → written_pass w i r ≡ Some (rule_from w i r own.term args iflets rhs)
+written_made w i r own args iflets rhs h trees cs tree =
     let number : term_named (terms w.defs) r.term ≡ Some own.term = ap (term_named (terms w.defs)) (sym (named_is (terms w.defs) r.term h.signature h.there)) ∙ h.called.term in
-    sym (ap (λ b. cond b None (rule_pass w i r)) (or_from (is_broken w r) (uses_ruled w r) row calls)
-    ∙ ap (λ o. made w i r o (patterns_of w r).trees (conditions_of w r).trees (right_side_of w r).tree) number
+    ap (λ o. made w i r o (patterns_of w r).trees (conditions_of w r).trees (right_side_of w r).tree) number
     ∙ ap (λ o. made w i r (Some own.term) o (conditions_of w r).trees (right_side_of w r).tree) trees
     ∙ ap (λ o. made w i r (Some own.term) (Some args) o (right_side_of w r).tree) cs
-    ∙ ap (λ o. made w i r (Some own.term) (Some args) (Some iflets) o) tree)
+    ∙ ap (λ o. made w i r (Some own.term) (Some args) (Some iflets) o) tree
+
+above : (m n : ℕ) → n < m → nat_le m n ≡ false
+above m n lt = by (nat_le m n) refl
+  where
+    by : (b : Bool) → nat_le m n ≡ b → b ≡ false
+    by true k = absurd (let le = leb-true m n k in omega (arith, le, lt))
+    by false k = refl
+
+-- a rule of few nodes is taken, with templates replaced; one of more is not
+pub taken_made : (w : Whole) (i : ℕ) (r : RuleDef) (own : Called) (args : List CorePattern) (iflets : List CoreIfLet) (rhs : CoreExpr) (found : Option CodeRule) → IsHead w r.term own → is_some (row_of w r) ≡ is_large w r → uses_ruled w r ≡ false
+    → (patterns_of w r).trees ≡ Some args → (conditions_of w r).trees ≡ Some iflets → (right_side_of w r).tree ≡ Some rhs → IsElaborated (templates w) (rule_from w i r own.term args iflets rhs) found → option_map elaborated_rule found ≡ taken_rule w i r
+taken_made w i r own args iflets rhs found h row calls trees cs tree e = by found e
+  where
+    x : CoreRule
+    x = rule_from w i r own.term args iflets rhs
+
+    nodes : ℕ
+    nodes = rule_nodes (rule_expanded (whole_templates (templates w)) x)
+
+    large : is_large w r ≡ not (nat_le nodes 4096)
+    large = ap (λ o. on o (λ (y : CoreRule). not (nat_le (rule_nodes (rule_expanded (whole_templates (templates w)) y)) 4096))) (written_made w 0 r own args iflets rhs h trees cs tree)
+
+    by : (o : Option CodeRule) → IsElaborated (templates w) x o → option_map elaborated_rule o ≡ taken_rule w i r
+    by None more = sym (ap (λ b. cond (b || uses_ruled w r) None (rule_pass w i r)) (row ∙ large ∙ ap not (above nodes 4096 more)))
+    by (Some y) is =
+        sym (ap (λ b. cond b None (rule_pass w i r)) (or_from (is_broken w r) (uses_ruled w r) (row ∙ large ∙ ap not (le-leb nodes 4096 is.1)) calls)
+        ∙ ap (option_map (elaborated (templates w))) (written_made w i r own args iflets rhs h trees cs tree) ∙ ap Some (sym is.0))
+
+-- what holds of each good answer
+pub ok_map : {X E : Type 0} {P Q : X → Type 0} (r : Result X E) → ((x : X) → P x → Q x) → IfOk r P → IfOk r Q
+ok_map (Ok x) f h = f x h
+ok_map (Err e) f h = h
 
 pub none_called : (w : Whole) (o : Option Signature) → MayBeCalled w o None → o ≡ None
 none_called w None h = refl

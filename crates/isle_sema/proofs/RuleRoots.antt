@@ -12,6 +12,8 @@ use Rattle.isle_declarations.specs.Symbols.{index_of}
 use Rattle.isle_declarations.specs.Terms.{terms}
 use Rattle.isle_declarations.proofs.LookUps.{at_place, named_at}
 use Rattle.isle_sema.specs.RulePass.{patterns_of, right_side_of, conditions_of, rule_from, rule_pass}
+use Rattle.isle_sema.specs.Templates.{templates}
+use Rattle.isle_templates.specs.Elaborated.{elaborated}
 use Rattle.isle_terms.specs.Whole.{Whole, termed}
 
 -- what is made of something that may be there
@@ -37,21 +39,24 @@ signature_at w name s term is number = sym (named_at (terms w.defs) name ∙ ap 
 -- ---- a rule's tree
 
 pub record IsRuleMade (w : Whole) (r : RuleDef) (x : Rule) : Type 0 where
+  pub written : Rule
+  pub is : elaborated (templates w) written ≡ x
   pub root : term_named (terms w.defs) r.term ≡ Some x.root_term
-  pub args : (patterns_of w r).trees ≡ Some x.args
-  pub iflets : (conditions_of w r).trees ≡ Some x.iflets
-  pub rhs : (right_side_of w r).tree ≡ Some x.rhs
+  pub args : (patterns_of w r).trees ≡ Some written.args
+  pub iflets : (conditions_of w r).trees ≡ Some written.iflets
+  pub rhs : (right_side_of w r).tree ≡ Some written.rhs
   pub pos : r.pos ≡ x.pos
 
 pub rule_made : (w : Whole) (i : ℕ) (r : RuleDef) (x : Rule) → rule_pass w i r ≡ Some x → IsRuleMade w r x
 rule_made w i r x h = by (term_named (terms w.defs) r.term) (patterns_of w r).trees (conditions_of w r).trees (right_side_of w r).tree refl refl refl refl h
   where
     by : (term : Option TermId) (trees : Option (List CorePattern)) (cs : Option (List IfLet)) (e : Option CoreExpr) → term_named (terms w.defs) r.term ≡ term → (patterns_of w r).trees ≡ trees → (conditions_of w r).trees ≡ cs → (right_side_of w r).tree ≡ e
-        → option_and_then (λ (term : TermId). option_and_then (λ (args : List CorePattern). option_and_then (λ (iflets : List IfLet). option_map (rule_from w i r term args iflets) e) cs) trees) term ≡ Some x → IsRuleMade w r x
+        → option_map (elaborated (templates w)) (option_and_then (λ (term : TermId). option_and_then (λ (args : List CorePattern). option_and_then (λ (iflets : List IfLet). option_map (rule_from w i r term args iflets) e) cs) trees) term) ≡ Some x → IsRuleMade w r x
     by None trees cs e t p c s k = absurd cc
     by (Some term) None cs e t p c s k = absurd cc
     by (Some term) (Some args) None e t p c s k = absurd cc
     by (Some term) (Some args) (Some iflets) None t p c s k = absurd cc
     by (Some term) (Some args) (Some iflets) (Some rhs) t p c s k =
-        let is = same_Some (rule_from w i r term args iflets rhs) x k in
-        record { root = t ∙ ap (λ (y : Rule). Some y.root_term) is; args = p ∙ ap (λ (y : Rule). Some y.args) is; iflets = c ∙ ap (λ (y : Rule). Some y.iflets) is; rhs = s ∙ ap (λ (y : Rule). Some y.rhs) is; pos = ap (λ (y : Rule). y.pos) is }
+        let one = rule_from w i r term args iflets rhs in
+        let is = same_Some (elaborated (templates w) one) x k in
+        record { written = one; is = is; root = t ∙ ap (λ (y : Rule). Some y.root_term) is; args = p; iflets = c; rhs = s; pos = ap (λ (y : Rule). y.pos) is }

@@ -24,7 +24,7 @@ use Rattle.isle_core.specs.TypedVariables.{rule_typed}
 use Rattle.isle_core.proofs.Contained.{head_contained, tail_contained, contained_cases, none_contained}
 use Rattle.isle_core.proofs.ListLaws.{filter_keeps}
 use Rattle.isle_ast.specs.Tree.{Def}
-use Rattle.isle_sema.specs.TypedRule.{IsRuleOf}
+use Rattle.isle_templates.specs.TypedRule.{IsRuleOf}
 use Rattle.isle_sema.specs.Typing.{Typed}
 use Rattle.isle_sema.proofs.FalliblePaths.{Fallible, rules_fallible}
 use Rattle.isle_sema.proofs.TestablePatterns.{IsTestableAt, AreTestableAt, constraints_testable, HasConstraints, AreComparableAt}

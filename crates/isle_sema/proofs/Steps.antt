@@ -20,8 +20,8 @@ use Rattle.isle_declarations.specs.declared.collected.RuleDef.{RuleDef as CodeRu
 use Rattle.isle_sema.specs.declared.judged.Judged.{Judged}
 use Rattle.isle_declarations.specs.Collected.{rule as seen_rule}
 use Rattle.isle_sema.specs.ElaboratedAt.{expr_trees, IsExprAt, AreExprsAt}
-use Rattle.isle_sema.specs.Locals.{Bound, locals_of}
-use Rattle.isle_sema.specs.Scope.{Local, Scope}
+use Rattle.isle_variables.specs.Locals.{Bound, locals_of}
+use Rattle.isle_variables.specs.Scope.{Local, Scope}
 use Rattle.isle_terms.proofs.TermSteps.{before, one_before}
 use Rattle.isle_terms.specs.Whole.{Whole}
 use Rattle.isle_terms.specs.Whole.{whole_of}
@@ -30,11 +30,11 @@ use Rattle.isle_terms.specs.TermPass.{tree_before}
 use Rattle.isle_sema.specs.ExprPass.{ExprPass, ExprsPass, expr_pass, exprs_pass, expr_before}
 use Rattle.isle_sema.specs.Judging.{judge, judge_all}
 use Rattle.isle_sema.specs.Taken.{taken_rule, taken_rules}
-use Rattle.isle_sema.proofs.LocalLaws.{kept_locals}
+use Rattle.isle_variables.proofs.LocalLaws.{kept_locals}
 
 -- ---- expected types
 
-first_got : (tys : List TypeId) (i : ℕ) → first_expected (map Some (drop i tys)) ≡ slice_get tys i
+pub first_got : (tys : List TypeId) (i : ℕ) → first_expected (map Some (drop i tys)) ≡ slice_get tys i
 first_got [] zero = refl
 first_got [] (suc i) = refl
 first_got (ty ∷ tys) zero = refl
@@ -46,7 +46,7 @@ later_by [] (suc i) = refl
 later_by (ty ∷ tys) zero = refl
 later_by (ty ∷ tys) (suc i) = later_by tys i
 
-later_got : (tys : List TypeId) (i : ℕ) → later_expected (map Some (drop i tys)) ≡ map Some (drop (i + 1) tys)
+pub later_got : (tys : List TypeId) (i : ℕ) → later_expected (map Some (drop i tys)) ≡ map Some (drop (i + 1) tys)
 later_got tys i = let next : suc i ≡ i + 1 = omega arith in later_by tys i ∙ ap (λ n. map Some (drop n tys)) next
 
 -- ---- trees in order

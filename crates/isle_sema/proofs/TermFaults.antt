@@ -1,4 +1,4 @@
--- The rows of declarations, external constructors and extractors, converters, and heads are kept where the code takes them.
+-- The rows of declarations, external constructors, extractors, converters, and heads are kept where the code takes them.
 use Rattle.std.proofs.Common.{◌≡◌, ℕ, Bool, true, false, cond, List, length, [], ◌∷◌, ◌++◌, Some, None, refl, sym, ap, ◌∙◌, subst}
 use Rattle.std.specs.Prelude.{◌&&◌, ◌||◌, not, is_some, nat_le}
 use Rattle.std.specs.List.{list_all, list_any, cons_option}
@@ -11,36 +11,19 @@ use Rattle.isle_declarations.specs.Symbols.{index_of}
 use Rattle.isle_declarations.specs.declared.terms.Origin.TheVariants as origin
 use Rattle.isle_declarations.specs.DeclaredTypes.{made_terms}
 use Rattle.isle_terms.specs.TypeNames.{type_named}
-use Rattle.isle_declarations.specs.Signatures.{Signature, Extern, ExtractorDef, RuleDef, signature_of, extern_of, extractor_of, signatures, externs, extractors, rule_defs, signature_named, func_named}
+use Rattle.isle_declarations.specs.Signatures.{Signature, Extern, ByTemplate, ExtractorDef, RuleDef, signature_of, extern_of, extractor_of, signatures, externs, extractors, rule_defs, signature_named, func_named}
 use Rattle.isle_declarations.specs.Heads.{terms_of, extern_terms, extractor_terms}
 use Rattle.isle_declarations.specs.Repeats.{repeats_after}
 use Rattle.isle_sema.specs.Language.{is_built_def}
 use Rattle.isle_terms.specs.Converters.{Conversion, converter_of, converters, is_misfit}
+use Rattle.isle_terms.specs.DeclarationRows.{template_misfit}
 use Rattle.isle_terms.specs.Tests.{has_undeclared, has_unknown, have_misfit}
 use Rattle.isle_types.specs.declared.row.Row.TheVariants as row
 use Rattle.isle_types.specs.declared.row.Row.{Row}
 use Rattle.isle_types.proofs.BeforeLaws.{grown}
-use Rattle.isle_terms.specs.Whole.{Whole}
-use Rattle.isle_sema.specs.Fault.{OfTerms, OfExtractors, broken_in, fault_after}
+use Rattle.isle_sema.specs.Fault.{OfTerms, broken_in, fault_after}
 use Rattle.isle_terms.specs.Whole.{whole_of}
-use Rattle.isle_sema.proofs.Firsts.{first_none, none_first, later_none, none_later, unchanged}
-
--- ---- extractors
-
--- nor one of extractors, of which none that has a pattern is built
-pub extractors_none : (w : Whole) (before ds : List Def) → list_all is_built_def ds ≡ true → fault_after OfExtractors w before ds ≡ None
-extractors_none w before [] f = refl
-extractors_none w before (tree.Decl term pure multi partial recursive args ret pos ∷ ds) f =
-    extractors_none w (before ++ tree.Decl term pure multi partial recursive args ret pos ∷ []) ds (and_parts (is_built_def (tree.Decl term pure multi partial recursive args ret pos)) (list_all is_built_def ds) f).1
-extractors_none w before (tree.ExternConstructor term func pos ∷ ds) f = extractors_none w (before ++ tree.ExternConstructor term func pos ∷ []) ds f
-extractors_none w before (tree.Rule name prio term args iflets rhs pos ∷ ds) f =
-    extractors_none w (before ++ tree.Rule name prio term args iflets rhs pos ∷ []) ds (and_parts (is_built_def (tree.Rule name prio term args iflets rhs pos)) (list_all is_built_def ds) f).1
-extractors_none w before (tree.TypeDecl name is_extern is_nodebug body pos ∷ ds) f = extractors_none w (before ++ tree.TypeDecl name is_extern is_nodebug body pos ∷ []) ds f
-extractors_none w before (tree.ExternExtractor term func infallible pos ∷ ds) f = extractors_none w (before ++ tree.ExternExtractor term func infallible pos ∷ []) ds f
-extractors_none w before (tree.ExternConst name ty pos ∷ ds) f = extractors_none w (before ++ tree.ExternConst name ty pos ∷ []) ds f
-extractors_none w before (tree.Extractor term params template pos ∷ ds) f = absurd cc
-extractors_none w before (tree.Converter from to term pos ∷ ds) f = extractors_none w (before ++ tree.Converter from to term pos ∷ []) ds f
-extractors_none w before (tree.Passed head items pos ∷ ds) f = extractors_none w (before ++ tree.Passed head items pos ∷ []) ds f
+use Rattle.isle_sema.proofs.Firsts.{first_none, later_none, unchanged}
 
 -- ---- terms
 
@@ -60,7 +43,7 @@ has_too_many s = not (nat_le (length s.args) 256)
 abbrev pub is_headless : List Def → RuleDef → Bool
 is_headless all r = not (is_some (signature_named (signatures all) r.term)) || is_some (func_named (externs all) r.term)
 
--- each test of declarations, external constructors and extractors, and rules, which follow declarations, external constructors and extractors of these terms
+-- each test of declarations, external constructors, extractors, and rules, which follow declarations, external constructors, and extractors of these terms
 pub record AreTested (all : List Def) (names external extracting : List (List ℕ)) (sigs : List Signature) (xs : List Extern) (es : List ExtractorDef) (rules : List RuleDef) : Type 0 where
   pub apart : repeats_after names (terms_of sigs) ≡ false
   pub unmade : list_any (is_made_twice all) sigs ≡ false
@@ -70,9 +53,10 @@ pub record AreTested (all : List Def) (names external extracting : List (List �
   pub extractors_apart : repeats_after extracting (extractor_terms es) ≡ false
   pub known : has_undeclared (signatures all) xs ≡ false
   pub extracted : has_unknown (signatures all) es ≡ false
+  pub fitted : list_any (template_misfit (whole_of all)) es ≡ false
   pub heads : list_any (is_headless all) rules ≡ false
 
--- each test of these definitions, which follow terms, external constructors and extractors of these names
+-- each test of these definitions, which follow terms, external constructors, and extractors of these names
 abbrev AreTestedIn : (all : List Def) (names external extracting : List (List ℕ)) (ds : List Def) → Type 0
 AreTestedIn all names external extracting ds = AreTested all names external extracting (signatures ds) (externs ds) (extractors ds) (rule_defs ds)
 
@@ -94,16 +78,13 @@ undeclared before d none = unchanged signature_of (λ (s : Signature). s.term) b
 not_external : (before : List Def) (d : Def) → extern_of d ≡ None → extern_terms (externs (before ++ d ∷ [])) ≡ extern_terms (externs before)
 not_external before d none = unchanged extern_of (λ (x : Extern). x.term) before d none
 
--- and those of external extractors
+-- and those of extractors
 not_extracting : (before : List Def) (d : Def) → extractor_of d ≡ None → extractor_terms (extractors (before ++ d ∷ [])) ≡ extractor_terms (extractors before)
 not_extracting before d none = unchanged extractor_of (λ (x : ExtractorDef). x.term) before d none
 
 -- the tests behind a definition of another kind are those in front of it
 behind : (all before : List Def) (d : Def) (ds : List Def) → signature_of d ≡ None → extern_of d ≡ None → extractor_of d ≡ None → TermParts all (before ++ d ∷ []) ds → TermParts all before ds
 behind all before d ds a b c h = same_tests (undeclared before d a) (not_external before d b) (not_extracting before d c) h
-
-ahead : (all before : List Def) (d : Def) (ds : List Def) → signature_of d ≡ None → extern_of d ≡ None → extractor_of d ≡ None → TermParts all before ds → TermParts all (before ++ d ∷ []) ds
-ahead all before d ds a b c h = same_tests (sym (undeclared before d a)) (sym (not_external before d b)) (sym (not_extracting before d c)) h
 
 -- the tests of a declaration
 decl_kept : (a b c d : Bool)
@@ -113,19 +94,6 @@ decl_kept false true c d h = absurd cc
 decl_kept false false true d h = absurd cc
 decl_kept false false false d h = (refl, refl, refl)
 
-decl_from : (a b c d : Bool) → a ≡ false → b ≡ false → c ≡ false → d ≡ false
-    → cond a (Some row.DeclarationRepeats) (cond b (Some row.TypeMissing) (cond c (Some row.ManyArguments) (cond d (Some row.MultiAndPartial) None))) ≡ None
-decl_from true b c d ha hb hc hd = absurd cc
-decl_from false true c d ha hb hc hd = absurd cc
-decl_from false false true d ha hb hc hd = absurd cc
-decl_from false false false true ha hb hc hd = absurd cc
-decl_from false false false false ha hb hc hd = refl
-
--- a declaration that is built is not `multi`
-single : (multi recursive partial : Bool) → not multi && not recursive ≡ true → multi && partial ≡ false
-single true recursive partial h = absurd cc
-single false recursive partial h = refl
-
 -- one that names a term, which is declared and has none of its kind before
 named_kept : (a b c : Bool) → cond a (Some row.TermUndeclared) (cond (b || c) (Some row.SecondOfTerm) None) ≡ None → (a ≡ false) × (b ≡ false) × (c ≡ false)
 named_kept true b c h = absurd cc
@@ -133,15 +101,23 @@ named_kept false true c h = absurd cc
 named_kept false false true h = absurd cc
 named_kept false false false h = (refl, refl, refl)
 
-named_from : (a b c : Bool) → a ≡ false → b ≡ false → c ≡ false → cond a (Some row.TermUndeclared) (cond (b || c) (Some row.SecondOfTerm) None) ≡ None
-named_from true b c ha hb hc = absurd cc
-named_from false true c ha hb hc = absurd cc
-named_from false false true ha hb hc = absurd cc
-named_from false false false ha hb hc = refl
+-- the tests of an external extractor
+extern_kept : (a b c : Bool) → cond a (Some row.TermUndeclared) (cond (false || b) (Some row.SecondOfTerm) (cond c (Some row.InfallibleMulti) None)) ≡ None → (a ≡ false) × (b ≡ false)
+extern_kept true b c h = absurd cc
+extern_kept false true c h = absurd cc
+extern_kept false false true h = absurd cc
+extern_kept false false false h = (refl, refl)
+
+-- an extractor with a template, whose parameters fit besides
+templated_kept : (a b c : Bool) → cond a (Some row.TermUndeclared) (cond b (Some row.SecondOfTerm) (cond c (Some row.ParametersMisfit) None)) ≡ None → (a ≡ false) × (b ≡ false) × (c ≡ false)
+templated_kept true b c h = absurd cc
+templated_kept false true c h = absurd cc
+templated_kept false false true h = absurd cc
+templated_kept false false false h = (refl, refl, refl)
 
 -- the rows of terms are kept: each test fails
 pub terms_kept : (all before ds : List Def) → list_all is_built_def ds ≡ true → fault_after OfTerms (whole_of all) before ds ≡ None → TermParts all before ds
-terms_kept all before [] f h = record { apart = refl; unmade = refl; typed = refl; few = refl; externs_apart = refl; extractors_apart = refl; known = refl; extracted = refl; heads = refl }
+terms_kept all before [] f h = record { apart = refl; unmade = refl; typed = refl; few = refl; externs_apart = refl; extractors_apart = refl; known = refl; extracted = refl; fitted = refl; heads = refl }
 terms_kept all before (tree.Decl term pure multi partial recursive args ret pos ∷ ds) f h =
     let d = tree.Decl term pure multi partial recursive args ret pos in
     let s : Signature = record { term = term; pure = pure; multi = multi; partial = partial; recursive = recursive; args = args; ret = ret; pos = pos; origin = origin.Declared } in
@@ -161,6 +137,7 @@ terms_kept all before (tree.Decl term pure multi partial recursive args ret pos 
       extractors_apart = rest.extractors_apart;
       known = rest.known;
       extracted = rest.extracted;
+      fitted = rest.fitted;
       heads = rest.heads;
     }
 terms_kept all before (tree.ExternConstructor term func pos ∷ ds) f h =
@@ -181,6 +158,7 @@ terms_kept all before (tree.ExternConstructor term func pos ∷ ds) f h =
       extractors_apart = rest.extractors_apart;
       known = or_from unknown (has_undeclared (signatures all) (externs ds)) k.0 rest.known;
       extracted = rest.extracted;
+      fitted = rest.fitted;
       heads = rest.heads;
     }
 terms_kept all before (tree.ExternExtractor term func infallible pos ∷ ds) f h =
@@ -189,7 +167,7 @@ terms_kept all before (tree.ExternExtractor term func infallible pos ∷ ds) f h
     let l = later_none (λ (r : Row). (r, pos)) (broken_in OfTerms (record { whole = whole_of all; before = before }) d) (fault_after OfTerms (whole_of all) (before ++ d ∷ []) ds) h in
     let again = is_some (index_of extracting term) in
     let unknown = not (is_some (signature_named (signatures all) term)) in
-    let k = named_kept unknown false again l.0 in
+    let k = extern_kept unknown again _ l.0 in
     let rest : AreTestedIn all (terms_of (signatures before)) (extern_terms (externs before)) (extracting ++ term ∷ []) ds =
     same_tests (undeclared before d refl) (not_external before d refl) (grown extractor_of (λ (x : ExtractorDef). x.term) before d) (terms_kept all (before ++ d ∷ []) ds f l.1) in
     record {
@@ -198,9 +176,10 @@ terms_kept all before (tree.ExternExtractor term func infallible pos ∷ ds) f h
       typed = rest.typed;
       few = rest.few;
       externs_apart = rest.externs_apart;
-      extractors_apart = or_from again (repeats_after (extracting ++ term ∷ []) (extractor_terms (extractors ds))) k.2 rest.extractors_apart;
+      extractors_apart = or_from again (repeats_after (extracting ++ term ∷ []) (extractor_terms (extractors ds))) k.1 rest.extractors_apart;
       known = rest.known;
       extracted = or_from unknown (has_unknown (signatures all) (extractors ds)) k.0 rest.extracted;
+      fitted = rest.fitted;
       heads = rest.heads;
     }
 terms_kept all before (tree.Rule name prio term args iflets rhs pos ∷ ds) f h =
@@ -219,6 +198,7 @@ terms_kept all before (tree.Rule name prio term args iflets rhs pos ∷ ds) f h 
       extractors_apart = rest.extractors_apart;
       known = rest.known;
       extracted = rest.extracted;
+      fitted = rest.fitted;
       heads = or_from (is_headless all r) (list_any (is_headless all) (rule_defs ds)) k.0 rest.heads;
     }
 terms_kept all before (tree.TypeDecl name is_extern is_nodebug body pos ∷ ds) f h =
@@ -227,7 +207,29 @@ terms_kept all before (tree.TypeDecl name is_extern is_nodebug body pos ∷ ds) 
 terms_kept all before (tree.ExternConst name ty pos ∷ ds) f h =
     let d = tree.ExternConst name ty pos in
     behind all before d ds refl refl refl (terms_kept all (before ++ d ∷ []) ds f h)
-terms_kept all before (tree.Extractor term params template pos ∷ ds) f h = absurd cc
+terms_kept all before (tree.Extractor term params template pos ∷ ds) f h =
+    let d = tree.Extractor term params template pos in
+    let x : ExtractorDef = record { term = term; by = ByTemplate (record { params = params; pattern = template }); pos = pos } in
+    let extracting = extractor_terms (extractors before) in
+    let l = later_none (λ (r : Row). (r, pos)) (broken_in OfTerms (record { whole = whole_of all; before = before }) d) (fault_after OfTerms (whole_of all) (before ++ d ∷ []) ds) h in
+    let again = is_some (index_of extracting term) in
+    let unknown = not (is_some (signature_named (signatures all) term)) in
+    let misfit = template_misfit (whole_of all) x in
+    let k = templated_kept unknown again misfit l.0 in
+    let rest : AreTestedIn all (terms_of (signatures before)) (extern_terms (externs before)) (extracting ++ term ∷ []) ds =
+    same_tests (undeclared before d refl) (not_external before d refl) (grown extractor_of (λ (y : ExtractorDef). y.term) before d) (terms_kept all (before ++ d ∷ []) ds f l.1) in
+    record {
+      apart = rest.apart;
+      unmade = rest.unmade;
+      typed = rest.typed;
+      few = rest.few;
+      externs_apart = rest.externs_apart;
+      extractors_apart = or_from again (repeats_after (extracting ++ term ∷ []) (extractor_terms (extractors ds))) k.1 rest.extractors_apart;
+      known = rest.known;
+      extracted = or_from unknown (has_unknown (signatures all) (extractors ds)) k.0 rest.extracted;
+      fitted = or_from misfit (list_any (template_misfit (whole_of all)) (extractors ds)) k.2 rest.fitted;
+      heads = rest.heads;
+    }
 terms_kept all before (tree.Converter from to term pos ∷ ds) f h =
     let d = tree.Converter from to term pos in
     let l = later_none (λ (r : Row). (r, pos)) (broken_in OfTerms (record { whole = whole_of all; before = before }) d) (fault_after OfTerms (whole_of all) (before ++ d ∷ []) ds) h in
@@ -251,11 +253,6 @@ converting_kept : (a b : Bool) → cond a (Some row.TermUndeclared) (cond b (Som
 converting_kept true b h = absurd cc
 converting_kept false true h = absurd cc
 converting_kept false false h = refl
-
-converting_from : (a b : Bool) → a ≡ false → b ≡ false → cond a (Some row.TermUndeclared) (cond b (Some row.ConverterMisfit) None) ≡ None
-converting_from true b ha hb = absurd cc
-converting_from false true ha hb = absurd cc
-converting_from false false ha hb = refl
 
 -- the rows of terms are kept: no converter is wrong
 pub converters_kept : (all before ds : List Def) → list_all is_built_def ds ≡ true → fault_after OfTerms (whole_of all) before ds ≡ None → have_misfit all (converters before) (converters ds) ≡ false
@@ -292,77 +289,12 @@ converters_kept all before (tree.TypeDecl name is_extern is_nodebug body pos ∷
 converters_kept all before (tree.ExternConst name ty pos ∷ ds) f h =
     let d = tree.ExternConst name ty pos in
     ap (λ cs. have_misfit all cs (converters ds)) (sym (unconverted before d refl)) ∙ converters_kept all (before ++ d ∷ []) ds f h
-converters_kept all before (tree.Extractor term params template pos ∷ ds) f h = absurd cc
+converters_kept all before (tree.Extractor term params template pos ∷ ds) f h =
+    let d = tree.Extractor term params template pos in
+    let l = later_none (λ (r : Row). (r, pos)) (broken_in OfTerms (record { whole = whole_of all; before = before }) d) (fault_after OfTerms (whole_of all) (before ++ d ∷ []) ds) h in
+    ap (λ cs. have_misfit all cs (converters ds)) (sym (unconverted before d refl)) ∙ converters_kept all (before ++ d ∷ []) ds f l.1
 converters_kept all before (tree.Passed head items pos ∷ ds) f h =
     let d = tree.Passed head items pos in
     ap (λ cs. have_misfit all cs (converters ds)) (sym (unconverted before d refl)) ∙ converters_kept all (before ++ d ∷ []) ds f h
 
 -- ---- the rows
-
--- and where each fails, the rows are kept
-pub terms_none : (all before ds : List Def) → list_all is_built_def ds ≡ true → TermParts all before ds → have_misfit all (converters before) (converters ds) ≡ false → fault_after OfTerms (whole_of all) before ds ≡ None
-terms_none all before [] f p c = refl
-terms_none all before (tree.Decl term pure multi partial recursive args ret pos ∷ ds) f p c =
-    let d = tree.Decl term pure multi partial recursive args ret pos in
-    let s : Signature = record { term = term; pure = pure; multi = multi; partial = partial; recursive = recursive; args = args; ret = ret; pos = pos; origin = origin.Declared } in
-    let names = terms_of (signatures before) in
-    let g = and_parts (is_built_def d) (list_all is_built_def ds) f in
-    let again = is_some (index_of names term) in
-    let a = or_parts again (repeats_after (names ++ term ∷ []) (terms_of (signatures ds))) p.apart in
-    let u = or_parts (is_made_twice all s) (list_any (is_made_twice all) (signatures ds)) p.unmade in
-    let t = or_parts (names_no_type all s) (list_any (names_no_type all) (signatures ds)) p.typed in
-    let m = or_parts (has_too_many s) (list_any has_too_many (signatures ds)) p.few in
-    let rest : AreTestedIn all (names ++ term ∷ []) (extern_terms (externs before)) (extractor_terms (extractors before)) ds =
-    record { apart = a.1; unmade = u.1; typed = t.1; few = m.1; externs_apart = p.externs_apart; extractors_apart = p.extractors_apart; known = p.known; extracted = p.extracted; heads = p.heads } in
-    none_later (λ (r : Row). (r, pos)) (broken_in OfTerms (record { whole = whole_of all; before = before }) d) (fault_after OfTerms (whole_of all) (before ++ d ∷ []) ds)
-    (decl_from (again || is_made_twice all s) (names_no_type all s) (has_too_many s) (multi && partial) (or_from again (is_made_twice all s) a.0 u.0) t.0 m.0 (single multi recursive partial g.0))
-    (terms_none all (before ++ d ∷ []) ds g.1 (same_tests (sym (grown signature_of (λ (x : Signature). x.term) before d)) (sym (not_external before d refl)) (sym (not_extracting before d refl)) rest) (ap (λ cs. have_misfit all cs (converters ds)) (unconverted before d refl) ∙ c))
-terms_none all before (tree.ExternConstructor term func pos ∷ ds) f p c =
-    let d = tree.ExternConstructor term func pos in
-    let external = extern_terms (externs before) in
-    let again = is_some (index_of external term) in
-    let unknown = not (is_some (signature_named (signatures all) term)) in
-    let a = or_parts again (repeats_after (external ++ term ∷ []) (extern_terms (externs ds))) p.externs_apart in
-    let k = or_parts unknown (has_undeclared (signatures all) (externs ds)) p.known in
-    let rest : AreTestedIn all (terms_of (signatures before)) (external ++ term ∷ []) (extractor_terms (extractors before)) ds =
-    record { apart = p.apart; unmade = p.unmade; typed = p.typed; few = p.few; externs_apart = a.1; extractors_apart = p.extractors_apart; known = k.1; extracted = p.extracted; heads = p.heads } in
-    none_later (λ (r : Row). (r, pos)) (broken_in OfTerms (record { whole = whole_of all; before = before }) d) (fault_after OfTerms (whole_of all) (before ++ d ∷ []) ds) (named_from unknown again false k.0 a.0 refl)
-    (terms_none all (before ++ d ∷ []) ds f (same_tests (sym (undeclared before d refl)) (sym (grown extern_of (λ (x : Extern). x.term) before d)) (sym (not_extracting before d refl)) rest) (ap (λ cs. have_misfit all cs (converters ds)) (unconverted before d refl) ∙ c))
-terms_none all before (tree.ExternExtractor term func infallible pos ∷ ds) f p c =
-    let d = tree.ExternExtractor term func infallible pos in
-    let extracting = extractor_terms (extractors before) in
-    let again = is_some (index_of extracting term) in
-    let unknown = not (is_some (signature_named (signatures all) term)) in
-    let a = or_parts again (repeats_after (extracting ++ term ∷ []) (extractor_terms (extractors ds))) p.extractors_apart in
-    let k = or_parts unknown (has_unknown (signatures all) (extractors ds)) p.extracted in
-    let rest : AreTestedIn all (terms_of (signatures before)) (extern_terms (externs before)) (extracting ++ term ∷ []) ds =
-    record { apart = p.apart; unmade = p.unmade; typed = p.typed; few = p.few; externs_apart = p.externs_apart; extractors_apart = a.1; known = p.known; extracted = k.1; heads = p.heads } in
-    none_later (λ (r : Row). (r, pos)) (broken_in OfTerms (record { whole = whole_of all; before = before }) d) (fault_after OfTerms (whole_of all) (before ++ d ∷ []) ds) (named_from unknown false again k.0 refl a.0)
-    (terms_none all (before ++ d ∷ []) ds f (same_tests (sym (undeclared before d refl)) (sym (not_external before d refl)) (sym (grown extractor_of (λ (x : ExtractorDef). x.term) before d)) rest) (ap (λ cs. have_misfit all cs (converters ds)) (unconverted before d refl) ∙ c))
-terms_none all before (tree.Rule name prio term args iflets rhs pos ∷ ds) f p c =
-    let d = tree.Rule name prio term args iflets rhs pos in
-    let r : RuleDef = record { name = name; prio = prio; term = term; args = args; iflets = iflets; rhs = rhs; pos = pos } in
-    let g = and_parts (is_built_def d) (list_all is_built_def ds) f in
-    let k = or_parts (is_headless all r) (list_any (is_headless all) (rule_defs ds)) p.heads in
-    let rest : TermParts all before ds = record { apart = p.apart; unmade = p.unmade; typed = p.typed; few = p.few; externs_apart = p.externs_apart; extractors_apart = p.extractors_apart; known = p.known; extracted = p.extracted; heads = k.1 } in
-    none_later (λ (r : Row). (r, pos)) (broken_in OfTerms (record { whole = whole_of all; before = before }) d) (fault_after OfTerms (whole_of all) (before ++ d ∷ []) ds) (none_first (is_headless all r) row.HeadMisfit None k.0 refl)
-    (terms_none all (before ++ d ∷ []) ds g.1 (ahead all before d ds refl refl refl rest) (ap (λ cs. have_misfit all cs (converters ds)) (unconverted before d refl) ∙ c))
-terms_none all before (tree.TypeDecl name is_extern is_nodebug body pos ∷ ds) f p c =
-    let d = tree.TypeDecl name is_extern is_nodebug body pos in
-    terms_none all (before ++ d ∷ []) ds f (ahead all before d ds refl refl refl p) (ap (λ cs. have_misfit all cs (converters ds)) (unconverted before d refl) ∙ c)
-terms_none all before (tree.ExternConst name ty pos ∷ ds) f p c =
-    let d = tree.ExternConst name ty pos in
-    terms_none all (before ++ d ∷ []) ds f (ahead all before d ds refl refl refl p) (ap (λ cs. have_misfit all cs (converters ds)) (unconverted before d refl) ∙ c)
-terms_none all before (tree.Extractor term params template pos ∷ ds) f p c = absurd cc
-terms_none all before (tree.Converter from to term pos ∷ ds) f p c =
-    let d = tree.Converter from to term pos in
-    let x : Conversion = record { from = from; to = to; term = term } in
-    let unknown = not (is_some (signature_named (signatures all) term)) in
-    let misfit = is_misfit all (converters before) x in
-    let k = or_parts (unknown || misfit) (have_misfit all (converters before ++ x ∷ []) (converters ds)) c in
-    let m = or_parts unknown misfit k.0 in
-    none_later (λ (r : Row). (r, pos)) (broken_in OfTerms (record { whole = whole_of all; before = before }) d) (fault_after OfTerms (whole_of all) (before ++ d ∷ []) ds) (converting_from unknown misfit m.0 m.1)
-    (terms_none all (before ++ d ∷ []) ds f (ahead all before d ds refl refl refl p) (ap (λ cs. have_misfit all cs (converters ds)) (converted_more before d x refl) ∙ k.1))
-terms_none all before (tree.Passed head items pos ∷ ds) f p c =
-    let d = tree.Passed head items pos in
-    terms_none all (before ++ d ∷ []) ds f (ahead all before d ds refl refl refl p) (ap (λ cs. have_misfit all cs (converters ds)) (unconverted before d refl) ∙ c)

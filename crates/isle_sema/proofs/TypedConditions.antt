@@ -6,7 +6,9 @@ use Rattle.std.proofs.lemmas.Option.{same_Some}
 use Rattle.isle_core.specs.declared.TypeId.{TypeId}
 use Rattle.isle_core.specs.declared.VarId.{VarId}
 use Rattle.isle_core.specs.Expr.{Expr as CoreExpr}
-use Rattle.isle_core.specs.ExprType.{in_condition, AreIfLetsOf}
+use Rattle.isle_core.specs.ExprType.{in_condition}
+use Rattle.isle_sema.specs.Templates.{templates}
+use Rattle.isle_templates.specs.WrittenRule.{AreWrittenIfLetsOf}
 use Rattle.isle_core.specs.Pattern.{Pattern as CorePattern}
 use Rattle.isle_core.specs.Rule.{IfLet as CoreIfLet, Environment}
 use Rattle.isle_core.specs.TypedVariables.{typed_variables, all_typed, iflets_typed}
@@ -14,15 +16,16 @@ use Rattle.isle_ast.specs.Tree.{Pattern, Patterns, IfLet, Def}
 use Rattle.isle_terms.specs.Whole.{Whole, whole_of}
 use Rattle.isle_terms.proofs.MadeTerms.{first_there}
 use Rattle.isle_sema.specs.ExprPass.{expr_type}
-use Rattle.isle_sema.specs.Locals.{of_patterns}
-use Rattle.isle_sema.specs.NewVariables.{new_count}
+use Rattle.isle_variables.specs.Locals.{of_patterns}
+use Rattle.isle_variables.specs.NewVariables.{new_count}
 use Rattle.isle_sema.specs.PatternPass.{pattern_pass, patterns_pass}
-use Rattle.isle_sema.specs.RulePass.{iflet_tree, condition_expr, condition_pattern, behind, condition_pass, conditions_pass}
-use Rattle.isle_sema.specs.Scope.{Scope, no_variables, variable}
+use Rattle.isle_sema.specs.RulePass.{iflet_tree, condition_expr, condition_pattern, condition_pass, conditions_pass}
+use Rattle.isle_variables.specs.Scope.{behind}
+use Rattle.isle_variables.specs.Scope.{Scope, no_variables, variable}
 use Rattle.isle_sema.proofs.KeptParts.{AreKept, kept_parts}
-use Rattle.isle_sema.proofs.LocalLaws.{pattern_variable}
+use Rattle.isle_variables.proofs.LocalLaws.{pattern_variable}
 use Rattle.isle_sema.proofs.OwnTypes.{own_typed}
-use Rattle.isle_sema.proofs.ScopeLaws.{IsNumbered, none_numbered, behind_numbered}
+use Rattle.isle_variables.proofs.ScopeLaws.{IsNumbered, none_numbered, behind_numbered}
 use Rattle.isle_sema.proofs.TypedExprs.{IsOver}
 use Rattle.isle_sema.proofs.TypedParts.{IsTypedIn}
 use Rattle.isle_sema.proofs.TypedPatterns.{KnowsTerms, AreTakenWell, taken_parts, pattern_typed, stands_in, variable_stands}
@@ -78,13 +81,13 @@ iflet_is (Some p) (Some e) c h =
     record { lhs_is = ap (λ (x : CoreIfLet). Some x.lhs) same; rhs_is = ap (λ (x : CoreIfLet). Some x.rhs) same }
 
 -- conditions that break no row, and what is behind them
-pub record AreTypedConditions (env : Environment) (scope : Scope) (vars : List (TypeId × ℕ)) (cs : List CoreIfLet) : Type 0 where
-  pub typed : AreIfLetsOf env vars cs
+pub record AreTypedConditions (env : Environment) (given : List (Option CorePattern)) (scope : Scope) (vars : List (TypeId × ℕ)) (cs : List CoreIfLet) : Type 0 where
+  pub typed : AreWrittenIfLetsOf env given vars cs
   pub stage : IsStage scope (iflets_typed vars cs)
 
 pub conditions_typed : (defs : List Def) (env : Environment) (scope : Scope) (vars : List (TypeId × ℕ)) (cs : List IfLet) (xs : List CoreIfLet) → IsTypedIn defs env → KnowsTerms defs env → IsStage scope vars → (conditions_pass (whole_of defs) scope cs).trees ≡ Some xs
-    → AreKept (whole_of defs) in_condition (conditions_pass (whole_of defs) scope cs).sites → AreTakenWell (whole_of defs) (conditions_pass (whole_of defs) scope cs).sites → AreTypedConditions env (conditions_pass (whole_of defs) scope cs).scope vars xs
-conditions_typed defs env scope vars [] xs g knows s h kept well = subst (AreTypedConditions env scope vars) (same_Some [] xs h) (record { typed = tt; stage = s })
+    → AreKept (whole_of defs) in_condition (conditions_pass (whole_of defs) scope cs).sites → AreTakenWell (whole_of defs) (conditions_pass (whole_of defs) scope cs).sites → AreTypedConditions env (templates (whole_of defs)) (conditions_pass (whole_of defs) scope cs).scope vars xs
+conditions_typed defs env scope vars [] xs g knows s h kept well = subst (AreTypedConditions env (templates (whole_of defs)) scope vars) (same_Some [] xs h) (record { typed = tt; stage = s })
 conditions_typed defs env scope vars (c ∷ cs) xs g knows s h kept well =
     let w = whole_of defs in
     let one = condition_pass w scope c in
@@ -105,4 +108,4 @@ conditions_typed defs env scope vars (c ∷ cs) xs g knows s h kept well =
     let lhs = pattern_typed defs env ty scope c.lhs f.first.lhs knows g.types at taken in
     let stage = condition_stage w (option_map expr_type right.tree) scope vars right.next c.lhs f.first.lhs s m.lhs_is in
     let others = conditions_typed defs env one.scope (vars ++ typed_variables f.first.lhs) cs f.others g knows stage f.found k.1 t.1 in
-    subst (AreTypedConditions env rest.scope vars) (sym f.all) (record { typed = (record { ty = ty; rhs = rhs; lhs = lhs }, others.typed); stage = others.stage })
+    subst (AreTypedConditions env (templates w) rest.scope vars) (sym f.all) (record { typed = (record { ty = ty; rhs = rhs; lhs = lhs }, others.typed); stage = others.stage })

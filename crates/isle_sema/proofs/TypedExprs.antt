@@ -28,10 +28,11 @@ use Rattle.isle_declarations.specs.Signatures.{Signature, externs, rule_defs, fu
 use Rattle.isle_declarations.specs.Terms.{terms, is_made}
 use Rattle.isle_types.specs.TypeEnvironment.{type_env_of}
 use Rattle.isle_terms.specs.Reduced.{typed_integer}
-use Rattle.isle_sema.specs.Locals.{local_named, bound_local}
-use Rattle.isle_sema.specs.Scope.{Local, local_type, typed_local}
+use Rattle.isle_variables.specs.Locals.{local_named, bound_local}
+use Rattle.isle_variables.specs.Scope.{Local, local_type, typed_local}
 use Rattle.isle_sema.specs.Site.{Site, TruthAt, UsedAt, CalledAt, ConstantAt, BoundAt}
-use Rattle.isle_sema.specs.PatternPass.{is_blank, first_expected, later_expected}
+use Rattle.isle_sema.specs.PatternPass.{first_expected, later_expected}
+use Rattle.isle_variables.specs.Scope.{is_blank}
 use Rattle.isle_terms.specs.TypeNames.{type_named}
 use Rattle.isle_terms.specs.Expected.{takes_truths}
 use Rattle.isle_terms.specs.Whole.{Whole, termed, has_constructor, constant_type}
@@ -45,8 +46,8 @@ use Rattle.isle_sema.proofs.Conversions.{conversion_is}
 use Rattle.isle_core.specs.ExprType.{Allowed, IsTermKind, IsExprOf, AreExprsOf, AreBindingsOf}
 use Rattle.isle_core.specs.TypedVariables.{let_variables, IsNew}
 use Rattle.isle_sema.proofs.KeptParts.{AreKept, kept_parts}
-use Rattle.isle_sema.proofs.LocalLaws.{one_named}
-use Rattle.isle_sema.proofs.ScopeLaws.{local_is}
+use Rattle.isle_variables.proofs.LocalLaws.{one_named}
+use Rattle.isle_variables.proofs.ScopeLaws.{local_is}
 use Rattle.isle_sema.proofs.MadeForms.{made_term, constant_typed}
 use Rattle.isle_terms.proofs.MadeTerms.{term_made, term_is, types_are, all_at}
 use Rattle.isle_sema.proofs.RuleRoots.{mapped, signature_at}

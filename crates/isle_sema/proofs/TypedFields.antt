@@ -26,7 +26,7 @@ use Rattle.isle_core.specs.Serializable.{IsFieldPath}
 use Rattle.isle_core.specs.Tests.{Test, Places, no_places, after, args_after, rule_tests, rule_places}
 use Rattle.isle_core.specs.TypedVariables.{typed_variables, all_typed, let_variables, rule_typed}
 use Rattle.isle_core.proofs.Contained.{contained_cases, none_contained}
-use Rattle.isle_sema.specs.TypedRule.{IsRuleOf}
+use Rattle.isle_templates.specs.TypedRule.{IsRuleOf}
 use Rattle.isle_sema.proofs.OpenedTypes.{opens_into}
 use Rattle.isle_sema.proofs.PassedConditions.{HasTypedConditions, conditions_typed, rule_placed}
 use Rattle.isle_sema.proofs.SerializableCalls.{some_of, AreTypedPlaces, typed_places, path_typed, let_typed}

@@ -1,6 +1,6 @@
 -- Patterns whose parts break no row have the types that are expected, and each variable after them stands in one of them.
 use Rattle.std.proofs.Common.{◌≡◌, ◌⊎◌, ⊎_elim, inl, inr, ℕ, Bool, true, false, cond, List, [], ◌∷◌, ◌++◌, length, map, Option, Some, None, refl, sym, ap, ◌∙◌, subst, arith}
-use Rattle.std.specs.Prelude.{ℤ, ◌==◌, not, Contains, option_map, slice_get}
+use Rattle.std.specs.Prelude.{ℤ, ◌==◌, not, Contains, option_map}
 use Rattle.std.specs.List.{list_any}
 use Rattle.std.specs.Str.{bytes_eq}
 use Rattle.std.proofs.lemmas.Bool.{or_parts, eqb-true, not-false}
@@ -13,10 +13,8 @@ use Rattle.isle_core.specs.declared.TypeId.{TypeId}
 use Rattle.isle_core.specs.declared.VarId.{VarId}
 use Rattle.isle_core.specs.declared.types.TypeEnv.{TypeEnv}
 use Rattle.isle_core.specs.Constants.{const_type}
-use Rattle.isle_core.specs.Making.{making}
 use Rattle.isle_core.specs.Pattern as core_pattern
 use Rattle.isle_core.specs.Pattern.{Pattern as CorePattern}
-use Rattle.isle_core.specs.PatternType.{IsPatternOf, ArePartsOf, AreEachOf, ArePatternsOf}
 use Rattle.isle_core.specs.Rule.{Environment}
 use Rattle.isle_core.specs.RuleViews.{patterns_of as core_patterns}
 use Rattle.isle_core.proofs.Contained.{head_contained, tail_contained}
@@ -28,22 +26,26 @@ use Rattle.isle_declarations.specs.Terms.{terms}
 use Rattle.isle_types.specs.Builtins.{type_id}
 use Rattle.isle_types.specs.TypeEnvironment.{type_env_of}
 use Rattle.isle_terms.specs.Whole.{whole_of}
-use Rattle.isle_sema.specs.PatternPass.{PatternPass, term_tree, pattern_within, taken_by, and_tree, is_blank, bound_tree, count_of, of_each, first_expected, later_expected, pattern_pass, patterns_pass}
+use Rattle.isle_sema.specs.PatternPass.{PatternPass, term_tree, pattern_within, taken_by, and_tree, bound_tree, count_of, of_each, first_expected, later_expected, pattern_pass, patterns_pass}
+use Rattle.isle_variables.specs.Scope.{is_blank}
 use Rattle.isle_terms.specs.Reduced.{typed_integer}
 use Rattle.isle_sema.specs.RuleRows.{differ, is_taken_misfit, is_untaken, is_mistaken, is_misplaced, is_undeclared, is_other_type, is_met_otherwise}
-use Rattle.isle_sema.specs.Scope.{Scope, found_in, bound_at, met, variable}
+use Rattle.isle_variables.specs.Scope.{Scope, found_in, bound_at, met, variable}
 use Rattle.isle_sema.specs.Site.{Site, TruthAt, PartAt, MetAt, TakenAt}
 use Rattle.isle_core.specs.TypedVariables.{typed_variables, typed_within, all_typed}
 use Rattle.isle_terms.specs.TypeNames.{type_named}
 use Rattle.isle_terms.specs.Expected.{takes_truths}
 use Rattle.isle_terms.specs.Whole.{Whole, termed, has_extractor, arg_types, ret_type, number_of, constant_type}
 use Rattle.isle_terms.specs.Converters.{conversion, within}
+use Rattle.isle_sema.specs.Templates.{templates}
+use Rattle.isle_templates.specs.WrittenRule.{AreWrittenPatternsOf}
+use Rattle.isle_templates.specs.WrittenType.{IsWrittenOf, AreWrittenPartsOf, AreWrittenEachOf}
 use Rattle.isle_sema.proofs.Conversions.{IsConversion}
 use Rattle.isle_sema.proofs.Firsts.{any_parts}
 use Rattle.isle_terms.proofs.MadeTerms.{first_there}
 use Rattle.isle_sema.proofs.OpenedTerms.{IsOpened}
 pub use Rattle.isle_sema.proofs.RuleRoots.{IsMapped, mapped}
-use Rattle.isle_sema.proofs.ScopeLaws.{local_bound, met_again, bound_new, variable_other}
+use Rattle.isle_variables.proofs.ScopeLaws.{local_bound, met_again, bound_new, variable_other}
 use Rattle.isle_sema.proofs.TypedConstants.{integer_typed, truth_typed}
 
 -- two types that don't differ are one
@@ -127,7 +129,7 @@ taken_parts w xs ys h =
 -- the environment knows how the terms of definitions take values apart, what converters take and give, and the types of constants
 pub record KnowsTerms (defs : List Def) (env : Environment) : Type 0 where
   pub opened : (name : List ℕ) (s : Signature) (number : TermId) (ty : TypeId) → termed (whole_of defs) name ≡ Some s → term_named (terms defs) name ≡ Some number → has_extractor (whole_of defs) s ≡ true → type_named defs s.ret ≡ Some ty
-      → IsOpened defs env s ty (making env number) (slice_get env.terms number.0)
+      → IsOpened defs env s ty number
   pub converts : (of ty : TypeId) (s : Signature) → conversion (whole_of defs) (Some of) (Some ty) ≡ Some s → IsConversion defs of ty s
   pub constant : (name : List ℕ) (ty : TypeId) → constant_type (whole_of defs) name ≡ Some ty → const_type env (sym_of (type_env_of defs).syms name) ≡ Some ty
 
@@ -150,28 +152,28 @@ met_type scope name ty v (Some of) is h k =
     bound_type ty v.0 (Some of) (sym stays ∙ v_is) k
 
 -- patterns of a list are the parts of a pattern
-parts_of : (env : Environment) (tys : List TypeId) (qs : List CorePattern) → ArePatternsOf env tys qs → ArePartsOf env (Some tys) (core_patterns qs)
-parts_of env [] [] h = tt
-parts_of env [] (q ∷ qs) h = absurd h
-parts_of env (ty ∷ tys) [] h = absurd h
-parts_of env (ty ∷ tys) (q ∷ qs) h = (h.0, parts_of env tys qs h.1)
+parts_of : (env : Environment) (given : List (Option CorePattern)) (tys : List TypeId) (qs : List CorePattern) → AreWrittenPatternsOf env given tys qs → AreWrittenPartsOf env given (Some tys) (core_patterns qs)
+parts_of env given [] [] h = tt
+parts_of env given [] (q ∷ qs) h = absurd h
+parts_of env given (ty ∷ tys) [] h = absurd h
+parts_of env given (ty ∷ tys) (q ∷ qs) h = (h.0, parts_of env given tys qs h.1)
 
 -- patterns are of the types that are expected, where they are as many
 abbrev AreTyped : List Def → Environment → Scope → Patterns → Type 0
 AreTyped defs env scope ps = (tys : List TypeId) (qs : List CorePattern) → count_of ps ≡ length tys → (patterns_pass (whole_of defs) (map Some tys) scope ps).trees ≡ Some qs → AreTakenWell (whole_of defs) (patterns_pass (whole_of defs) (map Some tys) scope ps).sites
-    → ArePatternsOf env tys qs
+    → AreWrittenPatternsOf env (templates (whole_of defs)) tys qs
 
 -- a term's pattern is of the type that the term gives where its parts are of its arguments' types
 opened_typed : (defs : List Def) (env : Environment) (ty of : TypeId) (name : List ℕ) (s : Signature) (number : TermId) (qs : List CorePattern) → KnowsTerms defs env → termed (whole_of defs) name ≡ Some s → term_named (terms defs) name ≡ Some number
-    → has_extractor (whole_of defs) s ≡ true → type_named defs s.ret ≡ Some of → of ≡ ty → ((tys : List TypeId) → map (type_named defs) s.args ≡ map Some tys → ArePatternsOf env tys qs) → IsPatternOf env ty (core_pattern.Term of number (core_patterns qs))
+    → has_extractor (whole_of defs) s ≡ true → type_named defs s.ret ≡ Some of → of ≡ ty → ((tys : List TypeId) → map (type_named defs) s.args ≡ map Some tys → AreWrittenPatternsOf env (templates (whole_of defs)) tys qs) → IsWrittenOf env (templates (whole_of defs)) ty (core_pattern.Term of number (core_patterns qs))
 opened_typed defs env ty of name s number qs knows is numbered has ret same typed =
     let m = knows.opened name s number ty is numbered has (ret ∙ ap Some same) in
-    (same, m.opens, subst (λ o. ArePartsOf env o (core_patterns qs)) (sym m.parts) (parts_of env m.types qs (typed m.types m.args)))
+    (same, m.opens, subst (λ o. AreWrittenPartsOf env (templates (whole_of defs)) o (core_patterns qs)) (sym m.parts) (parts_of env (templates (whole_of defs)) m.types qs (typed m.types m.args)))
 
 -- so where nothing stands around it
 term_typed : (defs : List Def) (env : Environment) (ty : TypeId) (scope : Scope) (ps : Patterns) (name : List ℕ) (o : Option Signature) (q : CorePattern) → KnowsTerms defs env → termed (whole_of defs) name ≡ o → AreTyped defs env scope ps
     → term_tree (ret_type (whole_of defs) o) (term_named (terms defs) name) (patterns_pass (whole_of defs) (arg_types (whole_of defs) o) scope ps).trees ≡ Some q
-    → AreTakenWell (whole_of defs) (TakenAt (Some ty) o (count_of ps) ∷ (patterns_pass (whole_of defs) (arg_types (whole_of defs) o) scope ps).sites) → IsPatternOf env ty q
+    → AreTakenWell (whole_of defs) (TakenAt (Some ty) o (count_of ps) ∷ (patterns_pass (whole_of defs) (arg_types (whole_of defs) o) scope ps).sites) → IsWrittenOf env (templates (whole_of defs)) ty q
 term_typed defs env ty scope ps name None q knows is typed h well = absurd cc
 term_typed defs env ty scope ps name (Some s) q knows is typed h well =
     let w = whole_of defs in
@@ -181,7 +183,7 @@ term_typed defs env ty scope ps name (Some s) q knows is typed h well =
     let fits = or_parts (not (count_of ps == length s.args)) (not (has_extractor w s)) (or_parts (is_taken_misfit w (Some s) (count_of ps)) false k.0.taken).0 in
     let many : count_of ps ≡ length s.args = eqb-true (count_of ps) (length s.args) (not-false (count_of ps == length s.args) fits.0) in
     let same : t.of ≡ ty = same_type t.of ty (subst (λ o. differ o (Some ty) ≡ false) t.of_is (or_parts (differ (type_named defs s.ret) (Some ty)) false k.0.types).0) in
-    subst (IsPatternOf env ty) t.is (opened_typed defs env ty t.of name s t.number t.parts knows is t.number_is (not-false (has_extractor w s) fits.1) t.of_is same
+    subst (IsWrittenOf env (templates (whole_of defs)) ty) t.is (opened_typed defs env ty t.of name s t.number t.parts knows is t.number_is (not-false (has_extractor w s) fits.1) t.of_is same
     (λ tys are.
     let long : length s.args ≡ length tys = sym (length-map s.args (type_named defs)) ∙ ap length are ∙ length-map tys Some in
     let trees = subst (λ (os : List (Option TypeId)). (patterns_pass w os scope ps).trees ≡ Some t.parts) are t.parts_are in
@@ -208,7 +210,7 @@ within_is w (Some s) (Some inner) q h =
 
 -- the converter takes a value of the type apart, into one of the other type
 converter_typed : (defs : List Def) (env : Environment) (ty of : TypeId) (s : Signature) (p : Option CorePattern) (q : CorePattern) → KnowsTerms defs env → conversion (whole_of defs) (Some of) (Some ty) ≡ Some s → AreTakenWell (whole_of defs) (TakenAt (Some ty) (Some s) 1 ∷ [])
-    → ((x : CorePattern) → p ≡ Some x → IsPatternOf env of x) → pattern_within (whole_of defs) (Some s) p ≡ Some q → IsPatternOf env ty q
+    → ((x : CorePattern) → p ≡ Some x → IsWrittenOf env (templates (whole_of defs)) of x) → pattern_within (whole_of defs) (Some s) p ≡ Some q → IsWrittenOf env (templates (whole_of defs)) ty q
 converter_typed defs env ty of s None q knows is well typed h = let t = term_tree_is (ret_type (whole_of defs) (Some s)) (number_of (whole_of defs) (Some s)) None q h in let bad : None ≡ Some t.parts = t.parts_are in absurd cc
 converter_typed defs env ty of s (Some x) q knows is well typed h =
     let w = whole_of defs in
@@ -217,18 +219,18 @@ converter_typed defs env ty of s (Some x) q knows is well typed h =
     let parts : x ∷ [] ≡ t.parts = same_Some (x ∷ []) t.parts t.parts_are in
     let fits = or_parts (not (1 == length s.args)) (not (has_extractor w s)) (or_parts (is_taken_misfit w (Some s) 1) false well.taken).0 in
     let same : t.of ≡ ty = same_Some t.of ty (sym t.of_is ∙ c.ret) in
-    subst (IsPatternOf env ty) t.is (opened_typed defs env ty t.of s.term s t.number t.parts knows c.there t.number_is (not-false (has_extractor w s) fits.1) t.of_is same
-    (λ tys are. subst (λ (qs : List CorePattern). ArePatternsOf env tys qs) parts (one_typed tys (sym c.args ∙ are) (typed x refl))))
+    subst (IsWrittenOf env (templates (whole_of defs)) ty) t.is (opened_typed defs env ty t.of s.term s t.number t.parts knows c.there t.number_is (not-false (has_extractor w s) fits.1) t.of_is same
+    (λ tys are. subst (λ (qs : List CorePattern). AreWrittenPatternsOf env (templates (whole_of defs)) tys qs) parts (one_typed tys (sym c.args ∙ are) (typed x refl))))
   where
-    one_typed : (tys : List TypeId) → Some of ∷ [] ≡ map Some tys → IsPatternOf env of x → ArePatternsOf env tys (x ∷ [])
+    one_typed : (tys : List TypeId) → Some of ∷ [] ≡ map Some tys → IsWrittenOf env (templates (whole_of defs)) of x → AreWrittenPatternsOf env (templates (whole_of defs)) tys (x ∷ [])
     one_typed [] e k = absurd cc
-    one_typed (t ∷ []) e k = let same : of ≡ t = cc in (subst (λ (y : TypeId). IsPatternOf env y x) same k, tt)
+    one_typed (t ∷ []) e k = let same : of ≡ t = cc in (subst (λ (y : TypeId). IsWrittenOf env (templates (whole_of defs)) y x) same k, tt)
     one_typed (t ∷ u ∷ tys) e k = absurd cc
 
 -- a term's pattern is of the type, within a converter where it is of another one
 within_typed : (defs : List Def) (env : Environment) (ty : TypeId) (scope : Scope) (ps : Patterns) (name : List ℕ) (q : CorePattern) (of : Option TypeId) (by : Option Signature) → KnowsTerms defs env → AreTyped defs env scope ps → ret_type (whole_of defs) (termed (whole_of defs) name) ≡ of
     → conversion (whole_of defs) of (Some ty) ≡ by → pattern_within (whole_of defs) by (term_tree (ret_type (whole_of defs) (termed (whole_of defs) name)) (term_named (terms defs) name) (patterns_pass (whole_of defs) (arg_types (whole_of defs) (termed (whole_of defs) name)) scope ps).trees) ≡ Some q
-    → AreTakenWell (whole_of defs) (taken_by by (Some ty) ++ TakenAt (within by of (Some ty)) (termed (whole_of defs) name) (count_of ps) ∷ (patterns_pass (whole_of defs) (arg_types (whole_of defs) (termed (whole_of defs) name)) scope ps).sites) → IsPatternOf env ty q
+    → AreTakenWell (whole_of defs) (taken_by by (Some ty) ++ TakenAt (within by of (Some ty)) (termed (whole_of defs) name) (count_of ps) ∷ (patterns_pass (whole_of defs) (arg_types (whole_of defs) (termed (whole_of defs) name)) scope ps).sites) → IsWrittenOf env (templates (whole_of defs)) ty q
 within_typed defs env ty scope ps name q of None knows typed ret is h well = term_typed defs env ty scope ps name (termed (whole_of defs) name) q knows refl typed h well
 within_typed defs env ty scope ps name q None (Some s) knows typed ret is h well = absurd cc
 within_typed defs env ty scope ps name q (Some of) (Some s) knows typed ret is h well =
@@ -240,8 +242,8 @@ within_typed defs env ty scope ps name q (Some of) (Some s) knows typed ret is h
 
 -- `@` is of the type where its pattern is
 bind_typed : (defs : List Def) (env : Environment) (ty : TypeId) (scope : Scope) (name : List ℕ) (p : Pattern) (q : CorePattern) (blank : Bool)
-    → ((mid : Scope) (x : CorePattern) → (pattern_pass (whole_of defs) (Some ty) mid p).tree ≡ Some x → AreTakenWell (whole_of defs) (pattern_pass (whole_of defs) (Some ty) mid p).sites → IsPatternOf env ty x)
-    → (bind_pass (whole_of defs) (Some ty) scope name p blank).tree ≡ Some q → AreTakenWell (whole_of defs) (bind_pass (whole_of defs) (Some ty) scope name p blank).sites → IsPatternOf env ty q
+    → ((mid : Scope) (x : CorePattern) → (pattern_pass (whole_of defs) (Some ty) mid p).tree ≡ Some x → AreTakenWell (whole_of defs) (pattern_pass (whole_of defs) (Some ty) mid p).sites → IsWrittenOf env (templates (whole_of defs)) ty x)
+    → (bind_pass (whole_of defs) (Some ty) scope name p blank).tree ≡ Some q → AreTakenWell (whole_of defs) (bind_pass (whole_of defs) (Some ty) scope name p blank).sites → IsWrittenOf env (templates (whole_of defs)) ty q
 bind_typed defs env ty scope name p q true go h well = go scope q h well
 bind_typed defs env ty scope name p q false go h well =
     let w = whole_of defs in
@@ -249,7 +251,7 @@ bind_typed defs env ty scope name p q false go h well =
     let inner = pattern_pass w (Some ty) mid p in
     let b = bound_tree_is (variable mid name) inner.tree q h in
     let k = taken_parts w (MetAt (Some ty) (bound_at scope name) ∷ []) inner.sites well in
-    subst (IsPatternOf env ty) b.is (
+    subst (IsWrittenOf env (templates (whole_of defs)) ty) b.is (
       met_type scope name ty b.var (bound_at scope name) refl b.var_is (or_parts (is_other_type (bound_at scope name) (Some ty)) false k.0.again).0,
       go mid b.inner b.inner_is k.1,
     )
@@ -257,22 +259,22 @@ bind_typed defs env ty scope name p q false go h well =
 mutual
   -- a pattern at this type is of it
   pub pattern_typed : (defs : List Def) (env : Environment) (ty : TypeId) (scope : Scope) (p : Pattern) (q : CorePattern) → KnowsTerms defs env → env.types ≡ type_env_of defs → (pattern_pass (whole_of defs) (Some ty) scope p).tree ≡ Some q
-      → AreTakenWell (whole_of defs) (pattern_pass (whole_of defs) (Some ty) scope p).sites → IsPatternOf env ty q
+      → AreTakenWell (whole_of defs) (pattern_pass (whole_of defs) (Some ty) scope p).sites → IsWrittenOf env (templates (whole_of defs)) ty q
   pattern_typed defs env ty scope (tree.Int n) q knows types h well =
       let m = mapped (λ (v : TypeId × ℤ). core_pattern.ConstInt v.0 v.1) (typed_integer (type_env_of defs) (Some ty) n) q h in
-      subst (IsPatternOf env ty) m.is (integer_typed env ty n m.from (ap (λ (ts : TypeEnv). typed_integer ts (Some ty) n) types ∙ m.there))
+      subst (IsWrittenOf env (templates (whole_of defs)) ty) m.is (integer_typed env ty n m.from (ap (λ (ts : TypeEnv). typed_integer ts (Some ty) n) types ∙ m.there))
   pattern_typed defs env ty scope (tree.Truth b) q knows types h well =
       let takes = not-false (takes_truths (type_env_of defs) (Some ty)) (or_parts (is_misplaced (whole_of defs) (TruthAt (Some ty))) false well.placed).0 in
-      subst (IsPatternOf env ty) (same_Some (core_pattern.ConstBool b) q h) (truth_typed defs env b ty types (ap (λ (ts : TypeEnv). takes_truths ts (Some ty)) types ∙ takes))
-  pattern_typed defs env ty scope tree.Wildcard q knows types h well = subst (IsPatternOf env ty) (same_Some (core_pattern.Wildcard ty) q h) refl
+      subst (IsWrittenOf env (templates (whole_of defs)) ty) (same_Some (core_pattern.ConstBool b) q h) (truth_typed defs env b ty types (ap (λ (ts : TypeEnv). takes_truths ts (Some ty)) types ∙ takes))
+  pattern_typed defs env ty scope tree.Wildcard q knows types h well = subst (IsWrittenOf env (templates (whole_of defs)) ty) (same_Some (core_pattern.Wildcard ty) q h) refl
   pattern_typed defs env ty scope (tree.Var name) q knows types h well =
       let m = mapped (λ (v : TypeId × VarId). core_pattern.Var v.0 v.1) (variable (met scope name (Some ty)) name) q h in
-      subst (IsPatternOf env ty) m.is (met_type scope name ty m.from (bound_at scope name) refl m.there (or_parts (is_other_type (bound_at scope name) (Some ty)) false well.again).0)
+      subst (IsWrittenOf env (templates (whole_of defs)) ty) m.is (met_type scope name ty m.from (bound_at scope name) refl m.there (or_parts (is_other_type (bound_at scope name) (Some ty)) false well.again).0)
   pattern_typed defs env ty scope (tree.Const name) q knows types h well =
       let found = constant_type (whole_of defs) name in
       let m = mapped (λ (t : TypeId). core_pattern.ConstPrim t (sym_of (type_env_of defs).syms name)) found q h in
       let same : m.from ≡ ty = same_type m.from ty (subst (λ o. differ o (Some ty) ≡ false) m.there (or_parts (differ found (Some ty)) false well.types).0) in
-      subst (IsPatternOf env ty) m.is (same, knows.constant name ty (m.there ∙ ap Some same))
+      subst (IsWrittenOf env (templates (whole_of defs)) ty) m.is (same, knows.constant name ty (m.there ∙ ap Some same))
   pattern_typed defs env ty scope (tree.Term name ps) q knows types h well =
       let of = ret_type (whole_of defs) (termed (whole_of defs) name) in
       within_typed defs env ty scope ps name q of (conversion (whole_of defs) of (Some ty)) knows (λ tys qs same trees sites. patterns_typed defs env tys scope ps qs knows types same trees sites) refl refl h well
@@ -281,24 +283,24 @@ mutual
       let w = whole_of defs in
       let parts = patterns_pass w (of_each (Some ty) ps) scope ps in
       let a = and_tree_is ty parts.trees q h in
-      subst (IsPatternOf env ty) a.is (refl, each_typed defs env ty scope ps a.parts knows types a.parts_are (taken_parts w (PartAt ∷ []) parts.sites well).1)
+      subst (IsWrittenOf env (templates (whole_of defs)) ty) a.is (refl, each_typed defs env ty scope ps a.parts knows types a.parts_are (taken_parts w (PartAt ∷ []) parts.sites well).1)
 
   -- so of each of several on one value
   each_typed : (defs : List Def) (env : Environment) (ty : TypeId) (scope : Scope) (ps : Patterns) (qs : List CorePattern) → KnowsTerms defs env → env.types ≡ type_env_of defs
-      → (patterns_pass (whole_of defs) (of_each (Some ty) ps) scope ps).trees ≡ Some qs → AreTakenWell (whole_of defs) (patterns_pass (whole_of defs) (of_each (Some ty) ps) scope ps).sites → AreEachOf env ty (core_patterns qs)
-  each_typed defs env ty scope NoPattern qs knows types h well = subst (λ (xs : List CorePattern). AreEachOf env ty (core_patterns xs)) (same_Some [] qs h) tt
+      → (patterns_pass (whole_of defs) (of_each (Some ty) ps) scope ps).trees ≡ Some qs → AreTakenWell (whole_of defs) (patterns_pass (whole_of defs) (of_each (Some ty) ps) scope ps).sites → AreWrittenEachOf env (templates (whole_of defs)) ty (core_patterns qs)
+  each_typed defs env ty scope NoPattern qs knows types h well = subst (λ (xs : List CorePattern). AreWrittenEachOf env (templates (whole_of defs)) ty (core_patterns xs)) (same_Some [] qs h) tt
   each_typed defs env ty scope (APattern p ps) qs knows types h well =
       let w = whole_of defs in
       let one = pattern_pass w (Some ty) scope p in
       let rest = patterns_pass w (of_each (Some ty) ps) one.scope ps in
       let f = first_there one.tree rest.trees qs h in
       let k = taken_parts w one.sites rest.sites well in
-      subst (λ (xs : List CorePattern). AreEachOf env ty (core_patterns xs)) (sym f.all) (pattern_typed defs env ty scope p f.first knows types f.here k.0, each_typed defs env ty one.scope ps f.others knows types f.found k.1)
+      subst (λ (xs : List CorePattern). AreWrittenEachOf env (templates (whole_of defs)) ty (core_patterns xs)) (sym f.all) (pattern_typed defs env ty scope p f.first knows types f.here k.0, each_typed defs env ty one.scope ps f.others knows types f.found k.1)
 
   -- patterns at these types are of them
   pub patterns_typed : (defs : List Def) (env : Environment) (tys : List TypeId) (scope : Scope) (ps : Patterns) (qs : List CorePattern) → KnowsTerms defs env → env.types ≡ type_env_of defs → count_of ps ≡ length tys
-      → (patterns_pass (whole_of defs) (map Some tys) scope ps).trees ≡ Some qs → AreTakenWell (whole_of defs) (patterns_pass (whole_of defs) (map Some tys) scope ps).sites → ArePatternsOf env tys qs
-  patterns_typed defs env [] scope NoPattern qs knows types same h well = subst (ArePatternsOf env []) (same_Some [] qs h) tt
+      → (patterns_pass (whole_of defs) (map Some tys) scope ps).trees ≡ Some qs → AreTakenWell (whole_of defs) (patterns_pass (whole_of defs) (map Some tys) scope ps).sites → AreWrittenPatternsOf env (templates (whole_of defs)) tys qs
+  patterns_typed defs env [] scope NoPattern qs knows types same h well = subst (AreWrittenPatternsOf env (templates (whole_of defs)) []) (same_Some [] qs h) tt
   patterns_typed defs env [] scope (APattern p ps) qs knows types same h well = absurd (omega arith)
   patterns_typed defs env (ty ∷ tys) scope NoPattern qs knows types same h well = absurd (omega arith)
   patterns_typed defs env (ty ∷ tys) scope (APattern p ps) qs knows types same h well =
@@ -307,7 +309,7 @@ mutual
       let rest = patterns_pass w (map Some tys) one.scope ps in
       let f = first_there one.tree rest.trees qs h in
       let k = taken_parts w one.sites rest.sites well in
-      subst (ArePatternsOf env (ty ∷ tys)) (sym f.all) (pattern_typed defs env ty scope p f.first knows types f.here k.0, patterns_typed defs env tys one.scope ps f.others knows types (omega arith) f.found k.1)
+      subst (AreWrittenPatternsOf env (templates (whole_of defs)) (ty ∷ tys)) (sym f.all) (pattern_typed defs env ty scope p f.first knows types f.here k.0, patterns_typed defs env tys one.scope ps f.others knows types (omega arith) f.found k.1)
 
 -- ---- where variables stand
 

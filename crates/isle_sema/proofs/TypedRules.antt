@@ -14,9 +14,7 @@ use Rattle.isle_core.specs.declared.types.ConstructorKind.{ConstructorKind}
 use Rattle.isle_core.specs.declared.types.TermKind.{TermKind}
 use Rattle.isle_core.specs.declared.types.TermKind.TheVariants as kind
 use Rattle.isle_core.specs.declared.types.ExtractorKind.{ExtractorKind}
-use Rattle.isle_core.specs.declared.types.TypeEnv.{TypeEnv}
 use Rattle.isle_core.specs.Calling.{kind_of, may_be_nothing}
-use Rattle.isle_core.specs.Constants.{const_type}
 use Rattle.isle_core.specs.Rule.{Rule, Environment, rules_of}
 use Rattle.isle_ast.specs.Tree as tree
 use Rattle.isle_ast.specs.Tree.{Pattern, Def}
@@ -26,7 +24,6 @@ use Rattle.isle_ast.specs.declared.tree.AstBody.TheVariants.{Primitive, Enum, St
 use Rattle.isle_ast.specs.declared.tree.AstVariant.{AstVariant}
 use Rattle.isle_declarations.specs.Heads.{terms_of}
 use Rattle.isle_declarations.specs.Signatures.{Signature, RuleDef, rule_defs, term_named}
-use Rattle.isle_declarations.specs.Symbols.{sym_of}
 use Rattle.isle_declarations.specs.Terms.{variant_signatures, body_signatures, terms, is_made}
 use Rattle.isle_declarations.specs.declared.terms.Origin.{Origin}
 use Rattle.isle_declarations.specs.declared.terms.Origin.TheVariants as origin
@@ -34,8 +31,8 @@ use Rattle.isle_declarations.proofs.LookUps.{at_place, named_at}
 use Rattle.isle_declarations.proofs.SymbolLaws.{index_below}
 use Rattle.isle_types.specs.TypeRows.{on}
 use Rattle.isle_sema.specs.Language.{is_ruled, uses_ruled}
-use Rattle.isle_sema.specs.Locals.{of_patterns}
-use Rattle.isle_sema.specs.Scope.{no_variables}
+use Rattle.isle_variables.specs.Locals.{of_patterns}
+use Rattle.isle_variables.specs.Scope.{no_variables}
 use Rattle.isle_terms.specs.TypeNames.{type_named}
 use Rattle.isle_terms.specs.Whole.{Whole, termed, arg_types, ret_type}
 use Rattle.isle_sema.specs.PatternPass.{PatternsPass, patterns_pass, count_of}
@@ -49,23 +46,24 @@ use Rattle.isle_sema.specs.Taken.{row_of}
 use Rattle.isle_sema.specs.Typing.{Typed}
 use Rattle.isle_core.specs.ExprType.{in_condition, in_right_side, IsExprOf}
 use Rattle.isle_core.specs.TypedVariables.{all_typed, rule_typed}
-use Rattle.isle_sema.specs.TypedRule.{IsRuleOf, IsTypedRule}
+use Rattle.isle_templates.specs.TypedRule.{IsRuleOf, IsTypedRule}
 use Rattle.isle_sema.proofs.BuiltForms.{IsPlain}
-use Rattle.isle_sema.proofs.Conversions.{conversion_is}
 use Rattle.isle_sema.proofs.Firsts.{any_parts}
 use Rattle.isle_sema.proofs.Judgements.{row_fails}
 use Rattle.isle_sema.proofs.KeptParts.{AreKept, kept_parts}
-use Rattle.isle_sema.proofs.MadeForms.{constant_typed}
 use Rattle.isle_terms.proofs.MadeTerms.{first_there, term_made, term_is, types_are, all_at}
-use Rattle.isle_sema.proofs.OpenedTerms.{opened_term}
 use Rattle.isle_sema.proofs.RuleLaws.{is_broken, none_fault, none_is}
 use Rattle.isle_sema.proofs.RuleRoots.{place_of, signature_at, rule_made}
 use Rattle.isle_sema.proofs.TypedConditions.{patterns_stage, stage_over, conditions_typed}
 use Rattle.isle_sema.proofs.TypedExprs.{expr_typed}
 use Rattle.isle_sema.proofs.TypedParts.{IsTypedIn, typed_in}
-use Rattle.isle_sema.proofs.TypedPatterns.{KnowsTerms, AreTakenWell, taken_parts, patterns_typed}
+use Rattle.isle_sema.proofs.TypedPatterns.{AreTakenWell, taken_parts, patterns_typed}
 use Rattle.isle_sema.proofs.VariableTypes.{have_one_type}
+use Rattle.isle_sema.proofs.TypedTemplates.{knows, templates_typed, templates_short}
 use Rattle.isle_sema.proofs.TypedTerms.{IsPlainTerm, plain_terms, is_there}
+use Rattle.isle_sema.specs.Templates.{templates}
+use Rattle.isle_templates.specs.WrittenRule.{IsWrittenRuleOf}
+use Rattle.isle_templates.proofs.ElaboratedTypes.{rule_elaborated}
 
 -- ---- what a rule's term is
 
@@ -121,18 +119,11 @@ counted : (ps : List Pattern) → count_of (seen_patterns ps) ≡ length ps
 counted [] = refl
 counted (p ∷ ps) = ap suc (counted ps)
 
--- what terms that take values apart, converters and constants are in an environment
-knows : (defs : List Def) (env : Environment) → IsTypedIn defs env → KnowsTerms defs env
-knows defs env g = record {
-  opened = λ name s number ty is at has ret. opened_term defs env name s number ty g is at has ret;
-  converts = λ of ty s h. conversion_is defs env of ty s g h;
-  constant = λ name ty h. ap (λ (ts : TypeEnv). const_type env (sym_of ts.syms name)) (sym g.types) ∙ constant_typed defs env name ty g.types h;
-}
-
 rule_is_typed : (defs : List Def) (env : Environment) (i : ℕ) (r : RuleDef) (x : Rule) → IsTypedIn defs env → row_of (whole_of defs) r ≡ None → uses_ruled (whole_of defs) r ≡ false → rule_pass (whole_of defs) i r ≡ Some x → IsTypedRule env x
 rule_is_typed defs env i r x g row unruled h =
     let w = whole_of defs in
     let m = rule_made w i r x h in
+    let y = m.written in
     let d = signature_there w r.term x.root_term m.root in
     let s = d.0 in
     let at = signature_at w r.term s x.root_term d.1 m.root in
@@ -171,18 +162,19 @@ rule_is_typed defs env i r x g row unruled h =
     let kept : AreKept w (in_right_side s.partial) rs = record { placed = p.1; known = u.1; typed = v.1; ruled = used.1; partial = calls; impure = refl } in
     let halves = taken_parts w ps cs well in
     let k = knows defs env g in
-    let conditions = conditions_typed defs env (patterns_of w r).scope (all_typed x.args) r.iflets x.iflets g k (patterns_stage w (arg_types w (termed w r.term)) (seen_patterns r.args) x.args m.args) m.iflets (kept_parts w in_condition ps cs before).1 halves.1 in
-    let over = stage_over defs env scope (rule_typed x) scope.next g conditions.stage (omega arith) in
+    let conditions = conditions_typed defs env (patterns_of w r).scope (all_typed y.args) r.iflets y.iflets g k (patterns_stage w (arg_types w (termed w r.term)) (seen_patterns r.args) y.args m.args) m.iflets (kept_parts w in_condition ps cs before).1 halves.1 in
+    let over = stage_over defs env scope (rule_typed y) scope.next g conditions.stage (omega arith) in
+    let written : IsWrittenRuleOf env (templates w) t.term y = record {
+      args = patterns_typed defs env t.term.arg_tys no_variables (seen_patterns r.args) y.args k g.types count (ap (λ (z : PatternsPass). z.trees) patterns ∙ m.args) (subst (λ (z : PatternsPass). AreTakenWell w z.sites) (sym patterns) halves.0);
+      variables = have_one_type scope (rule_typed y) conditions.stage.numbered conditions.stage.stand;
+      iflets = conditions.typed;
+      rhs = subst (λ b. IsExprOf env (in_right_side b) (rule_typed y) t.term.ret_ty y.rhs) (sym allowed)
+          (expr_typed defs env (in_right_side s.partial) (of_patterns scope) (rule_typed y) scope.next t.term.ret_ty r.rhs y.rhs over (ap (λ (z : ExprPass). z.tree) right ∙ m.rhs) (subst (λ (z : ExprPass). AreKept w (in_right_side s.partial) z.sites) (sym right) kept));
+    } in
     record {
       term = t.term;
       root = t.there;
-      typed = record {
-        args = patterns_typed defs env t.term.arg_tys no_variables (seen_patterns r.args) x.args k g.types count (ap (λ (y : PatternsPass). y.trees) patterns ∙ m.args) (subst (λ (y : PatternsPass). AreTakenWell w y.sites) (sym patterns) halves.0);
-        variables = have_one_type scope (rule_typed x) conditions.stage.numbered conditions.stage.stand;
-        iflets = conditions.typed;
-        rhs = subst (λ b. IsExprOf env (in_right_side b) (rule_typed x) t.term.ret_ty x.rhs) (sym allowed)
-            (expr_typed defs env (in_right_side s.partial) (of_patterns scope) (rule_typed x) scope.next t.term.ret_ty r.rhs x.rhs over (ap (λ (y : ExprPass). y.tree) right ∙ m.rhs) (subst (λ (y : ExprPass). AreKept w (in_right_side s.partial) y.sites) (sym right) kept));
-      };
+      typed = subst (IsRuleOf env t.term) m.is (rule_elaborated env (templates w) (templates_typed defs env g) (λ term lt. templates_short defs env g term lt) t.term y written);
     }
 
 rules_typed : (defs : List Def) (env : Environment) (i : ℕ) (rules : List RuleDef) (xs : List Rule) → IsTypedIn defs env → list_any (is_broken (whole_of defs)) rules ≡ false

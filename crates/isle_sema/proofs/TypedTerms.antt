@@ -17,7 +17,6 @@ use Rattle.isle_core.specs.declared.types.TermKind.TheVariants as kind
 use Rattle.isle_core.specs.declared.types.TypeEnv.{TypeEnv}
 use Rattle.isle_core.specs.declared.types.ConstructorKind.{ConstructorKind}
 use Rattle.isle_core.specs.declared.types.ExtractorKind.{ExtractorKind}
-use Rattle.isle_core.specs.declared.types.ExtractorKind.TheVariants as extractor
 use Rattle.isle_core.specs.CalledTerms.{is_made_kind}
 use Rattle.isle_core.specs.Rule.{Environment}
 use Rattle.isle_core.specs.Terms.{symbol_text, sym_text, term_ids, has_rules, with_rules}
@@ -32,7 +31,7 @@ use Rattle.isle_ast.specs.declared.tree.AstVariant.{AstVariant}
 use Rattle.isle_declarations.specs.declared.terms.Origin.{Origin}
 use Rattle.isle_declarations.specs.declared.terms.Origin.TheVariants as origin
 use Rattle.isle_declarations.specs.Heads.{terms_of}
-use Rattle.isle_declarations.specs.Signatures.{Signature, ExtractorDef, signatures, extractors, extractor_named}
+use Rattle.isle_declarations.specs.Signatures.{Signature, signatures}
 use Rattle.isle_declarations.specs.Symbols.{index_of}
 use Rattle.isle_declarations.specs.Terms.{variant_signatures, body_signatures, terms, is_made}
 use Rattle.isle_declarations.proofs.DeclaredNames.{AreAmong, text_of}
@@ -44,7 +43,7 @@ use Rattle.isle_types.specs.TypeEnvironment.{type_def_in, type_env_of}
 use Rattle.isle_types.specs.TypeNames.{declared_names, type_names}
 use Rattle.isle_terms.specs.Whole.{Whole}
 use Rattle.isle_terms.specs.Whole.{whole_of}
-use Rattle.isle_terms.specs.TermPass.{types_named, constructor_named, extractor_from, extracting_named, kind_from, term_pass, terms_pass}
+use Rattle.isle_terms.specs.TermPass.{types_named, constructor_named, extracting_named, kind_from, term_pass, terms_pass}
 use Rattle.isle_sema.specs.Language.{is_built_def}
 use Rattle.isle_terms.specs.TypeNames.{type_named}
 use Rattle.isle_sema.specs.Typing.{Typed}
@@ -72,16 +71,6 @@ body_all P ty (Struct fields) pos rest own h = (own _ refl refl, h)
 pub plain_kind : (pure multi partial recursive : Bool) (by : ConstructorKind) (how : ExtractorKind) → multi ≡ false → recursive ≡ false → kind.Decl pure false partial false by how ≡ kind.Decl pure multi partial recursive by how
 plain_kind pure multi partial recursive by how m r = ap (λ b. kind.Decl pure b partial false by how) (sym m) ∙ ap (λ b. kind.Decl pure multi partial b by how) (sym r)
 
--- an extractor is none, or an external one
-abbrev pub IsOuterExtractor : ExtractorKind → Type 0
-IsOuterExtractor extractor.Absent = Unit {0}
-IsOuterExtractor (extractor.External func infallible) = Unit {0}
-IsOuterExtractor extractor.Internal = ⊥
-
-outer_extractor : (syms : List (List ℕ)) (o : Option ExtractorDef) → IsOuterExtractor (extractor_from syms o)
-outer_extractor syms None = tt
-outer_extractor syms (Some x) = tt
-
 -- a term that no type makes is neither `multi` nor `rec`
 abbrev pub IsPlainTerm : Signature → Type 0
 IsPlainTerm s = is_made s.origin ≡ false → IsPlain s
@@ -100,17 +89,16 @@ plain_terms (tree.ExternConstructor term func pos ∷ ds) h = plain_terms ds h
 plain_terms (tree.Rule name prio term args iflets rhs pos ∷ ds) h = plain_terms ds (and_parts (is_built_def (tree.Rule name prio term args iflets rhs pos)) (list_all is_built_def ds) h).1
 plain_terms (tree.ExternConst name ty pos ∷ ds) h = plain_terms ds h
 plain_terms (tree.ExternExtractor term func infallible pos ∷ ds) h = plain_terms ds h
-plain_terms (tree.Extractor term params template pos ∷ ds) h = absurd cc
+plain_terms (tree.Extractor term params template pos ∷ ds) h = plain_terms ds h
 plain_terms (tree.Converter from to term pos ∷ ds) h = plain_terms ds h
 plain_terms (tree.Passed head items pos ∷ ds) h = plain_terms ds h
 
--- a term of this kind is declared, neither `multi` nor `rec`, with no extractor or an external one
+-- a term of this kind is declared, and neither `multi` nor `rec`
 pub record IsPlainKind (k : TermKind) : Type 0 where
   pub pure : Bool
   pub partial : Bool
   pub by : ConstructorKind
   pub how : ExtractorKind
-  pub outer : IsOuterExtractor how
   pub is : kind.Decl pure false partial false by how ≡ k
 
 kind_plain : (w : Whole) (s : Signature) (ret : TypeId) (from : Origin) (k : TermKind) → (is_made from ≡ false → IsPlain s) → kind_from w s ret from ≡ k → is_made_kind k ≡ false → IsPlainKind k
@@ -123,13 +111,12 @@ kind_plain w s ret origin.Declared k plain is other =
       partial = s.partial;
       by = by;
       how = how;
-      outer = outer_extractor w.types.syms (extractor_named (extractors w.defs) s.term);
       is = plain_kind s.pure s.multi s.partial s.recursive by how flags.multi flags.recursive ∙ is;
     }
 kind_plain w s ret (origin.Variant n) k plain is other = let bad : true ≡ false = ap is_made_kind is ∙ other in absurd cc
 kind_plain w s ret origin.Struct k plain is other = let bad : true ≡ false = ap is_made_kind is ∙ other in absurd cc
 
--- a term that no type makes is neither `multi` nor `rec`, with no extractor or an external one
+-- a term that no type makes is neither `multi` nor `rec`
 pub typed_kind : (defs : List Def) (env : Environment) (i : ℕ) (t : Term) → Typed defs env → slice_get env.terms i ≡ Some t → is_made_kind t.kind ≡ false → IsPlainKind t.kind
 typed_kind defs env i t h at other =
     let g = typed_in h in

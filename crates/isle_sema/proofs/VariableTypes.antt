@@ -14,15 +14,16 @@ use Rattle.isle_ast.specs.Tree.{Pattern, Patterns, NoPattern, APattern}
 use Rattle.isle_declarations.specs.Signatures.{term_named}
 use Rattle.isle_declarations.specs.Symbols.{sym_of}
 use Rattle.isle_declarations.specs.Terms.{terms}
-use Rattle.isle_sema.specs.PatternPass.{first_expected, later_expected, of_each, is_blank, term_tree, pattern_pass, patterns_pass}
+use Rattle.isle_sema.specs.PatternPass.{first_expected, later_expected, of_each, term_tree, pattern_pass, patterns_pass}
+use Rattle.isle_variables.specs.Scope.{is_blank}
 use Rattle.isle_terms.specs.Reduced.{typed_integer}
-use Rattle.isle_sema.specs.Scope.{Local, Scope, found_in, met_by, met, variable}
+use Rattle.isle_variables.specs.Scope.{Local, Scope, found_in, met_by, met, variable}
 use Rattle.isle_core.specs.TypedVariables.{HaveOneType, typed_variables, all_typed}
 use Rattle.isle_terms.specs.Converters.{conversion}
 use Rattle.isle_terms.specs.Whole.{Whole, termed, arg_types, ret_type, constant_type}
 use Rattle.isle_terms.proofs.MadeTerms.{first_there}
 use Rattle.isle_sema.proofs.RuleRoots.{mapped}
-use Rattle.isle_sema.proofs.ScopeLaws.{local_is, found_there, IsNumbered, met_numbered}
+use Rattle.isle_variables.proofs.ScopeLaws.{local_is, found_there, IsNumbered, met_numbered}
 use Rattle.isle_sema.proofs.TypedPatterns.{within_is, bind_pass, bound_tree_is, term_tree_is, any_and_tree, typed_list}
 
 -- ---- the scope grows
@@ -74,11 +75,11 @@ mutual
 -- ---- the type at a number
 
 -- a variable of this number and this type is among these
-record IsAt (ls : List Local) (x : ℕ) (ty : TypeId) : Type 0 where
-  local : Local
-  there : Contains ls local
-  typed : local.ty ≡ Some ty
-  numbered : local.number ≡ x
+pub record IsAt (ls : List Local) (x : ℕ) (ty : TypeId) : Type 0 where
+  pub local : Local
+  pub there : Contains ls local
+  pub typed : local.ty ≡ Some ty
+  pub numbered : local.number ≡ x
 
 at_kept : (old new : Scope) (x : ℕ) (ty : TypeId) → Grows old new → IsAt old.variables x ty → IsAt new.variables x ty
 at_kept old new x ty g h = record { local = h.local; there = subst (λ (ls : List Local). Contains ls h.local) (sym g.is) (Contains-append_left old.variables g.more h.local h.there); typed = h.typed; numbered = h.numbered }
@@ -92,7 +93,7 @@ variable_at scope name v h =
 
 -- each of these variables has its type in the scope
 pub record StandIn (scope : List Local) (vars : List (TypeId × ℕ)) : Type 0 where
-  by : (ty : TypeId) (x : ℕ) → Contains vars (ty, x) → IsAt scope x ty
+  pub by : (ty : TypeId) (x : ℕ) → Contains vars (ty, x) → IsAt scope x ty
 
 none_stand : (scope : List Local) → StandIn scope []
 none_stand scope = record { by = λ ty x c. absurd (none_contained (ty, x) c) }

@@ -5,7 +5,8 @@ use Rattle.isle_types.specs.declared.row.Row.TheVariants as row
 use Rattle.isle_types.specs.declared.row.Row.{Row}
 use Rattle.isle_types.specs.TypeRows.{type_repeats, field_repeats, field_type_missing, many_fields, made_term_repeats, constant_misfit}
 use Rattle.isle_terms.specs.Context.{Context}
-use Rattle.isle_terms.specs.DeclarationRows.{declaration_repeats, type_missing, many_arguments, multi_and_partial, term_undeclared, second_of_term, converter_misfit, head_misfit}
+use Rattle.isle_terms.specs.DeclarationRows.{declaration_repeats, type_missing, many_arguments, multi_and_partial, term_undeclared, second_of_term, infallible_multi, parameters_misfit, converter_misfit, head_misfit}
+use Rattle.isle_sema.specs.TemplateRows.{reaches_itself, variables_misfit}
 use Rattle.isle_sema.specs.RuleRows.{pattern_term_misfit, pattern_type_misfit, literal_misfit, constant_undeclared, variable_type_misfit, expr_name_misfit, expr_type_misfit, impure_condition, partial_call, impure_call, multi_call, many_nodes}
 
 -- what a row refuses; nothing is said yet of the rows that no definition of a built form can break
@@ -22,12 +23,12 @@ judge row.ManyArguments = Some many_arguments
 judge row.MultiAndPartial = Some multi_and_partial
 judge row.TermUndeclared = Some term_undeclared
 judge row.SecondOfTerm = Some second_of_term
-judge row.InfallibleMulti = None
-judge row.ParametersMisfit = None
+judge row.InfallibleMulti = Some infallible_multi
+judge row.ParametersMisfit = Some parameters_misfit
 judge row.ConverterMisfit = Some converter_misfit
 judge row.HeadMisfit = Some head_misfit
-judge row.ExtractorReachesItself = None
-judge row.TemplateMisfit = None
+judge row.ExtractorReachesItself = Some reaches_itself
+judge row.TemplateMisfit = Some variables_misfit
 judge row.PatternTermMisfit = Some pattern_term_misfit
 judge row.PatternTypeMisfit = Some pattern_type_misfit
 judge row.LiteralMisfit = Some literal_misfit

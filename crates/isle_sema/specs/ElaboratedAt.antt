@@ -14,8 +14,8 @@ use Rattle.isle_ast.specs.Tree.{Pattern, Patterns, Expr, Exprs, Lets, IfLet}
 use Rattle.isle_sema.specs.declared.judged.Judged.{Judged}
 use Rattle.isle_sema.specs.declared.sides.Sides.{Sides}
 use Rattle.isle_declarations.specs.Signatures.{RuleDef}
-use Rattle.isle_sema.specs.Locals.{Bound, of_patterns, locals_of, bound_local}
-use Rattle.isle_sema.specs.Scope.{Scope}
+use Rattle.isle_variables.specs.Locals.{Bound, of_patterns, locals_of, bound_local}
+use Rattle.isle_variables.specs.Scope.{Scope}
 use Rattle.isle_sema.specs.Site.{BoundAt}
 use Rattle.isle_terms.specs.TypeNames.{type_named}
 use Rattle.isle_terms.specs.Whole.{Whole}

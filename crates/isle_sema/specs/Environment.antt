@@ -1,5 +1,5 @@
 -- The environment that definitions give.
-use Rattle.std.specs.Prelude.{List, Option, option_map, option_and_then}
+use Rattle.std.specs.Prelude.{List, Option, None, option_map, option_and_then, if◌then◌else◌}
 use Rattle.isle_core.specs.declared.TermId.{TermId}
 use Rattle.isle_core.specs.declared.TypeId.{TypeId}
 use Rattle.isle_core.specs.declared.types.Term.{Term}
@@ -12,6 +12,7 @@ use Rattle.isle_terms.specs.Converters.{converters, converters_pass}
 use Rattle.isle_terms.specs.TermPass.{terms_pass}
 use Rattle.isle_terms.specs.Whole.{Whole, whole_of}
 use Rattle.isle_sema.specs.RulePass.{rules_pass}
+use Rattle.isle_sema.specs.Templates.{are_treed}
 
 -- types, terms, converters and rules
 abbrev pub env_over : TypeEnv → List Term → List (TypeId × TypeId × TermId) → List CoreRule → Environment
@@ -23,4 +24,4 @@ env_with w typed = option_and_then (λ (cs : List (TypeId × TypeId × TermId)).
 
 -- the environment of definitions, where their forms are built and their types are known
 abbrev pub env_of : List Def → Option Environment
-env_of defs = option_and_then (env_with (whole_of defs)) (terms_pass (whole_of defs) (terms defs))
+env_of defs = if are_treed (whole_of defs) then option_and_then (env_with (whole_of defs)) (terms_pass (whole_of defs) (terms defs)) else None

@@ -1,11 +1,12 @@
 -- What the typing table says of parts of a rule that were met so far.
-use Rattle.std.specs.Prelude.{ℕ, ◌+◌, ◌-◌, ◌^◌, List, length, Bool, false, ◌==◌, ◌&&◌, ◌||◌, not, Option, Some, None, fold, min, nat_le, if◌then◌else◌}
+use Rattle.std.specs.Prelude.{ℕ, List, length, Bool, false, ◌==◌, ◌&&◌, ◌||◌, not, Option, Some, None, fold, if◌then◌else◌}
 use Rattle.isle_sema.specs.declared.judged.Judged.{Judged}
 use Rattle.isle_sema.specs.declared.known.Called.{Called}
 use Rattle.isle_types.specs.declared.row.Row.TheVariants as row
 use Rattle.isle_types.specs.declared.row.Row.{Row}
 use Rattle.isle_declarations.specs.Signatures.{Signature}
 use Rattle.isle_sema.specs.Language.{is_ruled}
+use Rattle.isle_sema.specs.TemplateRows.{is_unbound}
 use Rattle.isle_sema.specs.Site.{Site}
 use Rattle.isle_terms.specs.Whole.{Whole}
 use Rattle.isle_sema.specs.RuleRows.{is_untaken, is_mistaken, is_misplaced, is_undeclared, is_met_otherwise, is_unknown, is_mistyped, is_call_of}
@@ -24,9 +25,9 @@ is_multi_call site = is_call_of (λ (s : Signature). s.multi) site
 
 -- before any part
 abbrev pub unjudged : Judged
-unjudged = record { untaken = false; mistaken = false; misplaced = false; undeclared = false; met_otherwise = false; unknown = false; mistyped = false; partial = false; impure = false; multi = false; ruled = false; nodes = 0 }
+unjudged = record { untaken = false; mistaken = false; misplaced = false; undeclared = false; met_otherwise = false; unknown = false; mistyped = false; partial = false; impure = false; multi = false; ruled = false; unbound = false }
 
--- one part more, at most as many as are counted
+-- one part more
 abbrev pub judge : Whole → Judged → Site → Judged
 judge w j site = record {
   untaken = is_untaken w site || j.untaken;
@@ -40,14 +41,15 @@ judge w j site = record {
   impure = is_impure_call site || j.impure;
   multi = is_multi_call site || j.multi;
   ruled = is_ruled w site || j.ruled;
-  nodes = min (j.nodes + 1) (2 ^ 64 - 1);
+  unbound = is_unbound site || j.unbound;
 }
 
 -- these parts more
 abbrev pub judge_all : Whole → Judged → List Site → Judged
 judge_all w j sites = fold (judge w) j sites
 
--- the lowest row that a rule of this term breaks, with so many patterns, which are judged so with its conditions, and its right side so
+-- the lowest row before that of its nodes that a rule of this term breaks, with so many patterns, which are judged so with its conditions,
+-- and its right side so
 abbrev pub lowest : Called → ℕ → Judged → Judged → Option Row
 lowest own count left right =
     if not (count == length own.args.now) || (left.untaken || right.untaken) then Some row.PatternTermMisfit
@@ -61,5 +63,4 @@ lowest own count left right =
     else if not own.partial && right.partial then Some row.PartialCall
     else if own.pure && right.impure then Some row.ImpureCall
     else if not own.multi && (left.multi || right.multi) then Some row.MultiCall
-    else if not (nat_le (left.nodes + right.nodes) 4096) then Some row.ManyNodes
     else None

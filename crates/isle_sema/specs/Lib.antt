@@ -1,13 +1,11 @@
-pub mod TypedRule
-pub mod Scope
 pub mod Site
 pub mod PatternPass
-pub mod NewVariables
-pub mod Locals
-pub mod LocalViews
+pub mod Templates
+pub mod TemplateUses
 pub mod ExprPass
 pub mod RulePass
 pub mod RuleRows
+pub mod TemplateRows
 pub mod Language
 pub mod Breaks
 pub mod Fault
@@ -16,5 +14,6 @@ pub mod Typing
 pub mod Known
 pub mod Judging
 pub mod Taken
+pub mod TakenAt
 pub mod ElaboratedAt
 pub mod KnownOf

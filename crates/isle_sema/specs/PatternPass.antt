@@ -1,7 +1,6 @@
 -- Patterns of rules from left to right: the expected type and the variables so far go in; the tree with types in it, the
 -- variables after it and the places that the typing table judges come out.
-use Rattle.std.specs.Prelude.{ℕ, suc, ℤ, List, [], ◌∷◌, ◌++◌, Bool, true, Option, Some, None, if◌then◌else◌, codes, option_map, option_and_then}
-use Rattle.std.specs.Str.{bytes_eq}
+use Rattle.std.specs.Prelude.{ℕ, suc, ℤ, List, [], ◌∷◌, ◌++◌, true, Option, Some, None, if◌then◌else◌, option_map, option_and_then}
 use Rattle.isle_core.specs.declared.TermId.{TermId}
 use Rattle.isle_core.specs.declared.TypeId.{TypeId}
 use Rattle.isle_core.specs.declared.VarId.{VarId}
@@ -15,7 +14,7 @@ use Rattle.isle_declarations.specs.Signatures.{Signature, term_named}
 use Rattle.isle_declarations.specs.Symbols.{sym_of}
 use Rattle.isle_declarations.specs.Terms.{terms}
 use Rattle.isle_terms.specs.Reduced.{typed_integer}
-use Rattle.isle_sema.specs.Scope.{Scope, bound_at, met, variable}
+use Rattle.isle_variables.specs.Scope.{Scope, is_blank, bound_at, met, variable}
 use Rattle.isle_sema.specs.Site.{Site, IntegerAt, TruthAt, PartAt, MetAt, TakenAt, ConstantAt}
 use Rattle.isle_terms.specs.Converters.{conversion, within}
 use Rattle.isle_terms.specs.TermPass.{tree_before}
@@ -56,10 +55,6 @@ taken_by (Some s) expected = TakenAt expected (Some s) 1 ∷ []
 -- the tree of `and`, of the type that is expected of each part
 abbrev pub and_tree : Option TypeId → Option (List CorePattern) → Option CorePattern
 and_tree expected ps = option_and_then (λ (t : TypeId). option_map (λ (parts : List CorePattern). core_pattern.And t (core_patterns parts)) ps) expected
-
--- `_` names no variable
-abbrev pub is_blank : List ℕ → Bool
-is_blank name = bytes_eq name (codes "_")
 
 -- the variables after the name of `@`
 abbrev pub named : Scope → List ℕ → Option TypeId → Scope

@@ -1,5 +1,5 @@
 -- A rule with types in it: its patterns from left to right, its conditions and its right side.
-use Rattle.std.specs.Prelude.{ℕ, ◌+◌, List, [], ◌∷◌, ◌++◌, Option, Some, None, option_map, option_and_then, max}
+use Rattle.std.specs.Prelude.{ℕ, ◌+◌, List, [], ◌∷◌, ◌++◌, Option, Some, None, option_map, option_and_then}
 use Rattle.isle_core.specs.declared.TermId.{TermId}
 use Rattle.isle_core.specs.Pattern.{Pattern as CorePattern}
 use Rattle.isle_core.specs.Expr.{Expr as CoreExpr}
@@ -9,10 +9,12 @@ use Rattle.isle_ast.specs.Views.{patterns_of as seen_patterns}
 use Rattle.isle_declarations.specs.Symbols.{sym_of}
 use Rattle.isle_declarations.specs.Signatures.{RuleDef, term_named}
 use Rattle.isle_declarations.specs.Terms.{terms}
-use Rattle.isle_sema.specs.Locals.{of_patterns}
-use Rattle.isle_sema.specs.NewVariables.{new_count}
-use Rattle.isle_sema.specs.Scope.{Scope, no_variables}
+use Rattle.isle_variables.specs.Locals.{of_patterns}
+use Rattle.isle_variables.specs.NewVariables.{new_count}
+use Rattle.isle_variables.specs.Scope.{Scope, no_variables, behind}
 use Rattle.isle_sema.specs.Site.{Site}
+use Rattle.isle_sema.specs.Templates.{templates}
+use Rattle.isle_templates.specs.Elaborated.{elaborated}
 use Rattle.isle_terms.specs.Whole.{Whole, termed, arg_types, ret_type}
 use Rattle.isle_sema.specs.PatternPass.{PatternPass, PatternsPass, pattern_pass, patterns_pass}
 use Rattle.isle_terms.specs.TermPass.{tree_before}
@@ -36,10 +38,6 @@ condition_expr w scope c = expr_pass w (of_patterns scope) (scope.next + new_cou
 -- its pattern, at the type that the expression's tree has
 abbrev pub condition_pattern : Whole → Scope → IfLet → PatternPass
 condition_pattern w scope c = pattern_pass w (option_map expr_type (condition_expr w scope c).tree) scope c.lhs
-
--- variables, and the next number behind these and behind those numbers too
-abbrev pub behind : Scope → ℕ → Scope
-behind scope next = record { variables = scope.variables; next = max scope.next next }
 
 -- a condition's tree, the variables after it, and its parts
 pub record ConditionPass : Type 0 where
@@ -90,11 +88,15 @@ sites_of w r = left_of w r ++ (right_side_of w r).sites
 abbrev pub rule_from : Whole → ℕ → RuleDef → TermId → List CorePattern → List CoreIfLet → CoreExpr → CoreRule
 rule_from w i r term args iflets rhs = record { id = record { 0 = i }; root_term = term; args = args; iflets = iflets; rhs = rhs; prio = r.prio; pos = r.pos; name = option_map (sym_of w.types.syms) r.name }
 
--- the rule of that number, where its forms are built and its types are known
-abbrev pub rule_pass : Whole → ℕ → RuleDef → Option CoreRule
-rule_pass w i r =
+-- the rule of that number as it is written, where its types are known
+abbrev pub written_pass : Whole → ℕ → RuleDef → Option CoreRule
+written_pass w i r =
     option_and_then (λ (term : TermId). option_and_then (λ (args : List CorePattern). option_and_then (λ (iflets : List CoreIfLet). option_map (rule_from w i r term args iflets) (right_side_of w r).tree) (conditions_of w r).trees) (patterns_of w r).trees)
     (term_named (terms w.defs) r.term)
+
+-- the rule of that number, with templates in place of the internal extractors that it uses
+abbrev pub rule_pass : Whole → ℕ → RuleDef → Option CoreRule
+rule_pass w i r = option_map (elaborated (templates w)) (written_pass w i r)
 
 -- rules, from that number on
 abbrev pub rules_pass : Whole → ℕ → List RuleDef → Option (List CoreRule)

@@ -1,16 +1,42 @@
--- The rows of rules, one definition each, over the parts of a rule where they stand.
-use Rattle.std.specs.Prelude.{ℕ, length, Bool, true, false, ◌==◌, ◌&&◌, ◌||◌, not, Option, Some, None, is_some, nat_le}
+-- The rows of rules and of templates, one definition each, over the parts of a rule or of a template where they stand.
+use Rattle.std.specs.Prelude.{ℕ, List, [], length, Bool, true, false, ◌==◌, ◌&&◌, ◌||◌, not, Option, Some, None, is_some, nat_le}
 use Rattle.std.specs.List.{list_any}
 use Rattle.isle_core.specs.declared.TypeId.{TypeId}
-use Rattle.isle_ast.specs.Tree.{Def}
-use Rattle.isle_declarations.specs.Signatures.{Signature, RuleDef, rule_of}
+use Rattle.isle_core.specs.Rule.{Rule as CoreRule}
+use Rattle.isle_ast.specs.Tree.{Def, TypeDecl, Decl, ExternConstructor, ExternExtractor, ExternConst, Extractor, Converter, Rule, Passed}
+use Rattle.isle_declarations.specs.Signatures.{Signature, Extracting, ByFunction, ByTemplate, ExtractorDef, RuleDef, rule_of}
 use Rattle.isle_terms.specs.TypeNames.{type_named}
 use Rattle.isle_terms.specs.Expected.{takes_integers, takes_truths}
 use Rattle.isle_terms.specs.Whole.{Whole, termed, has_constructor, has_extractor}
 use Rattle.isle_sema.specs.Site.{Site, IntegerAt, TruthAt, PartAt, MetAt, UsedAt, CalledAt, TakenAt, ConstantAt, BoundAt}
-use Rattle.isle_sema.specs.RulePass.{right_side_of, left_of, sites_of}
+use Rattle.isle_sema.specs.RulePass.{right_side_of, left_of, sites_of, written_pass}
+use Rattle.isle_sema.specs.Templates.{template_pass, templates}
+use Rattle.isle_templates.specs.Elaborated.{rule_expanded}
+use Rattle.isle_templates.specs.NodeCount.{rule_nodes}
+use Rattle.isle_templates.specs.Substituted.{whole_templates}
 use Rattle.isle_types.specs.TypeRows.{on}
 use Rattle.isle_terms.specs.Context.{Context}
+
+-- the parts of a term's template, where its extractor has one
+abbrev pub template_sites : Whole → (term : List ℕ) → Extracting → List Site
+template_sites w term (ByFunction func infallible) = []
+template_sites w term (ByTemplate t) = (template_pass w term t).sites
+
+-- so of an extractor
+abbrev pub extractor_sites : Whole → ExtractorDef → List Site
+extractor_sites w x = template_sites w x.term x.by
+
+-- the parts of a definition: those of a rule, or of a template
+abbrev pub sites_in : Whole → Def → List Site
+sites_in w (Rule name prio term args iflets rhs pos) = sites_of w (record { name = name; prio = prio; term = term; args = args; iflets = iflets; rhs = rhs; pos = pos })
+sites_in w (Extractor term params template pos) = (template_pass w term (record { params = params; pattern = template })).sites
+sites_in w (TypeDecl name is_extern is_nodebug body pos) = []
+sites_in w (Decl term pure multi partial recursive args ret pos) = []
+sites_in w (ExternConstructor term func pos) = []
+sites_in w (ExternExtractor term func infallible pos) = []
+sites_in w (ExternConst name ty pos) = []
+sites_in w (Converter from to term pos) = []
+sites_in w (Passed head items pos) = []
 
 -- two types, both known, that differ
 abbrev pub differ : Option TypeId → Option TypeId → Bool
@@ -35,9 +61,9 @@ is_untaken w (TakenAt expected callee count) = is_taken_misfit w callee count
 is_untaken w (ConstantAt in_pattern expected found) = false
 is_untaken w (BoundAt ty) = false
 
--- one stands in a rule, or its head has another number of arguments than its term
+-- one stands in a rule or a template, or a rule's head has another number of arguments than its term
 abbrev pub pattern_term_misfit : Context → Def → Bool
-pattern_term_misfit c d = on (rule_of d) (λ (r : RuleDef). on (termed c.whole r.term) (λ (s : Signature). not (length r.args == length s.args)) || list_any (is_untaken c.whole) (sites_of c.whole r))
+pattern_term_misfit c d = on (rule_of d) (λ (r : RuleDef). on (termed c.whole r.term) (λ (s : Signature). not (length r.args == length s.args))) || list_any (is_untaken c.whole) (sites_in c.whole d)
 
 -- a term or a constant in a pattern that has another type than the one expected
 abbrev pub is_mistaken : Whole → Site → Bool
@@ -51,9 +77,9 @@ is_mistaken w (TakenAt expected callee count) = on callee (λ (s : Signature). d
 is_mistaken w (ConstantAt in_pattern expected found) = in_pattern && differ found expected
 is_mistaken w (BoundAt ty) = false
 
--- one stands in a rule
+-- one stands in a rule or a template
 abbrev pub pattern_type_misfit : Context → Def → Bool
-pattern_type_misfit c d = on (rule_of d) (λ (r : RuleDef). list_any (is_mistaken c.whole) (sites_of c.whole r))
+pattern_type_misfit c d = list_any (is_mistaken c.whole) (sites_in c.whole d)
 
 -- an integer where no type of integers is expected, or `true` or `false` where another type than bool is
 abbrev pub is_misplaced : Whole → Site → Bool
@@ -67,9 +93,9 @@ is_misplaced w (TakenAt expected callee count) = false
 is_misplaced w (ConstantAt in_pattern expected found) = false
 is_misplaced w (BoundAt ty) = false
 
--- one stands so in a rule
+-- one stands so in a rule or a template
 abbrev pub literal_misfit : Context → Def → Bool
-literal_misfit c d = on (rule_of d) (λ (r : RuleDef). list_any (is_misplaced c.whole) (sites_of c.whole r))
+literal_misfit c d = list_any (is_misplaced c.whole) (sites_in c.whole d)
 
 -- a constant that is not declared
 abbrev pub is_undeclared : Site → Bool
@@ -83,9 +109,9 @@ is_undeclared (TakenAt expected callee count) = false
 is_undeclared (ConstantAt in_pattern expected found) = not (is_some found)
 is_undeclared (BoundAt ty) = false
 
--- one stands in a rule
+-- one stands in a rule or a template
 abbrev pub constant_undeclared : Context → Def → Bool
-constant_undeclared c d = on (rule_of d) (λ (r : RuleDef). list_any is_undeclared (sites_of c.whole r))
+constant_undeclared c d = list_any is_undeclared (sites_in c.whole d)
 
 -- a type that differs from the one that is expected, where there is one
 abbrev pub is_other_type : Option (Option TypeId) → Option TypeId → Bool
@@ -104,9 +130,9 @@ is_met_otherwise (TakenAt expected callee count) = false
 is_met_otherwise (ConstantAt in_pattern expected found) = false
 is_met_otherwise (BoundAt ty) = false
 
--- a variable that is met again has another type
+-- a variable that is met again in a rule or a template has another type
 abbrev pub variable_type_misfit : Context → Def → Bool
-variable_type_misfit c d = on (rule_of d) (λ (r : RuleDef). list_any is_met_otherwise (sites_of c.whole r))
+variable_type_misfit c d = list_any is_met_otherwise (sites_in c.whole d)
 
 -- a call of a term that is not there, has another number of arguments, or has no constructor
 abbrev pub is_call_misfit : Whole → Option Signature → ℕ → Bool
@@ -186,6 +212,10 @@ impure_call c d = on (rule_of d) (λ (r : RuleDef). on (termed c.whole r.term) (
 abbrev pub multi_call : Context → Def → Bool
 multi_call c d = on (rule_of d) (λ (r : RuleDef). on (termed c.whole r.term) (λ (s : Signature). not s.multi && list_any (is_call_of (λ (t : Signature). t.multi)) (sites_of c.whole r)))
 
--- a rule has more than 4,096 nodes: each of its parts is one, and none is replaced by a template yet
+-- a rule has more than 4,096 nodes when its templates are replaced
+abbrev pub is_large : Whole → RuleDef → Bool
+is_large w r = on (written_pass w 0 r) (λ (x : CoreRule). not (nat_le (rule_nodes (rule_expanded (whole_templates (templates w)) x)) 4096))
+
+-- a definition is such a rule
 abbrev pub many_nodes : Context → Def → Bool
-many_nodes c d = on (rule_of d) (λ (r : RuleDef). not (nat_le (length (sites_of c.whole r)) 4096))
+many_nodes c d = on (rule_of d) (is_large c.whole)

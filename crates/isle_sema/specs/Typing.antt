@@ -5,12 +5,13 @@ use Rattle.isle_core.specs.declared.types.TypeEnv.{TypeEnv}
 use Rattle.isle_core.specs.Rule.{Environment}
 use Rattle.isle_ast.specs.Tree.{Def}
 use Rattle.isle_types.specs.declared.row.Row.{Row}
-use Rattle.isle_types.specs.Fault.{type_fault}
+use Rattle.isle_types.specs.Fault.{or_later, type_fault}
 use Rattle.isle_types.specs.TypeEnvironment.{type_env_of}
 use Rattle.isle_types.specs.Gathered.{TellsTyping}
 use Rattle.isle_sema.specs.declared.typing.EnvError.{EnvError}
 use Rattle.isle_sema.specs.declared.typing.EnvError.TheVariants as error
 use Rattle.isle_sema.specs.Fault.{fault_of}
+use Rattle.isle_terms.specs.TermFault.{term_fault}
 use Rattle.isle_terms.specs.Whole.{whole_of}
 use Rattle.isle_sema.specs.Environment.{env_of}
 use Rattle.isle_sema.specs.Language.{are_built}
@@ -38,11 +39,15 @@ SomeTypes defs = (types : TypeEnv) × TypesFrom defs types
 abbrev pub SomeTyped : List Def → Type 0
 SomeTyped defs = (env : Environment) × Typed defs env
 
--- why definitions do not give this: a fault of types or constants, which is told; or they have none, and don't give it
-abbrev pub IsUntyped : (given : Type 0) → EnvError → List Def → Type 0
-IsUntyped given (error.Typing e) defs = TellsTyping (type_fault defs) (Some e)
-IsUntyped given error.NotYet defs = (type_fault defs ≡ None) × (given → ⊥)
-IsUntyped given error.Memory defs = Unit {0}
+-- the fault that is told: of types and constants, and then of terms; those of templates and rules are not told yet
+abbrev pub told_fault : List Def → Option (Row × Pos)
+told_fault defs = or_later (type_fault defs) (term_fault (whole_of defs))
+
+-- why definitions do not give this: a fault, which is told; or they have none that is, and don't give it
+abbrev pub IsUntyped : (told : Option (Row × Pos)) → (given : Type 0) → EnvError → Type 0
+IsUntyped told given (error.Typing e) = TellsTyping told (Some e)
+IsUntyped told given error.NotYet = (told ≡ None) × (given → ⊥)
+IsUntyped told given error.Memory = Unit {0}
 
 -- the one environment that the definitions give
 pub record TypedOnly (defs : List Def) (env : Environment) : Type 0 where

@@ -12,11 +12,9 @@ use crate::elaborated_exprs::{expr_at, type_of};
 use crate::elaborated_patterns::pattern_at;
 use crate::judged::Judged;
 use crate::known::Known;
-use crate::locals::Locals;
-use crate::new_variables::new_count;
-use crate::variables::Variables;
 use isle_ast::{AstExpr, AstIfLet};
 use isle_core::{Expr, IfLet, Pattern, TypeId};
+use isle_variables::{Locals, Variables, new_count};
 use std::alloc::{AllocError, Global};
 
 /// Elaborates an expression over the variables of patterns, from this number on; returns the next number after it.

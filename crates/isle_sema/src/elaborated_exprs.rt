@@ -9,16 +9,16 @@ ghost use Rattle.isle_declarations.specs.Signatures.{Signature};
 ghost use Rattle.isle_terms.specs.Whole.{Whole, ret_type, number_of};
 ghost use Rattle.isle_terms.specs.Whole.{whole};
 ghost use Rattle.isle_sema.specs.Known.{MayBeCalled};
-ghost use Rattle.isle_sema.specs.Scope.{Local};
+ghost use Rattle.isle_variables.specs.Scope.{Local};
 ghost use Rattle.isle_sema.specs.ExprPass.{integer_tree, constant_tree, local_tree, call_tree, expr_within, expr_type, binding_tree, let_tree};
 ghost use Rattle.isle_sema.specs.ElaboratedAt.{expr_trees, seen_binding, binding_trees, IsExprAt, AreExprsAt, IsBindingAt, AreBindingsAt};
 
 use crate::judged::Judged;
 use crate::known::{Called, Known, argument_types, result_type, within};
-use crate::locals::Locals;
 use isle_ast::{AstExpr, AstLet};
 use isle_core::{Boxed, Expr, LetBinding, List, Text, TypeEnv, TypeId, VarId};
 use isle_terms::{type_named, typed_integer};
+use isle_variables::Locals;
 use std::alloc::{AllocError, Global};
 
 // An integer where this type is expected.
@@ -201,7 +201,6 @@ pub fn expr_at<'d>(
         ),
         AstExpr::Const(name) => named_at(alloc, known, vars, judged, expected, name),
         AstExpr::Let(lets, inner) => {
-            judged.part();
             let outer = vars.len();
             let bindings = lets_at(alloc, known, vars, judged, lets.as_slice())?;
             let found = expr_at(alloc, known, vars, judged, expected, inner.get())?;

@@ -8,16 +8,16 @@ ghost use Rattle.isle_declarations.specs.Signatures.{Signature};
 ghost use Rattle.isle_terms.specs.Whole.{Whole, ret_type, number_of, constant_type};
 ghost use Rattle.isle_terms.specs.Whole.{whole};
 ghost use Rattle.isle_sema.specs.Known.{MayBeCalled};
-ghost use Rattle.isle_sema.specs.Scope.{variable};
-ghost use Rattle.isle_sema.specs.PatternPass.{integer_tree, variable_tree, constant_tree, term_tree, pattern_within, and_tree, is_blank, bound_tree};
+ghost use Rattle.isle_variables.specs.Scope.{variable};
+ghost use Rattle.isle_sema.specs.PatternPass.{integer_tree, variable_tree, constant_tree, term_tree, pattern_within, and_tree, bound_tree};
 ghost use Rattle.isle_sema.specs.ElaboratedAt.{pattern_trees, copies, IsPatternAt, ArePatternsAt};
 
 use crate::judged::Judged;
 use crate::known::{Called, Known, argument_types, result_type, within};
-use crate::variables::Variables;
 use isle_ast::AstPattern;
 use isle_core::{Boxed, List, Pattern, Text, TypeEnv, TypeId, VarId};
 use isle_terms::typed_integer;
+use isle_variables::{Variables, is_blank};
 use std::alloc::{AllocError, Global};
 
 // An integer where this type is expected.
@@ -88,13 +88,6 @@ fn copies(alloc: Global, expected: Option<TypeId>, count: usize) -> Result<Vec<T
     Ok(types)
 }
 
-// A name that names no variable.
-pub fn is_blank(name: &Text) -> bool
-    ensures { result ≡ is_blank name.now }
-{
-    name.as_str() == "_"
-}
-
 // A constant of this type, where it is declared.
 #[tactic(auto, using(isle_core::proofs::SeesRules::sees))]
 fn constant_at(known: &Known, found: Option<TypeId>, name: &Text) -> Option<Pattern>
@@ -163,7 +156,6 @@ pub fn pattern_at<'d>(
             Ok(variable_at(vars, name))
         }
         AstPattern::Wildcard => {
-            judged.part();
             match expected {
                 Some(ty) => Ok(Some(Pattern::Wildcard(ty))),
                 None => Ok(None),
@@ -219,7 +211,6 @@ fn and_at<'d>(
 ) -> Result<Option<Pattern>, AllocError>
     ensures { IfOk result (λ found. IsPatternAt (whole known.now) expected (tree.And (patterns_of (map pattern parts.now))) vars.old vars.new judged.old judged.new found) }
 {
-    judged.part();
     let types = copies(alloc, expected, parts.len())?;
     let typed = patterns_at(alloc, known, vars, judged, types.as_slice(), parts)?;
     Ok(all_of(expected, typed))

@@ -10,12 +10,15 @@ ghost use Rattle.isle_sema.specs.RulePass.{rule_from};
 ghost use Rattle.isle_terms.specs.Whole.{whole};
 ghost use Rattle.isle_sema.specs.Known.{IsHead};
 ghost use Rattle.isle_sema.specs.Taken.{taken_rule, taken_rules};
+ghost use Rattle.isle_sema.specs.Templates.{templates as written};
+ghost use Rattle.isle_templates.specs.Whole.{AreWhole};
 
 use crate::known::{Called, Known};
 use crate::rows::lowest_row;
 use crate::sides::sides_of;
 use isle_core::{Expr, IfLet, List, Pattern, Rule, RuleId};
 use isle_declarations::RuleDef;
+use isle_templates::{Templates, elaborated};
 use std::alloc::{AllocError, Global};
 
 // The rule of that number, of this term with these parts.
@@ -46,15 +49,18 @@ fn rule_from(
     }
 }
 
-// The rule of that number, of this term: nothing where it breaks a row, uses a term that has a rule, or has no tree.
+// The rule of that number, of this term, with its templates replaced: nothing where it breaks a row, uses a term that has a rule, or
+// has no tree.
 fn rule_of(
     alloc: Global,
     known: &Known,
+    templates: &Templates,
     own: &Called,
     number: usize,
     given: &RuleDef,
 ) -> Result<Option<Rule>, AllocError>
-    requires { IsHead (whole known.now) given.now.term.now own.now }
+    requires own { IsHead (whole known.now) given.now.term.now own.now }
+    requires templates { AreWhole (written (whole known.now)) templates.now }
     ensures { IfOk result (λ rule. option_map elaborated_rule rule ≡ taken_rule (whole known.now) number (seen given.now)) }
 {
     let sides = sides_of(alloc, known, own, given)?;
@@ -77,21 +83,24 @@ fn rule_of(
     let Some(rhs) = rhs else {
         return Ok(None);
     };
-    Ok(Some(rule_from(known, own, number, given, args, iflets, rhs)))
+    let written = rule_from(known, own, number, given, args, iflets, rhs);
+    elaborated(alloc, templates, written)
 }
 
 // The rule of that number, where its term is declared.
 fn rule_at(
     alloc: Global,
     known: &Known,
+    templates: &Templates,
     number: usize,
     given: &RuleDef,
 ) -> Result<Option<Rule>, AllocError>
-    requires { index_of (whole known.now).types.syms given.now.term.now ≡ Some given.now.number }
+    requires number { index_of (whole known.now).types.syms given.now.term.now ≡ Some given.now.number }
+    requires templates { AreWhole (written (whole known.now)) templates.now }
     ensures { IfOk result (λ rule. option_map elaborated_rule rule ≡ taken_rule (whole known.now) number (seen given.now)) }
 {
     match known.at(given.number) {
-        Some(own) => rule_of(alloc, known, &own, number, given),
+        Some(own) => rule_of(alloc, known, templates, &own, number, given),
         None => Ok(None),
     }
 }
@@ -100,14 +109,16 @@ fn rule_at(
 pub fn rules_at(
     alloc: Global,
     known: &Known,
+    templates: &Templates,
     given: &[RuleDef],
 ) -> Result<Option<Vec<Rule>>, AllocError>
-    requires { AreRules (seen_defs known.now) given.now }
+    requires rules { AreRules (seen_defs known.now) given.now }
+    requires templates { AreWhole (written (whole known.now)) templates.now }
     ensures { IfOk result (λ rules. option_map (λ rs. map elaborated_rule rs.items) rules ≡ taken_rules (whole known.now) 0 (rule_defs (seen_defs known.now))) }
 {
     let mut rules = Vec::with_capacity(alloc, given.len())?;
     for (number, rule) in given.iter().enumerate() {
-        match rule_at(alloc, known, number, rule)? {
+        match rule_at(alloc, known, templates, number, rule)? {
             Some(found) => rules.push(found)?,
             None => return Ok(None),
         }

@@ -1,6 +1,6 @@
 //! What the typing table says of the parts of a rule.
 
-ghost use Rattle.std.specs.Prelude.{◌≡◌, [], Option, Some};
+ghost use Rattle.std.specs.Prelude.{◌≡◌, ◌||◌, [], Option, Some};
 ghost use Rattle.isle_declarations.specs.Signatures.{Signature};
 ghost use Rattle.isle_terms.specs.Whole.{Whole};
 ghost use Rattle.isle_sema.specs.Site.{IntegerAt, TruthAt, PartAt, MetAt, UsedAt, CalledAt, TakenAt, ConstantAt, BoundAt};
@@ -15,8 +15,8 @@ use crate::known::Called;
 use isle_core::{TypeEnv, TypeId};
 use isle_terms::{takes_integers, takes_truths};
 
-/// Which rows the parts of a rule that were met so far break, whether one is of a term that has a rule, and how many
-/// parts there are.
+/// Which rows the parts of a rule or of a template that were met so far break, whether one is of a term that has a rule, and
+/// whether one is a variable of a pattern that was not bound before.
 #[derive(Clone, Copy)]
 pub struct Judged {
     pub untaken: bool,
@@ -30,7 +30,7 @@ pub struct Judged {
     pub impure: bool,
     pub multi: bool,
     pub ruled: bool,
-    pub nodes: usize,
+    pub unbound: bool,
 }
 
 // Whether a type differs from the one that is expected, where there is one.
@@ -61,22 +61,24 @@ impl Judged {
             impure: false,
             multi: false,
             ruled: false,
-            nodes: 0,
+            unbound: false,
         }
     }
 
-    /// Judges a part that no row looks at: a wildcard, `and` or `let`.
-    pub fn part(&mut self)
-        ensures { self.new ≡ judge (whole_of []) self.old PartAt }
+    /// Tells whether a template with such parts is not taken: one breaks a row, or is of a term that has a rule.
+    pub fn is_misbuilt(&self) -> bool
+        ensures { result ≡ self.now.unbound || (self.now.met_otherwise || (self.now.untaken || (self.now.mistaken || (self.now.misplaced || (self.now.undeclared || self.now.ruled))))) }
     {
-        self.nodes = self.nodes.saturating_add(1);
+        self.unbound
+            || (self.met_otherwise
+                || (self.untaken
+                    || (self.mistaken || (self.misplaced || (self.undeclared || self.ruled)))))
     }
 
     /// Judges a variable of a `let` by its type, where it is declared.
     pub fn bound(&mut self, ty: Option<TypeId>)
         ensures { self.new ≡ judge (whole_of []) self.old (BoundAt ty) }
     {
-        self.nodes = self.nodes.saturating_add(1);
         self.mistyped = ty.is_none() | self.mistyped;
     }
 
@@ -84,7 +86,6 @@ impl Judged {
     pub fn integer(&mut self, types: &TypeEnv, expected: Option<TypeId>)
         ensures { (w : Whole) → types.now ≡ w.types → self.new ≡ judge w self.old (IntegerAt expected) }
     {
-        self.nodes = self.nodes.saturating_add(1);
         self.misplaced = !takes_integers(types, expected) | self.misplaced;
     }
 
@@ -92,7 +93,6 @@ impl Judged {
     pub fn truth(&mut self, types: &TypeEnv, expected: Option<TypeId>)
         ensures { (w : Whole) → types.now ≡ w.types → self.new ≡ judge w self.old (TruthAt expected) }
     {
-        self.nodes = self.nodes.saturating_add(1);
         self.misplaced = !takes_truths(types, expected) | self.misplaced;
     }
 
@@ -100,15 +100,14 @@ impl Judged {
     pub fn met(&mut self, expected: Option<TypeId>, bound: Option<Option<TypeId>>)
         ensures { self.new ≡ judge (whole_of []) self.old (MetAt expected bound) }
     {
-        self.nodes = self.nodes.saturating_add(1);
         self.met_otherwise = is_other_type(bound, expected) | self.met_otherwise;
+        self.unbound = bound.is_none() | self.unbound;
     }
 
     /// Judges a variable in an expression by the type that it was bound at, where it was.
     pub fn used(&mut self, expected: Option<TypeId>, bound: Option<Option<TypeId>>)
         ensures { self.new ≡ judge (whole_of []) self.old (UsedAt expected bound) }
     {
-        self.nodes = self.nodes.saturating_add(1);
         self.unknown = bound.is_none() | self.unknown;
         self.mistyped = is_other_type(bound, expected) | self.mistyped;
     }
@@ -117,7 +116,6 @@ impl Judged {
     pub fn called(&mut self, expected: Option<TypeId>, callee: &Option<Called>, count: usize)
         ensures { (w : Whole) (s : Option Signature) → MayBeCalled w s callee.now → self.new ≡ judge w self.old (CalledAt expected s count) }
     {
-        self.nodes = self.nodes.saturating_add(1);
         let Some(callee) = callee else {
             self.unknown = true;
             return;
@@ -136,7 +134,6 @@ impl Judged {
     pub fn taken(&mut self, expected: Option<TypeId>, callee: &Option<Called>, count: usize)
         ensures { (w : Whole) (s : Option Signature) → MayBeCalled w s callee.now → self.new ≡ judge w self.old (TakenAt expected s count) }
     {
-        self.nodes = self.nodes.saturating_add(1);
         let Some(callee) = callee else {
             self.untaken = true;
             return;
@@ -170,7 +167,6 @@ impl Judged {
     pub fn constant(&mut self, in_pattern: bool, expected: Option<TypeId>, found: Option<TypeId>)
         ensures { self.new ≡ judge (whole_of []) self.old (ConstantAt in_pattern expected found) }
     {
-        self.nodes = self.nodes.saturating_add(1);
         let differs = is_other_type(Some(found), expected);
         self.undeclared = found.is_none() | self.undeclared;
         self.mistaken = (in_pattern & differs) | self.mistaken;

@@ -7,8 +7,8 @@ ghost use Rattle.isle_sema.specs.Language.{is_built_def};
 
 use isle_ast::Def;
 
-// Whether the form of a definition is built: a type, a constant, a declaration that is neither `multi` nor `rec`, an external constructor
-// or extractor, a converter, a rule, or a list that is passed over. All forms of patterns and expressions are built.
+// Whether the form of a definition is built: a type, a constant, a declaration that is neither `multi` nor `rec`, an external constructor,
+// an extractor of either kind, a converter, a rule, or a list that is passed over. All forms of patterns and expressions are built.
 fn is_built_def(given: &Def) -> bool
     ensures { result ≡ is_built_def (def given.now) }
 {
@@ -20,8 +20,7 @@ fn is_built_def(given: &Def) -> bool
         } => !*multi && !*recursive,
         Def::TypeDecl { .. } | Def::ExternConst { .. } | Def::ExternExtractor { .. } => true,
         Def::ExternConstructor { .. } | Def::Converter { .. } | Def::Passed { .. } => true,
-        Def::Rule { .. } => true,
-        _ => false,
+        Def::Extractor { .. } | Def::Rule { .. } => true,
     }
 }
 

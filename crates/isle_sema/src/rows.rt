@@ -7,8 +7,8 @@ use crate::judged::Judged;
 use crate::known::Called;
 use isle_types::Row;
 
-/// Returns the lowest row that a rule of a term breaks, on so many patterns, by what its patterns with its conditions, and
-/// its right side, are judged.
+/// Returns the lowest row before that of its nodes that a rule of a term breaks, on so many patterns, by what its patterns with
+/// its conditions, and its right side, are judged.
 pub fn lowest_row(own: &Called, count: usize, left: &Judged, right: &Judged) -> Option<Row>
     ensures { result ≡ lowest own.now count left.now right.now }
 {
@@ -34,8 +34,6 @@ pub fn lowest_row(own: &Called, count: usize, left: &Judged, right: &Judged) -> 
         Some(Row::ImpureCall)
     } else if !own.multi && (left.multi || right.multi) {
         Some(Row::MultiCall)
-    } else if left.nodes.saturating_add(right.nodes) > 4096 {
-        Some(Row::ManyNodes)
     } else {
         None
     }

@@ -10,9 +10,9 @@ use crate::conditions::{conditions_at, expr_over};
 use crate::elaborated_patterns::patterns_at;
 use crate::judged::Judged;
 use crate::known::{Called, Known};
-use crate::variables::Variables;
 use isle_core::{Expr, IfLet, Pattern};
 use isle_declarations::RuleDef;
+use isle_variables::Variables;
 use std::alloc::{AllocError, Global};
 
 /// The patterns, the conditions and the right side of a rule, where they have trees, and what the rows say of the parts of the

@@ -1,8 +1,7 @@
 //! The terms, rules and converters of definitions.
 
 ghost use Rattle.std.specs.Prelude.{◌≡◌, IfOk, IfErr, Some, None, map, option_map};
-ghost use Rattle.std.specs.List.{list_any};
-ghost use Rattle.isle_core.specs.RuleViews.{rule as elaborated_rule, environment};
+ghost use Rattle.isle_core.specs.RuleViews.{environment};
 ghost use Rattle.isle_ast.specs.Views.{defs as seen};
 ghost use Rattle.isle_declarations.specs.Signatures.{signatures, externs, extractors, rule_defs};
 ghost use Rattle.isle_declarations.specs.DeclaredTypes.{made_of};
@@ -11,24 +10,21 @@ ghost use Rattle.isle_types.specs.Gathered.{IsBefore};
 ghost use Rattle.isle_types.specs.TypeEnvironment.{type_env_of};
 ghost use Rattle.isle_sema.specs.KnownOf.{AreKnown};
 ghost use Rattle.isle_terms.specs.Whole.{whole};
-ghost use Rattle.isle_sema.specs.Taken.{taken_rules};
-ghost use Rattle.isle_terms.specs.Tests.{has_undeclared, has_unknown, is_headless};
-ghost use Rattle.isle_sema.specs.Typing.{TypedOnly, SomeTyped, IsUntyped};
+ghost use Rattle.isle_sema.specs.TakenAt.{AreRulesAt};
+ghost use Rattle.isle_sema.specs.Typing.{TypedOnly, SomeTyped, told_fault, IsUntyped};
 
 use crate::elaborated_rules::rules_at;
 use crate::known::Known;
 use crate::language::are_built_forms;
+use crate::templates::templates_at;
 use crate::typing::EnvError;
 use isle_core::{List, Rule, Term, TermEnv, Text, TypeEnv};
 use isle_declarations::{Declarations, Terms, terms_of as gathered_terms};
-use isle_terms::{
-    Converters, are_misdeclared, converters_of, has_misfit_head, has_undeclared, has_unknown,
-    terms_of,
-};
+use isle_terms::{Converters, check_terms, terms_of};
 use isle_types::Before;
 use std::alloc::{AllocError, Global};
 
-// The rules of definitions over their terms.
+// The rules of definitions over their terms, with their templates replaced: nothing where a template or a rule is not taken.
 fn rules_of<'d>(
     alloc: Global,
     declarations: &Declarations<'d>,
@@ -39,7 +35,7 @@ fn rules_of<'d>(
     converters: &Converters,
 ) -> Result<Option<Vec<Rule>>, AllocError>
     requires { AreKnown declarations.now before.now types.now terms.now typed.now converters.now }
-    ensures { IfOk result (λ rules. option_map (λ rs. map elaborated_rule rs.items) rules ≡ taken_rules (whole declarations.now) 0 (rule_defs (seen declarations.now))) }
+    ensures { IfOk result (λ rules. AreRulesAt (whole declarations.now) rules) }
 {
     let known = Known {
         declarations,
@@ -49,11 +45,15 @@ fn rules_of<'d>(
         typed,
         converters,
     };
-    rules_at(alloc, &known, declarations.rules())
+    let Some(templates) = templates_at(alloc, &known)? else {
+        return Ok(None);
+    };
+    rules_at(alloc, &known, &templates, declarations.rules())
 }
 
-/// Returns the terms, rules and converters of definitions, whose types make these: `NotYet` comes where they are not all of forms that are
-/// built, or break a row of the typing table.
+/// Returns the terms, rules and converters of definitions, whose types make these: `Typing` comes where a declaration, what names its
+/// term, a converter or a head is wrong, `NotYet` where none is and they are not all of forms that are built, or a template or a rule
+/// is wrong.
 pub fn term_env<'d>(
     alloc: Global,
     declarations: &Declarations<'d>,
@@ -66,31 +66,17 @@ pub fn term_env<'d>(
     requires types { types.now ≡ type_env_of (seen declarations.now) }
     requires made { made.now ≡ map made_of (seen declarations.now) }
     ensures ok { IfOk result (λ terms. TypedOnly (seen declarations.now) (environment types.now terms)) }
-    ensures err { IfErr result (λ e. IsUntyped (SomeTyped (seen declarations.now)) e (seen declarations.now)) }
+    ensures err { IfErr result (λ e. IsUntyped (told_fault (seen declarations.now)) (SomeTyped (seen declarations.now)) e) }
 {
+    let terms = gathered_terms(alloc, declarations, made)?;
+    let converters = match check_terms(alloc, &*declarations, &*before, &terms)? {
+        Ok(found) => found,
+        Err(error) => return Err(EnvError::Typing(error)),
+    };
     if !are_built_forms(declarations.defs()) {
         return Err(EnvError::NotYet);
     }
-    if are_misdeclared(declarations, before) {
-        return Err(EnvError::NotYet);
-    }
-    if declarations.any_repeat() {
-        return Err(EnvError::NotYet);
-    }
-    if has_undeclared(declarations) {
-        return Err(EnvError::NotYet);
-    }
-    if has_unknown(declarations) {
-        return Err(EnvError::NotYet);
-    }
-    if has_misfit_head(declarations) {
-        return Err(EnvError::NotYet);
-    }
-    let terms = gathered_terms(alloc, declarations, made)?;
     let Some(typed) = terms_of(alloc, declarations, before, &terms)? else {
-        return Err(EnvError::NotYet);
-    };
-    let Some(converters) = converters_of(alloc, declarations, before, &terms)? else {
         return Err(EnvError::NotYet);
     };
     let Some(rules) = rules_of(

@@ -5,7 +5,7 @@ ghost use Rattle.isle_declarations.specs.DeclaredTypes.{made_of};
 ghost use Rattle.isle_types.specs.Fault.{type_fault};
 ghost use Rattle.isle_types.specs.Gathered.{IsBefore};
 ghost use Rattle.isle_types.specs.TypeEnvironment.{type_env_of};
-ghost use Rattle.isle_sema.specs.Typing.{TypesFrom, TypedOnly, SomeTypes, SomeTyped, IsUntyped};
+ghost use Rattle.isle_sema.specs.Typing.{TypesFrom, TypedOnly, SomeTypes, SomeTyped, told_fault, IsUntyped};
 
 use crate::term_env::term_env;
 use isle_ast::Def;
@@ -19,7 +19,7 @@ use std::alloc::{AllocError, Global};
 pub enum EnvError {
     /// They are not all of the forms that are built, or one of them is wrong.
     NotYet,
-    /// The first type or constant that is wrong, by the lowest row that it breaks.
+    /// The first type, constant or declaration that is wrong, by the lowest row that it breaks.
     Typing(Error),
     Memory,
 }
@@ -55,7 +55,7 @@ fn built_types<'k, 'd>(
     requires sound { type_fault (seen declarations.now) ≡ None }
     requires before { IsBefore (seen declarations.now) before.now }
     ensures ok { IfOk result (λ env. TypesFrom (seen declarations.now) env) }
-    ensures err { IfErr result (λ e. IsUntyped (SomeTypes (seen declarations.now)) e (seen declarations.now)) }
+    ensures err { IfErr result (λ e. IsUntyped (type_fault (seen declarations.now)) (SomeTypes (seen declarations.now)) e) }
 {
     Ok(type_env(alloc, declarations, before)?)
 }
@@ -71,7 +71,7 @@ fn built_env<'d>(
     requires before { IsBefore (seen declarations.now) before.now }
     requires made { made.now ≡ map made_of (seen declarations.now) }
     ensures ok { IfOk result (λ envs. TypedOnly (seen declarations.now) (environment envs.0 envs.1)) }
-    ensures err { IfErr result (λ e. IsUntyped (SomeTyped (seen declarations.now)) e (seen declarations.now)) }
+    ensures err { IfErr result (λ e. IsUntyped (told_fault (seen declarations.now)) (SomeTyped (seen declarations.now)) e) }
 {
     let types = type_env(alloc, declarations, before)?;
     let terms = term_env(alloc, declarations, before, &types, made)?;
@@ -89,8 +89,8 @@ fn gathered<'d>(
     ensures sound { IfOk result (λ found. type_fault (seen found.0) ≡ None) }
     ensures before { IfOk result (λ found. IsBefore (seen found.0) found.1) }
     ensures made { IfOk result (λ found. made.now ≡ map made_of (seen found.0)) }
-    ensures no_types { IfErr result (λ e. IsUntyped (SomeTypes (seen defs.now)) e (seen defs.now)) }
-    ensures no_terms { IfErr result (λ e. IsUntyped (SomeTyped (seen defs.now)) e (seen defs.now)) }
+    ensures no_types { IfErr result (λ e. IsUntyped (type_fault (seen defs.now)) (SomeTypes (seen defs.now)) e) }
+    ensures no_terms { IfErr result (λ e. IsUntyped (told_fault (seen defs.now)) (SomeTyped (seen defs.now)) e) }
 {
     match check_types(alloc, defs, made)? {
         Ok(before) => Ok((Declarations::gather(alloc, defs, made)?, before)),
@@ -103,20 +103,21 @@ fn gathered<'d>(
 /// `NotYet` never comes.
 pub fn type_env_from_ast(alloc: Global, defs: &[Def]) -> Result<TypeEnv, EnvError>
     ensures ok { IfOk result (λ env. TypesFrom (seen defs.now) env) }
-    ensures err { IfErr result (λ e. IsUntyped (SomeTypes (seen defs.now)) e (seen defs.now)) }
+    ensures err { IfErr result (λ e. IsUntyped (type_fault (seen defs.now)) (SomeTypes (seen defs.now)) e) }
 {
     let made = made_each(alloc, defs)?;
     let found = gathered(alloc, defs, made.as_slice())?;
     built_types(alloc, &found.0, &found.1)
 }
 
-/// Types the terms, rules and converters of the definitions, whose types are given (`specs/Typing.antt`). `NotYet` comes where
-/// they are not all of forms that are built, a rule calls a term that has rules, or a definition is wrong; beside it only want
-/// of memory.
+/// Types the terms, rules and converters of the definitions, whose types are given (`specs/Typing.antt`). `Typing` comes exactly
+/// where a declaration, what names its term, a converter or a rule's head is wrong, and tells the first by the lowest row that it
+/// breaks; `NotYet` where none is, and they are not all of forms that are built, a rule uses a term that has rules, or a template or
+/// a rule is wrong; beside them only want of memory.
 pub fn term_env_from_ast(alloc: Global, env: &TypeEnv, defs: &[Def]) -> Result<TermEnv, EnvError>
     requires { TypesFrom (seen defs.now) env.now }
     ensures ok { IfOk result (λ terms. TypedOnly (seen defs.now) (environment env.now terms)) }
-    ensures err { IfErr result (λ e. IsUntyped (SomeTyped (seen defs.now)) e (seen defs.now)) }
+    ensures err { IfErr result (λ e. IsUntyped (told_fault (seen defs.now)) (SomeTyped (seen defs.now)) e) }
 {
     let made = made_each(alloc, defs)?;
     let found = gathered(alloc, defs, made.as_slice())?;
@@ -127,7 +128,7 @@ pub fn term_env_from_ast(alloc: Global, env: &TypeEnv, defs: &[Def]) -> Result<T
 /// constants judged, and names gathered, once for both. The errors are theirs.
 pub fn env_from_ast(alloc: Global, defs: &[Def]) -> Result<(TypeEnv, TermEnv), EnvError>
     ensures ok { IfOk result (λ envs. TypedOnly (seen defs.now) (environment envs.0 envs.1)) }
-    ensures err { IfErr result (λ e. IsUntyped (SomeTyped (seen defs.now)) e (seen defs.now)) }
+    ensures err { IfErr result (λ e. IsUntyped (told_fault (seen defs.now)) (SomeTyped (seen defs.now)) e) }
 {
     let made = made_each(alloc, defs)?;
     let found = gathered(alloc, defs, made.as_slice())?;

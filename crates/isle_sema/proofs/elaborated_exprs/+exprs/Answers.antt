@@ -16,7 +16,7 @@ use Rattle.isle_terms.specs.Whole.{termed, arg_types, ret_type}
 use Rattle.isle_sema.specs.ExprPass.{ExprPass, ExprsPass, integer_tree, call_tree, expr_within, count_of, expr_pass, exprs_pass}
 use Rattle.isle_sema.specs.ElaboratedAt.{expr_trees, seen_binding, binding_trees}
 use Rattle.isle_terms.specs.Whole.{whole}
-use Rattle.isle_sema.specs.Locals.{locals_of}
+use Rattle.isle_variables.specs.Locals.{locals_of}
 use Rattle.isle_sema.specs.declared.judged.Judged.{Judged}
 use Rattle.isle_terms.specs.Converters.{conversion, within}
 use Rattle.isle_sema.specs.Known.{MayBeCalled}
@@ -144,5 +144,5 @@ expr_at-returns-in_ok-found-in-Let t c =
     let outer : c.len-outer.result ≡ length c.args.vars.now.lets = search rules in
     let leaves : c.truncate.new.self ≡ record { patterns = c.expr_at.new.vars.patterns; lets = take (length c.args.vars.now.lets) c.expr_at.new.vars.lets; next = c.expr_at.new.vars.next } =
     c.truncate.ensures ∙ ap (λ n. record { patterns = c.expr_at.new.vars.patterns; lets = take n c.expr_at.new.vars.lets; next = c.expr_at.new.vars.next }) outer in
-    let_given (whole c.args.known.now) c.args.expected (lets_of (map binding c.as_slice-in-Let.result.now)) (expr c.get.result.now) (expr c.args.e.now) c.args.vars.now c.lets_at.new.vars c.expr_at.new.vars c.truncate.new.self c.args.judged.now c.part.new.self
-    c.lets_at.new.judged c.expr_at.new.judged c.in_ok-bindings-in-Let.bindings c.in_ok-found-in-Let.found c.let_of.result is c.part.ensures c.in_ok-bindings-in-Let.ensures c.in_ok-found-in-Let.ensures leaves c.let_of.ensures
+    let_given (whole c.args.known.now) c.args.expected (lets_of (map binding c.as_slice-in-Let.result.now)) (expr c.get.result.now) (expr c.args.e.now) c.args.vars.now c.lets_at.new.vars c.expr_at.new.vars c.truncate.new.self c.args.judged.now c.args.judged.now
+    c.lets_at.new.judged c.expr_at.new.judged c.in_ok-bindings-in-Let.bindings c.in_ok-found-in-Let.found c.let_of.result is refl c.in_ok-bindings-in-Let.ensures c.in_ok-found-in-Let.ensures leaves c.let_of.ensures

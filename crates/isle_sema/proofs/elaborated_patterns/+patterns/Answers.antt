@@ -14,7 +14,6 @@ use Rattle.isle_sema.specs.Judging.{judge, judge_all}
 use Rattle.isle_terms.specs.Whole.{whole}
 use Rattle.isle_sema.specs.PatternPass.{PatternsPass, integer_tree, term_tree, and_tree, count_of, of_each, pattern_pass, patterns_pass}
 use Rattle.isle_core.specs.declared.TypeId.{TypeId}
-use Rattle.isle_sema.specs.declared.judged.Judged.{Judged}
 use Rattle.isle_terms.specs.Converters.{conversion, within}
 use Rattle.isle_sema.specs.Known.{MayBeCalled}
 use Rattle.isle_sema.proofs.ConvertedParts.{term_within}
@@ -105,7 +104,7 @@ and_at-returns t c =
     record {
       tree = c.all_of.ensures ∙ ap (and_tree c.args.expected) (c.in_ok-typed.ensures.trees ∙ ap (λ (x : PatternsPass). x.trees) same);
       scope = c.in_ok-typed.ensures.scope ∙ ap (λ (x : PatternsPass). x.scope) same;
-      sites = c.in_ok-typed.ensures.sites ∙ ap (λ (x : PatternsPass). judge_all w c.part.new.self x.sites) same ∙ ap (λ (j : Judged). judge_all w j (patterns_pass w (of_each c.args.expected ps) old ps).sites) c.part.ensures;
+      sites = c.in_ok-typed.ensures.sites ∙ ap (λ (x : PatternsPass). judge_all w c.args.judged.now x.sites) same;
     }
 
 pub bind_at-returns : goal.bind_at-returns

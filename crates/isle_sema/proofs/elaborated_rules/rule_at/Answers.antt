@@ -11,4 +11,4 @@ pub returns-in-None : goal.returns-in-None
 returns-in-None c =
     let w = whole_of (seen_defs c.args.known.now) in
     let o = termed w c.args.given.now.term.now in
-    without_term w c.args.number (seen c.args.given.now) (none_called w o (subst (λ x. MayBeCalled w o x) c.in-None.is (c.at.ensures c.args.given.now.term.now c.requires)))
+    without_term w c.args.number (seen c.args.given.now) (none_called w o (subst (λ x. MayBeCalled w o x) c.in-None.is (c.at.ensures c.args.given.now.term.now c.requires.number)))

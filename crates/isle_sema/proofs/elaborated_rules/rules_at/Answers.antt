@@ -9,9 +9,9 @@ use Rattle.isle_terms.specs.Whole.{whole}
 use Rattle.isle_sema.proofs.Steps.{rule_more, rule_none}
 use Rattle.isle_sema.proofs.elaborated_rules.rules_at.Goals as goal
 
-pub rule_at-requires : goal.rule_at-requires
-rule_at-requires c =
-    item_number (λ (r : RuleDef). r.term.now) (λ (r : RuleDef). r.number) (symbols (seen c.args.known.now)) c.args.given.now c.loop-number.number c.index-given-number.result _ c.requires.numbered c.loop-number-test.true c.index-given-number.is
+pub rule_at-requires-clause-number : goal.rule_at-requires-clause-number
+rule_at-requires-clause-number c =
+    item_number (λ (r : RuleDef). r.term.now) (λ (r : RuleDef). r.number) (symbols (seen c.args.known.now)) c.args.given.now c.loop-number.number c.index-given-number.result _ c.requires.rules.numbered c.loop-number-test.true c.index-given-number.is
 
 pub loop-number-preserved : goal.loop-number-preserved
 loop-number-preserved c =

@@ -1,0 +1,3 @@
+pub mod VariableLaws
+pub mod ScopeLaws
+pub mod LocalLaws

@@ -1,0 +1,4 @@
+pub mod Scope
+pub mod NewVariables
+pub mod Locals
+pub mod LocalViews
