@@ -7,8 +7,8 @@ use Rattle.isle_core.specs.Rule.{Environment}
 use Rattle.isle_ast.specs.Tree.{Def}
 use Rattle.isle_sema.specs.Typing.{Typed}
 use Rattle.isle_sema.proofs.TypedOnce.{typed_once}
-use Rattle.isle_sema.proofs.TypedParts.{typed_types_sound}
-use Rattle.isle_types.proofs.FaultLaws.{untold}
+use Rattle.isle_sema.proofs.TypedParts.{typed_told}
+use Rattle.isle_sema.proofs.ToldFaults.{untold}
 use Rattle.isle_checks.specs.CheckList.{IsCheckList, IsClean}
 use Rattle.isle_checks.proofs.ListOnce.{none_wrong}
 use Rattle.isle_codegen.specs.Checked.{IsChecked}
@@ -17,7 +17,7 @@ use Rattle.isle_codegen.proofs.Sources.{wrong_unspelt}
 use Rattle.isle_codegen.specs.Source.{AreAccepted}
 
 none_of_defs : (names : List (List ℕ)) (defs : List Def) (env : Environment) (errors : List Error) → Typed defs env → IsClean env → HaveDefErrors names defs errors → ⊥
-none_of_defs names defs env errors typed clean (of_types h) = untold defs h.error (typed_types_sound typed) h.told
+none_of_defs names defs env errors typed clean (of_types h) = untold defs h.error (typed_told typed) h.told
 none_of_defs names defs env errors typed clean (of_rules named h) =
     h.some (none_wrong env errors clean (subst (λ (e : Environment). IsCheckList e errors) (typed_once typed h.compilable.typed) h.list))
 

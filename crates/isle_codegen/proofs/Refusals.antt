@@ -13,10 +13,9 @@ use Rattle.isle_core.specs.declared.files.Files.{Files}
 use Rattle.isle_core.specs.Inputs.{AreRead}
 use Rattle.isle_core.specs.Rule.{Environment}
 use Rattle.isle_ast.specs.Tree.{Def}
-use Rattle.isle_types.specs.Fault.{type_fault}
 use Rattle.isle_sema.specs.declared.typing.EnvError.{EnvError}
 use Rattle.isle_sema.specs.declared.typing.EnvError.TheVariants as env_error
-use Rattle.isle_sema.specs.Typing.{SomeTyped, IsUntyped}
+use Rattle.isle_sema.specs.Typing.{SomeTyped, IsUntyped, told_fault}
 use Rattle.isle_types.specs.Gathered.{TellsTyping}
 use Rattle.isle_checks.specs.CheckList.{IsCheckList}
 use Rattle.isle_checks.proofs.PlacedErrors.{errors_placed}
@@ -68,8 +67,8 @@ told_errors e files defs env errors is compilable placed named list some = ⊎_e
     }))
     is
 
--- the one error of a fault of types or constants, in which the definitions stand
-pub typing_told : (e : CompileError) (files : Files) (defs : List Def) (error : Error) → (e ≡ compile_error.Memory) ⊎ (e ≡ compile_error.Errors (record { errors = error ∷ []; files = files })) → DefsArePlaced files defs → TellsTyping (type_fault defs) (Some error)
+-- the one error of a fault that is told, in which the definitions stand
+pub typing_told : (e : CompileError) (files : Files) (defs : List Def) (error : Error) → (e ≡ compile_error.Memory) ⊎ (e ≡ compile_error.Errors (record { errors = error ∷ []; files = files })) → DefsArePlaced files defs → TellsTyping (told_fault defs) (Some error)
     → IsUncompiled e files defs
 typing_told e files defs error is placed told = ⊎_elim
     (λ s. subst (λ x. IsUncompiled x files defs) (sym s) tt)
@@ -90,7 +89,7 @@ read_causes (Err (error.Errors errors)) options files inputs names texts before 
 read_causes (Err (error.Name name)) options files inputs names texts before after is tried read h = absurd h
 
 -- what gives no environment gives none that may be emitted
-pub uncompilable : (e : EnvError) (defs : List Def) → IsUntyped (SomeTyped defs) e defs → IsUntyped (SomeCompilable defs) e defs
+pub uncompilable : (e : EnvError) (defs : List Def) → IsUntyped (told_fault defs) (SomeTyped defs) e → IsUntyped (told_fault defs) (SomeCompilable defs) e
 uncompilable (env_error.Typing error) defs h = h
 uncompilable env_error.NotYet defs h = (h.0, λ c. h.1 (c.0, c.1.typed))
 uncompilable env_error.Memory defs h = tt

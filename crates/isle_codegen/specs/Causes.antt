@@ -1,5 +1,6 @@
 -- What compiling files answers, and why.
 use Rattle.std.specs.Prelude.{◌≡◌, ℕ, ◌⊎◌, List, length, map, false, Option, None, IfSome}
+use Rattle.isle_sema.specs.Typing.{told_fault}
 use Rattle.isle_outside.specs.Directory.{Contents, Counts}
 use Rattle.isle_core.specs.declared.options.CodegenOptions.{CodegenOptions}
 use Rattle.isle_core.specs.declared.errors.Errors.{Errors as ErrorList}
@@ -8,7 +9,6 @@ use Rattle.isle_core.specs.declared.read_error.ReadError.TheVariants as read
 use Rattle.isle_core.specs.Inputs.{AreRead, Fails, IsTried}
 use Rattle.isle_core.specs.Printed.{shown}
 use Rattle.isle_ast.specs.Tree.{Def}
-use Rattle.isle_types.specs.Fault.{type_fault}
 use Rattle.isle_codegen.specs.declared.compile_error.CompileError.{CompileError}
 use Rattle.isle_codegen.specs.declared.compile_error.CompileError.TheVariants as compile_error
 use Rattle.isle_codegen.specs.declared.file_error.FileError.{FileError}
@@ -22,10 +22,10 @@ use Rattle.isle_codegen.specs.Headline.{HasHeadline}
 abbrev pub printed : CodegenOptions → List (List ℕ) → List (List ℕ)
 printed options names = map (shown options.prefixes) names
 
--- the definitions' types and constants have no fault, and they are not built, have another fault, or a name of theirs or of
--- a file may not be emitted
+-- the definitions have no fault that is told, and they are not built, have another fault, or a name of theirs or of a file may not
+-- be emitted
 abbrev pub AreNotCompilable : FileTexts → List Def → Type 0
-AreNotCompilable files defs = (type_fault defs ≡ None) × ((SomeCompilable defs → ⊥) ⊎ (are_file_names files.file_names ≡ false))
+AreNotCompilable files defs = (told_fault defs ≡ None) × ((SomeCompilable defs → ⊥) ⊎ (are_file_names files.file_names ≡ false))
 
 -- why definitions over files give no text
 abbrev pub IsUncompiled : CompileError → FileTexts → List Def → Type 0
@@ -47,7 +47,7 @@ pub record IsCompiled (options : CodegenOptions) (files : Contents) (names : Lis
   pub read : AreRead files names texts
   pub compiles : CompilesTo options (record { file_names = printed options names; file_texts = texts }) text
 
--- the texts spell definitions without a fault of types or constants, and are not of the language, or a name as printed may
+-- the texts spell definitions without a fault that is told, and are not of the language, or a name as printed may
 -- not be emitted
 abbrev pub IsNotOfIt : List (List ℕ) → List (List ℕ) → Type 0
 IsNotOfIt names texts = AreSpelt texts × ((InLanguage texts → ⊥) ⊎ (are_file_names names ≡ false))

@@ -1,5 +1,6 @@
 -- The errors of definitions, and of the texts that spell them.
 use Rattle.std.specs.Prelude.{◌≡◌, ℕ, List, [], ◌∷◌, All, true, Some}
+use Rattle.isle_sema.specs.Typing.{told_fault}
 use Rattle.isle_core.specs.declared.errors.Error.{Error}
 use Rattle.isle_core.specs.declared.errors.Error.TheVariants as error
 use Rattle.isle_core.specs.declared.position.Pos.{Pos}
@@ -9,7 +10,6 @@ use Rattle.isle_core.specs.declared.files.Files.{Files}
 use Rattle.isle_core.specs.ErrorLines.{IsPlaced}
 use Rattle.isle_core.specs.Rule.{Environment}
 use Rattle.isle_ast.specs.Tree.{Def}
-use Rattle.isle_types.specs.Fault.{type_fault}
 use Rattle.isle_types.specs.Gathered.{TellsTyping}
 use Rattle.isle_checks.specs.CheckList.{IsCheckList}
 use Rattle.isle_codegen.specs.declared.file_error.FileError.{FileError}
@@ -40,13 +40,13 @@ pub record IsParseError (pos : Pos) (errors : List Error) : Type 0 where
   pub begins : span.from ≡ pos
   pub one : errors ≡ error.ParseError words span ∷ []
 
--- the definitions' types or constants have a fault, which the one error tells
+-- the definitions have a fault that is told, which the one error tells
 pub record HasTypeError (defs : List Def) (errors : List Error) : Type 0 where
   pub error : Error
-  pub told : TellsTyping (type_fault defs) (Some error)
+  pub told : TellsTyping (told_fault defs) (Some error)
   pub one : errors ≡ error ∷ []
 
--- why definitions of files with these printed names have these errors: of types or constants; or of rules, where the names may
+-- why definitions of files with these printed names have these errors: of typing; or of rules, where the names may
 -- be emitted
 pub data HaveDefErrors (names : List (List ℕ)) (defs : List Def) (errors : List Error) : Type 0 where
   of_types : HasTypeError defs errors → HaveDefErrors names defs errors

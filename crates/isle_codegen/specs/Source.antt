@@ -4,8 +4,7 @@ use Rattle.isle_core.specs.Rule.{Environment}
 use Rattle.isle_ast.specs.Tree.{Def}
 use Rattle.isle_core.specs.declared.position.Pos.{Pos}
 use Rattle.isle_grammar.specs.Spelling.{Spells, IsTextFault}
-use Rattle.isle_types.specs.Fault.{type_fault}
-use Rattle.isle_sema.specs.Typing.{Typed}
+use Rattle.isle_sema.specs.Typing.{Typed, told_fault}
 use Rattle.isle_checks.specs.CheckList.{IsClean}
 use Rattle.isle_codegen.specs.Names.{are_term_names, has_a_rule}
 use Rattle.isle_items.specs.LawfulNames.{AreLawful}
@@ -16,9 +15,9 @@ abbrev pub Source : ℕ → List (List ℕ) → List Def → Type 0
 Source file [] defs = defs ≡ []
 Source file (text ∷ texts) defs = (ds : List Def) × (es : List Def) × Spells file text ds × Source (file + 1) texts es × (defs ≡ ds ++ es)
 
--- they spell some definitions, whose types and constants have no fault
+-- they spell some definitions, which have no fault that is told
 abbrev pub AreSpelt : List (List ℕ) → Type 0
-AreSpelt texts = (defs : List Def) × Source 0 texts defs × (type_fault defs ≡ None)
+AreSpelt texts = (defs : List Def) × Source 0 texts defs × (told_fault defs ≡ None)
 
 -- of the texts, read as the files from that number on, the first that spells no definitions goes wrong at this place
 pub data GoesWrong : ℕ → List (List ℕ) → Pos → Type 0 where

@@ -2,7 +2,7 @@ ghost use Rattle.std.specs.Prelude.{◌≡◌, ◌⊎◌, List as ListOf, [], �
 ghost use Rattle.isle_core.specs.RuleViews.{environment};
 ghost use Rattle.isle_ast.specs.Tree.{Def as Defs};
 ghost use Rattle.isle_ast.specs.Views.{defs as seen};
-ghost use Rattle.isle_sema.specs.Typing.{TypedOnly, IsUntyped};
+ghost use Rattle.isle_sema.specs.Typing.{TypedOnly, told_fault, IsUntyped};
 ghost use Rattle.isle_rulesets.specs.Grouping.{AreRuleSets};
 ghost use Rattle.isle_simulation.specs.TraitFns.{trait_fns_of};
 ghost use Rattle.isle_codegen.specs.Emission.{IsGiven, ArePlaced, DefsArePlaced};
@@ -113,7 +113,7 @@ fn told_alone(alloc: Global, files: &Files, error: Error) -> CompileError
 
 // Why definitions that have no environment can't be compiled.
 fn untyped(alloc: Global, files: &Files, fail: EnvError) -> CompileError
-    ensures { (defs : ListOf Defs) → DefsArePlaced files.now defs → IsUntyped (SomeCompilable defs) fail defs → IsUncompiled result files.now defs }
+    ensures { (defs : ListOf Defs) → DefsArePlaced files.now defs → IsUntyped (told_fault defs) (SomeCompilable defs) fail → IsUncompiled result files.now defs }
 {
     match fail {
         EnvError::NotYet => CompileError::NotYet,
@@ -122,13 +122,13 @@ fn untyped(alloc: Global, files: &Files, fail: EnvError) -> CompileError
     }
 }
 
-// The environment of the definitions, with the functions of the trait. `Typing` tells a fault of types or constants; `NotYet`
+// The environment of the definitions, with the functions of the trait. `Typing` tells a fault of types, constants or terms; `NotYet`
 // comes exactly where there is none, and they are not of the language that is built, or a name of theirs may not be emitted.
 fn emittable(alloc: Global, defs: &[Def]) -> Result<(TypeEnv, TermEnv, Vec<TraitFn>), EnvError>
     ensures typed { IfOk result (λ e. TypedOnly (seen defs.now) (environment e.0 e.1)) }
     ensures compilable { IfOk result (λ e. IsCompilable (seen defs.now) (environment e.0 e.1)) }
     ensures fns { IfOk result (λ e. e.2.items ≡ trait_fns_of (environment e.0 e.1)) }
-    ensures err { IfErr result (λ e. IsUntyped (SomeCompilable (seen defs.now)) e (seen defs.now)) }
+    ensures err { IfErr result (λ e. IsUntyped (told_fault (seen defs.now)) (SomeCompilable (seen defs.now)) e) }
 {
     let (typeenv, termenv) = match env_from_ast(alloc, defs) {
         Ok(envs) => envs,

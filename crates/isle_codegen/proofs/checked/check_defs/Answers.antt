@@ -3,7 +3,7 @@ use Rattle.isle_core.specs.RuleViews.{environment}
 use Rattle.isle_ast.specs.Views.{defs as seen}
 use Rattle.isle_sema.proofs.BuiltRules.{typed_built, typed_scoped, typed_terms}
 use Rattle.isle_codegen.specs.Names.{are_file_names}
-use Rattle.isle_sema.proofs.TypedParts.{typed_types_sound}
+use Rattle.isle_sema.proofs.TypedParts.{typed_told}
 use Rattle.isle_codegen.proofs.Placed.{terms_placed}
 use Rattle.isle_codegen.proofs.Refusals.{told_errors}
 use Rattle.isle_codegen.proofs.checked.check_defs.Goals as goal
@@ -28,4 +28,4 @@ returns-in-Err-Rules-clause-err c =
 pub returns-then-not-are_file_names-clause-err : goal.returns-then-not-are_file_names-clause-err
 returns-then-not-are_file_names-clause-err c =
     let bad : are_file_names c.args.files.now.file_names ≡ false = search rules in
-    (typed_types_sound c.in-Ok.ensures.typed.typed, inr bad)
+    (typed_told c.in-Ok.ensures.typed.typed, inr bad)

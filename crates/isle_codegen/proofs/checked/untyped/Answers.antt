@@ -1,5 +1,5 @@
 use Rattle.std.proofs.Common.{subst}
-use Rattle.isle_sema.specs.Typing.{IsUntyped}
+use Rattle.isle_sema.specs.Typing.{told_fault, IsUntyped}
 use Rattle.isle_codegen.specs.Source.{SomeCompilable}
 use Rattle.isle_codegen.proofs.Refusals.{typing_told}
 use Rattle.isle_codegen.proofs.checked.untyped.Goals as goal
@@ -7,4 +7,4 @@ use Rattle.isle_codegen.proofs.checked.untyped.Goals as goal
 pub returns-in-Typing : goal.returns-in-Typing
 returns-in-Typing c =
     λ defs placed h.
-    typing_told c.told_alone.result c.args.files.now defs c.in-Typing.error c.told_alone.ensures placed (subst (λ e. IsUntyped (SomeCompilable defs) e defs) c.in-Typing.is h)
+    typing_told c.told_alone.result c.args.files.now defs c.in-Typing.error c.told_alone.ensures placed (subst (λ e. IsUntyped (told_fault defs) (SomeCompilable defs) e) c.in-Typing.is h)
