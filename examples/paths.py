@@ -15,10 +15,11 @@ def is_name(form):
 
 
 class Rules:
-    """The declarations and rules of one file."""
+    """The declarations, templates and rules of one file."""
 
     def __init__(self, source):
         self.terms, self.made, self.pure, self.constants, self.converters, self.rules = {}, set(), set(), {}, {}, []
+        self.templates = {}
         for form in lists((HERE / source).read_text()):
             self.note(form)
 
@@ -31,6 +32,8 @@ class Rules:
                 self.pure.add(form[name])
         elif form[:2] == ["extern", "const"]:
             self.constants[form[2]] = form[3]
+        elif form[0] == "extractor":
+            self.templates[form[1][0]] = form[1][1:], next(parted(form[2:]))
         elif form[0] == "convert":
             self.converters[form[1], form[2]] = form[3]
         elif form[0] == "type":
@@ -71,23 +74,35 @@ class Paths:
         self.asked.add((term, *paths))
         return term, *paths
 
-    def match(self, pattern, ty, path):
-        """Goes through a pattern of a type at a path."""
+    def bind(self, name, ty, path, given):
+        """Binds a variable; or a parameter of a template stands there, and what is given for it is matched."""
+        if given is None:
+            self.names.setdefault(name, (path, ty))
+        else:
+            arguments, outer = given
+            self.match(arguments[name], ty, path, outer)
+
+    def match(self, pattern, ty, path, given=None):
+        """Goes through a pattern of a type at a path; in a template parameters are given, with what was given where it is used."""
         names, form = pattern
         for name in [*names, form] if is_name(form) else names:
-            self.names.setdefault(name, (path, ty))
+            self.bind(name, ty, path, given)
         if isinstance(form, str):
             return
         if form[0] == "and":
             for part in parted(form[1:]):
-                self.match(part, ty, path)
+                self.match(part, ty, path, given)
             return
         fields, own = self.rules.terms[form[0]]
         if own != ty:
             path = self.ask(self.rules.converters[own, ty], path), 0
+        if form[0] in self.rules.templates:
+            params, template = self.rules.templates[form[0]]
+            self.match(template, own, path, (dict(zip(params, parted(form[1:]))), given))
+            return
         whole = (form[0], path) if form[0] in self.rules.made else self.ask(form[0], path)
         for place, (field, part) in enumerate(zip(fields, parted(form[1:]))):
-            self.match(part, field, (whole, place))
+            self.match(part, field, (whole, place), given)
 
     def value(self, form, wanted):
         """The path and the type of an expression's value, where a type is wanted that one."""
