@@ -1,6 +1,6 @@
 //! Patterns copied.
 
-ghost use Rattle.std.specs.Prelude.{◌≡◌, IfOk, map};
+ghost use Rattle.std.specs.Prelude.{◌≡◌, IfOk, map, option_map, option_and_then, slice_get};
 ghost use Rattle.isle_core.specs.RuleViews.{pattern as elaborated};
 
 use isle_core::{Boxed, List, Pattern};
@@ -40,4 +40,18 @@ fn all_copied(alloc: Global, parts: &[Pattern]) -> Result<Vec<Pattern>, AllocErr
         found.push(copied(alloc, p)?)?;
     }
     Ok(found)
+}
+
+/// A copy of the pattern at a place, where there is one. The only error is want of memory.
+pub fn copied_at(
+    alloc: Global,
+    patterns: &[Option<Pattern>],
+    place: usize,
+) -> Result<Option<Pattern>, AllocError>
+    ensures { IfOk result (λ found. option_map elaborated found ≡ option_and_then (λ p. p) (slice_get (map (option_map elaborated) patterns.now) place)) }
+{
+    match patterns.get(place) {
+        Some(Some(p)) => Ok(Some(copied(alloc, p)?)),
+        Some(None) | None => Ok(None),
+    }
 }

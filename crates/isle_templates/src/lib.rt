@@ -19,6 +19,6 @@ mod templates;
 mod uses;
 mod variables;
 
-pub use copies::copied;
+pub use copies::copied_at;
 pub use rules::elaborated;
 pub use templates::{Templates, whole_templates};

@@ -1,3 +1,4 @@
 pub mod VariableLaws
 pub mod ScopeLaws
 pub mod LocalLaws
+pub mod NamesIn

@@ -6,5 +6,5 @@ mod new_variables;
 mod variables;
 
 pub use locals::Locals;
-pub use new_variables::{names_in, new_count};
+pub use new_variables::{misses_variable, new_count};
 pub use variables::{Variables, is_blank};

@@ -1,8 +1,9 @@
 //! The variables that a pattern binds first.
 
-ghost use Rattle.std.specs.Prelude.{◌≡◌, [], IfOk, OnOk, fold, map};
+ghost use Rattle.std.specs.Prelude.{◌≡◌, List, IfOk, OnOk, fold, map, is_some, not};
+ghost use Rattle.std.specs.List.{list_any};
 ghost use Rattle.isle_ast.specs.Views.{pattern, patterns_of};
-ghost use Rattle.isle_variables.specs.Scope.{no_variables};
+ghost use Rattle.isle_declarations.specs.Symbols.{index_of};
 ghost use Rattle.isle_variables.specs.NewVariables.{variable_of, variables_in, all_variables_in, joined, new_count};
 
 use crate::variables::{Variables, is_blank};
@@ -74,14 +75,30 @@ fn join_patterns<'d>(
     Ok(())
 }
 
-/// Returns the names of the variables that stand in a pattern. The only error is want of memory.
-pub fn names_in<'d>(alloc: Global, p: &'d AstPattern) -> Result<Symbols<'d>, AllocError>
-    ensures { IfOk result (λ names. names ≡ fold (joined no_variables) [] (variables_in (pattern p.now))) }
+// Whether one of these names is not among those.
+fn misses_one(names: &Symbols, wanted: &[Text]) -> bool
+    ensures { result ≡ list_any (λ (name : List _). not (is_some (index_of names.now name))) wanted.now }
+{
+    for name in wanted {
+        if names.find(name.as_str()).is_none() {
+            return true;
+        }
+    }
+    false
+}
+
+/// Tells whether one of these variables does not stand in a pattern. The only error is want of memory.
+pub fn misses_variable(
+    alloc: Global,
+    wanted: &[Text],
+    p: &AstPattern,
+) -> Result<bool, AllocError>
+    ensures { IfOk result (λ misses. misses ≡ list_any (λ (name : List _). not (is_some (index_of (variables_in (pattern p.now)) name))) wanted.now) }
 {
     let vars = Variables::new(alloc);
     let mut names = Symbols::new(alloc);
     join_pattern(&vars, &mut names, p)?;
-    Ok(names)
+    Ok(misses_one(&names, wanted))
 }
 
 /// Returns how many variables a pattern binds first behind these. The only error is want of memory.

@@ -1,9 +1,9 @@
 //! The variables that patterns bind, with the types that they are bound at.
 
 ghost use Rattle.std.specs.Prelude.{◌≡◌, IfOk, OnOk, option_map};
-ghost use Rattle.isle_variables.specs.Scope.{is_blank, no_variables, found_in, bound_at, met, behind};
+ghost use Rattle.isle_variables.specs.Scope.{is_blank, no_variables, found_in, bound_at, met, behind, variable};
 
-use isle_core::{Text, TypeId};
+use isle_core::{Text, TypeId, VarId};
 use isle_declarations::Symbols;
 use std::alloc::{AllocError, Global};
 use std::marker::Model;
@@ -64,6 +64,16 @@ impl<'d> Variables<'d> {
         let place = self.names.find(name.as_str())?;
         let found = self.bound.get(place)?;
         Some(*found)
+    }
+
+    /// Returns the type and the number of a variable, where it is bound at a type that is known.
+    pub fn typed(&self, name: &Text) -> Option<(TypeId, VarId)>
+        ensures { result ≡ variable self.now name.now }
+    {
+        match self.find(name)? {
+            (Some(ty), number) => Some((ty, VarId(number))),
+            (None, _) => None,
+        }
     }
 
     /// Meets a variable of a pattern, which is bound at this type where it is met first, with the next number; returns the

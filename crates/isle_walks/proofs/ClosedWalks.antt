@@ -14,7 +14,7 @@ or_true true = refl
 or_true false = refl
 
 -- an answer that one of the items gives
-any_true : (p : ℕ → Bool) (xs : List ℕ) (x : ℕ) → Contains xs x → p x ≡ true → list_any p xs ≡ true
+pub any_true : (p : ℕ → Bool) (xs : List ℕ) (x : ℕ) → Contains xs x → p x ≡ true → list_any p xs ≡ true
 any_true p xs x c e = list_any_at p xs c.0 x c.1 (ap p c.2 ∙ e)
 
 -- a node reaches what stands on a way from it
@@ -27,7 +27,7 @@ reaches_on_way graph from (next ∷ rest) to way c =
     (contained_cases next rest to c)
 
 -- more steps reach as much
-reaches_more : (graph : List (List ℕ)) (steps more from to : ℕ) → steps ≤ more → reaches graph steps from to ≡ true → reaches graph more from to ≡ true
+pub reaches_more : (graph : List (List ℕ)) (steps more from to : ℕ) → steps ≤ more → reaches graph steps from to ≡ true → reaches graph more from to ≡ true
 reaches_more graph zero more from to le e = absurd (true≢false (sym e))
 reaches_more graph (suc steps) zero from to le e = absurd (omega arith)
 reaches_more graph (suc steps) (suc more) from to le e =
@@ -43,7 +43,7 @@ reaches_more graph (suc steps) (suc more) from to le e =
 closed_way : (graph : List (List ℕ)) (node : ℕ) (nodes : List ℕ) → IsWayFrom graph node nodes → length nodes ≤ length graph → Contains nodes node → on_closed_walk graph node ≡ true
 closed_way graph node nodes way le c = reaches_more graph (length nodes) (length graph) node node le (reaches_on_way graph node nodes node way c)
 
-none_equal : (x : ℕ) (xs : List ℕ) → list_any (eqb x) xs ≡ false → AllByRecursion (λ y. eqb x y ≡ false) xs
+pub none_equal : (x : ℕ) (xs : List ℕ) → list_any (eqb x) xs ≡ false → AllByRecursion (λ y. eqb x y ≡ false) xs
 none_equal x [] e = tt
 none_equal x (y ∷ ys) e = both (eqb x y) (list_any (eqb x) ys) (none_equal x ys) e
   where

@@ -1,6 +1,15 @@
+pub mod ClosedParts
 pub mod ClosedWalks
+pub mod EnterStep
+pub mod FinishStep
+pub mod LookStep
+pub mod MarkedNodes
 pub mod NextNodes
 pub mod NoneClosed
 pub mod Orders
 pub mod Paths
+pub mod Reaching
+pub mod RisingParts
 pub mod Steps
+pub mod WholeSearch
+pub mod WorkLeft

@@ -11,7 +11,7 @@ use Rattle.isle_walks.specs.Walks.{next_of, nodes_or_none, reaches, on_closed_wa
 use Rattle.isle_walks.specs.Sound.{has}
 use Rattle.isle_walks.proofs.ClosedWalks.{or_true}
 
-either_true : (a b : Bool) → (a || b) ≡ true → (a ≡ true) ⊎ (b ≡ true)
+pub either_true : (a b : Bool) → (a || b) ≡ true → (a ≡ true) ⊎ (b ≡ true)
 either_true true b e = inl refl
 either_true false b e = inr e
 
@@ -54,7 +54,7 @@ nowhere : (graph : List (List ℕ)) (steps node to : ℕ) → length graph ≤ n
 nowhere graph zero node to past = refl
 nowhere graph (suc steps) node to past = ap (λ nodes. list_any (λ n. (n == to) || reaches graph steps n to) (nodes_or_none nodes)) (slice_get_past graph node past)
 
-not_true : (b : Bool) → (b ≡ true → ⊥) → b ≡ false
+pub not_true : (b : Bool) → (b ≡ true → ⊥) → b ≡ false
 not_true true never = absurd (never refl)
 not_true false never = refl
 

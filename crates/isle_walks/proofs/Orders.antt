@@ -42,7 +42,7 @@ ordered_more graph before (first ∷ rest) node ordered leads = (
       (leads next c)),
 )
 
-same_everywhere : {A : Type 0} (n : ℕ) (x : A) (place : ℕ) → slice_index_or (replicate n x) place x ≡ x
+pub same_everywhere : {A : Type 0} (n : ℕ) (x : A) (place : ℕ) → slice_index_or (replicate n x) place x ≡ x
 same_everywhere n x place = ⊎_elim (λ lt. get_or-replicate n place x x lt)
     (λ le. get_or_past (replicate n x) place x (let long = length-replicate n x in omega arith))
     (cases_lt place n)

@@ -1,3 +1,4 @@
+pub mod Parts
 pub mod Sound
 pub mod Walks
 pub mod Ways

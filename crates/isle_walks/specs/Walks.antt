@@ -46,3 +46,8 @@ pub record IsOrder (graph : List (List ℕ)) (order : List ℕ) : Type 0 where
 abbrev pub IsOrderFound : List (List ℕ) → Option (Vec ℕ) → Type 0
 IsOrderFound graph None = (node : ℕ) × (on_closed_walk graph node ≡ true)
 IsOrderFound graph (Some order) = IsOrder graph order.items
+
+-- each node of a graph is told whether it is on a closed walk
+pub record AreClosedTold (graph : List (List ℕ)) (closed : List Bool) : Type 0 where
+  pub many : length closed ≡ length graph
+  pub told : (node : ℕ) → node < length graph → slice_get closed node ≡ Some (on_closed_walk graph node)

@@ -2,5 +2,7 @@
 #![tactic(auto)]
 
 mod depth_first;
+mod parts;
 
 pub use depth_first::order;
+pub use parts::closed_walks;
