@@ -88,11 +88,7 @@ fn misses_one(names: &Symbols, wanted: &[Text]) -> bool
 }
 
 /// Tells whether one of these variables does not stand in a pattern. The only error is want of memory.
-pub fn misses_variable(
-    alloc: Global,
-    wanted: &[Text],
-    p: &AstPattern,
-) -> Result<bool, AllocError>
+pub fn misses_variable(alloc: Global, wanted: &[Text], p: &AstPattern) -> Result<bool, AllocError>
     ensures { IfOk result (λ misses. misses ≡ list_any (λ (name : List _). not (is_some (index_of (variables_in (pattern p.now)) name))) wanted.now) }
 {
     let vars = Variables::new(alloc);
