@@ -22,7 +22,7 @@ use Rattle.isle_codegen.specs.Headline.{HasHeadline}
 abbrev pub printed : CodegenOptions → List (List ℕ) → List (List ℕ)
 printed options names = map (shown options.prefixes) names
 
--- the definitions have no fault that is told, and they are not built, have another fault, or a name of theirs or of a file may not
+-- the definitions have no fault that is told, and they are not of the language that is built, or a name of theirs or of a file may not
 -- be emitted
 abbrev pub AreNotCompilable : FileTexts → List Def → Type 0
 AreNotCompilable files defs = (told_fault defs ≡ None) × ((SomeCompilable defs → ⊥) ⊎ (are_file_names files.file_names ≡ false))
