@@ -17,7 +17,8 @@ use Rattle.isle_terms.specs.TermPass.{tree_before}
 use Rattle.isle_terms.specs.Whole.{Whole}
 use Rattle.isle_sema.specs.declared.judged.Judged.{Judged}
 use Rattle.isle_sema.specs.ElaboratedAt.{condition_tree, IsPatternAt, IsExprAt, IsExprOver, IsConditionAt}
-use Rattle.isle_sema.specs.ExprPass.{ExprPass, expr_type, expr_pass}
+use Rattle.isle_sema.specs.ExprPass.{ExprPass, expr_pass}
+use Rattle.isle_sema.specs.ExprType.{own_type}
 use Rattle.isle_sema.specs.Judging.{judge, judge_all}
 use Rattle.isle_variables.specs.Locals.{Bound, of_patterns, locals_of}
 use Rattle.isle_variables.specs.NewVariables.{new_count}
@@ -38,11 +39,10 @@ expr_is_over w expected e scope next after old new before_it after_it found is s
 
 -- a condition's expression, and then its pattern
 pub condition_is : (w : Whole) (c : IfLet) (old mid new : Scope) (next : ℕ) (first between last : Judged) (ty : Option TypeId) (rhs : Option CodeExpr × ℕ) (lhs : Option CodePattern) (found : Option CodeIfLet) → next ≡ old.next + new_count old c.lhs → IsExprOver w None c.rhs old next first between rhs
-    → ty ≡ option_map expr_type (option_map elaborated_expr rhs.0) → IsPatternAt w ty c.lhs old mid between last lhs → new ≡ behind mid rhs.1 → condition_tree found ≡ iflet_tree (option_map elaborated_pattern lhs) (option_map elaborated_expr rhs.0) → IsConditionAt w c old new first last found
+    → ty ≡ own_type w (of_patterns old) c.rhs → IsPatternAt w ty c.lhs old mid between last lhs → new ≡ behind mid rhs.1 → condition_tree found ≡ iflet_tree (option_map elaborated_pattern lhs) (option_map elaborated_expr rhs.0) → IsConditionAt w c old new first last found
 condition_is w c old mid new next first between last ty rhs lhs found starts e typed p leaves made =
     let right : expr_pass w (of_patterns old) next None c.rhs ≡ condition_expr w old c = ap (λ n. expr_pass w (of_patterns old) n None c.rhs) starts in
-    let expected : ty ≡ option_map expr_type (condition_expr w old c).tree = typed ∙ ap (option_map expr_type) (e.tree ∙ ap (λ (x : ExprPass). x.tree) right) in
-    let left : pattern_pass w ty old c.lhs ≡ condition_pattern w old c = ap (λ o. pattern_pass w o old c.lhs) expected in
+    let left : pattern_pass w ty old c.lhs ≡ condition_pattern w old c = ap (λ o. pattern_pass w o old c.lhs) typed in
     record {
       tree = made ∙ ap (λ o. iflet_tree o (option_map elaborated_expr rhs.0)) (p.tree ∙ ap (λ (x : PatternPass). x.tree) left) ∙ ap (iflet_tree (condition_pattern w old c).tree) (e.tree ∙ ap (λ (x : ExprPass). x.tree) right);
       scope = leaves ∙ ap (λ (s : Scope). behind s rhs.1) (p.scope ∙ ap (λ (x : PatternPass). x.scope) left) ∙ ap (behind (condition_pattern w old c).scope) (e.next ∙ ap (λ (x : ExprPass). x.next) right);

@@ -116,7 +116,7 @@ fits_declared defs of ty c k = by (signature_named (signatures defs) c.term) ref
         let q = or_parts (repeats_after defs k.done (types_of defs c)) (not (fits c s)) p.1 in
         (s, e, not-false (fits c s) q.1)
 
-not_same : {X : Type 0} (b : Bool) (o : Option X) (x : X) → cond b None o ≡ Some x → o ≡ Some x
+pub not_same : {X : Type 0} (b : Bool) (o : Option X) (x : X) → cond b None o ≡ Some x → o ≡ Some x
 not_same true o x h = absurd cc
 not_same false o x h = h
 

@@ -9,15 +9,18 @@ use Rattle.isle_core.specs.declared.types.Term.{Term}
 use Rattle.isle_core.specs.declared.types.TypeEnv.{TypeEnv}
 use Rattle.isle_declarations.specs.DeclaredTypes.{Constant, constants}
 use Rattle.isle_declarations.specs.Symbols.{index_of}
-use Rattle.isle_declarations.specs.Signatures.{Signature, ExtractorDef, externs, extractors, rule_defs, term_named, func_named, extractor_named, has_rule}
+use Rattle.isle_declarations.specs.Signatures.{Signature, Extracting, ByFunction, ByTemplate, ExtractorDef, externs, extractors, rule_defs, term_named, func_named, extractor_named, has_rule}
 use Rattle.isle_declarations.specs.Terms.{terms as all_terms, is_made}
 use Rattle.isle_declarations.specs.Heads.{terms_of, extern_terms, extractor_terms, heads_of}
+use Rattle.isle_declarations.specs.declared.collected.KnownExtractor.{KnownExtractor}
+use Rattle.isle_declarations.specs.declared.collected.KnownExtractor.TheVariants as known
+use Rattle.isle_declarations.specs.Tables.{extractor_known}
 use Rattle.isle_declarations.proofs.LookUps.{at_place, named_at, named_is}
 use Rattle.isle_declarations.proofs.NumberLaws.{has_func, has_head}
 use Rattle.isle_sema.specs.declared.known.Called.{Called}
 use Rattle.isle_terms.specs.Whole.{Whole, termed, constant_type}
 use Rattle.isle_terms.specs.TermPass.{term_pass, terms_pass}
-use Rattle.isle_sema.specs.Known.{MayBeCalled}
+use Rattle.isle_sema.specs.Known.{is_template, is_templated, MayBeCalled}
 use Rattle.isle_terms.proofs.MadeTerms.{first_there, term_made, term_is, types_are}
 
 -- there are as many terms as signatures
@@ -56,11 +59,26 @@ has_extractor : (xs : List ExtractorDef) (name : List ℕ) → is_some (extracto
 has_extractor [] name = refl
 has_extractor (x ∷ xs) name = named_later x (bytes_eq x.term name) (extractor_named xs name) (index_of (extractor_terms xs) name) (has_extractor xs name)
 
+-- what is known of an extractor tells that it takes values apart by a template
+abbrev pub tells_template : Option KnownExtractor → Bool
+tells_template None = false
+tells_template (Some (known.Function number infallible)) = false
+tells_template (Some known.Template) = true
+
+pub template_told : (syms : List (List ℕ)) (o : Option ExtractorDef) → tells_template (option_map (extractor_known syms) o) ≡ is_templated o
+template_told syms None = refl
+template_told syms (Some x) = by x.by
+  where
+    by : (how : Extracting) → tells_template (option_map (extractor_known syms) (Some (record { term = x.term; by = how; pos = x.pos }))) ≡ is_template how
+    by (ByFunction func infallible) = refl
+    by (ByTemplate t) = refl
+
 -- the term of a name
 pub known_at : (w : Whole) (terms : List Term) (name : List ℕ) (place : ℕ) (t : Term) (s : Signature) (c : Called) → terms_pass w (all_terms w.defs) ≡ Some terms → index_of (terms_of (all_terms w.defs)) name ≡ Some place
     → slice_get terms place ≡ Some t → slice_get (all_terms w.defs) place ≡ Some s → c.term ≡ record { 0 = place } → c.args.now ≡ t.arg_tys → c.ret ≡ t.ret_ty → s.pure ≡ c.pure → s.multi ≡ c.multi → s.partial ≡ c.partial → is_made s.origin ≡ c.made
-    → c.external ≡ is_some (index_of (extern_terms (externs w.defs)) name) → c.extracting ≡ is_some (index_of (extractor_terms (extractors w.defs)) name) → c.ruled ≡ is_some (index_of (heads_of (rule_defs w.defs)) name) → MayBeCalled w (termed w name) (Some c)
-known_at w terms name place t s c made at term given id args ret pure multi partial by_type is_external is_extracting is_ruled =
+    → c.external ≡ is_some (index_of (extern_terms (externs w.defs)) name) → c.extracting ≡ is_some (index_of (extractor_terms (extractors w.defs)) name) → c.templated ≡ is_templated (extractor_named (extractors w.defs) name)
+    → c.ruled ≡ is_some (index_of (heads_of (rule_defs w.defs)) name) → MayBeCalled w (termed w name) (Some c)
+known_at w terms name place t s c made at term given id args ret pure multi partial by_type is_external is_extracting by_template is_ruled =
     let is : termed w name ≡ Some s = named_at (all_terms w.defs) name ∙ ap (at_place (all_terms w.defs)) at ∙ given in
     let named : s.term ≡ name = named_is (all_terms w.defs) name s is in
     let m = term_made w (all_terms w.defs) terms place s made given in
@@ -77,6 +95,7 @@ known_at w terms name place t s c made at term given id args ret pure multi part
       made = by_type;
       external = ap (λ n. is_some (func_named (externs w.defs) n)) named ∙ has_func (externs w.defs) name ∙ sym is_external;
       extracting = ap (λ n. is_some (extractor_named (extractors w.defs) n)) named ∙ has_extractor (extractors w.defs) name ∙ sym is_extracting;
+      templated = ap (λ n. is_templated (extractor_named (extractors w.defs) n)) named ∙ sym by_template;
       ruled = ap (has_rule (rule_defs w.defs)) named ∙ sym (has_head (rule_defs w.defs) name) ∙ sym is_ruled;
     })
 

@@ -56,7 +56,7 @@ own_part w allowed ty (Some of) e x first rest is k h kept =
     (ap (λ by. expr_within w by e) none ∙ h, subst (λ by. AreKept w allowed (called_by by (Some ty) ++ first (within by (Some of) (Some ty)) ∷ rest)) (sym none) (k kept))
 
 -- what stands within no converter
-unconverted : (w : Whole) (of : Option TypeId) (e : Option CoreExpr) (x : CoreExpr) → expr_within w (conversion w of None) e ≡ Some x → e ≡ Some x
+pub unconverted : (w : Whole) (of : Option TypeId) (e : Option CoreExpr) (x : CoreExpr) → expr_within w (conversion w of None) e ≡ Some x → e ≡ Some x
 unconverted w of e x h = sym (ap (λ by. expr_within w by e) (no_conversion w of)) ∙ h
 
 -- ---- parts at their own types

@@ -5,7 +5,7 @@ use Rattle.std.specs.List.{list_any}
 use Rattle.std.proofs.lemmas.List.{length-map}
 use Rattle.std.proofs.lemmas.List.Sums.{fold-append}
 use Rattle.isle_core.specs.declared.rules.Expr.{Expr as CodeExpr}
-use Rattle.isle_core.specs.RuleViews.{expr as elaborated_expr, rule as elaborated_rule}
+use Rattle.isle_core.specs.RuleViews.{expr as elaborated_expr}
 use Rattle.std.proofs.lemmas.Bool.{or_parts, or_from, leb-true, le-leb}
 use Rattle.isle_core.specs.declared.TermId.{TermId}
 use Rattle.isle_core.specs.declared.TypeId.{TypeId}
@@ -23,11 +23,13 @@ use Rattle.isle_types.specs.Fault.{or_later}
 use Rattle.isle_types.specs.TypeRows.{on}
 use Rattle.isle_variables.specs.Locals.{of_patterns}
 use Rattle.isle_variables.specs.Scope.{Scope, no_variables}
-use Rattle.isle_terms.specs.Whole.{Whole, termed, arg_types, ret_type}
+use Rattle.isle_terms.specs.Whole.{Whole, arg_types, ret_type}
 use Rattle.isle_sema.specs.PatternPass.{PatternsPass, patterns_pass}
 use Rattle.isle_sema.specs.ExprPass.{ExprPass, expr_pass}
 use Rattle.isle_sema.specs.RulePass.{ConditionsPass, patterns_of, conditions_pass, conditions_of, right_side_of, left_of, rule_from, written_pass, rule_pass, rules_pass}
 use Rattle.isle_sema.specs.RuleRows.{is_large}
+use Rattle.isle_sema.specs.RulesFound.{found_rule, IsRuleFound, rules_fault}
+use Rattle.isle_sema.specs.declared.elaborated_rules.Found.TheVariants.{Unbuilt}
 use Rattle.isle_sema.specs.Templates.{templates}
 use Rattle.isle_core.specs.declared.rules.Rule.{Rule as CodeRule}
 use Rattle.isle_templates.specs.Elaborated.{rule_expanded, elaborated}
@@ -93,6 +95,22 @@ none_fault w before (tree.ExternConst name ty pos ∷ ds) h = none_fault w (befo
 none_fault w before (tree.Extractor term params template pos ∷ ds) h = none_fault w (before ++ tree.Extractor term params template pos ∷ []) ds h
 none_fault w before (tree.Converter from to term pos ∷ ds) h = none_fault w (before ++ tree.Converter from to term pos ∷ []) ds h
 none_fault w before (tree.Passed head items pos ∷ ds) h = none_fault w (before ++ tree.Passed head items pos ∷ []) ds h
+
+-- the fault of the stage is the first of its rules
+pub rules_fault_is : (w : Whole) (before ds : List Def) → fault_after OfRules w before ds ≡ rules_fault w (rule_defs ds)
+rules_fault_is w before [] = refl
+rules_fault_is w before (tree.Rule name prio term args iflets rhs pos ∷ ds) =
+    let d = tree.Rule name prio term args iflets rhs pos in
+    let r : RuleDef = record { name = name; prio = prio; term = term; args = args; iflets = iflets; rhs = rhs; pos = pos } in
+    ap (or_later (option_map (λ (row : Row). (row, pos)) (row_of w r))) (rules_fault_is w (before ++ d ∷ []) ds)
+rules_fault_is w before (tree.Decl term pure multi partial recursive args ret pos ∷ ds) = rules_fault_is w (before ++ tree.Decl term pure multi partial recursive args ret pos ∷ []) ds
+rules_fault_is w before (tree.ExternConstructor term func pos ∷ ds) = rules_fault_is w (before ++ tree.ExternConstructor term func pos ∷ []) ds
+rules_fault_is w before (tree.TypeDecl name is_extern is_nodebug body pos ∷ ds) = rules_fault_is w (before ++ tree.TypeDecl name is_extern is_nodebug body pos ∷ []) ds
+rules_fault_is w before (tree.ExternExtractor term func infallible pos ∷ ds) = rules_fault_is w (before ++ tree.ExternExtractor term func infallible pos ∷ []) ds
+rules_fault_is w before (tree.ExternConst name ty pos ∷ ds) = rules_fault_is w (before ++ tree.ExternConst name ty pos ∷ []) ds
+rules_fault_is w before (tree.Extractor term params template pos ∷ ds) = rules_fault_is w (before ++ tree.Extractor term params template pos ∷ []) ds
+rules_fault_is w before (tree.Converter from to term pos ∷ ds) = rules_fault_is w (before ++ tree.Converter from to term pos ∷ []) ds
+rules_fault_is w before (tree.Passed head items pos ∷ ds) = rules_fault_is w (before ++ tree.Passed head items pos ∷ []) ds
 
 -- ---- what the code knows of a rule
 
@@ -163,63 +181,51 @@ ruled_is w r sides ruled p h = h ∙ ap (λ (j : Judged). j.ruled || sides.right
 pub with_ruled : (w : Whole) (i : ℕ) (r : RuleDef) → uses_ruled w r ≡ true → None ≡ taken_rule w i r
 with_ruled w i r h = refused w i r (or_true (is_broken w r) (uses_ruled w r) h)
 
-later_some : (o rest : Option Row) → is_some o ≡ true → is_some (or_later o rest) ≡ true
-later_some None rest h = absurd cc
-later_some (Some r) rest h = refl
-
 -- what the code finds is a row that the rule breaks, before that of its nodes
-lowest_found : (w : Whole) (r : RuleDef) (own : Called) (sides : Sides) (found : Option Row) (count : ℕ) → IsHead w r.term own → AreSides w r sides → count ≡ length r.args → found ≡ lowest own count sides.left sides.right → or_later found (cond (is_large w r) (Some row.ManyNodes) None) ≡ row_of w r
+pub lowest_found : (w : Whole) (r : RuleDef) (own : Called) (sides : Sides) (found : Option Row) (count : ℕ) → IsHead w r.term own → AreSides w r sides → count ≡ length r.args → found ≡ lowest own count sides.left sides.right → or_later found (cond (is_large w r) (Some row.ManyNodes) None) ≡ row_of w r
 lowest_found w r own sides found count h p as_many f =
     ap (λ o. or_later o (cond (is_large w r) (Some row.ManyNodes) None)) (f ∙ ap (λ n. lowest own n sides.left sides.right) as_many ∙ ap (λ (j : Judged). lowest own (length r.args) j sides.right) p.left
     ∙ ap (λ (j : Judged). lowest own (length r.args) (judge_all w unjudged (left_of w r)) j) p.right)
     ∙ lowest_is w r h.signature own h.there h.called
 
--- so the rule breaks one where the code finds one
-pub row_found : (w : Whole) (r : RuleDef) (own : Called) (sides : Sides) (found : Option Row) (count : ℕ) → IsHead w r.term own → AreSides w r sides → count ≡ length r.args → found ≡ lowest own count sides.left sides.right → is_some found ≡ true → is_some (row_of w r) ≡ true
-row_found w r own sides found count h p as_many f some = ap is_some (sym (lowest_found w r own sides found count h p as_many f)) ∙ later_some found (cond (is_large w r) (Some row.ManyNodes) None) some
-
--- where it finds none, the rule breaks one by its nodes alone
-pub row_none : (w : Whole) (r : RuleDef) (own : Called) (sides : Sides) (found : Option Row) (count : ℕ) → IsHead w r.term own → AreSides w r sides → count ≡ length r.args → found ≡ lowest own count sides.left sides.right → is_some found ≡ false → is_some (row_of w r) ≡ is_large w r
-row_none w r own sides found count h p as_many f none = ap is_some (sym (lowest_found w r own sides found count h p as_many f)) ∙ by found none (is_large w r)
-  where
-    by : (o : Option Row) → is_some o ≡ false → (large : Bool) → is_some (or_later o (cond large (Some row.ManyNodes) None)) ≡ large
-    by None e true = refl
-    by None e false = refl
-    by (Some x) e large = absurd cc
-
--- a rule that breaks a row
-pub with_row : (w : Whole) (i : ℕ) (r : RuleDef) → is_some (row_of w r) ≡ true → None ≡ taken_rule w i r
-with_row w i r h = refused w i r (ap (λ b. b || uses_ruled w r) h)
-
 -- the tree of a rule of these parts
 abbrev made : Whole → ℕ → RuleDef → Option TermId → Option (List CorePattern) → Option (List CoreIfLet) → Option CoreExpr → Option CoreRule
 made w i r term trees cs e = option_and_then (λ (term : TermId). option_and_then (λ (args : List CorePattern). option_and_then (λ (iflets : List CoreIfLet). option_map (rule_from w i r term args iflets) e) cs) trees) term
 
+-- a rule that has no tree breaks no row by its nodes
+untreed_row : (w : Whole) (r : RuleDef) → or_later None (cond (is_large w r) (Some row.ManyNodes) None) ≡ row_of w r → written_pass w 0 r ≡ None → row_of w r ≡ None
+untreed_row w r lowest none = sym lowest ∙ ap (λ b. cond b (Some row.ManyNodes) None) (ap (λ o. on o (λ (x : CoreRule). not (nat_le (rule_nodes (rule_expanded (whole_templates (templates w)) x)) 4096))) none)
+
+-- so it is not taken
+not_treed : (w : Whole) (i : ℕ) (r : RuleDef) → or_later None (cond (is_large w r) (Some row.ManyNodes) None) ≡ row_of w r → ((n : ℕ) → written_pass w n r ≡ None) → IsRuleFound w i r Unbuilt
+not_treed w i r row none = (untreed_row w r row (none 0), untreed w i r (none i))
+
 -- a rule without trees
-pub without_trees : (w : Whole) (i : ℕ) (r : RuleDef) → (patterns_of w r).trees ≡ None → None ≡ taken_rule w i r
-without_trees w i r h = untreed w i r (ap (λ o. made w i r (term_named (terms w.defs) r.term) o (conditions_of w r).trees (right_side_of w r).tree) h ∙ by (term_named (terms w.defs) r.term))
+pub without_trees : (w : Whole) (i : ℕ) (r : RuleDef) → or_later None (cond (is_large w r) (Some row.ManyNodes) None) ≡ row_of w r → (patterns_of w r).trees ≡ None → IsRuleFound w i r Unbuilt
+without_trees w i r row h = not_treed w i r row (λ n. ap (λ o. made w n r (term_named (terms w.defs) r.term) o (conditions_of w r).trees (right_side_of w r).tree) h ∙ by n (term_named (terms w.defs) r.term))
   where
-    by : (o : Option TermId) → made w i r o None (conditions_of w r).trees (right_side_of w r).tree ≡ None
-    by None = refl
-    by (Some term) = refl
+    by : (n : ℕ) (o : Option TermId) → made w n r o None (conditions_of w r).trees (right_side_of w r).tree ≡ None
+    by n None = refl
+    by n (Some term) = refl
 
 -- a rule whose conditions have none
-pub without_conditions : (w : Whole) (i : ℕ) (r : RuleDef) → (conditions_of w r).trees ≡ None → None ≡ taken_rule w i r
-without_conditions w i r h = untreed w i r (ap (λ o. made w i r (term_named (terms w.defs) r.term) (patterns_of w r).trees o (right_side_of w r).tree) h ∙ by (term_named (terms w.defs) r.term) (patterns_of w r).trees)
+pub without_conditions : (w : Whole) (i : ℕ) (r : RuleDef) → or_later None (cond (is_large w r) (Some row.ManyNodes) None) ≡ row_of w r → (conditions_of w r).trees ≡ None → IsRuleFound w i r Unbuilt
+without_conditions w i r row h = not_treed w i r row (λ n. ap (λ o. made w n r (term_named (terms w.defs) r.term) (patterns_of w r).trees o (right_side_of w r).tree) h ∙ by n (term_named (terms w.defs) r.term) (patterns_of w r).trees)
   where
-    by : (o : Option TermId) (trees : Option (List CorePattern)) → made w i r o trees None (right_side_of w r).tree ≡ None
-    by None trees = refl
-    by (Some term) None = refl
-    by (Some term) (Some args) = refl
+    by : (n : ℕ) (o : Option TermId) (trees : Option (List CorePattern)) → made w n r o trees None (right_side_of w r).tree ≡ None
+    by n None trees = refl
+    by n (Some term) None = refl
+    by n (Some term) (Some args) = refl
 
-pub without_tree : (w : Whole) (i : ℕ) (r : RuleDef) → (right_side_of w r).tree ≡ None → None ≡ taken_rule w i r
-without_tree w i r h = untreed w i r (ap (made w i r (term_named (terms w.defs) r.term) (patterns_of w r).trees (conditions_of w r).trees) h ∙ by (term_named (terms w.defs) r.term) (patterns_of w r).trees (conditions_of w r).trees)
+-- a rule whose right side has none
+pub without_tree : (w : Whole) (i : ℕ) (r : RuleDef) → or_later None (cond (is_large w r) (Some row.ManyNodes) None) ≡ row_of w r → (right_side_of w r).tree ≡ None → IsRuleFound w i r Unbuilt
+without_tree w i r row h = not_treed w i r row (λ n. ap (made w n r (term_named (terms w.defs) r.term) (patterns_of w r).trees (conditions_of w r).trees) h ∙ by n (term_named (terms w.defs) r.term) (patterns_of w r).trees (conditions_of w r).trees)
   where
-    by : (term : Option TermId) (trees : Option (List CorePattern)) (cs : Option (List CoreIfLet)) → made w i r term trees cs None ≡ None
-    by None trees cs = refl
-    by (Some term) None cs = refl
-    by (Some term) (Some args) None = refl
-    by (Some term) (Some args) (Some iflets) = refl
+    by : (n : ℕ) (term : Option TermId) (trees : Option (List CorePattern)) (cs : Option (List CoreIfLet)) → made w n r term trees cs None ≡ None
+    by n None trees cs = refl
+    by n (Some term) None cs = refl
+    by n (Some term) (Some args) None = refl
+    by n (Some term) (Some args) (Some iflets) = refl
 
 -- the rule as it is written, of these parts
 written_made : (w : Whole) (i : ℕ) (r : RuleDef) (own : Called) (args : List CorePattern) (iflets : List CoreIfLet) (rhs : CoreExpr) → IsHead w r.term own
@@ -238,10 +244,10 @@ above m n lt = by (nat_le m n) refl
     by true k = absurd (let le = leb-true m n k in omega (arith, le, lt))
     by false k = refl
 
--- a rule of few nodes is taken, with templates replaced; one of more is not
-pub taken_made : (w : Whole) (i : ℕ) (r : RuleDef) (own : Called) (args : List CorePattern) (iflets : List CoreIfLet) (rhs : CoreExpr) (found : Option CodeRule) → IsHead w r.term own → is_some (row_of w r) ≡ is_large w r → uses_ruled w r ≡ false
-    → (patterns_of w r).trees ≡ Some args → (conditions_of w r).trees ≡ Some iflets → (right_side_of w r).tree ≡ Some rhs → IsElaborated (templates w) (rule_from w i r own.term args iflets rhs) found → option_map elaborated_rule found ≡ taken_rule w i r
-taken_made w i r own args iflets rhs found h row calls trees cs tree e = by found e
+-- a rule of few nodes is taken, with templates replaced, unless it uses a term that has a rule; one of more breaks the row of nodes
+pub found_made : (w : Whole) (i : ℕ) (r : RuleDef) (own : Called) (args : List CorePattern) (iflets : List CoreIfLet) (rhs : CoreExpr) (ruled : Bool) (found : Option CodeRule) → IsHead w r.term own → or_later None (cond (is_large w r) (Some row.ManyNodes) None) ≡ row_of w r → ruled ≡ uses_ruled w r
+    → (patterns_of w r).trees ≡ Some args → (conditions_of w r).trees ≡ Some iflets → (right_side_of w r).tree ≡ Some rhs → IsElaborated (templates w) (rule_from w i r own.term args iflets rhs) found → IsRuleFound w i r (found_rule ruled found)
+found_made w i r own args iflets rhs ruled found h lowest calls trees cs tree e = by ruled found calls e
   where
     x : CoreRule
     x = rule_from w i r own.term args iflets rhs
@@ -252,24 +258,30 @@ taken_made w i r own args iflets rhs found h row calls trees cs tree e = by foun
     large : is_large w r ≡ not (nat_le nodes 4096)
     large = ap (λ o. on o (λ (y : CoreRule). not (nat_le (rule_nodes (rule_expanded (whole_templates (templates w)) y)) 4096))) (written_made w 0 r own args iflets rhs h trees cs tree)
 
-    by : (o : Option CodeRule) → IsElaborated (templates w) x o → option_map elaborated_rule o ≡ taken_rule w i r
-    by None more = sym (ap (λ b. cond (b || uses_ruled w r) None (rule_pass w i r)) (row ∙ large ∙ ap not (above nodes 4096 more)))
-    by (Some y) is =
-        sym (ap (λ b. cond b None (rule_pass w i r)) (or_from (is_broken w r) (uses_ruled w r) (row ∙ large ∙ ap not (le-leb nodes 4096 is.1)) calls)
-        ∙ ap (option_map (elaborated (templates w))) (written_made w i r own args iflets rhs h trees cs tree) ∙ ap Some (sym is.0))
+    few : nodes ≤ 4096 → row_of w r ≡ None
+    few le = sym lowest ∙ ap (λ b. cond b (Some row.ManyNodes) None) (large ∙ ap not (le-leb nodes 4096 le))
+
+    by : (b : Bool) (o : Option CodeRule) → b ≡ uses_ruled w r → IsElaborated (templates w) x o → IsRuleFound w i r (found_rule b o)
+    by b None ruled more = sym lowest ∙ ap (λ b. cond b (Some row.ManyNodes) None) (large ∙ ap not (above nodes 4096 more))
+    by true (Some y) ruled is = (few is.1, with_ruled w i r (sym ruled))
+    by false (Some y) ruled is = (
+      few is.1,
+      sym (ap (λ b. cond b None (rule_pass w i r)) (or_from (is_broken w r) (uses_ruled w r) (ap is_some (few is.1)) (sym ruled)) ∙ ap (option_map (elaborated (templates w))) (written_made w i r own args iflets rhs h trees cs tree) ∙ ap Some (sym is.0)),
+    )
 
 -- what holds of each good answer
 pub ok_map : {X E : Type 0} {P Q : X → Type 0} (r : Result X E) → ((x : X) → P x → Q x) → IfOk r P → IfOk r Q
 ok_map (Ok x) f h = f x h
 ok_map (Err e) f h = h
 
+-- a term that is there is not none
+pub no_term : (o : Option Signature) → o ≡ None → is_some o ≡ true → ⊥
+no_term None none there = cc
+no_term (Some s) none there = cc
+
 pub none_called : (w : Whole) (o : Option Signature) → MayBeCalled w o None → o ≡ None
 none_called w None h = refl
 none_called w (Some s) h = absurd h
-
--- a rule whose head is not declared
-pub without_term : (w : Whole) (i : ℕ) (r : RuleDef) → termed w r.term ≡ None → None ≡ taken_rule w i r
-without_term w i r h = untreed w i r (ap (λ o. made w i r o (patterns_of w r).trees (conditions_of w r).trees (right_side_of w r).tree) (none_named (terms w.defs) r.term h))
 
 -- ---- the rules that are taken
 

@@ -7,29 +7,23 @@ use Rattle.std.proofs.lemmas.List.Sums.{fold-append}
 use Rattle.isle_core.specs.declared.TypeId.{TypeId}
 use Rattle.isle_core.specs.declared.rules.Pattern.{Pattern as CodePattern}
 use Rattle.isle_core.specs.declared.rules.Expr.{Expr as CodeExpr}
-use Rattle.isle_core.specs.declared.rules.Rule.{Rule as CodeRule}
 use Rattle.isle_core.specs.Pattern.{Pattern}
 use Rattle.isle_core.specs.Expr.{Expr, Exprs, NoExpr, AnExpr}
-use Rattle.isle_core.specs.Rule.{Rule}
-use Rattle.isle_core.specs.RuleViews.{pattern as elaborated_pattern, expr as elaborated_expr, exprs_of, rule as elaborated_rule}
+use Rattle.isle_core.specs.RuleViews.{pattern as elaborated_pattern, expr as elaborated_expr, exprs_of}
 use Rattle.isle_ast.specs.declared.tree.AstPattern.{AstPattern}
 use Rattle.isle_ast.specs.declared.tree.AstExpr.{AstExpr}
 use Rattle.isle_ast.specs.Tree.{Def}
 use Rattle.isle_ast.specs.Views.{pattern, patterns_of as seen_patterns, expr, exprs_of as seen_exprs}
-use Rattle.isle_declarations.specs.declared.collected.RuleDef.{RuleDef as CodeRuleDef}
 use Rattle.isle_sema.specs.declared.judged.Judged.{Judged}
-use Rattle.isle_declarations.specs.Collected.{rule as seen_rule}
 use Rattle.isle_sema.specs.ElaboratedAt.{expr_trees, IsExprAt, AreExprsAt}
 use Rattle.isle_variables.specs.Locals.{Bound, locals_of}
 use Rattle.isle_variables.specs.Scope.{Local, Scope}
 use Rattle.isle_terms.proofs.TermSteps.{before, one_before}
-use Rattle.isle_terms.specs.Whole.{Whole}
 use Rattle.isle_terms.specs.Whole.{whole_of}
 use Rattle.isle_sema.specs.PatternPass.{PatternPass, PatternsPass, pattern_pass, patterns_pass, first_expected, later_expected}
 use Rattle.isle_terms.specs.TermPass.{tree_before}
 use Rattle.isle_sema.specs.ExprPass.{ExprPass, ExprsPass, expr_pass, exprs_pass, expr_before}
 use Rattle.isle_sema.specs.Judging.{judge, judge_all}
-use Rattle.isle_sema.specs.Taken.{taken_rule, taken_rules}
 use Rattle.isle_variables.proofs.LocalLaws.{kept_locals}
 
 -- ---- expected types
@@ -224,24 +218,3 @@ exprs_all defs tys es i start now first judged typed complete found le is h =
       next = sym (h.made.next ∙ ap (λ (x : ExprsPass). x.next) none);
       sites = sym (h.made.sites ∙ ap (λ (x : ExprsPass). judge_all (whole_of defs) judged x.sites) none);
     }
-
--- ---- rules
-
-first_rule : (w : Whole) (rs : List CodeRuleDef) (i : ℕ) (r d : CodeRuleDef) → i < length rs → r ≡ get_or rs i d
-    → taken_rules w i (map seen_rule (drop i rs)) ≡ tree_before (taken_rule w i (seen_rule r)) (taken_rules w (i + 1) (map seen_rule (drop (i + 1) rs)))
-first_rule w rs i r d lt is = ap (λ xs. taken_rules w i (map seen_rule xs)) (drop_more rs i d lt ∙ ap (λ y. y ∷ drop (i + 1) rs) (sym is))
-
--- one rule more
-pub rule_more : (w : Whole) (rs : List CodeRuleDef) (i : ℕ) (typed more : List CodeRule) (r d : CodeRuleDef) (x : CodeRule) (all : Option (List Rule)) → i < length rs → r ≡ get_or rs i d → more ≡ typed ++ x ∷ []
-    → Some (elaborated_rule x) ≡ taken_rule w i (seen_rule r) → all ≡ before (map elaborated_rule typed) (taken_rules w i (map seen_rule (drop i rs))) → all ≡ before (map elaborated_rule more) (taken_rules w (i + 1) (map seen_rule (drop (i + 1) rs)))
-rule_more w rs i typed more r d x all lt is added one h =
-    let rest = taken_rules w (i + 1) (map seen_rule (drop (i + 1) rs)) in
-    h ∙ ap (before (map elaborated_rule typed)) (first_rule w rs i r d lt is ∙ ap (λ o. tree_before o rest) (sym one)) ∙ one_before (map elaborated_rule typed) (elaborated_rule x) rest
-    ∙ ap (λ ys. before ys rest) (sym (map-append elaborated_rule typed (x ∷ [])) ∙ ap (map elaborated_rule) (sym added))
-
--- a rule that is not taken
-pub rule_none : (w : Whole) (rs : List CodeRuleDef) (i : ℕ) (typed : List CodeRule) (r d : CodeRuleDef) (all : Option (List Rule)) → i < length rs → r ≡ get_or rs i d → None ≡ taken_rule w i (seen_rule r)
-    → all ≡ before (map elaborated_rule typed) (taken_rules w i (map seen_rule (drop i rs))) → None ≡ all
-rule_none w rs i typed r d all lt is none h =
-    let rest = taken_rules w (i + 1) (map seen_rule (drop (i + 1) rs)) in
-    sym (h ∙ ap (before (map elaborated_rule typed)) (first_rule w rs i r d lt is ∙ ap (λ o. tree_before o rest) (sym none)))

@@ -1,6 +1,6 @@
 -- Conditions whose parts break no row have types, over the variables before them.
-use Rattle.std.proofs.Common.{◌≡◌, ⊎_elim, ℕ, ◌+◌, ◌≤◌, List, [], ◌∷◌, ◌++◌, Option, Some, None, sym, ap, ◌∙◌, subst, arith}
-use Rattle.std.specs.Prelude.{Contains, option_map}
+use Rattle.std.proofs.Common.{◌≡◌, ⊎_elim, ℕ, ◌+◌, ◌≤◌, List, [], ◌∷◌, ◌++◌, Option, Some, None, refl, sym, ap, ◌∙◌, subst, arith}
+use Rattle.std.specs.Prelude.{Contains}
 use Rattle.std.proofs.lemmas.List.Elements.{Contains-append_left, Contains-append_right}
 use Rattle.std.proofs.lemmas.Option.{same_Some}
 use Rattle.isle_core.specs.declared.TypeId.{TypeId}
@@ -16,6 +16,8 @@ use Rattle.isle_ast.specs.Tree.{Pattern, Patterns, IfLet, Def}
 use Rattle.isle_terms.specs.Whole.{Whole, whole_of}
 use Rattle.isle_terms.proofs.MadeTerms.{first_there}
 use Rattle.isle_sema.specs.ExprPass.{expr_type}
+use Rattle.isle_sema.specs.ExprType.{own_type}
+use Rattle.isle_sema.proofs.TypesOwned.{type_is}
 use Rattle.isle_variables.specs.Locals.{of_patterns}
 use Rattle.isle_variables.specs.NewVariables.{new_count}
 use Rattle.isle_sema.specs.PatternPass.{pattern_pass, patterns_pass}
@@ -101,11 +103,12 @@ conditions_typed defs env scope vars (c ∷ cs) xs g knows s h kept well =
     let next = scope.next + new_count scope c.lhs in
     let le : scope.next ≤ next = omega arith in
     let ty = expr_type f.first.rhs in
-    let expected : option_map expr_type right.tree ≡ Some ty = ap (option_map expr_type) m.rhs_is in
+    let own = own_type w (of_patterns scope) c.rhs in
+    let expected : own ≡ Some ty = type_is w (of_patterns scope) (of_patterns scope) next c.rhs f.first.rhs (λ name. refl) m.rhs_is in
     let rhs = own_typed defs env in_condition (of_patterns scope) vars next c.rhs f.first.rhs (stage_over defs env scope vars next g s le) m.rhs_is (kept_parts w in_condition right.sites left.sites k.0).0 in
     let at : (pattern_pass w (Some ty) scope c.lhs).tree ≡ Some f.first.lhs = ap (λ o. (pattern_pass w o scope c.lhs).tree) (sym expected) ∙ m.lhs_is in
     let taken = subst (λ o. AreTakenWell w (pattern_pass w o scope c.lhs).sites) expected (taken_parts w right.sites left.sites t.0).1 in
     let lhs = pattern_typed defs env ty scope c.lhs f.first.lhs knows g.types at taken in
-    let stage = condition_stage w (option_map expr_type right.tree) scope vars right.next c.lhs f.first.lhs s m.lhs_is in
+    let stage = condition_stage w own scope vars right.next c.lhs f.first.lhs s m.lhs_is in
     let others = conditions_typed defs env one.scope (vars ++ typed_variables f.first.lhs) cs f.others g knows stage f.found k.1 t.1 in
     subst (AreTypedConditions env (templates w) rest.scope vars) (sym f.all) (record { typed = (record { ty = ty; rhs = rhs; lhs = lhs }, others.typed); stage = others.stage })

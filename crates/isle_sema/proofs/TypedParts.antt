@@ -16,7 +16,7 @@ use Rattle.isle_types.specs.Fault.{type_fault}
 use Rattle.isle_sema.specs.Language.{is_built_def, opens_ruled, uses_ruled}
 use Rattle.isle_sema.specs.Templates.{are_treed}
 use Rattle.isle_sema.specs.RulePass.{rules_pass}
-use Rattle.isle_sema.specs.Fault.{OfTypes, OfTerms, OfExtractors, OfRules, or_later, fault_in}
+use Rattle.isle_sema.specs.Fault.{OfTypes, OfTerms, OfExtractors, OfRules, or_later, fault_in, later_fault}
 use Rattle.isle_terms.specs.Converters.{converters, converters_pass}
 use Rattle.isle_terms.specs.Whole.{Whole, whole_of}
 use Rattle.isle_terms.specs.TermPass.{terms_pass}
@@ -97,4 +97,9 @@ typed_types_sound t = (typed_in t).types_kept
 
 -- nor any that is told
 pub typed_told : {defs : List Def} {env : Environment} → Typed defs env → told_fault defs ≡ None
-typed_told {defs = defs} t = none_stages (type_fault defs) (term_fault (whole_of defs)) (typed_in t).types_kept (typed_in t).terms_kept
+typed_told {defs = defs} t =
+    let g = typed_in t in
+    let w = whole_of defs in
+    let later = none_stages (fault_in OfExtractors w) (fault_in OfRules w) g.extractors_kept g.rules_kept in
+    let told = ap (λ b. cond b (later_fault w) None) g.built ∙ later in
+    none_stages (type_fault defs) (or_later (term_fault w) (cond (list_all is_built_def defs) (later_fault w) None)) g.types_kept (none_stages (term_fault w) (cond (list_all is_built_def defs) (later_fault w) None) g.terms_kept told)

@@ -115,7 +115,7 @@ kind_answers w s ret origin.Struct k plain answers is = ap (λ (x : TermKind). m
 
 -- ---- a rule that breaks no row
 
-counted : (ps : List Pattern) → count_of (seen_patterns ps) ≡ length ps
+pub counted : (ps : List Pattern) → count_of (seen_patterns ps) ≡ length ps
 counted [] = refl
 counted (p ∷ ps) = ap suc (counted ps)
 

@@ -1,8 +1,7 @@
--- The templates that a template uses by its parts are those that its tree uses.
+-- The templates that a template uses as it is written are those that its tree uses.
 use Rattle.std.proofs.Common.{◌≡◌, ℕ, ℤ, Bool, true, false, cond, List, [], ◌∷◌, ◌++◌, map, Option, Some, None, refl, sym, ap, ◌∙◌}
-use Rattle.std.specs.Prelude.{◌==◌, is_some, flat_map, option_map, option_and_then, option_to_list}
+use Rattle.std.specs.Prelude.{◌==◌, is_some, option_map, option_and_then, option_to_list}
 use Rattle.std.proofs.lemmas.List.{append-nil}
-use Rattle.std.proofs.lemmas.List.Concat.{flat_map-append}
 use Rattle.std.proofs.lemmas.Option.{same_Some}
 use Rattle.isle_core.specs.declared.TermId.{TermId}
 use Rattle.isle_core.specs.declared.TypeId.{TypeId}
@@ -16,11 +15,10 @@ use Rattle.isle_declarations.specs.Signatures.{Signature, Template, Extracting, 
 use Rattle.isle_declarations.specs.Symbols.{sym_of}
 use Rattle.isle_declarations.specs.Terms.{terms}
 use Rattle.isle_declarations.proofs.LookUps.{named_is}
-use Rattle.isle_sema.specs.PatternPass.{first_expected, later_expected, of_each, term_tree, pattern_within, taken_by, count_of, pattern_pass, patterns_pass}
+use Rattle.isle_sema.specs.PatternPass.{first_expected, later_expected, of_each, term_tree, pattern_within, pattern_pass, patterns_pass}
 use Rattle.isle_variables.specs.Scope.{is_blank}
 use Rattle.isle_variables.specs.Scope.{Scope, met, variable}
-use Rattle.isle_sema.specs.Site.{TakenAt}
-use Rattle.isle_sema.specs.TemplateUses.{templated_by, templated_with, templated, used_at, used_through, used_of, template_uses}
+use Rattle.isle_sema.specs.TemplateUses.{templated_by, templated_with, templated, uses_in, all_uses_in, used_through, used_of, template_uses}
 use Rattle.isle_sema.specs.Templates.{template_pass, template_tree, is_treed, has_tree, template_for, templates, are_treed}
 use Rattle.isle_sema.proofs.NamedExtractors.{is_named, holds_at, template_there}
 use Rattle.isle_sema.proofs.RuleRoots.{mapped, signature_at}
@@ -28,7 +26,7 @@ use Rattle.isle_sema.proofs.TypedPatterns.{within_is, bind_pass, bound_tree_is, 
 use Rattle.isle_templates.specs.Substituted.{template_of}
 use Rattle.isle_templates.specs.Uses.{used_one, used_in, all_used_in, used_by, uses}
 use Rattle.isle_terms.proofs.MadeTerms.{first_there}
-use Rattle.isle_terms.specs.Converters.{Conversion, converter_between, converters, conversion, within}
+use Rattle.isle_terms.specs.Converters.{Conversion, converter_between, converters, conversion}
 use Rattle.isle_terms.specs.Reduced.{typed_integer}
 use Rattle.isle_terms.specs.Whole.{Whole, termed, arg_types, ret_type, number_of, constant_type}
 
@@ -73,14 +71,14 @@ converter_named w (Some of) (Some ty) s h = by (of.0 == ty.0) h
     by true k = absurd cc
     by false k = found (converter_between w.defs (converters w.defs) of ty) k
 
-within_used : (w : Whole) (by : Option Signature) (expected : Option TypeId) (p : Option CorePattern) (q inner : CorePattern) → are_treed w ≡ true → ((s : Signature) → by ≡ Some s → termed w s.term ≡ Some s) → p ≡ Some inner → pattern_within w by p ≡ Some q
-    → flat_map (used_at w) (taken_by by expected) ++ used_in (templates w) inner ≡ used_in (templates w) q
-within_used w None expected p q inner treed named is h = ap (used_in (templates w)) (same_Some inner q (sym is ∙ h))
-within_used w (Some s) expected p q inner treed named is h =
+within_used : (w : Whole) (by : Option Signature) (p : Option CorePattern) (q inner : CorePattern) → are_treed w ≡ true → ((s : Signature) → by ≡ Some s → termed w s.term ≡ Some s) → p ≡ Some inner → pattern_within w by p ≡ Some q
+    → templated w by ++ used_in (templates w) inner ≡ used_in (templates w) q
+within_used w None p q inner treed named is h = ap (used_in (templates w)) (same_Some inner q (sym is ∙ h))
+within_used w (Some s) p q inner treed named is h =
     let x : CorePattern = inner in
     let t = term_tree_is (ret_type w (Some s)) (number_of w (Some s)) (Some (x ∷ [])) q (ap (λ o. pattern_within w (Some s) o) (sym is) ∙ h) in
     let parts : x ∷ [] ≡ t.parts = same_Some (x ∷ []) t.parts t.parts_are in
-    ap (λ (ns : List ℕ). ns ++ used_in (templates w) x) (append-nil (templated w (Some s)) ∙ one_used w s.term s t.number treed (named s refl) t.number_is)
+    ap (λ (ns : List ℕ). ns ++ used_in (templates w) x) (one_used w s.term s t.number treed (named s refl) t.number_is)
     ∙ ap (λ (ns : List ℕ). used_one (template_of (templates w) t.number) t.number ++ ns) (sym (append-nil (used_in (templates w) x)))
     ∙ ap (λ (ps : List CorePattern). used_one (template_of (templates w) t.number) t.number ++ all_used_in (templates w) (core_patterns ps)) parts
     ∙ ap (used_in (templates w)) t.is
@@ -94,8 +92,8 @@ named_term w name of h = by (termed w name) refl h
     by None e k = absurd cc
     by (Some s) e k = (s, e)
 
-bind_used : (w : Whole) (expected : Option TypeId) (scope : Scope) (x : List ℕ) (p : Pattern) (q : CorePattern) (blank : Bool) → ((mid : Scope) (y : CorePattern) → (pattern_pass w expected mid p).tree ≡ Some y → flat_map (used_at w) (pattern_pass w expected mid p).sites ≡ used_in (templates w) y)
-    → (bind_pass w expected scope x p blank).tree ≡ Some q → flat_map (used_at w) (bind_pass w expected scope x p blank).sites ≡ used_in (templates w) q
+bind_used : (w : Whole) (expected : Option TypeId) (scope : Scope) (x : List ℕ) (p : Pattern) (q : CorePattern) (blank : Bool) → ((mid : Scope) (y : CorePattern) → (pattern_pass w expected mid p).tree ≡ Some y → uses_in w expected p ≡ used_in (templates w) y)
+    → (bind_pass w expected scope x p blank).tree ≡ Some q → uses_in w expected p ≡ used_in (templates w) q
 bind_used w expected scope x p q true go h = go scope q h
 bind_used w expected scope x p q false go h =
     let mid = met scope x expected in
@@ -103,7 +101,7 @@ bind_used w expected scope x p q false go h =
     go mid b.inner b.inner_is ∙ ap (used_in (templates w)) b.is
 
 mutual
-  pub pattern_used : (w : Whole) (expected : Option TypeId) (scope : Scope) (p : Pattern) (q : CorePattern) → are_treed w ≡ true → (pattern_pass w expected scope p).tree ≡ Some q → flat_map (used_at w) (pattern_pass w expected scope p).sites ≡ used_in (templates w) q
+  pub pattern_used : (w : Whole) (expected : Option TypeId) (scope : Scope) (p : Pattern) (q : CorePattern) → are_treed w ≡ true → (pattern_pass w expected scope p).tree ≡ Some q → uses_in w expected p ≡ used_in (templates w) q
   pattern_used w expected scope (tree.Int n) q treed h =
       let m = mapped (λ (v : TypeId × ℤ). core_pattern.ConstInt v.0 v.1) (typed_integer w.types expected n) q h in
       ap (used_in (templates w)) m.is
@@ -124,26 +122,24 @@ mutual
       let t = term_tree_is of (term_named (terms w.defs) name) parts.trees k.inner k.inner_is in
       let s = named_term w name t.of t.of_is in
       let own : templated w (termed w name) ≡ used_one (template_of (templates w) t.number) t.number = ap (templated w) s.1 ∙ one_used w name s.0 t.number treed s.1 t.number_is in
-      let inner : flat_map (used_at w) (TakenAt (within by of expected) (termed w name) (count_of ps) ∷ parts.sites) ≡ used_in (templates w) k.inner =
-      ap (λ (ns : List ℕ). ns ++ flat_map (used_at w) parts.sites) own
+      let inner : templated w (termed w name) ++ all_uses_in w args ps ≡ used_in (templates w) k.inner =
+      ap (λ (ns : List ℕ). ns ++ all_uses_in w args ps) own
       ∙ ap (λ (ns : List ℕ). used_one (template_of (templates w) t.number) t.number ++ ns) (patterns_used w args scope ps t.parts treed t.parts_are)
       ∙ ap (used_in (templates w)) t.is in
-      flat_map-append (used_at w) (taken_by by expected) (TakenAt (within by of expected) (termed w name) (count_of ps) ∷ parts.sites)
-      ∙ ap (λ (ns : List ℕ). flat_map (used_at w) (taken_by by expected) ++ ns) inner
-      ∙ within_used w by expected (term_tree of (term_named (terms w.defs) name) parts.trees) q k.inner treed (λ c e. converter_named w of expected c e) k.inner_is h
+      ap (λ (ns : List ℕ). templated w by ++ ns) inner
+      ∙ within_used w by (term_tree of (term_named (terms w.defs) name) parts.trees) q k.inner treed (λ c e. converter_named w of expected c e) k.inner_is h
   pattern_used w expected scope (tree.Bind x p) q treed h = bind_used w expected scope x p q (is_blank x) (λ mid y t. pattern_used w expected mid p y treed t) h
   pattern_used w expected scope (tree.And ps) q treed h =
       let a = any_and_tree expected (patterns_pass w (of_each expected ps) scope ps).trees q h in
       patterns_used w (of_each expected ps) scope ps a.1.parts treed a.1.parts_are ∙ ap (used_in (templates w)) a.1.is
 
-  pub patterns_used : (w : Whole) (expected : List (Option TypeId)) (scope : Scope) (ps : Patterns) (qs : List CorePattern) → are_treed w ≡ true → (patterns_pass w expected scope ps).trees ≡ Some qs → flat_map (used_at w) (patterns_pass w expected scope ps).sites ≡ all_used_in (templates w) (core_patterns qs)
+  pub patterns_used : (w : Whole) (expected : List (Option TypeId)) (scope : Scope) (ps : Patterns) (qs : List CorePattern) → are_treed w ≡ true → (patterns_pass w expected scope ps).trees ≡ Some qs → all_uses_in w expected ps ≡ all_used_in (templates w) (core_patterns qs)
   patterns_used w expected scope NoPattern qs treed h = ap (λ (xs : List CorePattern). all_used_in (templates w) (core_patterns xs)) (same_Some [] qs h)
   patterns_used w expected scope (APattern p ps) qs treed h =
       let one = pattern_pass w (first_expected expected) scope p in
       let rest = patterns_pass w (later_expected expected) one.scope ps in
       let f = first_there one.tree rest.trees qs h in
-      flat_map-append (used_at w) one.sites rest.sites
-      ∙ ap (λ (ns : List ℕ). ns ++ flat_map (used_at w) rest.sites) (pattern_used w (first_expected expected) scope p f.first treed f.here)
+      ap (λ (ns : List ℕ). ns ++ all_uses_in w (later_expected expected) ps) (pattern_used w (first_expected expected) scope p f.first treed f.here)
       ∙ ap (λ (ns : List ℕ). used_in (templates w) f.first ++ ns) (patterns_used w (later_expected expected) one.scope ps f.others treed f.found)
       ∙ ap (λ (xs : List CorePattern). all_used_in (templates w) (core_patterns xs)) (sym f.all)
 
@@ -155,7 +151,7 @@ template_used w s (Some x) treed e =
     let k = is_named (extractors w.defs) s.term x e in
     by x.by (ap (λ (name : List ℕ). is_treed w name x.by) (sym k.named) ∙ holds_at (has_tree w) (extractors w.defs) x treed k.among)
   where
-    some_tree : (t : Template) (o : Option CorePattern) → (template_pass w s.term t).tree ≡ o → is_some o ≡ true → flat_map (used_at w) (template_pass w s.term t).sites ≡ used_by (templates w) o
+    some_tree : (t : Template) (o : Option CorePattern) → (template_pass w s.term t).tree ≡ o → is_some o ≡ true → uses_in w (ret_type w (termed w s.term)) t.pattern ≡ used_by (templates w) o
     some_tree t None is h = absurd cc
     some_tree t (Some q) is h = pattern_used w _ _ t.pattern q treed is
 

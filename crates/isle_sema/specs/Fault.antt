@@ -76,6 +76,10 @@ fault_after stage w before ds = found.fault_after (λ bs d. broken_in stage (rec
 abbrev pub fault_in : Stage → Whole → Option (Row × Pos)
 fault_in stage w = fault_after stage w [] w.defs
 
+-- the fault of extractors, and then of rules
+abbrev pub later_fault : Whole → Option (Row × Pos)
+later_fault w = or_later (fault_in OfExtractors w) (fault_in OfRules w)
+
 -- the fault of definitions over the types that they give
 abbrev pub fault_of : Whole → Option (Row × Pos)
-fault_of w = or_later (fault_in OfTypes w) (or_later (fault_in OfTerms w) (or_later (fault_in OfExtractors w) (fault_in OfRules w)))
+fault_of w = or_later (fault_in OfTypes w) (or_later (fault_in OfTerms w) (later_fault w))

@@ -48,6 +48,18 @@ judge w j site = record {
 abbrev pub judge_all : Whole → Judged → List Site → Judged
 judge_all w j sites = fold (judge w) j sites
 
+-- the lowest row that an extractor with a template breaks: whether its term reaches itself and whether it misses a parameter is known, and its
+-- parts are judged so
+abbrev pub lowest_of_template : (reaches_itself misses : Bool) → Judged → Option Row
+lowest_of_template reaches_itself misses j =
+    if reaches_itself then Some row.ExtractorReachesItself
+    else if j.unbound || (misses || j.met_otherwise) then Some row.TemplateMisfit
+    else if j.untaken then Some row.PatternTermMisfit
+    else if j.mistaken then Some row.PatternTypeMisfit
+    else if j.misplaced then Some row.LiteralMisfit
+    else if j.undeclared then Some row.ConstantUndeclared
+    else None
+
 -- the lowest row before that of its nodes that a rule of this term breaks, with so many patterns, which are judged so with its conditions,
 -- and its right side so
 abbrev pub lowest : Called → ℕ → Judged → Judged → Option Row

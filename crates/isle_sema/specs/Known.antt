@@ -1,10 +1,20 @@
 -- What the code that resolves names sees.
-use Rattle.std.specs.Prelude.{◌≡◌, ℕ, List, Option, Some, None, is_some, map}
+use Rattle.std.specs.Prelude.{◌≡◌, ℕ, List, Bool, true, false, Option, Some, None, is_some, map}
 use Rattle.isle_sema.specs.declared.known.Called.{Called}
 use Rattle.isle_declarations.specs.Terms.{terms, is_made}
-use Rattle.isle_declarations.specs.Signatures.{Signature, externs, extractors, rule_defs, term_named, func_named, extractor_named, has_rule}
+use Rattle.isle_declarations.specs.Signatures.{Signature, Extracting, ByFunction, ByTemplate, ExtractorDef, externs, extractors, rule_defs, term_named, func_named, extractor_named, has_rule}
 use Rattle.isle_terms.specs.TypeNames.{type_named}
 use Rattle.isle_terms.specs.Whole.{Whole, termed}
+
+-- an extractor takes values apart by a template
+abbrev pub is_template : Extracting → Bool
+is_template (ByFunction func infallible) = false
+is_template (ByTemplate t) = true
+
+-- so does that of a term, where it has one
+abbrev pub is_templated : Option ExtractorDef → Bool
+is_templated None = false
+is_templated (Some x) = is_template x.by
 
 -- what is known of a term
 pub record IsCalled (w : Whole) (s : Signature) (c : Called) : Type 0 where
@@ -17,6 +27,7 @@ pub record IsCalled (w : Whole) (s : Signature) (c : Called) : Type 0 where
   pub partial : s.partial ≡ c.partial
   pub external : is_some (func_named (externs w.defs) s.term) ≡ c.external
   pub extracting : is_some (extractor_named (extractors w.defs) s.term) ≡ c.extracting
+  pub templated : is_templated (extractor_named (extractors w.defs) s.term) ≡ c.templated
   pub ruled : has_rule (rule_defs w.defs) s.term ≡ c.ruled
 
 -- the same where the term may not be there

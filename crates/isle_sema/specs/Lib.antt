@@ -3,6 +3,7 @@ pub mod PatternPass
 pub mod Templates
 pub mod TemplateUses
 pub mod ExprPass
+pub mod ExprType
 pub mod RulePass
 pub mod RuleRows
 pub mod TemplateRows
@@ -14,6 +15,8 @@ pub mod Typing
 pub mod Known
 pub mod Judging
 pub mod Taken
+pub mod RulesFound
 pub mod TakenAt
 pub mod ElaboratedAt
 pub mod KnownOf
+pub mod TemplatesChecked

@@ -18,7 +18,8 @@ use Rattle.isle_templates.specs.Elaborated.{elaborated}
 use Rattle.isle_terms.specs.Whole.{Whole, termed, arg_types, ret_type}
 use Rattle.isle_sema.specs.PatternPass.{PatternPass, PatternsPass, pattern_pass, patterns_pass}
 use Rattle.isle_terms.specs.TermPass.{tree_before}
-use Rattle.isle_sema.specs.ExprPass.{ExprPass, expr_type, expr_pass}
+use Rattle.isle_sema.specs.ExprPass.{ExprPass, expr_pass}
+use Rattle.isle_sema.specs.ExprType.{own_type}
 
 -- its patterns, at the types of its term's arguments
 abbrev pub patterns_of : Whole → RuleDef → PatternsPass
@@ -35,9 +36,9 @@ iflet_tree lhs rhs = option_and_then (λ (p : CorePattern). option_map (λ (e : 
 abbrev pub condition_expr : Whole → Scope → IfLet → ExprPass
 condition_expr w scope c = expr_pass w (of_patterns scope) (scope.next + new_count scope c.lhs) None c.rhs
 
--- its pattern, at the type that the expression's tree has
+-- its pattern, at the type of the expression
 abbrev pub condition_pattern : Whole → Scope → IfLet → PatternPass
-condition_pattern w scope c = pattern_pass w (option_map expr_type (condition_expr w scope c).tree) scope c.lhs
+condition_pattern w scope c = pattern_pass w (own_type w (of_patterns scope) c.rhs) scope c.lhs
 
 -- a condition's tree, the variables after it, and its parts
 pub record ConditionPass : Type 0 where

@@ -1,19 +1,18 @@
--- The templates and rules that are taken: they break no row, use no term that has a rule, and have a tree.
-use Rattle.std.specs.Prelude.{ℕ, ◌+◌, List, [], ◌∷◌, Bool, ◌||◌, Option, Some, None, is_some, option_map, if◌then◌else◌}
+-- Extractors that break a row beside that they reach themselves, and the rules that are taken: they break no row, use no term that has a
+-- rule, and have a tree.
+use Rattle.std.specs.Prelude.{ℕ, ◌+◌, List, [], ◌∷◌, Bool, ◌||◌, Option, Some, None, is_some, if◌then◌else◌}
 use Rattle.std.specs.List.{list_any}
-use Rattle.isle_core.specs.Pattern.{Pattern as CorePattern}
 use Rattle.isle_core.specs.Rule.{Rule as CoreRule}
 use Rattle.isle_ast.specs.Tree.{Def, Rule}
-use Rattle.isle_declarations.specs.Signatures.{Extracting, ByFunction, ByTemplate, ExtractorDef, RuleDef}
+use Rattle.isle_declarations.specs.Signatures.{ExtractorDef, RuleDef}
 use Rattle.isle_types.specs.declared.row.Row.{Row}
 use Rattle.isle_terms.specs.Whole.{Whole}
 use Rattle.isle_terms.specs.TermPass.{tree_before}
 use Rattle.isle_sema.specs.RulePass.{rule_pass}
 use Rattle.isle_sema.specs.Fault.{OfRules, broken_in}
-use Rattle.isle_sema.specs.Language.{opens_ruled, uses_ruled}
+use Rattle.isle_sema.specs.Language.{uses_ruled}
 use Rattle.isle_sema.specs.RuleRows.{extractor_sites, is_untaken, is_mistaken, is_misplaced, is_undeclared}
 use Rattle.isle_sema.specs.TemplateRows.{is_misnaming}
-use Rattle.isle_sema.specs.Templates.{template_pass}
 
 -- ---- templates
 
@@ -21,20 +20,6 @@ use Rattle.isle_sema.specs.Templates.{template_pass}
 abbrev pub is_misbuilt : Whole → ExtractorDef → Bool
 is_misbuilt w x =
     is_misnaming w x || (list_any (is_untaken w) (extractor_sites w x) || (list_any (is_mistaken w) (extractor_sites w x) || (list_any (is_misplaced w) (extractor_sites w x) || list_any is_undeclared (extractor_sites w x))))
-
--- a template's tree, where it has one; an extractor by a function has no template
-abbrev pub template_given : Whole → (term : List ℕ) → Extracting → Option (Option CorePattern)
-template_given w term (ByFunction func infallible) = Some None
-template_given w term (ByTemplate t) = option_map Some (template_pass w term t).tree
-
--- the template of an extractor
-abbrev pub taken_template : Whole → ExtractorDef → Option (Option CorePattern)
-taken_template w x = if is_misbuilt w x || opens_ruled w x then None else template_given w x.term x.by
-
--- so of extractors, where all are taken
-abbrev pub taken_templates : Whole → List ExtractorDef → Option (List (Option CorePattern))
-taken_templates w [] = Some []
-taken_templates w (x ∷ xs) = tree_before (taken_template w x) (taken_templates w xs)
 
 -- ---- rules
 

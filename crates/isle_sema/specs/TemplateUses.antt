@@ -1,11 +1,14 @@
--- Which templates a template uses, by the parts of its pattern.
-use Rattle.std.specs.Prelude.{ℕ, List, [], map, flat_map, Option, Some, None, option_to_list, option_map}
+-- Which templates a template uses, by its pattern as it is written.
+use Rattle.std.specs.Prelude.{ℕ, List, [], ◌++◌, map, Option, Some, None, option_to_list, option_map}
 use Rattle.isle_core.specs.declared.TermId.{TermId}
+use Rattle.isle_core.specs.declared.TypeId.{TypeId}
+use Rattle.isle_ast.specs.Tree as tree
+use Rattle.isle_ast.specs.Tree.{Pattern, Patterns, NoPattern, APattern}
 use Rattle.isle_declarations.specs.Signatures.{Signature, Extracting, ByFunction, ByTemplate, ExtractorDef, extractors, extractor_named, term_named}
 use Rattle.isle_declarations.specs.Terms.{terms}
-use Rattle.isle_sema.specs.Site.{Site, IntegerAt, TruthAt, PartAt, MetAt, UsedAt, CalledAt, TakenAt, ConstantAt, BoundAt}
-use Rattle.isle_sema.specs.Templates.{template_pass}
-use Rattle.isle_terms.specs.Whole.{Whole}
+use Rattle.isle_terms.specs.Converters.{conversion}
+use Rattle.isle_terms.specs.Whole.{Whole, termed, arg_types, ret_type}
+use Rattle.isle_sema.specs.PatternPass.{first_expected, later_expected, of_each}
 
 -- the number of a term that takes values apart so, where it does so by a template
 abbrev pub templated_by : Whole → (term : List ℕ) → Extracting → List ℕ
@@ -22,22 +25,28 @@ abbrev pub templated : Whole → Option Signature → List ℕ
 templated w None = []
 templated w (Some s) = templated_with w s.term (extractor_named (extractors w.defs) s.term)
 
--- that of a part which takes a value apart by such a term
-abbrev pub used_at : Whole → Site → List ℕ
-used_at w (IntegerAt expected) = []
-used_at w (TruthAt expected) = []
-used_at w PartAt = []
-used_at w (MetAt expected bound) = []
-used_at w (UsedAt expected bound) = []
-used_at w (CalledAt expected callee count) = []
-used_at w (TakenAt expected callee count) = templated w callee
-used_at w (ConstantAt in_pattern expected found) = []
-used_at w (BoundAt ty) = []
+-- the terms with templates that a pattern uses where this type is expected, from left to right: a converter stands before the term that it is
+-- around, and a term before its parts
+abbrev mutual
+  pub uses_in : Whole → Option TypeId → Pattern → List ℕ
+  uses_in w expected (tree.Int n) = []
+  uses_in w expected (tree.Truth b) = []
+  uses_in w expected tree.Wildcard = []
+  uses_in w expected (tree.Var name) = []
+  uses_in w expected (tree.Const name) = []
+  uses_in w expected (tree.Term name ps) = templated w (conversion w (ret_type w (termed w name)) expected) ++ (templated w (termed w name) ++ all_uses_in w (arg_types w (termed w name)) ps)
+  uses_in w expected (tree.Bind name p) = uses_in w expected p
+  uses_in w expected (tree.And ps) = all_uses_in w (of_each expected ps) ps
+
+  -- so of patterns where these are expected, beyond them nothing
+  pub all_uses_in : Whole → List (Option TypeId) → Patterns → List ℕ
+  all_uses_in w expected NoPattern = []
+  all_uses_in w expected (APattern p ps) = uses_in w (first_expected expected) p ++ all_uses_in w (later_expected expected) ps
 
 -- the terms with templates that a term's extractor uses
 abbrev pub used_through : Whole → (term : List ℕ) → Extracting → List ℕ
 used_through w term (ByFunction func infallible) = []
-used_through w term (ByTemplate t) = flat_map (used_at w) (template_pass w term t).sites
+used_through w term (ByTemplate t) = uses_in w (ret_type w (termed w term)) t.pattern
 
 -- so of the extractor of a term
 abbrev pub used_of : Whole → Signature → Option ExtractorDef → List ℕ

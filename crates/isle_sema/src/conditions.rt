@@ -1,15 +1,17 @@
 //! Conditions with types in them.
 
 ghost use Rattle.std.specs.Prelude.{◌≡◌, IfOk, map, option_map};
+ghost use Rattle.isle_variables.specs.Locals.{of_patterns};
 ghost use Rattle.isle_ast.specs.Views.{expr, iflet};
 ghost use Rattle.isle_core.specs.RuleViews.{pattern as elaborated_pattern, expr as elaborated_expr};
 ghost use Rattle.isle_sema.specs.ElaboratedAt.{condition_tree, IsExprOver, IsConditionAt, AreConditionsAt};
-ghost use Rattle.isle_sema.specs.ExprPass.{expr_type};
+ghost use Rattle.isle_sema.specs.ExprType.{own_type};
 ghost use Rattle.isle_sema.specs.RulePass.{iflet_tree};
 ghost use Rattle.isle_terms.specs.Whole.{whole};
 
-use crate::elaborated_exprs::{expr_at, type_of};
+use crate::elaborated_exprs::expr_at;
 use crate::elaborated_patterns::pattern_at;
+use crate::expr_types::own_type;
 use crate::judged::Judged;
 use crate::known::Known;
 use isle_ast::{AstExpr, AstIfLet};
@@ -34,14 +36,17 @@ pub fn expr_over<'d>(
     Ok((found, locals.next()))
 }
 
-// The type of an expression, where it is there.
-fn found_type(found: &Option<Expr>) -> Option<TypeId>
-    ensures { result ≡ option_map expr_type (option_map elaborated_expr found.now) }
+// The type of an expression over the variables of patterns, where none is expected.
+fn type_over<'d>(
+    alloc: Global,
+    known: &Known,
+    vars: &Variables<'d>,
+    e: &'d AstExpr,
+) -> Result<Option<TypeId>, AllocError>
+    ensures { IfOk result (λ ty. ty ≡ own_type (whole known.now) (of_patterns vars.now) (expr e.now)) }
 {
-    match found {
-        Some(e) => Some(type_of(e)),
-        None => None,
-    }
+    let mut locals = Locals::new(alloc, vars, 0);
+    own_type(known, &mut locals, e)
 }
 
 // A condition of these parts, where both are there.
@@ -68,7 +73,8 @@ fn condition_at<'d>(
         return Err(AllocError);
     };
     let (rhs, after) = expr_over(alloc, known, vars, judged, next, None, &given.rhs)?;
-    let lhs = pattern_at(alloc, known, vars, judged, found_type(&rhs), &given.lhs)?;
+    let ty = type_over(alloc, known, vars, &given.rhs)?;
+    let lhs = pattern_at(alloc, known, vars, judged, ty, &given.lhs)?;
     vars.leave(after);
     Ok(condition_of(lhs, rhs))
 }

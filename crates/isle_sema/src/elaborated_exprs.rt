@@ -122,7 +122,7 @@ fn named_at(
 
 /// Returns the type of an expression.
 #[tactic(auto, using(isle_core::proofs::SeesRules::sees))]
-pub fn type_of(e: &Expr) -> TypeId
+fn type_of(e: &Expr) -> TypeId
     ensures { result ≡ expr_type (elaborated e.now) }
 {
     match e {

@@ -8,7 +8,6 @@ ghost use Rattle.isle_declarations.specs.Signatures.{Signature};
 ghost use Rattle.isle_terms.specs.Whole.{Whole, ret_type, number_of, constant_type};
 ghost use Rattle.isle_terms.specs.Whole.{whole};
 ghost use Rattle.isle_sema.specs.Known.{MayBeCalled};
-ghost use Rattle.isle_variables.specs.Scope.{variable};
 ghost use Rattle.isle_sema.specs.PatternPass.{integer_tree, variable_tree, constant_tree, term_tree, pattern_within, and_tree, bound_tree};
 ghost use Rattle.isle_sema.specs.ElaboratedAt.{pattern_trees, copies, IsPatternAt, ArePatternsAt};
 
@@ -29,22 +28,12 @@ fn integer_at(types: &TypeEnv, expected: Option<TypeId>, n: i128) -> Option<Patt
     Some(Pattern::ConstInt(ty, reduced))
 }
 
-// The type and the number of a variable, where it is bound at a type that is known.
-fn variable_of(vars: &Variables, name: &Text) -> Option<(TypeId, VarId)>
-    ensures { result ≡ variable vars.now name.now }
-{
-    match vars.find(name)? {
-        (Some(ty), number) => Some((ty, VarId(number))),
-        (None, _) => None,
-    }
-}
-
 // A variable, where it is bound at a type that is known.
 #[tactic(auto, using(isle_core::proofs::SeesRules::sees))]
 fn variable_at(vars: &Variables, name: &Text) -> Option<Pattern>
     ensures { option_map elaborated result ≡ variable_tree vars.now name.now }
 {
-    let (ty, var) = variable_of(vars, name)?;
+    let (ty, var) = vars.typed(name)?;
     Some(Pattern::Var(ty, var))
 }
 
@@ -194,7 +183,7 @@ fn bind_at<'d>(
     }
     let bound = vars.meet(name, expected)?;
     judged.met(expected, bound);
-    let var = variable_of(vars, name);
+    let var = vars.typed(name);
     let found = pattern_at(alloc, known, vars, judged, expected, inner)?;
     bound_to(alloc, var, found)
 }

@@ -1,24 +1,25 @@
 //! Rules with types in them, their names as symbols and variables as numbers.
 
-ghost use Rattle.std.specs.Prelude.{◌≡◌, IfOk, Some, map, option_map};
+ghost use Rattle.std.specs.Prelude.{◌≡◌, IfOk, Some, true, is_some, map};
 ghost use Rattle.isle_core.specs.RuleViews.{rule as elaborated_rule, pattern as elaborated_pattern, iflet as elaborated_iflet, expr as elaborated_expr};
 ghost use Rattle.isle_ast.specs.Views.{defs as seen_defs};
 ghost use Rattle.isle_declarations.specs.Symbols.{index_of};
 ghost use Rattle.isle_declarations.specs.Collected.{rule as seen, AreRules};
-ghost use Rattle.isle_declarations.specs.Signatures.{rule_defs};
 ghost use Rattle.isle_sema.specs.RulePass.{rule_from};
-ghost use Rattle.isle_terms.specs.Whole.{whole};
+ghost use Rattle.isle_terms.specs.Whole.{whole, termed};
 ghost use Rattle.isle_sema.specs.Known.{IsHead};
-ghost use Rattle.isle_sema.specs.Taken.{taken_rule, taken_rules};
+ghost use Rattle.isle_sema.specs.RulesFound.{found_rule, IsRuleFound, AreRulesFound, AreHeadsDeclared};
 ghost use Rattle.isle_sema.specs.Templates.{templates as written};
 ghost use Rattle.isle_templates.specs.Whole.{AreWhole};
 
+use crate::fault::Fault;
 use crate::known::{Called, Known};
 use crate::rows::lowest_row;
 use crate::sides::sides_of;
 use isle_core::{Expr, IfLet, List, Pattern, Rule, RuleId};
 use isle_declarations::RuleDef;
 use isle_templates::{Templates, elaborated};
+use isle_types::Row;
 use std::alloc::{AllocError, Global};
 
 // The rule of that number, of this term with these parts.
@@ -49,8 +50,31 @@ fn rule_from(
     }
 }
 
-// The rule of that number, of this term, with its templates replaced: nothing where it breaks a row, uses a term that has a rule, or
-// has no tree.
+/// What is found of a rule: the row that it breaks; or it breaks none, and uses a term that has a rule, or has no tree; or the
+/// elaborated rule.
+#[derive(Drop)]
+pub enum Found {
+    Broken(Row),
+    Unbuilt,
+    Taken(Rule),
+}
+
+// An elaborated rule, unless it has too many nodes, or uses a term that has a rule.
+fn unless_ruled(ruled: bool, elaborated: Option<Rule>) -> Found
+    ensures { result ≡ found_rule ruled elaborated }
+{
+    match elaborated {
+        None => Found::Broken(Row::ManyNodes),
+        Some(rule) => {
+            if ruled {
+                return Found::Unbuilt;
+            }
+            Found::Taken(rule)
+        }
+    }
+}
+
+// What is found of the rule of that number, of this term, with its templates replaced.
 fn rule_of(
     alloc: Global,
     known: &Known,
@@ -58,70 +82,79 @@ fn rule_of(
     own: &Called,
     number: usize,
     given: &RuleDef,
-) -> Result<Option<Rule>, AllocError>
+) -> Result<Found, AllocError>
     requires own { IsHead (whole known.now) given.now.term.now own.now }
     requires templates { AreWhole (written (whole known.now)) templates.now }
-    ensures { IfOk result (λ rule. option_map elaborated_rule rule ≡ taken_rule (whole known.now) number (seen given.now)) }
+    ensures { IfOk result (λ found. IsRuleFound (whole known.now) number (seen given.now) found) }
 {
     let sides = sides_of(alloc, known, own, given)?;
     let args = sides.args;
     let iflets = sides.iflets;
     let rhs = sides.rhs;
     let ruled = sides.left.ruled | sides.right.ruled;
-    if ruled {
-        return Ok(None);
-    }
-    if lowest_row(own, given.args.len(), &sides.left, &sides.right).is_some() {
-        return Ok(None);
+    if let Some(row) = lowest_row(own, given.args.len(), &sides.left, &sides.right) {
+        return Ok(Found::Broken(row));
     }
     let Some(args) = args else {
-        return Ok(None);
+        return Ok(Found::Unbuilt);
     };
     let Some(iflets) = iflets else {
-        return Ok(None);
+        return Ok(Found::Unbuilt);
     };
     let Some(rhs) = rhs else {
-        return Ok(None);
+        return Ok(Found::Unbuilt);
     };
     let written = rule_from(known, own, number, given, args, iflets, rhs);
-    elaborated(alloc, templates, written)
+    let found = elaborated(alloc, templates, written)?;
+    Ok(unless_ruled(ruled, found))
 }
 
-// The rule of that number, where its term is declared.
+// What is found of the rule of that number, whose term is declared.
 fn rule_at(
     alloc: Global,
     known: &Known,
     templates: &Templates,
     number: usize,
     given: &RuleDef,
-) -> Result<Option<Rule>, AllocError>
+) -> Result<Found, AllocError>
     requires number { index_of (whole known.now).types.syms given.now.term.now ≡ Some given.now.number }
+    requires declared { is_some (termed (whole known.now) given.now.term.now) ≡ true }
     requires templates { AreWhole (written (whole known.now)) templates.now }
-    ensures { IfOk result (λ rule. option_map elaborated_rule rule ≡ taken_rule (whole known.now) number (seen given.now)) }
+    ensures { IfOk result (λ found. IsRuleFound (whole known.now) number (seen given.now) found) }
 {
     match known.at(given.number) {
         Some(own) => rule_of(alloc, known, templates, &own, number, given),
-        None => Ok(None),
+        None => Ok(Found::Unbuilt),
     }
 }
 
-/// Returns these rules of the definitions, numbered in order: nothing where one is not taken.
-pub fn rules_at(
+/// Returns the first of these rules that breaks a row, with the lowest such row; or else the rules, numbered in order: nothing where
+/// one is not taken. The only error is want of memory.
+pub fn rules_at<'d>(
     alloc: Global,
-    known: &Known,
+    known: &Known<'_, 'd>,
     templates: &Templates,
-    given: &[RuleDef],
-) -> Result<Option<Vec<Rule>>, AllocError>
+    given: &[RuleDef<'d>],
+) -> Result<Result<Option<Vec<Rule>>, Fault<'d>>, AllocError>
     requires rules { AreRules (seen_defs known.now) given.now }
+    requires declared { AreHeadsDeclared (whole known.now) }
     requires templates { AreWhole (written (whole known.now)) templates.now }
-    ensures { IfOk result (λ rules. option_map (λ rs. map elaborated_rule rs.items) rules ≡ taken_rules (whole known.now) 0 (rule_defs (seen_defs known.now))) }
+    ensures { IfOk result (λ found. AreRulesFound (whole known.now) found) }
 {
     let mut rules = Vec::with_capacity(alloc, given.len())?;
+    let mut complete = true;
     for (number, rule) in given.iter().enumerate() {
         match rule_at(alloc, known, templates, number, rule)? {
-            Some(found) => rules.push(found)?,
-            None => return Ok(None),
+            Found::Broken(row) => {
+                return Ok(Err(Fault {
+                    row,
+                    pos: rule.pos,
+                    term: rule.term,
+                }));
+            }
+            Found::Unbuilt => complete = false,
+            Found::Taken(found) => rules.push(found)?,
         }
     }
-    Ok(Some(rules))
+    Ok(Ok(if complete { Some(rules) } else { None }))
 }

@@ -1,6 +1,6 @@
 //! What the typing table says of the parts of a rule.
 
-ghost use Rattle.std.specs.Prelude.{◌≡◌, ◌||◌, [], Option, Some};
+ghost use Rattle.std.specs.Prelude.{◌≡◌, [], Option, Some};
 ghost use Rattle.isle_declarations.specs.Signatures.{Signature};
 ghost use Rattle.isle_terms.specs.Whole.{Whole};
 ghost use Rattle.isle_sema.specs.Site.{IntegerAt, TruthAt, PartAt, MetAt, UsedAt, CalledAt, TakenAt, ConstantAt, BoundAt};
@@ -63,16 +63,6 @@ impl Judged {
             ruled: false,
             unbound: false,
         }
-    }
-
-    /// Tells whether a template with such parts is not taken: one breaks a row, or is of a term that has a rule.
-    pub fn is_misbuilt(&self) -> bool
-        ensures { result ≡ self.now.unbound || (self.now.met_otherwise || (self.now.untaken || (self.now.mistaken || (self.now.misplaced || (self.now.undeclared || self.now.ruled))))) }
-    {
-        self.unbound
-            || (self.met_otherwise
-                || (self.untaken
-                    || (self.mistaken || (self.misplaced || (self.undeclared || self.ruled)))))
     }
 
     /// Judges a variable of a `let` by its type, where it is declared.

@@ -10,13 +10,13 @@ ghost use Rattle.isle_terms.specs.Whole.{whole};
 ghost use Rattle.isle_sema.specs.Known.{MayBeCalled};
 
 use isle_core::{Sym, Term, TermId, Text, TypeEnv, TypeId};
-use isle_declarations::{Declarations, Origin, Terms};
+use isle_declarations::{Declarations, KnownExtractor, Origin, Terms};
 use isle_terms::Converters;
 use isle_types::Before;
 use std::marker::Model;
 
 /// A term: its number, the types of its arguments and of its result, its flags, whether a type makes it, and whether it has
-/// an external constructor, an external extractor and a rule.
+/// an external constructor, an extractor, a template and a rule.
 #[derive(Clone, Copy)]
 pub struct Called<'s> {
     pub term: TermId,
@@ -28,10 +28,11 @@ pub struct Called<'s> {
     pub made: bool,
     pub external: bool,
     pub extracting: bool,
+    pub templated: bool,
     pub ruled: bool,
 }
 
-/// Definitions whose types and constants have no fault, with what they declare. Contracts see the definitions.
+/// Definitions whose types, constants and terms have no fault, with what they declare. Contracts see the definitions.
 #[derive(Drop)]
 pub struct Known<'s, 'd> {
     pub declarations: &'s Declarations<'d>,
@@ -106,6 +107,10 @@ impl<'s, 'd> Known<'s, 'd> {
             Origin::Declared => false,
             Origin::Variant(_) | Origin::Struct => true,
         };
+        let templated = match self.declarations.extractor(number) {
+            Some(KnownExtractor::Template) => true,
+            Some(KnownExtractor::Function { .. }) | None => false,
+        };
         Some(Called {
             term: TermId(place),
             args: term.arg_tys.as_slice(),
@@ -116,6 +121,7 @@ impl<'s, 'd> Known<'s, 'd> {
             made,
             external: self.declarations.external(number).is_some(),
             extracting: self.declarations.extracting(number).is_some(),
+            templated,
             ruled: self.declarations.rule(number).is_some(),
         })
     }

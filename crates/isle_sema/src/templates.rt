@@ -1,7 +1,6 @@
-//! The templates of internal extractors, with types in them.
+//! The templates of internal extractors, with types in them, and the first that breaks a row of the typing table.
 
-ghost use Rattle.std.specs.Prelude.{◌≡◌, List, Option, Some, None, true, IfOk, is_some, not, map, option_map, option_and_then, slice_get, if◌then◌else◌};
-ghost use Rattle.std.specs.List.{list_any};
+ghost use Rattle.std.specs.Prelude.{◌≡◌, Option, Some, true, IfOk, is_some, map, option_map, option_and_then, slice_get};
 ghost use Rattle.isle_ast.specs.Views.{pattern, defs as seen_defs};
 ghost use Rattle.isle_core.specs.RuleViews.{pattern as elaborated};
 ghost use Rattle.isle_declarations.specs.Collected.{extractor as seen, AreExtractors};
@@ -9,23 +8,34 @@ ghost use Rattle.isle_declarations.specs.Signatures.{Signature, ByTemplate, extr
 ghost use Rattle.isle_declarations.specs.Symbols.{index_of, symbols};
 ghost use Rattle.isle_declarations.specs.Terms.{terms as all_terms};
 ghost use Rattle.isle_declarations.specs.TermViews.{term_def};
-ghost use Rattle.isle_sema.specs.Known.{MayBeCalled};
-ghost use Rattle.isle_variables.specs.Scope.{no_variables};
-ghost use Rattle.isle_sema.specs.Taken.{taken_template, taken_templates};
-ghost use Rattle.isle_sema.specs.TemplateRows.{misses_parameter};
-ghost use Rattle.isle_sema.specs.Templates.{params_met, template_for, templates};
-ghost use Rattle.isle_sema.specs.TakenAt.{AreTemplatesAt};
 ghost use Rattle.isle_terms.specs.Whole.{Whole, arg_types, whole};
+ghost use Rattle.isle_variables.specs.Scope.{no_variables};
+ghost use Rattle.isle_walks.specs.Walks.{AreClosedTold};
+ghost use Rattle.isle_sema.specs.Known.{MayBeCalled};
+ghost use Rattle.isle_sema.specs.Templates.{params_met, template_for, templates};
+ghost use Rattle.isle_sema.specs.TemplatesChecked.{tree_of, IsTried, AreTried, AreTemplatesChecked};
+ghost use Rattle.isle_sema.specs.TemplateUses.{template_uses};
 
 use crate::elaborated_patterns::pattern_at;
+use crate::fault::Fault;
 use crate::judged::Judged;
 use crate::known::{Called, Known, argument_types, result_type};
+use crate::rows::template_row;
+use crate::template_uses::{closed_terms, reaches_itself};
 use isle_ast::AstPattern;
 use isle_core::{Pattern, Text};
-use isle_declarations::{Extracting, ExtractorDef, Symbols, TermDef};
-use isle_templates::{Templates, copied, whole_templates};
-use isle_variables::{Variables, names_in};
+use isle_declarations::{Extracting, ExtractorDef, TermDef};
+use isle_templates::{Templates, copied_at, whole_templates};
+use isle_types::Row;
+use isle_variables::{Variables, misses_variable};
 use std::alloc::{AllocError, Global};
+
+/// The templates of definitions whose extractors break no row, and whether one uses a term that has a rule.
+#[derive(Drop)]
+pub struct Taken {
+    pub templates: Templates,
+    pub ruled: bool,
+}
 
 // The variables of a template: its parameters, each at the type of its argument.
 fn parameters<'d>(
@@ -43,95 +53,63 @@ fn parameters<'d>(
     Ok(vars)
 }
 
-// Whether a parameter is not among these names.
-fn misses_name(names: &Symbols, params: &[Text]) -> bool
-    ensures { result ≡ list_any (λ (param : List _). not (is_some (index_of names.now param))) params.now }
-{
-    for param in params {
-        if names.find(param.as_str()).is_none() {
-            return true;
-        }
-    }
-    false
-}
-
-// Whether a parameter does not stand in a template.
-fn misses_parameter(
-    alloc: Global,
-    params: &[Text],
-    template: &AstPattern,
-) -> Result<bool, AllocError>
-    ensures { IfOk result (λ misses. misses ≡ misses_parameter (ByTemplate (record { params = params.now; pattern = pattern template.now }))) }
-{
-    let names = names_in(alloc, template)?;
-    Ok(misses_name(&names, params))
-}
-
-// A template that is found, unless it is refused.
-fn unless_refused(refused: bool, found: Option<Pattern>) -> Option<Option<Pattern>>
-    ensures { option_map (option_map elaborated) result ≡ (if refused then None else option_map Some (option_map elaborated found)) }
-{
-    if refused {
-        return None;
-    }
-    let tree = found?;
-    Some(Some(tree))
-}
-
-// The template of an extractor, where it has one: nothing where it breaks a row, uses a term that has a rule, or has no tree.
+// The tree of an extractor's template, if it has one, and whether that uses a term that has a rule; or the row that it breaks.
 fn template_of(
     alloc: Global,
     known: &Known,
+    closed: &[bool],
     given: &ExtractorDef,
-) -> Result<Option<Option<Pattern>>, AllocError>
-    requires { index_of (whole known.now).types.syms given.now.term.now ≡ Some given.now.number }
-    ensures { IfOk result (λ found. option_map (option_map elaborated) found ≡ taken_template (whole known.now) (seen given.now)) }
+) -> Result<Result<(Option<Pattern>, bool), Row>, AllocError>
+    requires number { index_of (whole known.now).types.syms given.now.term.now ≡ Some given.now.number }
+    requires closed { AreClosedTold (template_uses (whole known.now)) closed.now }
+    ensures { IfOk result (λ found. IsTried (whole known.now) (seen given.now) found) }
 {
     match given.by {
-        Extracting::Function { .. } => Ok(Some(None)),
+        Extracting::Function { .. } => Ok(Ok((None, false))),
         Extracting::Template { params, template } => {
             let callee = known.at(given.number);
             let mut vars = parameters(alloc, &callee, params)?;
             let mut judged = Judged::new();
             let expected = result_type(&callee);
-            let found = pattern_at(alloc, known, &mut vars, &mut judged, expected, template)?;
-            let misses = misses_parameter(alloc, params, template)?;
-            Ok(unless_refused(misses | judged.is_misbuilt(), found))
+            let tree = pattern_at(alloc, known, &mut vars, &mut judged, expected, template)?;
+            let misses = misses_variable(alloc, params, template)?;
+            match template_row(reaches_itself(&callee, closed), misses, &judged) {
+                Some(row) => Ok(Err(row)),
+                None => Ok(Ok((tree, judged.ruled))),
+            }
         }
     }
 }
 
-// The templates of extractors, in order: nothing where one is not taken.
-fn templates_of(
+// Those of extractors, in order; or the first that breaks a row.
+fn templates_of<'d>(
     alloc: Global,
-    known: &Known,
-    given: &[ExtractorDef],
-) -> Result<Option<Vec<Option<Pattern>>>, AllocError>
-    requires { AreExtractors (seen_defs known.now) given.now }
-    ensures { IfOk result (λ found. option_map (λ ts. map (option_map elaborated) ts.items) found ≡ taken_templates (whole known.now) (extractors (seen_defs known.now))) }
+    known: &Known<'_, 'd>,
+    closed: &[bool],
+    given: &[ExtractorDef<'d>],
+) -> Result<Result<(Vec<Option<Pattern>>, bool), Fault<'d>>, AllocError>
+    requires extractors { AreExtractors (seen_defs known.now) given.now }
+    requires closed { AreClosedTold (template_uses (whole known.now)) closed.now }
+    ensures { IfOk result (λ found. AreTried (whole known.now) (extractors (seen_defs known.now)) found) }
 {
-    let mut found = Vec::with_capacity(alloc, given.len())?;
+    let mut trees = Vec::with_capacity(alloc, given.len())?;
+    let mut ruled = false;
     for extractor in given {
-        match template_of(alloc, known, extractor)? {
-            Some(template) => found.push(template)?,
-            None => return Ok(None),
+        match template_of(alloc, known, closed, extractor)? {
+            Ok((tree, opens)) => {
+                trees.push(tree)?;
+                ruled = ruled | opens;
+            }
+            Err(row) => {
+                return Ok(Err(Fault {
+                    row,
+                    pos: extractor.pos,
+                    term: extractor.term,
+                }));
+            }
         }
     }
-    Ok(Some(found))
-}
-
-// A copy of the tree at a place, where there is one.
-fn copied_at(
-    alloc: Global,
-    trees: &[Option<Pattern>],
-    place: usize,
-) -> Result<Option<Pattern>, AllocError>
-    ensures { IfOk result (λ found. option_map elaborated found ≡ option_and_then (λ tree. tree) (slice_get (map (option_map elaborated) trees.now) place)) }
-{
-    match trees.get(place) {
-        Some(Some(tree)) => Ok(Some(copied(alloc, tree)?)),
-        Some(None) | None => Ok(None),
-    }
+    Ok(Ok((trees, ruled)))
 }
 
 // The template of a term, by those of the extractors.
@@ -141,7 +119,7 @@ fn template_for(
     trees: &[Option<Pattern>],
     term: &TermDef,
 ) -> Result<Option<Pattern>, AllocError>
-    requires taken { taken_templates (whole known.now) (extractors (seen_defs known.now)) ≡ Some (map (option_map elaborated) trees.now) }
+    requires trees { map (option_map elaborated) trees.now ≡ map (tree_of (whole known.now)) (extractors (seen_defs known.now)) }
     requires named { is_some (index_of (symbols (seen_defs known.now)) term.now.term.now) ≡ true }
     ensures { IfOk result (λ found. option_map elaborated found ≡ template_for (whole known.now) (term_def term.now)) }
 {
@@ -161,7 +139,7 @@ fn by_terms(
     trees: &[Option<Pattern>],
     terms: &[TermDef],
 ) -> Result<Vec<Option<Pattern>>, AllocError>
-    requires taken { taken_templates (whole known.now) (extractors (seen_defs known.now)) ≡ Some (map (option_map elaborated) trees.now) }
+    requires trees { map (option_map elaborated) trees.now ≡ map (tree_of (whole known.now)) (extractors (seen_defs known.now)) }
     requires terms { map term_def terms.now ≡ all_terms (seen_defs known.now) }
     ensures { IfOk result (λ found. map (option_map elaborated) found.items ≡ templates (whole known.now)) }
 {
@@ -172,14 +150,24 @@ fn by_terms(
     Ok(found)
 }
 
-/// Returns the templates of all terms, with those that they use replaced: nothing where one breaks a row, uses a term that has a rule,
-/// has no tree or reaches itself. The only error is want of memory.
-pub fn templates_at(alloc: Global, known: &Known) -> Result<Option<Templates>, AllocError>
-    ensures { IfOk result (λ found. AreTemplatesAt (whole known.now) found) }
+/// Looks for extractors that break a row of the typing table: tells the first that does, by the lowest row that it breaks
+/// (`specs/Fault.antt`); or else returns the templates of all terms, with those that they use replaced. The only error is want of memory.
+pub fn check_templates<'d>(
+    alloc: Global,
+    known: &Known<'_, 'd>,
+) -> Result<Result<Taken, Fault<'d>>, AllocError>
+    ensures { IfOk result (λ found. AreTemplatesChecked (whole known.now) found) }
 {
-    let Some(trees) = templates_of(alloc, known, known.declarations.extractors())? else {
-        return Ok(None);
+    let closed = closed_terms(alloc, known)?;
+    let given = known.declarations.extractors();
+    let (trees, ruled) = match templates_of(alloc, known, closed.as_slice(), given)? {
+        Ok(found) => found,
+        Err(fault) => return Ok(Err(fault)),
     };
-    let written = by_terms(alloc, known, trees.as_slice(), known.terms.terms.as_slice())?;
-    whole_templates(alloc, written.as_slice())
+    let terms = known.terms.terms.as_slice();
+    let written = by_terms(alloc, known, trees.as_slice(), terms)?;
+    match whole_templates(alloc, written.as_slice())? {
+        Some(templates) => Ok(Ok(Taken { templates, ruled })),
+        None => unreachable!(),
+    }
 }

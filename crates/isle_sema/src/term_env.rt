@@ -14,9 +14,10 @@ ghost use Rattle.isle_sema.specs.TakenAt.{AreRulesAt};
 ghost use Rattle.isle_sema.specs.Typing.{TypedOnly, SomeTyped, told_fault, IsUntyped};
 
 use crate::elaborated_rules::rules_at;
+use crate::fault::Fault;
 use crate::known::Known;
 use crate::language::are_built_forms;
-use crate::templates::templates_at;
+use crate::templates::check_templates;
 use crate::typing::EnvError;
 use isle_core::{List, Rule, Term, TermEnv, Text, TypeEnv};
 use isle_declarations::{Declarations, Terms, terms_of as gathered_terms};
@@ -24,7 +25,8 @@ use isle_terms::{Converters, check_terms, terms_of};
 use isle_types::Before;
 use std::alloc::{AllocError, Global};
 
-// The rules of definitions over their terms, with their templates replaced: nothing where a template or a rule is not taken.
+// The rules of definitions over their terms, with their templates replaced, or what is wrong with a template or else with a rule: nothing
+// where one uses a term that has a rule.
 fn rules_of<'d>(
     alloc: Global,
     declarations: &Declarations<'d>,
@@ -33,7 +35,7 @@ fn rules_of<'d>(
     terms: &Terms<'d>,
     typed: &[Term],
     converters: &Converters,
-) -> Result<Option<Vec<Rule>>, AllocError>
+) -> Result<Result<Option<Vec<Rule>>, Fault<'d>>, AllocError>
     requires { AreKnown declarations.now before.now types.now terms.now typed.now converters.now }
     ensures { IfOk result (λ rules. AreRulesAt (whole declarations.now) rules) }
 {
@@ -45,15 +47,23 @@ fn rules_of<'d>(
         typed,
         converters,
     };
-    let Some(templates) = templates_at(alloc, &known)? else {
-        return Ok(None);
+    let taken = match check_templates(alloc, &known)? {
+        Ok(taken) => taken,
+        Err(fault) => return Ok(Err(fault)),
     };
-    rules_at(alloc, &known, &templates, declarations.rules())
+    let rules = match rules_at(alloc, &known, &taken.templates, declarations.rules())? {
+        Ok(rules) => rules,
+        Err(fault) => return Ok(Err(fault)),
+    };
+    if taken.ruled {
+        return Ok(Ok(None));
+    }
+    Ok(Ok(rules))
 }
 
 /// Returns the terms, rules and converters of definitions, whose types make these: `Typing` comes where a declaration, what names its
-/// term, a converter or a head is wrong, `NotYet` where none is and they are not all of forms that are built, or a template or a rule
-/// is wrong.
+/// term, a converter or a head is wrong; `NotYet` where none is and they are not all of forms that are built; `Typing` where they are and
+/// an extractor is wrong, or else a rule, and `NotYet` where none is and they are not of the language that is built.
 pub fn term_env<'d>(
     alloc: Global,
     declarations: &Declarations<'d>,
@@ -79,7 +89,7 @@ pub fn term_env<'d>(
     let Some(typed) = terms_of(alloc, declarations, before, &terms)? else {
         return Err(EnvError::NotYet);
     };
-    let Some(rules) = rules_of(
+    let found = rules_of(
         alloc,
         declarations,
         before,
@@ -87,9 +97,11 @@ pub fn term_env<'d>(
         &terms,
         typed.as_slice(),
         &converters,
-    )?
-    else {
-        return Err(EnvError::NotYet);
+    )?;
+    let rules = match found {
+        Ok(Some(rules)) => rules,
+        Ok(None) => return Err(EnvError::NotYet),
+        Err(fault) => return Err(EnvError::Typing(fault.error(alloc)?)),
     };
     Ok(TermEnv {
         terms: List::new(typed),

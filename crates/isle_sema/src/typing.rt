@@ -17,9 +17,9 @@ use std::alloc::{AllocError, Global};
 /// Why definitions give no environment.
 #[derive(Debug, Drop)]
 pub enum EnvError {
-    /// They are not all of the forms that are built, or one of them is wrong.
+    /// None is wrong that is told, and they are not of the language that is built.
     NotYet,
-    /// The first type, constant or declaration that is wrong, by the lowest row that it breaks.
+    /// The first that is wrong, of types and constants, then of declarations, of extractors and of rules, by the lowest row that it breaks.
     Typing(Error),
     Memory,
 }
@@ -111,9 +111,9 @@ pub fn type_env_from_ast(alloc: Global, defs: &[Def]) -> Result<TypeEnv, EnvErro
 }
 
 /// Types the terms, rules and converters of the definitions, whose types are given (`specs/Typing.antt`). `Typing` comes exactly
-/// where a declaration, what names its term, a converter or a rule's head is wrong, and tells the first by the lowest row that it
-/// breaks; `NotYet` where none is, and they are not all of forms that are built, a rule uses a term that has rules, or a template or
-/// a rule is wrong; beside them only want of memory.
+/// where a declaration, what names its term, a converter or a rule's head is wrong, or else, where all are of forms that are built, an
+/// extractor, or else a rule; it tells the first by the lowest row that it breaks. `NotYet` comes where no fault is told and they are not
+/// of the language that is built; beside them only want of memory.
 pub fn term_env_from_ast(alloc: Global, env: &TypeEnv, defs: &[Def]) -> Result<TermEnv, EnvError>
     requires { TypesFrom (seen defs.now) env.now }
     ensures ok { IfOk result (λ terms. TypedOnly (seen defs.now) (environment env.now terms)) }

@@ -6,7 +6,8 @@ use Rattle.isle_ast.specs.declared.tree.Def.{Def}
 use Rattle.isle_ast.specs.Views.{defs as seen}
 use Rattle.isle_declarations.specs.Signatures.{externs, extractors, rule_defs}
 use Rattle.isle_declarations.specs.Heads.{extern_terms, extractor_terms, heads_of}
-use Rattle.isle_declarations.specs.Tables.{IsFirstPlace}
+use Rattle.isle_declarations.specs.Symbols.{symbols}
+use Rattle.isle_declarations.specs.Tables.{IsFirstPlace, IsExtractorKnown}
 use Rattle.isle_declarations.specs.Terms.{is_made}
 use Rattle.isle_declarations.specs.TermViews.{term_def}
 use Rattle.isle_declarations.proofs.LookUps.{got, there}
@@ -14,7 +15,7 @@ use Rattle.isle_sema.specs.KnownOf.{AreKnown}
 use Rattle.isle_terms.specs.Whole.{termed}
 use Rattle.isle_terms.specs.Whole.{whole}
 use Rattle.isle_sema.specs.Known.{MayBeCalled}
-use Rattle.isle_sema.proofs.KnownLaws.{known_absent, known_past, known_beyond, known_at}
+use Rattle.isle_sema.proofs.KnownLaws.{known_absent, known_past, known_beyond, tells_template, template_told, known_at}
 use Rattle.isle_sema.proofs.known.Known.at.Goals as goal
 
 pub returns-in_err-place : goal.returns-in_err-place
@@ -64,6 +65,8 @@ returns c =
     let at = c.place.ensures (seen c.args.self.now) known.termed in
     let external = subst (λ (ds : List Def). IsFirstPlace (seen ds) c.args.number (extern_terms (externs (seen ds))) c.external.result) c.self.view_is c.external.ensures in
     let extracting = subst (λ (ds : List Def). IsFirstPlace (seen ds) c.args.number (extractor_terms (extractors (seen ds))) c.extracting.result) c.self.view_is c.extracting.ensures in
+    let extractor = subst (λ (ds : List Def). IsExtractorKnown (seen ds) c.args.number c.extractor.result) c.self.view_is c.extractor.ensures in
+    let templated : tells_template c.extractor.result ≡ c.match-extractor.templated = search rules in
     let ruled = subst (λ (ds : List Def). IsFirstPlace (seen ds) c.args.number (heads_of (rule_defs (seen ds))) c.rule.result) c.self.view_is c.rule.ensures in
     let term = there c.self.inside.typed.now c.in_ok-place.place c.get.result c.in_ok-term.term h.1 h.3 (search rules) in
     let given = there c.as_slice.result.now c.in_ok-place.place c.get-2.result c.in_ok-given.given j.1 j.3 (search rules) in
@@ -72,4 +75,4 @@ returns c =
     let signature_at = all ∙ slice_get-map term_def c.self.inside.terms.now.terms.items c.in_ok-place.place ∙ items ∙ ap (option_map term_def) given in
     let made : is_made c.in_ok-given.given.now.origin ≡ c.match-given.made = search rules in
     known_at w c.self.inside.typed.now name c.in_ok-place.place c.in_ok-term.term.now (term_def c.in_ok-given.given.now) _ known.typed (sym (at name e) ∙ place) term signature_at refl (search rules) refl refl refl refl made
-    (c.is_some.ensures ∙ ap is_some (external name e)) (c.is_some-2.ensures ∙ ap is_some (extracting name e)) (c.is_some-3.ensures ∙ ap is_some (ruled name e))
+    (c.is_some.ensures ∙ ap is_some (external name e)) (c.is_some-2.ensures ∙ ap is_some (extracting name e)) (sym templated ∙ ap tells_template (extractor name e) ∙ template_told (symbols w.defs) _) (c.is_some-3.ensures ∙ ap is_some (ruled name e))
