@@ -2,6 +2,7 @@ pub mod OutcomeOnce
 pub mod Prefixes
 pub mod InputLaws
 pub mod SameValueLaws
+pub mod SameBindings
 pub mod RunEquality
 pub mod Contained
 pub mod OutcomeOf

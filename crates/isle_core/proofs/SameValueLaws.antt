@@ -41,7 +41,7 @@ place_decides : (s t : IntType) → Decides (eqb (int_place s) (int_place t)) (s
 place_decides s t = Decides-like (eqb (int_place s) (int_place t)) (λ e. sym (back s) ∙ ap high_type e ∙ back t) (λ e. ap int_place e) (Decides-eqb (int_place s) (int_place t))
 
 -- what two parts of a kind say of the whole
-pair : {A B C : Type 0} (make : A → B → C) (a s : A) (b t : B) (x y : Bool) → Decides x (a ≡ s) → Decides y (b ≡ t) → (make a b ≡ make s t → (a ≡ s) × (b ≡ t)) → Decides (x && y) (make a b ≡ make s t)
+pub pair : {A B C : Type 0} (make : A → B → C) (a s : A) (b t : B) (x y : Bool) → Decides x (a ≡ s) → Decides y (b ≡ t) → (make a b ≡ make s t → (a ≡ s) × (b ≡ t)) → Decides (x && y) (make a b ≡ make s t)
 pair make a s b t x y h k apart = Decides-like (x && y) (λ p. ap (λ z. make z b) p.0 ∙ ap (make s) p.1) apart (Decides-and x y h k)
 
 triple : {A B C D : Type 0} (make : A → B → C → D) (a s : A) (b t : B) (c u : C) (x y z : Bool) → Decides x (a ≡ s) → Decides y (b ≡ t) → Decides z (c ≡ u) → (make a b c ≡ make s t u → (a ≡ s) × (b ≡ t) × (c ≡ u))

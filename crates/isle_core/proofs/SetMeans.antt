@@ -3,7 +3,6 @@ use Rattle.std.proofs.Common.{◌≡◌, ⊎_elim, ℕ, ◌+◌, List, [], ◌�
 use Rattle.std.specs.Prelude.{Contains, IsSome, IsSomeAnd}
 use Rattle.std.specs.Ordering.{int_cmp, is_lt}
 use Rattle.std.specs.List.{list_all, AllByRecursion}
-use Rattle.std.proofs.lemmas.List.{append-nil}
 use Rattle.std.proofs.lemmas.List.Elements.{All-contains, Contains-get_or, Contains-append_left, Contains-append_right}
 use Rattle.std.proofs.lemmas.List.Sums.{AllPass-from_list_all, list_all-from_AllPass}
 use Rattle.isle_core.specs.declared.rule_sets.FlatRule.{FlatRule}
@@ -17,7 +16,7 @@ use Rattle.isle_core.specs.Outcome.{prescription_of, rule_names}
 use Rattle.isle_core.specs.HighestMatch.{better, or_later, highest_match, given_by, outcome_of}
 use Rattle.isle_core.specs.Path.{Path, at}
 use Rattle.isle_core.specs.OrderedCalls.{rule_calls}
-use Rattle.isle_core.specs.Tests.{Test, Is, Equal, Never, no_places, args_tests, args_after, iflets_tests, iflets_after, rule_tests, rule_places, rule_result}
+use Rattle.isle_core.specs.Tests.{Test, Is, Equal, Never, rule_tests, rule_places, rule_result}
 use Rattle.isle_core.specs.ValueAt.{Item, AValue, ATuple, Held, Absent, One, Optional, Listed, Known, nothing_known, value_at, equal_values, equal_item, equal_items, equal_held, holds, all_hold}
 use Rattle.isle_core.specs.CallRun.{Went, Goes, Ends, then_go, returns, run_calls}
 use Rattle.isle_core.specs.RuleSet.{flat_tests, flat_holds, gave, flat_run, higher, highest, given, set_outcome}

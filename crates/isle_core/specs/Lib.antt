@@ -37,6 +37,7 @@ pub mod NamesApart
 pub mod ValueAt
 pub mod CallRun
 pub mod RuleSet
+pub mod SameBinding
 pub mod StandsFor
 pub mod Block
 pub mod BlockViews
@@ -44,6 +45,7 @@ pub mod BlockRun
 pub mod ReturnPosition
 pub mod Setting
 pub mod ExternalCall
+pub mod ExternalSig
 pub mod PathType
 pub mod ConstraintType
 pub mod Readable

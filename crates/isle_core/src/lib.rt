@@ -3,6 +3,7 @@
 
 mod blocks;
 mod errors;
+mod external_sig;
 mod files;
 mod int_type;
 mod line_starts;

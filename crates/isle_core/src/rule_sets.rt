@@ -1,8 +1,10 @@
+ghost use Rattle.isle_core.specs.SameBinding.{IsPlaceOf};
+
 use crate::position::Pos;
 use isle_base::{BindingId, List, Sym, TermId, TupleIndex, TypeId, VariantId};
 
 /// A value that a rule speaks of, by the values that it comes from.
-#[derive(Debug)]
+#[derive(Debug, PartialEq)]
 pub enum Binding {
     ConstBool {
         val: bool,
@@ -137,4 +139,18 @@ pub struct FlatRule {
 pub struct RuleSet {
     pub bindings: List<Binding>,
     pub rules: List<FlatRule>,
+}
+
+impl RuleSet {
+    /// Returns the place of the first binding that is equal to this one, if there is one.
+    pub fn find_binding(&self, binding: &Binding) -> Option<BindingId>
+        ensures { IsPlaceOf self.now.bindings binding.now result }
+    {
+        for (place, known) in self.bindings.as_slice().iter().enumerate() {
+            if known == binding {
+                return Some(BindingId(place));
+            }
+        }
+        None
+    }
 }
