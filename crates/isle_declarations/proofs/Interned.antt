@@ -14,12 +14,6 @@ pub texts_more : (texts : List (List ℕ)) (i : ℕ) (text d : List ℕ) (names 
     → fold added names (drop i texts) ≡ fold added (added names text) (drop (i + 1) texts)
 texts_more texts i text d names h is = ap (fold added names) (drop_more texts i d h ∙ ap (λ x. x ∷ drop (i + 1) texts) (sym is))
 
--- one thing with its names more
-pub flat_more : {X : Type 0} (f : X → List (List ℕ)) (xs : List X) (i : ℕ) (x d : X) (names : List (List ℕ)) → i < length xs → x ≡ get_or xs i d
-    → fold added names (flat_map f (drop i xs)) ≡ fold added (fold added names (f x)) (flat_map f (drop (i + 1) xs))
-flat_more f xs i x d names h is =
-    ap (λ ys. fold added names (flat_map f ys)) (drop_more xs i d h ∙ ap (λ y. y ∷ drop (i + 1) xs) (sym is)) ∙ fold-append added names (f x) (flat_map f (drop (i + 1) xs))
-
 -- the same of things that are seen as others
 pub seen_more : {X Y : Type 0} (seen : X → Y) (f : Y → List (List ℕ)) (xs : List X) (i : ℕ) (x d : X) (names : List (List ℕ)) → i < length xs → x ≡ get_or xs i d
     → fold added names (flat_map f (map seen (drop i xs))) ≡ fold added (fold added names (f (seen x))) (flat_map f (map seen (drop (i + 1) xs)))

@@ -1,18 +1,17 @@
 -- Numbers of names, and tables by them.
 use Rattle.std.proofs.Common.{◌≡◌, ℕ, suc, ◌+◌, ◌<◌, Bool, true, false, zero, cond, List, [], ◌∷◌, ◌++◌, length, map, get_or, take, Option, Some, None, Result, Ok, Err, refl, sym, ap, ◌∙◌, arith}
-use Rattle.std.specs.Prelude.{◌==◌, ◌||◌, fold, is_some, option_map, slice_get, set, drop, IfOk}
+use Rattle.std.specs.Prelude.{◌==◌, ◌||◌, fold, is_some, option_map, slice_get, set, IfOk}
 use Rattle.std.specs.List.{AllByRecursion, find}
 use Rattle.std.specs.Str.{bytes_eq}
 use Rattle.std.proofs.lemmas.Bool.Decides.{Decides-eqb}
 use Rattle.std.proofs.lemmas.Option.{same_Some, slice_get-get_or, slice_get-map}
-use Rattle.std.proofs.lemmas.List.{map-append, length-set, get_or-set_same, get_or-set_other, length-take-le, take_more, drop_more}
+use Rattle.std.proofs.lemmas.List.{map-append, length-set, get_or-set_same, get_or-set_other, length-take-le, take_more}
 use Rattle.std.proofs.lemmas.Slice.Eq.{bytes_eq-Decides}
 use Rattle.isle_declarations.specs.Symbols.{index_of, added}
-use Rattle.isle_declarations.specs.Signatures.{Signature, Extern, RuleDef, signature_named, func_named, has_rule}
-use Rattle.isle_declarations.specs.Heads.{terms_of, heads_of, extern_terms}
-use Rattle.isle_declarations.specs.Repeats.{repeats_after}
+use Rattle.isle_declarations.specs.Signatures.{Extern, RuleDef, func_named, has_rule}
+use Rattle.isle_declarations.specs.Heads.{heads_of, extern_terms}
 use Rattle.isle_declarations.specs.declared.first_places.FirstPlaces.{FirstPlaces}
-use Rattle.isle_declarations.specs.Numbered.{place_of, repeat_after, repeat_numbers, place_in, joined, ArePlaces, AreNumbered}
+use Rattle.isle_declarations.specs.Numbered.{place_of, place_in, joined, ArePlaces, AreNumbered}
 use Rattle.isle_declarations.specs.Tables.{HasFirsts}
 use Rattle.isle_declarations.proofs.SymbolLaws.{kept, index_below, same_number}
 use Rattle.isle_declarations.proofs.PlaceLaws.{or_at, after_first}
@@ -70,22 +69,13 @@ numbered_absent syms (a ∷ names) [] name h none = absurd cc
 numbered_absent syms (a ∷ names) (n ∷ ns) name h none =
     absent_first syms a name n (index_of names name) (bytes_eq a name) refl (first_number syms a names n ns h) none (numbered_absent syms names ns name (other_numbers syms a names n ns h) none)
 
-numbered_repeats : (syms before names : List (List ℕ)) (bs ns : List ℕ) → AreNumbered syms before bs → AreNumbered syms names ns → repeat_after bs ns ≡ repeats_after before names
-numbered_repeats syms before [] bs [] g h = refl
-numbered_repeats syms before [] bs (n ∷ ns) g h = absurd cc
-numbered_repeats syms before (name ∷ names) bs [] g h = absurd cc
-numbered_repeats syms before (name ∷ names) bs (n ∷ ns) g h =
-    let first = first_number syms name names n ns h in
-    ap (λ o. is_some o || repeat_after (bs ++ n ∷ []) ns) (numbered_places syms before bs name n g first)
-    ∙ ap (λ b. is_some (index_of before name) || b) (numbered_repeats syms (before ++ name ∷ []) names (bs ++ n ∷ []) ns (numbered_more syms before (name ∷ []) bs (n ∷ []) g (ap (λ x. x ∷ []) first)) (other_numbers syms name names n ns h))
-
 firsts_at : (syms names : List (List ℕ)) (ns : List ℕ) (found : FirstPlaces) (name : List ℕ) (o : Option ℕ) → AreNumbered syms names ns → ArePlaces (length syms) ns found → index_of syms name ≡ o → index_of names name ≡ place_in found.table.items o
 firsts_at syms names ns found name None h t e = numbered_absent syms names ns name h e
 firsts_at syms names ns found name (Some k) h t e = sym (numbered_places syms names ns name k h e) ∙ sym (t.places k (index_below syms name k e))
 
 -- the first places of numbers are those of their names
 pub numbered_firsts : (syms names : List (List ℕ)) (ns : List ℕ) (found : FirstPlaces) → AreNumbered syms names ns → ArePlaces (length syms) ns found → HasFirsts syms names found
-numbered_firsts syms names ns found h t = record { repeat = t.repeat ∙ numbered_repeats syms [] names [] ns refl h; firsts = λ name. firsts_at syms names ns found name (index_of syms name) h t refl }
+numbered_firsts syms names ns found h t = record { firsts = λ name. firsts_at syms names ns found name (index_of syms name) h t refl }
 
 -- ---- one number more
 
@@ -124,27 +114,15 @@ below_at [] count i h lt = absurd (omega arith)
 below_at (n ∷ numbers) count zero h lt = h.0
 below_at (n ∷ numbers) count (suc i) h lt = below_at numbers count i h.1 (omega arith)
 
--- the loop over numbers: as many places as the count, whether one repeated so far, and the places of the numbers so far
-pub record ArePut (numbers : List ℕ) (count i : ℕ) (table : List (Option ℕ)) (repeated : Bool) : Type 0 where
+-- the loop over numbers: as many places as the count, and the places of the numbers so far
+pub record ArePut (numbers : List ℕ) (count i : ℕ) (table : List (Option ℕ)) : Type 0 where
   pub long : length table ≡ count
-  pub repeat : repeat_numbers numbers ≡ repeated || repeat_after (take i numbers) (drop i numbers)
   pub places : (k : ℕ) → k < count → place_in table (Some k) ≡ place_of (take i numbers) k
 
-or_true : (b : Bool) → b || true ≡ true
-or_true true = refl
-or_true false = refl
-
--- what is left to repeat, with one number more
-repeat_more : (numbers : List ℕ) (i : ℕ) (o : Option ℕ) → i < length numbers → place_of (take i numbers) (get_or numbers i 0) ≡ o → repeat_after (take i numbers) (drop i numbers) ≡ is_some o || repeat_after (take (i + 1) numbers) (drop (i + 1) numbers)
-repeat_more numbers i o lt at =
-    let n = get_or numbers i 0 in
-    ap (repeat_after (take i numbers)) (drop_more numbers i 0 lt) ∙ ap (λ o. is_some o || repeat_after (take i numbers ++ n ∷ []) (drop (i + 1) numbers)) at
-    ∙ ap (λ xs. is_some o || repeat_after xs (drop (i + 1) numbers)) (sym (take_more numbers i 0 lt))
-
 -- one number more, which is new
-pub put_step : (numbers : List ℕ) (count i : ℕ) (table : List (Option ℕ)) (repeated : Bool) → i < length numbers → AllByRecursion (λ (n : ℕ). n < count) numbers → place_in table (Some (get_or numbers i 0)) ≡ None → ArePut numbers count i table repeated
-    → ArePut numbers count (i + 1) (set table (get_or numbers i 0) (Some i)) repeated
-put_step numbers count i table repeated lt below free h =
+pub put_step : (numbers : List ℕ) (count i : ℕ) (table : List (Option ℕ)) → i < length numbers → AllByRecursion (λ (n : ℕ). n < count) numbers → place_in table (Some (get_or numbers i 0)) ≡ None → ArePut numbers count i table
+    → ArePut numbers count (i + 1) (set table (get_or numbers i 0) (Some i))
+put_step numbers count i table lt below free h =
     let n = get_or numbers i 0 in
     let inside : n < length table = (let b = below_at numbers count i below lt in let e = h.long in omega arith) in
     let long : length (take i numbers) ≡ i = length-take-le i numbers (omega arith) in
@@ -152,7 +130,6 @@ put_step numbers count i table repeated lt below free h =
     let none : place_of (take i numbers) n ≡ None = sym (h.places n (below_at numbers count i below lt)) ∙ free in
     record {
       long = length-set table n (Some i) ∙ h.long;
-      repeat = h.repeat ∙ ap (λ b. repeated || b) (repeat_more numbers i None lt none);
       places = λ k l. ap (λ j. place_in (set table n (Some j)) (Some k)) (sym long) ∙ put_more table (take i numbers) n inside free (λ j m. h.places j (let e = h.long in omega arith)) k (let e = h.long in omega arith) ∙ ap (λ xs. place_of xs k) (sym more);
     }
 
@@ -162,23 +139,22 @@ place_kept None false end p h = refl
 place_kept (Some n) b end p h = refl
 
 -- one number more, which repeats
-pub put_again : (numbers : List ℕ) (count i : ℕ) (table : List (Option ℕ)) (repeated : Bool) (p : ℕ) → i < length numbers → AllByRecursion (λ (n : ℕ). n < count) numbers → place_in table (Some (get_or numbers i 0)) ≡ Some p → ArePut numbers count i table repeated
-    → ArePut numbers count (i + 1) table true
-put_again numbers count i table repeated p lt below there h =
+pub put_again : (numbers : List ℕ) (count i : ℕ) (table : List (Option ℕ)) (p : ℕ) → i < length numbers → AllByRecursion (λ (n : ℕ). n < count) numbers → place_in table (Some (get_or numbers i 0)) ≡ Some p → ArePut numbers count i table
+    → ArePut numbers count (i + 1) table
+put_again numbers count i table p lt below there h =
     let n = get_or numbers i 0 in
     let at : place_of (take i numbers) n ≡ Some p = sym (h.places n (below_at numbers count i below lt)) ∙ there in
     let more : take (i + 1) numbers ≡ take i numbers ++ n ∷ [] = take_more numbers i 0 lt in
     record {
       long = h.long;
-      repeat = h.repeat ∙ ap (λ b. repeated || b) (repeat_more numbers i (Some p) lt at) ∙ or_true repeated;
       places = λ k l. h.places k l ∙ sym (ap (λ xs. place_of xs k) more ∙ place_end (take i numbers) n k ∙ place_kept (place_of (take i numbers) k) (n == k) (length (take i numbers)) p (λ e. ap (place_of (take i numbers)) (sym ((Decides-eqb n k).0 e)) ∙ at));
     }
 
 -- the same where something is found
-pub put_found : (numbers : List ℕ) (count i : ℕ) (table : List (Option ℕ)) (repeated : Bool) (o : Option ℕ) → i < length numbers → AllByRecursion (λ (n : ℕ). n < count) numbers → place_in table (Some (get_or numbers i 0)) ≡ o → is_some o ≡ true
-    → ArePut numbers count i table repeated → ArePut numbers count (i + 1) table true
-put_found numbers count i table repeated None lt below there some h = absurd cc
-put_found numbers count i table repeated (Some p) lt below there some h = put_again numbers count i table repeated p lt below there h
+pub put_found : (numbers : List ℕ) (count i : ℕ) (table : List (Option ℕ)) (o : Option ℕ) → i < length numbers → AllByRecursion (λ (n : ℕ). n < count) numbers → place_in table (Some (get_or numbers i 0)) ≡ o → is_some o ≡ true
+    → ArePut numbers count i table → ArePut numbers count (i + 1) table
+put_found numbers count i table None lt below there some h = absurd cc
+put_found numbers count i table (Some p) lt below there some h = put_again numbers count i table p lt below there h
 
 -- what is seen of what is seen
 pub map_seen : {X Y Z : Type 0} (f : Y → Z) (g : X → Y) (xs : List X) → map f (map g xs) ≡ map (λ x. f (g x)) xs
@@ -234,8 +210,3 @@ named_later : {X : Type 0} (x : X) (b : Bool) (o : Option X) (p : Option ℕ) �
 named_later x true o p h = refl
 named_later x false o None h = h
 named_later x false o (Some n) h = h
-
--- a term is declared where it is among the declared names
-pub has_signature : (sigs : List Signature) (name : List ℕ) → is_some (signature_named sigs name) ≡ is_some (index_of (terms_of sigs) name)
-has_signature [] name = refl
-has_signature (s ∷ sigs) name = named_later s (bytes_eq s.term name) (find (λ (t : Signature). bytes_eq t.term name) sigs) (index_of (terms_of sigs) name) (has_signature sigs name)

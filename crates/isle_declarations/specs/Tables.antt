@@ -1,5 +1,5 @@
 -- The first places of names by their numbers.
-use Rattle.std.specs.Prelude.{◌≡◌, ℕ, List, Bool, ◌||◌, Option, Some, map, option_map}
+use Rattle.std.specs.Prelude.{◌≡◌, ℕ, List, Option, Some, map, option_map}
 use Rattle.isle_ast.specs.Tree.{Def}
 use Rattle.isle_declarations.specs.declared.collected.Definitions.{Definitions}
 use Rattle.isle_declarations.specs.declared.collected.KnownExtractor.{KnownExtractor}
@@ -9,7 +9,6 @@ use Rattle.isle_declarations.specs.Symbols.{index_of, number_or, symbols}
 use Rattle.isle_declarations.specs.Numbered.{place_in}
 use Rattle.isle_declarations.specs.Signatures.{ExtractorDef, Extracting, ByFunction, ByTemplate, signatures, externs, extractors, rule_defs, func_named, extractor_named}
 use Rattle.isle_declarations.specs.Heads.{terms_of, extern_terms, extractor_terms, heads_of}
-use Rattle.isle_declarations.specs.Repeats.{repeats}
 use Rattle.isle_declarations.specs.Collected.{signature, extern, extractor, rule, AreCollected}
 
 -- the names of the declarations that were gathered
@@ -28,9 +27,8 @@ extracting_names given = extractor_terms (map extractor given.extractors.items)
 abbrev pub ruled_names : Definitions → List (List ℕ)
 ruled_names given = heads_of (map rule given.rules.items)
 
--- the table has the first place of each name, by its number, and it is told whether one repeats
+-- the table has the first place of each name, by its number
 pub record HasFirsts (syms names : List (List ℕ)) (found : FirstPlaces) : Type 0 where
-  pub repeat : found.repeats ≡ repeats names
   pub firsts : (name : List ℕ) → index_of names name ≡ place_in found.table.items (index_of syms name)
 
 -- what was gathered of definitions, and the first places of its names
@@ -61,7 +59,3 @@ extractor_known syms x = extracting_known syms x.by
 -- what is found by a number is what is known of its name's extractor
 abbrev pub IsExtractorKnown : List Def → ℕ → Option KnownExtractor → Type 0
 IsExtractorKnown defs number found = (name : List ℕ) → index_of (symbols defs) name ≡ Some number → found ≡ option_map (extractor_known (symbols defs)) (extractor_named (extractors defs) name)
-
--- two declarations, external constructors or extractors are of one term
-abbrev pub any_repeat : List Def → Bool
-any_repeat defs = repeats (terms_of (signatures defs)) || repeats (extern_terms (externs defs)) || repeats (extractor_terms (extractors defs))

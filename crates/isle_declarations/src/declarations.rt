@@ -7,7 +7,7 @@ ghost use Rattle.isle_declarations.specs.DeclaredTypes.{made_of};
 ghost use Rattle.isle_declarations.specs.Signatures.{signatures, externs, extractors, rule_defs};
 ghost use Rattle.isle_declarations.specs.Heads.{terms_of, extern_terms, extractor_terms, heads_of};
 ghost use Rattle.isle_declarations.specs.Collected.{known_by, AreSignatures, AreExterns, AreExtractors, AreRules};
-ghost use Rattle.isle_declarations.specs.Tables.{IsFirstPlace, IsFuncNumber, IsExtractorKnown, any_repeat};
+ghost use Rattle.isle_declarations.specs.Tables.{IsFirstPlace, IsFuncNumber, IsExtractorKnown};
 
 use crate::collected::{
     Definitions, Extern, Extracting, ExtractorDef, KnownExtractor, RuleDef, Signature,
@@ -191,12 +191,5 @@ impl<'d> Declarations<'d> {
         let place = self.extracting(number)?;
         let found = self.given.extractors.get(place)?;
         Some(known_by(found.by))
-    }
-
-    /// Tells whether two declarations, external constructors or extractors are of one term.
-    pub fn any_repeat(&self) -> bool
-        ensures { result ≡ any_repeat (seen self.now) }
-    {
-        self.declared.repeats || self.external.repeats || self.extracting.repeats
     }
 }

@@ -6,11 +6,10 @@ ghost use Rattle.isle_declarations.specs.Numbered.{ArePlaces, place_in};
 
 use std::alloc::{AllocError, Global};
 
-/// The first place of each number, by the number, and whether one repeats.
+/// The first place of each number, by the number.
 #[derive(Drop)]
 pub struct FirstPlaces {
     pub table: Vec<Option<usize>>,
-    pub repeats: bool,
 }
 
 /// Returns what a table has at a number.
@@ -33,13 +32,10 @@ pub fn first_places(
     ensures { IfOk result (λ found. ArePlaces count numbers.now found) }
 {
     let mut table: Vec<Option<usize>> = vec![in alloc; None; count]?;
-    let mut repeats = false;
     for (place, number) in numbers.iter().enumerate() {
-        if place_in(table.as_slice(), *number).is_some() {
-            repeats = true;
-        } else {
+        if place_in(table.as_slice(), *number).is_none() {
             table[*number] = Some(place);
         }
     }
-    Ok(FirstPlaces { table, repeats })
+    Ok(FirstPlaces { table })
 }

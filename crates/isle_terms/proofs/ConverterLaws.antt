@@ -1,14 +1,11 @@
 -- Converters that are gathered one after the other.
-use Rattle.std.proofs.Common.{◌≡◌, ℕ, ◌+◌, ◌<◌, Bool, true, false, cond, List, [], ◌∷◌, ◌++◌, length, map, get_or, Option, Some, None, refl, sym, ap, ◌∙◌, subst, Ordering}
-use Rattle.std.specs.Prelude.{◌==◌, ◌&&◌, ◌||◌, not, is_some, drop, take, find, slice_get, option_map, option_and_then}
+use Rattle.std.proofs.Common.{◌≡◌, ℕ, ◌+◌, Bool, true, false, cond, List, [], ◌∷◌, ◌++◌, map, get_or, Option, Some, None, refl, sym, ap, ◌∙◌, subst, Ordering}
+use Rattle.std.specs.Prelude.{◌==◌, ◌&&◌, ◌||◌, not, is_some, find, slice_get, option_map, option_and_then}
 use Rattle.std.specs.Cmp.{nat_cmp_is}
-use Rattle.std.specs.List.{cons_option}
 use Rattle.std.specs.Option.{option_or}
 use Rattle.std.specs.Ordering.{is_eq, nat_cmp, ordering_then}
 use Rattle.std.specs.declared.cmp.Ordering.TheVariants.{Less, Equal, Greater}
-use Rattle.std.proofs.lemmas.Bool.{and_parts, or_parts, or_from, eqb-true, eq-eqb}
-use Rattle.std.proofs.lemmas.List.{drop_more, take_more}
-use Rattle.std.proofs.lemmas.List.Elements.{filter_map-append}
+use Rattle.std.proofs.lemmas.Bool.{and_parts, or_from, eqb-true, eq-eqb}
 use Rattle.std.proofs.lemmas.List.Folds.{find-append}
 use Rattle.std.proofs.lemmas.Map.Lookups.{exact_unsigned}
 use Rattle.std.proofs.lemmas.Option.{slice_get-map}
@@ -16,7 +13,7 @@ use Rattle.isle_core.specs.declared.TermId.{TermId}
 use Rattle.isle_core.specs.declared.TypeId.{TypeId}
 use Rattle.isle_ast.specs.declared.tree.Def.{Def as CodeDef}
 use Rattle.isle_ast.specs.Tree.{Def}
-use Rattle.isle_ast.specs.Views.{def, defs as seen_defs}
+use Rattle.isle_ast.specs.Views.{defs as seen_defs}
 use Rattle.isle_declarations.specs.Signatures.{Signature, signatures, signature_named, term_named}
 use Rattle.isle_declarations.specs.Collected.{signature as seen_signature}
 use Rattle.isle_declarations.specs.declared.collected.Signature.{Signature as CodeSignature}
@@ -28,13 +25,12 @@ use Rattle.isle_types.specs.Builtins.{type_id}
 use Rattle.isle_types.specs.TypeRows.{on}
 use Rattle.isle_terms.specs.declared.converters.Converter.{Converter}
 use Rattle.isle_terms.specs.declared.converters.Converters.{Converters}
-use Rattle.isle_terms.specs.Converters.{Conversion, converter_of, converters, are_types, converts, converter_between, types_of, fits, repeats_after, is_misfit, converter_pass, converters_pass}
+use Rattle.isle_terms.specs.Converters.{Conversion, converters, are_types, converts, converter_between, types_of, fits, repeats_after, is_misfit, converter_pass, converters_pass}
 use Rattle.isle_terms.specs.ConverterViews.{IsNumberOf, AreFound, IsRight, IsJoined, at_types, pair_cmp, taken_converter, taken_converters}
-use Rattle.isle_terms.specs.TermPass.{tree_before}
 use Rattle.isle_terms.specs.Tests.{is_misconverting, have_misfit}
 use Rattle.isle_terms.specs.Whole.{Whole, whole_of}
 use Rattle.isle_terms.proofs.MadeTerms.{first_there, before_both}
-use Rattle.isle_terms.proofs.TermSteps.{before, one_before}
+use Rattle.isle_terms.proofs.TermSteps.{before}
 
 -- ---- two types
 
@@ -119,47 +115,12 @@ or_left false b h = absurd cc
 pub undeclared_untaken : (defs : List Def) (cs : List Conversion) (c : Conversion) → signature_named (signatures defs) c.term ≡ None → taken_converter (whole_of defs) cs c ≡ None
 undeclared_untaken defs cs c none = misfit_untaken (whole_of defs) cs c (or_left (not (is_some (signature_named (signatures defs) c.term))) (is_misfit defs cs c) (ap (λ o. not (is_some o)) none))
 
--- one of a type that is not declared
-pub untyped_untaken : (defs : List Def) (cs : List Conversion) (c : Conversion) → types_of defs c ≡ None → taken_converter (whole_of defs) cs c ≡ None
-untyped_untaken defs cs c none =
-    let wrong = or_left (repeats_after defs cs (types_of defs c)) (on (signature_named (signatures defs) c.term) (λ (s : Signature). not (fits c s))) (ap (repeats_after defs cs) none) in
-    misfit_untaken (whole_of defs) cs c (or_right (not (is_some (signature_named (signatures defs) c.term))) (is_misfit defs cs c) wrong)
-
--- one between types that have one
-pub repeated_untaken : (defs : List Def) (cs : List Conversion) (c : Conversion) (found : TypeId × TypeId) (number : Option ℕ) → types_of defs c ≡ Some found → IsNumberOf defs (converter_between defs cs found.0 found.1) number → is_some number ≡ true
-    → taken_converter (whole_of defs) cs c ≡ None
-repeated_untaken defs cs c found number types is some =
-    let again : is_some (converter_between defs cs found.0 found.1) ≡ true = by (converter_between defs cs found.0 found.1) number is some in
-    let wrong = or_left (repeats_after defs cs (types_of defs c)) (on (signature_named (signatures defs) c.term) (λ (s : Signature). not (fits c s))) (ap (repeats_after defs cs) types ∙ again) in
-    misfit_untaken (whole_of defs) cs c (or_right (not (is_some (signature_named (signatures defs) c.term))) (is_misfit defs cs c) wrong)
-  where
-    by : (o : Option Conversion) (n : Option ℕ) → IsNumberOf defs o n → is_some n ≡ true → is_some o ≡ true
-    by None None h some = absurd cc
-    by None (Some n) h some = absurd h
-    by (Some x) None h some = absurd cc
-    by (Some x) (Some n) h some = refl
-
 -- one whose term does not fit it
 pub unfit_untaken : (defs : List Def) (cs : List Conversion) (c : Conversion) (s : Signature) → signature_named (signatures defs) c.term ≡ Some s → fits c s ≡ false → taken_converter (whole_of defs) cs c ≡ None
 unfit_untaken defs cs c s is unfit =
     let bad : on (signature_named (signatures defs) c.term) (λ (x : Signature). not (fits c x)) ≡ true = ap (λ o. on o (λ (x : Signature). not (fits c x))) is ∙ ap not unfit in
     let wrong = or_right (repeats_after defs cs (types_of defs c)) (on (signature_named (signatures defs) c.term) (λ (x : Signature). not (fits c x))) bad in
     misfit_untaken (whole_of defs) cs c (or_right (not (is_some (signature_named (signatures defs) c.term))) (is_misfit defs cs c) wrong)
-
--- one whose term is not there
-pub termless_untaken : (defs : List Def) (cs : List Conversion) (c : Conversion) → term_named (terms defs) c.term ≡ None → taken_converter (whole_of defs) cs c ≡ None
-termless_untaken defs cs c none = by (is_misconverting defs cs c)
-  where
-    placed : TypeId × TypeId → Option TermId → Option (TypeId × TypeId × TermId)
-    placed found o = option_map (λ (term : TermId). (found.0, found.1, term)) o
-
-    none_of : (o : Option (TypeId × TypeId)) → option_and_then (λ (found : TypeId × TypeId). placed found (term_named (terms defs) c.term)) o ≡ None
-    none_of None = refl
-    none_of (Some found) = ap (placed found) none
-
-    by : (b : Bool) → cond b None (converter_pass (whole_of defs) c) ≡ None
-    by true = refl
-    by false = none_of (types_of defs c)
 
 -- ---- its term
 
@@ -196,82 +157,11 @@ right_taken defs cs c s from to number term between types none absent is fit the
     by (Some x) None h none = absurd h
     by (Some x) (Some n) h none = absurd cc
 
--- ---- what is left
-
--- the converters from the i-th definition on, behind those that were gathered
-abbrev pub converters_left : List CodeDef → ℕ → List (TypeId × TypeId × TermId) → Option (List (TypeId × TypeId × TermId))
-converters_left ds i listed = before listed (taken_converters (whole_of (seen_defs ds)) (converters (seen_defs (take i ds))) (converters (seen_defs (drop i ds))))
+-- ---- a list
 
 -- an item of a list is one of the same list
 pub at_same : {A : Type 0} (xs ys : List A) (i : ℕ) (x d : A) → xs ≡ ys → x ≡ get_or xs i d → x ≡ get_or ys i d
 at_same xs ys i x d same at = at ∙ ap (λ (zs : List _). get_or zs i d) same
-
-next_left : (ds : List CodeDef) (i : ℕ) (x d : CodeDef) → i < length ds → x ≡ get_or ds i d → converters (seen_defs (drop i ds)) ≡ cons_option (converter_of (def x)) (converters (seen_defs (drop (i + 1) ds)))
-next_left ds i x d lt is = ap (λ xs. converters (seen_defs xs)) (drop_more ds i d lt) ∙ ap (λ y. cons_option (converter_of (def y)) (converters (seen_defs (drop (i + 1) ds)))) (sym is)
-
-next_taken : (ds : List CodeDef) (i : ℕ) (x d : CodeDef) → i < length ds → x ≡ get_or ds i d → converters (seen_defs (take (i + 1) ds)) ≡ converters (seen_defs (take i ds)) ++ cons_option (converter_of (def x)) []
-next_taken ds i x d lt is =
-    ap (λ xs. converters (seen_defs xs)) (take_more ds i d lt)
-    ∙ ap converters (map_more (take i ds) (get_or ds i d))
-    ∙ filter_map-append converter_of (seen_defs (take i ds)) (def (get_or ds i d) ∷ [])
-    ∙ ap (λ y. converters (seen_defs (take i ds)) ++ cons_option (converter_of (def y)) []) (sym is)
-  where
-    map_more : (xs : List CodeDef) (y : CodeDef) → seen_defs (xs ++ y ∷ []) ≡ seen_defs xs ++ def y ∷ []
-    map_more [] y = refl
-    map_more (z ∷ xs) y = ap (λ (ys : List Def). def z ∷ ys) (map_more xs y)
-
-nothing_more : (cs : List Conversion) → cs ++ cons_option None [] ≡ cs
-nothing_more [] = refl
-nothing_more (c ∷ cs) = ap (λ xs. c ∷ xs) (nothing_more cs)
-
--- a definition that is no converter
-pub other_left : (ds : List CodeDef) (i : ℕ) (x d : CodeDef) (listed : List (TypeId × TypeId × TermId)) → i < length ds → x ≡ get_or ds i d → converter_of (def x) ≡ None → converters_left ds (i + 1) listed ≡ converters_left ds i listed
-other_left ds i x d listed lt is none =
-    let w = whole_of (seen_defs ds) in
-    let taken : converters (seen_defs (take (i + 1) ds)) ≡ converters (seen_defs (take i ds)) = next_taken ds i x d lt is ∙ ap (λ o. converters (seen_defs (take i ds)) ++ cons_option o []) none ∙ nothing_more (converters (seen_defs (take i ds))) in
-    let left : converters (seen_defs (drop i ds)) ≡ converters (seen_defs (drop (i + 1) ds)) = next_left ds i x d lt is ∙ ap (λ o. cons_option o (converters (seen_defs (drop (i + 1) ds)))) none in
-    ap (λ cs. before listed (taken_converters w cs (converters (seen_defs (drop (i + 1) ds))))) taken ∙ ap (λ cs. before listed (taken_converters w (converters (seen_defs (take i ds))) cs)) (sym left)
-
--- and what is found stays
-pub other_found : (ds : List CodeDef) (i : ℕ) (x d : CodeDef) (found : Converters) → i < length ds → x ≡ get_or ds i d → converter_of (def x) ≡ None → AreFound (seen_defs ds) (converters (seen_defs (take i ds))) found
-    → AreFound (seen_defs ds) (converters (seen_defs (take (i + 1) ds))) found
-other_found ds i x d found lt is none h =
-    let taken : converters (seen_defs (take (i + 1) ds)) ≡ converters (seen_defs (take i ds)) = next_taken ds i x d lt is ∙ ap (λ o. converters (seen_defs (take i ds)) ++ cons_option o []) none ∙ nothing_more (converters (seen_defs (take i ds))) in
-    subst (λ cs. AreFound (seen_defs ds) cs found) (sym taken) h
-
--- a converter that is taken
-pub taken_left : (ds : List CodeDef) (i : ℕ) (x d : CodeDef) (c : Conversion) (k : Converter) (old new : Converters) → i < length ds → x ≡ get_or ds i d → converter_of (def x) ≡ Some c → IsRight (seen_defs ds) (converters (seen_defs (take i ds))) c k → IsJoined old k new
-    → converters_left ds (i + 1) new.listed.items ≡ converters_left ds i old.listed.items
-taken_left ds i x d c k old new lt is some right joined =
-    let w = whole_of (seen_defs ds) in
-    let done = converters (seen_defs (take i ds)) in
-    let rest = converters (seen_defs (drop (i + 1) ds)) in
-    let e : TypeId × TypeId × TermId = (k.from, k.to, k.term) in
-    let taken : converters (seen_defs (take (i + 1) ds)) ≡ done ++ c ∷ [] = next_taken ds i x d lt is ∙ ap (λ o. done ++ cons_option o []) some in
-    let left : converters (seen_defs (drop i ds)) ≡ c ∷ rest = next_left ds i x d lt is ∙ ap (λ o. cons_option o rest) some in
-    ap (λ cs. before new.listed.items (taken_converters w cs rest)) taken
-    ∙ ap (λ xs. before xs (taken_converters w (done ++ c ∷ []) rest)) joined.listed
-    ∙ sym (one_before old.listed.items e (taken_converters w (done ++ c ∷ []) rest))
-    ∙ ap (λ o. before old.listed.items (tree_before o (taken_converters w (done ++ c ∷ []) rest))) (sym right.taken)
-    ∙ ap (λ cs. before old.listed.items (taken_converters w done cs)) (sym left)
-
--- and is found
-pub taken_found : (ds : List CodeDef) (i : ℕ) (x d : CodeDef) (c : Conversion) (k : Converter) (old new : Converters) → i < length ds → x ≡ get_or ds i d → converter_of (def x) ≡ Some c → IsRight (seen_defs ds) (converters (seen_defs (take i ds))) c k → IsJoined old k new
-    → AreFound (seen_defs ds) (converters (seen_defs (take i ds))) old → AreFound (seen_defs ds) (converters (seen_defs (take (i + 1) ds))) new
-taken_found ds i x d c k old new lt is some right joined h =
-    let done = converters (seen_defs (take i ds)) in
-    let taken : converters (seen_defs (take (i + 1) ds)) ≡ done ++ c ∷ [] = next_taken ds i x d lt is ∙ ap (λ o. done ++ cons_option o []) some in
-    subst (λ cs. AreFound (seen_defs ds) cs new) (sym taken) (found_more (seen_defs ds) done c old new k right h joined)
-
--- one that is not
-pub untaken_left : (ds : List CodeDef) (i : ℕ) (x d : CodeDef) (c : Conversion) (listed : List (TypeId × TypeId × TermId)) → i < length ds → x ≡ get_or ds i d → converter_of (def x) ≡ Some c → taken_converter (whole_of (seen_defs ds)) (converters (seen_defs (take i ds))) c ≡ None
-    → converters_left ds i listed ≡ None
-untaken_left ds i x d c listed lt is some none =
-    let w = whole_of (seen_defs ds) in
-    let done = converters (seen_defs (take i ds)) in
-    let rest = converters (seen_defs (drop (i + 1) ds)) in
-    let left : converters (seen_defs (drop i ds)) ≡ c ∷ rest = next_left ds i x d lt is ∙ ap (λ o. cons_option o rest) some in
-    ap (λ cs. before listed (taken_converters w done cs)) left ∙ ap (λ o. before listed (tree_before o (taken_converters w (done ++ c ∷ []) rest))) none
 
 -- ---- all of them
 
@@ -287,10 +177,3 @@ converters_are w done (c ∷ cs) found h =
     let one = not_kept (is_misconverting w.defs done c) (converter_pass w c) f.first f.here in
     let rest = converters_are w (done ++ c ∷ []) cs f.others f.found in
     (or_from (is_misconverting w.defs done c) (have_misfit w.defs (done ++ c ∷ []) cs) one.0 rest.0, before_both (converter_pass w c) (converters_pass w cs) f.first f.others one.1 rest.1 ∙ ap Some (sym f.all))
-
--- and those that keep their rows are taken where they have them
-pub converters_taken : (w : Whole) (done cs : List Conversion) → have_misfit w.defs done cs ≡ false → taken_converters w done cs ≡ converters_pass w cs
-converters_taken w done [] h = refl
-converters_taken w done (c ∷ cs) h =
-    let k = or_parts (is_misconverting w.defs done c) (have_misfit w.defs (done ++ c ∷ []) cs) h in
-    ap (λ b. tree_before (cond b None (converter_pass w c)) (taken_converters w (done ++ c ∷ []) cs)) k.0 ∙ ap (tree_before (converter_pass w c)) (converters_taken w (done ++ c ∷ []) cs k.1)

@@ -1,6 +1,5 @@
 pub mod MadeTerms
 pub mod TermSteps
-pub mod Placing
 pub mod ConverterLaws
 pub mod ReducedLaws
 pub mod EarlierNames

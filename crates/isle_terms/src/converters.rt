@@ -1,16 +1,15 @@
 //! Converters, found by the types that they stand between.
 
-ghost use Rattle.std.specs.Prelude.{◌≡◌, List, [], IfOk, OnOk, option_map};
+ghost use Rattle.std.specs.Prelude.{◌≡◌, List, [], OnOk};
 ghost use Rattle.isle_ast.specs.Tree.{Def as PureDef};
-ghost use Rattle.isle_ast.specs.Views.{def, defs as seen_defs};
+ghost use Rattle.isle_ast.specs.Views.{defs as seen_defs};
 ghost use Rattle.isle_declarations.specs.Collected.{signature as seen_signature};
 ghost use Rattle.isle_declarations.specs.TermViews.{AreTerms};
 ghost use Rattle.isle_types.specs.Gathered.{IsBefore};
-ghost use Rattle.isle_terms.specs.Converters.{Conversion as PureConversion, converter_of, converter_between, converters, fits, types_of};
-ghost use Rattle.isle_terms.specs.ConverterViews.{seen, AreFound, IsNumberOf, IsJoined, IsKnown, AreTaken};
+ghost use Rattle.isle_terms.specs.Converters.{Conversion as PureConversion, converter_between, fits, types_of};
+ghost use Rattle.isle_terms.specs.ConverterViews.{seen, AreFound, IsNumberOf, IsJoined, IsKnown};
 
 use crate::named_types::type_named;
-use isle_ast::Def;
 use isle_core::{TermId, Text, TypeId};
 use isle_declarations::{Declarations, Signature, Terms};
 use isle_types::Before;
@@ -39,16 +38,6 @@ pub struct Converter {
 pub struct Converters {
     pub listed: Vec<(TypeId, TypeId, TermId)>,
     pub numbers: BTreeMap<(usize, usize), usize>,
-}
-
-// The converter that a definition is.
-fn converter_of<'d>(given: &'d Def) -> Option<Conversion<'d>>
-    ensures { option_map seen result ≡ converter_of (def given.now) }
-{
-    match given {
-        Def::Converter { from, to, term, .. } => Some(Conversion { from, to, term }),
-        _ => None,
-    }
 }
 
 // Whether a term takes exactly the one type, and gives the other.
@@ -131,27 +120,4 @@ impl Converters {
             .insert((given.from.index(), given.to.index()), given.number)?;
         Ok(())
     }
-}
-
-/// Returns the converters of definitions: nothing where one is wrong.
-pub fn converters_of(
-    alloc: Global,
-    declarations: &Declarations,
-    before: &Before,
-    terms: &Terms,
-) -> Result<Option<Converters>, AllocError>
-    requires before { IsBefore (seen_defs declarations.now) before.now }
-    requires terms { AreTerms (seen_defs declarations.now) terms.now }
-    ensures { IfOk result (λ found. AreTaken (seen_defs declarations.now) found) }
-{
-    let mut found = Converters::new(alloc);
-    for given in declarations.defs() {
-        if let Some(conversion) = converter_of(given) {
-            match found.known(declarations, before, terms, conversion) {
-                Some(converter) => found.add(converter)?,
-                None => return Ok(None),
-            }
-        }
-    }
-    Ok(Some(found))
 }

@@ -4,9 +4,9 @@ ghost use Rattle.std.specs.Prelude.{◌≡◌, List, IfOk};
 ghost use Rattle.isle_ast.specs.Tree.{Def as PureDef};
 ghost use Rattle.isle_ast.specs.Views.{def, defs as seen};
 ghost use Rattle.isle_declarations.specs.TermViews.{AreTerms};
-ghost use Rattle.isle_types.specs.Gathered.{IsBefore, TellsFault};
+ghost use Rattle.isle_types.specs.Gathered.{IsBefore};
 ghost use Rattle.isle_terms.specs.ConverterViews.{AreMet};
-ghost use Rattle.isle_terms.specs.Misfits.{AreNames, ArePlaced, IsJudged, IsScanned, AreChecked, misfit_row};
+ghost use Rattle.isle_terms.specs.Misfits.{AreNames, ArePlaced, IsJudged, IsScanned, AreChecked};
 
 use crate::converters::{Conversion, Converters};
 use crate::counts::Counts;
@@ -17,9 +17,9 @@ use crate::declaration_misfits::{
 use crate::misfit::Misfit;
 use crate::names::Names;
 use isle_ast::Def;
-use isle_core::{Error, OutOfMemory, Pos, Span};
+use isle_core::{Error, OutOfMemory, Pos};
 use isle_declarations::{Declarations, Terms};
-use isle_types::{Before, place_of};
+use isle_types::{Before, place_of, type_error};
 use std::alloc::{AllocError, Global};
 
 // What is wrong with a definition that has so many before it; or else it is met.
@@ -64,18 +64,6 @@ fn misfit_of<'d>(
     }
 }
 
-// The error of a definition at that place.
-fn error_of(alloc: Global, pos: Pos, misfit: Misfit) -> Result<Error, OutOfMemory>
-    ensures { IfOk result (λ error. TellsFault (misfit_row misfit.entry, pos) error) }
-{
-    let msg = misfit.words(alloc)?;
-    Ok(Error::TypeError {
-        row: misfit.row().number(),
-        msg,
-        span: Span::new_single(pos),
-    })
-}
-
 // The first thing that is wrong with definitions, with the place of its definition; or else their converters.
 fn first_misfit<'d>(
     alloc: Global,
@@ -115,6 +103,6 @@ pub fn check_terms<'k, 'd>(
     };
     match first_misfit(alloc, &names)? {
         Ok(found) => Ok(Ok(found)),
-        Err((misfit, pos)) => Ok(Err(error_of(alloc, pos, misfit)?)),
+        Err((misfit, pos)) => Ok(Err(type_error(misfit.row(), pos, misfit.words(alloc)?))),
     }
 }

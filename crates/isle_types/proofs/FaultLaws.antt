@@ -64,7 +64,3 @@ fault_lies P ds f h e = after_lies P (type_row ds) [] ds f h e
 pub told_by : (P : Pos → Type 0) (fault : Option (Row × Pos)) (error : Error) → ((f : Row × Pos) → fault ≡ Some f → P f.1) → TellsTyping fault (Some error) → (f : Row × Pos) × P f.1 × TellsFault f error
 told_by P None error h t = absurd t
 told_by P (Some f) error h t = (f, h f refl, t)
-
--- so does the error that tells it
-pub error_lies : (P : Pos → Type 0) (ds : List Def) (error : Error) → AllByRecursion (λ (d : Def). P (place_of d)) ds → TellsTyping (type_fault ds) (Some error) → (f : Row × Pos) × P f.1 × TellsFault f error
-error_lies P ds error h t = told_by P (type_fault ds) error (λ f e. fault_lies P ds f h e) t

@@ -1,6 +1,6 @@
 -- Constants without a fault: they are of builtin or primitive types, and those of one text are one.
 use Rattle.std.proofs.Common.{◌≡◌, ℕ, Bool, true, false, cond, List, [], ◌∷◌, map, Option, Some, None, refl, sym, ap, ◌∙◌, subst}
-use Rattle.std.specs.Prelude.{◌==◌, IfSome, IsSomeAnd, find, is_some, not, option_map, slice_get, slice_index_or}
+use Rattle.std.specs.Prelude.{◌==◌, IfSome, IsSomeAnd, find, is_some, not, option_map, slice_get}
 use Rattle.std.specs.List.{AllByRecursion}
 use Rattle.std.proofs.lemmas.Bool.{or_parts}
 use Rattle.std.proofs.lemmas.Bool.Decides.{Decides-eqb}
@@ -9,9 +9,8 @@ use Rattle.isle_core.specs.declared.Sym.{Sym}
 use Rattle.isle_core.specs.declared.TypeId.{TypeId}
 use Rattle.isle_core.specs.declared.types.TypeEnv.{TypeEnv}
 use Rattle.isle_core.specs.Constants.{const_type}
-use Rattle.isle_core.specs.NamesApart.{IsPlainDef, AreConstantsPlain, IsNameOf}
+use Rattle.isle_core.specs.NamesApart.{IsPlainDef, AreConstantsPlain}
 use Rattle.isle_core.specs.Rule.{Environment}
-use Rattle.isle_core.specs.Terms.{sym_text}
 use Rattle.isle_ast.specs.Tree.{Def, TypeDecl, Decl, ExternConstructor, ExternExtractor, ExternConst, Extractor, Converter, Rule, Passed}
 use Rattle.isle_declarations.specs.DeclaredTypes.{Constant, constant_of, constants}
 use Rattle.isle_declarations.specs.Names.{def_names}
@@ -101,19 +100,3 @@ pub constants_plain : (defs : List Def) (env : Environment) → env.types ≡ ty
 constants_plain defs env is none name ty e =
     let c = entry_found defs env name ty is none e in
     subst (λ (t : TypeId). IsSomeAnd (slice_get env.types.types t.0) IsPlainDef) c.typed c.sound.plain
-
--- the number of a constant is the place of its text
-constant_place : (defs : List Def) (env : Environment) (name : Sym) (ty : TypeId) → env.types ≡ type_env_of defs → type_fault defs ≡ None → const_type env name ≡ Some ty → index_of (symbols defs) (sym_text env name) ≡ Some name.0
-constant_place defs env name ty is none e =
-    let c = entry_found defs env name ty is none e in
-    let at : index_of (symbols defs) c.sound.name ≡ Some name.0 = c.sound.stands ∙ ap (λ (n : ℕ). Some n) c.numbered in
-    let text : sym_text env name ≡ c.sound.name = ap (λ (types : TypeEnv). slice_index_or types.syms name.0 []) is ∙ stands (symbols defs) c.sound.name name.0 at in
-    ap (index_of (symbols defs)) text ∙ at
-
--- constants of one text are of one type
-pub constant_once : (defs : List Def) (env : Environment) (name : List ℕ) (ty of : TypeId) → env.types ≡ type_env_of defs → type_fault defs ≡ None → IsNameOf env ty name → IsNameOf env of name → ty ≡ of
-constant_once defs env name ty of is none a b =
-    let place : Sym → Option ℕ = λ s. index_of (symbols defs) (sym_text env s) in
-    let one : a.0.0 ≡ b.0.0 = same_Some a.0.0 b.0.0 (sym (constant_place defs env a.0 ty is none a.1) ∙ ap (index_of (symbols defs)) (a.2 ∙ sym b.2) ∙ constant_place defs env b.0 of is none b.1) in
-    let same : a.0 ≡ b.0 = ap (λ (n : ℕ). let id : Sym = record { 0 = n } in id) one in
-    same_Some ty of (sym a.1 ∙ ap (const_type env) same ∙ b.1)

@@ -23,7 +23,7 @@ use Rattle.isle_declarations.specs.Names.{shape_names}
 use Rattle.isle_declarations.specs.Symbols.{symbols}
 use Rattle.isle_declarations.proofs.DeclaredNames.{text_of}
 use Rattle.isle_declarations.proofs.DistinctNames.{distinct_names}
-use Rattle.isle_types.specs.Bodies.{field_names, fields_repeat, are_many}
+use Rattle.isle_types.specs.Bodies.{fields_repeat, are_many}
 use Rattle.isle_types.specs.Bodies as bodies
 use Rattle.isle_core.specs.TypedParts.{IsThere, AreFieldsTyped}
 use Rattle.isle_core.specs.TypedParts as typed

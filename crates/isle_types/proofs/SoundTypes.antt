@@ -1,9 +1,9 @@
 -- What types without a fault are: no text is two symbols, names are apart, and fields are few and of types that are there.
-use Rattle.std.proofs.Common.{◌≡◌, ℕ, zero, suc, ◌<◌, List, [], ◌∷◌, length, map, Option, Some, None, refl, sym, ap, ◌∙◌, subst}
+use Rattle.std.proofs.Common.{◌≡◌, ℕ, zero, suc, List, [], ◌∷◌, map, Option, Some, None, refl, sym, ap, ◌∙◌, subst}
 use Rattle.std.specs.Prelude.{IfSome, option_and_then, option_map, slice_get}
 use Rattle.std.specs.List.{AllByRecursion, IsDistinct}
 use Rattle.std.specs.Str.{bytes_eq}
-use Rattle.std.proofs.lemmas.Option.{same_Some, slice_get-get_or, slice_get-map}
+use Rattle.std.proofs.lemmas.Option.{same_Some, slice_get-map}
 use Rattle.isle_core.specs.declared.Sym.{Sym}
 use Rattle.isle_core.specs.declared.VariantId.{VariantId}
 use Rattle.isle_core.specs.declared.types.TypeDef.{TypeDef}
@@ -30,13 +30,6 @@ use Rattle.isle_types.proofs.SoundConstants.{constants_plain}
 -- no text stands twice among symbols
 pub symbols_apart : (defs : List Def) (types : TypeEnv) → types ≡ type_env_of defs → IsDistinct bytes_eq types.syms
 symbols_apart defs types is = subst (λ (ts : TypeEnv). IsDistinct bytes_eq ts.syms) (sym is) (distinct_symbols defs)
-
--- symbols that are there are one where their texts are
-pub same_symbol : (defs : List Def) (env : Environment) (s t : Sym) → env.types ≡ type_env_of defs → s.0 < length env.types.syms → t.0 < length env.types.syms → sym_text env s ≡ sym_text env t → s ≡ t
-same_symbol defs env s t is there met same =
-    let syms = env.types.syms in
-    let one = one_place syms s.0 t.0 (sym_text env s) (symbols_apart defs env.types is) (slice_get-get_or syms s.0 [] there) (slice_get-get_or syms t.0 [] met ∙ ap (λ (n : List ℕ). Some n) (sym same)) in
-    ap (λ (n : ℕ). let id : Sym = record { 0 = n } in id) one
 
 -- ---- variants
 

@@ -13,6 +13,7 @@ use crate::before::{Before, repeated_term};
 use crate::bodies::{meets, missing_type, repeated_field, repeated_variant, type_of_many};
 use crate::known_types::KnownTypes;
 use crate::misfit::Misfit;
+use crate::row::Row;
 use isle_ast::{AstBody, Def};
 use isle_core::{Error, List, OutOfMemory, Pos, Span, Text};
 use isle_declarations::{constant_of, made_each, type_of};
@@ -122,16 +123,15 @@ pub fn place_of(given: &Def) -> Pos
     }
 }
 
-// The error of a definition at that place.
-fn error_of(alloc: Global, pos: Pos, misfit: Misfit) -> Result<Error, OutOfMemory>
-    ensures { IfOk result (λ error. TellsFault (misfit_row misfit.entry, pos) error) }
+/// Returns the error that tells in these words that a definition at this place breaks a row of the typing table.
+pub fn type_error(row: Row, pos: Pos, msg: Text) -> Error
+    ensures { TellsFault (row, pos) result }
 {
-    let msg = misfit.words(alloc)?;
-    Ok(Error::TypeError {
-        row: misfit.row().number(),
+    Error::TypeError {
+        row: row.number(),
         msg,
         span: Span::new_single(pos),
-    })
+    }
 }
 
 // The first thing that is wrong with definitions whose types make these terms, with the place of its definition; or else
@@ -170,6 +170,6 @@ pub fn check_types<'d>(
 {
     match first_misfit(alloc, defs, made)? {
         Ok(before) => Ok(Ok(before)),
-        Err((misfit, pos)) => Ok(Err(error_of(alloc, pos, misfit)?)),
+        Err((misfit, pos)) => Ok(Err(type_error(misfit.row(), pos, misfit.words(alloc)?))),
     }
 }

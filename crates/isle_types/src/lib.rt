@@ -13,7 +13,7 @@ mod words;
 
 pub use before::Before;
 pub use builtins::type_named;
-pub use fault::{check_types, place_of};
+pub use fault::{check_types, place_of, type_error};
 pub use row::Row;
 pub use type_environment::type_env;
 pub use words::{push_name, told};
