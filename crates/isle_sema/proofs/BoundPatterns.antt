@@ -6,7 +6,7 @@ use Rattle.isle_core.specs.declared.rules.Pattern.{Pattern as CodePattern}
 use Rattle.isle_core.specs.RuleViews.{pattern as elaborated}
 use Rattle.isle_ast.specs.Tree as tree
 use Rattle.isle_ast.specs.Tree.{Pattern, Patterns, NoPattern, APattern}
-use Rattle.isle_sema.specs.declared.judged.Judged.{Judged}
+use Rattle.isle_culprits.specs.declared.judged.Judged.{Judged}
 use Rattle.isle_sema.specs.ElaboratedAt.{copies, IsPatternAt}
 use Rattle.isle_sema.specs.Judging.{judge, judge_all}
 use Rattle.isle_sema.specs.PatternPass.{PatternsPass, bound_tree, count_of, of_each, pattern_pass, patterns_pass}

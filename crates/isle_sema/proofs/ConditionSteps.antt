@@ -15,7 +15,7 @@ use Rattle.isle_ast.specs.Views.{iflet}
 use Rattle.isle_terms.proofs.TermSteps.{before, one_before}
 use Rattle.isle_terms.specs.TermPass.{tree_before}
 use Rattle.isle_terms.specs.Whole.{Whole}
-use Rattle.isle_sema.specs.declared.judged.Judged.{Judged}
+use Rattle.isle_culprits.specs.declared.judged.Judged.{Judged}
 use Rattle.isle_sema.specs.ElaboratedAt.{condition_tree, IsPatternAt, IsExprAt, IsExprOver, IsConditionAt}
 use Rattle.isle_sema.specs.ExprPass.{ExprPass, expr_pass}
 use Rattle.isle_sema.specs.ExprType.{own_type}

@@ -14,7 +14,7 @@ use Rattle.isle_declarations.specs.Signatures.{Signature, term_named}
 use Rattle.isle_declarations.specs.Terms.{terms}
 use Rattle.isle_terms.specs.Converters.{conversion, within}
 use Rattle.isle_terms.specs.Whole.{Whole, termed, arg_types, ret_type}
-use Rattle.isle_sema.specs.declared.judged.Judged.{Judged}
+use Rattle.isle_culprits.specs.declared.judged.Judged.{Judged}
 use Rattle.isle_sema.specs.ElaboratedAt.{IsPatternAt, IsExprAt}
 use Rattle.isle_sema.specs.ExprPass.{expr_within, called_by, expr_pass}
 use Rattle.isle_sema.specs.Judging.{judge, judge_all}

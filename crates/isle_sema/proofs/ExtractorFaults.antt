@@ -13,7 +13,7 @@ use Rattle.isle_types.specs.declared.row.Row.{Row}
 use Rattle.isle_types.specs.declared.row.Row.TheVariants as row
 use Rattle.isle_terms.specs.Whole.{Whole, termed, ret_type}
 use Rattle.isle_variables.specs.Scope.{Scope}
-use Rattle.isle_sema.specs.declared.judged.Judged.{Judged}
+use Rattle.isle_culprits.specs.declared.judged.Judged.{Judged}
 use Rattle.isle_sema.specs.ElaboratedAt.{IsPatternAt}
 use Rattle.isle_sema.specs.Fault.{OfExtractors, or_later, fault_after}
 use Rattle.isle_sema.specs.Judging.{unjudged, judge, judge_all, lowest_of_template}

@@ -5,7 +5,7 @@ use Rattle.std.specs.List.{list_any}
 use Rattle.std.proofs.lemmas.List.{length-map}
 use Rattle.std.proofs.lemmas.List.Folds.{list_any-append}
 use Rattle.isle_core.specs.declared.TypeId.{TypeId}
-use Rattle.isle_sema.specs.declared.judged.Judged.{Judged}
+use Rattle.isle_culprits.specs.declared.judged.Judged.{Judged}
 use Rattle.isle_sema.specs.declared.known.Called.{Called}
 use Rattle.isle_declarations.specs.Signatures.{Signature, RuleDef, externs, extractors, rule_defs, func_named, extractor_named, has_rule}
 use Rattle.isle_sema.specs.Site.{Site, CalledAt, TakenAt}

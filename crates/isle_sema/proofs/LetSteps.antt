@@ -15,7 +15,7 @@ use Rattle.isle_ast.specs.Tree.{Def, Lets}
 use Rattle.isle_ast.specs.Views.{expr, lets_of}
 use Rattle.isle_ast.proofs.Sees.{let-parts}
 use Rattle.isle_declarations.specs.Bindings.{binding}
-use Rattle.isle_sema.specs.declared.judged.Judged.{Judged}
+use Rattle.isle_culprits.specs.declared.judged.Judged.{Judged}
 use Rattle.isle_sema.specs.ElaboratedAt.{seen_binding, binding_trees, IsExprAt, IsBindingAt, AreBindingsAt}
 use Rattle.isle_terms.specs.Whole.{whole_of}
 use Rattle.isle_sema.specs.ExprPass.{ExprPass, LetsPass, binding_tree, binding_before, let_tree, expr_pass, lets_pass}

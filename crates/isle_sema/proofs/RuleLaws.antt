@@ -41,7 +41,7 @@ use Rattle.isle_sema.specs.Language.{uses_ruled}
 use Rattle.isle_sema.specs.Judging.{unjudged, judge, judge_all, lowest}
 use Rattle.isle_sema.specs.Known.{IsHead, MayBeCalled}
 use Rattle.isle_sema.specs.ElaboratedAt.{ArePatternsAt, AreConditionsAt, IsExprOver, AreSides}
-use Rattle.isle_sema.specs.declared.judged.Judged.{Judged}
+use Rattle.isle_culprits.specs.declared.judged.Judged.{Judged}
 use Rattle.isle_sema.specs.declared.sides.Sides.{Sides}
 use Rattle.isle_sema.specs.declared.known.Called.{Called}
 use Rattle.isle_declarations.specs.Symbols.{index_of}
@@ -140,7 +140,7 @@ number_is sigs name = by (signature_named sigs name) refl
 
 -- what is elaborated at the types of a declared head are both sides of the rule, and its conditions
 pub sides_are : (w : Whole) (r : RuleDef) (own : Called) (sides : Sides) (old bound vars : Scope) (next : ℕ) (found : Option CodeExpr × ℕ) (before middle first : Judged) → IsHead w r.term own → old ≡ no_variables → before ≡ unjudged → next ≡ vars.next → first ≡ unjudged → sides.rhs ≡ found.0
-    → ArePatternsAt w own.args.now (seen_patterns r.args) old bound before middle sides.args → AreConditionsAt w r.iflets bound vars middle sides.left sides.iflets → IsExprOver w (Some own.ret) r.rhs vars next first sides.right found → AreSides w r sides
+    → ArePatternsAt w own.args.now (seen_patterns r.args) old bound before middle sides.args → AreConditionsAt w r.iflets bound vars middle sides.left.rows sides.iflets → IsExprOver w (Some own.ret) r.rhs vars next first sides.right.rows found → AreSides w r sides
 sides_are w r own sides old bound vars next found before middle first h none start begun again whole ps cs e =
     let is = h.there in
     let patterns : patterns_pass w (map Some own.args.now) old (seen_patterns r.args) ≡ patterns_of w r =
@@ -174,17 +174,17 @@ untreed w i r h = by (is_broken w r || uses_ruled w r)
     by false = sym (ap (option_map (elaborated (templates w))) h)
 
 -- whether a rule uses a term that has a rule is what is judged of both sides
-pub ruled_is : (w : Whole) (r : RuleDef) (sides : Sides) (ruled : Bool) → AreSides w r sides → ruled ≡ sides.left.ruled || sides.right.ruled → ruled ≡ uses_ruled w r
-ruled_is w r sides ruled p h = h ∙ ap (λ (j : Judged). j.ruled || sides.right.ruled) p.left ∙ ap (λ (j : Judged). (judge_all w unjudged (left_of w r)).ruled || j.ruled) p.right ∙ ruled_both w r
+pub ruled_is : (w : Whole) (r : RuleDef) (sides : Sides) (ruled : Bool) → AreSides w r sides → ruled ≡ sides.left.rows.ruled || sides.right.rows.ruled → ruled ≡ uses_ruled w r
+ruled_is w r sides ruled p h = h ∙ ap (λ (j : Judged). j.ruled || sides.right.rows.ruled) p.left ∙ ap (λ (j : Judged). (judge_all w unjudged (left_of w r)).ruled || j.ruled) p.right ∙ ruled_both w r
 
 -- a rule that does so is not taken
 pub with_ruled : (w : Whole) (i : ℕ) (r : RuleDef) → uses_ruled w r ≡ true → None ≡ taken_rule w i r
 with_ruled w i r h = refused w i r (or_true (is_broken w r) (uses_ruled w r) h)
 
 -- what the code finds is a row that the rule breaks, before that of its nodes
-pub lowest_found : (w : Whole) (r : RuleDef) (own : Called) (sides : Sides) (found : Option Row) (count : ℕ) → IsHead w r.term own → AreSides w r sides → count ≡ length r.args → found ≡ lowest own count sides.left sides.right → or_later found (cond (is_large w r) (Some row.ManyNodes) None) ≡ row_of w r
+pub lowest_found : (w : Whole) (r : RuleDef) (own : Called) (sides : Sides) (found : Option Row) (count : ℕ) → IsHead w r.term own → AreSides w r sides → count ≡ length r.args → found ≡ lowest own count sides.left.rows sides.right.rows → or_later found (cond (is_large w r) (Some row.ManyNodes) None) ≡ row_of w r
 lowest_found w r own sides found count h p as_many f =
-    ap (λ o. or_later o (cond (is_large w r) (Some row.ManyNodes) None)) (f ∙ ap (λ n. lowest own n sides.left sides.right) as_many ∙ ap (λ (j : Judged). lowest own (length r.args) j sides.right) p.left
+    ap (λ o. or_later o (cond (is_large w r) (Some row.ManyNodes) None)) (f ∙ ap (λ n. lowest own n sides.left.rows sides.right.rows) as_many ∙ ap (λ (j : Judged). lowest own (length r.args) j sides.right.rows) p.left
     ∙ ap (λ (j : Judged). lowest own (length r.args) (judge_all w unjudged (left_of w r)) j) p.right)
     ∙ lowest_is w r h.signature own h.there h.called
 

@@ -14,7 +14,7 @@ use Rattle.isle_ast.specs.declared.tree.AstPattern.{AstPattern}
 use Rattle.isle_ast.specs.declared.tree.AstExpr.{AstExpr}
 use Rattle.isle_ast.specs.Tree.{Def}
 use Rattle.isle_ast.specs.Views.{pattern, patterns_of as seen_patterns, expr, exprs_of as seen_exprs}
-use Rattle.isle_sema.specs.declared.judged.Judged.{Judged}
+use Rattle.isle_culprits.specs.declared.judged.Judged.{Judged}
 use Rattle.isle_sema.specs.ElaboratedAt.{expr_trees, IsExprAt, AreExprsAt}
 use Rattle.isle_variables.specs.Locals.{Bound, locals_of}
 use Rattle.isle_variables.specs.Scope.{Local, Scope}

@@ -11,7 +11,7 @@ use Rattle.isle_core.specs.Expr.{Exprs as CoreExprs, LetBindings}
 use Rattle.isle_core.specs.Rule.{IfLet as CoreIfLet}
 use Rattle.isle_core.specs.RuleViews.{pattern as elaborated_pattern, expr as elaborated_expr, iflet as elaborated_iflet, exprs_of, SeenBinding, bindings_of}
 use Rattle.isle_ast.specs.Tree.{Pattern, Patterns, Expr, Exprs, Lets, IfLet}
-use Rattle.isle_sema.specs.declared.judged.Judged.{Judged}
+use Rattle.isle_culprits.specs.declared.judged.Judged.{Judged}
 use Rattle.isle_sema.specs.declared.sides.Sides.{Sides}
 use Rattle.isle_declarations.specs.Signatures.{RuleDef}
 use Rattle.isle_variables.specs.Locals.{Bound, of_patterns, locals_of, bound_local}
@@ -121,5 +121,5 @@ pub record AreSides (w : Whole) (r : RuleDef) (sides : Sides) : Type 0 where
   pub trees : pattern_trees sides.args ≡ (patterns_of w r).trees
   pub tree : option_map elaborated_expr sides.rhs ≡ (right_side_of w r).tree
   pub conditions : condition_trees sides.iflets ≡ (conditions_of w r).trees
-  pub left : sides.left ≡ judge_all w unjudged (left_of w r)
-  pub right : sides.right ≡ judge_all w unjudged (right_side_of w r).sites
+  pub left : sides.left.rows ≡ judge_all w unjudged (left_of w r)
+  pub right : sides.right.rows ≡ judge_all w unjudged (right_side_of w r).sites

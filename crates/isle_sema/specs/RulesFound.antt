@@ -16,13 +16,13 @@ use Rattle.isle_sema.specs.Taken.{row_of, taken_rule, taken_rules}
 
 -- what is found of a rule that breaks no row before that of its nodes, by its elaborated rule
 abbrev pub found_rule : (ruled : Bool) → Option CodeRule → Found
-found_rule ruled None = Broken ManyNodes
+found_rule ruled None = Broken (record { row = ManyNodes; culprit = None })
 found_rule true (Some rule) = Unbuilt
 found_rule false (Some rule) = Taken rule
 
 -- the row that a rule breaks; or it breaks none, and is not taken; or it is taken so
 abbrev pub IsRuleFound : Whole → ℕ → RuleDef → Found → Type 0
-IsRuleFound w i r (Broken row) = row_of w r ≡ Some row
+IsRuleFound w i r (Broken breach) = row_of w r ≡ Some breach.row
 IsRuleFound w i r Unbuilt = (row_of w r ≡ None) × (None ≡ taken_rule w i r)
 IsRuleFound w i r (Taken rule) = (row_of w r ≡ None) × (Some (elaborated_rule rule) ≡ taken_rule w i r)
 

@@ -10,6 +10,7 @@ use Rattle.isle_ast.specs.Tree.{Def, ExternExtractor, Extractor}
 use Rattle.isle_declarations.specs.Signatures.{Extracting, ByFunction, ByTemplate, ExtractorDef, extractors}
 use Rattle.isle_types.specs.declared.row.Row.{Row}
 use Rattle.isle_terms.specs.Whole.{Whole}
+use Rattle.isle_culprits.specs.declared.culprit.Breach.{Breach}
 use Rattle.isle_sema.specs.declared.fault.Fault.{Fault}
 use Rattle.isle_sema.specs.declared.templates.Taken.{Taken}
 use Rattle.isle_sema.specs.Fault.{OfExtractors, broken_in, or_later, fault_in}
@@ -48,9 +49,9 @@ pub record IsTreeAt (w : Whole) (x : ExtractorDef) (tree : Option CodePattern) (
   pub ruled_is : ruled ≡ opens_ruled w x
 
 -- so, or the row that it breaks
-abbrev pub IsTried : Whole → ExtractorDef → Result (Option CodePattern × Bool) Row → Type 0
+abbrev pub IsTried : Whole → ExtractorDef → Result (Option CodePattern × Bool) Breach → Type 0
 IsTried w x (Ok found) = IsTreeAt w x found.0 found.1
-IsTried w x (Err row) = extractor_row w x ≡ Some row
+IsTried w x (Err breach) = extractor_row w x ≡ Some breach.row
 
 -- extractors that break no row, with the trees of their templates and whether one uses a term that has a rule
 pub record AreTreesAt (w : Whole) (xs : List ExtractorDef) (trees : List (Option CodePattern)) (ruled : Bool) : Type 0 where

@@ -12,7 +12,7 @@ ghost use Rattle.isle_terms.specs.Whole.{whole};
 use crate::elaborated_exprs::expr_at;
 use crate::elaborated_patterns::pattern_at;
 use crate::expr_types::own_type;
-use crate::judged::Judged;
+use crate::judging::Judging;
 use crate::known::Known;
 use isle_ast::{AstExpr, AstIfLet};
 use isle_core::{Expr, IfLet, Pattern, TypeId};
@@ -24,12 +24,12 @@ pub fn expr_over<'d>(
     alloc: Global,
     known: &Known,
     vars: &Variables<'d>,
-    judged: &mut Judged,
+    judged: &mut Judging<'d>,
     next: usize,
     expected: Option<TypeId>,
     e: &'d AstExpr,
 ) -> Result<(Option<Expr>, usize), AllocError>
-    ensures { IfOk result (λ found. IsExprOver (whole known.now) expected (expr e.now) vars.now next judged.old judged.new found) }
+    ensures { IfOk result (λ found. IsExprOver (whole known.now) expected (expr e.now) vars.now next judged.old.rows judged.new.rows found) }
 {
     let mut locals = Locals::new(alloc, vars, next);
     let found = expr_at(alloc, known, &mut locals, judged, expected, e)?;
@@ -63,10 +63,10 @@ fn condition_at<'d>(
     alloc: Global,
     known: &Known,
     vars: &mut Variables<'d>,
-    judged: &mut Judged,
+    judged: &mut Judging<'d>,
     given: &'d AstIfLet,
 ) -> Result<Option<IfLet>, AllocError>
-    ensures { IfOk result (λ found. IsConditionAt (whole known.now) (iflet given.now) vars.old vars.new judged.old judged.new found) }
+    ensures { IfOk result (λ found. IsConditionAt (whole known.now) (iflet given.now) vars.old vars.new judged.old.rows judged.new.rows found) }
 {
     let count = new_count(alloc, vars, &given.lhs)?;
     let Some(next) = vars.next().checked_add(count) else {
@@ -84,10 +84,10 @@ pub fn conditions_at<'d>(
     alloc: Global,
     known: &Known,
     vars: &mut Variables<'d>,
-    judged: &mut Judged,
+    judged: &mut Judging<'d>,
     given: &'d [AstIfLet],
 ) -> Result<Option<Vec<IfLet>>, AllocError>
-    ensures { IfOk result (λ found. AreConditionsAt (whole known.now) (map iflet given.now) vars.old vars.new judged.old judged.new found) }
+    ensures { IfOk result (λ found. AreConditionsAt (whole known.now) (map iflet given.now) vars.old vars.new judged.old.rows judged.new.rows found) }
 {
     let mut made = Vec::with_capacity(alloc, given.len())?;
     let mut complete = true;

@@ -13,10 +13,11 @@ ghost use Rattle.isle_variables.specs.Scope.{Local};
 ghost use Rattle.isle_sema.specs.ExprPass.{integer_tree, constant_tree, local_tree, call_tree, expr_within, expr_type, binding_tree, let_tree};
 ghost use Rattle.isle_sema.specs.ElaboratedAt.{expr_trees, seen_binding, binding_trees, IsExprAt, AreExprsAt, IsBindingAt, AreBindingsAt};
 
-use crate::judged::Judged;
+use crate::judging::Judging;
 use crate::known::{Called, Known, argument_types, result_type, within};
 use isle_ast::{AstExpr, AstLet};
 use isle_core::{Boxed, Expr, LetBinding, List, Text, TypeEnv, TypeId, VarId};
+use isle_culprits::Thing;
 use isle_terms::{type_named, typed_integer};
 use isle_variables::Locals;
 use std::alloc::{AllocError, Global};
@@ -80,15 +81,15 @@ fn variable_of(found: Option<(Option<TypeId>, usize)>) -> Option<Expr>
 }
 
 // A variable where this type is expected.
-fn variable_at(
+fn variable_at<'d>(
     alloc: Global,
     known: &Known,
     vars: &Locals,
-    judged: &mut Judged,
+    judged: &mut Judging<'d>,
     expected: Option<TypeId>,
-    name: &Text,
+    name: &'d Text,
 ) -> Result<Option<Expr>, AllocError>
-    ensures { IfOk result (λ found. IsExprAt (whole known.now) expected (tree.Name name.now) vars.now vars.now judged.old judged.new found) }
+    ensures { IfOk result (λ found. IsExprAt (whole known.now) expected (tree.Name name.now) vars.now vars.now judged.old.rows judged.new.rows found) }
 {
     let found = vars.find(name);
     let bound = match found {
@@ -97,26 +98,26 @@ fn variable_at(
     };
     let of = bound.flatten();
     let converter = known.conversion(of, expected);
-    judged.called_by(expected, &converter);
-    judged.used(within(&converter, of, expected), bound);
+    judged.called_by(expected, &converter, of);
+    judged.used(within(&converter, of, expected), bound, name);
     converted(alloc, &converter, variable_of(found))
 }
 
 // A constant where this type is expected.
-fn named_at(
+fn named_at<'d>(
     alloc: Global,
     known: &Known,
     vars: &Locals,
-    judged: &mut Judged,
+    judged: &mut Judging<'d>,
     expected: Option<TypeId>,
-    name: &Text,
+    name: &'d Text,
 ) -> Result<Option<Expr>, AllocError>
-    ensures { IfOk result (λ found. IsExprAt (whole known.now) expected (tree.Constant name.now) vars.now vars.now judged.old judged.new found) }
+    ensures { IfOk result (λ found. IsExprAt (whole known.now) expected (tree.Constant name.now) vars.now vars.now judged.old.rows judged.new.rows found) }
 {
     let of = known.constant(name);
     let converter = known.conversion(of, expected);
-    judged.called_by(expected, &converter);
-    judged.constant(false, within(&converter, of, expected), of);
+    judged.called_by(expected, &converter, of);
+    judged.constant(false, within(&converter, of, expected), of, name);
     converted(alloc, &converter, constant_at(known, of, name))
 }
 
@@ -174,19 +175,19 @@ pub fn expr_at<'d>(
     alloc: Global,
     known: &Known,
     vars: &mut Locals<'_, 'd>,
-    judged: &mut Judged,
+    judged: &mut Judging<'d>,
     expected: Option<TypeId>,
     e: &'d AstExpr,
 ) -> Result<Option<Expr>, AllocError>
-    ensures { IfOk result (λ found. IsExprAt (whole known.now) expected (expr e.now) vars.old vars.new judged.old judged.new found) }
+    ensures { IfOk result (λ found. IsExprAt (whole known.now) expected (expr e.now) vars.old vars.new judged.old.rows judged.new.rows found) }
 {
     match e {
         AstExpr::Int(n) => {
-            judged.integer(known.types(), expected);
+            judged.integer(known.types(), expected, *n);
             Ok(integer_at(known.types(), expected, *n))
         }
         AstExpr::Bool(b) => {
-            judged.truth(known.types(), expected);
+            judged.truth(known.types(), expected, *b);
             Ok(Some(Expr::ConstBool(*b)))
         }
         AstExpr::Var(name) => variable_at(alloc, known, vars, judged, expected, name),
@@ -216,18 +217,23 @@ fn call_at<'d>(
     alloc: Global,
     known: &Known,
     vars: &mut Locals<'_, 'd>,
-    judged: &mut Judged,
+    judged: &mut Judging<'d>,
     expected: Option<TypeId>,
-    name: &Text,
+    name: &'d Text,
     args: &'d [AstExpr],
 ) -> Result<Option<Expr>, AllocError>
-    ensures { IfOk result (λ found. IsExprAt (whole known.now) expected (tree.Call name.now (exprs_of (map expr args.now))) vars.old vars.new judged.old judged.new found) }
+    ensures { IfOk result (λ found. IsExprAt (whole known.now) expected (tree.Call name.now (exprs_of (map expr args.now))) vars.old vars.new judged.old.rows judged.new.rows found) }
 {
     let callee = known.called(name);
     let of = result_type(&callee);
     let converter = known.conversion(of, expected);
-    judged.called_by(expected, &converter);
-    judged.called(within(&converter, of, expected), &callee, args.len());
+    judged.called_by(expected, &converter, of);
+    judged.called(
+        within(&converter, of, expected),
+        &callee,
+        args.len(),
+        Thing::Term(name),
+    );
     let typed = exprs_at(alloc, known, vars, judged, argument_types(&callee), args)?;
     converted(alloc, &converter, call_of(&callee, typed))
 }
@@ -238,11 +244,11 @@ fn exprs_at<'d>(
     alloc: Global,
     known: &Known,
     vars: &mut Locals<'_, 'd>,
-    judged: &mut Judged,
+    judged: &mut Judging<'d>,
     types: &[TypeId],
     es: &'d [AstExpr],
 ) -> Result<Option<Vec<Expr>>, AllocError>
-    ensures { IfOk result (λ found. AreExprsAt (whole known.now) types.now (exprs_of (map expr es.now)) vars.old vars.new judged.old judged.new found) }
+    ensures { IfOk result (λ found. AreExprsAt (whole known.now) types.now (exprs_of (map expr es.now)) vars.old vars.new judged.old.rows judged.new.rows found) }
 {
     let mut typed = Vec::with_capacity(alloc, es.len())?;
     let mut complete = true;
@@ -261,10 +267,10 @@ fn lets_at<'d>(
     alloc: Global,
     known: &Known,
     vars: &mut Locals<'_, 'd>,
-    judged: &mut Judged,
+    judged: &mut Judging<'d>,
     lets: &'d [AstLet],
 ) -> Result<Option<Vec<LetBinding>>, AllocError>
-    ensures { IfOk result (λ found. AreBindingsAt (whole known.now) (lets_of (map binding lets.now)) vars.old vars.new judged.old judged.new found) }
+    ensures { IfOk result (λ found. AreBindingsAt (whole known.now) (lets_of (map binding lets.now)) vars.old vars.new judged.old.rows judged.new.rows found) }
 {
     let mut typed = Vec::with_capacity(alloc, lets.len())?;
     let mut complete = true;
@@ -283,13 +289,13 @@ fn binding_at<'d>(
     alloc: Global,
     known: &Known,
     vars: &mut Locals<'_, 'd>,
-    judged: &mut Judged,
+    judged: &mut Judging<'d>,
     l: &'d AstLet,
 ) -> Result<Option<LetBinding>, AllocError>
-    ensures { IfOk result (λ found. IsBindingAt (whole known.now) l.now.var l.now.ty (expr l.now.val) vars.old vars.new judged.old judged.new found) }
+    ensures { IfOk result (λ found. IsBindingAt (whole known.now) l.now.var l.now.ty (expr l.now.val) vars.old vars.new judged.old.rows judged.new.rows found) }
 {
     let ty = type_named(known.before, &l.ty);
-    judged.bound(ty);
+    judged.bound(ty, &l.ty);
     let number = vars.number()?;
     let found = expr_at(alloc, known, vars, judged, ty, &l.val)?;
     vars.bind(&l.var, ty, number)?;

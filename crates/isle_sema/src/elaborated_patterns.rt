@@ -11,10 +11,11 @@ ghost use Rattle.isle_sema.specs.Known.{MayBeCalled};
 ghost use Rattle.isle_sema.specs.PatternPass.{integer_tree, variable_tree, constant_tree, term_tree, pattern_within, and_tree, bound_tree};
 ghost use Rattle.isle_sema.specs.ElaboratedAt.{pattern_trees, copies, IsPatternAt, ArePatternsAt};
 
-use crate::judged::Judged;
+use crate::judging::Judging;
 use crate::known::{Called, Known, argument_types, result_type, within};
 use isle_ast::AstPattern;
 use isle_core::{Boxed, List, Pattern, Text, TypeEnv, TypeId, VarId};
+use isle_culprits::Thing;
 use isle_terms::typed_integer;
 use isle_variables::{Variables, is_blank};
 use std::alloc::{AllocError, Global};
@@ -124,24 +125,24 @@ pub fn pattern_at<'d>(
     alloc: Global,
     known: &Known,
     vars: &mut Variables<'d>,
-    judged: &mut Judged,
+    judged: &mut Judging<'d>,
     expected: Option<TypeId>,
     p: &'d AstPattern,
 ) -> Result<Option<Pattern>, AllocError>
-    ensures { IfOk result (λ found. IsPatternAt (whole known.now) expected (pattern p.now) vars.old vars.new judged.old judged.new found) }
+    ensures { IfOk result (λ found. IsPatternAt (whole known.now) expected (pattern p.now) vars.old vars.new judged.old.rows judged.new.rows found) }
 {
     match p {
         AstPattern::Int(n) => {
-            judged.integer(known.types(), expected);
+            judged.integer(known.types(), expected, *n);
             Ok(integer_at(known.types(), expected, *n))
         }
         AstPattern::Bool(b) => {
-            judged.truth(known.types(), expected);
+            judged.truth(known.types(), expected, *b);
             Ok(Some(Pattern::ConstBool(*b)))
         }
         AstPattern::Var(name) => {
             let bound = vars.meet(name, expected)?;
-            judged.met(expected, bound);
+            judged.met(expected, bound, name);
             Ok(variable_at(vars, name))
         }
         AstPattern::Wildcard => {
@@ -152,7 +153,7 @@ pub fn pattern_at<'d>(
         }
         AstPattern::Const(name) => {
             let found = known.constant(name);
-            judged.constant(true, expected, found);
+            judged.constant(true, expected, found, name);
             Ok(constant_at(known, found, name))
         }
         AstPattern::Term(name, parts) => {
@@ -171,18 +172,18 @@ fn bind_at<'d>(
     alloc: Global,
     known: &Known,
     vars: &mut Variables<'d>,
-    judged: &mut Judged,
+    judged: &mut Judging<'d>,
     expected: Option<TypeId>,
     name: &'d Text,
     inner: &'d AstPattern,
 ) -> Result<Option<Pattern>, AllocError>
-    ensures { IfOk result (λ found. IsPatternAt (whole known.now) expected (tree.Bind name.now (pattern inner.now)) vars.old vars.new judged.old judged.new found) }
+    ensures { IfOk result (λ found. IsPatternAt (whole known.now) expected (tree.Bind name.now (pattern inner.now)) vars.old vars.new judged.old.rows judged.new.rows found) }
 {
     if is_blank(name) {
         return pattern_at(alloc, known, vars, judged, expected, inner);
     }
     let bound = vars.meet(name, expected)?;
-    judged.met(expected, bound);
+    judged.met(expected, bound, name);
     let var = vars.typed(name);
     let found = pattern_at(alloc, known, vars, judged, expected, inner)?;
     bound_to(alloc, var, found)
@@ -194,11 +195,11 @@ fn and_at<'d>(
     alloc: Global,
     known: &Known,
     vars: &mut Variables<'d>,
-    judged: &mut Judged,
+    judged: &mut Judging<'d>,
     expected: Option<TypeId>,
     parts: &'d [AstPattern],
 ) -> Result<Option<Pattern>, AllocError>
-    ensures { IfOk result (λ found. IsPatternAt (whole known.now) expected (tree.And (patterns_of (map pattern parts.now))) vars.old vars.new judged.old judged.new found) }
+    ensures { IfOk result (λ found. IsPatternAt (whole known.now) expected (tree.And (patterns_of (map pattern parts.now))) vars.old vars.new judged.old.rows judged.new.rows found) }
 {
     let types = copies(alloc, expected, parts.len())?;
     let typed = patterns_at(alloc, known, vars, judged, types.as_slice(), parts)?;
@@ -211,18 +212,23 @@ fn term_at<'d>(
     alloc: Global,
     known: &Known,
     vars: &mut Variables<'d>,
-    judged: &mut Judged,
+    judged: &mut Judging<'d>,
     expected: Option<TypeId>,
-    name: &Text,
+    name: &'d Text,
     parts: &'d [AstPattern],
 ) -> Result<Option<Pattern>, AllocError>
-    ensures { IfOk result (λ found. IsPatternAt (whole known.now) expected (tree.Term name.now (patterns_of (map pattern parts.now))) vars.old vars.new judged.old judged.new found) }
+    ensures { IfOk result (λ found. IsPatternAt (whole known.now) expected (tree.Term name.now (patterns_of (map pattern parts.now))) vars.old vars.new judged.old.rows judged.new.rows found) }
 {
     let callee = known.called(name);
     let of = result_type(&callee);
     let converter = known.conversion(of, expected);
-    judged.taken_by(expected, &converter);
-    judged.taken(within(&converter, of, expected), &callee, parts.len());
+    judged.taken_by(expected, &converter, of);
+    judged.taken(
+        within(&converter, of, expected),
+        &callee,
+        parts.len(),
+        Thing::Term(name),
+    );
     let typed = patterns_at(alloc, known, vars, judged, argument_types(&callee), parts)?;
     converted(alloc, &converter, made_of(&callee, typed))
 }
@@ -233,11 +239,11 @@ pub fn patterns_at<'d>(
     alloc: Global,
     known: &Known,
     vars: &mut Variables<'d>,
-    judged: &mut Judged,
+    judged: &mut Judging<'d>,
     types: &[TypeId],
     patterns: &'d [AstPattern],
 ) -> Result<Option<Vec<Pattern>>, AllocError>
-    ensures { IfOk result (λ found. ArePatternsAt (whole known.now) types.now (patterns_of (map pattern patterns.now)) vars.old vars.new judged.old judged.new found) }
+    ensures { IfOk result (λ found. ArePatternsAt (whole known.now) types.now (patterns_of (map pattern patterns.now)) vars.old vars.new judged.old.rows judged.new.rows found) }
 {
     let mut typed = Vec::with_capacity(alloc, patterns.len())?;
     let mut complete = true;

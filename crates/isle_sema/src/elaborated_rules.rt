@@ -17,6 +17,7 @@ use crate::known::{Called, Known};
 use crate::rows::lowest_row;
 use crate::sides::sides_of;
 use isle_core::{Expr, IfLet, List, Pattern, Rule, RuleId};
+use isle_culprits::{Breach, rule_culprit};
 use isle_declarations::RuleDef;
 use isle_templates::{Templates, elaborated};
 use isle_types::Row;
@@ -53,18 +54,21 @@ fn rule_from(
 /// What is found of a rule: the row that it breaks; or it breaks none, and uses a term that has a rule, or has no tree; or the
 /// elaborated rule.
 #[derive(Drop)]
-pub enum Found {
-    Broken(Row),
+pub enum Found<'d> {
+    Broken(Breach<'d>),
     Unbuilt,
     Taken(Rule),
 }
 
 // An elaborated rule, unless it has too many nodes, or uses a term that has a rule.
-fn unless_ruled(ruled: bool, elaborated: Option<Rule>) -> Found
+fn unless_ruled<'d>(ruled: bool, elaborated: Option<Rule>) -> Found<'d>
     ensures { result ≡ found_rule ruled elaborated }
 {
     match elaborated {
-        None => Found::Broken(Row::ManyNodes),
+        None => Found::Broken(Breach {
+            row: Row::ManyNodes,
+            culprit: None,
+        }),
         Some(rule) => {
             if ruled {
                 return Found::Unbuilt;
@@ -75,14 +79,14 @@ fn unless_ruled(ruled: bool, elaborated: Option<Rule>) -> Found
 }
 
 // What is found of the rule of that number, of this term, with its templates replaced.
-fn rule_of(
+fn rule_of<'d>(
     alloc: Global,
     known: &Known,
     templates: &Templates,
     own: &Called,
     number: usize,
-    given: &RuleDef,
-) -> Result<Found, AllocError>
+    given: &RuleDef<'d>,
+) -> Result<Found<'d>, AllocError>
     requires own { IsHead (whole known.now) given.now.term.now own.now }
     requires templates { AreWhole (written (whole known.now)) templates.now }
     ensures { IfOk result (λ found. IsRuleFound (whole known.now) number (seen given.now) found) }
@@ -91,9 +95,18 @@ fn rule_of(
     let args = sides.args;
     let iflets = sides.iflets;
     let rhs = sides.rhs;
-    let ruled = sides.left.ruled | sides.right.ruled;
-    if let Some(row) = lowest_row(own, given.args.len(), &sides.left, &sides.right) {
-        return Ok(Found::Broken(row));
+    let ruled = sides.left.rows.ruled | sides.right.rows.ruled;
+    let count = given.args.len();
+    if let Some(row) = lowest_row(own, count, &sides.left.rows, &sides.right.rows) {
+        let culprit = rule_culprit(
+            row,
+            own.args.len(),
+            given.term,
+            count,
+            &sides.left.firsts,
+            &sides.right.firsts,
+        );
+        return Ok(Found::Broken(Breach { row, culprit }));
     }
     let Some(args) = args else {
         return Ok(Found::Unbuilt);
@@ -110,13 +123,13 @@ fn rule_of(
 }
 
 // What is found of the rule of that number, whose term is declared.
-fn rule_at(
+fn rule_at<'d>(
     alloc: Global,
     known: &Known,
     templates: &Templates,
     number: usize,
-    given: &RuleDef,
-) -> Result<Found, AllocError>
+    given: &RuleDef<'d>,
+) -> Result<Found<'d>, AllocError>
     requires number { index_of (whole known.now).types.syms given.now.term.now ≡ Some given.now.number }
     requires declared { is_some (termed (whole known.now) given.now.term.now) ≡ true }
     requires templates { AreWhole (written (whole known.now)) templates.now }
@@ -145,11 +158,12 @@ pub fn rules_at<'d>(
     let mut complete = true;
     for (number, rule) in given.iter().enumerate() {
         match rule_at(alloc, known, templates, number, rule)? {
-            Found::Broken(row) => {
+            Found::Broken(breach) => {
                 return Ok(Err(Fault {
-                    row,
+                    row: breach.row,
                     pos: rule.pos,
                     term: rule.term,
+                    culprit: breach.culprit,
                 }));
             }
             Found::Unbuilt => complete = false,

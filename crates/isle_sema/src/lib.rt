@@ -7,7 +7,7 @@ mod elaborated_patterns;
 mod elaborated_rules;
 mod expr_types;
 mod fault;
-mod judged;
+mod judging;
 mod known;
 mod language;
 mod rows;

@@ -3,8 +3,8 @@
 ghost use Rattle.std.specs.Prelude.{◌≡◌};
 ghost use Rattle.isle_sema.specs.Judging.{lowest, lowest_of_template};
 
-use crate::judged::Judged;
 use crate::known::Called;
+use isle_culprits::Judged;
 use isle_types::Row;
 
 /// Returns the lowest row that an extractor with a template breaks, by whether its term reaches itself, whether a parameter does

@@ -8,7 +8,7 @@ ghost use Rattle.isle_sema.specs.ElaboratedAt.{AreSides};
 
 use crate::conditions::{conditions_at, expr_over};
 use crate::elaborated_patterns::patterns_at;
-use crate::judged::Judged;
+use crate::judging::Judging;
 use crate::known::{Called, Known};
 use isle_core::{Expr, IfLet, Pattern};
 use isle_declarations::RuleDef;
@@ -18,29 +18,29 @@ use std::alloc::{AllocError, Global};
 /// The patterns, the conditions and the right side of a rule, where they have trees, and what the rows say of the parts of the
 /// patterns and conditions, and of those of the right side.
 #[derive(Drop)]
-pub struct Sides {
+pub struct Sides<'d> {
     pub args: Option<Vec<Pattern>>,
     pub iflets: Option<Vec<IfLet>>,
     pub rhs: Option<Expr>,
-    pub left: Judged,
-    pub right: Judged,
+    pub left: Judging<'d>,
+    pub right: Judging<'d>,
 }
 
 /// Elaborates both sides of a rule of this term, and its conditions.
-pub fn sides_of(
+pub fn sides_of<'d>(
     alloc: Global,
     known: &Known,
     own: &Called,
-    given: &RuleDef,
-) -> Result<Sides, AllocError>
+    given: &RuleDef<'d>,
+) -> Result<Sides<'d>, AllocError>
     requires { IsHead (whole known.now) given.now.term.now own.now }
     ensures { IfOk result (λ sides. AreSides (whole known.now) (seen given.now) sides) }
 {
     let mut vars = Variables::new(alloc);
-    let mut left = Judged::new();
+    let mut left = Judging::new();
     let args = patterns_at(alloc, known, &mut vars, &mut left, own.args, given.args)?;
     let iflets = conditions_at(alloc, known, &mut vars, &mut left, given.iflets)?;
-    let mut right = Judged::new();
+    let mut right = Judging::new();
     let found = expr_over(
         alloc,
         known,

@@ -18,15 +18,15 @@ ghost use Rattle.isle_sema.specs.TemplateUses.{template_uses};
 
 use crate::elaborated_patterns::pattern_at;
 use crate::fault::Fault;
-use crate::judged::Judged;
+use crate::judging::Judging;
 use crate::known::{Called, Known, argument_types, result_type};
 use crate::rows::template_row;
 use crate::template_uses::{closed_terms, reaches_itself};
 use isle_ast::AstPattern;
 use isle_core::{Pattern, Text};
+use isle_culprits::{Breach, template_culprit};
 use isle_declarations::{Extracting, ExtractorDef, TermDef};
 use isle_templates::{Templates, copied_at, whole_templates};
-use isle_types::Row;
 use isle_variables::{Variables, misses_variable};
 use std::alloc::{AllocError, Global};
 
@@ -54,12 +54,12 @@ fn parameters<'d>(
 }
 
 // The tree of an extractor's template, if it has one, and whether that uses a term that has a rule; or the row that it breaks.
-fn template_of(
+fn template_of<'d>(
     alloc: Global,
     known: &Known,
     closed: &[bool],
-    given: &ExtractorDef,
-) -> Result<Result<(Option<Pattern>, bool), Row>, AllocError>
+    given: &ExtractorDef<'d>,
+) -> Result<Result<(Option<Pattern>, bool), Breach<'d>>, AllocError>
     requires number { index_of (whole known.now).types.syms given.now.term.now ≡ Some given.now.number }
     requires closed { AreClosedTold (template_uses (whole known.now)) closed.now }
     ensures { IfOk result (λ found. IsTried (whole known.now) (seen given.now) found) }
@@ -69,13 +69,16 @@ fn template_of(
         Extracting::Template { params, template } => {
             let callee = known.at(given.number);
             let mut vars = parameters(alloc, &callee, params)?;
-            let mut judged = Judged::new();
+            let mut judged = Judging::new();
             let expected = result_type(&callee);
             let tree = pattern_at(alloc, known, &mut vars, &mut judged, expected, template)?;
             let misses = misses_variable(alloc, params, template)?;
-            match template_row(reaches_itself(&callee, closed), misses, &judged) {
-                Some(row) => Ok(Err(row)),
-                None => Ok(Ok((tree, judged.ruled))),
+            match template_row(reaches_itself(&callee, closed), misses, &judged.rows) {
+                Some(row) => {
+                    let culprit = template_culprit(alloc, row, &judged.firsts, params, template)?;
+                    Ok(Err(Breach { row, culprit }))
+                }
+                None => Ok(Ok((tree, judged.rows.ruled))),
             }
         }
     }
@@ -100,11 +103,12 @@ fn templates_of<'d>(
                 trees.push(tree)?;
                 ruled = ruled | opens;
             }
-            Err(row) => {
+            Err(breach) => {
                 return Ok(Err(Fault {
-                    row,
+                    row: breach.row,
                     pos: extractor.pos,
                     term: extractor.term,
+                    culprit: breach.culprit,
                 }));
             }
         }

@@ -101,7 +101,7 @@ pub fn term_env<'d>(
     let rules = match found {
         Ok(Some(rules)) => rules,
         Ok(None) => return Err(EnvError::NotYet),
-        Err(fault) => return Err(EnvError::Typing(fault.error(alloc)?)),
+        Err(fault) => return Err(EnvError::Typing(fault.error(alloc, types)?)),
     };
     Ok(TermEnv {
         terms: List::new(typed),

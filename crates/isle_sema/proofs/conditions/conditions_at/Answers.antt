@@ -10,7 +10,7 @@ use Rattle.isle_sema.proofs.conditions.conditions_at.Goals as goal
 
 pub loop-c-preserved : goal.loop-c-preserved
 loop-c-preserved c =
-    let made = conditions_more (whole c.args.known.now) c.loop-c.vars c.condition_at.new.vars c.args.given.now c.loop-c.c-index c.args.judged.now c.loop-c.judged c.condition_at.new.judged c.loop-c.made.items c.match-branch-3.made.items c.loop-c.complete c.match-branch-3.complete
+    let made = conditions_more (whole c.args.known.now) c.loop-c.vars c.condition_at.new.vars c.args.given.now c.loop-c.c-index c.args.judged.now.rows c.loop-c.judged.rows c.condition_at.new.judged.rows c.loop-c.made.items c.match-branch-3.made.items c.loop-c.complete c.match-branch-3.complete
     c.c-item.result _ _ c.loop-c-test.true c.c-item.is c.in_ok-found.ensures.scope c.in_ok-found.ensures.sites in
     elim c.match-branch-3.branch [
       | in-Some+in_ok-push-in-Some w ↦ made
@@ -23,7 +23,7 @@ loop-c-preserved c =
 
 pub returns : goal.returns
 returns c =
-    let all = conditions_all (whole c.args.known.now) c.loop-c.vars c.args.given.now c.loop-c.c-index c.args.judged.now c.loop-c.judged c.loop-c.made.items c.loop-c.complete _ (search rules) c.loop-c.invariant in
+    let all = conditions_all (whole c.args.known.now) c.loop-c.vars c.args.given.now c.loop-c.c-index c.args.judged.now.rows c.loop-c.judged.rows c.loop-c.made.items c.loop-c.complete _ (search rules) c.loop-c.invariant in
     let made = Some (map elaborated c.loop-c.made.items) in
     record {
       trees = elim c.if-complete.branch [

@@ -8,4 +8,4 @@ use Rattle.isle_sema.proofs.conditions.conditions_at.Given as goal
 
 abbrev pub invariant-loop-c : goal.invariant-loop-c
 invariant-loop-c l =
-    AreConditionsMade (whole_of (seen l.known)) (conditions_pass (whole_of (seen l.known)) l.fn.vars (map iflet l.given)) (conditions_pass (whole_of (seen l.known)) l.vars (map iflet (drop l.c-index l.given))) l.fn.judged l.judged l.made.items l.complete
+    AreConditionsMade (whole_of (seen l.known)) (conditions_pass (whole_of (seen l.known)) l.fn.vars (map iflet l.given)) (conditions_pass (whole_of (seen l.known)) l.vars (map iflet (drop l.c-index l.given))) l.fn.judged.rows l.judged.rows l.made.items l.complete

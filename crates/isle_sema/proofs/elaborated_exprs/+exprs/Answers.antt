@@ -17,7 +17,7 @@ use Rattle.isle_sema.specs.ExprPass.{ExprPass, ExprsPass, integer_tree, call_tre
 use Rattle.isle_sema.specs.ElaboratedAt.{expr_trees, seen_binding, binding_trees}
 use Rattle.isle_terms.specs.Whole.{whole}
 use Rattle.isle_variables.specs.Locals.{locals_of}
-use Rattle.isle_sema.specs.declared.judged.Judged.{Judged}
+use Rattle.isle_culprits.specs.declared.judged.Judged.{Judged}
 use Rattle.isle_terms.specs.Converters.{conversion, within}
 use Rattle.isle_sema.specs.Known.{MayBeCalled}
 use Rattle.isle_sema.proofs.ConvertedParts.{expr_converted}
@@ -49,12 +49,12 @@ call_at-returns t c =
     c.call_of.ensures w o c.called-callee.ensures ∙ ap (λ n. call_tree (ret_type w o) n (expr_trees c.in_ok-typed.typed)) (number_is (terms w.defs) c.args.name.now)
     ∙ ap (call_tree (ret_type w o) (term_named (terms w.defs) c.args.name.now)) (c.in_ok-typed.ensures.trees ∙ ap (λ os. (args os).trees) types) in
     let inside : c.within.result ≡ within from (ret_type w o) c.args.expected = c.within.ensures w from by ∙ ap (λ ty. within from ty c.args.expected) of in
-    let called : c.called.new.self ≡ judge w c.called_by.new.self (CalledAt (within from (ret_type w o) c.args.expected) o (count_of es)) =
-    c.called.ensures w o c.called-callee.ensures ∙ ap (λ n. judge w c.called_by.new.self (CalledAt c.within.result o n)) (sym (counted c.args.args.now)) ∙ ap (λ ty. judge w c.called_by.new.self (CalledAt ty o (count_of es))) inside in
-    expr_converted c.converted.result w c.args.expected (tree.Call c.args.name.now es) old c.exprs_at.new.vars c.args.judged.now c.called_by.new.self c.exprs_at.new.judged from (option_map elaborated c.call_of.result)
+    let called : c.called.new.self.rows ≡ judge w c.called_by.new.self.rows (CalledAt (within from (ret_type w o) c.args.expected) o (count_of es)) =
+    c.called.ensures w o c.called-callee.ensures ∙ ap (λ n. judge w c.called_by.new.self.rows (CalledAt c.within.result o n)) (sym (counted c.args.args.now)) ∙ ap (λ ty. judge w c.called_by.new.self.rows (CalledAt ty o (count_of es))) inside in
+    expr_converted c.converted.result w c.args.expected (tree.Call c.args.name.now es) old c.exprs_at.new.vars c.args.judged.now.rows c.called_by.new.self.rows c.exprs_at.new.judged.rows from (option_map elaborated c.call_of.result)
     (CalledAt (within from (ret_type w o) c.args.expected) o (count_of es) ∷ (args (arg_types w o)).sites) (ap (expr_within w from) made) refl (c.in_ok-typed.ensures.next ∙ ap (λ os. (args os).next) types) c.in_ok-typed.ensures.patterns c.in_ok-typed.ensures.lets
     (c.called_by.ensures w from by)
-    (c.in_ok-typed.ensures.sites ∙ ap (λ os. judge_all w c.called.new.self (args os).sites) types ∙ ap (λ (j : Judged). judge_all w j (args (arg_types w o)).sites) called) (c.converted.ensures w from by)
+    (c.in_ok-typed.ensures.sites ∙ ap (λ os. judge_all w c.called.new.self.rows (args os).sites) types ∙ ap (λ (j : Judged). judge_all w j (args (arg_types w o)).sites) called) (c.converted.ensures w from by)
 
 pub expr_at-returns-in-Int : goal.expr_at-returns-in-Int
 expr_at-returns-in-Int t c =
@@ -67,14 +67,14 @@ expr_at-returns-in-Int t c =
       patterns = refl;
       lets = refl;
       next = ap (λ q. (pass q).next) is;
-      sites = c.integer.ensures w c.types.ensures ∙ ap (λ q. judge_all w c.args.judged.now (pass q).sites) is;
+      sites = c.integer.ensures w c.types.ensures ∙ ap (λ q. judge_all w c.args.judged.now.rows (pass q).sites) is;
     }
 
 pub exprs_at-loop-index-preserved : goal.exprs_at-loop-index-preserved
 exprs_at-loop-index-preserved t c =
     let h = c.get.ensures.lookup in
     let at : c.copied.result ≡ slice_get c.args.types.now c.loop-index.index = c.copied.ensures ∙ got c.args.types.now c.loop-index.index c.get.result h.1 h.3 in
-    let made = exprs_more (seen c.args.known.now) c.args.types.now c.args.es.now c.loop-index.index c.args.vars.now c.loop-index.vars c.expr_at.new.vars c.args.judged.now c.loop-index.judged c.expr_at.new.judged c.loop-index.typed.items
+    let made = exprs_more (seen c.args.known.now) c.args.types.now c.args.es.now c.loop-index.index c.args.vars.now c.loop-index.vars c.expr_at.new.vars c.args.judged.now.rows c.loop-index.judged.rows c.expr_at.new.judged.rows c.loop-index.typed.items
     c.match-branch-3.typed.items c.loop-index.complete c.match-branch-3.complete c.index-es-index.result _ c.copied.result c.in_ok-found.field-0 c.loop-index-test.true c.index-es-index.is at c.in_ok-found.ensures in
     elim c.match-branch-3.branch [
       | exprs_at-in-Some+in_ok-push-in-Some w ↦ made
@@ -88,7 +88,7 @@ exprs_at-loop-index-preserved t c =
 pub exprs_at-returns : goal.exprs_at-returns
 exprs_at-returns t c =
     let made = Some (elaborated_of (map elaborated c.loop-index.typed.items)) in
-    exprs_all (seen c.args.known.now) c.args.types.now c.args.es.now c.loop-index.index c.args.vars.now c.loop-index.vars c.args.judged.now c.loop-index.judged c.loop-index.typed.items c.loop-index.complete _ (search rules)
+    exprs_all (seen c.args.known.now) c.args.types.now c.args.es.now c.loop-index.index c.args.vars.now c.loop-index.vars c.args.judged.now.rows c.loop-index.judged.rows c.loop-index.typed.items c.loop-index.complete _ (search rules)
     (elim c.if-complete.branch [
       | exprs_at-then-complete w ↦ ap expr_trees w.result-is ∙ sym (same_cond made c.loop-index.complete true w.if-complete.true)
       | exprs_at-else-complete w ↦ ap expr_trees w.result-is ∙ sym (same_cond made c.loop-index.complete false w.if-complete.false)
@@ -104,18 +104,18 @@ expr_at-returns-in-Bool t c =
       patterns = refl;
       lets = refl;
       next = ap (λ q. (pass q).next) is;
-      sites = c.truth.ensures w c.types-in-Bool.ensures ∙ ap (λ q. judge_all w c.args.judged.now (pass q).sites) is;
+      sites = c.truth.ensures w c.types-in-Bool.ensures ∙ ap (λ q. judge_all w c.args.judged.now.rows (pass q).sites) is;
     }
 
 pub binding_at-returns : goal.binding_at-returns
 binding_at-returns t c =
     let before : IsBefore (seen c.args.known.now) c.known.inside.before.now = search rules in
-    binding_made (whole c.args.known.now) c.args.l.now.var c.args.l.now.ty (expr c.args.l.now.val) c.type_named-ty.result c.args.vars.now c.number.new.self c.expr_at.new.vars c.bind.new.self c.in_ok-number.number c.args.judged.now c.bound.new.self
-    c.expr_at.new.judged c.in_ok-found.found c.binding_of.result (c.type_named-ty.ensures (seen c.args.known.now) before) c.bound.ensures c.in_ok-number.ensures.number (search rules) c.in_ok-found.ensures (search rules) c.binding_of.ensures
+    binding_made (whole c.args.known.now) c.args.l.now.var c.args.l.now.ty (expr c.args.l.now.val) c.type_named-ty.result c.args.vars.now c.number.new.self c.expr_at.new.vars c.bind.new.self c.in_ok-number.number c.args.judged.now.rows c.bound.new.self.rows
+    c.expr_at.new.judged.rows c.in_ok-found.found c.binding_of.result (c.type_named-ty.ensures (seen c.args.known.now) before) c.bound.ensures c.in_ok-number.ensures.number (search rules) c.in_ok-found.ensures (search rules) c.binding_of.ensures
 
 pub lets_at-loop-l-preserved : goal.lets_at-loop-l-preserved
 lets_at-loop-l-preserved t c =
-    let made = lets_more (seen c.args.known.now) c.args.lets.now c.loop-l.l-index c.args.vars.now c.loop-l.vars c.binding_at.new.vars c.args.judged.now c.loop-l.judged c.binding_at.new.judged c.loop-l.typed.items c.match-branch-3.typed.items
+    let made = lets_more (seen c.args.known.now) c.args.lets.now c.loop-l.l-index c.args.vars.now c.loop-l.vars c.binding_at.new.vars c.args.judged.now.rows c.loop-l.judged.rows c.binding_at.new.judged.rows c.loop-l.typed.items c.match-branch-3.typed.items
     c.loop-l.complete c.match-branch-3.complete c.l-item.result _ c.in_ok-found.field-0 c.loop-l-test.true c.l-item.is c.in_ok-found.ensures in
     elim c.match-branch-3.branch [
       | lets_at-in-Some+in_ok-push-in-Some w ↦ made
@@ -129,7 +129,7 @@ lets_at-loop-l-preserved t c =
 pub lets_at-returns : goal.lets_at-returns
 lets_at-returns t c =
     let made = Some (bindings_of (map seen_binding c.loop-l.typed.items)) in
-    lets_all (seen c.args.known.now) c.args.lets.now c.loop-l.l-index c.args.vars.now c.loop-l.vars c.args.judged.now c.loop-l.judged c.loop-l.typed.items c.loop-l.complete _ (search rules)
+    lets_all (seen c.args.known.now) c.args.lets.now c.loop-l.l-index c.args.vars.now c.loop-l.vars c.args.judged.now.rows c.loop-l.judged.rows c.loop-l.typed.items c.loop-l.complete _ (search rules)
     (elim c.if-complete.branch [
       | lets_at-then-complete w ↦ ap binding_trees w.result-is ∙ sym (same_cond made c.loop-l.complete true w.if-complete.true)
       | lets_at-else-complete w ↦ ap binding_trees w.result-is ∙ sym (same_cond made c.loop-l.complete false w.if-complete.false)
@@ -144,5 +144,5 @@ expr_at-returns-in_ok-found-in-Let t c =
     let outer : c.len-outer.result ≡ length c.args.vars.now.lets = search rules in
     let leaves : c.truncate.new.self ≡ record { patterns = c.expr_at.new.vars.patterns; lets = take (length c.args.vars.now.lets) c.expr_at.new.vars.lets; next = c.expr_at.new.vars.next } =
     c.truncate.ensures ∙ ap (λ n. record { patterns = c.expr_at.new.vars.patterns; lets = take n c.expr_at.new.vars.lets; next = c.expr_at.new.vars.next }) outer in
-    let_given (whole c.args.known.now) c.args.expected (lets_of (map binding c.as_slice-in-Let.result.now)) (expr c.get.result.now) (expr c.args.e.now) c.args.vars.now c.lets_at.new.vars c.expr_at.new.vars c.truncate.new.self c.args.judged.now c.args.judged.now
-    c.lets_at.new.judged c.expr_at.new.judged c.in_ok-bindings-in-Let.bindings c.in_ok-found-in-Let.found c.let_of.result is refl c.in_ok-bindings-in-Let.ensures c.in_ok-found-in-Let.ensures leaves c.let_of.ensures
+    let_given (whole c.args.known.now) c.args.expected (lets_of (map binding c.as_slice-in-Let.result.now)) (expr c.get.result.now) (expr c.args.e.now) c.args.vars.now c.lets_at.new.vars c.expr_at.new.vars c.truncate.new.self c.args.judged.now.rows c.args.judged.now.rows
+    c.lets_at.new.judged.rows c.expr_at.new.judged.rows c.in_ok-bindings-in-Let.bindings c.in_ok-found-in-Let.found c.let_of.result is refl c.in_ok-bindings-in-Let.ensures c.in_ok-found-in-Let.ensures leaves c.let_of.ensures

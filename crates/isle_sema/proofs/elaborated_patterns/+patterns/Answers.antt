@@ -37,9 +37,9 @@ term_at-returns t c =
     let of : c.result_type-of.result ≡ ret_type w o = c.result_type-of.ensures w o c.called-callee.ensures in
     let by = subst (λ (ty : Option TypeId). MayBeCalled w (conversion w ty c.args.expected) c.conversion-converter.result) of c.conversion-converter.ensures in
     let from = conversion w (ret_type w o) c.args.expected in
-    term_within c.converted.result w c.args.expected c.args.name.now ps old c.patterns_at.new.vars c.args.judged.now c.taken_by.new.self c.taken.new.self c.patterns_at.new.judged c.within.result (option_map elaborated c.made_of.result)
-    (c.taken_by.ensures w from by) (c.within.ensures w from by ∙ ap (λ ty. within from ty c.args.expected) of) (c.taken.ensures w o c.called-callee.ensures ∙ ap (λ n. judge w c.taken_by.new.self (TakenAt c.within.result o n)) (sym (parts_counted c.args.parts.now)))
-    (c.in_ok-typed.ensures.scope ∙ ap (λ os. (patterns_pass w os old ps).scope) types) (c.in_ok-typed.ensures.sites ∙ ap (λ os. judge_all w c.taken.new.self (patterns_pass w os old ps).sites) types)
+    term_within c.converted.result w c.args.expected c.args.name.now ps old c.patterns_at.new.vars c.args.judged.now.rows c.taken_by.new.self.rows c.taken.new.self.rows c.patterns_at.new.judged.rows c.within.result (option_map elaborated c.made_of.result)
+    (c.taken_by.ensures w from by) (c.within.ensures w from by ∙ ap (λ ty. within from ty c.args.expected) of) (c.taken.ensures w o c.called-callee.ensures ∙ ap (λ n. judge w c.taken_by.new.self.rows (TakenAt c.within.result o n)) (sym (parts_counted c.args.parts.now)))
+    (c.in_ok-typed.ensures.scope ∙ ap (λ os. (patterns_pass w os old ps).scope) types) (c.in_ok-typed.ensures.sites ∙ ap (λ os. judge_all w c.taken.new.self.rows (patterns_pass w os old ps).sites) types)
     (c.made_of.ensures w o c.called-callee.ensures ∙ ap (λ n. term_tree (ret_type w o) n (pattern_trees c.in_ok-typed.typed)) (number_is (terms w.defs) c.args.name.now)
     ∙ ap (term_tree (ret_type w o) (term_named (terms w.defs) c.args.name.now)) (c.in_ok-typed.ensures.trees ∙ ap (λ os. (patterns_pass w os old ps).trees) types)) (c.converted.ensures w from by)
 
@@ -52,14 +52,14 @@ pattern_at-returns-in-Int t c =
     record {
       tree = c.integer_at.ensures ∙ ap (λ types. integer_tree types c.args.expected (to_z w128 (of_z w128 c.in-Int.n))) c.types-in-Int.ensures ∙ ap (integer_tree w.types c.args.expected) same ∙ ap (λ q. (pattern_pass w c.args.expected old q).tree) is;
       scope = ap (λ q. (pattern_pass w c.args.expected old q).scope) is;
-      sites = c.integer.ensures w c.types.ensures ∙ ap (λ q. judge_all w c.args.judged.now (pattern_pass w c.args.expected old q).sites) is;
+      sites = c.integer.ensures w c.types.ensures ∙ ap (λ q. judge_all w c.args.judged.now.rows (pattern_pass w c.args.expected old q).sites) is;
     }
 
 pub patterns_at-loop-index-preserved : goal.patterns_at-loop-index-preserved
 patterns_at-loop-index-preserved t c =
     let h = c.get.ensures.lookup in
     let at : c.copied.result ≡ slice_get c.args.types.now c.loop-index.index = c.copied.ensures ∙ got c.args.types.now c.loop-index.index c.get.result h.1 h.3 in
-    let made = patterns_more (seen c.args.known.now) c.args.types.now c.loop-index.vars c.pattern_at.new.vars c.args.patterns.now c.loop-index.index c.args.judged.now c.loop-index.judged c.pattern_at.new.judged c.loop-index.typed.items c.match-branch-3.typed.items c.loop-index.complete c.match-branch-3.complete
+    let made = patterns_more (seen c.args.known.now) c.args.types.now c.loop-index.vars c.pattern_at.new.vars c.args.patterns.now c.loop-index.index c.args.judged.now.rows c.loop-index.judged.rows c.pattern_at.new.judged.rows c.loop-index.typed.items c.match-branch-3.typed.items c.loop-index.complete c.match-branch-3.complete
     c.index-patterns-index.result _ c.copied.result _ c.loop-index-test.true c.index-patterns-index.is at c.in_ok-found.ensures.scope c.in_ok-found.ensures.sites in
     elim c.match-branch-3.branch [
       | patterns_at-in-Some+in_ok-push-in-Some w ↦ made
@@ -72,7 +72,7 @@ patterns_at-loop-index-preserved t c =
 
 pub patterns_at-returns : goal.patterns_at-returns
 patterns_at-returns t c =
-    let all = patterns_all (seen c.args.known.now) c.args.types.now c.loop-index.vars c.args.patterns.now c.loop-index.index c.args.judged.now c.loop-index.judged c.loop-index.typed.items c.loop-index.complete _ (search rules) c.loop-index.invariant in
+    let all = patterns_all (seen c.args.known.now) c.args.types.now c.loop-index.vars c.args.patterns.now c.loop-index.index c.args.judged.now.rows c.loop-index.judged.rows c.loop-index.typed.items c.loop-index.complete _ (search rules) c.loop-index.invariant in
     let made = Some (map elaborated c.loop-index.typed.items) in
     record {
       trees = elim c.if-complete.branch [
@@ -91,7 +91,7 @@ pattern_at-returns-in-Bool t c =
     record {
       tree = ap Some (pattern-bool c.in-Bool.b) ∙ ap (λ q. (pattern_pass w c.args.expected old q).tree) is;
       scope = ap (λ q. (pattern_pass w c.args.expected old q).scope) is;
-      sites = c.truth.ensures w c.types-in-Bool.ensures ∙ ap (λ q. judge_all w c.args.judged.now (pattern_pass w c.args.expected old q).sites) is;
+      sites = c.truth.ensures w c.types-in-Bool.ensures ∙ ap (λ q. judge_all w c.args.judged.now.rows (pattern_pass w c.args.expected old q).sites) is;
     }
 
 pub and_at-returns : goal.and_at-returns
@@ -104,12 +104,12 @@ and_at-returns t c =
     record {
       tree = c.all_of.ensures ∙ ap (and_tree c.args.expected) (c.in_ok-typed.ensures.trees ∙ ap (λ (x : PatternsPass). x.trees) same);
       scope = c.in_ok-typed.ensures.scope ∙ ap (λ (x : PatternsPass). x.scope) same;
-      sites = c.in_ok-typed.ensures.sites ∙ ap (λ (x : PatternsPass). judge_all w c.args.judged.now x.sites) same;
+      sites = c.in_ok-typed.ensures.sites ∙ ap (λ (x : PatternsPass). judge_all w c.args.judged.now.rows x.sites) same;
     }
 
 pub bind_at-returns : goal.bind_at-returns
 bind_at-returns t c =
     let w = whole c.args.known.now in
     let name = c.args.name.now in
-    bound_is c.bound_to.result w c.args.expected c.args.vars.now c.meet.new.self c.pattern_at-2.new.vars c.args.judged.now c.met.new.self c.pattern_at-2.new.judged name (pattern c.args.inner.now) c.in_ok-found.found c.is_blank.result c.is_blank.ensures c.if-is_blank.false
-    c.in_ok-bound.ensures.scope (c.met.ensures ∙ ap (λ b. judge w c.args.judged.now (MetAt c.args.expected b)) c.in_ok-bound.ensures.bound) c.in_ok-found.ensures (search rules)
+    bound_is c.bound_to.result w c.args.expected c.args.vars.now c.meet.new.self c.pattern_at-2.new.vars c.args.judged.now.rows c.met.new.self.rows c.pattern_at-2.new.judged.rows name (pattern c.args.inner.now) c.in_ok-found.found c.is_blank.result c.is_blank.ensures c.if-is_blank.false
+    c.in_ok-bound.ensures.scope (c.met.ensures ∙ ap (λ b. judge w c.args.judged.now.rows (MetAt c.args.expected b)) c.in_ok-bound.ensures.bound) c.in_ok-found.ensures (search rules)

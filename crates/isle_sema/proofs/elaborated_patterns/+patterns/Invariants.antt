@@ -7,4 +7,4 @@ use Rattle.isle_sema.proofs.elaborated_patterns.+patterns.Given as goal
 
 abbrev pub invariant-patterns_at-loop-index : goal.invariant-patterns_at-loop-index
 invariant-patterns_at-loop-index l =
-    AreMade (seen l.known) (patterns_pass (whole_of (seen l.known)) (map Some l.types) l.fn.vars (patterns_of (map pattern l.patterns))) (patterns_left (seen l.known) l.types l.patterns l.index l.vars) l.fn.judged l.judged l.typed.items l.complete
+    AreMade (seen l.known) (patterns_pass (whole_of (seen l.known)) (map Some l.types) l.fn.vars (patterns_of (map pattern l.patterns))) (patterns_left (seen l.known) l.types l.patterns l.index l.vars) l.fn.judged.rows l.judged.rows l.typed.items l.complete

@@ -66,7 +66,7 @@ returns c =
     let args = map elaborated_pattern c.in-Some-args.args.items in
     let iflets = map elaborated_iflet c.in-Some-iflets.iflets.items in
     let rhs = elaborated_expr c.in-Some-rhs.rhs in
-    let ruled : Bool = sides.left.ruled || sides.right.ruled in
+    let ruled : Bool = sides.left.rows.ruled || sides.right.rows.ruled in
     let written : elaborated_rule c.rule_from-written.result ≡ rule_from w c.args.number r c.args.own.now.term args iflets rhs = c.rule_from-written.ensures in
     let made : IsElaborated (templates w) (elaborated_rule c.rule_from-written.result) c.in_ok-found.found → IsRuleFound w c.args.number r (found_rule ruled c.in_ok-found.found) = λ e. found_made w c.args.number r c.args.own.now args iflets rhs ruled c.in_ok-found.found c.requires.own kept (ruled_is w r sides ruled c.in_ok-sides.ensures refl)
     (sym c.in_ok-sides.ensures.trees ∙ ap pattern_trees c.in-Some-args.is) (sym c.in_ok-sides.ensures.conditions ∙ ap condition_trees c.in-Some-iflets.is) (sym c.in_ok-sides.ensures.tree ∙ ap (option_map elaborated_expr) c.in-Some-rhs.is)

@@ -25,8 +25,8 @@ pub returns-in-Broken : goal.returns-in-Broken
 returns-in-Broken c =
     let w = whole c.args.known.now in
     let r = c.index-given-number.result in
-    rule_broken w (rule_defs (seen_defs c.args.known.now)) c.args.given.now c.loop-number.number c.loop-number.rules.items c.loop-number.complete r _ c.in-Broken.row c.loop-number-test.true c.index-given-number.is
-    (subst (λ f. IsRuleFound w c.loop-number.number (seen r) f) c.in-Broken.is c.in_ok-row.ensures) c.loop-number.invariant
+    rule_broken w (rule_defs (seen_defs c.args.known.now)) c.args.given.now c.loop-number.number c.loop-number.rules.items c.loop-number.complete r _ c.in-Broken.breach.row c.loop-number-test.true c.index-given-number.is
+    (subst (λ f. IsRuleFound w c.loop-number.number (seen r) f) c.in-Broken.is c.in_ok-breach.ensures) c.loop-number.invariant
 
 pub loop-number-preserved : goal.loop-number-preserved
 loop-number-preserved c =
@@ -39,11 +39,11 @@ loop-number-preserved c =
     let complete = c.loop-number.complete in
     elim c.match-branch-3.branch [
       | in-Unbuilt m ↦
-          let found = subst (λ f. IsRuleFound w i (seen r) f) m.in-Unbuilt.is c.in_ok-row.ensures in
+          let found = subst (λ f. IsRuleFound w i (seen r) f) m.in-Unbuilt.is c.in_ok-breach.ensures in
           subst (λ b. AreLeft w all given (i + 1) c.match-branch-3.rules.items b) (sym m.complete-is)
           (subst (λ v. AreLeft w all given (i + 1) v.items false) (sym m.rules-is) (rule_left w all given i made complete r _ c.loop-number-test.true c.index-given-number.is found.0 found.1 c.loop-number.invariant))
       | in-Taken+in_ok-push-in-Taken m ↦
-          let found = subst (λ f. IsRuleFound w i (seen r) f) m.in-Taken.is c.in_ok-row.ensures in
+          let found = subst (λ f. IsRuleFound w i (seen r) f) m.in-Taken.is c.in_ok-breach.ensures in
           subst (λ b. AreLeft w all given (i + 1) c.match-branch-3.rules.items b) (sym m.complete-is)
           (rule_more w all given i made c.match-branch-3.rules.items complete r _ m.in-Taken.found c.loop-number-test.true c.index-given-number.is (ap (λ v. v.items) m.rules-is ∙ m.in_ok-push-in-Taken.ensures.items) found.0 found.1 c.loop-number.invariant)
     ]

@@ -31,5 +31,5 @@ returns c =
     record {
       sound = sym (row_judged w x t _ _ _ by (c.reaches_itself.ensures w x callee c.requires.closed) missed found.1) ∙ sym c.template_row.ensures ∙ c.in-None.is;
       tree_is = found.0;
-      ruled_is = ruled_found w x c.pattern_at.new.judged found.1;
+      ruled_is = ruled_found w x c.pattern_at.new.judged.rows found.1;
     }

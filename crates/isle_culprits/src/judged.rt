@@ -1,0 +1,19 @@
+//! Which rows the parts of a rule or of a template break.
+
+/// Which rows the parts of a rule or of a template that were met so far break, whether one is of a term that has a rule, and
+/// whether one is a variable of a pattern that was not bound before.
+#[derive(Clone, Copy)]
+pub struct Judged {
+    pub untaken: bool,
+    pub mistaken: bool,
+    pub misplaced: bool,
+    pub undeclared: bool,
+    pub met_otherwise: bool,
+    pub unknown: bool,
+    pub mistyped: bool,
+    pub partial: bool,
+    pub impure: bool,
+    pub multi: bool,
+    pub ruled: bool,
+    pub unbound: bool,
+}
