@@ -35,7 +35,7 @@ among_all : (xs ys : Constraints) → ((y : BindingId × Constraint) → IsAmong
 among_all [] ys h = tt
 among_all (x ∷ xs) ys h = (h x (inl refl), among_all xs ys (λ y k. h y (inr k)))
 
-no_is : (ps : List Path) (xs : Constraints) (p q : Path) → Contains (map (is_test ps) xs) (Equal p q) → ⊥
+pub no_is : (ps : List Path) (xs : Constraints) (p q : Path) → Contains (map (is_test ps) xs) (Equal p q) → ⊥
 no_is ps [] p q h = none_contained (Equal p q) h
 no_is ps (x ∷ xs) p q h = ⊎_elim (λ (k : Is (at ps x.0) x.1 ≡ Equal p q). cc) (λ k. no_is ps xs p q k) (contained_cases (is_test ps x) (map (is_test ps) xs) (Equal p q) h)
 

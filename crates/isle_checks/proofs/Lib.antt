@@ -8,6 +8,10 @@ pub mod WithinLaws
 pub mod FirstLaws
 pub mod FlatTests
 pub mod CheckLaws
+pub mod JoinedLaws
+pub mod ClassLaws
+pub mod ClashLaws
+pub mod UnreachableLaws
 pub mod ListChecks
 pub mod ErrorLaws
 pub mod TermErrors

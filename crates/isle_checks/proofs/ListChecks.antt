@@ -1,6 +1,6 @@
 -- The errors of the rules of a term are those of its flat rules.
-use Rattle.std.proofs.Common.{◌≡◌, ℕ, zero, suc, ◌+◌, ◌<◌, ◌≤◌, List, [], ◌∷◌, length, map, Option, Some, None, refl, sym, ap, ◌∙◌, subst, arith}
-use Rattle.std.specs.Prelude.{IsSomeAnd, slice_get, slice_index_or}
+use Rattle.std.proofs.Common.{◌≡◌, ℕ, zero, suc, ◌+◌, ◌<◌, ◌≤◌, List, [], ◌∷◌, length, map, Bool, false, Option, Some, None, refl, sym, ap, ◌∙◌, subst, arith}
+use Rattle.std.specs.Prelude.{◌↔◌, IsTrue, IsSomeAnd, slice_get, slice_index_or}
 use Rattle.std.specs.List.{AllByRecursion}
 use Rattle.isle_core.specs.declared.rule_sets.FlatRule.{FlatRule}
 use Rattle.isle_core.specs.Path.{Path}
@@ -12,10 +12,11 @@ use Rattle.isle_checks.specs.declared.placed.Check.{Check}
 use Rattle.isle_checks.specs.declared.placed.Check.TheVariants as check
 use Rattle.isle_checks.specs.Makes.{MakesAt}
 use Rattle.isle_checks.specs.Firsts.{Found, IsFirst, AreFirstMakers}
-use Rattle.isle_checks.specs.RuleChecks.{OverlapsAt, ShadowsAt}
+use Rattle.isle_checks.specs.RuleChecks.{UnreachableAt, OverlapsAt, ShadowsAt}
 use Rattle.isle_checks.specs.CheckList.{errors_of, positions, AreErrorsBelow}
-use Rattle.isle_checks.specs.Errors.{errors_below}
+use Rattle.isle_checks.specs.Errors.{AreUnreachable, errors_below}
 use Rattle.isle_checks.proofs.FirstLaws.{made_of, at_of}
+use Rattle.isle_checks.proofs.UnreachableLaws.{rule_unreachable, flat_unreachable}
 use Rattle.isle_checks.proofs.CheckLaws.{rules_overlap, flats_overlap, rules_shadow, flats_shadow}
 
 -- ---- the flat rule at a place
@@ -78,6 +79,17 @@ abbrev pub RulesMake : Check → Environment → List Rule → ℕ → ℕ → T
 RulesMake check.Overlaps env rules i j = OverlapsAt env rules i j
 RulesMake check.Shadows env rules i j = ShadowsAt env rules i j
 
+-- what was told of flat rules holds of rules
+unreachable_too : (env : Environment) (ps : List Path) → EachOnce ps → (rules : List Rule) (fs : List FlatRule) (n : ℕ) (us : List Bool) → AllByRecursion (IsReady env) rules → AreFlat env ps rules n fs → AreUnreachable fs us → (j : ℕ) → IsTrue (slice_index_or us j false) ↔ UnreachableAt env rules j
+unreachable_too env ps once [] [] n [] b h k zero = (λ e. cc, λ e. absurd e)
+unreachable_too env ps once [] [] n [] b h k (suc j) = (λ e. cc, λ e. absurd e)
+unreachable_too env ps once (r ∷ rules) (f ∷ fs) n (u ∷ us) b h k zero = (λ e. rule_unreachable env ps once r n f h.0 b.0 (k.0.0 e), λ e. k.0.1 (flat_unreachable env ps once r n f h.0 b.0 e))
+unreachable_too env ps once (r ∷ rules) (f ∷ fs) n (u ∷ us) b h k (suc j) = unreachable_too env ps once rules fs (n + impure env r.rhs) us b.1 h.1 k.1 j
+unreachable_too env ps once [] (f ∷ fs) n us b h k j = absurd h
+unreachable_too env ps once (r ∷ rules) [] n us b h k j = absurd h
+unreachable_too env ps once [] [] n (u ∷ us) b h k j = absurd k
+unreachable_too env ps once (r ∷ rules) (f ∷ fs) n [] b h k j = absurd k
+
 module _ (env : Environment) (ps : List Path) (once : EachOnce ps) (rules : List Rule) (fs : List FlatRule) (n : ℕ) (built : AllByRecursion (IsReady env) rules) (flat : AreFlat env ps rules n fs) where
   to_rules : (c : Check) (i j : ℕ) → MakesAt c fs i j → RulesMake c env rules i j
   to_rules check.Overlaps i j h =
@@ -118,13 +130,15 @@ module _ (env : Environment) (ps : List Path) (once : EachOnce ps) (rules : List
   item_there (o ∷ os) (suc j) lt = item_there os j (omega (arith, lt))
 
   -- what was found for flat rules tells the errors of rules
-  pub are_errors : (os ss : Found) → AreFirstMakers check.Overlaps fs os → AreFirstMakers check.Shadows fs ss → (k : ℕ) → k ≤ length rules → AreErrorsBelow env rules k (errors_below (positions rules) os ss k)
-  are_errors os ss o s zero le = refl
-  are_errors os ss o s (suc k) le = (
-    errors_below (positions rules) os ss k,
-    errors_of (positions rules) k (slice_index_or os k None) (slice_index_or ss k None),
-    are_errors os ss o s k (omega (arith, le)),
+  pub are_errors : (us : List Bool) (os ss : Found) → AreUnreachable fs us → AreFirstMakers check.Overlaps fs os → AreFirstMakers check.Shadows fs ss → (k : ℕ) → k ≤ length rules → AreErrorsBelow env rules k (errors_below (positions rules) us os ss k)
+  are_errors us os ss u o s zero le = refl
+  are_errors us os ss u o s (suc k) le = (
+    errors_below (positions rules) us os ss k,
+    errors_of (positions rules) k (slice_index_or us k false) (slice_index_or os k None) (slice_index_or ss k None),
+    are_errors us os ss u o s k (omega (arith, le)),
     record {
+      unreachable = slice_index_or us k false;
+      is_unreachable = unreachable_too env ps once rules fs n us built flat u k;
       overlap = slice_index_or os k None;
       first_overlap = first_too check.Overlaps k _ (o.each k _ (item_there os k (let a = o.long in let b = same_length env ps rules fs n flat in omega (arith, a, b, le))));
       shadow = slice_index_or ss k None;

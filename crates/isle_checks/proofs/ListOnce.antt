@@ -1,6 +1,6 @@
 -- The errors of rules are one list.
 use Rattle.std.proofs.Common.{◌≡◌, ℕ, zero, suc, List, [], ◌∷◌, ◌++◌, length, map, Bool, true, false, Option, Some, None, refl, sym, ap, ◌∙◌, arith}
-use Rattle.std.specs.Prelude.{MatchBool}
+use Rattle.std.specs.Prelude.{◌↔◌, IsTrue, MatchBool}
 use Rattle.isle_core.specs.declared.TermId.{TermId}
 use Rattle.isle_core.specs.declared.errors.Error.{Error}
 use Rattle.isle_core.specs.Terms.{with_rules}
@@ -15,11 +15,18 @@ first_once P None (Some j) h k = absurd (h j k.0)
 first_once P (Some i) None h k = absurd (k i h.0)
 first_once P (Some i) (Some j) h k = let le = h.1 j k.0 in let ge = k.1 i h.0 in ap Some {y = j} (omega (arith, le, ge))
 
+-- what holds exactly where something does is one truth
+truth_once : (P : Type 0) (u v : Bool) → IsTrue u ↔ P → IsTrue v ↔ P → u ≡ v
+truth_once P true v h k = sym (k.1 (h.0 refl))
+truth_once P false true h k = h.1 (k.0 refl)
+truth_once P false false h k = refl
+
 at_once : (env : Environment) (rules : List Rule) (j : ℕ) (es fs : List RuleError) → AreErrorsAt env rules j es → AreErrorsAt env rules j fs → es ≡ fs
 at_once env rules j es fs h k =
     h.are
-    ∙ ap (λ o. errors_of (positions rules) j o h.shadow) (first_once _ h.overlap k.overlap h.first_overlap k.first_overlap)
-    ∙ ap (errors_of (positions rules) j k.overlap) (first_once _ h.shadow k.shadow h.first_shadow k.first_shadow)
+    ∙ ap (λ u. errors_of (positions rules) j u h.overlap h.shadow) (truth_once _ h.unreachable k.unreachable h.is_unreachable k.is_unreachable)
+    ∙ ap (λ o. errors_of (positions rules) j k.unreachable o h.shadow) (first_once _ h.overlap k.overlap h.first_overlap k.first_overlap)
+    ∙ ap (errors_of (positions rules) j k.unreachable k.overlap) (first_once _ h.shadow k.shadow h.first_shadow k.first_shadow)
     ∙ sym k.are
 
 joined : (front other last next es fs : List RuleError) → front ≡ other → last ≡ next → es ≡ front ++ last → fs ≡ other ++ next → es ≡ fs

@@ -29,7 +29,7 @@ use Rattle.isle_core.proofs.PatternTests.{Values, Both, AreServed}
 use Rattle.isle_core.proofs.ConditionTests.{IsSupplied}
 use Rattle.isle_core.proofs.RuleMatches.{IsTested, rule_both}
 use Rattle.isle_core.specs.TypedVariables.{rule_typed, HaveOneType}
-use Rattle.isle_checks.specs.CheckList.{RuleError, overlap_of, shadow_of, positions, is_multi, AreErrorsAt, AreErrorsBelow, AreErrorsOf, AreErrorsOfTerm, AreErrorsOfTerms, IsClean}
+use Rattle.isle_checks.specs.CheckList.{RuleError, unreachable_of, overlap_of, shadow_of, positions, is_multi, AreErrorsAt, AreErrorsBelow, AreErrorsOf, AreErrorsOfTerm, AreErrorsOfTerms, IsClean}
 use Rattle.isle_checks.specs.Firsts.{IsFirst}
 use Rattle.isle_checks.specs.RuleChecks.{Overlaps, OverlapsAt}
 use Rattle.isle_checks.proofs.ListChecks.{of_two}
@@ -107,7 +107,7 @@ none_below env rules (suc n) i j h lt o =
     (below_cases j n lt)
   where
     none_at : (n : ℕ) → AreErrorsAt env rules n h.1 → [] ≡ h.1 → OverlapsAt env rules i n → ⊥
-    none_at n a e o = none_overlaps env rules i n a.overlap (nil_parts (overlap_of (positions rules) n a.overlap) (shadow_of (positions rules) n a.shadow) (e ∙ a.are)).0 a.first_overlap o
+    none_at n a e o = none_overlaps env rules i n a.overlap (nil_parts (unreachable_of (positions rules) n a.unreachable) (overlap_of (positions rules) n a.overlap) (sym (nil_parts (unreachable_of (positions rules) n a.unreachable ++ overlap_of (positions rules) n a.overlap) (shadow_of (positions rules) n a.shadow) (e ∙ a.are)).0)).1 a.first_overlap o
 
 -- ---- the law
 

@@ -12,7 +12,7 @@ use Rattle.isle_core.specs.ErrorLines.{IsPlaced}
 use Rattle.isle_core.specs.Places.{LiesIn}
 use Rattle.isle_core.specs.Terms.{with_rules}
 use Rattle.isle_core.specs.Rule.{Environment, Rule, rules_of}
-use Rattle.isle_checks.specs.CheckList.{RuleError, Overlap, Shadowed, span_at, overlap_of, shadow_of, positions, told, told_spans, is_multi, AreErrorsBelow, AreErrorsOf, AreErrorsOfTerms, IsCheckList}
+use Rattle.isle_checks.specs.CheckList.{RuleError, Unreached, Overlap, Shadowed, span_at, unreachable_of, overlap_of, shadow_of, positions, told, told_spans, is_multi, AreErrorsBelow, AreErrorsOf, AreErrorsOfTerms, IsCheckList}
 use Rattle.isle_checks.proofs.TermErrors.{all_filter}
 
 module _ (files : Files) where
@@ -26,6 +26,7 @@ module _ (files : Files) where
 
   -- the span that is told does
   abbrev IsToldIn : RuleError → Type 0
+  IsToldIn (Unreached rule) = BeginsIn rule
   IsToldIn (Overlap earlier later) = BeginsIn later
   IsToldIn (Shadowed shadowed mask) = BeginsIn shadowed
 
@@ -43,6 +44,10 @@ module _ (files : Files) where
   at_begins (r ∷ rules) (suc i) h = at_begins rules i h.1
 
   module _ (env : Environment) where
+    unreachable_told : (rules : List Rule) (j : ℕ) (u : Bool) → LieIn rules → AreToldIn (unreachable_of (positions rules) j u)
+    unreachable_told rules j false h = tt
+    unreachable_told rules j true h = (at_begins rules j h, tt)
+
     overlap_told : (rules : List Rule) (j : ℕ) (o : Option ℕ) → LieIn rules → AreToldIn (overlap_of (positions rules) j o)
     overlap_told rules j None h = tt
     overlap_told rules j (Some i) h = (at_begins rules j h, tt)
@@ -56,7 +61,8 @@ module _ (files : Files) where
     below_told rules (suc n) es h k =
         subst AreToldIn (sym k.4)
         (both_told k.0 k.1 (below_told rules n k.0 h k.2)
-        (subst AreToldIn (sym k.3.are) (both_told (overlap_of (positions rules) n k.3.overlap) (shadow_of (positions rules) n k.3.shadow) (overlap_told rules n k.3.overlap h) (shadow_told rules n k.3.shadow h))))
+        (subst AreToldIn (sym k.3.are) (both_told (unreachable_of (positions rules) n k.3.unreachable ++ overlap_of (positions rules) n k.3.overlap) (shadow_of (positions rules) n k.3.shadow)
+        (both_told (unreachable_of (positions rules) n k.3.unreachable) (overlap_of (positions rules) n k.3.overlap) (unreachable_told rules n k.3.unreachable h) (overlap_told rules n k.3.overlap h)) (shadow_told rules n k.3.shadow h))))
 
     kind_told : (rules : List Rule) (multi : Bool) (es : List RuleError) → LieIn rules → MatchBool multi (es ≡ []) (AreErrorsOf env rules es) → AreToldIn es
     kind_told rules true es h k = subst AreToldIn (sym k) tt
@@ -82,7 +88,7 @@ module _ (files : Files) where
   error_placed (error.ShadowedError shadowed mask) x h k = subst IsToldIn (sym (error_same (Shadowed (Some shadowed) (Some mask)) x h)) k
   error_placed (error.ParseError msg span) x h k = cc
   error_placed (error.TypeError row msg span) x h k = cc
-  error_placed (error.UnreachableError msg span) x h k = cc
+  error_placed (error.UnreachableError msg span) x h k = subst IsToldIn (sym (error_same (Unreached (Some span)) x h)) k
   error_placed (error.RecursionError msg span) x h k = cc
 
   head_same : (a : Option RuleError) (os ps : List (Option RuleError)) (b : Option RuleError) → a ∷ os ≡ b ∷ ps → (a ≡ b) × (os ≡ ps)

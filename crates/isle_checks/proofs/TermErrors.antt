@@ -56,10 +56,10 @@ term_more env ids id set old new single built stands joined h =
     let rules = rules_of env id in
     let ps = paths_of set.bindings in
     let all : AllByRecursion (IsReady env) rules = all_filter (IsReady env) _ env.rules (all_ready env env.rules (recursion_from_All (IsBuiltRule env.terms) env.rules built.forms) (recursion_from_All IsScopedRule env.rules built.bound)) in
-    let es = errors_below (places_of set.rules) joined.overlaps joined.shadows (length set.rules) in
-    let same : es ≡ errors_below (positions rules) joined.overlaps joined.shadows (length rules) =
-    ap (λ xs. errors_below xs joined.overlaps joined.shadows (length set.rules)) (same_positions env ps rules set.rules 0 stands.flat) ∙ ap (errors_below (positions rules) joined.overlaps joined.shadows) (same_length env ps rules set.rules 0 stands.flat) in
-    let of_rules : AreErrorsOf env rules es = subst (AreErrorsOf env rules) (sym same) (are_errors env ps stands.once rules set.rules 0 all stands.flat joined.overlaps joined.shadows joined.first_overlaps joined.first_shadows (length rules) (omega arith)) in
+    let es = errors_below (places_of set.rules) joined.unreachable joined.overlaps joined.shadows (length set.rules) in
+    let same : es ≡ errors_below (positions rules) joined.unreachable joined.overlaps joined.shadows (length rules) =
+    ap (λ xs. errors_below xs joined.unreachable joined.overlaps joined.shadows (length set.rules)) (same_positions env ps rules set.rules 0 stands.flat) ∙ ap (errors_below (positions rules) joined.unreachable joined.overlaps joined.shadows) (same_length env ps rules set.rules 0 stands.flat) in
+    let of_rules : AreErrorsOf env rules es = subst (AreErrorsOf env rules) (sym same) (are_errors env ps stands.once rules set.rules 0 all stands.flat joined.unreachable joined.overlaps joined.shadows joined.are_unreachable joined.first_overlaps joined.first_shadows (length rules) (omega arith)) in
     let of_term : AreErrorsOfTerm env id es = rw single of_rules in
     (h.0 ++ es, terms_push env ids id h.0 es h.1 of_term, tell_more old new h.0 es h.2 joined.joined)
 

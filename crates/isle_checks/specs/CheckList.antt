@@ -1,5 +1,5 @@
 -- The errors of rules, in order.
-use Rattle.std.specs.Prelude.{◌≡◌, ℕ, zero, suc, List, [], ◌∷◌, ◌++◌, length, map, Bool, false, MatchBool, Option, Some, None, option_map, slice_get}
+use Rattle.std.specs.Prelude.{◌≡◌, ◌↔◌, IsTrue, ℕ, zero, suc, List, [], ◌∷◌, ◌++◌, length, map, Bool, false, true, MatchBool, Option, Some, None, option_map, slice_get}
 use Rattle.std.specs.Option.{option_map_or}
 use Rattle.isle_core.specs.declared.TermId.{TermId}
 use Rattle.isle_core.specs.declared.position.Pos.{Pos}
@@ -11,10 +11,11 @@ use Rattle.isle_core.specs.Calling.{kind_of, is_several}
 use Rattle.isle_core.specs.Terms.{with_rules}
 use Rattle.isle_core.specs.Rule.{Environment, Rule, rules_of}
 use Rattle.isle_checks.specs.Firsts.{IsFirst}
-use Rattle.isle_checks.specs.RuleChecks.{OverlapsAt, ShadowsAt}
+use Rattle.isle_checks.specs.RuleChecks.{UnreachableAt, OverlapsAt, ShadowsAt}
 
--- an error, its words aside: an earlier rule that a later one overlaps, or a rule that another one shadows
+-- an error, its words aside: a rule that is unreachable by itself, an earlier rule that a later one overlaps, or a rule that another one shadows
 pub data RuleError : Type 0 where
+  Unreached : (rule : Option Span) → RuleError
   Overlap : (earlier later : Option Span) → RuleError
   Shadowed : (shadowed mask : Option Span) → RuleError
 
@@ -25,6 +26,11 @@ single pos = record { from = pos; to = pos }
 -- where the rule at a place stands
 abbrev pub span_at : List Pos → ℕ → Option Span
 span_at ps i = option_map single (slice_get ps i)
+
+-- the rule at a place, where it is unreachable by itself
+abbrev pub unreachable_of : List Pos → ℕ → Bool → List RuleError
+unreachable_of ps j false = []
+unreachable_of ps j true = Unreached (span_at ps j) ∷ []
 
 -- the overlap of the rule at a place with an earlier one, where there is one
 abbrev pub overlap_of : List Pos → ℕ → Option ℕ → List RuleError
@@ -37,21 +43,23 @@ shadow_of ps j None = []
 shadow_of ps j (Some i) = Shadowed (span_at ps j) (span_at ps i) ∷ []
 
 -- the errors of the rule at a place
-abbrev pub errors_of : List Pos → ℕ → (overlap shadow : Option ℕ) → List RuleError
-errors_of ps j overlap shadow = overlap_of ps j overlap ++ shadow_of ps j shadow
+abbrev pub errors_of : List Pos → ℕ → (unreachable : Bool) → (overlap shadow : Option ℕ) → List RuleError
+errors_of ps j unreachable overlap shadow = unreachable_of ps j unreachable ++ overlap_of ps j overlap ++ shadow_of ps j shadow
 
 -- the positions of rules
 abbrev pub positions : List Rule → List Pos
 positions rules = map (λ (r : Rule). r.pos) rules
 
--- of the rule at a place these are the errors: the first earlier rule that overlaps it, then the first that shadows it.
--- No rule of the built forms bears different constraints on one path, so none is unreachable by itself
+-- of the rule at a place these are the errors: that it is unreachable by itself, then the first earlier rule that overlaps it, then
+-- the first that shadows it
 pub record AreErrorsAt (env : Environment) (rules : List Rule) (j : ℕ) (es : List RuleError) : Type 0 where
+  pub unreachable : Bool
+  pub is_unreachable : IsTrue unreachable ↔ UnreachableAt env rules j
   pub overlap : Option ℕ
   pub first_overlap : IsFirst (λ i. OverlapsAt env rules i j) overlap
   pub shadow : Option ℕ
   pub first_shadow : IsFirst (λ i. ShadowsAt env rules i j) shadow
-  pub are : es ≡ errors_of (positions rules) j overlap shadow
+  pub are : es ≡ errors_of (positions rules) j unreachable overlap shadow
 
 -- of the first n rules these are the errors, rule by rule
 abbrev pub AreErrorsBelow : Environment → List Rule → ℕ → List RuleError → Type 0
@@ -87,7 +95,7 @@ told (error.OverlapError msg rules) = told_spans rules
 told (error.ShadowedError shadowed mask) = Some (Shadowed (Some shadowed) (Some mask))
 told (error.ParseError msg span) = None
 told (error.TypeError row msg span) = None
-told (error.UnreachableError msg span) = None
+told (error.UnreachableError msg span) = Some (Unreached (Some span))
 told (error.RecursionError msg span) = None
 
 -- errors that say this, in order

@@ -1,5 +1,7 @@
 pub mod Bears
 pub mod Makes
+pub mod Joined
+pub mod Classes
 pub mod Sides
 pub mod Firsts
 pub mod RuleChecks

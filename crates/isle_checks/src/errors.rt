@@ -2,13 +2,25 @@
 
 ghost use Rattle.std.specs.Prelude.{◌≡◌, ◌<◌, ◌≤◌, Some as SomeOf, length, IfOk, OnOk, IfSome};
 ghost use Rattle.isle_checks.specs.CheckList as list;
-ghost use Rattle.isle_checks.specs.CheckList.{told, single, overlap_of, shadow_of, errors_of};
+ghost use Rattle.isle_checks.specs.CheckList.{told, single, unreachable_of, overlap_of, shadow_of};
 ghost use Rattle.isle_checks.specs.Errors.{places_of, Joined, JoinedOf};
 
 use crate::firsts::firsts;
 use crate::placed::Check;
+use crate::unreachable::unreachable_rules;
 use isle_core::{Error, FlatRule, List, Pos, Span, Text};
 use std::alloc::{AllocError, Global};
+
+// The error of a rule that is unreachable by itself.
+fn unreachable_error(alloc: Global, rule: Pos) -> Result<Error, AllocError>
+    ensures { IfOk result (λ e. told e ≡ SomeOf (list.Unreached (SomeOf (single rule)))) }
+{
+    let msg = Text::copied(alloc, "two patterns ask for different values at one place")?;
+    Ok(Error::UnreachableError {
+        msg,
+        span: Span::new_single(rule),
+    })
+}
 
 // The error of two rules that overlap.
 fn overlap_error(alloc: Global, earlier: Pos, later: Pos) -> Result<Error, AllocError>
@@ -30,6 +42,23 @@ fn shadow_error(shadowed: Pos, mask: Pos) -> Error
         shadowed: Span::new_single(shadowed),
         mask: Span::new_single(mask),
     }
+}
+
+// Adds the rule at a place, where it is unreachable by itself.
+fn push_unreachable(
+    alloc: Global,
+    rules: &[FlatRule],
+    place: usize,
+    unreachable: bool,
+    errors: &mut Vec<Error>,
+) -> Result<(), AllocError>
+    requires { place < length rules.now }
+    ensures { OnOk result (Joined errors.old.items errors.new.items (unreachable_of (places_of rules.now) place unreachable)) }
+{
+    if unreachable {
+        errors.push(unreachable_error(alloc, rules[place].pos)?)?;
+    }
+    Ok(())
 }
 
 // Adds the overlap of the rule at a place with an earlier one, where there is one.
@@ -67,8 +96,8 @@ fn push_shadow(
     Ok(())
 }
 
-/// Adds the errors of the rules of a term, rule by rule: the first earlier one that overlaps it, then the first that shadows
-/// it. The only error is want of memory.
+/// Adds the errors of the rules of a term, rule by rule: that it is unreachable by itself, then the first earlier one that
+/// overlaps it, then the first that shadows it. The only error is want of memory.
 pub fn push_errors(
     alloc: Global,
     rules: &[FlatRule],
@@ -76,9 +105,11 @@ pub fn push_errors(
 ) -> Result<(), AllocError>
     ensures { OnOk result (JoinedOf rules.now errors.old.items errors.new.items) }
 {
+    let unreachable = unreachable_rules(alloc, rules)?;
     let overlaps = firsts(alloc, Check::Overlaps, rules)?;
     let masks = firsts(alloc, Check::Shadows, rules)?;
     for place in 0..rules.len() {
+        push_unreachable(alloc, rules, place, unreachable[place], errors)?;
         push_overlap(alloc, rules, place, overlaps[place], errors)?;
         push_shadow(rules, place, masks[place], errors)?;
     }

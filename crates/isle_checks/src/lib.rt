@@ -1,11 +1,13 @@
-//! What is wrong with the rules of a term among each other.
+//! What is wrong with the rules of a term, each by itself and among each other.
 #![tactic(auto)]
 
 mod bears;
+mod classes;
 mod errors;
 mod firsts;
 pub mod overlap;
 mod placed;
 mod splitter;
+mod unreachable;
 
 pub use overlap::CheckError;

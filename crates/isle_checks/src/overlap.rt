@@ -94,9 +94,9 @@ fn errors_of(
     Ok(errors)
 }
 
-/// Makes the rule set of each term with rules, in order of ids, where no two of its rules overlap and none is shadowed.
-/// `Rules` comes exactly where one is, and tells each, rule by rule: the first earlier rule that overlaps it, then the first
-/// that shadows it.
+/// Makes the rule set of each term with rules, in order of ids, where none of its rules is unreachable by itself, no two
+/// overlap and none is shadowed. `Rules` comes exactly where one is, and tells each, rule by rule: that it is unreachable by
+/// itself, then the first earlier rule that overlaps it, then the first that shadows it.
 pub fn check(alloc: Global, termenv: &TermEnv) -> Result<Vec<(TermId, RuleSet)>, CheckError>
     requires built { All (IsBuiltRule termenv.now.terms) (map seen termenv.now.rules) }
     requires bound { All IsScopedRule (map seen termenv.now.rules) }

@@ -35,7 +35,7 @@ pub struct Checked {
 
 /// Checks the definitions that the files' texts spell, in order, and returns their environment (`specs/Checked.antt`).
 /// There are as many names as texts. `NotYet` comes exactly where the texts are not of the language that is built, or a
-/// file's name may not be emitted; `Errors` where these definitions have rules that overlap or are shadowed, and tells each
+/// file's name may not be emitted; `Errors` where these definitions have rules that are unreachable, overlap or are shadowed, and tells each
 /// (`specs/Errors.antt`); beside these only want of memory.
 pub fn check_files(alloc: Global, files: &Files) -> Result<Checked, FileError>
     requires count { length files.now.file_texts ≡ length files.now.file_names }
@@ -55,7 +55,7 @@ pub fn check_files(alloc: Global, files: &Files) -> Result<Checked, FileError>
 
 /// Checks definitions that stand in the files, and returns their environment with the functions of the trait. `NotYet`
 /// comes exactly where they are not of the language that is built, or a name may not be emitted; `Errors` where rules
-/// overlap or are shadowed, and tells each (`specs/Errors.antt`); beside these only want of memory.
+/// are unreachable, overlap or are shadowed, and tells each (`specs/Errors.antt`); beside these only want of memory.
 pub fn check_defs(
     alloc: Global,
     files: &Files,

@@ -17,7 +17,7 @@ use std::alloc::Global;
 
 /// Compiles definitions that stand in the files, and returns the text of the program that they give
 /// (`specs/Headline.antt`). `NotYet` comes exactly where they are not of the language that is built, or a name may not be
-/// emitted; `Errors` where rules overlap or are shadowed, and tells each (`specs/Errors.antt`); beside these only want of
+/// emitted; `Errors` where rules are unreachable, overlap or are shadowed, and tells each (`specs/Errors.antt`); beside these only want of
 /// memory.
 pub fn compile(
     alloc: Global,
