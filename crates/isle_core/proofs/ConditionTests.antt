@@ -15,7 +15,7 @@ use Rattle.isle_core.specs.declared.types.Term.{Term}
 use Rattle.isle_core.specs.declared.types.TermKind.{TermKind}
 use Rattle.isle_core.specs.declared.types.TermKind.TheVariants as kind
 use Rattle.isle_core.specs.declared.values.Callee.{Callee}
-use Rattle.isle_core.specs.declared.values.Callee.TheVariants.{External}
+use Rattle.isle_core.specs.declared.values.Callee.TheVariants.{External, Internal}
 use Rattle.isle_core.specs.Answered.{answer_held}
 use Rattle.isle_core.specs.Calling.{Calling, ByCases, NoCall, AnswersOnce, calling, calling_of, calling_by, kind_of, pure_callee, instance_of, one_more, impure, impure_all, impure_bindings}
 use Rattle.isle_core.specs.CalledTerms.{Constructor, CalledTerm, unless_made, called_by, called_by_all, called_by_bindings}
@@ -56,9 +56,12 @@ data IsAsked (env : Environment) (c : Term) : Making → Calling → Type 0 wher
   makes_struct : (ty : TypeId) → IsMadeOf env c ty (MakesStruct ty) → IsAsked env c (MakesStruct ty) NoCall
 
 kind_asked : (env : Environment) (c : Term) (k : TermKind) → IsTermKind env in_condition c k → IsAsked env c (making_kind k) (calling_by (kind_of k) (impure_callee env c k) (pure_callee env c k))
-kind_asked env c (kind.Decl true false true false (constructor.External func) x) h = has_cases (External (sym_text env func)) return_kind.Option tt
-kind_asked env c (kind.Decl true false false false (constructor.External func) x) h = has_cases (External (sym_text env func)) return_kind.Plain tt
-kind_asked env c (kind.Decl false false partial false (constructor.External func) x) h = let bad : false ≡ true = h.1 refl in absurd cc
+kind_asked env c (kind.Decl true false true recursive (constructor.External func) x) h = has_cases (External (sym_text env func)) return_kind.Option tt
+kind_asked env c (kind.Decl true false false recursive (constructor.External func) x) h = has_cases (External (sym_text env func)) return_kind.Plain tt
+kind_asked env c (kind.Decl false false partial recursive (constructor.External func) x) h = let bad : false ≡ true = h.1 refl in absurd cc
+kind_asked env c (kind.Decl true false true recursive constructor.Internal x) h = has_cases (Internal (sym_text env c.name)) return_kind.Option tt
+kind_asked env c (kind.Decl true false false recursive constructor.Internal x) h = has_cases (Internal (sym_text env c.name)) return_kind.Plain tt
+kind_asked env c (kind.Decl false false partial recursive constructor.Internal x) h = let bad : false ≡ true = h.1 refl in absurd cc
 kind_asked env c (kind.Variant ty variant) h = makes_variant ty variant h
 kind_asked env c (kind.Struct ty) h = makes_struct ty h
 kind_asked env c k h = absurd h

@@ -16,7 +16,7 @@ use Rattle.isle_core.specs.Readable.{IsInPlace, AreReadable, IsReadAs, AreReadAs
 use Rattle.isle_core.specs.Rule.{Environment}
 use Rattle.isle_core.specs.Setting.{Setting, paths_in}
 
--- a call of an external term whose arguments may be read
+-- a call of a term whose arguments may be read
 pub record IsCallBound (s : Setting) (bound : List ℕ) (p : Path) (term : TermId) (parameters : List BindingId) (instance : ℕ) : Type 0 where
   pub path : p ≡ Called term (at_all (paths_in s) parameters) instance
   pub called : Term

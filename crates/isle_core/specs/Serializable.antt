@@ -110,7 +110,7 @@ pub record AreComparable (env : Environment) (t : Term) (ps : List Path) (tests 
 
 -- ---- calls
 
--- a call of an external term on values of its types, which stand on earlier calls; it has an inner value exactly where it
+-- a call of a term on values of its types, which stand on earlier calls; it has an inner value exactly where it
 -- may be nothing, which is only so in a term that may answer nothing
 pub record IsSerializableCall (env : Environment) (t : Term) (tests : List Test) (ps done : List Path) (p : Path) : Type 0 where
   pub term : TermId

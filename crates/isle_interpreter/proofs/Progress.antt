@@ -26,10 +26,9 @@ use Rattle.isle_tree.specs.declared.tree.TExpr.TheVariants as expr
 use Rattle.isle_tree.specs.declared.tree.TBind.{TBind}
 use Rattle.isle_tree.specs.declared.tree.TPat.{TPat}
 use Rattle.isle_tree.specs.declared.tree.TPat.TheVariants as pattern
-use Rattle.isle_tree.specs.declared.tree.TraitFn.{TraitFn}
 use Rattle.isle_tree.specs.Program.{Stmt, Let, LetList, IfEq, IfLet, Match, Loop, Return, Extend, Overflow, Log, Split, Tail, Body, Done, Then}
 use Rattle.isle_tree.specs.WellFormed as well
-use Rattle.isle_tree.specs.WellFormed.{Locals, IsOperand, IsRead, IsCallee, IsFieldRead, IsExpr, IsStmt, IsBody, local_holds, operand_holds, read_holds, is_value, are_values, are_field_values, made_holds, ReadsPattern, field_locals, inner_locals, pattern_locals, callee_holds, inner_holds, part_holds, expr_holds, GivesKind, after_let, bound_after, IsStmtScoped, IsBodyScoped, IsReturned, FitsStmt, FitsBody, FitsLast, FitsFunction}
+use Rattle.isle_tree.specs.WellFormed.{Locals, Callables, IsOperand, IsRead, IsCallee, IsFieldRead, IsExpr, IsStmt, IsBody, local_holds, operand_holds, read_holds, is_value, are_values, are_field_values, made_holds, ReadsPattern, field_locals, inner_locals, pattern_locals, callee_holds, inner_holds, part_holds, expr_holds, GivesKind, after_let, bound_after, IsStmtScoped, IsBodyScoped, IsReturned, FitsStmt, FitsBody, FitsLast, FitsFunction}
 use Rattle.isle_tree.specs.Run.{Around, State, one_made, Env, Flow, Goes, Ends, Leaves, Stuck, newer, look, bind, value_of, read_value, read_values, field_before, read_fields, value_in, constant, are_same, field_of, local_before, fit_some, fit_fields, fit_variant, fit_struct, fit, fitted, run_variant, run_struct, on_value, then_run, after_scope, run_bind, run_call, run_try, part_of, run_part, run_let, ends_with, run_return, run_stmt, run_body}
 use Rattle.isle_tree.specs.Calls.{expr_calls, stmt_calls, body_calls}
 use Rattle.isle_interpreter.proofs.AnswersHold.{HoldsIn}
@@ -293,11 +292,11 @@ well_part n part (Some (holds.One (item.Tuple count))) (One (ATuple vs)) bound e
 
 -- ---- what is called answers with its kind and its results
 
--- each callee that the program's functions of the trait have answers so
-abbrev pub Answering : List TraitFn → Meaning → List Callee → Type 0
+-- each callee that may be called answers so
+abbrev pub Answering : Callables → Meaning → List Callee → Type 0
 Answering fns m callees = (c : Callee) → Contains callees c → (count : ℕ) (h : Holds) → callee_holds fns c count ≡ Some h → (vs : List Value) (made : List Made) → HoldsIn h (answer_held (answer m c vs made))
 
-well_call : (fns : List TraitFn) (w : Around) (n : ℕ) (call : TCall) (bound : Locals) (env : Env) (st : State) → AllByRecursion IsRead call.args → Agree bound env
+well_call : (fns : Callables) (w : Around) (n : ℕ) (call : TCall) (bound : Locals) (env : Env) (st : State) → AllByRecursion IsRead call.args → Agree bound env
     → Answering fns w.meaning (call.callee ∷ [])
     → (o : Option Holds) → o ≡ (if are_values (length w.args) bound call.args then callee_holds fns call.callee (length call.args) else None) → IsSome o
     → Well (after_let o n bound) (run_call w n call.callee (read_values w env call.args) env st)
@@ -320,7 +319,7 @@ no_gift kind.Plain g = g
 no_gift kind.Option g = g
 no_gift kind.Iterator g = g
 
-module _ (fns : List TraitFn) (w : Around) where
+module _ (fns : Callables) (w : Around) where
   well_let : (n : ℕ) (e : TExpr) (bound : Locals) (env : Env) (st : State) → IsExpr e → IsSome (expr_holds fns (length w.args) bound e) → Answering fns w.meaning (expr_calls e) → Agree bound env
       → Well (after_let (expr_holds fns (length w.args) bound e) n bound) (run_let w n e env st)
   well_let n (expr.Read r) bound env st is some answering a = well_known n (read_holds (length w.args) bound r) (read_value w env r) bound env st a some (known_read w bound env r is a)

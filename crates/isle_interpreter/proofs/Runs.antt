@@ -10,15 +10,17 @@ use Rattle.isle_core.specs.Meaning.{Meaning}
 use Rattle.isle_core.specs.Answered.{answer_held, answer}
 use Rattle.isle_printer.specs.Bytes.{same_bytes}
 use Rattle.isle_tree.specs.declared.holds.Holds.{Holds}
+use Rattle.isle_tree.specs.declared.holds.Item.TheVariants as item
 use Rattle.isle_tree.specs.declared.tree.Ty.{Ty}
 use Rattle.isle_tree.specs.declared.tree.TraitFn.{TraitFn}
 use Rattle.isle_tree.specs.Program.{Function, Program}
-use Rattle.isle_tree.specs.WellFormed.{IsFunction, IsWellFormed, IsBodyScoped, trait_fn, results_item, kind_holds, call_holds}
+use Rattle.isle_tree.specs.WellFormed.{IsFunction, IsWellFormed, IsBodyScoped, trait_fn, results_item, kind_holds, call_holds, head_holds, function_head, callables}
 use Rattle.isle_tree.specs.Run.{Around, nothing_done, ended, function_of, function_run, run}
-use Rattle.isle_places.specs.Signatures.{trait_signature, signature_of, type_names}
+use Rattle.isle_places.specs.Signatures.{trait_signature, term_signature, signature_of, type_names}
 use Rattle.isle_interpreter.specs.Entries.{entries, IsUnanswered, AreRight}
 use Rattle.isle_tree.specs.Calls.{body_calls}
 use Rattle.isle_interpreter.specs.Refusals.{MayRun}
+use Rattle.isle_tree.proofs.FindHeads.{first_head}
 use Rattle.isle_interpreter.proofs.AnswersHold.{HoldsIn, answer_fits, named_length, answer_holds}
 use Rattle.isle_interpreter.proofs.Progress.{Answering, function_ends}
 
@@ -48,19 +50,34 @@ fn_answers p k m name (Some g) e right some count h f vs made = by (length g.par
     by true is_so = answer_holds p.types (trait_signature g) h (answer m (callee.External name) vs made) is_so (answer_fits p k m (callee.External name) (trait_signature g) right some is vs made)
     by false is_so = absurd cc
 
+-- and so does the function of a term
+term_answers : (p : Program) (k : Function) (m : Meaning) (term : List ℕ) (o : Option Function) → function_of term p.fns ≡ o → AreRight p k m [] (entries m) → (IsUnanswered (callee.Internal term) (entries m) → ⊥)
+    → (count : ℕ) (h : Holds) → head_holds (option_map function_head o) count ≡ Some h → (vs : List Value) (made : List Made) → HoldsIn h (answer_held (answer m (callee.Internal term) vs made))
+term_answers p k m term None e right some count h f vs made = absurd cc
+term_answers p k m term (Some g) e right some count h f vs made = by (length g.params == count) f
+  where
+    is : signature_of p (callee.Internal term) ≡ Some (term_signature g)
+    is = ap (λ (o : Option Function). option_map term_signature o) e
+
+    by : (b : Bool) → (if b then kind_holds g.kind item.Value else None) ≡ Some h → HoldsIn h (answer_held (answer m (callee.Internal term) vs made))
+    by true is_so = answer_holds p.types (term_signature g) h (answer m (callee.Internal term) vs made) is_so (answer_fits p k m (callee.Internal term) (term_signature g) right some is vs made)
+    by false is_so = absurd cc
+
+-- all that a function calls answers so
 answering : (p : Program) (m : Meaning) (f : Function) → AreRight p f m [] (entries m) → ((c : Callee) → Contains (body_calls f.body) c → IsUnanswered c (entries m) → ⊥)
-    → Answering p.trait_fns m (body_calls f.body)
+    → Answering (callables p) m (body_calls f.body)
 answering p m f right some (callee.External name) k count h e vs made = fn_answers p f m name (trait_fn p.trait_fns name) refl right (some (callee.External name) k) count h e vs made
-answering p m f right some (callee.Internal term) k count h e vs made = absurd cc
+answering p m f right some (callee.Internal term) k count h e vs made =
+    term_answers p f m term (function_of term p.fns) refl right (some (callee.Internal term) k) count h (ap (λ o. head_holds o count) (first_head term p.fns) ∙ e) vs made
 
 -- in a well-formed program
 pub runs : (p : Program) (term : List ℕ) (args : List Value) (m : Meaning) (f : Function) → IsWellFormed p → MayRun p term args m f → HasRun p term args m
 runs p term args m f well may =
     let is : IsFunction p f = found_function p term p.fns f well.fns may.found in
     let count : length args ≡ length f.params = named_length p.types (type_names f.params) args may.typed ∙ length-map f.params (λ (ty : Ty). ty.name) in
-    let scoped : IsBodyScoped p.trait_fns f.kind (length args) [] f.body = subst (λ n. IsBodyScoped p.trait_fns f.kind n [] f.body) (sym count) is.scoped in
+    let scoped : IsBodyScoped (callables p) f.kind (length args) [] f.body = subst (λ n. IsBodyScoped (callables p) f.kind n [] f.body) (sym count) is.scoped in
     let around : Around = record { meaning = m; program = p; function = f; args = args; limit = None } in
-    let ends = function_ends p.trait_fns around f.kind f.body [] [] nothing_done is.forms scoped is.fits (answering p m f may.right may.answered) tt in
+    let ends = function_ends (callables p) around f.kind f.body [] [] nothing_done is.forms scoped is.fits (answering p m f may.right may.answered) tt in
     record {
       ran = record { end = ends.end; calls = ends.left.made };
       is = ap (function_run p m args) may.found ∙ ap ended ends.is;

@@ -1,11 +1,12 @@
 //! What operands hold, and what is computed from them.
 
 ghost use Rattle.std.specs.Prelude.{◌≡◌, ◌↔◌, IsTrue, Some, []};
-ghost use Rattle.isle_tree.specs.WellFormed.{local_holds, operand_holds, read_holds, is_value, are_values, are_field_values, made_holds, results_item, kind_holds, call_holds, callee_holds, inner_holds, part_holds, expr_holds};
+ghost use Rattle.isle_tree.specs.Views.{function};
+ghost use Rattle.isle_tree.specs.WellFormed.{local_holds, operand_holds, read_holds, is_value, are_values, are_field_values, made_holds, results_item, kind_holds, function_head, call_holds, head_holds, callee_holds, inner_holds, part_holds, expr_holds};
 
 use isle_core::{Callee, ReturnKind, Text};
 use isle_scope::Table;
-use isle_tree::{Callees, Holds, Item, Operand, Read, TCall, TExpr, TraitFn};
+use isle_tree::{Callables, Function, Holds, Item, Operand, Read, TCall, TExpr, TraitFn};
 
 // What a local holds.
 fn local_holds(bound: &Table<Holds>, n: usize) -> Option<Holds>
@@ -92,7 +93,7 @@ fn kind_holds(kind: ReturnKind, item: Item) -> Option<Holds>
     }
 }
 
-// What the answer of a function holds that is called with so many arguments.
+// What the answer of a function of the trait holds that is called with so many arguments.
 fn call_holds(f: &TraitFn, count: usize) -> Option<Holds>
     ensures { result ≡ call_holds (Some f.now) count }
 {
@@ -103,8 +104,19 @@ fn call_holds(f: &TraitFn, count: usize) -> Option<Holds>
     }
 }
 
+// What the answer of a term's function holds that is called with so many arguments.
+fn head_holds(f: &Function, count: usize) -> Option<Holds>
+    ensures { result ≡ head_holds (Some (function_head (function f.now))) count }
+{
+    if f.params.as_slice().len() == count {
+        kind_holds(f.kind, Item::Value)
+    } else {
+        None
+    }
+}
+
 // What the answer of what is called holds.
-fn callee_holds(callees: &Callees, callee: &Callee, count: usize) -> Option<Holds>
+fn callee_holds(callees: &Callables, callee: &Callee, count: usize) -> Option<Holds>
     ensures { result ≡ callee_holds callees.now callee.now count }
 {
     match callee {
@@ -112,13 +124,16 @@ fn callee_holds(callees: &Callees, callee: &Callee, count: usize) -> Option<Hold
             Some(f) => call_holds(f, count),
             None => None,
         },
-        Callee::Internal(_) => None,
+        Callee::Internal(term) => match callees.head(term.as_str()) {
+            Some(f) => head_holds(f, count),
+            None => None,
+        },
     }
 }
 
 // What a call gives.
 fn called(
-    callees: &Callees,
+    callees: &Callables,
     bound: &Table<Holds>,
     params: usize,
     borrow: bool,
@@ -145,7 +160,7 @@ pub fn inner_holds(holds: Option<Holds>) -> Option<Holds>
 
 // An option of what is read.
 fn some_holds(bound: &Table<Holds>, params: usize, read: &Read) -> Option<Holds>
-    ensures { result ≡ expr_holds [] params bound.now (TExpr.Some read.now) }
+    ensures { result ≡ expr_holds (record { trait_fns = []; heads = [] }) params bound.now (TExpr.Some read.now) }
 {
     if is_value(read_holds(bound, params, read)) {
         Some(Holds::Optional(Item::Value))
@@ -189,7 +204,7 @@ fn made_holds(bound: &Table<Holds>, params: usize, fields: &[(Text, Read)]) -> O
 
 /// Returns what is computed holds, where each operand holds what is asked of it.
 pub fn expr_holds(
-    callees: &Callees,
+    callees: &Callables,
     bound: &Table<Holds>,
     params: usize,
     e: &TExpr,

@@ -1,13 +1,20 @@
-//! The types and the kind in the heads of functions.
+//! The names, the types and the kind in the heads of functions.
 
 ghost use Rattle.std.specs.Prelude.{◌↔◌, IsTrue};
 ghost use Rattle.std.specs.List.{AllByRecursion};
 ghost use Rattle.isle_tree.specs.Views.{function};
-ghost use Rattle.isle_tree.specs.WellFormed.{IsTy, IsKind, HasNames};
+ghost use Rattle.isle_tree.specs.WellFormed.{IsTermName, IsTy, IsKind, HasNames};
 
 use isle_core::ReturnKind;
 use isle_spelling::{are_word_bytes, is_identifier};
 use isle_tree::{Function, Ty};
+
+/// Tells whether a term may have the name.
+pub fn is_term_name(term: &str) -> bool
+    ensures { IsTrue result ↔ IsTermName term.now }
+{
+    are_word_bytes(term.as_bytes())
+}
 
 /// Tells whether a function may answer so often.
 pub fn is_kind(kind: ReturnKind) -> bool
@@ -42,7 +49,7 @@ pub fn are_tys(tys: &[Ty]) -> bool
 pub fn has_names(f: &Function) -> bool
     ensures { IsTrue result ↔ HasNames (function f.now) }
 {
-    if !are_word_bytes(f.term.as_str().as_bytes()) {
+    if !is_term_name(f.term.as_str()) {
         return false;
     }
     if !are_tys(f.params.as_slice()) {

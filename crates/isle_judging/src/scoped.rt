@@ -8,7 +8,7 @@ use crate::binding::enter;
 use crate::holding::{are_both_values, expr_holds};
 use isle_core::ReturnKind;
 use isle_scope::Table;
-use isle_tree::{Callees, Holds, Item, Stmt};
+use isle_tree::{Callables, Holds, Item, Stmt};
 use std::alloc::AllocError;
 
 // Whether a return in a function of the kind may give it.
@@ -40,7 +40,7 @@ fn bind(bound: &mut Table<Holds>, local: usize, holds: Option<Holds>) -> Result<
 #[cycle(scoped)]
 #[tactic(auto, using(isle_tree::proofs::Sees::sees))]
 fn is_stmt_scoped(
-    callees: &Callees,
+    callees: &Callables,
     kind: ReturnKind,
     params: usize,
     bound: &mut Table<Holds>,
@@ -83,7 +83,7 @@ fn is_stmt_scoped(
 /// them. The only error is want of memory.
 #[cycle(scoped)]
 pub fn is_body_scoped(
-    callees: &Callees,
+    callees: &Callables,
     kind: ReturnKind,
     params: usize,
     bound: &mut Table<Holds>,

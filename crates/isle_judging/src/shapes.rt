@@ -5,6 +5,7 @@ ghost use Rattle.isle_tree.specs.Views.{stmt, body};
 ghost use Rattle.std.specs.List.{AllByRecursion};
 ghost use Rattle.isle_tree.specs.WellFormed.{IsOperand, IsRead, IsFieldRead, IsCallee, IsCall, IsExpr, IsStmt, IsBody};
 
+use crate::names::is_term_name;
 use crate::patterns::is_pattern;
 use isle_core::{Callee, IntType, Text};
 use isle_spelling::{is_field_name, is_identifier, is_name};
@@ -49,7 +50,7 @@ fn is_callee(callee: &Callee) -> bool
 {
     match callee {
         Callee::External(name) => is_identifier(name.as_str()),
-        Callee::Internal(_) => false,
+        Callee::Internal(term) => is_term_name(term.as_str()),
     }
 }
 

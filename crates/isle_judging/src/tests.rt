@@ -1,8 +1,8 @@
 //! What no line of words shows: trees that emission never makes.
 
 use crate::well_formed;
-use isle_core::{IntType, List, ReturnKind, Text};
-use isle_tree::{Function, Operand, Program, Read, Stmt, TExpr, Ty};
+use isle_core::{Callee, IntType, List, ReturnKind, Text};
+use isle_tree::{Function, Operand, Program, Read, Stmt, TCall, TExpr, Ty};
 use std::alloc::{AllocError, Global};
 use std::test::Fail;
 
@@ -22,11 +22,10 @@ fn params(alloc: Global) -> Result<List<Ty>, AllocError> {
     Ok(List::new(params))
 }
 
-// A function of one parameter, with one statement.
-fn function(alloc: Global, stmt: Stmt) -> Result<Function, AllocError> {
-    let body = vec![in alloc; stmt]?;
+// The function of a term, of one parameter.
+fn function(alloc: Global, term: &str, body: Vec<Stmt>) -> Result<Function, AllocError> {
     Ok(Function {
-        term: text(alloc, "X")?,
+        term: text(alloc, term)?,
         params: params(alloc)?,
         result: text(alloc, "u8")?,
         kind: ReturnKind::Plain,
@@ -34,24 +33,25 @@ fn function(alloc: Global, stmt: Stmt) -> Result<Function, AllocError> {
     })
 }
 
-// A program of one function.
-fn program(alloc: Global, f: Function) -> Result<Program, AllocError> {
-    let fns = vec![in alloc; f]?;
-    Ok(Program {
+// A program of these functions.
+fn program(alloc: Global, fns: Vec<Function>) -> Program {
+    Program {
         allow: false,
         trait_fns: List::new(Vec::new(alloc)),
         types: List::new(Vec::new(alloc)),
         fns: List::new(fns),
-    })
+    }
 }
 
 // Whether a program of one function, which has one statement, is well formed.
 fn judged(alloc: Global, stmt: Stmt) -> Result<bool, Fail> {
-    let f = function(alloc, stmt)?;
-    let p = program(alloc, f)?;
+    let body = vec![in alloc; stmt]?;
+    let f = function(alloc, "X", body)?;
+    let p = program(alloc, vec![in alloc; f]?);
     Ok(well_formed(alloc, &p)?)
 }
 
+// A return of the operand.
 fn returned(operand: Operand) -> Stmt {
     Stmt::Return(TExpr::Read(Read::Plain(operand)))
 }
@@ -59,6 +59,47 @@ fn returned(operand: Operand) -> Stmt {
 // Whether a function of one parameter may return the operand.
 fn may_return(alloc: Global, operand: Operand) -> Result<bool, Fail> {
     judged(alloc, returned(operand))
+}
+
+// A call of the function of a term, with the parameter so often.
+fn call(alloc: Global, term: &str, count: usize) -> Result<TCall, AllocError> {
+    let mut args = Vec::new(alloc);
+    for _ in 0..count {
+        args.push(Read::Plain(Operand::Arg(0)))?;
+    }
+    let callee = Callee::Internal(text(alloc, term)?);
+    Ok(TCall {
+        callee,
+        args: List::new(args),
+    })
+}
+
+// A function that gives what the call of a term's function gives.
+fn caller(alloc: Global, term: &str, count: usize) -> Result<Function, AllocError> {
+    let call = call(alloc, term, count)?;
+    let bound = Stmt::Let(
+        0,
+        TExpr::Call {
+            borrow: false,
+            call,
+        },
+    );
+    let body = vec![in alloc; bound, returned(Operand::Local(0))]?;
+    function(alloc, "X", body)
+}
+
+// A function that gives its parameter.
+fn giver(alloc: Global) -> Result<Function, AllocError> {
+    let body = vec![in alloc; returned(Operand::Arg(0))]?;
+    function(alloc, "Y", body)
+}
+
+// Whether a program is well formed whose first function calls that of a term, and whose second is that of `Y`.
+fn may_call(alloc: Global, term: &str, count: usize) -> Result<bool, Fail> {
+    let first = caller(alloc, term, count)?;
+    let second = giver(alloc)?;
+    let p = program(alloc, vec![in alloc; first, second]?);
+    Ok(well_formed(alloc, &p)?)
 }
 
 #[test]
@@ -103,5 +144,30 @@ fn refuses_statements_of_another_kind(rt: HostRuntime) -> Result<(), Fail> {
     assert!(rt; !none);
     let several = judged(rt.alloc(), Stmt::Extend(Read::Plain(Operand::Arg(0))))?;
     assert!(rt; !several);
+    Ok(())
+}
+
+#[test]
+fn takes_a_call_of_a_term(rt: HostRuntime) -> Result<(), Fail> {
+    let other = may_call(rt.alloc(), "Y", 1)?;
+    assert!(rt; other);
+    let itself = may_call(rt.alloc(), "X", 1)?;
+    assert!(rt; itself);
+    Ok(())
+}
+
+#[test]
+fn refuses_a_call_of_a_term_without_a_function(rt: HostRuntime) -> Result<(), Fail> {
+    let absent = may_call(rt.alloc(), "Z", 1)?;
+    assert!(rt; !absent);
+    Ok(())
+}
+
+#[test]
+fn refuses_a_call_with_another_number_of_arguments(rt: HostRuntime) -> Result<(), Fail> {
+    let none = may_call(rt.alloc(), "Y", 0)?;
+    assert!(rt; !none);
+    let two = may_call(rt.alloc(), "Y", 2)?;
+    assert!(rt; !two);
     Ok(())
 }

@@ -4,7 +4,7 @@ ghost use Rattle.std.specs.Prelude.{◌≡◌, IfOk, IsTrue, ◌↔◌, map};
 ghost use Rattle.std.specs.List.{AllByRecursion};
 ghost use Rattle.isle_tree.specs.Program.{Program as Target};
 ghost use Rattle.isle_tree.specs.Views.{program, function};
-ghost use Rattle.isle_tree.specs.WellFormed.{IsFunction, IsWellFormed};
+ghost use Rattle.isle_tree.specs.WellFormed.{callables, IsFunction, IsWellFormed};
 
 use crate::fits::fits_function;
 use crate::names::{has_names, is_kind};
@@ -14,13 +14,13 @@ use crate::trait_fns::are_trait_fns;
 use isle_core::OutOfMemory;
 use isle_scope::Table;
 use isle_tree::{
-    Callees, Function, Program, are_apart, are_distinct, are_type_items, are_types_apart,
+    Callables, Function, Program, are_apart, are_distinct, are_type_items, are_types_apart,
 };
 use std::alloc::Global;
 
-// Whether a function is well formed in a program with these functions of the trait, whatever else is in it.
-fn is_function(alloc: Global, callees: &Callees, f: &Function) -> Result<bool, OutOfMemory>
-    ensures { IfOk result (λ b. (p : Target) → p.trait_fns ≡ callees.now → IsTrue b ↔ IsFunction p (function f.now)) }
+// Whether a function is well formed in a program whose functions may call these, whatever else is in it.
+fn is_function(alloc: Global, callees: &Callables, f: &Function) -> Result<bool, OutOfMemory>
+    ensures { IfOk result (λ b. (p : Target) → callables p ≡ callees.now → IsTrue b ↔ IsFunction p (function f.now)) }
 {
     if !has_names(f) {
         return Ok(false);
@@ -41,8 +41,8 @@ fn is_function(alloc: Global, callees: &Callees, f: &Function) -> Result<bool, O
 }
 
 // Whether all functions are.
-fn are_functions(alloc: Global, callees: &Callees, fns: &[Function]) -> Result<bool, OutOfMemory>
-    ensures { IfOk result (λ b. (p : Target) → p.trait_fns ≡ callees.now → IsTrue b ↔ AllByRecursion (IsFunction p) (map function fns.now)) }
+fn are_functions(alloc: Global, callees: &Callables, fns: &[Function]) -> Result<bool, OutOfMemory>
+    ensures { IfOk result (λ b. (p : Target) → callables p ≡ callees.now → IsTrue b ↔ AllByRecursion (IsFunction p) (map function fns.now)) }
 {
     for f in fns {
         if !is_function(alloc, callees, f)? {
@@ -69,7 +69,7 @@ pub fn well_formed(alloc: Global, p: &Program) -> Result<bool, OutOfMemory>
         return Ok(false);
     }
     let fns = p.fns.as_slice();
-    let callees = Callees::new(alloc, p.trait_fns.as_slice())?;
+    let callees = Callables::new(alloc, p.trait_fns.as_slice(), fns)?;
     if !are_functions(alloc, &callees, fns)? {
         return Ok(false);
     }

@@ -1,5 +1,4 @@
 pub mod FindItems
-pub mod FindTerms
 pub mod NumberedFields
 pub mod PlacesAt
 pub mod NamesAt

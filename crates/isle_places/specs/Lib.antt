@@ -3,7 +3,6 @@ pub mod Types
 pub mod AskedViews
 pub mod Signatures
 pub mod SignatureViews
-pub mod Found
 pub mod Told
 pub mod ToldViews
 pub mod Places

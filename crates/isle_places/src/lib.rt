@@ -9,7 +9,6 @@ mod numbered;
 mod places;
 mod placing;
 mod signatures;
-mod terms;
 mod told;
 mod types;
 

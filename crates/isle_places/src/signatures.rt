@@ -8,11 +8,10 @@ ghost use Rattle.isle_places.specs.SignatureViews.{signature};
 ghost use Rattle.isle_places.specs.Told.{answer_told};
 ghost use Rattle.isle_places.specs.ToldViews.{told};
 
-use crate::terms::Terms;
 use crate::told::Told;
 use crate::types::Types;
 use isle_core::{Callee, ReturnKind, Text};
-use isle_tree::{Callees, Function, Program, TraitFn, Ty};
+use isle_tree::{Callees, Function, Program, Terms, TraitFn, Ty};
 use std::alloc::{AllocError, Global};
 use std::marker::Model;
 use std::slice;

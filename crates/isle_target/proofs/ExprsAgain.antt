@@ -1,21 +1,25 @@
 -- What is computed is read as what it was spelled from.
 use Rattle.std.proofs.Common.{◌≡◌, ℕ, zero, suc, ◌<◌, ◌≤◌, List, [], ◌∷◌, ◌++◌, length, length-append, Bool, true, false, Some, None, refl, append_assoc, arith}
-use Rattle.std.specs.Prelude.{codes, if◌then◌else◌}
+use Rattle.std.specs.Prelude.{codes, ℤ, pos, negsuc, if◌then◌else◌}
 use Rattle.std.specs.List.{AllByRecursion}
 use Rattle.isle_printer.specs.Token.{Token, Word, Mark}
 use Rattle.isle_printer.specs.Number.{numeral}
+use Rattle.isle_core.specs.Int.{wrapped}
+use Rattle.isle_core.specs.declared.types.IntType.{IntType}
 use Rattle.isle_core.specs.declared.values.Callee.{Callee}
 use Rattle.isle_core.specs.declared.values.Callee.TheVariants as callee
 use Rattle.isle_tree.specs.declared.tree.Operand.{Operand}
+use Rattle.isle_tree.specs.declared.tree.Operand.TheVariants as operand
 use Rattle.isle_tree.specs.declared.tree.Read.{Read}
 use Rattle.isle_tree.specs.declared.tree.Read.TheVariants as read
 use Rattle.isle_tree.specs.declared.tree.TExpr.{TExpr}
 use Rattle.isle_tree.specs.declared.tree.TExpr.TheVariants as expr
 use Rattle.isle_tree.specs.WellFormed.{IsOperand, IsRead, IsFieldRead, IsCallee, IsExpr}
-use Rattle.isle_target.specs.Spelling.{operand_tokens, clone_part, read_tokens, borrow_part, args_tokens, call_tokens, field_read_tokens, field_reads_tokens, made_tokens, as_ref_part, expr_tokens}
-use Rattle.isle_target.specs.Tokens.{◌>>=◌, at}
+use Rattle.isle_spelling.specs.Literal.{literal_tokens}
+use Rattle.isle_target.specs.Spelling.{operand_tokens, clone_part, read_tokens, borrow_part, constructor_word, args_tokens, call_tokens, field_read_tokens, field_reads_tokens, made_tokens, as_ref_part, expr_tokens}
+use Rattle.isle_target.specs.Tokens.{◌>>=◌, Reads, at}
 use Rattle.isle_target.specs.OperandReading.{goes_on, read_suffixed}
-use Rattle.isle_target.specs.Reading.{read_args, called_name, called, read_field_reads, read_made_fields, read_expr}
+use Rattle.isle_target.specs.Reading.{read_args, called_name, called_term_fn, called, read_field_reads, read_made_fields, read_expr}
 use Rattle.isle_target.proofs.Words.{operand_again, operand_no_mark, operand_second}
 use Rattle.isle_target.proofs.ReadsAgain.{second_apart, operand_apart, bare_again, tried_again, cloned_again, part_again, read_again}
 
@@ -39,14 +43,33 @@ args_again (suc n) (r ∷ rs) ts h le =
 -- a call is read again, behind a & or not
 call_again : (borrow : Bool) (to : Callee) (rs : List Read) (ts : List Token) → IsCallee to → AllByRecursion IsRead rs
     → read_expr (borrow_part borrow ++ (call_tokens to rs ++ ts)) ≡ Some (expr.Call borrow (record { callee = to; args = rs }), ts)
-unfolding read_expr
+unfolding read_expr constructor_word
 call_again true (callee.External name) rs ts k h =
     let long : length (args_tokens rs) ≤ length (args_tokens rs ++ ts) = omega (arith, length-append (args_tokens rs) ts) in
     rw (args_again (length (args_tokens rs ++ ts)) rs ts h long) refl
 call_again false (callee.External name) rs ts k h =
     let long : length (args_tokens rs) ≤ length (args_tokens rs ++ ts) = omega (arith, length-append (args_tokens rs) ts) in
     rw (args_again (length (args_tokens rs ++ ts)) rs ts h long) refl
-call_again borrow (callee.Internal term) rs ts k h = absurd k
+call_again true (callee.Internal term) rs ts k h =
+    let long : length (args_tokens rs) ≤ length (args_tokens rs ++ ts) = omega (arith, length-append (args_tokens rs) ts) in
+    rw (args_again (length (args_tokens rs ++ ts)) rs ts h long) refl
+call_again false (callee.Internal term) rs ts k h =
+    let long : length (args_tokens rs) ≤ length (args_tokens rs ++ ts) = omega (arith, length-append (args_tokens rs) ts) in
+    rw (args_again (length (args_tokens rs ++ ts)) rs ts h long) refl
+
+literal_no_call : (ty : IntType) (n : ℤ) (ts : List Token) → at (Mark (codes "(")) ts ≡ false → called_term_fn (literal_tokens ty n ++ ts) ≡ None
+literal_no_call ty (pos n) ts e = rw e refl
+literal_no_call ty (negsuc n) ts e = refl
+
+-- an operand is no call of a term's function, where no ( stands behind it
+operand_no_call : (o : Operand) (ts : List Token) → at (Mark (codes "(")) ts ≡ false → called_term_fn (operand_tokens o ++ ts) ≡ None
+operand_no_call (operand.Local n) ts e = rw e refl
+operand_no_call (operand.Arg n) ts e = rw e refl
+operand_no_call (operand.Bool true) ts e = rw e refl
+operand_no_call (operand.Bool false) ts e = rw e refl
+operand_no_call (operand.Int ty z) ts e = literal_no_call ty (wrapped ty z) ts e
+operand_no_call (operand.Raw z) ts e = rw e refl
+operand_no_call (operand.Name name) ts e = rw e refl
 
 -- ---- made values
 
@@ -73,11 +96,15 @@ made_again (f ∷ fs) ts h e =
     let fuel : length (f ∷ fs) < length inside = omega (arith, length-append (field_reads_tokens (f ∷ fs)) ts, length-fields (f ∷ fs)) in
     rw (fields_again (length inside) (f ∷ fs) ts h fuel) refl
 
+-- the function of the trait that is called behind C::
+abbrev called_behind : List Token → Reads Callee
+called_behind ts = called_name ts >>= (λ name. Some (callee.External name.0, name.1))
+
 -- a variant is no call, where no ( stands behind it
 variant_no_call : (ty variant : List ℕ) (ts : List Token) → at (Mark (codes "(")) ts ≡ false → called (Word ty ∷ Mark (codes "::") ∷ Word variant ∷ ts) ≡ None
 variant_no_call ty variant ts e = one _
   where
-    one : (b : Bool) → ((if b then Some (Word variant ∷ ts) else None) >>= called_name) ≡ None
+    one : (b : Bool) → ((if b then Some (Word variant ∷ ts) else None) >>= called_behind) ≡ None
     one true = rw e refl
     one false = refl
 
@@ -93,12 +120,12 @@ suffixed_again : (o : Operand) (ts : List Token) → at (Mark (codes "(")) ts �
     → read_expr (operand_tokens o ++ ts) ≡ read_suffixed (operand_tokens o ++ ts)
 unfolding read_expr
 suffixed_again o ts e f g =
-    rw (operand_no_mark (codes "&") o ts refl, operand_apart (codes "Some") (codes "(") o ts e, operand_apart (codes "C") (codes "::") o ts f, operand_second (codes "::") o ts f, operand_second (codes "{") o ts g) refl
+    rw (operand_no_mark (codes "&") o ts refl, operand_apart (codes "Some") (codes "(") o ts e, operand_second (codes "::") o ts f, operand_no_call o ts e, operand_second (codes "::") o ts f, operand_second (codes "{") o ts g) refl
 
 -- an operand behind a &
-borrowed_again : (o : Operand) (ts : List Token) → IsOperand o → at (Mark (codes "::")) ts ≡ false → read_expr (Mark (codes "&") ∷ (operand_tokens o ++ ts)) ≡ Some (expr.Read (read.Borrow o), ts)
+borrowed_again : (o : Operand) (ts : List Token) → IsOperand o → at (Mark (codes "(")) ts ≡ false → at (Mark (codes "::")) ts ≡ false → read_expr (Mark (codes "&") ∷ (operand_tokens o ++ ts)) ≡ Some (expr.Read (read.Borrow o), ts)
 unfolding read_expr
-borrowed_again o ts h e = rw (operand_apart (codes "C") (codes "::") o ts e, operand_again o ts h) refl
+borrowed_again o ts h e f = rw (operand_second (codes "::") o ts f, operand_no_call o ts e, operand_again o ts h) refl
 
 -- a value that a variant makes
 variant_again : (ty variant : List ℕ) (fs : List (List ℕ × Read)) (ts : List Token) → AllByRecursion IsFieldRead fs
@@ -114,7 +141,7 @@ struct_again : (ty : List ℕ) (f : List ℕ × Read) (fs : List (List ℕ × Re
 unfolding read_expr
 struct_again ty f fs ts h =
     let behind = made_tokens (f ∷ fs) ++ Mark (codes ";") ∷ ts in
-    rw (second_apart (Word (codes "Some")) (Mark (codes "(")) (Word ty) behind refl, second_apart (Word (codes "C")) (Mark (codes "::")) (Word ty) behind refl, made_again (f ∷ fs) (Mark (codes ";") ∷ ts) h refl) refl
+    rw (second_apart (Word (codes "Some")) (Mark (codes "(")) (Word ty) behind refl, made_again (f ∷ fs) (Mark (codes ";") ∷ ts) h refl) refl
 
 -- an option of what is read
 some_again : (r : Read) (ts : List Token) → IsRead r → read_expr (expr_tokens (expr.Some r) ++ ts) ≡ Some (expr.Some r, ts)
@@ -131,7 +158,7 @@ pub expr_again : (e : TExpr) (ts : List Token) → IsExpr e → read_expr (expr_
 expr_again (expr.Read (read.Plain o)) ts h =
     let after = Mark (codes ";") ∷ ts in
     rw (suffixed_again o after refl refl refl) (bare_again o after h refl)
-expr_again (expr.Read (read.Borrow o)) ts h = borrowed_again o (Mark (codes ";") ∷ ts) h refl
+expr_again (expr.Read (read.Borrow o)) ts h = borrowed_again o (Mark (codes ";") ∷ ts) h refl refl
 expr_again (expr.Read (read.Clone o)) ts h =
     let after = Mark (codes ";") ∷ ts in
     rw (append_assoc (operand_tokens o) clone_part after, suffixed_again o (clone_part ++ after) refl refl refl) (cloned_again o after h)

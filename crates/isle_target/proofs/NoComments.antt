@@ -64,7 +64,7 @@ args_read (r ∷ rs) = both_read (read_tokens r) (args_tokens rs) (read_read r) 
 
 call_read : (c : Callee) (rs : List Read) → AreRead (call_tokens c rs)
 call_read (callee.External name) rs = args_read rs
-call_read (callee.Internal term) rs = refl
+call_read (callee.Internal term) rs = args_read rs
 
 borrow_read : (borrow : Bool) → AreRead (borrow_part borrow)
 borrow_read true = refl

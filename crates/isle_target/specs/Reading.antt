@@ -1,6 +1,7 @@
 -- Reading a text as a program: its tokens from left to right, each form told by the next few.
 use Rattle.std.specs.Prelude.{◌≡◌, ℕ, zero, suc, ◌+◌, List, [], ◌∷◌, ◌++◌, length, Bool, true, false, Option, Some, None, codes, if◌then◌else◌}
 use Rattle.std.specs.List.{list_any}
+use Rattle.isle_core.specs.declared.values.Callee.{Callee}
 use Rattle.isle_core.specs.declared.values.Callee.TheVariants as callee
 use Rattle.isle_core.specs.declared.types.ReturnKind.{ReturnKind}
 use Rattle.isle_core.specs.declared.types.ReturnKind.TheVariants as kind
@@ -49,15 +50,29 @@ called_name ts = do
   Some (name.0, ts1)
 
 -- the function of the trait that is called here, up to the ( behind its name
-abbrev pub called : List Token → Reads (List ℕ)
-called ts = phrase (Word (codes "C") ∷ Mark (codes "::") ∷ []) ts >>= called_name
+abbrev pub called_trait_fn : List Token → Reads Callee
+called_trait_fn ts = do
+  ts1 ← phrase (Word (codes "C") ∷ Mark (codes "::") ∷ []) ts
+  name ← called_name ts1
+  Some (callee.External name.0, name.1)
+
+-- the function of a term that is called here, up to the ( behind its name
+abbrev pub called_term_fn : List Token → Reads Callee
+called_term_fn ts = do
+  name ← called_name ts
+  term ← after_prefix (codes "constructor_") name.0
+  Some (callee.Internal term, name.1)
+
+-- the function that is called here, up to the ( behind its name: one of the trait where :: stands behind the first word, else one of a term
+abbrev pub called : List Token → Reads Callee
+called ts = if at (Mark (codes "::")) (rest ts) then called_trait_fn ts else called_term_fn ts
 
 -- a call of this function, behind a & or not, from behind its ( on
-abbrev pub read_call : Bool → List ℕ → List Token → Reads TExpr
-read_call borrow name ts = do
+abbrev pub read_call : Bool → Callee → List Token → Reads TExpr
+read_call borrow to ts = do
   ts1 ← after (Word (codes "ctx")) ts
   args ← read_args (length ts1) ts1
-  Some (expr.Call borrow (record { callee = callee.External name; args = args.0 }), args.1)
+  Some (expr.Call borrow (record { callee = to; args = args.0 }), args.1)
 
 -- one field of a made value more, given how to read those behind it
 abbrev pub read_field_read : (List Token → Reads (List (List ℕ × Read))) → List Token → Reads (List (List ℕ × Read))
@@ -105,12 +120,12 @@ read_made ts =
     else (if at (Mark (codes "{")) (rest ts) then read_struct_made ts else read_suffixed ts)
 
 -- a call where one begins, and else a made value or an operand
-abbrev pub read_called : Reads (List ℕ) → List Token → Reads TExpr
+abbrev pub read_called : Reads Callee → List Token → Reads TExpr
 read_called None ts = read_made ts
 read_called (Some call) ts = read_call false call.0 call.1
 
 -- a call where one begins behind a &, and else an operand
-abbrev pub read_reference : Reads (List ℕ) → List Token → Reads TExpr
+abbrev pub read_reference : Reads Callee → List Token → Reads TExpr
 read_reference None ts = do
   r ← read_borrowed ts
   Some (expr.Read r.0, r.1)

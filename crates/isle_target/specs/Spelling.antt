@@ -72,19 +72,27 @@ abbrev pub borrow_part : Bool → List Token
 borrow_part true = Mark (codes "&") ∷ []
 borrow_part false = []
 
+-- the name of a term's function
+unfoldable pub constructor_word : List ℕ → List ℕ
+constructor_word term = codes "constructor_" ++ term
+
 -- C::F(ctx
 abbrev pub call_head : List ℕ → List Token
 call_head name = Word (codes "C") ∷ Mark (codes "::") ∷ Word name ∷ Mark (codes "(") ∷ Word (codes "ctx") ∷ []
+
+-- constructor_T(ctx
+abbrev pub term_call_head : List ℕ → List Token
+term_call_head term = Word (constructor_word term) ∷ Mark (codes "(") ∷ Word (codes "ctx") ∷ []
 
 -- the arguments of a call, each behind a comma, and what closes them
 abbrev pub args_tokens : List Read → List Token
 args_tokens [] = Mark (codes ")") ∷ []
 args_tokens (r ∷ rs) = Mark (codes ",") ∷ (read_tokens r ++ args_tokens rs)
 
--- a call of a function of the trait
+-- a call of a function of the trait, or of a term's
 abbrev pub call_tokens : Callee → List Read → List Token
 call_tokens (callee.External name) args = call_head name ++ args_tokens args
-call_tokens (callee.Internal term) args = not_built
+call_tokens (callee.Internal term) args = term_call_head term ++ args_tokens args
 
 -- f: READ,
 abbrev pub field_read_tokens : List ℕ × Read → List Token
@@ -214,10 +222,6 @@ abbrev mutual
   body_tokens (Then s ss) = stmt_tokens s ++ body_tokens ss
 
 -- ---- items
-
--- the name of a term's function
-unfoldable pub constructor_word : List ℕ → List ℕ
-constructor_word term = codes "constructor_" ++ term
 
 -- <C: Context>
 abbrev pub generics : List Token

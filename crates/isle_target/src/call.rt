@@ -1,10 +1,11 @@
-//! The text of calls. A form that isn't built has none.
+//! The text of calls.
 
-ghost use Rattle.std.specs.Prelude.{◌≡◌, ◌++◌, OnOk};
+ghost use Rattle.std.specs.Prelude.{◌≡◌, ◌++◌, [], ◌∷◌, OnOk};
 ghost use Rattle.std.specs.List.{AllByRecursion};
+ghost use Rattle.isle_printer.specs.Token.{Word};
 ghost use Rattle.isle_spelling.specs.Identifier.{IsIdentifier};
-ghost use Rattle.isle_target.specs.Spelling.{call_head, args_tokens, call_tokens};
-ghost use Rattle.isle_tree.specs.WellFormed.{IsRead, IsCall};
+ghost use Rattle.isle_target.specs.Spelling.{constructor_word, call_head, term_call_head, args_tokens, call_tokens};
+ghost use Rattle.isle_tree.specs.WellFormed.{IsTermName, IsRead, IsCall};
 
 use crate::operand::print_read;
 use isle_core::Callee;
@@ -25,6 +26,25 @@ fn print_head(out: &mut Printer, name: &str) -> Result<(), AllocError>
     out.word("ctx")
 }
 
+/// Prints the name of a term's function. What is printed after an error is left open.
+#[tactic(auto, unfolding(crate::specs::Spelling::constructor_word))]
+pub fn print_constructor(out: &mut Printer, term: &str) -> Result<(), AllocError>
+    requires { IsTermName term.now }
+    ensures { OnOk result (out.new ≡ out.old ++ Word (constructor_word term.now) ∷ []) }
+{
+    out.prefixed("constructor_", term)
+}
+
+// Prints `constructor_T(ctx`.
+fn print_term_head(out: &mut Printer, term: &str) -> Result<(), AllocError>
+    requires { IsTermName term.now }
+    ensures { OnOk result (out.new ≡ out.old ++ term_call_head term.now) }
+{
+    print_constructor(out, term)?;
+    out.mark("(")?;
+    out.word("ctx")
+}
+
 // Prints the arguments, each behind a comma, and what closes them.
 fn print_args(out: &mut Printer, args: &[Read]) -> Result<(), AllocError>
     requires { AllByRecursion IsRead args.now }
@@ -38,7 +58,7 @@ fn print_args(out: &mut Printer, args: &[Read]) -> Result<(), AllocError>
     out.mark(")")
 }
 
-/// Prints a call of a function of the trait. What is printed after an error is left open.
+/// Prints a call of a function of the trait, or of a term's. What is printed after an error is left open.
 pub fn print_call(out: &mut Printer, call: &TCall) -> Result<(), AllocError>
     requires { IsCall call.now }
     ensures { OnOk result (out.new ≡ out.old ++ call_tokens call.now.callee call.now.args) }
@@ -48,6 +68,9 @@ pub fn print_call(out: &mut Printer, call: &TCall) -> Result<(), AllocError>
             print_head(out, name.as_str())?;
             print_args(out, call.args.as_slice())
         }
-        Callee::Internal(_) => Ok(()),
+        Callee::Internal(term) => {
+            print_term_head(out, term.as_str())?;
+            print_args(out, call.args.as_slice())
+        }
     }
 }

@@ -6,8 +6,9 @@ ghost use Rattle.isle_printer.specs.Token.{Word, Mark};
 ghost use Rattle.isle_tree.specs.Views.{function, body};
 ghost use Rattle.isle_spelling.specs.Identifier.{IsIdentifier};
 ghost use Rattle.isle_tree.specs.WellFormed.{IsTermName, IsTy, IsBody, HasNames};
-ghost use Rattle.isle_target.specs.Spelling.{constructor_word, generics, context_param, function_head, typed_tokens, param_tokens, params_tokens, result_tokens, result_part, function_tokens};
+ghost use Rattle.isle_target.specs.Spelling.{generics, context_param, function_head, typed_tokens, param_tokens, params_tokens, result_tokens, result_part, function_tokens};
 
+use crate::call::print_constructor;
 use crate::operand::print_borrow;
 use crate::statement::print_body;
 use isle_core::ReturnKind;
@@ -21,15 +22,6 @@ fn print_pub(out: &mut Printer) -> Result<(), AllocError>
     ensures { OnOk result (out.new ≡ out.old ++ Word (codes "pub") ∷ Word (codes "fn") ∷ []) }
 {
     out.piece("pub fn ")
-}
-
-// Prints the name of a term's function.
-#[tactic(auto, unfolding(crate::specs::Spelling::constructor_word))]
-fn print_constructor(out: &mut Printer, term: &str) -> Result<(), AllocError>
-    requires { IsTermName term.now }
-    ensures { OnOk result (out.new ≡ out.old ++ Word (constructor_word term.now) ∷ []) }
-{
-    out.prefixed("constructor_", term)
 }
 
 // Prints `<C: Context>(ctx: &mut C,`.

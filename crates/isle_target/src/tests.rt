@@ -1,7 +1,15 @@
-//! What no line of words shows: numbers that are wrapped.
+//! What no line of words shows: numbers that are wrapped, and the texts of statements.
+
+ghost use Rattle.std.specs.Prelude.{IfOk};
+ghost use Rattle.isle_tree.specs.Views.{body};
+ghost use Rattle.isle_tree.specs.WellFormed.{IsCall, IsBody};
 
 use crate::rust_int_literal;
-use isle_core::IntType;
+use crate::statement::print_body;
+use isle_core::{Callee, IntType, List, Text};
+use isle_printer::Printer;
+use isle_tree::{Operand, Read, Stmt, TCall, TExpr};
+use std::alloc::{AllocError, Global};
 use std::test::Fail;
 
 #[test]
@@ -15,5 +23,50 @@ fn wraps_to_the_type(rt: HostRuntime) -> Result<(), Fail> {
         let text = rust_int_literal(rt.alloc(), ty, val)?;
         assert_eq!(rt; text.as_str(), want);
     }
+    Ok(())
+}
+
+// A call of the function of the term `f`.
+fn call(alloc: Global) -> Result<TCall, AllocError>
+    ensures { IfOk result (λ c. IsCall c) }
+{
+    let callee = Callee::Internal(Text::copied(alloc, "f")?);
+    let args = vec![in alloc; Read::Plain(Operand::Arg(0))]?;
+    Ok(TCall {
+        callee,
+        args: List::new(args),
+    })
+}
+
+// A `let` of the call, behind a `&` or not.
+#[tactic(auto, using(isle_tree::proofs::Sees::sees))]
+fn bound(alloc: Global, borrow: bool) -> Result<Vec<Stmt>, AllocError>
+    ensures { IfOk result (λ ss. IsBody (body ss.items)) }
+{
+    let call = call(alloc)?;
+    let stmts = vec![in alloc; Stmt::Let(1, TExpr::Call { borrow, call })]?;
+    Ok(stmts)
+}
+
+// The text of the `let`.
+fn printed(alloc: Global, borrow: bool) -> Result<String, Fail> {
+    let stmts = bound(alloc, borrow)?;
+    let mut out = Printer::new(alloc);
+    print_body(&mut out, stmts.as_slice())?;
+    Ok(out.into_text())
+}
+
+#[test]
+fn prints_a_call_of_a_term(rt: HostRuntime) -> Result<(), Fail> {
+    let plain = printed(rt.alloc(), false)?;
+    assert_eq!(rt;
+        plain.as_str(),
+        "\n    let v1 = constructor_f(ctx, arg0);\n"
+    );
+    let borrowed = printed(rt.alloc(), true)?;
+    assert_eq!(rt;
+        borrowed.as_str(),
+        "\n    let v1 = &constructor_f(ctx, arg0);\n"
+    );
     Ok(())
 }

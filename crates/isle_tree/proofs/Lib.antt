@@ -1,3 +1,5 @@
 pub mod Sees
 pub mod Apart
 pub mod FindCallees
+pub mod FindTerms
+pub mod FindHeads

@@ -4,5 +4,6 @@ pub mod WellFormed
 pub mod Plain
 pub mod Callees
 pub mod Run
+pub mod Terms
 pub mod Walk
 pub mod Calls

@@ -52,10 +52,14 @@ IsRead (read.Plain o) = IsOperand o
 IsRead (read.Borrow o) = IsOperand o
 IsRead (read.Clone o) = IsOperand o
 
--- a function of the trait, whose name is a name; calls of functions of the text are not built
+-- the name of a term: behind constructor_ it is a name of Rust
+abbrev pub IsTermName : List ℕ → Type 0
+IsTermName term = IsTrue (list_all is_word_byte term)
+
+-- a function of the trait, whose name is a name, or the function of a term
 abbrev pub IsCallee : Callee → Type 0
 IsCallee (callee.External name) = IsIdentifier name
-IsCallee (callee.Internal term) = ⊥
+IsCallee (callee.Internal term) = IsTermName term
 
 -- a call: what is called, and what is read
 pub record IsCall (call : TCall) : Type 0 where
@@ -173,15 +177,35 @@ kind_holds kind.Iterator x = None
 abbrev pub trait_fn : List TraitFn → List ℕ → Option TraitFn
 trait_fn fns name = find (λ (f : TraitFn). bytes_eq name f.name) fns
 
+-- the head of a term's function, by its term: how many parameters it has, and how often it answers
+pub record Head : Type 0 where
+  pub term : List ℕ
+  pub params : ℕ
+  pub kind : ReturnKind
+
+-- the head of the function of this term
+abbrev pub head_of : List Head → List ℕ → Option Head
+head_of heads term = find (λ (h : Head). bytes_eq term h.term) heads
+
+-- what may be called: the functions of the trait, and those of terms
+pub record Callables : Type 0 where
+  pub trait_fns : List TraitFn
+  pub heads : List Head
+
 -- the answer of a function of the trait, called with as many arguments as it has parameters
 abbrev pub call_holds : Option TraitFn → ℕ → Option Holds
 call_holds None count = None
 call_holds (Some f) count = if length f.params == count then kind_holds f.kind (results_item f.results) else None
 
--- the answer of what is called; calls of functions of the text are not built
-abbrev pub callee_holds : List TraitFn → Callee → ℕ → Option Holds
-callee_holds fns (callee.External name) count = call_holds (trait_fn fns name) count
-callee_holds fns (callee.Internal term) count = None
+-- the answer of a term's function, called with as many arguments as it has parameters
+abbrev pub head_holds : Option Head → ℕ → Option Holds
+head_holds None count = None
+head_holds (Some h) count = if h.params == count then kind_holds h.kind item.Value else None
+
+-- the answer of what is called
+abbrev pub callee_holds : Callables → Callee → ℕ → Option Holds
+callee_holds fns (callee.External name) count = call_holds (trait_fn fns.trait_fns name) count
+callee_holds fns (callee.Internal term) count = head_holds (head_of fns.heads term) count
 
 -- what an option is of
 abbrev pub inner_holds : Option Holds → Option Holds
@@ -207,7 +231,7 @@ part_holds part (Some (holds.Optional x)) = None
 part_holds part (Some (holds.Several x)) = None
 
 -- what is computed holds, where each operand holds what is asked of it
-abbrev pub expr_holds : List TraitFn → ℕ → Locals → TExpr → Option Holds
+abbrev pub expr_holds : Callables → ℕ → Locals → TExpr → Option Holds
 expr_holds fns params bound (expr.Read r) = read_holds params bound r
 expr_holds fns params bound (expr.Call borrow call) = if are_values params bound call.args then callee_holds fns call.callee (length call.args) else None
 expr_holds fns params bound (expr.Some r) = if is_value (read_holds params bound r) then Some (holds.Optional item.Value) else None
@@ -265,7 +289,7 @@ pattern_locals (pattern.Struct ty binds more) h = field_locals binds
 pattern_locals (pattern.Some local) h = inner_locals local (inner_holds h)
 
 -- the locals that are bound behind a statement: none of those inside it; those of a list of answers are not built
-abbrev pub bound_after : List TraitFn → ℕ → Stmt → Locals → Locals
+abbrev pub bound_after : Callables → ℕ → Stmt → Locals → Locals
 bound_after fns params (Let n e) bound = after_let (expr_holds fns params bound e) n bound
 bound_after fns params (LetList n call) bound = bound
 bound_after fns params (IfEq a b inside) bound = bound
@@ -282,7 +306,7 @@ bound_after fns params (Tail texts) bound = bound
 -- each operand of a statement, and of statements in order, is in scope and holds what is asked of it, in a function of the kind with this
 -- number of parameters; lists of answers, several patterns, loops, logging and closures are not built
 abbrev mutual
-  pub IsStmtScoped : List TraitFn → ReturnKind → ℕ → Locals → Stmt → Type 0
+  pub IsStmtScoped : Callables → ReturnKind → ℕ → Locals → Stmt → Type 0
   IsStmtScoped fns kind params bound (Let n e) = IsSome (expr_holds fns params bound e)
   IsStmtScoped fns kind params bound (IfEq a b inside) =
       IsTrue (is_value (operand_holds params bound a)) × IsTrue (is_value (operand_holds params bound b)) × IsBodyScoped fns kind params bound inside
@@ -298,7 +322,7 @@ abbrev mutual
   IsStmtScoped fns kind params bound (Log term place) = ⊥
   IsStmtScoped fns kind params bound (Split inside within) = ⊥
 
-  pub IsBodyScoped : List TraitFn → ReturnKind → ℕ → Locals → Body → Type 0
+  pub IsBodyScoped : Callables → ReturnKind → ℕ → Locals → Body → Type 0
   IsBodyScoped fns kind params bound Done = Unit {0}
   IsBodyScoped fns kind params bound (Then s ss) = IsStmtScoped fns kind params bound s × IsBodyScoped fns kind params (bound_after fns params s bound) ss
 
@@ -379,10 +403,6 @@ FitsFunction kind (Then s (Then t ss)) = FitsStmt kind false s × FitsFunction k
 
 -- ---- items
 
--- the name of a term: behind constructor_ it is a name of Rust
-abbrev pub IsTermName : List ℕ → Type 0
-IsTermName term = IsTrue (list_all is_word_byte term)
-
 -- the type of a parameter, behind a & or not
 abbrev pub IsTy : Ty → Type 0
 IsTy ty = IsIdentifier ty.name
@@ -434,12 +454,20 @@ pub record HasNames (f : Function) : Type 0 where
   pub params : AllByRecursion IsTy f.params
   pub result : IsIdentifier f.result
 
+-- the head of a function
+abbrev pub function_head : Function → Head
+function_head f = record { term = f.term; params = length f.params; kind = f.kind }
+
+-- what the functions of a program may call
+abbrev pub callables : Program → Callables
+callables p = record { trait_fns = p.trait_fns; heads = map function_head p.fns }
+
 -- a function in its program
 pub record IsFunction (p : Program) (f : Function) : Type 0 where
   pub names : HasNames f
   pub kind : IsKind f.kind
   pub forms : IsBody f.body
-  pub scoped : IsBodyScoped p.trait_fns f.kind (length f.params) [] f.body
+  pub scoped : IsBodyScoped (callables p) f.kind (length f.params) [] f.body
   pub fits : FitsFunction f.kind f.body
 
 -- the terms of the functions

@@ -1,4 +1,4 @@
-use Rattle.std.proofs.Common.{◌≡◌, List, map, subst, ◌∙◌, Bool, true, false}
+use Rattle.std.proofs.Common.{◌≡◌, List, map, ap, subst, ◌∙◌, Bool, true, false}
 use Rattle.std.specs.Prelude.{◌↔◌, IsTrue}
 use Rattle.std.specs.List.{AllByRecursion, IsDistinct}
 use Rattle.std.specs.Str.{bytes_eq}
@@ -6,8 +6,8 @@ use Rattle.isle_tree.specs.declared.tree.Function.{Function as CodeFunction}
 use Rattle.isle_tree.specs.declared.tree.Program.{Program as CodeProgram}
 use Rattle.isle_tree.specs.declared.tree.TraitFn.{TraitFn}
 use Rattle.isle_tree.specs.declared.tree.TypeItem.{TypeItem}
-use Rattle.isle_tree.specs.Views.{function}
-use Rattle.isle_tree.specs.WellFormed.{IsTraitFn, IsTypeItem, terms, fn_names, declared_names}
+use Rattle.isle_tree.specs.Views.{function, program}
+use Rattle.isle_tree.specs.WellFormed.{Callables, callables, function_head, IsTraitFn, IsTypeItem, terms, fn_names, declared_names}
 use Rattle.isle_judging.proofs.Functions.{DecideAll, refused_trait_fns, refused_names, refused_types, refused_type_names, refused_fns, by_names}
 use Rattle.isle_judging.proofs.well_formedness.well_formed.Goals as goal
 
@@ -35,13 +35,21 @@ pub returns-then-not-branch-2 : goal.returns-then-not-branch-2
 returns-then-not-branch-2 c =
     refused_type_names c.args.p.now (subst (TypesDiffer false) c.as_slice-4.ensures (subst (λ b. TypesDiffer b c.as_slice-4.result.now) c.if-not-branch-2.true c.in_ok-are_types_apart.ensures))
 
+-- what may be called, by the code's lists and in the program
+may_call : (p : CodeProgram) (may : Callables) (trait_fns : List TraitFn) (fns : List CodeFunction)
+    → may ≡ record { trait_fns = trait_fns; heads = map function_head (map function fns) } → trait_fns ≡ p.trait_fns → fns ≡ p.fns → may ≡ callables (program p)
+may_call p may trait_fns fns is e f =
+    is
+    ∙ ap {B = Callables} (λ ts. record { trait_fns = ts; heads = map function_head (map function fns) }) e
+    ∙ ap {B = Callables} (λ fs. record { trait_fns = p.trait_fns; heads = map function_head (map function fs) }) f
+
 -- whether the functions are well formed, of the code's list and of the program's
-same_fns : (p : CodeProgram) (b c : Bool) (tfns : List TraitFn) (fns : List CodeFunction) → tfns ≡ p.trait_fns → fns ≡ p.fns → b ≡ c → DecideAll tfns b fns → DecideAll p.trait_fns c p.fns
-same_fns p b c tfns fns e f g h = subst (λ t. DecideAll t c p.fns) e (subst (DecideAll tfns c) f (subst (λ x. DecideAll tfns x fns) g h))
+same_fns : (p : CodeProgram) (b c : Bool) (may : Callables) (fns : List CodeFunction) → may ≡ callables (program p) → fns ≡ p.fns → b ≡ c → DecideAll may b fns → DecideAll (callables (program p)) c p.fns
+same_fns p b c may fns e f g h = subst (λ m. DecideAll m c p.fns) e (subst (DecideAll may c) f (subst (λ x. DecideAll may x fns) g h))
 
 pub returns-then-not-branch-3 : goal.returns-then-not-branch-3
 returns-then-not-branch-3 c =
-    refused_fns c.args.p.now (same_fns c.args.p.now _ false _ _ (c.in_ok-callees.ensures ∙ c.as_slice-5.ensures) c.as_slice-fns.ensures c.if-not-branch-3.true c.in_ok-are_functions.ensures)
+    refused_fns c.args.p.now (same_fns c.args.p.now _ false _ _ (may_call c.args.p.now _ _ _ c.in_ok-callees.ensures c.as_slice-5.ensures c.as_slice-fns.ensures) c.as_slice-fns.ensures c.if-not-branch-3.true c.in_ok-are_functions.ensures)
 
 pub returns : goal.returns
 returns c =
@@ -50,5 +58,5 @@ returns c =
     (subst (Differ true) c.as_slice-2.ensures (subst (λ b. Differ b c.as_slice-2.result.now) c.if-not-branch.false c.in_ok-are_apart.ensures))
     (subst (λ ts. IsTrue true ↔ AllByRecursion IsTypeItem ts) c.as_slice-3.ensures c.if-not-are_type_items.ensures)
     (subst (TypesDiffer true) c.as_slice-4.ensures (subst (λ b. TypesDiffer b c.as_slice-4.result.now) c.if-not-branch-2.false c.in_ok-are_types_apart.ensures))
-    (same_fns c.args.p.now _ true _ _ (c.in_ok-callees.ensures ∙ c.as_slice-5.ensures) c.as_slice-fns.ensures c.if-not-branch-3.false c.in_ok-are_functions.ensures)
+    (same_fns c.args.p.now _ true _ _ (may_call c.args.p.now _ _ _ c.in_ok-callees.ensures c.as_slice-5.ensures c.as_slice-fns.ensures) c.as_slice-fns.ensures c.if-not-branch-3.false c.in_ok-are_functions.ensures)
     (subst (λ fns. IsTrue c.in_ok-are_distinct.field-0 ↔ IsDistinct bytes_eq (terms (map function fns))) c.as_slice-fns.ensures c.in_ok-are_distinct.ensures)

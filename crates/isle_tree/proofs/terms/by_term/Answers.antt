@@ -1,6 +1,6 @@
 use Rattle.std.proofs.Common.{rules, ◌-◌}
-use Rattle.isle_places.proofs.FindTerms.{terms_more}
-use Rattle.isle_places.proofs.terms.by_term.Goals as goal
+use Rattle.isle_tree.proofs.FindTerms.{terms_more}
+use Rattle.isle_tree.proofs.terms.by_term.Goals as goal
 
 pub loop-index-preserved : goal.loop-index-preserved
 loop-index-preserved c =

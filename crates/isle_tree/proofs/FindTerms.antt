@@ -3,33 +3,21 @@ use Rattle.std.proofs.Common.{◌≡◌, ℕ, ◌+◌, ◌<◌, List, ◌∷◌,
 use Rattle.std.specs.Prelude.{option_map, if◌then◌else◌}
 use Rattle.std.specs.Str.{bytes_eq}
 use Rattle.std.specs.Ordering.{nat_cmp}
-use Rattle.std.specs.Cmp.Lexicographic.{slice_cmp}
+use Rattle.std.specs.Cmp.Lexicographic.{slice_cmp, nat_list_eq_equiv}
 use Rattle.std.specs.BTreeMap.{BTreeMap, get_by, UpdatesBy}
 use Rattle.std.proofs.lemmas.List.{drop_more}
-use Rattle.std.proofs.lemmas.Slice.Eq.{bytes_eq-Decides}
 use Rattle.std.proofs.lemmas.Map.Text.{btree_map_updates_str}
 use denote.Ref.{Bor}
 use Rattle.isle_printer.specs.Bytes.{same_bytes}
-use Rattle.isle_printer.proofs.Bytes.{same_bytes_refl, same_bytes_sound}
+use Rattle.isle_printer.proofs.Bytes.{same_is}
 use Rattle.isle_tree.specs.declared.tree.Function.{Function as CodeFunction}
 use Rattle.isle_tree.specs.Run.{function_of}
 use Rattle.isle_tree.specs.Views.{function}
-use Rattle.isle_places.specs.Found.{FindsTerms}
+use Rattle.isle_tree.specs.Terms.{FindsTerms}
 
 -- the two tests of names agree, whichever stands first
 turned : (v w : List ℕ) → bytes_eq v w ≡ same_bytes w v
-turned v w = by (bytes_eq v w) (same_bytes w v) refl refl
-  where
-    by : (b c : Bool) → bytes_eq v w ≡ b → same_bytes w v ≡ c → b ≡ c
-    by true true e f = refl
-    by false false e f = refl
-    by true false e f =
-        let same : v ≡ w = (bytes_eq-Decides v w).0 e in
-        let again : same_bytes w v ≡ true = ap (same_bytes w) same ∙ same_bytes_refl w in
-        absurd cc
-    by false true e f =
-        let same : bytes_eq v w ≡ true = (bytes_eq-Decides v w).1 (sym (same_bytes_sound w v f)) in
-        absurd cc
+turned v w = nat_list_eq_equiv.symm v w ∙ same_is w v
 
 -- one function more, before those that are there
 pub terms_more : (fns : List CodeFunction) (i : ℕ) (f d : CodeFunction) (item : Bor CodeFunction) (key : Bor (List ℕ)) (old new : BTreeMap (Bor (List ℕ)) (Bor CodeFunction)) → i < length fns → f ≡ get_or fns i d → item.now ≡ f → key.now ≡ f.term

@@ -3,9 +3,9 @@
 ghost use Rattle.std.specs.Prelude.{◌≡◌, IfOk, map, option_map};
 ghost use Rattle.isle_tree.specs.Run.{function_of};
 ghost use Rattle.isle_tree.specs.Views.{function};
-ghost use Rattle.isle_places.specs.Found.{FindsTerms};
+ghost use Rattle.isle_tree.specs.Terms.{FindsTerms};
 
-use isle_tree::Function;
+use crate::tree::Function;
 use std::alloc::{AllocError, Global};
 use std::collections::BTreeMap;
 use std::marker::Model;
@@ -22,7 +22,7 @@ impl<'p> Model for Terms<'p> {
     ghost use Rattle.std.specs.Coded.{codes};
     ghost use Rattle.isle_tree.specs.contracts.tree.Stmt as e;
     ghost use Rattle.isle_tree.specs.declared.tree.Function.{Function};
-    ghost use Rattle.isle_places.specs.Found.{FindsTerms};
+    ghost use Rattle.isle_tree.specs.Terms.{FindsTerms};
 
     ghost Value = { List Function };
 
@@ -49,7 +49,7 @@ fn by_term<'p>(
 }
 
 impl<'p> Terms<'p> {
-    /// Finds the functions of a program by their names. The only error is want of memory.
+    /// Finds the functions of a program by their terms. The only error is want of memory.
     pub fn new(alloc: Global, fns: &'p [Function]) -> Result<Terms<'p>, AllocError>
         ensures { IfOk result (λ t. t ≡ fns.now) }
     {
