@@ -39,14 +39,14 @@ pub is_well_formed : (o : Origin) (f : Function) → MayEmitTerm o → IsGiven o
 is_well_formed o f h e p fns = one (slice_get o.env.terms o.id.0) h e
   where
     one : (t : Option Term) → IsSomeAnd t (λ u. MayEmit o.files (setting o.env u o.bindings) o.block) → IsSomeAnd t (λ u. term_function o.files (setting o.env u o.bindings) o.block ≡ Some f) → IsFunction p f
-    one (Some t) may is = emitted_well_formed o.files o.env t o.bindings o.block f may.lawful may.single may.emittable.once is may.emittable may.names may.fns p fns
+    one (Some t) may is = emitted_well_formed o.files o.env t o.bindings o.block f may.lawful may.single may.emittable.once is may.emittable may.names may.fns may.term_fns p fns
     one None may is = absurd may
 
 pub is_shaped : (o : Origin) (f : Function) → MayEmitTerm o → IsGiven o f → HasBlockShape o f
 is_shaped o f h e = both (slice_get o.env.terms o.id.0) _ _ _ (λ t may is. has_shape o.files o.env t o.bindings o.block f may.lawful may.single may.emittable.once is) h e
 
 pub is_run : (o : Origin) (f : Function) → MayEmitTerm o → IsGiven o f → RunsAsItsBlock o f
-is_run o f h e = both (slice_get o.env.terms o.id.0) _ _ _ (λ t may is. runs_as_block o.files o.env t o.bindings o.block f may.lawful may.single may.emittable.once is may.names may.fns) h e
+is_run o f h e = both (slice_get o.env.terms o.id.0) _ _ _ (λ t may is. runs_as_block o.files o.env t o.bindings o.block f may.lawful may.single may.emittable.once is may.names may.fns may.term_fns) h e
 
 -- and it is there
 pub is_made : (o : Origin) → MayEmitTerm o → InSetting o (λ (s : Setting). None ≡ term_function o.files s o.block) → ⊥

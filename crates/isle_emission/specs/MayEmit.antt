@@ -8,10 +8,11 @@ use Rattle.isle_core.specs.SingleArms.{HasSingleArms}
 use Rattle.isle_emission.specs.Origin.{Origin, InSetting}
 use Rattle.isle_simulation.specs.Emitted.{IsEmittable}
 use Rattle.isle_simulation.specs.RustNames.{HasRustNames}
+use Rattle.isle_simulation.specs.TermFns.{HasTermFns}
 use Rattle.isle_simulation.specs.TraitFns.{HasFnNames}
 
 -- the term may be emitted, the block is lawful for it and has one arm in each Match (more are not built), its declaration
--- lies in the files, functions of the trait may be called by their names, and types, variants, fields and constants have
+-- lies in the files, functions of the trait and of terms may be called by their names, and types, variants, fields and constants have
 -- names of Rust
 pub record MayEmit (files : Files) (s : Setting) (b : Block) : Type 0 where
   pub emittable : IsEmittable s.env s.term
@@ -19,6 +20,7 @@ pub record MayEmit (files : Files) (s : Setting) (b : Block) : Type 0 where
   pub single : HasSingleArms b
   pub declared : LiesIn files s.term.decl_pos
   pub fns : HasFnNames s.env
+  pub term_fns : HasTermFns s.env
   pub names : HasRustNames s.env
 
 -- so of a term with its rules' bindings and block

@@ -79,7 +79,7 @@ bound_binds s u bound b (Some (binding.Constructor term parameters k)) known mad
         (call_binds s u bound b.0 term parameters k callee kind is.called known made those locals g same a c is.found is.args (binding_answers s.env u.meaning s.bindings b.0 term parameters k g.answers at_b) none)
     one (ByCases callee kind) c of =
         subst (λ x. BindsOne s u b.0 x known locals (run_let u b.0 (bound_expr s bound b (Some (binding.Constructor term parameters k))) locals (done those)) (bind_one s.env u.meaning u.args x known made)) (sym is.path)
-        (case_binds s u bound b.0 term parameters k callee kind is.called known made those locals g same a c (subst AnswersOnce (sym of.0) of.2) of.1 is.found is.args (binding_answers s.env u.meaning s.bindings b.0 term parameters k g.answers at_b))
+        (case_binds s u bound b.0 term parameters k callee kind is.called known made those locals g same a c (subst AnswersOnce (sym of.0) of.1) is.found is.args (binding_answers s.env u.meaning s.bindings b.0 term parameters k g.answers at_b))
     one NoCall c of = absurd of
 bound_binds s u bound b (Some (binding.Extractor term parameter)) known made those locals at_b g same a new is = one (extracting s.env term) refl is.external
   where

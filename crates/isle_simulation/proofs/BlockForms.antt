@@ -44,11 +44,11 @@ use Rattle.isle_simulation.specs.Patterns.{bind_before, field_binds, pattern_nam
 use Rattle.isle_simulation.specs.References.{is_declared, is_reference_in, read_as}
 use Rattle.isle_simulation.specs.RustNames.{IsVariantName, HasRustNames}
 use Rattle.isle_simulation.specs.Statements.{made_named}
-use Rattle.isle_simulation.specs.TraitFns.{HasFnNames}
 use Rattle.isle_simulation.proofs.ArmsRun.{ArmPattern, arm_pattern}
 use Rattle.isle_simulation.proofs.OneBind.{spelled}
 use Rattle.isle_simulation.proofs.BoundTests.{found}
-use Rattle.isle_simulation.proofs.ExternalTerms.{callee_is, extracted_is}
+use Rattle.isle_simulation.proofs.CalledTerms.{HasCallees, callee_is}
+use Rattle.isle_simulation.proofs.ExternalTerms.{extracted_is}
 use Rattle.isle_simulation.proofs.Made.{over_value, over_option, some_made}
 use Rattle.isle_simulation.proofs.PathValues.{IsConstant}
 use Rattle.isle_simulation.proofs.Ready.{IsSpelled, IsReady, AreReady, IsMadeReady, IsReadyBind, AreReadyBinds, IsReadyFrom, IsReadyControl}
@@ -149,12 +149,12 @@ call_is s bound o called callee parameters e h = subst (λ x. IsExpr (call_expr 
 extraction_is : (s : Setting) (bound : List ℕ) (o : Option Term) (called : Term) (callee : _) (parameter : BindingId) → o ≡ Some called → IsExpr (extraction_expr s bound (Some called) callee parameter) → IsExpr (extraction_expr s bound o callee parameter)
 extraction_is s bound o called callee parameter e h = subst (λ x. IsExpr (extraction_expr s bound x callee parameter)) (sym e) h
 
-bound_is : (s : Setting) (bound : List ℕ) (b : BindingId) (o : Option Binding) → HasRustNames s.env → HasFnNames s.env → IsReadyBind s bound (at (paths_in s) b) o → IsExpr (bound_expr s bound b o)
+bound_is : (s : Setting) (bound : List ℕ) (b : BindingId) (o : Option Binding) → HasRustNames s.env → HasCallees s.env → IsReadyBind s bound (at (paths_in s) b) o → IsExpr (bound_expr s bound b o)
 bound_is s bound b (Some (binding.Constructor term parameters k)) names fns is =
     call_is s bound (slice_get s.env.terms term.0) is.called (callee_of (calling s.env term)) parameters is.found (record { callee = callee_is s.env term is.called is.kind fns is.found is.external; args = reads_are s bound is.called.arg_tys parameters names is.args })
 bound_is s bound b (Some (binding.Extractor term parameter)) names fns is =
     extraction_is s bound (slice_get s.env.terms term.0) is.called (callee_of (extracting s.env term)) parameter is.found
-    (record { callee = extracted_is s.env term is.called is.kind fns is.found is.external; args = reads_are s bound (is.called.ret_ty ∷ []) (parameter ∷ []) names (is.arg, tt) })
+    (record { callee = extracted_is s.env term is.called is.kind fns.fns is.found is.external; args = reads_are s bound (is.called.ret_ty ∷ []) (parameter ∷ []) names (is.arg, tt) })
 bound_is s bound b (Some (binding.MatchSome source)) names fns is = source_is s bound source (found bound source.0 is.bound')
 bound_is s bound b (Some (binding.MatchTuple source field)) names fns is = source_is s bound source (found bound source.0 is.bound')
 bound_is s bound b (Some (binding.Argument index)) names fns is = plain_is s b names is
@@ -165,7 +165,7 @@ bound_is s bound b (Some (binding.MakeVariant ty variant fields)) names fns is =
 bound_is s bound b (Some (binding.MakeStruct ty fields)) names fns is = made_is s bound (at (paths_in s) b) _ (MakesStruct ty) fields names is
 bound_is s bound b o names fns is = absurd is
 
-lets_are : (s : Setting) (bound : List ℕ) (binds : List BindingId) (more : Body) → HasRustNames s.env → HasFnNames s.env → AreReadyBinds s bound binds → IsBody more → IsBody (lets s bound binds more)
+lets_are : (s : Setting) (bound : List ℕ) (binds : List BindingId) (more : Body) → HasRustNames s.env → HasCallees s.env → AreReadyBinds s bound binds → IsBody more → IsBody (lets s bound binds more)
 lets_are s bound [] more names fns k h = h
 lets_are s bound (b ∷ binds) more names fns k h = (bound_is s bound b (slice_get s.bindings b.0) names fns k.0, lets_are s (bound ++ b.0 ∷ []) binds more names fns k.1 h)
 
@@ -205,13 +205,13 @@ some_is places le = subst (λ o. IsPattern (written_pattern o)) (sym (some_made 
 
 mutual
   -- the statements of a block
-  pub block_is : (b : Block) (s : Setting) (bound made : List ℕ) (end : Body) → HasRustNames s.env → HasFnNames s.env → IsReadyFrom s bound made b → HasSingleArms b → IsBody end → IsBody (block_body s bound b end)
+  pub block_is : (b : Block) (s : Setting) (bound made : List ℕ) (end : Body) → HasRustNames s.env → HasCallees s.env → IsReadyFrom s bound made b → HasSingleArms b → IsBody end → IsBody (block_body s bound b end)
   block_is Stop s bound made end names fns k o h = h
   block_is (Step binds c more) s bound made end names fns k o h =
       lets_are s bound binds (Then (control_stmt s (bound_by bound binds) c) (block_body s (bound_by bound binds) more end)) names fns k.0
       (control_is c s (bound_by bound binds) _ names fns k.2 o.0, block_is more s (bound_by bound binds) _ end names fns k.3 o.1 h)
 
-  control_is : (c : Control) (s : Setting) (bound made : List ℕ) → HasRustNames s.env → HasFnNames s.env → IsReadyControl s bound made c → IsSingle c → IsStmt (control_stmt s bound c)
+  control_is : (c : Control) (s : Setting) (bound made : List ℕ) → HasRustNames s.env → HasCallees s.env → IsReadyControl s bound made c → IsSingle c → IsStmt (control_stmt s bound c)
   control_is (block.Match source (Arm (constraint.ConstBool val) places body NoArm)) s bound made names fns k o =
       let v = over_value s bound source (constraint.ConstBool val) k.1.0 (λ e. cc) k.1.1 k.1.2.0 in
       (operand_is s bound source v.ty names v.ready, tested_is s.env (constraint.ConstBool val) v.ty names v.is tt, block_is body s (bound_within bound places) made Done names fns k.1.2.2 o tt)

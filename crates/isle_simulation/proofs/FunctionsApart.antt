@@ -1,9 +1,8 @@
--- No function of an extractor or of a pure term is that of an impure term, since no two functions of the trait have one name.
+-- No function of an extractor or of a pure term is that of an impure term, since no two functions of the trait, and no two of terms, have one name.
 use Rattle.std.proofs.Common.{◌≡◌, ℕ, zero, suc, List, [], ◌∷◌, Bool, true, false, Option, Some, None, refl, sym, ap, ◌∙◌, subst}
 use Rattle.std.specs.Prelude.{◌||◌, Contains, slice_get, option_map}
 use Rattle.std.specs.List.{IsDistinct, cons_option, list_any}
 use Rattle.std.specs.Str.{bytes_eq}
-use Rattle.std.proofs.lemmas.List.Elements.{All-contains, All-from_recursion}
 use Rattle.std.proofs.lemmas.Slice.Eq.{bytes_eq-Decides}
 use Rattle.isle_base.specs.declared.ids.Sym.{Sym}
 use Rattle.isle_core.specs.declared.rule_sets.Binding.{Binding}
@@ -16,7 +15,6 @@ use Rattle.isle_core.specs.declared.values.Callee.{Callee}
 use Rattle.isle_core.specs.declared.values.Callee.TheVariants.{External, Internal}
 use Rattle.isle_core.specs.declared.types.ReturnKind.{ReturnKind}
 use Rattle.isle_core.specs.Calling.{ByCases, calling_of, calling_by, pure_callee, kind_of, extracting_of, extracting_kind}
-use Rattle.isle_core.specs.ExternalCall.{IsExternal}
 use Rattle.isle_core.specs.Rule.{Environment}
 use Rattle.isle_core.specs.Terms.{sym_text, impure_callee, goes_to, is_impure}
 use Rattle.isle_tree.specs.declared.tree.TraitFn.{TraitFn}
@@ -24,28 +22,20 @@ use Rattle.isle_tree.specs.WellFormed.{fn_names}
 use Rattle.isle_simulation.specs.Emitted.{HasPureExtractors, HasPureConstructors}
 use Rattle.isle_simulation.specs.Statements.{callee_of}
 use Rattle.isle_simulation.specs.TraitFns.{constructor_fn, func_of, constructor_fn_of, extractor_fn, extracted_of, extractor_fn_of, trait_fns_in, HasFnNames}
-use Rattle.isle_simulation.proofs.ExternalTerms.{after_option, at_option, fn_contained, extractor_contained, name_contained}
+use Rattle.isle_simulation.specs.TermFns.{IsRuled, HasTermFns}
+use Rattle.isle_simulation.proofs.FoundByName.{after_option, at_option, behind_option, option_apart}
+use Rattle.isle_simulation.proofs.TermHeads.{term_once}
+use Rattle.isle_simulation.proofs.ExternalTerms.{fn_contained, extractor_contained}
 
 -- ---- names that are apart
 
 -- so are those behind one
 pub behind_one : (o : Option TraitFn) (fs : List TraitFn) → IsDistinct bytes_eq (fn_names (cons_option o fs)) → IsDistinct bytes_eq (fn_names fs)
-unfolding IsDistinct
-behind_one None fs d = d
-behind_one (Some f) fs d = d.1
+behind_one o fs d = behind_option (λ (f : TraitFn). f.name) o fs d
 
 -- and the first is apart from those
 pub apart_from : (o : Option TraitFn) (fs : List TraitFn) (f g : TraitFn) → o ≡ Some f → IsDistinct bytes_eq (fn_names (cons_option o fs)) → Contains fs g → f.name ≡ g.name → ⊥
-unfolding IsDistinct
-apart_from None fs f g e d c same = cc
-apart_from (Some x) fs f g e d c same =
-    let is : x.name ≡ g.name = ap (λ (y : TraitFn). y.name) (one x f e) ∙ same in
-    let apart : bytes_eq x.name g.name ≡ false = All-contains (λ y. bytes_eq x.name y ≡ false) (fn_names fs) g.name (All-from_recursion (λ y. bytes_eq x.name y ≡ false) (fn_names fs) d.0) (name_contained fs g c) in
-    let equal : bytes_eq x.name g.name ≡ true = (bytes_eq-Decides x.name g.name).1 is in
-    cc
-  where
-    one : (a b : TraitFn) → Some a ≡ Some b → a ≡ b
-    one a b k = cc
+apart_from o fs f g e d c same = option_apart (λ (x : TraitFn). x.name) o fs f g e d c same
 
 the_term : (a b : Term) → Some a ≡ Some b → a ≡ b
 the_term a b e = cc
@@ -146,30 +136,50 @@ pure_apart env names i t func at fn pure j u there = by u.kind refl
     by (kind.Variant ty variant) e = refl
     by (kind.Struct ty) e = refl
 
+-- so where both are made by rules
+pure_rules_apart : (env : Environment) → HasTermFns env → (i : ℕ) (t : Term) → slice_get env.terms i ≡ Some t → IsRuled t.kind → impure_callee env t t.kind ≡ None
+    → (j : ℕ) (u : Term) → slice_get env.terms j ≡ Some u → goes_to (Internal (sym_text env t.name)) (impure_callee env u u.kind) ≡ false
+pure_rules_apart env names i t at ruled pure j u there = by u.kind refl
+  where
+    differ : IsRuled u.kind → impure_callee env u u.kind ≡ Some (Internal (sym_text env u.name)) → (b : Bool) → bytes_eq (sym_text env t.name) (sym_text env u.name) ≡ b → b ≡ false
+    differ ruled' impure true e =
+        let one = term_once env (record { 0 = i }) (record { 0 = j }) t u names at there ruled ruled' ((bytes_eq-Decides (sym_text env t.name) (sym_text env u.name)).0 e) in
+        let bad : None ≡ Some (Internal (sym_text env u.name)) = sym pure ∙ ap (λ (x : Term). impure_callee env x x.kind) one ∙ impure in cc
+    differ ruled' impure false e = refl
+
+    by : (k : TermKind) → u.kind ≡ k → goes_to (Internal (sym_text env t.name)) (impure_callee env u k) ≡ false
+    by (kind.Decl false multi p recursive constructor.Internal x) e = differ (subst IsRuled (sym e) tt) (ap (impure_callee env u) e) (bytes_eq (sym_text env t.name) (sym_text env u.name)) refl
+    by (kind.Decl false multi p recursive (constructor.External made) x) e = refl
+    by (kind.Decl false multi p recursive constructor.Absent x) e = refl
+    by (kind.Decl true multi p recursive by' x) e = refl
+    by (kind.Variant ty variant) e = refl
+    by (kind.Struct ty) e = refl
+
 -- what the call of a pure term goes to is no impure term
-constructor_pure : (env : Environment) → HasFnNames env → (i : ℕ) (t : Term) → slice_get env.terms i ≡ Some t → (k : TermKind) → t.kind ≡ k → (callee : Callee) (of : ReturnKind)
-    → calling_by (kind_of k) (impure_callee env t k) (pure_callee env t k) ≡ ByCases callee of → IsExternal callee → is_impure env callee ≡ false
-constructor_pure env names i t at (kind.Decl true multi p recursive (constructor.External func) x) e callee of is external =
+constructor_pure : (env : Environment) → HasFnNames env → HasTermFns env → (i : ℕ) (t : Term) → slice_get env.terms i ≡ Some t → (k : TermKind) → t.kind ≡ k → (callee : Callee) (of : ReturnKind)
+    → calling_by (kind_of k) (impure_callee env t k) (pure_callee env t k) ≡ ByCases callee of → is_impure env callee ≡ false
+constructor_pure env names terms i t at (kind.Decl true multi p recursive (constructor.External func) x) e callee of is =
     subst (λ c. is_impure env c ≡ false) (one (External (sym_text env func)) callee is)
     (none_any _ env.terms (pure_apart env names i t func at (ap (λ (l : TermKind). option_map (constructor_fn env t) (func_of l)) e) (ap (impure_callee env t) e)))
   where
     one : (a b : Callee) → ByCases a (kind_of (kind.Decl true multi p recursive (constructor.External func) x)) ≡ ByCases b of → a ≡ b
     one a b k = cc
-constructor_pure env names i t at (kind.Decl true multi p recursive constructor.Internal x) e callee of is external = absurd (subst IsExternal (one (Internal (sym_text env t.name)) callee is) external)
+constructor_pure env names terms i t at (kind.Decl true multi p recursive constructor.Internal x) e callee of is =
+    subst (λ c. is_impure env c ≡ false) (one (Internal (sym_text env t.name)) callee is) (none_any _ env.terms (pure_rules_apart env terms i t at (subst IsRuled (sym e) tt) (ap (impure_callee env t) e)))
   where
-    one : (a b : Callee) → ByCases a (kind_of (kind.Decl true multi p recursive constructor.Internal x)) ≡ ByCases b of → b ≡ a
+    one : (a b : Callee) → ByCases a (kind_of (kind.Decl true multi p recursive constructor.Internal x)) ≡ ByCases b of → a ≡ b
     one a b k = cc
-constructor_pure env names i t at (kind.Decl true multi p recursive constructor.Absent x) e callee of is external = cc
-constructor_pure env names i t at (kind.Decl false multi p recursive constructor.Absent x) e callee of is external = cc
-constructor_pure env names i t at (kind.Decl false multi p recursive constructor.Internal x) e callee of is external = cc
-constructor_pure env names i t at (kind.Decl false multi p recursive (constructor.External func) x) e callee of is external = cc
-constructor_pure env names i t at (kind.Variant ty variant) e callee of is external = cc
-constructor_pure env names i t at (kind.Struct ty) e callee of is external = cc
+constructor_pure env names terms i t at (kind.Decl true multi p recursive constructor.Absent x) e callee of is = cc
+constructor_pure env names terms i t at (kind.Decl false multi p recursive constructor.Absent x) e callee of is = cc
+constructor_pure env names terms i t at (kind.Decl false multi p recursive constructor.Internal x) e callee of is = cc
+constructor_pure env names terms i t at (kind.Decl false multi p recursive (constructor.External func) x) e callee of is = cc
+constructor_pure env names terms i t at (kind.Variant ty variant) e callee of is = cc
+constructor_pure env names terms i t at (kind.Struct ty) e callee of is = cc
 
--- no pure term's external constructor is the function of an impure term
-pub pure_constructors : (env : Environment) → HasFnNames env → HasPureConstructors env
-pure_constructors env names term callee kind is external = by (slice_get env.terms term.0) refl
+-- no pure term's constructor is the function of an impure term
+pub pure_constructors : (env : Environment) → HasFnNames env → HasTermFns env → HasPureConstructors env
+pure_constructors env names terms term callee kind is = by (slice_get env.terms term.0) refl
   where
     by : (o : Option Term) → slice_get env.terms term.0 ≡ o → is_impure env callee ≡ false
     by None there = let bad : calling_of env None ≡ ByCases callee kind = sym (ap (calling_of env) there) ∙ is in cc
-    by (Some t) there = constructor_pure env names term.0 t there t.kind refl callee kind (sym (ap (calling_of env) there) ∙ is) external
+    by (Some t) there = constructor_pure env names terms term.0 t there t.kind refl callee kind (sym (ap (calling_of env) there) ∙ is)

@@ -13,13 +13,14 @@ use Rattle.isle_core.specs.Setting.{setting}
 use Rattle.isle_core.specs.SingleArms.{HasSingleArms}
 use Rattle.isle_tree.specs.Calls.{body_calls}
 use Rattle.isle_tree.specs.Program.{Function, Program}
-use Rattle.isle_tree.specs.WellFormed.{IsFunction}
+use Rattle.isle_tree.specs.WellFormed.{callables, IsFunction}
 use Rattle.isle_simulation.specs.Emitted.{IsEmittable, RunsAsBlock}
 use Rattle.isle_simulation.specs.OfTerm.{IsOfTerm}
 use Rattle.isle_simulation.specs.RustNames.{HasRustNames}
 use Rattle.isle_simulation.specs.Shape.{HasShape}
 use Rattle.isle_simulation.specs.TermFunction.{term_function}
-use Rattle.isle_simulation.specs.TraitFns.{trait_fns_of, HasFnNames}
+use Rattle.isle_simulation.specs.TermFns.{callables_of, HasTermFns}
+use Rattle.isle_simulation.specs.TraitFns.{HasFnNames}
 use Rattle.isle_simulation.proofs.BlockCalls.{IsBoundCall, written_calls}
 use Rattle.isle_simulation.proofs.FunctionsApart.{pure_extractors, pure_constructors}
 use Rattle.isle_simulation.proofs.Made.{function_made}
@@ -37,14 +38,14 @@ module _ (files : Files) (env : Environment) (t : Term) (bs : List Binding) (b :
       some_one : (g h : Function) → Some g ≡ Some h → g ≡ h
       some_one g h e = cc
 
-  pub emitted_well_formed : IsEmittable env t → HasRustNames env → HasFnNames env → (p : Program) → p.trait_fns ≡ trait_fns_of env → IsFunction p f
-  emitted_well_formed h names fns p same = subst (IsFunction p) given_is (written_well_formed files env t bs b h names lawful single fns p same)
+  pub emitted_well_formed : IsEmittable env t → HasRustNames env → HasFnNames env → HasTermFns env → (p : Program) → callables p ≡ callables_of env → IsFunction p f
+  emitted_well_formed h names fns terms p same = subst (IsFunction p) given_is (written_well_formed files env t bs b h names lawful single (record { fns = fns; terms = terms }) p same)
 
   pub has_shape : HasShape (setting env t bs) f.body b
   has_shape = subst (λ (g : Function). HasShape (setting env t bs) g.body b) given_is (written_shape files env t bs b once lawful single)
 
-  pub runs_as_block : HasRustNames env → HasFnNames env → RunsAsBlock env t bs b f
-  runs_as_block names fns = subst (RunsAsBlock env t bs b) given_is (written_runs files env t bs b once names (pure_extractors env bs fns) (pure_constructors env fns) lawful single)
+  pub runs_as_block : HasRustNames env → HasFnNames env → HasTermFns env → RunsAsBlock env t bs b f
+  runs_as_block names fns terms = subst (RunsAsBlock env t bs b) given_is (written_runs files env t bs b once names (pure_extractors env bs fns) (pure_constructors env fns terms) lawful single)
 
   pub of_its_term : IsOfTerm files env t f
   of_its_term = subst (IsOfTerm files env t) given_is (written_of_term files env t bs b lawful single)

@@ -24,11 +24,11 @@ use Rattle.isle_core.specs.Lawful.{RoleFits, AnswersFit}
 use Rattle.isle_core.specs.Path.{Path, Paths, Arg, ConstBool, ConstInt, ConstPrim, Extracted, Called, Inner, Part, at, at_all}
 use Rattle.isle_core.specs.ValueAt.{Held, Absent, One, Optional, Listed, Known, a_value, an_option, call_held, case_held, extracted_held, held as held_value, inner_held, part_held, value_at, values_at}
 use Rattle.isle_core.specs.CallRun as went
-use Rattle.isle_core.specs.CallRun.{Went, then_go, take_turn, make_call, unless_nothing}
+use Rattle.isle_core.specs.CallRun.{Went, unless_nothing}
 use Rattle.isle_core.specs.BlockRun.{bind_one}
 use Rattle.isle_core.specs.StandsFor.{EachOnce}
 use Rattle.isle_core.specs.Bindable.{IsPlain}
-use Rattle.isle_core.specs.ExternalCall.{IsCall, IsExtraction, IsExternal}
+use Rattle.isle_core.specs.ExternalCall.{IsCall, IsExtraction}
 use Rattle.isle_core.specs.Occurrences.{occurrence, occurrence_at}
 use Rattle.isle_core.specs.PathType.{AreTuple, IsPathOf, IsTupleOf, IsOptionOf, ArePathsOf}
 use Rattle.isle_core.specs.Readable.{IsInPlace}
@@ -306,10 +306,10 @@ case_run : (env : Environment) (u : Around) (term : TermId) (ps : Paths) (k : �
 case_run env u term ps k callee kind known made c = rw c refl
 
 pub case_binds : (s : Setting) (u : Around) (bound : List ℕ) (n : ℕ) (term : TermId) (parameters : List BindingId) (k : ℕ) (callee : Callee) (kind : ReturnKind) (called : Term) (known : Known) (made those : List Made) (locals : Env)
-    → Grounds s u → AreSameCalls s.env those made → Agree s u bound known locals → calling s.env term ≡ ByCases callee kind → AnswersOnce kind → IsExternal callee → slice_get s.env.terms term.0 ≡ Some called
+    → Grounds s u → AreSameCalls s.env those made → Agree s u bound known locals → calling s.env term ≡ ByCases callee kind → AnswersOnce kind → slice_get s.env.terms term.0 ≡ Some called
     → AreReady s bound parameters called.arg_tys → AnswersFit s.env u.meaning term
     → BindsOne s u n (Called term (at_all (paths_in s) parameters) k) known locals (run_let u n (call_expr s bound (slice_get s.env.terms term.0) (callee_of (calling s.env term)) parameters) locals (done those)) (bind_one s.env u.meaning u.args (Called term (at_all (paths_in s) parameters) k) known made)
-case_binds s u bound n term parameters k callee kind called known made those locals g same a c once external found' r fit =
+case_binds s u bound n term parameters k callee kind called known made those locals g same a c once found' r fit =
     let l = operands_read s u bound known locals called.arg_tys parameters g a r in
     let ps = at_all (paths_in s) parameters in
     let x = constructor_answers s.env u.meaning term callee kind called fit c once found' in
@@ -325,7 +325,7 @@ case_binds s u bound n term parameters k callee kind called known made those loc
           ∙ ap (λ vs. run_call u n callee vs locals (done those)) l.run
           ∙ ap (λ y. run_bind n (answer_held y) locals (done here)) (x.is l.rs l.vs those l.same)
           ∙ bind_there n answered locals (done here) (results_there s.env kind (called.ret_ty ∷ []) answered (x.holds l.vs));
-      made = pure_push s.env those made (record { callee = callee; args = l.rs }) (g.pure_made term callee kind c external) same;
+      made = pure_push s.env those made (record { callee = callee; args = l.rs }) (g.pure_made term callee kind c) same;
       stands = held_case kind answered (value_at s.env u.meaning u.args known (Called term ps k)) held s.env s.term term callee called c found' (x.holds l.vs) ps k;
       grows = same_known known;
       keeps = λ j not_j. refl;

@@ -13,8 +13,7 @@ use Rattle.isle_core.specs.Rule.{Environment}
 use Rattle.isle_core.specs.Setting.{setting}
 use Rattle.isle_core.specs.SingleArms.{HasSingleArms}
 use Rattle.isle_tree.specs.Program.{Done, Program}
-use Rattle.isle_tree.specs.WellFormed.{Locals, IsBody, IsBodyScoped, IsKind, IsFunction}
-use Rattle.isle_tree.specs.declared.tree.TraitFn.{TraitFn}
+use Rattle.isle_tree.specs.WellFormed.{Locals, Callables, callables, IsBody, IsBodyScoped, IsKind, IsFunction}
 use Rattle.isle_core.specs.declared.types.ReturnKind.{ReturnKind}
 use Rattle.isle_core.specs.declared.types.ReturnKind.TheVariants as return_kind
 use Rattle.isle_simulation.specs.Completed.{completed}
@@ -24,7 +23,8 @@ use Rattle.isle_simulation.specs.TypeTexts.{parameter}
 use Rattle.isle_simulation.proofs.CompletedReady.{completed_ready}
 use Rattle.isle_simulation.proofs.CompletedRuns.{completed_single}
 use Rattle.isle_simulation.specs.Emitted.{IsEmittable}
-use Rattle.isle_simulation.specs.TraitFns.{trait_fns_of, HasFnNames}
+use Rattle.isle_simulation.specs.TermFns.{callables_of}
+use Rattle.isle_simulation.proofs.CalledTerms.{HasCallees}
 use Rattle.isle_simulation.proofs.Written.{function_of}
 use Rattle.isle_simulation.proofs.TermNames.{has_names}
 use Rattle.isle_simulation.proofs.BlockForms.{block_is}
@@ -44,13 +44,13 @@ tail_is : (mark : Option (Option (List ℕ × List ℕ))) (x : Bool) → IsBody 
 tail_is mark true = tt
 tail_is mark false = mark_is mark
 
-tail_scoped : (mark : Option (Option (List ℕ × List ℕ))) (x : Bool) (fns : List TraitFn) (kind : ReturnKind) (params : ℕ) (locals : Locals) → IsBodyScoped fns kind params locals (cond x Done (tail_body mark))
+tail_scoped : (mark : Option (Option (List ℕ × List ℕ))) (x : Bool) (fns : Callables) (kind : ReturnKind) (params : ℕ) (locals : Locals) → IsBodyScoped fns kind params locals (cond x Done (tail_body mark))
 tail_scoped mark true fns kind params locals = tt
 tail_scoped (Some mark) false fns kind params locals = (tt, tt)
 tail_scoped None false fns kind params locals = tt
 
--- the function of a term that may be emitted and whose block is lawful, in a program with the functions of the trait
-pub written_well_formed : (files : Files) (env : Environment) (t : Term) (bs : List Binding) (b : Block) → IsEmittable env t → HasRustNames env → IsLawfulBlock (setting env t bs) b → HasSingleArms b → HasFnNames env → (p : Program) → p.trait_fns ≡ trait_fns_of env → IsFunction p (function_of files env t bs b)
+-- the function of a term that may be emitted and whose block is lawful, in a program with the functions that the environment gives
+pub written_well_formed : (files : Files) (env : Environment) (t : Term) (bs : List Binding) (b : Block) → IsEmittable env t → HasRustNames env → IsLawfulBlock (setting env t bs) b → HasSingleArms b → HasCallees env → (p : Program) → callables p ≡ callables_of env → IsFunction p (function_of files env t bs b)
 written_well_formed files env t bs b h names k o fns p same =
     let s = setting env t bs in
     let kind = kind_of t.kind in
@@ -65,8 +65,8 @@ written_well_formed files env t bs b h names k o fns p same =
       names = has_names env t body h;
       kind = kind_is kind h.once;
       forms = block_is c s [] [] (tail_of kind name place b) names fns ready single (tail_is mark (ends_in_return b));
-      scoped = subst (λ (ts : List TraitFn). IsBodyScoped ts kind (length (map (parameter env) t.arg_tys)) [] body) (sym same)
-          (subst (λ n. IsBodyScoped (trait_fns_of env) kind n [] body) (sym (length-map t.arg_tys (parameter env)))
-          (root_scoped c s (tail_of kind name place b) fns h.once ready single (λ locals. tail_scoped mark (ends_in_return b) (trait_fns_of env) kind (length t.arg_tys) locals)));
+      scoped = subst (λ (ts : Callables). IsBodyScoped ts kind (length (map (parameter env) t.arg_tys)) [] body) (sym same)
+          (subst (λ n. IsBodyScoped (callables_of env) kind n [] body) (sym (length-map t.arg_tys (parameter env)))
+          (root_scoped c s (tail_of kind name place b) fns h.once ready single (λ locals. tail_scoped mark (ends_in_return b) (callables_of env) kind (length t.arg_tys) locals)));
       fits = function_fits b s name place h.once ready single;
     }

@@ -11,7 +11,6 @@ use Rattle.isle_core.specs.declared.rule_sets.Binding.TheVariants as binding
 use Rattle.isle_core.specs.CalledTerms.{Extractor}
 use Rattle.isle_core.specs.Lawful.{AnswersFit, RoleFits}
 use Rattle.isle_core.specs.Calling.{ByCases, calling, extracting, kind_of, AnswersOnce}
-use Rattle.isle_core.specs.ExternalCall.{IsExternal}
 use Rattle.isle_core.specs.declared.types.ReturnKind.{ReturnKind}
 use Rattle.isle_core.specs.Outcome.{Prescription}
 use Rattle.isle_core.specs.Path.{paths_of}
@@ -68,9 +67,9 @@ AnswersBindings env m (binding.MatchTuple source field ∷ bs) = AnswersBindings
 abbrev pub HasPureExtractors : Environment → List Binding → Type 0
 HasPureExtractors env bs = (b : ℕ) (term : TermId) (parameter : BindingId) (callee : Callee) → slice_get bs b ≡ Some (binding.Extractor term parameter) → callee_of (extracting env term) ≡ Some callee → is_impure env callee ≡ false
 
--- no pure term's external constructor is the function of an impure term
+-- no pure term's constructor is the function of an impure term
 abbrev pub HasPureConstructors : Environment → Type 0
-HasPureConstructors env = (term : TermId) (callee : Callee) (kind : ReturnKind) → calling env term ≡ ByCases callee kind → IsExternal callee → is_impure env callee ≡ false
+HasPureConstructors env = (term : TermId) (callee : Callee) (kind : ReturnKind) → calling env term ≡ ByCases callee kind → is_impure env callee ≡ false
 
 -- a run with the calls of impure terms alone
 abbrev pub impure_ran : Environment → Ran → Ran

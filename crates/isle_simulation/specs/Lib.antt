@@ -7,6 +7,7 @@ pub mod Completed
 pub mod Statements
 pub mod TermFunction
 pub mod TraitFns
+pub mod TermFns
 pub mod OfTerm
 pub mod Bare
 pub mod Shape
