@@ -38,10 +38,14 @@ use Rattle.isle_checks.proofs.TestedTypes.{path_type, from_zero, first, next, Is
 
 -- a term answers once or may answer nothing
 term_once : (env : Environment) (allowed : Allowed) (c : Term) (k : TermKind) → IsTermKind env allowed c k → answers_often (calling_by (kind_of k) (impure_callee env c k) (pure_callee env c k)) ≡ false
-term_once env allowed c (kind.Decl true false true false (constructor.External func) x) h = refl
-term_once env allowed c (kind.Decl true false false false (constructor.External func) x) h = refl
-term_once env allowed c (kind.Decl false false true false (constructor.External func) x) h = refl
-term_once env allowed c (kind.Decl false false false false (constructor.External func) x) h = refl
+term_once env allowed c (kind.Decl true false true recursive (constructor.External func) x) h = refl
+term_once env allowed c (kind.Decl true false false recursive (constructor.External func) x) h = refl
+term_once env allowed c (kind.Decl false false true recursive (constructor.External func) x) h = refl
+term_once env allowed c (kind.Decl false false false recursive (constructor.External func) x) h = refl
+term_once env allowed c (kind.Decl true false true recursive constructor.Internal x) h = refl
+term_once env allowed c (kind.Decl true false false recursive constructor.Internal x) h = refl
+term_once env allowed c (kind.Decl false false true recursive constructor.Internal x) h = refl
+term_once env allowed c (kind.Decl false false false recursive constructor.Internal x) h = refl
 term_once env allowed c (kind.Variant ty variant) h = refl
 term_once env allowed c (kind.Struct ty) h = refl
 term_once env allowed c k h = absurd h

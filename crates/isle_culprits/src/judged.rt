@@ -1,7 +1,7 @@
 //! Which rows the parts of a rule or of a template break.
 
-/// Which rows the parts of a rule or of a template that were met so far break, whether one is of a term that has a rule, and
-/// whether one is a variable of a pattern that was not bound before.
+/// Which rows the parts of a rule or of a template that were met so far break, and whether one is a variable of a pattern that was
+/// not bound before.
 #[derive(Clone, Copy)]
 pub struct Judged {
     pub untaken: bool,
@@ -14,6 +14,5 @@ pub struct Judged {
     pub partial: bool,
     pub impure: bool,
     pub multi: bool,
-    pub ruled: bool,
     pub unbound: bool,
 }

@@ -60,10 +60,10 @@ module _ (env : Environment) where
   -- the value of a term of a condition, behind the test that it is something
   term_stands : {mk : Making} {d : Calling} (tests : List Test) (done : List Path) (term : TermId) (c : Term) (ps : Paths) (k j : ℕ) → IsServed env in_condition c mk d → calling env term ≡ d → AllStandOn env tests done ps
       → HasConstraints tests (found_tests d (term_path mk term ps (instance_of d j))) → StandsOn env tests done (answer_path d (term_path mk term ps (instance_of d k)))
-  term_stands tests done term c ps k j (takes_turns name kind once fits turns) is s among = absurd cc
-  term_stands tests done term c ps k j (has_cases name return_kind.Plain once fits) is s among = subst (λ x. StandsCalled x (Contains done (Called term ps 0)) (AllStandOn env tests done ps)) (sym is) s
-  term_stands tests done term c ps k j (has_cases name return_kind.Option once fits) is s among = inr (among (Is (Called term ps 0) constraint.Some) refl (head_contained (Is (Called term ps 0) constraint.Some) []))
-  term_stands tests done term c ps k j (has_cases name return_kind.Iterator once fits) is s among = absurd once
+  term_stands tests done term c ps k j (takes_turns callee kind once fits turns) is s among = absurd cc
+  term_stands tests done term c ps k j (has_cases callee return_kind.Plain once fits) is s among = subst (λ x. StandsCalled x (Contains done (Called term ps 0)) (AllStandOn env tests done ps)) (sym is) s
+  term_stands tests done term c ps k j (has_cases callee return_kind.Option once fits) is s among = inr (among (Is (Called term ps 0) constraint.Some) refl (head_contained (Is (Called term ps 0) constraint.Some) []))
+  term_stands tests done term c ps k j (has_cases callee return_kind.Iterator once fits) is s among = absurd once
   term_stands tests done term c ps k j (makes_variant of variant h) is s among = s
   term_stands tests done term c ps k j (makes_struct of h) is s among = s
 
@@ -126,16 +126,16 @@ module _ (env : Environment) (t : Term) where
   -- that a call finds something
   call_testable : {mk : Making} {d : Calling} (before : List Test) (term : TermId) (c : Term) (ps : Paths) (k : ℕ) → IsServed env in_condition c mk d → calling env term ≡ d → slice_get env.terms term.0 ≡ Some c → ArePathsOf env t ps c.arg_tys → AllStandOn env before [] ps
       → AreTestableAt env t before (found_tests d (term_path mk term ps (instance_of d k)))
-  call_testable before term c ps k (takes_turns name kind once fits turns) is there are s = absurd cc
-  call_testable before term c ps k (has_cases name return_kind.Plain once fits) is there are s = tt
-  call_testable before term c ps k (has_cases name return_kind.Option once fits) is there are s = (
+  call_testable before term c ps k (takes_turns callee kind once fits turns) is there are s = absurd cc
+  call_testable before term c ps k (has_cases callee return_kind.Plain once fits) is there are s = tt
+  call_testable before term c ps k (has_cases callee return_kind.Option once fits) is there are s = (
     record {
-      test = (c.ret_ty ∷ [], (subst (IsCall return_kind.Option) (sym is) (refl, tt, tt), subst (λ o. IsSomeAnd o (λ (x : Term). (x.ret_ty ∷ [] ≡ c.ret_ty ∷ []) × ArePathsOf env t ps x.arg_tys)) (sym there) (refl, are)));
+      test = (c.ret_ty ∷ [], (subst (IsCall return_kind.Option) (sym is) (refl, tt), subst (λ o. IsSomeAnd o (λ (x : Term). (x.ret_ty ∷ [] ≡ c.ret_ty ∷ []) × ArePathsOf env t ps x.arg_tys)) (sym there) (refl, are)));
       stands = subst (λ x. StandsCalled x (Contains {X = Path} [] (Called term ps 0)) (AllStandOn env before [] ps)) (sym is) s;
     },
     tt,
   )
-  call_testable before term c ps k (has_cases name return_kind.Iterator once fits) is there are s = absurd once
+  call_testable before term c ps k (has_cases callee return_kind.Iterator once fits) is there are s = absurd once
   call_testable before term c ps k (makes_variant of variant h) is there are s = tt
   call_testable before term c ps k (makes_struct of h) is there are s = tt
 

@@ -17,7 +17,6 @@ use Rattle.isle_culprits.specs.declared.judged.Judged.{Judged}
 use Rattle.isle_sema.specs.ElaboratedAt.{IsPatternAt}
 use Rattle.isle_sema.specs.Fault.{OfExtractors, or_later, fault_after}
 use Rattle.isle_sema.specs.Judging.{unjudged, judge, judge_all, lowest_of_template}
-use Rattle.isle_sema.specs.Language.{is_ruled, opens_ruled}
 use Rattle.isle_sema.specs.PatternPass.{PatternPass, pattern_pass}
 use Rattle.isle_sema.specs.RuleRows.{template_sites, extractor_sites, is_untaken, is_mistaken, is_misplaced, is_undeclared, is_met_otherwise}
 use Rattle.isle_sema.specs.Site.{Site}
@@ -85,7 +84,3 @@ template_found w x t expected old new before after found by ty vars begun h =
       h.tree ∙ ap (λ (p : PatternPass). p.tree) pass ∙ ap (template_tree w x.term) (sym by),
       h.sites ∙ ap (λ (p : PatternPass). judge_all w before p.sites) pass ∙ ap (λ (j : Judged). judge_all w j (template_pass w x.term t).sites) begun ∙ ap (λ (how : Extracting). judge_all w unjudged (template_sites w x.term how)) (sym by),
     )
-
--- and whether it uses a term that has a rule
-pub ruled_found : (w : Whole) (x : ExtractorDef) (j : Judged) → j ≡ judge_all w unjudged (extractor_sites w x) → j.ruled ≡ opens_ruled w x
-ruled_found w x j judged = ap (λ (i : Judged). i.ruled) judged ∙ any_new w (λ i. i.ruled) (is_ruled w) (λ i s. refl) refl (extractor_sites w x)

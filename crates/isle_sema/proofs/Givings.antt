@@ -1,21 +1,20 @@
 -- The environment of definitions that no test refuses.
-use Rattle.std.proofs.Common.{◌≡◌, ⊎_elim, true, false, cond, List, [], map, Option, Some, None, sym, ap, ◌∙◌, subst}
-use Rattle.std.specs.Prelude.{◌||◌, not, option_map, option_and_then}
-use Rattle.std.specs.List.{list_all, list_any}
-use Rattle.std.proofs.lemmas.Bool.{or_from, and_from}
+use Rattle.std.proofs.Common.{◌≡◌, true, false, cond, List, [], map, Option, Some, None, sym, ap, ◌∙◌, subst}
+use Rattle.std.specs.Prelude.{option_map, option_and_then}
+use Rattle.std.specs.List.{list_all}
 use Rattle.isle_core.specs.declared.TermId.{TermId}
 use Rattle.isle_core.specs.declared.TypeId.{TypeId}
 use Rattle.isle_core.specs.declared.types.TermEnv.{TermEnv}
 use Rattle.isle_core.specs.Rule.{Rule as CoreRule, Environment}
 use Rattle.isle_core.specs.RuleViews.{rule as elaborated_rule, environment}
 use Rattle.isle_ast.specs.Tree.{Def}
-use Rattle.isle_declarations.specs.Signatures.{extractors, rule_defs}
+use Rattle.isle_declarations.specs.Signatures.{rule_defs}
 use Rattle.isle_declarations.specs.Terms.{terms}
 use Rattle.isle_core.specs.declared.position.Pos.{Pos}
 use Rattle.isle_types.specs.declared.row.Row.{Row}
 use Rattle.isle_types.specs.Fault.{type_fault}
 use Rattle.isle_types.specs.TypeEnvironment.{type_env_of}
-use Rattle.isle_sema.specs.Language.{is_built_def, uses_ruled}
+use Rattle.isle_sema.specs.Language.{is_built_def}
 use Rattle.isle_terms.specs.Converters.{converters}
 use Rattle.isle_terms.specs.ConverterViews.{taken_converters}
 use Rattle.isle_terms.proofs.ConverterLaws.{converters_are}
@@ -33,7 +32,6 @@ use Rattle.isle_sema.proofs.TypedOnce.{typed_only}
 use Rattle.isle_sema.specs.Taken.{taken_rules}
 use Rattle.isle_sema.specs.TakenAt.{HaveUnbuilt}
 use Rattle.isle_sema.specs.Templates.{are_treed}
-use Rattle.isle_sema.specs.Language.{opens_ruled}
 use Rattle.isle_sema.proofs.BuiltForms.{both}
 use Rattle.isle_sema.proofs.Firsts.{none_stages}
 use Rattle.isle_sema.proofs.TypedParts.{typed_in}
@@ -51,7 +49,7 @@ pub kept : {ds : List Def} {env : Environment} → Typed ds env → IsKept ds
 kept {ds = ds} {env = env} t =
     let g = typed_in t in
     let w = whole_of ds in
-    record { rules = env.rules; taken = are_taken w 0 (rule_defs ds) env.rules (record { kept = none_fault w [] ds g.rules_kept; calls = g.unruled; trees = g.rules }) }
+    record { rules = env.rules; taken = are_taken w 0 (rule_defs ds) env.rules (record { kept = none_fault w [] ds g.rules_kept; trees = g.rules }) }
 
 -- the fault that is told of extractors and rules
 abbrev pub told_later : List Def → Option (Row × Pos)
@@ -98,22 +96,21 @@ unmade ds forms types declared none =
 untaken_untyped : (ds : List Def) → None ≡ taken_rules (whole_of ds) 0 (rule_defs ds) → (env : Environment) → Typed ds env → ⊥
 untaken_untyped ds h env t = let k = kept t in let bad : None ≡ Some k.rules = h ∙ k.taken in cc
 
--- nor those of which a template uses a term that has a rule, or a rule is not taken
+-- nor those of which a rule is not taken
 pub none_untyped : (ds : List Def) → HaveUnbuilt (whole_of ds) → (env : Environment) → Typed ds env → ⊥
-none_untyped ds u env t = ⊎_elim (λ opens. both opens (typed_in t).opening) (λ none. untaken_untyped ds none env t) u.left
+none_untyped ds u env t = untaken_untyped ds u.left env t
 
 -- ---- the environment
 
 -- definitions that no test refuses give what is made of them
 pub given_typed : (ds : List Def) (t : TermEnv) → list_all is_built_def ds ≡ true → type_fault ds ≡ None → term_fault (whole_of ds) ≡ None → terms_pass (whole_of ds) (terms ds) ≡ Some t.terms
-    → later_fault (whole_of ds) ≡ None → are_treed (whole_of ds) ≡ true → list_any (opens_ruled (whole_of ds)) (extractors ds) ≡ false → taken_rules (whole_of ds) 0 (rule_defs ds) ≡ Some (map elaborated_rule t.rules) → taken_converters (whole_of ds) [] (converters ds) ≡ Some t.converters → Typed ds (environment (type_env_of ds) t)
-given_typed ds t built types declared given sound treed opening rules converting =
+    → later_fault (whole_of ds) ≡ None → are_treed (whole_of ds) ≡ true → taken_rules (whole_of ds) 0 (rule_defs ds) ≡ Some (map elaborated_rule t.rules) → taken_converters (whole_of ds) [] (converters ds) ≡ Some t.converters → Typed ds (environment (type_env_of ds) t)
+given_typed ds t built types declared given sound treed rules converting =
     let w = whole_of ds in
-    let forms = list_all is_built_def ds in
     let k = taken_are w 0 (rule_defs ds) (map elaborated_rule t.rules) rules in
     let c = converters_are w [] (converters ds) t.converters converting in
     record {
-      built = and_from forms (not (list_any (opens_ruled w) (extractors ds) || list_any (uses_ruled w) (rule_defs ds))) built (ap not (or_from (list_any (opens_ruled w) (extractors ds)) (list_any (uses_ruled w) (rule_defs ds)) opening k.calls));
+      built = built;
       sound = none_stages (fault_in OfTypes w) (or_later (fault_in OfTerms w) (later_fault w)) types (none_stages (fault_in OfTerms w) (later_fault w) declared sound);
       given =
           ap (λ b. cond b (option_and_then (env_with w) (terms_pass w (terms ds))) None) treed

@@ -19,7 +19,6 @@ use Rattle.isle_sema.specs.RulePass.{right_side_of, left_of, sites_of}
 use Rattle.isle_sema.specs.RuleRows.{differ, is_untaken, is_mistaken, is_misplaced, is_undeclared, is_met_otherwise, is_unknown, is_mistyped}
 use Rattle.isle_sema.specs.Known.{IsCalled, MayBeCalled}
 use Rattle.isle_sema.specs.Judging.{is_partial_call, is_impure_call, is_multi_call, unjudged, judge, judge_all, lowest}
-use Rattle.isle_sema.specs.Language.{is_ruled, uses_ruled}
 use Rattle.isle_sema.specs.Taken.{row_of}
 use Rattle.isle_sema.specs.RuleRows.{is_large}
 use Rattle.isle_types.specs.Fault.{or_later}
@@ -44,7 +43,6 @@ pub called_judged : (w : Whole) (s : Signature) (c : Called) (j : Judged) (expec
       partial = c.partial || j.partial;
       impure = not c.pure || j.impure;
       multi = c.multi || j.multi;
-      ruled = c.ruled || j.ruled;
       unbound = j.unbound;
     }
     ≡ judge w j (CalledAt expected (Some s) count)
@@ -60,7 +58,6 @@ called_judged w s c j expected count differs other h =
       partial = partial || j.partial;
       impure = not pure || j.impure;
       multi = multi || j.multi;
-      ruled = ruled || j.ruled;
       unbound = j.unbound;
     } in
     let long : length c.args.now ≡ length s.args = sym (length-map c.args.now Some) ∙ ap length (sym h.args) ∙ length-map s.args (type_named w.defs) in
@@ -90,12 +87,11 @@ pub taken_judged : (w : Whole) (s : Signature) (c : Called) (j : Judged) (expect
       partial = j.partial;
       impure = j.impure;
       multi = j.multi;
-      ruled = c.ruled || j.ruled;
       unbound = j.unbound;
     }
     ≡ judge w j (TakenAt expected (Some s) count)
 taken_judged w s c j expected count differs other h =
-    let put : ℕ → Bool → Bool → Bool → Bool → Judged = λ n made extracting differs ruled. record {
+    let put : ℕ → Bool → Bool → Bool → Judged = λ n made extracting differs. record {
       untaken = (not (count == n) || not (made || extracting)) || j.untaken;
       mistaken = differs || j.mistaken;
       misplaced = j.misplaced;
@@ -106,16 +102,13 @@ taken_judged w s c j expected count differs other h =
       partial = j.partial;
       impure = j.impure;
       multi = j.multi;
-      ruled = ruled || j.ruled;
       unbound = j.unbound;
     } in
     let long : length c.args.now ≡ length s.args = sym (length-map c.args.now Some) ∙ ap length (sym h.args) ∙ length-map s.args (type_named w.defs) in
     let made = is_made s.origin in
     let extracting = is_some (extractor_named (extractors w.defs) s.term) in
-    let differs_so = differ (type_named w.defs s.ret) expected in
-    ap (λ n. put n c.made c.extracting differs c.ruled) long ∙ ap (λ b. put (length s.args) b c.extracting differs c.ruled) (sym h.made) ∙ ap (λ b. put (length s.args) made b differs c.ruled) (sym h.extracting)
-    ∙ ap (λ b. put (length s.args) made extracting b c.ruled) (other ∙ ap (λ ty. differ ty expected) (sym h.ret))
-    ∙ ap (put (length s.args) made extracting differs_so) (sym h.ruled)
+    ap (λ n. put n c.made c.extracting differs) long ∙ ap (λ b. put (length s.args) b c.extracting differs) (sym h.made) ∙ ap (λ b. put (length s.args) made b differs) (sym h.extracting)
+    ∙ ap (put (length s.args) made extracting) (other ∙ ap (λ ty. differ ty expected) (sym h.ret))
 
 -- ---- parts in order
 
@@ -142,10 +135,6 @@ any_both : (w : Whole) (f : Judged → Bool) (test : Site → Bool) → ((j : Ju
     → f (judge_all w unjudged ps) || f (judge_all w unjudged rs) ≡ list_any test (ps ++ rs)
 any_both w f test step new ps rs =
     ap (λ b. b || f (judge_all w unjudged rs)) (any_new w f test step new ps) ∙ ap (λ b. list_any test ps || b) (any_new w f test step new rs) ∙ sym (list_any-append test ps rs)
-
--- a use of a term that has a rule, on either side
-pub ruled_both : (w : Whole) (r : RuleDef) → (judge_all w unjudged (left_of w r)).ruled || (judge_all w unjudged (right_side_of w r).sites).ruled ≡ uses_ruled w r
-ruled_both w r = any_both w (λ j. j.ruled) (is_ruled w) (λ j s. refl) refl (left_of w r) (right_side_of w r).sites
 
 -- ---- the row of a rule
 

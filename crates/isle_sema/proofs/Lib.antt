@@ -47,8 +47,11 @@ pub mod DeclaredWell
 pub mod TreedTemplates
 pub mod SoundTemplates
 pub mod TypedRules
+pub mod InternalTerms
 pub mod TreedExprs
 pub mod TreedRules
+pub mod MadeConverters
+pub mod BuiltTyped
 pub mod BuiltRules
 pub mod OpenedTypes
 pub mod StandingPaths

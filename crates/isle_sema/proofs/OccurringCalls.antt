@@ -9,7 +9,6 @@ use Rattle.isle_core.specs.declared.types.ReturnKind.{ReturnKind}
 use Rattle.isle_core.specs.declared.types.ReturnKind.TheVariants as return_kind
 use Rattle.isle_core.specs.declared.types.Term.{Term}
 use Rattle.isle_core.specs.declared.values.Callee.{Callee}
-use Rattle.isle_core.specs.declared.values.Callee.TheVariants.{External}
 use Rattle.isle_core.specs.Calling.{Calling, ByTurns, ByCases, calling, instance_of, one_more, impure, impure_all, impure_bindings}
 use Rattle.isle_core.specs.Expr as expr
 use Rattle.isle_core.specs.Expr.{Expr, Exprs, NoExpr, AnExpr, LetBindings, NoBinding, ABinding}
@@ -61,8 +60,8 @@ module _ (env : Environment) (allowed : Allowed) where
 
   term_occurs : {mk : Making} {d : Calling} (n k : ℕ) (term : TermId) (c : Term) (qs : Paths) (cs more : List Path) → IsServed env allowed c mk d → calling env term ≡ d → ((after : List Path) → AreOccurring env (n + k) after → AreOccurring env n (cs ++ after)) → AreOccurring env (n + one_more d k) more
       → AreOccurring env n ((cs ++ if_ordered d (term_path mk term qs (instance_of d (n + k)))) ++ more)
-  term_occurs n k term c qs cs more (takes_turns name kind once fits impure) is h r = turn_occurs kind (External name) n k term qs cs more is h r
-  term_occurs n k term c qs cs more (has_cases name kind once fits) is h r = case_occurs kind (External name) n k term qs cs more is h r
+  term_occurs n k term c qs cs more (takes_turns callee kind once fits impure) is h r = turn_occurs kind callee n k term qs cs more is h r
+  term_occurs n k term c qs cs more (has_cases callee kind once fits) is h r = case_occurs kind callee n k term qs cs more is h r
   term_occurs n k term c qs cs more (makes_variant of variant made) is h r = subst (λ ps. AreOccurring env n (ps ++ more)) (sym (append-nil cs)) (h more r)
   term_occurs n k term c qs cs more (makes_struct of made) is h r = subst (λ ps. AreOccurring env n (ps ++ more)) (sym (append-nil cs)) (h more r)
 

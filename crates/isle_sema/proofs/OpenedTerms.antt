@@ -123,7 +123,7 @@ outer_term defs env name s number ty g is numbered has ret none = by (is_made s.
         let kind : kind_from w s t.ret_ty s.origin ≡ t.kind = ap (λ (u : Term). u.kind) k.is in
         let makes : making env number ≡ MakesNothing = ap making_of m.there ∙ ap making_kind (sym kind) ∙ kind_unmade w s t.ret_ty s.origin other in
         let outer : (x : ExtractorDef) → extractor_named (extractors defs) s.term ≡ Some x → IsOuter x.by = λ x e. outer_at w s.term x g.treed e (sym (ap (option_and_then (λ (y : ExtractorDef). template_tree w s.term y.by)) e) ∙ sym (template_there w number s at) ∙ none) in
-        let how : IsExtractorKind t.kind = subst IsExtractorKind kind (kind_extracts w s t.ret_ty s.origin other plain.multi (or_second (is_made s.origin) (is_some (extractor_named (extractors defs) s.term)) other has) outer) in
+        let how : IsExtractorKind t.kind = subst IsExtractorKind kind (kind_extracts w s t.ret_ty s.origin other plain (or_second (is_made s.origin) (is_some (extractor_named (extractors defs) s.term)) other has) outer) in
         let opens : OpensType ty MakesNothing (Some t) = (how, same_Some t.ret_ty ty (sym k.ret ∙ ret)) in
         record {
           types = t.arg_tys;

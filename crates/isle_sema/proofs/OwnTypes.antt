@@ -62,10 +62,10 @@ unconverted w of e x h = sym (ap (λ by. expr_within w by e) (no_conversion w of
 -- ---- parts at their own types
 
 used_own : (w : Whole) (allowed : Allowed) (ty : TypeId) (bound : Option (Option TypeId)) → bound ≡ Some (Some ty) → AreKept w allowed (UsedAt None bound ∷ []) → AreKept w allowed (UsedAt (Some ty) bound ∷ [])
-used_own w allowed ty bound is k = record { placed = k.placed; known = k.known; typed = ap (λ o. is_other_type o (Some ty) || false) is ∙ ap (λ b. b || false) (same_differs ty); ruled = k.ruled; partial = k.partial; impure = k.impure }
+used_own w allowed ty bound is k = record { placed = k.placed; known = k.known; typed = ap (λ o. is_other_type o (Some ty) || false) is ∙ ap (λ b. b || false) (same_differs ty); partial = k.partial; impure = k.impure }
 
 constant_own : (w : Whole) (allowed : Allowed) (ty : TypeId) (of : Option TypeId) → of ≡ Some ty → AreKept w allowed (ConstantAt false None of ∷ []) → AreKept w allowed (ConstantAt false (Some ty) of ∷ [])
-constant_own w allowed ty of is k = record { placed = k.placed; known = k.known; typed = ap (λ o. differ o (Some ty) || false) is ∙ ap (λ b. b || false) (same_differs ty); ruled = k.ruled; partial = k.partial; impure = k.impure }
+constant_own w allowed ty of is k = record { placed = k.placed; known = k.known; typed = ap (λ o. differ o (Some ty) || false) is ∙ ap (λ b. b || false) (same_differs ty); partial = k.partial; impure = k.impure }
 
 call_own : (w : Whole) (allowed : Allowed) (ty : TypeId) (o : Option Signature) (count : ℕ) (rest : List Site) → ret_type w o ≡ Some ty → AreKept w allowed (CalledAt None o count ∷ rest) → AreKept w allowed (CalledAt (Some ty) o count ∷ rest)
 call_own w allowed ty None count rest is k = absurd cc
@@ -73,7 +73,6 @@ call_own w allowed ty (Some s) count rest is k = record {
   placed = k.placed;
   known = k.known;
   typed = or_from (differ (type_named w.defs s.ret) (Some ty)) (list_any (is_mistyped w) rest) (ap (λ t. differ t (Some ty)) is ∙ same_differs ty) (or_parts (differ (type_named w.defs s.ret) None) (list_any (is_mistyped w) rest) k.typed).1;
-  ruled = k.ruled;
   partial = k.partial;
   impure = k.impure;
 }
@@ -99,7 +98,7 @@ at_own : (defs : List Def) (allowed : Allowed) (locals : List Local) (next : ℕ
     → IsAtOwn (whole_of defs) allowed locals next e x
 at_own defs allowed locals next (tree.Number n) x h kept = absurd cc
 at_own defs allowed locals next (tree.Fact b) x h kept =
-    subst (IsAtOwn (whole_of defs) allowed locals next (tree.Fact b)) (same_Some (core_expr.ConstBool b) x h) (record { tree = refl; kept = record { placed = refl; known = kept.known; typed = kept.typed; ruled = kept.ruled; partial = kept.partial; impure = kept.impure } })
+    subst (IsAtOwn (whole_of defs) allowed locals next (tree.Fact b)) (same_Some (core_expr.ConstBool b) x h) (record { tree = refl; kept = record { placed = refl; known = kept.known; typed = kept.typed; partial = kept.partial; impure = kept.impure } })
 at_own defs allowed locals next (tree.Name name) x h kept =
     let w = whole_of defs in
     let found = local_named locals name in

@@ -1,6 +1,6 @@
--- The rules that are taken break no row, use no term that has a rule, and have trees.
+-- The rules that are taken break no row, and have trees.
 use Rattle.std.proofs.Common.{◌≡◌, ℕ, zero, suc, ◌+◌, ◌<◌, ◌≤◌, length, arith, Bool, true, false, cond, List, [], ◌∷◌, ◌++◌, map, Option, Some, None, Result, Ok, Err, refl, sym, ap, ◌∙◌}
-use Rattle.std.specs.Prelude.{◌||◌, IfOk, not, nat_le, is_some, option_map, option_and_then, slice_get}
+use Rattle.std.specs.Prelude.{IfOk, not, nat_le, is_some, option_map, option_and_then, slice_get}
 use Rattle.std.specs.List.{list_any}
 use Rattle.std.proofs.lemmas.List.{length-map}
 use Rattle.std.proofs.lemmas.List.Sums.{fold-append}
@@ -37,7 +37,6 @@ use Rattle.isle_templates.specs.ElaboratedRule.{IsElaborated}
 use Rattle.isle_templates.specs.NodeCount.{rule_nodes}
 use Rattle.isle_templates.specs.Substituted.{whole_templates}
 use Rattle.isle_sema.specs.Fault.{OfRules, broken_in, fault_after}
-use Rattle.isle_sema.specs.Language.{uses_ruled}
 use Rattle.isle_sema.specs.Judging.{unjudged, judge, judge_all, lowest}
 use Rattle.isle_sema.specs.Known.{IsHead, MayBeCalled}
 use Rattle.isle_sema.specs.ElaboratedAt.{ArePatternsAt, AreConditionsAt, IsExprOver, AreSides}
@@ -48,7 +47,7 @@ use Rattle.isle_declarations.specs.Symbols.{index_of}
 use Rattle.isle_declarations.specs.Heads.{terms_of}
 use Rattle.isle_sema.specs.Taken.{row_of, taken_rule, taken_rules}
 use Rattle.isle_sema.proofs.Firsts.{later_none, none_later}
-use Rattle.isle_sema.proofs.Judgements.{ruled_both, lowest_is}
+use Rattle.isle_sema.proofs.Judgements.{lowest_is}
 use Rattle.isle_declarations.proofs.LookUps.{at_place, named_at, named_is}
 use Rattle.isle_declarations.proofs.SymbolLaws.{index_below}
 use Rattle.isle_terms.proofs.MadeTerms.{first_there, before_both}
@@ -159,27 +158,12 @@ sides_are w r own sides old bound vars next found before middle first h none sta
       right = e.sites ∙ ap (λ (x : ExprPass). judge_all w first x.sites) right ∙ ap (λ (j : Judged). judge_all w j (right_side_of w r).sites) again;
     }
 
-refused : (w : Whole) (i : ℕ) (r : RuleDef) → is_broken w r || uses_ruled w r ≡ true → None ≡ taken_rule w i r
-refused w i r h = sym (ap (λ b. cond b None (rule_pass w i r)) h)
-
-or_true : (a b : Bool) → b ≡ true → a || b ≡ true
-or_true true b h = refl
-or_true false b h = h
-
 untreed : (w : Whole) (i : ℕ) (r : RuleDef) → written_pass w i r ≡ None → None ≡ taken_rule w i r
-untreed w i r h = by (is_broken w r || uses_ruled w r)
+untreed w i r h = by (is_broken w r)
   where
     by : (b : Bool) → None ≡ cond b None (rule_pass w i r)
     by true = refl
     by false = sym (ap (option_map (elaborated (templates w))) h)
-
--- whether a rule uses a term that has a rule is what is judged of both sides
-pub ruled_is : (w : Whole) (r : RuleDef) (sides : Sides) (ruled : Bool) → AreSides w r sides → ruled ≡ sides.left.rows.ruled || sides.right.rows.ruled → ruled ≡ uses_ruled w r
-ruled_is w r sides ruled p h = h ∙ ap (λ (j : Judged). j.ruled || sides.right.rows.ruled) p.left ∙ ap (λ (j : Judged). (judge_all w unjudged (left_of w r)).ruled || j.ruled) p.right ∙ ruled_both w r
-
--- a rule that does so is not taken
-pub with_ruled : (w : Whole) (i : ℕ) (r : RuleDef) → uses_ruled w r ≡ true → None ≡ taken_rule w i r
-with_ruled w i r h = refused w i r (or_true (is_broken w r) (uses_ruled w r) h)
 
 -- what the code finds is a row that the rule breaks, before that of its nodes
 pub lowest_found : (w : Whole) (r : RuleDef) (own : Called) (sides : Sides) (found : Option Row) (count : ℕ) → IsHead w r.term own → AreSides w r sides → count ≡ length r.args → found ≡ lowest own count sides.left.rows sides.right.rows → or_later found (cond (is_large w r) (Some row.ManyNodes) None) ≡ row_of w r
@@ -244,10 +228,10 @@ above m n lt = by (nat_le m n) refl
     by true k = absurd (let le = leb-true m n k in omega (arith, le, lt))
     by false k = refl
 
--- a rule of few nodes is taken, with templates replaced, unless it uses a term that has a rule; one of more breaks the row of nodes
-pub found_made : (w : Whole) (i : ℕ) (r : RuleDef) (own : Called) (args : List CorePattern) (iflets : List CoreIfLet) (rhs : CoreExpr) (ruled : Bool) (found : Option CodeRule) → IsHead w r.term own → or_later None (cond (is_large w r) (Some row.ManyNodes) None) ≡ row_of w r → ruled ≡ uses_ruled w r
-    → (patterns_of w r).trees ≡ Some args → (conditions_of w r).trees ≡ Some iflets → (right_side_of w r).tree ≡ Some rhs → IsElaborated (templates w) (rule_from w i r own.term args iflets rhs) found → IsRuleFound w i r (found_rule ruled found)
-found_made w i r own args iflets rhs ruled found h lowest calls trees cs tree e = by ruled found calls e
+-- a rule of few nodes is taken, with templates replaced; one of more breaks the row of nodes
+pub found_made : (w : Whole) (i : ℕ) (r : RuleDef) (own : Called) (args : List CorePattern) (iflets : List CoreIfLet) (rhs : CoreExpr) (found : Option CodeRule) → IsHead w r.term own → or_later None (cond (is_large w r) (Some row.ManyNodes) None) ≡ row_of w r
+    → (patterns_of w r).trees ≡ Some args → (conditions_of w r).trees ≡ Some iflets → (right_side_of w r).tree ≡ Some rhs → IsElaborated (templates w) (rule_from w i r own.term args iflets rhs) found → IsRuleFound w i r (found_rule found)
+found_made w i r own args iflets rhs found h lowest trees cs tree e = by found e
   where
     x : CoreRule
     x = rule_from w i r own.term args iflets rhs
@@ -261,12 +245,11 @@ found_made w i r own args iflets rhs ruled found h lowest calls trees cs tree e 
     few : nodes ≤ 4096 → row_of w r ≡ None
     few le = sym lowest ∙ ap (λ b. cond b (Some row.ManyNodes) None) (large ∙ ap not (le-leb nodes 4096 le))
 
-    by : (b : Bool) (o : Option CodeRule) → b ≡ uses_ruled w r → IsElaborated (templates w) x o → IsRuleFound w i r (found_rule b o)
-    by b None ruled more = sym lowest ∙ ap (λ b. cond b (Some row.ManyNodes) None) (large ∙ ap not (above nodes 4096 more))
-    by true (Some y) ruled is = (few is.1, with_ruled w i r (sym ruled))
-    by false (Some y) ruled is = (
+    by : (o : Option CodeRule) → IsElaborated (templates w) x o → IsRuleFound w i r (found_rule o)
+    by None more = sym lowest ∙ ap (λ b. cond b (Some row.ManyNodes) None) (large ∙ ap not (above nodes 4096 more))
+    by (Some y) is = (
       few is.1,
-      sym (ap (λ b. cond b None (rule_pass w i r)) (or_from (is_broken w r) (uses_ruled w r) (ap is_some (few is.1)) (sym ruled)) ∙ ap (option_map (elaborated (templates w))) (written_made w i r own args iflets rhs h trees cs tree) ∙ ap Some (sym is.0)),
+      sym (ap (λ b. cond b None (rule_pass w i r)) (ap is_some (few is.1)) ∙ ap (option_map (elaborated (templates w))) (written_made w i r own args iflets rhs h trees cs tree) ∙ ap Some (sym is.0)),
     )
 
 -- what holds of each good answer
@@ -285,10 +268,9 @@ none_called w (Some s) h = absurd h
 
 -- ---- the rules that are taken
 
--- no rule breaks a row or uses a term that has a rule, and these are the trees
+-- no rule breaks a row, and these are the trees
 pub record AreTaken (w : Whole) (i : ℕ) (rules : List RuleDef) (xs : List CoreRule) : Type 0 where
   pub kept : list_any (is_broken w) rules ≡ false
-  pub calls : list_any (uses_ruled w) rules ≡ false
   pub trees : rules_pass w i rules ≡ Some xs
 
 refused_first : {X : Type 0} (b : Bool) (o : Option X) (x : X) → cond b None o ≡ Some x → (b ≡ false) × (o ≡ Some x)
@@ -296,15 +278,13 @@ refused_first true o x h = absurd cc
 refused_first false o x h = (refl, h)
 
 pub taken_are : (w : Whole) (i : ℕ) (rules : List RuleDef) (xs : List CoreRule) → taken_rules w i rules ≡ Some xs → AreTaken w i rules xs
-taken_are w i [] xs h = record { kept = refl; calls = refl; trees = h }
+taken_are w i [] xs h = record { kept = refl; trees = h }
 taken_are w i (r ∷ rules) xs h =
     let f = first_there (taken_rule w i r) (taken_rules w (i + 1) rules) xs h in
-    let own = refused_first (is_broken w r || uses_ruled w r) (rule_pass w i r) f.first f.here in
-    let k = or_parts (is_broken w r) (uses_ruled w r) own.0 in
+    let own = refused_first (is_broken w r) (rule_pass w i r) f.first f.here in
     let rest = taken_are w (i + 1) rules f.others f.found in
     record {
-      kept = or_from (is_broken w r) (list_any (is_broken w) rules) k.0 rest.kept;
-      calls = or_from (uses_ruled w r) (list_any (uses_ruled w) rules) k.1 rest.calls;
+      kept = or_from (is_broken w r) (list_any (is_broken w) rules) own.0 rest.kept;
       trees = before_both (rule_pass w i r) (rules_pass w (i + 1) rules) f.first f.others own.1 rest.trees ∙ ap Some (sym f.all);
     }
 
@@ -317,6 +297,5 @@ are_taken w i [] xs t = t.trees
 are_taken w i (r ∷ rules) xs t =
     let f = first_there (rule_pass w i r) (rules_pass w (i + 1) rules) xs t.trees in
     let k = or_parts (is_broken w r) (list_any (is_broken w) rules) t.kept in
-    let c = or_parts (uses_ruled w r) (list_any (uses_ruled w) rules) t.calls in
-    let own : taken_rule w i r ≡ Some f.first = kept_rule (is_broken w r || uses_ruled w r) (rule_pass w i r) (or_from (is_broken w r) (uses_ruled w r) k.0 c.0) ∙ f.here in
-    before_both (taken_rule w i r) (taken_rules w (i + 1) rules) f.first f.others own (are_taken w (i + 1) rules f.others (record { kept = k.1; calls = c.1; trees = f.found })) ∙ ap Some (sym f.all)
+    let own : taken_rule w i r ≡ Some f.first = kept_rule (is_broken w r) (rule_pass w i r) k.0 ∙ f.here in
+    before_both (taken_rule w i r) (taken_rules w (i + 1) rules) f.first f.others own (are_taken w (i + 1) rules f.others (record { kept = k.1; trees = f.found })) ∙ ap Some (sym f.all)

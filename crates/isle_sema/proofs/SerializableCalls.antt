@@ -14,7 +14,7 @@ use Rattle.isle_core.specs.declared.types.Term.{Term}
 use Rattle.isle_core.specs.declared.types.TermKind.{TermKind}
 use Rattle.isle_core.specs.declared.types.TermKind.TheVariants as kind
 use Rattle.isle_core.specs.declared.values.Callee.{Callee}
-use Rattle.isle_core.specs.declared.values.Callee.TheVariants.{External}
+use Rattle.isle_core.specs.declared.values.Callee.TheVariants.{External, Internal}
 use Rattle.isle_core.specs.ExternalCall.{IsCall}
 use Rattle.isle_core.specs.PathType.{IsPathOf, ArePathsOf}
 use Rattle.isle_core.specs.Calling.{Calling, ByTurns, ByCases, NoCall, calling, calling_of, calling_by, pure_callee, kind_of, may_be_nothing, AnswersOnce, is_fallible, instance_of, impure, impure_all, impure_bindings}
@@ -48,17 +48,21 @@ some_of (Some x) P h = (x, refl, h)
 -- a term that makes nothing takes turns, where impure calls are allowed, or has cases, answers once and may answer nothing only where that is
 -- allowed; a made one is not called, and makes a value of its type
 pub data IsServed (env : Environment) (allowed : Allowed) (c : Term) : Making → Calling → Type 0 where
-  takes_turns : (name : List ℕ) (kind : ReturnKind) → AnswersOnce kind → (IsTrue (may_be_nothing kind) → IsTrue allowed.nothing) → IsTrue allowed.impure → IsServed env allowed c MakesNothing (ByTurns (External name) kind)
-  has_cases : (name : List ℕ) (kind : ReturnKind) → AnswersOnce kind → (IsTrue (may_be_nothing kind) → IsTrue allowed.nothing) → IsServed env allowed c MakesNothing (ByCases (External name) kind)
+  takes_turns : (callee : Callee) (kind : ReturnKind) → AnswersOnce kind → (IsTrue (may_be_nothing kind) → IsTrue allowed.nothing) → IsTrue allowed.impure → IsServed env allowed c MakesNothing (ByTurns callee kind)
+  has_cases : (callee : Callee) (kind : ReturnKind) → AnswersOnce kind → (IsTrue (may_be_nothing kind) → IsTrue allowed.nothing) → IsServed env allowed c MakesNothing (ByCases callee kind)
   makes_variant : (ty : TypeId) (variant : VariantId) → IsMadeOf env c ty (MakesVariant ty variant) → IsServed env allowed c (MakesVariant ty variant) NoCall
   makes_struct : (ty : TypeId) → IsMadeOf env c ty (MakesStruct ty) → IsServed env allowed c (MakesStruct ty) NoCall
 
 -- a typed term is served by its kind
 served_kind : (env : Environment) (allowed : Allowed) (c : Term) (k : TermKind) → IsTermKind env allowed c k → IsServed env allowed c (making_kind k) (calling_by (kind_of k) (impure_callee env c k) (pure_callee env c k))
-served_kind env allowed c (kind.Decl false false true false (constructor.External func) extractor) h = takes_turns (sym_text env func) return_kind.Option tt h.0 (h.1 refl)
-served_kind env allowed c (kind.Decl false false false false (constructor.External func) extractor) h = takes_turns (sym_text env func) return_kind.Plain tt h.0 (h.1 refl)
-served_kind env allowed c (kind.Decl true false true false (constructor.External func) extractor) h = has_cases (sym_text env func) return_kind.Option tt h.0
-served_kind env allowed c (kind.Decl true false false false (constructor.External func) extractor) h = has_cases (sym_text env func) return_kind.Plain tt h.0
+served_kind env allowed c (kind.Decl false false true recursive (constructor.External func) extractor) h = takes_turns (External (sym_text env func)) return_kind.Option tt h.0 (h.1 refl)
+served_kind env allowed c (kind.Decl false false false recursive (constructor.External func) extractor) h = takes_turns (External (sym_text env func)) return_kind.Plain tt h.0 (h.1 refl)
+served_kind env allowed c (kind.Decl true false true recursive (constructor.External func) extractor) h = has_cases (External (sym_text env func)) return_kind.Option tt h.0
+served_kind env allowed c (kind.Decl true false false recursive (constructor.External func) extractor) h = has_cases (External (sym_text env func)) return_kind.Plain tt h.0
+served_kind env allowed c (kind.Decl false false true recursive constructor.Internal extractor) h = takes_turns (Internal (sym_text env c.name)) return_kind.Option tt h.0 (h.1 refl)
+served_kind env allowed c (kind.Decl false false false recursive constructor.Internal extractor) h = takes_turns (Internal (sym_text env c.name)) return_kind.Plain tt h.0 (h.1 refl)
+served_kind env allowed c (kind.Decl true false true recursive constructor.Internal extractor) h = has_cases (Internal (sym_text env c.name)) return_kind.Option tt h.0
+served_kind env allowed c (kind.Decl true false false recursive constructor.Internal extractor) h = has_cases (Internal (sym_text env c.name)) return_kind.Plain tt h.0
 served_kind env allowed c (kind.Variant ty variant) h = makes_variant ty variant h
 served_kind env allowed c (kind.Struct ty) h = makes_struct ty h
 served_kind env allowed c k h = absurd h
@@ -110,7 +114,7 @@ with_place P vars places x of p new h k ty y c =
 -- ---- paths of right sides
 
 module _ (env : Environment) (t : Term) (allowed : Allowed) (tests : List Test) where
-  -- the answer of an external term has its type
+  -- the answer of a term that is called has its type
   answer_typed : (d : Calling) (kind : ReturnKind) → IsCall kind d → AnswersOnce kind → (term : TermId) (c : Term) (ps : Paths) (k : ℕ) (ty : TypeId) → calling env term ≡ d → slice_get env.terms term.0 ≡ Some c → c.ret_ty ≡ ty → ArePathsOf env t ps c.arg_tys
       → IsPathOf env t (answer_path (ByTurns (External []) kind) (Called term ps k)) ty
   answer_typed d return_kind.Option call once term c ps k ty is there ret are =
@@ -127,8 +131,8 @@ module _ (env : Environment) (t : Term) (allowed : Allowed) (tests : List Test) 
   -- the value of a typed term on paths of its types
   term_typed : {mk : Making} {d : Calling} (term : TermId) (c : Term) (ps : Paths) (k : ℕ) (ty : TypeId) → IsServed env allowed c mk d → calling env term ≡ d → slice_get env.terms term.0 ≡ Some c → c.ret_ty ≡ ty → ArePathsOf env t ps c.arg_tys
       → IsPathOf env t (answer_path d (term_path mk term ps k)) ty
-  term_typed term c ps k ty (takes_turns name kind once fits impure) is there ret are = answer_typed (ByTurns (External name) kind) kind (refl, tt, once) once term c ps k ty is there ret are
-  term_typed term c ps k ty (has_cases name kind once fits) is there ret are = answer_typed (ByCases (External name) kind) kind (refl, tt, once) once term c ps k ty is there ret are
+  term_typed term c ps k ty (takes_turns callee kind once fits impure) is there ret are = answer_typed (ByTurns callee kind) kind (refl, once) once term c ps k ty is there ret are
+  term_typed term c ps k ty (has_cases callee kind once fits) is there ret are = answer_typed (ByCases callee kind) kind (refl, once) once term c ps k ty is there ret are
   term_typed term c ps k ty (makes_variant of variant h) is there ret are = (h.0 ∙ ret, form_paths (form env (MakesVariant of variant)) (form_types env) c.arg_tys ps h.1 are)
   term_typed term c ps k ty (makes_struct of h) is there ret are = (h.0 ∙ ret, form_paths (form env (MakesStruct of)) (form_types env) c.arg_tys ps h.1 are)
 
@@ -176,8 +180,8 @@ module _ (env : Environment) (t : Term) (allowed : Allowed) (tests : List Test) 
 
   -- the value of a term stands on its call, or on its parts
   term_stands : {mk : Making} {d : Calling} (term : TermId) (c : Term) (done : List Path) (ps : Paths) (k : ℕ) → IsServed env allowed c mk d → calling env term ≡ d → AllStandOn env tests done ps → Among (if_ordered d (term_path mk term ps k)) done → StandsOn env tests done (answer_path d (term_path mk term ps k))
-  term_stands term c done ps k (takes_turns name kind once fits impure) is stand a = turn_stands kind (External name) done term ps k is (a (Called term ps k) (head_contained (Called term ps k) []))
-  term_stands term c done ps k (has_cases name kind once fits) is stand a = case_stands kind (External name) done term ps k is stand a
+  term_stands term c done ps k (takes_turns callee kind once fits impure) is stand a = turn_stands kind callee done term ps k is (a (Called term ps k) (head_contained (Called term ps k) []))
+  term_stands term c done ps k (has_cases callee kind once fits) is stand a = case_stands kind callee done term ps k is stand a
   term_stands term c done ps k (makes_variant of variant h) is stand a = stand
   term_stands term c done ps k (makes_struct of h) is stand a = stand
 
@@ -260,19 +264,19 @@ module _ (env : Environment) (t : Term) (allowed : Allowed) (tests : List Test) 
   }
 
   -- a pure call that may be nothing
-  case_serializable : (kind : ReturnKind) (name : List ℕ) (ps done : List Path) (term : TermId) (c : Term) (qs : Paths) (k : ℕ) → AnswersOnce kind → (IsTrue (may_be_nothing kind) → IsTrue allowed.nothing) → calling env term ≡ ByCases (External name) kind → slice_get env.terms term.0 ≡ Some c
-      → ArePathsOf env t qs c.arg_tys → AllStandOn env tests done qs → allowed.nothing ≡ may_be_nothing (kind_of t.kind) → InnersFit ps → Among (with_inner (ByCases (External name) kind) (Called term qs k)) ps → AreSerializableCalls env t tests ps done (if_ordered (ByCases (External name) kind) (Called term qs k))
-  case_serializable return_kind.Plain name ps done term c qs k once fits is there are stand same fit a = tt
-  case_serializable return_kind.Option name ps done term c qs k once fits is there are stand same fit a =
-      (call_serializable (ByCases (External name) return_kind.Option) return_kind.Option ps done term c qs k (refl, tt, tt) refl fits is there are stand same fit (inner_of return_kind.Option (External name) (Called term qs k) ps a), tt)
-  case_serializable return_kind.Iterator name ps done term c qs k once fits is there are stand same fit a = absurd once
+  case_serializable : (kind : ReturnKind) (callee : Callee) (ps done : List Path) (term : TermId) (c : Term) (qs : Paths) (k : ℕ) → AnswersOnce kind → (IsTrue (may_be_nothing kind) → IsTrue allowed.nothing) → calling env term ≡ ByCases callee kind → slice_get env.terms term.0 ≡ Some c
+      → ArePathsOf env t qs c.arg_tys → AllStandOn env tests done qs → allowed.nothing ≡ may_be_nothing (kind_of t.kind) → InnersFit ps → Among (with_inner (ByCases callee kind) (Called term qs k)) ps → AreSerializableCalls env t tests ps done (if_ordered (ByCases callee kind) (Called term qs k))
+  case_serializable return_kind.Plain callee ps done term c qs k once fits is there are stand same fit a = tt
+  case_serializable return_kind.Option callee ps done term c qs k once fits is there are stand same fit a =
+      (call_serializable (ByCases callee return_kind.Option) return_kind.Option ps done term c qs k (refl, tt) refl fits is there are stand same fit (inner_of return_kind.Option callee (Called term qs k) ps a), tt)
+  case_serializable return_kind.Iterator callee ps done term c qs k once fits is there are stand same fit a = absurd once
 
   -- the call of a typed term, if its place counts
   term_serializable : {mk : Making} {d : Calling} (ps done : List Path) (term : TermId) (c : Term) (qs : Paths) (k : ℕ) → IsServed env allowed c mk d → calling env term ≡ d → slice_get env.terms term.0 ≡ Some c → ArePathsOf env t qs c.arg_tys → AllStandOn env tests done qs
       → allowed.nothing ≡ may_be_nothing (kind_of t.kind) → InnersFit ps → Among (with_inner d (term_path mk term qs k)) ps → AreSerializableCalls env t tests ps done (if_ordered d (term_path mk term qs k))
-  term_serializable ps done term c qs k (takes_turns name kind once fits impure) is there are stand same fit a =
-      (call_serializable (ByTurns (External name) kind) kind ps done term c qs k (refl, tt, once) refl fits is there are stand same fit (inner_of kind (External name) (Called term qs k) ps a), tt)
-  term_serializable ps done term c qs k (has_cases name kind once fits) is there are stand same fit a = case_serializable kind name ps done term c qs k once fits is there are stand same fit a
+  term_serializable ps done term c qs k (takes_turns callee kind once fits impure) is there are stand same fit a =
+      (call_serializable (ByTurns callee kind) kind ps done term c qs k (refl, once) refl fits is there are stand same fit (inner_of kind callee (Called term qs k) ps a), tt)
+  term_serializable ps done term c qs k (has_cases callee kind once fits) is there are stand same fit a = case_serializable kind callee ps done term c qs k once fits is there are stand same fit a
   term_serializable ps done term c qs k (makes_variant of variant h) is there are stand same fit a = tt
   term_serializable ps done term c qs k (makes_struct of h) is there are stand same fit a = tt
 

@@ -1,7 +1,6 @@
 -- Parameters, extractors and terms, one after the other: what is left.
-use Rattle.std.proofs.Common.{◌≡◌, ℕ, ◌+◌, ◌<◌, ◌≤◌, Bool, true, false, List, [], ◌∷◌, ◌++◌, length, map, get_or, Option, Some, None, refl, sym, ap, ◌∙◌}
-use Rattle.std.specs.Prelude.{◌||◌, drop, option_map, option_and_then, slice_get}
-use Rattle.std.specs.List.{list_any}
+use Rattle.std.proofs.Common.{◌≡◌, ℕ, ◌+◌, ◌<◌, ◌≤◌, List, [], ◌∷◌, ◌++◌, length, map, get_or, Option, Some, None, refl, sym, ap, ◌∙◌}
+use Rattle.std.specs.Prelude.{drop, option_map, option_and_then, slice_get}
 use Rattle.std.proofs.lemmas.List.{drop_more, drop_all, map-append, append_assoc, append-nil}
 use Rattle.std.proofs.lemmas.Option.{slice_get-map}
 use Rattle.isle_core.specs.declared.TypeId.{TypeId}
@@ -16,11 +15,9 @@ use Rattle.isle_declarations.specs.declared.terms.TermDef.{TermDef}
 use Rattle.isle_declarations.specs.Signatures.{ExtractorDef, extractor_named}
 use Rattle.isle_declarations.specs.Symbols.{index_of, added}
 use Rattle.isle_declarations.proofs.LookUps.{at_place, found_at}
-use Rattle.isle_variables.specs.NewVariables.{joined}
 use Rattle.isle_sema.specs.PatternPass.{later_expected}
 use Rattle.isle_variables.specs.Scope.{Scope, met}
 use Rattle.isle_sema.specs.Fault.{or_later}
-use Rattle.isle_sema.specs.Language.{opens_ruled}
 use Rattle.isle_sema.specs.Templates.{params_met, template_tree, template_for}
 use Rattle.isle_sema.specs.TemplatesChecked.{extractor_row, extractors_fault, tree_of, IsTreeAt, AreTreesAt}
 use Rattle.isle_sema.proofs.NamedExtractors.{is_named, extractor_absent}
@@ -50,32 +47,23 @@ params_all params tys vars i le = ap (λ xs. params_met vars xs (map Some (drop 
 
 -- ---- extractors
 
-or_assoc : (a b c : Bool) → a || (b || c) ≡ (a || b) || c
-or_assoc true b c = refl
-or_assoc false b c = refl
-
 -- the trees of templates
 abbrev pub trees : List (Option CodePattern) → List (Option CorePattern)
 trees ts = map (option_map elaborated) ts
 
 -- what all extractors come to is what was found, and what is left
-pub record AreLeft (w : Whole) (all left : List ExtractorDef) (found : List (Option CodePattern)) (ruled : Bool) : Type 0 where
+pub record AreLeft (w : Whole) (all left : List ExtractorDef) (found : List (Option CodePattern)) : Type 0 where
   pub fault : extractors_fault w all ≡ extractors_fault w left
   pub trees_are : map (tree_of w) all ≡ trees found ++ map (tree_of w) left
-  pub ruled_is : list_any (opens_ruled w) all ≡ ruled || list_any (opens_ruled w) left
 
 -- the extractors from the i-th on are that one and the rest
 extractors_are : (xs : List CodeExtractor) (i : ℕ) (x d : CodeExtractor) → i < length xs → x ≡ get_or xs i d → map seen (drop i xs) ≡ seen x ∷ map seen (drop (i + 1) xs)
 extractors_are xs i x d lt is = ap (map seen) (drop_more xs i d lt ∙ ap (λ y. y ∷ drop (i + 1) xs) (sym is))
 
-or_false : (b : Bool) → b || false ≡ b
-or_false true = refl
-or_false false = refl
-
 -- one that breaks no row
-pub extractor_more : (w : Whole) (all : List ExtractorDef) (xs : List CodeExtractor) (i : ℕ) (found more : List (Option CodePattern)) (ruled after opens : Bool) (x d : CodeExtractor) (t : Option CodePattern) → i < length xs → x ≡ get_or xs i d → more ≡ found ++ t ∷ [] → after ≡ ruled || opens
-    → IsTreeAt w (seen x) t opens → AreLeft w all (map seen (drop i xs)) found ruled → AreLeft w all (map seen (drop (i + 1) xs)) more after
-extractor_more w all xs i found more ruled after opens x d t lt is added joined k h =
+pub extractor_more : (w : Whole) (all : List ExtractorDef) (xs : List CodeExtractor) (i : ℕ) (found more : List (Option CodePattern)) (x d : CodeExtractor) (t : Option CodePattern) → i < length xs → x ≡ get_or xs i d → more ≡ found ++ t ∷ []
+    → IsTreeAt w (seen x) t → AreLeft w all (map seen (drop i xs)) found → AreLeft w all (map seen (drop (i + 1) xs)) more
+extractor_more w all xs i found more x d t lt is added k h =
     let rest = map seen (drop (i + 1) xs) in
     let split = extractors_are xs i x d lt is in
     record {
@@ -83,25 +71,21 @@ extractor_more w all xs i found more ruled after opens x d t lt is added joined 
       trees_are =
           h.trees_are ∙ ap (λ ys. trees found ++ map (tree_of w) ys) split ∙ ap (λ o. trees found ++ o ∷ map (tree_of w) rest) (sym k.tree_is) ∙ sym (append_assoc (trees found) (option_map elaborated t ∷ []) (map (tree_of w) rest))
           ∙ ap (λ ys. ys ++ map (tree_of w) rest) (sym (map-append (option_map elaborated) found (t ∷ [])) ∙ ap trees (sym added));
-      ruled_is =
-          h.ruled_is ∙ ap (λ ys. ruled || list_any (opens_ruled w) ys) split ∙ or_assoc ruled (opens_ruled w (seen x)) (list_any (opens_ruled w) rest)
-          ∙ ap (λ b. b || list_any (opens_ruled w) rest) (ap (λ b. ruled || b) (sym k.ruled_is) ∙ sym joined);
     }
 
 -- one that breaks a row
-pub extractor_broken : (w : Whole) (all : List ExtractorDef) (xs : List CodeExtractor) (i : ℕ) (found : List (Option CodePattern)) (ruled : Bool) (x d : CodeExtractor) (r : Row) → i < length xs → x ≡ get_or xs i d → extractor_row w (seen x) ≡ Some r
-    → AreLeft w all (map seen (drop i xs)) found ruled → extractors_fault w all ≡ Some (r, x.pos)
-extractor_broken w all xs i found ruled x d r lt is broken h =
+pub extractor_broken : (w : Whole) (all : List ExtractorDef) (xs : List CodeExtractor) (i : ℕ) (found : List (Option CodePattern)) (x d : CodeExtractor) (r : Row) → i < length xs → x ≡ get_or xs i d → extractor_row w (seen x) ≡ Some r
+    → AreLeft w all (map seen (drop i xs)) found → extractors_fault w all ≡ Some (r, x.pos)
+extractor_broken w all xs i found x d r lt is broken h =
     h.fault ∙ ap (extractors_fault w) (extractors_are xs i x d lt is) ∙ ap (λ o. or_later (option_map (λ (y : Row). (y, x.pos)) o) (extractors_fault w (map seen (drop (i + 1) xs)))) broken
 
 -- after the last
-pub extractors_end : (w : Whole) (all : List ExtractorDef) (xs : List CodeExtractor) (i : ℕ) (found : List (Option CodePattern)) (ruled : Bool) → length xs ≤ i → AreLeft w all (map seen (drop i xs)) found ruled → AreTreesAt w all found ruled
-extractors_end w all xs i found ruled le h =
+pub extractors_end : (w : Whole) (all : List ExtractorDef) (xs : List CodeExtractor) (i : ℕ) (found : List (Option CodePattern)) → length xs ≤ i → AreLeft w all (map seen (drop i xs)) found → AreTreesAt w all found
+extractors_end w all xs i found le h =
     let none : map seen (drop i xs) ≡ [] = ap (map seen) (drop_all i xs le) in
     record {
       sound = h.fault ∙ ap (extractors_fault w) none;
       trees_are = sym (h.trees_are ∙ ap (λ ys. trees found ++ map (tree_of w) ys) none ∙ append-nil (trees found));
-      ruled_is = sym (h.ruled_is ∙ ap (λ ys. ruled || list_any (opens_ruled w) ys) none ∙ or_false ruled);
     }
 
 -- ---- the template at a place

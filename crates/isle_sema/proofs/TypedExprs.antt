@@ -58,10 +58,6 @@ use Rattle.isle_sema.proofs.TypedTerms.{IsPlainTerm, plain_terms}
 
 -- ---- the kind of a term that is called
 
-first_true : (a b : Bool) → a || b ≡ true → b ≡ false → a ≡ true
-first_true true b h none = refl
-first_true false b h none = let bad : true ≡ false = sym h ∙ none in absurd cc
-
 allowed_where : (allowed partial : Bool) → not allowed && partial ≡ false → IsTrue partial → IsTrue allowed
 allowed_where true partial h is = refl
 allowed_where false true h is = cc
@@ -71,30 +67,25 @@ allowed_where false false h is = is
 abbrev Fits : Allowed → (pure partial : Bool) → Type 0
 Fits allowed pure partial = (IsTrue partial → IsTrue allowed.nothing) × (IsTrue (not pure) → IsTrue allowed.impure)
 
-flagless : (env : Environment) (t : Term) (allowed : Allowed) (pure partial has : Bool) (syms : List (List ℕ)) (func : Option (List ℕ)) (how : ExtractorKind) → is_some func ≡ true → Fits allowed pure partial
-    → IsTermKind env allowed t (kind.Decl pure false partial false (constructor_of syms func has) how)
-flagless env t allowed pure partial has syms None how some h = absurd cc
-flagless env t allowed pure partial has syms (Some func) how some h = h
-
--- a plain term that has an external constructor
-external_kind : (env : Environment) (t : Term) (allowed : Allowed) (pure multi recursive partial has : Bool) (syms : List (List ℕ)) (func : Option (List ℕ)) (how : ExtractorKind) → multi ≡ false → recursive ≡ false → is_some func ≡ true → Fits allowed pure partial
+-- a plain term that has an external constructor or a rule
+declared_kind : (env : Environment) (t : Term) (allowed : Allowed) (pure multi recursive partial has : Bool) (syms : List (List ℕ)) (func : Option (List ℕ)) (how : ExtractorKind) → multi ≡ false → is_some func || has ≡ true → Fits allowed pure partial
     → IsTermKind env allowed t (kind.Decl pure multi partial recursive (constructor_of syms func has) how)
-external_kind env t allowed pure false false partial has syms func how m r some h = flagless env t allowed pure partial has syms func how some h
-external_kind env t allowed pure true recursive partial has syms func how m r some h = absurd cc
-external_kind env t allowed pure false true partial has syms func how m r some h = absurd cc
+declared_kind env t allowed pure true recursive partial has syms func how m some h = absurd cc
+declared_kind env t allowed pure false recursive partial has syms (Some func) how m some h = h
+declared_kind env t allowed pure false recursive partial true syms None how m some h = h
+declared_kind env t allowed pure false recursive partial false syms None how m some h = absurd cc
 
--- a term that has a constructor and no rule is made or external
+-- a term that has a constructor is made, or has an external one or a rule
 kind_typed : (defs : List Def) (env : Environment) (allowed : Allowed) (i : ℕ) (s : Signature) (t : Term) (from : Origin) → IsTypedIn defs env → slice_get env.terms i ≡ Some t → IsPlainTerm s → s.origin ≡ from → kind_from (whole_of defs) s t.ret_ty s.origin ≡ t.kind
-    → has_constructor (whole_of defs) s ≡ true → has_rule (rule_defs defs) s.term ≡ false → not allowed.nothing && s.partial ≡ false → not allowed.impure && not s.pure ≡ false → IsTermKind env allowed t t.kind
-kind_typed defs env allowed i s t origin.Declared g at plain is same has ruled partial impure =
+    → has_constructor (whole_of defs) s ≡ true → not allowed.nothing && s.partial ≡ false → not allowed.impure && not s.pure ≡ false → IsTermKind env allowed t t.kind
+kind_typed defs env allowed i s t origin.Declared g at plain is same has partial impure =
     let func = func_named (externs defs) s.term in
-    let flags = plain (ap is_made is) in
-    let either : is_made s.origin || is_some func ≡ true = first_true (is_made s.origin || is_some func) (has_rule (rule_defs defs) s.term) has ruled in
-    let external : is_some func ≡ true = ap (λ o. is_made o || is_some func) (sym is) ∙ either in
+    let ruled = has_rule (rule_defs defs) s.term in
+    let either : is_some func || ruled ≡ true = ap (λ o. is_made o || is_some func || ruled) (sym is) ∙ has in
     subst (IsTermKind env allowed t) (ap (kind_from (whole_of defs) s t.ret_ty) (sym is) ∙ same)
-    (external_kind env t allowed s.pure s.multi s.recursive s.partial (has_rule (rule_defs defs) s.term) (type_env_of defs).syms func (extracting_named (whole_of defs) s.term) flags.multi flags.recursive external (allowed_where allowed.nothing s.partial partial, allowed_where allowed.impure (not s.pure) impure))
-kind_typed defs env allowed i s t (origin.Variant number) g at plain is same has ruled partial impure = made_term defs env i t g g.types_kept at (ap is_made_kind (sym (ap (kind_from (whole_of defs) s t.ret_ty) (sym is) ∙ same))) allowed
-kind_typed defs env allowed i s t origin.Struct g at plain is same has ruled partial impure = made_term defs env i t g g.types_kept at (ap is_made_kind (sym (ap (kind_from (whole_of defs) s t.ret_ty) (sym is) ∙ same))) allowed
+    (declared_kind env t allowed s.pure s.multi s.recursive s.partial ruled (type_env_of defs).syms func (extracting_named (whole_of defs) s.term) (plain (ap is_made is)) either (allowed_where allowed.nothing s.partial partial, allowed_where allowed.impure (not s.pure) impure))
+kind_typed defs env allowed i s t (origin.Variant number) g at plain is same has partial impure = made_term defs env i t g g.types_kept at (ap is_made_kind (sym (ap (kind_from (whole_of defs) s t.ret_ty) (sym is) ∙ same))) allowed
+kind_typed defs env allowed i s t origin.Struct g at plain is same has partial impure = made_term defs env i t g g.types_kept at (ap is_made_kind (sym (ap (kind_from (whole_of defs) s t.ret_ty) (sym is) ∙ same))) allowed
 
 -- ---- a call
 
@@ -103,7 +94,6 @@ record IsKeptCall (w : Whole) (allowed : Allowed) (ty : TypeId) (s : Signature) 
   many : count ≡ length s.args
   has : has_constructor w s ≡ true
   typed : differ (type_named w.defs s.ret) (Some ty) ≡ false
-  ruled : has_rule (rule_defs w.defs) s.term ≡ false
   partial : not allowed.nothing && s.partial ≡ false
   impure : not allowed.impure && not s.pure ≡ false
 
@@ -118,7 +108,6 @@ kept_call w allowed ty s count k =
       many = eqb-true count (length s.args) (not-false (count == length s.args) u.0);
       has = not-false (has_constructor w s) u.1;
       typed = (or_parts (differ (type_named w.defs s.ret) (Some ty)) false k.typed).0;
-      ruled = (or_parts (has_rule (rule_defs w.defs) s.term) false k.ruled).0;
       partial = guarded_first allowed.nothing s.partial false k.partial;
       impure = guarded_first allowed.impure (not s.pure) false k.impure;
     }
@@ -157,9 +146,9 @@ ArgsTyped defs env allowed locals vars next es = (tys : List TypeId) (xs : CoreE
 
 -- a call of a term of this signature, on arguments of its types
 called_typed : (defs : List Def) (env : Environment) (allowed : Allowed) (vars : List (TypeId × ℕ)) (ty of : TypeId) (name : List ℕ) (s : Signature) (number : TermId) (args : CoreExprs) → IsTypedIn defs env → termed (whole_of defs) name ≡ Some s → term_named (terms defs) name ≡ Some number
-    → has_constructor (whole_of defs) s ≡ true → has_rule (rule_defs defs) s.term ≡ false → not allowed.nothing && s.partial ≡ false → not allowed.impure && not s.pure ≡ false → type_named defs s.ret ≡ Some of → of ≡ ty
+    → has_constructor (whole_of defs) s ≡ true → not allowed.nothing && s.partial ≡ false → not allowed.impure && not s.pure ≡ false → type_named defs s.ret ≡ Some of → of ≡ ty
     → ((tys : List TypeId) → map (type_named defs) s.args ≡ map Some tys → AreExprsOf env allowed vars tys args) → IsExprOf env allowed vars ty (core_expr.Term of number args)
-called_typed defs env allowed vars ty of name s number args g is numbered has ruled partial impure ret gives typed =
+called_typed defs env allowed vars ty of name s number args g is numbered has partial impure ret gives typed =
     let w = whole_of defs in
     let at = signature_at w name s number is numbered in
     let m = term_made w (terms defs) env.terms number.0 s g.terms at in
@@ -167,7 +156,7 @@ called_typed defs env allowed vars ty of name s number args g is numbered has ru
     let same : m.term.ret_ty ≡ ty = same_Some m.term.ret_ty of (sym t.ret ∙ ret) ∙ gives in
     let takes = typed m.term.arg_tys (types_are defs s.args m.term.arg_tys t.args) in
     let plain = all_at IsPlainTerm (terms defs) number.0 s (plain_terms defs g.built) at in
-    let made = kind_typed defs env allowed number.0 s m.term s.origin g m.there plain refl (ap (λ (u : Term). u.kind) t.is) has ruled partial impure in
+    let made = kind_typed defs env allowed number.0 s m.term s.origin g m.there plain refl (ap (λ (u : Term). u.kind) t.is) has partial impure in
     (gives, subst (λ (o : Option Term). IsSomeAnd o (λ (u : Term). IsTermKind env allowed u u.kind × (u.ret_ty ≡ ty) × AreExprsOf env allowed vars u.arg_tys args)) (sym m.there) (made, same, takes))
 
 call_typed : (defs : List Def) (env : Environment) (allowed : Allowed) (locals : List Local) (vars : List (TypeId × ℕ)) (next : ℕ) (ty : TypeId) (name : List ℕ) (es : Exprs) (x : CoreExpr) (o : Option Signature) → IsOver defs env locals vars next → termed (whole_of defs) name ≡ o
@@ -180,7 +169,7 @@ call_typed defs env allowed locals vars next ty name es x (Some s) over is kept 
     let own = kept_call w allowed ty s (count_of es) k.0 in
     let c = call_is (type_named defs s.ret) (term_named (terms defs) name) (exprs_pass w locals next (map (type_named defs) s.args) es).trees x h in
     let gives : c.of ≡ ty = same_type c.of ty (ap (λ o. differ o (Some ty)) (sym c.of_is) ∙ own.typed) in
-    subst (IsExprOf env allowed vars ty) c.is (called_typed defs env allowed vars ty c.of name s c.number c.args over.given is c.number_is own.has own.ruled own.partial own.impure c.of_is gives
+    subst (IsExprOf env allowed vars ty) c.is (called_typed defs env allowed vars ty c.of name s c.number c.args over.given is c.number_is own.has own.partial own.impure c.of_is gives
     (λ tys are.
     let count : count_of es ≡ length tys = own.many ∙ sym (length-map s.args (type_named defs)) ∙ ap length are ∙ length-map tys Some in
     args_typed tys c.args count (ap (λ os. (exprs_pass w locals next os es).trees) (sym are) ∙ c.args_are) (subst (λ (os : List (Option TypeId)). AreKept w allowed (exprs_pass w locals next os es).sites) are k.1)))
@@ -197,7 +186,7 @@ converter_typed defs env allowed vars ty of s e x g is kept typed h =
     let t = call_is (type_named defs s.ret) (term_named (terms defs) s.term) (option_map (λ (y : CoreExpr). core_expr.AnExpr y core_expr.NoExpr) e) x h in
     let m = mapped (λ (y : CoreExpr). core_expr.AnExpr y core_expr.NoExpr) e t.args t.args_are in
     let gives : t.of ≡ ty = same_Some t.of ty (sym t.of_is ∙ c.ret) in
-    subst (IsExprOf env allowed vars ty) t.is (called_typed defs env allowed vars ty t.of s.term s t.number t.args g c.there t.number_is own.has own.ruled own.partial own.impure t.of_is gives
+    subst (IsExprOf env allowed vars ty) t.is (called_typed defs env allowed vars ty t.of s.term s t.number t.args g c.there t.number_is own.has own.partial own.impure t.of_is gives
     (λ tys are. subst (AreExprsOf env allowed vars tys) m.is (one_typed m.from tys (sym c.args ∙ are) (typed m.from m.there))))
   where
     one_typed : (y : CoreExpr) (tys : List TypeId) → Some of ∷ [] ≡ map Some tys → IsExprOf env allowed vars of y → AreExprsOf env allowed vars tys (core_expr.AnExpr y core_expr.NoExpr)
@@ -344,7 +333,7 @@ record AreTypedLets (defs : List Def) (env : Environment) (allowed : Allowed) (v
 
 -- what a variable of a `let` and what is behind it keep
 bound_kept : (w : Whole) (allowed : Allowed) (ty : Option TypeId) (sites : List Site) → AreKept w allowed (BoundAt ty ∷ sites) → AreKept w allowed sites
-bound_kept w allowed ty sites k = record { placed = k.placed; known = k.known; typed = (or_parts (not (is_some ty)) (list_any (is_mistyped w) sites) k.typed).1; ruled = k.ruled; partial = k.partial; impure = k.impure }
+bound_kept w allowed ty sites k = record { placed = k.placed; known = k.known; typed = (or_parts (not (is_some ty)) (list_any (is_mistyped w) sites) k.typed).1; partial = k.partial; impure = k.impure }
 
 -- a variable of the type that is expected
 variable_typed : (defs : List Def) (env : Environment) (allowed : Allowed) (locals : List Local) (vars : List (TypeId × ℕ)) (next : ℕ) (ty : TypeId) (name : List ℕ) (x : CoreExpr) → IsOver defs env locals vars next → local_tree (local_named locals name) ≡ Some x
@@ -371,7 +360,7 @@ named_typed defs env allowed vars ty name x g h kept =
     subst (IsExprOf env allowed vars ty) m.is (is, at)
 
 mutual
-  -- an expression whose parts break no row, and use no term that has a rule, is of the type that is expected
+  -- an expression whose parts break no row is of the type that is expected
   pub expr_typed : (defs : List Def) (env : Environment) (allowed : Allowed) (locals : List Local) (vars : List (TypeId × ℕ)) (next : ℕ) (ty : TypeId) (e : Expr) (x : CoreExpr) → IsOver defs env locals vars next → (expr_pass (whole_of defs) locals next (Some ty) e).tree ≡ Some x
       → AreKept (whole_of defs) allowed (expr_pass (whole_of defs) locals next (Some ty) e).sites → IsExprOf env allowed vars ty x
   expr_typed defs env allowed locals vars next ty (tree.Number n) x over h kept =
@@ -392,7 +381,7 @@ mutual
       let bound = lets_pass w locals next ls in
       let result = expr_pass w bound.locals bound.next (Some ty) inner in
       let m = let_is bound.trees result.tree x h in
-      let k = kept_parts w allowed bound.sites result.sites (record { placed = kept.placed; known = kept.known; typed = kept.typed; ruled = kept.ruled; partial = kept.partial; impure = kept.impure }) in
+      let k = kept_parts w allowed bound.sites result.sites (record { placed = kept.placed; known = kept.known; typed = kept.typed; partial = kept.partial; impure = kept.impure }) in
       let b = lets_typed defs env allowed locals vars next ls m.bindings over m.bindings_are k.0 in
       let typed = expr_typed defs env allowed bound.locals (let_variables vars m.bindings) bound.next ty inner m.inner b.over m.inner_is k.1 in
       subst (IsExprOf env allowed vars ty) m.is (type_is env allowed (let_variables vars m.bindings) ty m.inner typed, b.typed, typed)

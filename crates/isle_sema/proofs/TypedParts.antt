@@ -1,19 +1,18 @@
 -- The parts of what typed definitions are, and what their environment is.
 use Rattle.std.proofs.Common.{◌≡◌, Bool, true, false, cond, List, Option, Some, None, refl, sym, ap, ◌∙◌}
-use Rattle.std.specs.Prelude.{◌||◌, not, option_map, option_and_then}
-use Rattle.std.specs.List.{list_all, list_any}
-use Rattle.std.proofs.lemmas.Bool.{and_parts, or_parts, not-true}
+use Rattle.std.specs.Prelude.{option_map, option_and_then}
+use Rattle.std.specs.List.{list_all}
 use Rattle.std.proofs.lemmas.Option.{same_Some}
 use Rattle.isle_core.specs.declared.TermId.{TermId}
 use Rattle.isle_core.specs.declared.TypeId.{TypeId}
 use Rattle.isle_core.specs.declared.types.Term.{Term}
 use Rattle.isle_core.specs.Rule.{Rule, Environment}
 use Rattle.isle_ast.specs.Tree.{Def}
-use Rattle.isle_declarations.specs.Signatures.{extractors, rule_defs}
+use Rattle.isle_declarations.specs.Signatures.{rule_defs}
 use Rattle.isle_declarations.specs.Terms.{terms}
 use Rattle.isle_types.specs.TypeEnvironment.{type_env_of}
 use Rattle.isle_types.specs.Fault.{type_fault}
-use Rattle.isle_sema.specs.Language.{is_built_def, opens_ruled, uses_ruled}
+use Rattle.isle_sema.specs.Language.{is_built_def}
 use Rattle.isle_sema.specs.Templates.{are_treed}
 use Rattle.isle_sema.specs.RulePass.{rules_pass}
 use Rattle.isle_sema.specs.Fault.{OfTypes, OfTerms, OfExtractors, OfRules, or_later, fault_in, later_fault}
@@ -28,8 +27,6 @@ use Rattle.isle_sema.proofs.Firsts.{stages_none, none_stages}
 -- what typed definitions keep, and what their environment has
 pub record IsTypedIn (defs : List Def) (env : Environment) : Type 0 where
   pub built : list_all is_built_def defs ≡ true
-  pub opening : list_any (opens_ruled (whole_of defs)) (extractors defs) ≡ false
-  pub unruled : list_any (uses_ruled (whole_of defs)) (rule_defs defs) ≡ false
   pub types_kept : fault_in OfTypes (whole_of defs) ≡ None
   pub terms_kept : fault_in OfTerms (whole_of defs) ≡ None
   pub extractors_kept : fault_in OfExtractors (whole_of defs) ≡ None
@@ -65,21 +62,14 @@ guarded false o x h = absurd cc
 
 pub typed_in : {defs : List Def} {env : Environment} → Typed defs env → IsTypedIn defs env
 typed_in {defs = defs} {env = env} t =
-    let forms = list_all is_built_def defs in
     let w = whole_of defs in
-    let opening = list_any (opens_ruled w) (extractors defs) in
-    let calling = list_any (uses_ruled w) (rule_defs defs) in
-    let a = and_parts forms (not (opening || calling)) t.built in
-    let r = or_parts opening calling (not-true (opening || calling) a.1) in
     let s = stages_none (fault_in OfTypes w) (or_later (fault_in OfTerms w) (or_later (fault_in OfExtractors w) (fault_in OfRules w))) t.sound in
     let u = stages_none (fault_in OfTerms w) (or_later (fault_in OfExtractors w) (fault_in OfRules w)) s.1 in
     let v = stages_none (fault_in OfExtractors w) (fault_in OfRules w) u.1 in
     let d = guarded (are_treed w) (option_and_then (env_with w) (terms_pass w (terms defs))) env t.given in
     let e = env_parts w (terms_pass w (terms defs)) env d.1 in
     record {
-      built = a.0;
-      opening = r.0;
-      unruled = r.1;
+      built = t.built;
       types_kept = s.0;
       terms_kept = u.0;
       extractors_kept = v.0;

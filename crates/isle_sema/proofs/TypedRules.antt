@@ -30,7 +30,6 @@ use Rattle.isle_declarations.specs.declared.terms.Origin.TheVariants as origin
 use Rattle.isle_declarations.proofs.LookUps.{at_place, named_at}
 use Rattle.isle_declarations.proofs.SymbolLaws.{index_below}
 use Rattle.isle_types.specs.TypeRows.{on}
-use Rattle.isle_sema.specs.Language.{is_ruled, uses_ruled}
 use Rattle.isle_variables.specs.Locals.{of_patterns}
 use Rattle.isle_variables.specs.Scope.{no_variables}
 use Rattle.isle_terms.specs.TypeNames.{type_named}
@@ -109,7 +108,7 @@ may_answer pure false false recursive by extractor h = refl
 may_answer pure true partial recursive by extractor h = absurd cc
 
 kind_answers : (w : Whole) (s : Signature) (ret : TypeId) (from : Origin) (k : TermKind) → (is_made from ≡ false → IsPlain s) → (is_made from ≡ true → s.partial ≡ false) → kind_from w s ret from ≡ k → may_be_nothing (kind_of k) ≡ s.partial
-kind_answers w s ret origin.Declared k plain answers is = ap (λ (x : TermKind). may_be_nothing (kind_of x)) (sym is) ∙ may_answer s.pure s.multi s.partial s.recursive (constructor_named w s.term) (extracting_named w s.term) (plain refl).multi
+kind_answers w s ret origin.Declared k plain answers is = ap (λ (x : TermKind). may_be_nothing (kind_of x)) (sym is) ∙ may_answer s.pure s.multi s.partial s.recursive (constructor_named w s.term) (extracting_named w s.term) (plain refl)
 kind_answers w s ret (origin.Variant number) k plain answers is = ap (λ (x : TermKind). may_be_nothing (kind_of x)) (sym is) ∙ sym (answers refl)
 kind_answers w s ret origin.Struct k plain answers is = ap (λ (x : TermKind). may_be_nothing (kind_of x)) (sym is) ∙ sym (answers refl)
 
@@ -119,8 +118,8 @@ pub counted : (ps : List Pattern) → count_of (seen_patterns ps) ≡ length ps
 counted [] = refl
 counted (p ∷ ps) = ap suc (counted ps)
 
-rule_is_typed : (defs : List Def) (env : Environment) (i : ℕ) (r : RuleDef) (x : Rule) → IsTypedIn defs env → row_of (whole_of defs) r ≡ None → uses_ruled (whole_of defs) r ≡ false → rule_pass (whole_of defs) i r ≡ Some x → IsTypedRule env x
-rule_is_typed defs env i r x g row unruled h =
+rule_is_typed : (defs : List Def) (env : Environment) (i : ℕ) (r : RuleDef) (x : Rule) → IsTypedIn defs env → row_of (whole_of defs) r ≡ None → rule_pass (whole_of defs) i r ≡ Some x → IsTypedRule env x
+rule_is_typed defs env i r x g row h =
     let w = whole_of defs in
     let m = rule_made w i r x h in
     let y = m.written in
@@ -138,7 +137,6 @@ rule_is_typed defs env i r x g row unruled h =
     let p = any_parts (is_misplaced w) (left_of w r) rs f.literal in
     let u = any_parts (is_unknown w) (left_of w r) rs f.name in
     let v = any_parts (is_mistyped w) (left_of w r) rs f.typing in
-    let used = any_parts (is_ruled w) (left_of w r) rs unruled in
     let patterns : patterns_pass w (map Some t.term.arg_tys) no_variables (seen_patterns r.args) ≡ patterns_of w r =
     ap (λ os. patterns_pass w os no_variables (seen_patterns r.args)) (sym tys) ∙ ap (λ o. patterns_pass w (arg_types w o) no_variables (seen_patterns r.args)) (sym d.1) in
     let scope = (conditions_of w r).scope in
@@ -158,8 +156,8 @@ rule_is_typed defs env i r x g row unruled h =
       declared = (any_parts is_undeclared (left_of w r) rs f.constants).0;
       again = (any_parts is_met_otherwise (left_of w r) rs f.met).0;
     } in
-    let before : AreKept w in_condition (left_of w r) = record { placed = p.0; known = u.0; typed = v.0; ruled = used.0; partial = refl; impure = f.condition } in
-    let kept : AreKept w (in_right_side s.partial) rs = record { placed = p.1; known = u.1; typed = v.1; ruled = used.1; partial = calls; impure = refl } in
+    let before : AreKept w in_condition (left_of w r) = record { placed = p.0; known = u.0; typed = v.0; partial = refl; impure = f.condition } in
+    let kept : AreKept w (in_right_side s.partial) rs = record { placed = p.1; known = u.1; typed = v.1; partial = calls; impure = refl } in
     let halves = taken_parts w ps cs well in
     let k = knows defs env g in
     let conditions = conditions_typed defs env (patterns_of w r).scope (all_typed y.args) r.iflets y.iflets g k (patterns_stage w (arg_types w (termed w r.term)) (seen_patterns r.args) y.args m.args) m.iflets (kept_parts w in_condition ps cs before).1 halves.1 in
@@ -178,21 +176,20 @@ rule_is_typed defs env i r x g row unruled h =
     }
 
 rules_typed : (defs : List Def) (env : Environment) (i : ℕ) (rules : List RuleDef) (xs : List Rule) → IsTypedIn defs env → list_any (is_broken (whole_of defs)) rules ≡ false
-    → list_any (uses_ruled (whole_of defs)) rules ≡ false → rules_pass (whole_of defs) i rules ≡ Some xs → AllByRecursion (IsTypedRule env) xs
-rules_typed defs env i [] xs g rows unruled h = subst (AllByRecursion (IsTypedRule env)) (same_Some [] xs h) tt
-rules_typed defs env i (r ∷ rules) xs g rows unruled h =
+    → rules_pass (whole_of defs) i rules ≡ Some xs → AllByRecursion (IsTypedRule env) xs
+rules_typed defs env i [] xs g rows h = subst (AllByRecursion (IsTypedRule env)) (same_Some [] xs h) tt
+rules_typed defs env i (r ∷ rules) xs g rows h =
     let w = whole_of defs in
     let f = first_there (rule_pass w i r) (rules_pass w (i + 1) rules) xs h in
     let k = or_parts (is_broken w r) (list_any (is_broken w) rules) rows in
-    let c = or_parts (uses_ruled w r) (list_any (uses_ruled w) rules) unruled in
     subst (AllByRecursion (IsTypedRule env)) (sym f.all)
-    (rule_is_typed defs env i r f.first g (none_is (row_of w r) k.0) c.0 f.here, rules_typed defs env (i + 1) rules f.others g k.1 c.1 f.found)
+    (rule_is_typed defs env i r f.first g (none_is (row_of w r) k.0) f.here, rules_typed defs env (i + 1) rules f.others g k.1 f.found)
 
 -- the rules of an environment are typed
 pub typed_rules : (defs : List Def) (env : Environment) → Typed defs env → All (IsTypedRule env) env.rules
 typed_rules defs env t =
     let g = typed_in t in
-    All-from_recursion (IsTypedRule env) env.rules (rules_typed defs env 0 (rule_defs defs) env.rules g (none_fault (whole_of defs) [] defs g.rules_kept) g.unruled g.rules)
+    All-from_recursion (IsTypedRule env) env.rules (rules_typed defs env 0 (rule_defs defs) env.rules g (none_fault (whole_of defs) [] defs g.rules_kept) g.rules)
 
 -- ---- the rules of a term
 

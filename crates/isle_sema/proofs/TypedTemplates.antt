@@ -79,7 +79,7 @@ alone_at : (defs : List Def) (env : Environment) (i : ℕ) (s : Signature) → I
 alone_at defs env i s g at = term_alone (terms defs) s (names_apart defs env g) (contained_at (terms defs) i s at)
 
 -- and its name's number is its place
-number_at : (defs : List Def) (env : Environment) (i : ℕ) (s : Signature) → IsTypedIn defs env → slice_get (terms defs) i ≡ Some s → term_named (terms defs) s.term ≡ Some (record { 0 = i })
+pub number_at : (defs : List Def) (env : Environment) (i : ℕ) (s : Signature) → IsTypedIn defs env → slice_get (terms defs) i ≡ Some s → term_named (terms defs) s.term ≡ Some (record { 0 = i })
 number_at defs env i s g at =
     ap (option_map (λ (n : ℕ). record { 0 = n }))
     (place_is (terms_of (terms defs)) i s.term (names_apart defs env g) (slice_get-map (λ (y : Signature). y.term) (terms defs) i ∙ ap (option_map (λ (y : Signature). y.term)) at))

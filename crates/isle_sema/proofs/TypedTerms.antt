@@ -1,9 +1,9 @@
 -- What the terms of an environment are to its definitions.
 use Rattle.std.proofs.Common.{◌≡◌, ℕ, zero, suc, ◌+◌, ◌<◌, ◌≤◌, Bool, true, false, List, [], ◌∷◌, ◌++◌, length, map, Option, Some, None, refl, sym, ap, ◌∙◌, subst, arith}
-use Rattle.std.specs.Prelude.{◌&&◌, not, Contains, filter_map, is_some, option_map, slice_get, nat_le}
+use Rattle.std.specs.Prelude.{not, Contains, filter_map, is_some, option_map, slice_get, nat_le}
 use Rattle.std.specs.List.{AllByRecursion, IsDistinct, list_all, list_any, range_with_len}
 use Rattle.std.specs.Str.{bytes_eq}
-use Rattle.std.proofs.lemmas.Bool.{and_parts, or_parts, not-false}
+use Rattle.std.proofs.lemmas.Bool.{and_parts, or_parts, not-false, not-true}
 use Rattle.std.proofs.lemmas.Bool.Decides.{nat_tests}
 use Rattle.std.proofs.lemmas.List.{length-map}
 use Rattle.std.proofs.lemmas.List.Elements.{All-from_recursion, All-filter, All-contains}
@@ -47,7 +47,7 @@ use Rattle.isle_terms.specs.TermPass.{types_named, constructor_named, extracting
 use Rattle.isle_sema.specs.Language.{is_built_def}
 use Rattle.isle_terms.specs.TypeNames.{type_named}
 use Rattle.isle_sema.specs.Typing.{Typed}
-use Rattle.isle_sema.proofs.BuiltForms.{IsPlain, plain_flags}
+use Rattle.isle_sema.proofs.BuiltForms.{IsPlain}
 use Rattle.isle_terms.proofs.MadeTerms.{first_there, made_of, term_is, types_are, all_at}
 use Rattle.isle_sema.proofs.NamesApart.{made_apart, terms_apart, declared_unmade}
 use Rattle.isle_sema.proofs.TermFaults.{has_too_many, terms_kept}
@@ -68,10 +68,10 @@ body_all P ty (Struct fields) pos rest own h = (own _ refl refl, h)
 
 -- ---- its kind
 
-pub plain_kind : (pure multi partial recursive : Bool) (by : ConstructorKind) (how : ExtractorKind) → multi ≡ false → recursive ≡ false → kind.Decl pure false partial false by how ≡ kind.Decl pure multi partial recursive by how
-plain_kind pure multi partial recursive by how m r = ap (λ b. kind.Decl pure b partial false by how) (sym m) ∙ ap (λ b. kind.Decl pure multi partial b by how) (sym r)
+pub plain_kind : (pure multi partial recursive : Bool) (by : ConstructorKind) (how : ExtractorKind) → multi ≡ false → kind.Decl pure false partial recursive by how ≡ kind.Decl pure multi partial recursive by how
+plain_kind pure multi partial recursive by how m = ap (λ b. kind.Decl pure b partial recursive by how) (sym m)
 
--- a term that no type makes is neither `multi` nor `rec`
+-- a term that no type makes is not `multi`
 abbrev pub IsPlainTerm : Signature → Type 0
 IsPlainTerm s = is_made s.origin ≡ false → IsPlain s
 
@@ -81,9 +81,8 @@ made_plain s pos made at other = let bad : true ≡ false = sym made ∙ other i
 pub plain_terms : (ds : List Def) → list_all is_built_def ds ≡ true → AllByRecursion IsPlainTerm (terms ds)
 plain_terms [] h = tt
 plain_terms (tree.Decl term pure multi partial recursive args ret pos ∷ ds) h =
-    let k = and_parts (not multi && not recursive) (list_all is_built_def ds) h in
-    let f = plain_flags multi recursive k.0 in
-    (λ e. record { multi = f.0; recursive = f.1 }, plain_terms ds k.1)
+    let k = and_parts (not multi) (list_all is_built_def ds) h in
+    (λ e. not-true multi k.0, plain_terms ds k.1)
 plain_terms (tree.TypeDecl name is_extern is_nodebug body pos ∷ ds) h = body_all IsPlainTerm name body pos (terms ds) (λ s made at. made_plain s pos made at) (plain_terms ds h)
 plain_terms (tree.ExternConstructor term func pos ∷ ds) h = plain_terms ds h
 plain_terms (tree.Rule name prio term args iflets rhs pos ∷ ds) h = plain_terms ds (and_parts (is_built_def (tree.Rule name prio term args iflets rhs pos)) (list_all is_built_def ds) h).1
@@ -93,30 +92,31 @@ plain_terms (tree.Extractor term params template pos ∷ ds) h = plain_terms ds 
 plain_terms (tree.Converter from to term pos ∷ ds) h = plain_terms ds h
 plain_terms (tree.Passed head items pos ∷ ds) h = plain_terms ds h
 
--- a term of this kind is declared, and neither `multi` nor `rec`
+-- a term of this kind is declared, and not `multi`
 pub record IsPlainKind (k : TermKind) : Type 0 where
   pub pure : Bool
   pub partial : Bool
+  pub recursive : Bool
   pub by : ConstructorKind
   pub how : ExtractorKind
-  pub is : kind.Decl pure false partial false by how ≡ k
+  pub is : kind.Decl pure false partial recursive by how ≡ k
 
 kind_plain : (w : Whole) (s : Signature) (ret : TypeId) (from : Origin) (k : TermKind) → (is_made from ≡ false → IsPlain s) → kind_from w s ret from ≡ k → is_made_kind k ≡ false → IsPlainKind k
 kind_plain w s ret origin.Declared k plain is other =
-    let flags = plain refl in
     let by = constructor_named w s.term in
     let how = extracting_named w s.term in
     record {
       pure = s.pure;
       partial = s.partial;
+      recursive = s.recursive;
       by = by;
       how = how;
-      is = plain_kind s.pure s.multi s.partial s.recursive by how flags.multi flags.recursive ∙ is;
+      is = plain_kind s.pure s.multi s.partial s.recursive by how (plain refl) ∙ is;
     }
 kind_plain w s ret (origin.Variant n) k plain is other = let bad : true ≡ false = ap is_made_kind is ∙ other in absurd cc
 kind_plain w s ret origin.Struct k plain is other = let bad : true ≡ false = ap is_made_kind is ∙ other in absurd cc
 
--- a term that no type makes is neither `multi` nor `rec`
+-- a term that no type makes is not `multi`
 pub typed_kind : (defs : List Def) (env : Environment) (i : ℕ) (t : Term) → Typed defs env → slice_get env.terms i ≡ Some t → is_made_kind t.kind ≡ false → IsPlainKind t.kind
 typed_kind defs env i t h at other =
     let g = typed_in h in

@@ -5,7 +5,6 @@ use Rattle.isle_sema.specs.declared.known.Called.{Called}
 use Rattle.isle_types.specs.declared.row.Row.TheVariants as row
 use Rattle.isle_types.specs.declared.row.Row.{Row}
 use Rattle.isle_declarations.specs.Signatures.{Signature}
-use Rattle.isle_sema.specs.Language.{is_ruled}
 use Rattle.isle_sema.specs.TemplateRows.{is_unbound}
 use Rattle.isle_sema.specs.Site.{Site}
 use Rattle.isle_terms.specs.Whole.{Whole}
@@ -25,7 +24,7 @@ is_multi_call site = is_call_of (λ (s : Signature). s.multi) site
 
 -- before any part
 abbrev pub unjudged : Judged
-unjudged = record { untaken = false; mistaken = false; misplaced = false; undeclared = false; met_otherwise = false; unknown = false; mistyped = false; partial = false; impure = false; multi = false; ruled = false; unbound = false }
+unjudged = record { untaken = false; mistaken = false; misplaced = false; undeclared = false; met_otherwise = false; unknown = false; mistyped = false; partial = false; impure = false; multi = false; unbound = false }
 
 -- one part more
 abbrev pub judge : Whole → Judged → Site → Judged
@@ -40,7 +39,6 @@ judge w j site = record {
   partial = is_partial_call site || j.partial;
   impure = is_impure_call site || j.impure;
   multi = is_multi_call site || j.multi;
-  ruled = is_ruled w site || j.ruled;
   unbound = is_unbound site || j.unbound;
 }
 

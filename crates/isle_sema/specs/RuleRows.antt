@@ -184,18 +184,6 @@ is_call_of test (TakenAt expected callee count) = false
 is_call_of test (ConstantAt in_pattern expected found) = false
 is_call_of test (BoundAt ty) = false
 
--- a call of such a term, or a pattern of one
-abbrev pub is_use_of : (Signature → Bool) → Site → Bool
-is_use_of test (IntegerAt expected) = false
-is_use_of test (TruthAt expected) = false
-is_use_of test PartAt = false
-is_use_of test (MetAt expected bound) = false
-is_use_of test (UsedAt expected bound) = false
-is_use_of test (CalledAt expected callee count) = on callee test
-is_use_of test (TakenAt expected callee count) = on callee test
-is_use_of test (ConstantAt in_pattern expected found) = false
-is_use_of test (BoundAt ty) = false
-
 -- a condition calls a term that is not `pure`: before the right side calls stand in conditions alone
 abbrev pub impure_condition : Context → Def → Bool
 impure_condition c d = on (rule_of d) (λ (r : RuleDef). list_any (is_call_of (λ (t : Signature). not t.pure)) (left_of c.whole r))

@@ -1,5 +1,5 @@
 -- What the code finds of rules.
-use Rattle.std.specs.Prelude.{◌≡◌, ℕ, List, [], ◌∷◌, Bool, true, false, Option, Some, None, Result, Ok, Err, is_some, map, option_map, Contains}
+use Rattle.std.specs.Prelude.{◌≡◌, ℕ, List, [], ◌∷◌, true, Option, Some, None, Result, Ok, Err, is_some, map, option_map, Contains}
 use Rattle.std.specs.Global.{Vec}
 use Rattle.isle_core.specs.declared.position.Pos.{Pos}
 use Rattle.isle_core.specs.declared.rules.Rule.{Rule as CodeRule}
@@ -15,10 +15,9 @@ use Rattle.isle_sema.specs.declared.fault.Fault.{Fault}
 use Rattle.isle_sema.specs.Taken.{row_of, taken_rule, taken_rules}
 
 -- what is found of a rule that breaks no row before that of its nodes, by its elaborated rule
-abbrev pub found_rule : (ruled : Bool) → Option CodeRule → Found
-found_rule ruled None = Broken (record { row = ManyNodes; culprit = None })
-found_rule true (Some rule) = Unbuilt
-found_rule false (Some rule) = Taken rule
+abbrev pub found_rule : Option CodeRule → Found
+found_rule None = Broken (record { row = ManyNodes; culprit = None })
+found_rule (Some rule) = Taken rule
 
 -- the row that a rule breaks; or it breaks none, and is not taken; or it is taken so
 abbrev pub IsRuleFound : Whole → ℕ → RuleDef → Found → Type 0

@@ -1,5 +1,4 @@
--- Extractors that break a row beside that they reach themselves, and the rules that are taken: they break no row, use no term that has a
--- rule, and have a tree.
+-- Extractors that break a row beside that they reach themselves, and the rules that are taken: they break no row, and have a tree.
 use Rattle.std.specs.Prelude.{ℕ, ◌+◌, List, [], ◌∷◌, Bool, ◌||◌, Option, Some, None, is_some, if◌then◌else◌}
 use Rattle.std.specs.List.{list_any}
 use Rattle.isle_core.specs.Rule.{Rule as CoreRule}
@@ -10,7 +9,6 @@ use Rattle.isle_terms.specs.Whole.{Whole}
 use Rattle.isle_terms.specs.TermPass.{tree_before}
 use Rattle.isle_sema.specs.RulePass.{rule_pass}
 use Rattle.isle_sema.specs.Fault.{OfRules, broken_in}
-use Rattle.isle_sema.specs.Language.{uses_ruled}
 use Rattle.isle_sema.specs.RuleRows.{extractor_sites, is_untaken, is_mistaken, is_misplaced, is_undeclared}
 use Rattle.isle_sema.specs.TemplateRows.{is_misnaming}
 
@@ -33,7 +31,7 @@ row_of w r = broken_in OfRules (record { whole = w; before = [] }) (def_of r)
 
 -- the rule of that number
 abbrev pub taken_rule : Whole → ℕ → RuleDef → Option CoreRule
-taken_rule w i r = if is_some (row_of w r) || uses_ruled w r then None else rule_pass w i r
+taken_rule w i r = if is_some (row_of w r) then None else rule_pass w i r
 
 -- rules, from that number on, where all are taken
 abbrev pub taken_rules : Whole → ℕ → List RuleDef → Option (List CoreRule)

@@ -1,20 +1,18 @@
 -- What the code tells of extractors: the first that breaks a row, or that none does, and their templates.
-use Rattle.std.specs.Prelude.{◌≡◌, ℕ, List, [], ◌∷◌, map, Bool, true, false, Option, Some, None, Result, Ok, Err, option_map}
+use Rattle.std.specs.Prelude.{◌≡◌, ℕ, List, [], ◌∷◌, map, true, false, Option, Some, None, Result, Ok, Err, option_map}
 use Rattle.std.specs.Global.{Vec}
-use Rattle.std.specs.List.{list_any}
 use Rattle.isle_core.specs.declared.position.Pos.{Pos}
 use Rattle.isle_core.specs.declared.rules.Pattern.{Pattern as CodePattern}
 use Rattle.isle_core.specs.Pattern.{Pattern as CorePattern}
 use Rattle.isle_core.specs.RuleViews.{pattern as elaborated}
 use Rattle.isle_ast.specs.Tree.{Def, ExternExtractor, Extractor}
-use Rattle.isle_declarations.specs.Signatures.{Extracting, ByFunction, ByTemplate, ExtractorDef, extractors}
+use Rattle.isle_declarations.specs.Signatures.{Extracting, ByFunction, ByTemplate, ExtractorDef}
 use Rattle.isle_types.specs.declared.row.Row.{Row}
 use Rattle.isle_terms.specs.Whole.{Whole}
 use Rattle.isle_culprits.specs.declared.culprit.Breach.{Breach}
 use Rattle.isle_sema.specs.declared.fault.Fault.{Fault}
-use Rattle.isle_sema.specs.declared.templates.Taken.{Taken}
+use Rattle.isle_templates.specs.declared.templates.Templates.{Templates}
 use Rattle.isle_sema.specs.Fault.{OfExtractors, broken_in, or_later, fault_in}
-use Rattle.isle_sema.specs.Language.{opens_ruled}
 use Rattle.isle_sema.specs.Templates.{template_tree, templates, are_treed}
 use Rattle.isle_templates.specs.Uses.{uses}
 use Rattle.isle_templates.specs.Whole.{AreWhole}
@@ -42,40 +40,37 @@ extractors_fault w (x ∷ xs) = or_later (option_map (λ (r : Row). (r, x.pos)) 
 abbrev pub tree_of : Whole → ExtractorDef → Option CorePattern
 tree_of w x = template_tree w x.term x.by
 
--- an extractor that breaks no row, with the tree of its template and whether that uses a term that has a rule
-pub record IsTreeAt (w : Whole) (x : ExtractorDef) (tree : Option CodePattern) (ruled : Bool) : Type 0 where
+-- an extractor that breaks no row, with the tree of its template
+pub record IsTreeAt (w : Whole) (x : ExtractorDef) (tree : Option CodePattern) : Type 0 where
   pub sound : extractor_row w x ≡ None
   pub tree_is : option_map elaborated tree ≡ tree_of w x
-  pub ruled_is : ruled ≡ opens_ruled w x
 
 -- so, or the row that it breaks
-abbrev pub IsTried : Whole → ExtractorDef → Result (Option CodePattern × Bool) Breach → Type 0
-IsTried w x (Ok found) = IsTreeAt w x found.0 found.1
+abbrev pub IsTried : Whole → ExtractorDef → Result (Option CodePattern) Breach → Type 0
+IsTried w x (Ok tree) = IsTreeAt w x tree
 IsTried w x (Err breach) = extractor_row w x ≡ Some breach.row
 
--- extractors that break no row, with the trees of their templates and whether one uses a term that has a rule
-pub record AreTreesAt (w : Whole) (xs : List ExtractorDef) (trees : List (Option CodePattern)) (ruled : Bool) : Type 0 where
+-- extractors that break no row, with the trees of their templates
+pub record AreTreesAt (w : Whole) (xs : List ExtractorDef) (trees : List (Option CodePattern)) : Type 0 where
   pub sound : extractors_fault w xs ≡ None
   pub trees_are : map (option_map elaborated) trees ≡ map (tree_of w) xs
-  pub ruled_is : ruled ≡ list_any (opens_ruled w) xs
 
 -- so, or the first that breaks one
-abbrev pub AreTried : Whole → List ExtractorDef → Result (Vec (Option CodePattern) × Bool) Fault → Type 0
-AreTried w xs (Ok found) = AreTreesAt w xs found.0.items found.1
+abbrev pub AreTried : Whole → List ExtractorDef → Result (Vec (Option CodePattern)) Fault → Type 0
+AreTried w xs (Ok found) = AreTreesAt w xs found.items
 AreTried w xs (Err fault) = extractors_fault w xs ≡ Some (fault.row, fault.pos)
 
 -- ---- what is told
 
 -- no extractor breaks a row, and these are the templates of definitions with those that they use replaced; each has a tree, and none reaches
 -- itself
-pub record AreTaken (w : Whole) (taken : Taken) : Type 0 where
+pub record AreTaken (w : Whole) (taken : Templates) : Type 0 where
   pub sound : fault_in OfExtractors w ≡ None
   pub treed : are_treed w ≡ true
   pub free : (term : ℕ) → on_closed_walk (uses (templates w)) term ≡ false
-  pub whole : AreWhole (templates w) taken.templates
-  pub ruled : taken.ruled ≡ list_any (opens_ruled w) (extractors w.defs)
+  pub whole : AreWhole (templates w) taken
 
 -- so, or the first extractor that breaks one
-abbrev pub AreTemplatesChecked : Whole → Result Taken Fault → Type 0
+abbrev pub AreTemplatesChecked : Whole → Result Templates Fault → Type 0
 AreTemplatesChecked w (Ok taken) = AreTaken w taken
 AreTemplatesChecked w (Err fault) = fault_in OfExtractors w ≡ Some (fault.row, fault.pos)

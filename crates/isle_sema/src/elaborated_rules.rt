@@ -51,8 +51,7 @@ fn rule_from(
     }
 }
 
-/// What is found of a rule: the row that it breaks; or it breaks none, and uses a term that has a rule, or has no tree; or the
-/// elaborated rule.
+/// What is found of a rule: the row that it breaks; or it breaks none, and has no tree; or the elaborated rule.
 #[derive(Drop)]
 pub enum Found<'d> {
     Broken(Breach<'d>),
@@ -60,21 +59,16 @@ pub enum Found<'d> {
     Taken(Rule),
 }
 
-// An elaborated rule, unless it has too many nodes, or uses a term that has a rule.
-fn unless_ruled<'d>(ruled: bool, elaborated: Option<Rule>) -> Found<'d>
-    ensures { result ≡ found_rule ruled elaborated }
+// An elaborated rule, unless it has too many nodes.
+fn found_rule<'d>(elaborated: Option<Rule>) -> Found<'d>
+    ensures { result ≡ found_rule elaborated }
 {
     match elaborated {
         None => Found::Broken(Breach {
             row: Row::ManyNodes,
             culprit: None,
         }),
-        Some(rule) => {
-            if ruled {
-                return Found::Unbuilt;
-            }
-            Found::Taken(rule)
-        }
+        Some(rule) => Found::Taken(rule),
     }
 }
 
@@ -95,7 +89,6 @@ fn rule_of<'d>(
     let args = sides.args;
     let iflets = sides.iflets;
     let rhs = sides.rhs;
-    let ruled = sides.left.rows.ruled | sides.right.rows.ruled;
     let count = given.args.len();
     if let Some(row) = lowest_row(own, count, &sides.left.rows, &sides.right.rows) {
         let culprit = rule_culprit(
@@ -119,7 +112,7 @@ fn rule_of<'d>(
     };
     let written = rule_from(known, own, number, given, args, iflets, rhs);
     let found = elaborated(alloc, templates, written)?;
-    Ok(unless_ruled(ruled, found))
+    Ok(found_rule(found))
 }
 
 // What is found of the rule of that number, whose term is declared.

@@ -52,7 +52,6 @@ impl<'d> Judging<'d> {
                 partial: false,
                 impure: false,
                 multi: false,
-                ruled: false,
                 unbound: false,
             },
             firsts: Firsts {
@@ -150,7 +149,6 @@ impl<'d> Judging<'d> {
         self.rows.partial = callee.partial | self.rows.partial;
         self.rows.impure = !callee.pure | self.rows.impure;
         self.rows.multi = callee.multi | self.rows.multi;
-        self.rows.ruled = callee.ruled | self.rows.ruled;
         let counts = Counts {
             given: count,
             wanted: callee.args.len(),
@@ -177,7 +175,6 @@ impl<'d> Judging<'d> {
             | !(callee.made | callee.extracting)
             | self.rows.untaken;
         self.rows.mistaken = is_other_type(Some(Some(callee.ret)), expected) | self.rows.mistaken;
-        self.rows.ruled = callee.ruled | self.rows.ruled;
         let counts = Counts {
             given: count,
             wanted: callee.args.len(),

@@ -7,17 +7,13 @@ ghost use Rattle.isle_sema.specs.Language.{is_built_def};
 
 use isle_ast::Def;
 
-// Whether the form of a definition is built: a type, a constant, a declaration that is neither `multi` nor `rec`, an external constructor,
-// an extractor of either kind, a converter, a rule, or a list that is passed over. All forms of patterns and expressions are built.
+// Whether the form of a definition is built: a type, a constant, a declaration that is not `multi`, an external constructor, an extractor
+// of either kind, a converter, a rule, or a list that is passed over. All forms of patterns and expressions are built.
 fn is_built_def(given: &Def) -> bool
     ensures { result ≡ is_built_def (def given.now) }
 {
     match given {
-        Def::Decl {
-            multi,
-            recursive,
-            ..
-        } => !*multi && !*recursive,
+        Def::Decl { multi, .. } => !*multi,
         Def::TypeDecl { .. } | Def::ExternConst { .. } | Def::ExternExtractor { .. } => true,
         Def::ExternConstructor { .. } | Def::Converter { .. } | Def::Passed { .. } => true,
         Def::Extractor { .. } | Def::Rule { .. } => true,

@@ -30,13 +30,6 @@ use isle_templates::{Templates, copied_at, whole_templates};
 use isle_variables::{Variables, misses_variable};
 use std::alloc::{AllocError, Global};
 
-/// The templates of definitions whose extractors break no row, and whether one uses a term that has a rule.
-#[derive(Drop)]
-pub struct Taken {
-    pub templates: Templates,
-    pub ruled: bool,
-}
-
 // The variables of a template: its parameters, each at the type of its argument.
 fn parameters<'d>(
     alloc: Global,
@@ -53,19 +46,19 @@ fn parameters<'d>(
     Ok(vars)
 }
 
-// The tree of an extractor's template, if it has one, and whether that uses a term that has a rule; or the row that it breaks.
+// The tree of an extractor's template, if it has one; or the row that it breaks.
 fn template_of<'d>(
     alloc: Global,
     known: &Known,
     closed: &[bool],
     given: &ExtractorDef<'d>,
-) -> Result<Result<(Option<Pattern>, bool), Breach<'d>>, AllocError>
+) -> Result<Result<Option<Pattern>, Breach<'d>>, AllocError>
     requires number { index_of (whole known.now).types.syms given.now.term.now ≡ Some given.now.number }
     requires closed { AreClosedTold (template_uses (whole known.now)) closed.now }
     ensures { IfOk result (λ found. IsTried (whole known.now) (seen given.now) found) }
 {
     match given.by {
-        Extracting::Function { .. } => Ok(Ok((None, false))),
+        Extracting::Function { .. } => Ok(Ok(None)),
         Extracting::Template { params, template } => {
             let callee = known.at(given.number);
             let mut vars = parameters(alloc, &callee, params)?;
@@ -78,7 +71,7 @@ fn template_of<'d>(
                     let culprit = template_culprit(alloc, row, &judged.firsts, params, template)?;
                     Ok(Err(Breach { row, culprit }))
                 }
-                None => Ok(Ok((tree, judged.rows.ruled))),
+                None => Ok(Ok(tree)),
             }
         }
     }
@@ -90,19 +83,15 @@ fn templates_of<'d>(
     known: &Known<'_, 'd>,
     closed: &[bool],
     given: &[ExtractorDef<'d>],
-) -> Result<Result<(Vec<Option<Pattern>>, bool), Fault<'d>>, AllocError>
+) -> Result<Result<Vec<Option<Pattern>>, Fault<'d>>, AllocError>
     requires extractors { AreExtractors (seen_defs known.now) given.now }
     requires closed { AreClosedTold (template_uses (whole known.now)) closed.now }
     ensures { IfOk result (λ found. AreTried (whole known.now) (extractors (seen_defs known.now)) found) }
 {
     let mut trees = Vec::with_capacity(alloc, given.len())?;
-    let mut ruled = false;
     for extractor in given {
         match template_of(alloc, known, closed, extractor)? {
-            Ok((tree, opens)) => {
-                trees.push(tree)?;
-                ruled = ruled | opens;
-            }
+            Ok(tree) => trees.push(tree)?,
             Err(breach) => {
                 return Ok(Err(Fault {
                     row: breach.row,
@@ -113,7 +102,7 @@ fn templates_of<'d>(
             }
         }
     }
-    Ok(Ok((trees, ruled)))
+    Ok(Ok(trees))
 }
 
 // The template of a term, by those of the extractors.
@@ -159,19 +148,19 @@ fn by_terms(
 pub fn check_templates<'d>(
     alloc: Global,
     known: &Known<'_, 'd>,
-) -> Result<Result<Taken, Fault<'d>>, AllocError>
+) -> Result<Result<Templates, Fault<'d>>, AllocError>
     ensures { IfOk result (λ found. AreTemplatesChecked (whole known.now) found) }
 {
     let closed = closed_terms(alloc, known)?;
     let given = known.declarations.extractors();
-    let (trees, ruled) = match templates_of(alloc, known, closed.as_slice(), given)? {
-        Ok(found) => found,
+    let trees = match templates_of(alloc, known, closed.as_slice(), given)? {
+        Ok(trees) => trees,
         Err(fault) => return Ok(Err(fault)),
     };
     let terms = known.terms.terms.as_slice();
     let written = by_terms(alloc, known, trees.as_slice(), terms)?;
     match whole_templates(alloc, written.as_slice())? {
-        Some(templates) => Ok(Ok(Taken { templates, ruled })),
+        Some(templates) => Ok(Ok(templates)),
         None => unreachable!(),
     }
 }

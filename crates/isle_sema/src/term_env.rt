@@ -26,7 +26,7 @@ use isle_types::Before;
 use std::alloc::{AllocError, Global};
 
 // The rules of definitions over their terms, with their templates replaced, or what is wrong with a template or else with a rule: nothing
-// where one uses a term that has a rule.
+// where one has no tree.
 fn rules_of<'d>(
     alloc: Global,
     declarations: &Declarations<'d>,
@@ -47,23 +47,16 @@ fn rules_of<'d>(
         typed,
         converters,
     };
-    let taken = match check_templates(alloc, &known)? {
-        Ok(taken) => taken,
+    let templates = match check_templates(alloc, &known)? {
+        Ok(templates) => templates,
         Err(fault) => return Ok(Err(fault)),
     };
-    let rules = match rules_at(alloc, &known, &taken.templates, declarations.rules())? {
-        Ok(rules) => rules,
-        Err(fault) => return Ok(Err(fault)),
-    };
-    if taken.ruled {
-        return Ok(Ok(None));
-    }
-    Ok(Ok(rules))
+    rules_at(alloc, &known, &templates, declarations.rules())
 }
 
 /// Returns the terms, rules and converters of definitions, whose types make these: `Typing` comes where a declaration, what names its
-/// term, a converter or a head is wrong; `NotYet` where none is and they are not all of forms that are built; `Typing` where they are and
-/// an extractor is wrong, or else a rule, and `NotYet` where none is and they are not of the language that is built.
+/// term, a converter or a head is wrong; `NotYet` where none is and a declaration is `multi`; `Typing` where none is `multi` and an
+/// extractor is wrong, or else a rule.
 pub fn term_env<'d>(
     alloc: Global,
     declarations: &Declarations<'d>,

@@ -17,7 +17,7 @@ use std::alloc::{AllocError, Global};
 /// Why definitions give no environment.
 #[derive(Debug, Drop)]
 pub enum EnvError {
-    /// None is wrong that is told, and they are not of the language that is built.
+    /// None is wrong that is told, and a declaration is `multi`.
     NotYet,
     /// The first that is wrong, of types and constants, then of declarations, of extractors and of rules, by the lowest row that it breaks.
     Typing(Error),
@@ -112,8 +112,8 @@ pub fn type_env_from_ast(alloc: Global, defs: &[Def]) -> Result<TypeEnv, EnvErro
 
 /// Types the terms, rules and converters of the definitions, whose types are given (`specs/Typing.antt`). `Typing` comes exactly
 /// where a declaration, what names its term, a converter or a rule's head is wrong, or else, where all are of forms that are built, an
-/// extractor, or else a rule; it tells the first by the lowest row that it breaks. `NotYet` comes where no fault is told and they are not
-/// of the language that is built; beside them only want of memory.
+/// extractor, or else a rule; it tells the first by the lowest row that it breaks. `NotYet` comes where no fault is told and a declaration
+/// is `multi`; beside them only want of memory.
 pub fn term_env_from_ast(alloc: Global, env: &TypeEnv, defs: &[Def]) -> Result<TermEnv, EnvError>
     requires { TypesFrom (seen defs.now) env.now }
     ensures ok { IfOk result (λ terms. TypedOnly (seen defs.now) (environment env.now terms)) }

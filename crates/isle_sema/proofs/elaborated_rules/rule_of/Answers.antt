@@ -1,5 +1,5 @@
-use Rattle.std.proofs.Common.{◌≡◌, rules, cond, Bool, None, Some, length, map, refl, ap, sym, subst, ◌∙◌}
-use Rattle.std.specs.Prelude.{option_map, ◌||◌}
+use Rattle.std.proofs.Common.{◌≡◌, rules, cond, None, Some, length, map, ap, sym, subst, ◌∙◌}
+use Rattle.std.specs.Prelude.{option_map}
 use Rattle.std.proofs.lemmas.List.{length-map}
 use Rattle.isle_core.specs.Rule.{Rule as CoreRule}
 use Rattle.isle_core.specs.RuleViews.{pattern as elaborated_pattern, iflet as elaborated_iflet, expr as elaborated_expr, rule as elaborated_rule}
@@ -14,7 +14,7 @@ use Rattle.isle_sema.specs.RulePass.{rule_from}
 use Rattle.isle_sema.specs.RuleRows.{is_large}
 use Rattle.isle_sema.specs.RulesFound.{found_rule, IsRuleFound}
 use Rattle.isle_sema.specs.Templates.{templates}
-use Rattle.isle_sema.proofs.RuleLaws.{lowest_found, ruled_is, without_trees, without_conditions, without_tree, found_made}
+use Rattle.isle_sema.proofs.RuleLaws.{lowest_found, without_trees, without_conditions, without_tree, found_made}
 use Rattle.isle_sema.proofs.elaborated_rules.rule_of.Goals as goal
 
 pub returns-in-Some : goal.returns-in-Some
@@ -66,10 +66,9 @@ returns c =
     let args = map elaborated_pattern c.in-Some-args.args.items in
     let iflets = map elaborated_iflet c.in-Some-iflets.iflets.items in
     let rhs = elaborated_expr c.in-Some-rhs.rhs in
-    let ruled : Bool = sides.left.rows.ruled || sides.right.rows.ruled in
     let written : elaborated_rule c.rule_from-written.result ≡ rule_from w c.args.number r c.args.own.now.term args iflets rhs = c.rule_from-written.ensures in
-    let made : IsElaborated (templates w) (elaborated_rule c.rule_from-written.result) c.in_ok-found.found → IsRuleFound w c.args.number r (found_rule ruled c.in_ok-found.found) = λ e. found_made w c.args.number r c.args.own.now args iflets rhs ruled c.in_ok-found.found c.requires.own kept (ruled_is w r sides ruled c.in_ok-sides.ensures refl)
+    let made : IsElaborated (templates w) (elaborated_rule c.rule_from-written.result) c.in_ok-found.found → IsRuleFound w c.args.number r (found_rule c.in_ok-found.found) = λ e. found_made w c.args.number r c.args.own.now args iflets rhs c.in_ok-found.found c.requires.own kept
     (sym c.in_ok-sides.ensures.trees ∙ ap pattern_trees c.in-Some-args.is) (sym c.in_ok-sides.ensures.conditions ∙ ap condition_trees c.in-Some-iflets.is) (sym c.in_ok-sides.ensures.tree ∙ ap (option_map elaborated_expr) c.in-Some-rhs.is)
     (subst (λ (x : CoreRule). IsElaborated (templates w) x c.in_ok-found.found) written e) in
-    let is : c.unless_ruled.result ≡ found_rule ruled c.in_ok-found.found = c.unless_ruled.ensures in
+    let is : c.found_rule.result ≡ found_rule c.in_ok-found.found = c.found_rule.ensures in
     subst (λ f. IsRuleFound w c.args.number r f) (sym is) (made (c.in_ok-found.ensures (templates w) c.requires.templates))

@@ -26,7 +26,7 @@ unreachable-requires c =
     let w = whole c.args.known.now in
     let defs = seen_defs c.args.known.now in
     let known = subst (λ (ds : List Def). AreKnown ds c.known.inside.before.now c.known.inside.types.now c.known.inside.terms.now c.known.inside.typed.now c.known.inside.converters.now) c.known.view_is c.known.invariant in
-    let found : AreTreesAt w (extractors defs) c.in-Ok.found.0.items c.in-Ok.found.1 = search rules in
+    let found : AreTreesAt w (extractors defs) c.in-Ok.trees.items = search rules in
     let sound = are_sound defs (record { built = known.built; types = known.sound; terms = known.declared }) found.sound in
     let written : map (option_map elaborated) c.as_slice-3.result.now ≡ templates w = search rules in
     none_missing defs sound (subst (λ ts. AreWholeFound ts None) written (subst (λ (o : Option Templates). AreWholeFound (map (option_map elaborated) c.as_slice-3.result.now) o) c.in-None.is c.in_ok-templates.ensures))
@@ -36,8 +36,8 @@ returns c =
     let w = whole c.args.known.now in
     let defs = seen_defs c.args.known.now in
     let known = subst (λ (ds : List Def). AreKnown ds c.known.inside.before.now c.known.inside.types.now c.known.inside.terms.now c.known.inside.typed.now c.known.inside.converters.now) c.known.view_is c.known.invariant in
-    let found : AreTreesAt w (extractors defs) c.in-Ok.found.0.items c.in-Ok.found.1 = search rules in
+    let found : AreTreesAt w (extractors defs) c.in-Ok.trees.items = search rules in
     let sound = are_sound defs (record { built = known.built; types = known.sound; terms = known.declared }) found.sound in
     let written : map (option_map elaborated) c.as_slice-3.result.now ≡ templates w = search rules in
     let all = subst (λ ts. AreWholeFound ts (Some c.in-Some.templates)) written (subst (λ (o : Option Templates). AreWholeFound (map (option_map elaborated) c.as_slice-3.result.now) o) c.in-Some.is c.in_ok-templates.ensures) in
-    record { sound = sound.sound; treed = sound.treed; free = sound.free; whole = all.1; ruled = found.ruled_is }
+    record { sound = sound.sound; treed = sound.treed; free = sound.free; whole = all.1 }

@@ -5,7 +5,7 @@ use Rattle.isle_declarations.specs.Signatures.{Template, ByTemplate, ExtractorDe
 use Rattle.isle_terms.specs.Whole.{whole, termed}
 use Rattle.isle_sema.specs.Known.{MayBeCalled}
 use Rattle.isle_sema.specs.TemplateRows.{misses_parameter}
-use Rattle.isle_sema.proofs.ExtractorFaults.{row_judged, template_found, ruled_found}
+use Rattle.isle_sema.proofs.ExtractorFaults.{row_judged, template_found}
 use Rattle.isle_sema.proofs.templates.template_of.Goals as goal
 
 pub returns-in-Some : goal.returns-in-Some
@@ -31,5 +31,4 @@ returns c =
     record {
       sound = sym (row_judged w x t _ _ _ by (c.reaches_itself.ensures w x callee c.requires.closed) missed found.1) ∙ sym c.template_row.ensures ∙ c.in-None.is;
       tree_is = found.0;
-      ruled_is = ruled_found w x c.pattern_at.new.judged.rows found.1;
     }

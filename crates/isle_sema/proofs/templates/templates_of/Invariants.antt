@@ -8,4 +8,4 @@ use Rattle.isle_sema.proofs.TemplateSteps.{AreLeft}
 use Rattle.isle_sema.proofs.templates.templates_of.Given as goal
 
 abbrev pub invariant-loop-extractor : goal.invariant-loop-extractor
-invariant-loop-extractor l = AreLeft (whole l.known) (extractors (seen_defs l.known)) (map seen (drop l.extractor-index l.given)) l.trees.items l.ruled
+invariant-loop-extractor l = AreLeft (whole l.known) (extractors (seen_defs l.known)) (map seen (drop l.extractor-index l.given)) l.trees.items

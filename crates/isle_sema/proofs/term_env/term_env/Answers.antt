@@ -63,7 +63,7 @@ returns-clause-ok c =
     let converting : taken_converters (whole_of defs) [] (converters defs) ≡ Some c.in-Ok.found.listed.items = search rules in
     let listed : c.new-3.result ≡ c.in-Ok.found.listed.items = search rules in
     over_types _ c.requires.types
-    (given_typed defs _ forms c.requires.sound declared (sym made) given.sound given.treed given.opening (given.taken ∙ sym (ap (λ rs. Some (map elaborated_rule rs)) items)) (converting ∙ ap Some (sym listed)))
+    (given_typed defs _ forms c.requires.sound declared (sym made) given.sound given.treed (given.taken ∙ sym (ap (λ rs. Some (map elaborated_rule rs)) items)) (converting ∙ ap Some (sym listed)))
 
 pub rules_of-requires : goal.rules_of-requires
 rules_of-requires c =
