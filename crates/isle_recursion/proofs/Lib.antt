@@ -1,0 +1,10 @@
+pub mod PlaceLaws
+pub mod WalkLaws
+pub mod ToldTerms
+pub mod CallPaths
+pub mod PathCalls
+pub mod BoundCalls
+pub mod RuleUses
+pub mod RuleWalkLaws
+pub mod RuleErrors
+pub mod ListedTerms

@@ -1,0 +1,5 @@
+pub mod ClosedWalks
+pub mod Graph
+pub mod Recursions
+pub mod RuleErrors
+pub mod RuleWalks

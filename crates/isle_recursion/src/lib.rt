@@ -1,0 +1,5 @@
+//! Terms that use themselves.
+#![tactic(auto)]
+
+pub mod recursion;
+mod uses;
