@@ -35,7 +35,8 @@ use Rattle.isle_core.proofs.Contained.{contained_cases, none_contained}
 use Rattle.isle_tree.specs.declared.tree.TraitFn.{TraitFn}
 use Rattle.isle_tree.specs.WellFormed.{fn_names}
 use Rattle.isle_simulation.specs.TraitFns.{constructor_fn, constructor_fn_of, extractor_fn, extracted_of, extractor_fn_of, func_of, fns_before, trait_fns_in, HasFnNames}
-use Rattle.isle_simulation.proofs.ExternalTerms.{after_option, fn_contained, extractor_contained}
+use Rattle.isle_simulation.proofs.ExternalTerms.{fn_contained, extractor_contained}
+use Rattle.isle_simulation.proofs.FoundByName.{after_option}
 use Rattle.isle_simulation.proofs.FunctionsApart.{behind_one, apart_from, extractor_apart}
 use Rattle.isle_codegen.specs.Meant.{HasValue, AnswersInhabited}
 

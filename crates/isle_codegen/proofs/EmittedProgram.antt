@@ -17,12 +17,14 @@ use Rattle.isle_rulesets.specs.Grouping.{AreRuleSets}
 use Rattle.isle_sema.specs.Typing.{Typed}
 use Rattle.isle_sema.proofs.TypedTerms.{typed_names, typed_types}
 use Rattle.isle_tree.specs.Program.{Function, Program}
-use Rattle.isle_tree.specs.WellFormed.{IsTraitFn, fn_names, declared_names, IsFunction, IsTypeItem, IsWellFormed}
+use Rattle.isle_tree.specs.WellFormed.{IsTraitFn, fn_names, declared_names, callables, IsFunction, IsTypeItem, IsWellFormed}
 use Rattle.isle_tree.specs.declared.tree.TraitFn.{TraitFn}
 use Rattle.isle_tree.specs.declared.tree.TypeItem.{TypeItem}
 use Rattle.isle_codegen.specs.Emits.{CanEmit, AreEmitted}
 use Rattle.isle_simulation.specs.Emitted.{IsEmittable}
+use Rattle.isle_simulation.specs.TermFns.{callables_of, HasTermFns}
 use Rattle.isle_simulation.specs.TraitFns.{trait_fns_of, HasFnNames}
+use Rattle.isle_simulation.proofs.EmittedHeads.{callables_are}
 use Rattle.isle_simulation.proofs.TraitFnForms.{IsPlainTerm, fns_are}
 use Rattle.isle_codegen.proofs.PlainTerms.{typed_once, typed_extractor}
 use Rattle.isle_simulation.specs.OfTerm.{AreDeclared}
@@ -86,11 +88,11 @@ some_same : (a b : Term) → Some a ≡ Some b → a ≡ b
 some_same a b e = cc
 
 -- each is well formed
-are_well_formed : (files : Files) (env : Environment) (p : Program) (sets : List (TermId × RuleSet)) (fs : List Function) → p.trait_fns ≡ trait_fns_of env → AllByRecursion (CanEmit files env) sets → AreEmitted files env sets fs → AllByRecursion (IsFunction p) fs
+are_well_formed : (files : Files) (env : Environment) (p : Program) (sets : List (TermId × RuleSet)) (fs : List Function) → callables p ≡ callables_of env → AllByRecursion (CanEmit files env) sets → AreEmitted files env sets fs → AllByRecursion (IsFunction p) fs
 are_well_formed files env p [] [] same c h = tt
 are_well_formed files env p (s ∷ sets) (f ∷ fs) same c h =
     let e : IsEmittable env h.0.term = subst (IsEmittable env) (some_same c.0.term h.0.term (sym c.0.found ∙ h.0.found)) c.0.emittable in (
-      emitted_well_formed files env h.0.term s.1.bindings h.0.block f h.0.lawful h.0.single h.0.once h.0.given e c.0.names c.0.fns p same,
+      emitted_well_formed files env h.0.term s.1.bindings h.0.block f h.0.lawful h.0.single h.0.once h.0.given e c.0.names c.0.fns c.0.term_fns p same,
       are_well_formed files env p sets fs same c.1 h.1,
     )
 are_well_formed files env p [] (f ∷ fs) same c h = absurd h
@@ -111,13 +113,17 @@ module _ (defs : List Def) (files : Files) (env : Environment) (typed : Typed de
   distinct : IsDistinct bytes_eq (map (λ (f : Function). f.term) fs)
   distinct = subst (IsDistinct bytes_eq) (sym names_of) (distinct_names env (typed_names defs env typed))
 
+  -- the functions of a program that are these
+  declared_in : (p : Program) → p.fns ≡ fs → AreDeclared files env (with_rules env) p.fns
+  declared_in p e = subst (λ (xs : List Function). AreDeclared files env (with_rules env) xs) (sym e) (subst (λ (ids : List TermId). AreDeclared files env ids fs) stand.ids (are_declared files env sets fs emitted))
+
   -- a program of these functions, those of the trait and the declared types is well formed
   pub program_well_formed : (p : Program) → HasFnNames env → AreLawful (has_a_rule env.rules) env.types → p.trait_fns ≡ trait_fns_of env → p.types ≡ type_items_of env → p.fns ≡ fs → AllByRecursion (CanEmit files env) sets → IsWellFormed p
   program_well_formed p names lawful a b e c =
       record {
         trait_fns = subst (AllByRecursion IsTraitFn) (sym a) (fns_are env env.terms names.identifiers (plain_terms defs env typed lawful));
         types = subst (AllByRecursion IsTypeItem) (sym b) (items_are (has_a_rule env.rules) env.types lawful (typed_parts defs env typed).types);
-        fns = subst (AllByRecursion (IsFunction p)) (sym e) (are_well_formed files env p sets fs a c emitted);
+        fns = subst (AllByRecursion (IsFunction p)) (sym e) (are_well_formed files env p sets fs (callables_are files env p a (declared_in p e)) c emitted);
         distinct = subst (λ (xs : List Function). IsDistinct bytes_eq (map (λ (f : Function). f.term) xs)) (sym e) distinct;
         trait_names = subst (λ (xs : List TraitFn). IsDistinct bytes_eq (fn_names xs)) (sym a) names.distinct;
         type_names = subst (λ (xs : List TypeItem). IsDistinct bytes_eq (declared_names xs)) (sym b) (items_apart (has_a_rule env.rules) env.types lawful);
@@ -142,13 +148,13 @@ module _ (defs : List Def) (files : Files) (env : Environment) (typed : Typed de
       of_rules P k = recursion_from_All P (rules_of env id) (of_term P env id k)
 
   -- and its functions mean the rules
-  pub program_means : (p : Program) → HasFnNames env → AreLawful (has_a_rule env.rules) env.types → p.fns ≡ fs → FunctionsMean files env p
-  program_means p names lawful e =
+  pub program_means : (p : Program) → HasFnNames env → HasTermFns env → AreLawful (has_a_rule env.rules) env.types → p.fns ≡ fs → FunctionsMean files env p
+  program_means p names term_fns lawful e =
       record {
         names = ap (map (λ (f : Function). f.term)) e ∙ names_of;
-        declared = subst (λ (xs : List Function). AreDeclared files env (with_rules env) xs) (sym e) (subst (λ (ids : List TermId). AreDeclared files env ids fs) stand.ids (are_declared files env sets fs emitted));
+        declared = declared_in p e;
         blocks = subst (λ (xs : List Function). AreFromBlocks files env (with_rules env) xs) (sym e) (subst (λ (ids : List TermId). AreFromBlocks files env ids fs) stand.ids (are_from_blocks files env sets fs (recursion_from_All (λ (s : TermId × RuleSet). StandsFor env s.1 (rules_of env s.0)) sets stand.stand) emitted));
-        mean = λ id c. means_rules defs files env p id typed clean (has_rust_names (has_a_rule env.rules) env lawful (typed_parts defs env typed)) names c (subst (λ (xs : List Function). HasFunction files env xs id) (sym e) (function_for id c));
+        mean = λ id c. means_rules defs files env p id typed clean (has_rust_names (has_a_rule env.rules) env lawful (typed_parts defs env typed)) names term_fns c (subst (λ (xs : List Function). HasFunction files env xs id) (sym e) (function_for id c));
         meant = λ id c. meant_of names id (function_for id c).emitted.term (function_for id c).emitted.found;
         values = inhabited_valued env (typed_parts defs env typed).variants;
       }

@@ -9,6 +9,7 @@ pub mod CalledTerms
 pub mod MeanRules
 pub mod TypedNames
 pub mod Emitting
+pub mod TermFunctions
 pub mod InhabitedTypes
 pub mod EmittedProgram
 pub mod Placed

@@ -43,6 +43,7 @@ use Rattle.isle_codegen.specs.Emits.{IsEmitted, AreEmitted}
 use Rattle.isle_simulation.specs.Emitted.{ran_of, ran_with, impure_ran, AreSameRuns}
 use Rattle.isle_simulation.specs.Ends.{end_of}
 use Rattle.isle_simulation.specs.RustNames.{HasRustNames}
+use Rattle.isle_simulation.specs.TermFns.{HasTermFns}
 use Rattle.isle_simulation.specs.TraitFns.{HasFnNames}
 use Rattle.isle_codegen.specs.Headline.{GivesAs, GivesOutcome, MeansRules}
 use Rattle.isle_simulation.proofs.GivenFunctions.{runs_as_block}
@@ -140,7 +141,7 @@ keep_all P keep (r ∷ rs) h = pick_all P r (filter keep rs) (keep r) h.0 (keep_
 pub of_term : (P : Rule → Type 0) (env : Environment) (id : TermId) → All P env.rules → All P (rules_of env id)
 of_term P env id h = All-from_recursion P (rules_of env id) (keep_all P (λ (r : Rule). r.root_term.0 == id.0) env.rules (recursion_from_All P env.rules h))
 
-module _ (defs : List Def) (files : Files) (env : Environment) (p : Program) (id : TermId) (typed : Typed defs env) (clean : IsClean env) (names : HasRustNames env) (fns : HasFnNames env) (listed : Contains (with_rules env) id) (h : HasFunction files env p.fns id) where
+module _ (defs : List Def) (files : Files) (env : Environment) (p : Program) (id : TermId) (typed : Typed defs env) (clean : IsClean env) (names : HasRustNames env) (fns : HasFnNames env) (term_fns : HasTermFns env) (listed : Contains (with_rules env) id) (h : HasFunction files env p.fns id) where
   abbrev the_term : Term
   the_term = h.emitted.term
 
@@ -168,7 +169,7 @@ module _ (defs : List Def) (files : Files) (env : Environment) (p : Program) (id
   runs args m types lawful =
       let named = name_of_term env id the_term h.emitted.found in
       ap (λ (n : List ℕ). option_map (λ (q : Ran). nameless_ran (impure_ran env q)) (run p n args m)) named
-      ∙ runs_as_block files env the_term h.set.bindings h.emitted.block h.function h.emitted.lawful h.emitted.single h.emitted.once h.emitted.given names fns p args m
+      ∙ runs_as_block files env the_term h.set.bindings h.emitted.block h.function h.emitted.lawful h.emitted.single h.emitted.once h.emitted.given names fns term_fns p args m
       (ap (λ (n : List ℕ). function_of n p.fns) (sym named) ∙ h.found) types (bindings_answered env id h.set h.stands m lawful) lawful.declared
       ∙ ap (λ (o : Prescription). option_map nameless_ran (ran_of the_term o)) (same_outcome args m types lawful)
 

@@ -17,13 +17,13 @@ use Rattle.isle_sema.specs.Typing.{Typed}
 use Rattle.isle_sema.proofs.TypedTerms.{IsPlainKind, typed_kind}
 use Rattle.isle_simulation.specs.TraitFns.{extracted_of}
 
-flag_once : (pure partial : Bool) (by : ConstructorKind) (how : ExtractorKind) → AnswersOnce (kind_of (term_kind.Decl pure false partial false by how))
-flag_once pure true by how = tt
-flag_once pure false by how = tt
+flag_once : (pure partial recursive : Bool) (by : ConstructorKind) (how : ExtractorKind) → AnswersOnce (kind_of (term_kind.Decl pure false partial recursive by how))
+flag_once pure true recursive by how = tt
+flag_once pure false recursive by how = tt
 
 -- a made term answers once, and of others typing says it
 kind_once : (k : TermKind) → (is_made_kind k ≡ false → IsPlainKind k) → AnswersOnce (kind_of k)
-kind_once (term_kind.Decl pure multi partial recursive by x) h = let plain = h refl in subst (λ k. AnswersOnce (kind_of k)) plain.is (flag_once plain.pure plain.partial plain.by plain.how)
+kind_once (term_kind.Decl pure multi partial recursive by x) h = let plain = h refl in subst (λ k. AnswersOnce (kind_of k)) plain.is (flag_once plain.pure plain.partial plain.recursive plain.by plain.how)
 kind_once (term_kind.Variant ty variant) h = tt
 kind_once (term_kind.Struct ty) h = tt
 
@@ -42,7 +42,7 @@ by_kind (term_kind.Decl pure false partial recursive by (extractor.External func
   where
     kind_is : (f : Sym) (k : ReturnKind) (x : Sym × ReturnKind) → Some (f, k) ≡ Some x → k ≡ x.1
     kind_is f k x same = cc
-by_kind (term_kind.Decl pure true partial recursive by (extractor.External func infallible)) extracted plain e = let h = plain refl in let bad : term_kind.Decl h.pure false h.partial false h.by h.how ≡ term_kind.Decl pure true partial recursive by (extractor.External func infallible) = h.is in cc
+by_kind (term_kind.Decl pure true partial recursive by (extractor.External func infallible)) extracted plain e = let h = plain refl in let bad : term_kind.Decl h.pure false h.partial h.recursive h.by h.how ≡ term_kind.Decl pure true partial recursive by (extractor.External func infallible) = h.is in cc
 by_kind (term_kind.Decl pure multi partial recursive by extractor.Absent) extracted plain e = cc
 by_kind (term_kind.Decl pure multi partial recursive by extractor.Internal) extracted plain e = cc
 by_kind (term_kind.Variant ty variant) extracted plain e = cc

@@ -1,6 +1,6 @@
 -- Refusals of the texts of files.
-use Rattle.std.proofs.Common.{◌≡◌, ◌⊎◌, inl, inr, ⊎_elim, ℕ, List, [], ◌∷◌, length, true, Result, Ok, Err, Option, Some, refl, sym, subst}
-use Rattle.std.specs.Prelude.{All, IfErr, IfSome}
+use Rattle.std.proofs.Common.{◌≡◌, ◌⊎◌, inl, inr, ⊎_elim, ℕ, zero, suc, List, [], ◌∷◌, length, map, Bool, true, false, Result, Ok, Err, Option, Some, None, refl, sym, ap, ◌∙◌, subst}
+use Rattle.std.specs.Prelude.{All, IfErr, IfSome, slice_get}
 use Rattle.std.proofs.lemmas.List.Elements.{All-from_recursion}
 use Rattle.isle_outside.specs.Directory.{Contents, Counts}
 use Rattle.isle_core.specs.declared.options.CodegenOptions.{CodegenOptions}
@@ -17,7 +17,7 @@ use Rattle.isle_sema.specs.declared.typing.EnvError.{EnvError}
 use Rattle.isle_sema.specs.declared.typing.EnvError.TheVariants as env_error
 use Rattle.isle_sema.specs.Typing.{SomeTyped, IsUntyped, told_fault}
 use Rattle.isle_types.specs.Gathered.{TellsTyping}
-use Rattle.isle_checks.specs.CheckList.{IsCheckList}
+use Rattle.isle_checks.specs.CheckList.{IsCheckList, IsClean}
 use Rattle.isle_checks.proofs.PlacedErrors.{errors_placed}
 use Rattle.isle_codegen.specs.declared.compile_error.CompileError.{CompileError}
 use Rattle.isle_codegen.specs.declared.compile_error.CompileError.TheVariants as compile_error
@@ -25,10 +25,17 @@ use Rattle.isle_codegen.specs.declared.file_error.FileError.{FileError}
 use Rattle.isle_codegen.specs.declared.file_error.FileError.TheVariants as error
 use Rattle.isle_codegen.specs.Causes.{printed, of_texts, IsNotOfIt, IsUncompiled, IsRefusal, AllTried, HasCause}
 use Rattle.isle_codegen.specs.Emission.{DefsArePlaced}
-use Rattle.isle_codegen.specs.Errors.{IsErrors, TellsParseError, of_parsing, of_defs as of_source, of_types, of_rules}
+use Rattle.isle_codegen.specs.Errors.{IsErrors, TellsParseError, of_parsing, of_defs as of_source, of_types, of_rules, of_recursion}
 use Rattle.isle_codegen.specs.Names.{are_file_names}
 use Rattle.isle_codegen.specs.Source.{Source, GoesWrong, IsCompilable, SomeCompilable, InLanguage}
-use Rattle.isle_codegen.proofs.Placed.{rules_placed, wrong_placed, typing_placed}
+use Rattle.isle_codegen.proofs.Placed.{terms_placed, rules_placed, wrong_placed, typing_placed}
+use Rattle.isle_recursion.specs.Recursions.{told_before, recursion_error}
+use Rattle.isle_recursion.specs.RuleErrors.{AreUnmarkedTerms, IsRecursionOf}
+use Rattle.isle_core.specs.declared.TermId.{TermId}
+use Rattle.isle_core.specs.declared.types.Term.{Term}
+use Rattle.isle_core.specs.Terms.{with_rules}
+use Rattle.std.specs.List.{AllByRecursion}
+use Rattle.std.proofs.lemmas.Option.{same_Some}
 
 -- why texts give no text, where the definitions that they spell give none
 pub of_defs : (e : CompileError) (names texts : List (List ℕ)) (defs : List Def) → Source 0 texts defs → ((others : List Def) → Source 0 texts others → others ≡ defs) → IsUncompiled e (record { file_names = names; file_texts = texts }) defs
@@ -64,6 +71,36 @@ told_errors e files defs env errors is compilable placed named list some = ⊎_e
     (λ s. subst (λ x. IsUncompiled x files defs) (sym s) (record {
       told = record { given = refl; placed = errors_placed files env errors (rules_placed files defs env compilable.typed placed) list };
       cause = of_rules named (record { env = env; compilable = compilable; list = list; some = some });
+    }))
+    is
+
+-- the errors of terms that use themselves, which are declared in the files
+recursion_placed : (files : Files) (ts : List Term) (ids : List TermId) (ps : List Pos) (env : Environment) → env.terms ≡ ts → AllByRecursion (λ (t : Term). LiesIn files t.decl_pos) ts → AreUnmarkedTerms env ids ps → AllByRecursion (LiesIn files) ps
+recursion_placed files ts [] ps env is placed h = subst (AllByRecursion (LiesIn files)) (sym h) tt
+recursion_placed files ts (id ∷ ids) ps env is placed h =
+    subst (AllByRecursion (LiesIn files)) (sym h.4) (by h.0 (slice_get env.terms id.0) (λ t e. placed_at ts id.0 t placed (ap (λ us. slice_get us id.0) (sym is) ∙ e)) (recursion_placed files ts ids h.1 env is placed h.3))
+  where
+    placed_at : (us : List Term) (i : ℕ) (t : Term) → AllByRecursion (λ (u : Term). LiesIn files u.decl_pos) us → slice_get us i ≡ Some t → LiesIn files t.decl_pos
+    placed_at [] i t k e = cc
+    placed_at (u ∷ us) zero t k e = subst (λ (x : Term). LiesIn files x.decl_pos) (same_Some u t e) k.0
+    placed_at (u ∷ us) (suc i) t k e = placed_at us i t k.1 e
+
+    by : (b : Bool) (o : Option Term) → ((t : Term) → o ≡ Some t → LiesIn files t.decl_pos) → AllByRecursion (LiesIn files) h.1 → AllByRecursion (LiesIn files) (told_before b o h.1)
+    by false o k rest = rest
+    by true None k rest = rest
+    by true (Some t) k rest = (k t refl, rest)
+
+errors_lie : (files : Files) (ps : List Pos) → AllByRecursion (LiesIn files) ps → AllByRecursion (IsPlaced files) (map recursion_error ps)
+errors_lie files [] h = tt
+errors_lie files (p ∷ ps) h = (h.0, errors_lie files ps h.1)
+
+pub recursion_told : (e : CompileError) (files : Files) (defs : List Def) (env : Environment) (errors : List Error) → (e ≡ compile_error.Memory) ⊎ (e ≡ compile_error.Errors (record { errors = errors; files = files })) → IsCompilable defs env → DefsArePlaced files defs
+    → are_file_names files.file_names ≡ true → IsClean env → IsRecursionOf env errors → (errors ≡ [] → ⊥) → IsUncompiled e files defs
+recursion_told e files defs env errors is compilable placed named clean list some = ⊎_elim
+    (λ s. subst (λ x. IsUncompiled x files defs) (sym s) tt)
+    (λ s. subst (λ x. IsUncompiled x files defs) (sym s) (record {
+      told = record { given = refl; placed = subst (All (IsPlaced files)) (sym list.2) (All-from_recursion (IsPlaced files) (map recursion_error list.0) (errors_lie files list.0 (recursion_placed files env.terms (with_rules env) list.0 env refl (terms_placed files defs env compilable.typed placed) list.1))) };
+      cause = of_recursion named (record { env = env; compilable = compilable; clean = clean; list = list; some = some });
     }))
     is
 

@@ -9,7 +9,7 @@ use Rattle.isle_codegen.specs.Source.{Source}
 use Rattle.isle_codegen.specs.Emission.{IsGiven, ArePlaced}
 
 -- the environment is the one of the one list of definitions that the files' texts spell; it may be emitted, its terms
--- are declared in the files, nothing is wrong with its rules, and the files' names may be emitted too
+-- are declared in the files, nothing is wrong with its rules, each term that uses itself is marked so, and the files' names may be emitted too
 pub record IsChecked (files : Files) (env : Environment) : Type 0 where
   pub defs : List Def
   pub source : Source 0 files.file_texts defs

@@ -22,10 +22,11 @@ use Rattle.isle_tree.specs.Program.{Function}
 use Rattle.isle_simulation.specs.TermFunction.{term_function}
 use Rattle.isle_simulation.specs.Emitted.{IsEmittable}
 use Rattle.isle_simulation.specs.RustNames.{HasRustNames}
+use Rattle.isle_simulation.specs.TermFns.{HasTermFns}
 use Rattle.isle_simulation.specs.TraitFns.{HasFnNames}
 
 -- the term is there and may be emitted, its declaration lies in the files, its rule set is ready for a block, functions of
--- the trait may be called by their names, and types and constants have names of Rust
+-- the trait and of terms may be called by their names, and types and constants have names of Rust
 pub record CanEmit (files : Files) (env : Environment) (s : TermId × RuleSet) : Type 0 where
   pub term : Term
   pub found : slice_get env.terms s.0.0 ≡ Some term
@@ -33,6 +34,7 @@ pub record CanEmit (files : Files) (env : Environment) (s : TermId × RuleSet) :
   pub emittable : IsEmittable env term
   pub ready : IsSerializable env term s.1
   pub fns : HasFnNames env
+  pub term_fns : HasTermFns env
   pub names : HasRustNames env
 
 -- the block means the rule set

@@ -11,11 +11,12 @@ use Rattle.isle_core.specs.ErrorLines.{IsPlaced}
 use Rattle.isle_core.specs.Rule.{Environment}
 use Rattle.isle_ast.specs.Tree.{Def}
 use Rattle.isle_types.specs.Gathered.{TellsTyping}
-use Rattle.isle_checks.specs.CheckList.{IsCheckList}
+use Rattle.isle_checks.specs.CheckList.{IsCheckList, IsClean}
 use Rattle.isle_codegen.specs.declared.file_error.FileError.{FileError}
 use Rattle.isle_codegen.specs.declared.file_error.FileError.TheVariants as file
 use Rattle.isle_codegen.specs.Names.{are_file_names}
 use Rattle.isle_codegen.specs.Source.{Source, GoesWrong, IsCompilable}
+use Rattle.isle_recursion.specs.RuleErrors.{IsRecursionOf}
 
 -- the definitions give an environment that may be emitted, and these are the errors of its rules, of which there are some
 pub record HasCheckErrors (defs : List Def) (errors : List Error) : Type 0 where
@@ -27,6 +28,15 @@ pub record HasCheckErrors (defs : List Def) (errors : List Error) : Type 0 where
 -- errors have their places in the files that they are told with
 abbrev pub HavePlaces : ErrorList → Type 0
 HavePlaces e = All (IsPlaced e.files) e.errors
+
+-- the definitions give an environment that may be emitted and with whose rules nothing is wrong, and these are the errors of its terms that use
+-- themselves and are not marked so, of which there are some
+pub record HasRecursionErrors (defs : List Def) (errors : List Error) : Type 0 where
+  pub env : Environment
+  pub compilable : IsCompilable defs env
+  pub clean : IsClean env
+  pub list : IsRecursionOf env errors
+  pub some : errors ≡ [] → ⊥
 
 -- errors are told with these files, and have their places in them
 pub record AreToldIn (files : Files) (e : ErrorList) : Type 0 where
@@ -46,11 +56,12 @@ pub record HasTypeError (defs : List Def) (errors : List Error) : Type 0 where
   pub told : TellsTyping (told_fault defs) (Some error)
   pub one : errors ≡ error ∷ []
 
--- why definitions of files with these printed names have these errors: of typing; or of rules, where the names may
--- be emitted
+-- why definitions of files with these printed names have these errors: of typing; or of rules, or else of terms that use themselves, where
+-- the names may be emitted
 pub data HaveDefErrors (names : List (List ℕ)) (defs : List Def) (errors : List Error) : Type 0 where
   of_types : HasTypeError defs errors → HaveDefErrors names defs errors
   of_rules : are_file_names names ≡ true → HasCheckErrors defs errors → HaveDefErrors names defs errors
+  of_recursion : are_file_names names ≡ true → HasRecursionErrors defs errors → HaveDefErrors names defs errors
 
 -- why texts of files with these printed names have these errors: the first text that goes wrong does so at the place of the
 -- one error; or they spell definitions, and no others, that have them

@@ -6,6 +6,7 @@ use Rattle.isle_core.specs.declared.position.Pos.{Pos}
 use Rattle.isle_grammar.specs.Spelling.{Spells, IsTextFault}
 use Rattle.isle_sema.specs.Typing.{Typed, told_fault}
 use Rattle.isle_checks.specs.CheckList.{IsClean}
+use Rattle.isle_recursion.specs.RuleErrors.{IsRecursionOf}
 use Rattle.isle_codegen.specs.Names.{are_term_names, has_a_rule}
 use Rattle.isle_items.specs.LawfulNames.{AreLawful}
 use Rattle.isle_simulation.specs.TraitFns.{HasFnNames}
@@ -39,10 +40,11 @@ SomeCompilable defs = (env : Environment) × IsCompilable defs env
 abbrev pub InLanguage : List (List ℕ) → Type 0
 InLanguage texts = (defs : List Def) × (env : Environment) × Source 0 texts defs × IsCompilable defs env
 
--- they are, and nothing is wrong with the rules
+-- they are, nothing is wrong with the rules, and each term that uses itself is marked so
 pub record AreAccepted (texts : List (List ℕ)) : Type 0 where
   pub defs : List Def
   pub env : Environment
   pub source : Source 0 texts defs
   pub compilable : IsCompilable defs env
   pub clean : IsClean env
+  pub marked : IsRecursionOf env []

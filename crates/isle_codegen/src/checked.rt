@@ -20,6 +20,7 @@ use isle_checks::{CheckError, overlap};
 use isle_core::{Error, Errors, Files, List, RuleSet, TermEnv, TermId, TypeEnv};
 use isle_emission::trait_fns;
 use isle_items::are_lawful;
+use isle_recursion::recursion;
 use isle_sema::{EnvError, env_from_ast};
 use isle_tree::TraitFn;
 use std::alloc::Global;
@@ -35,8 +36,8 @@ pub struct Checked {
 
 /// Checks the definitions that the files' texts spell, in order, and returns their environment (`specs/Checked.antt`).
 /// There are as many names as texts. `NotYet` comes exactly where the texts are not of the language that is built, or a
-/// file's name may not be emitted; `Errors` where these definitions have rules that are unreachable, overlap or are shadowed, and tells each
-/// (`specs/Errors.antt`); beside these only want of memory.
+/// file's name may not be emitted; `Errors` where these definitions have rules that are unreachable, overlap or are shadowed, or else terms that use themselves
+/// and are not marked so, and tells each (`specs/Errors.antt`); beside these only want of memory.
 pub fn check_files(alloc: Global, files: &Files) -> Result<Checked, FileError>
     requires count { length files.now.file_texts ≡ length files.now.file_names }
     ensures ok { IfOk result (λ c. IsChecked files.now (environment c.typeenv c.termenv)) }
@@ -55,7 +56,7 @@ pub fn check_files(alloc: Global, files: &Files) -> Result<Checked, FileError>
 
 /// Checks definitions that stand in the files, and returns their environment with the functions of the trait. `NotYet`
 /// comes exactly where they are not of the language that is built, or a name may not be emitted; `Errors` where rules
-/// are unreachable, overlap or are shadowed, and tells each (`specs/Errors.antt`); beside these only want of memory.
+/// are unreachable, overlap or are shadowed, or else terms use themselves and are not marked so, and tells each (`specs/Errors.antt`); beside these only want of memory.
 pub fn check_defs(
     alloc: Global,
     files: &Files,
@@ -77,8 +78,13 @@ pub fn check_defs(
     if !are_file_names(files.file_names.as_slice()) {
         return Err(CompileError::NotYet);
     }
-    match overlap::check(alloc, &termenv) {
-        Ok(terms) => {
+    let terms = match overlap::check(alloc, &termenv) {
+        Ok(terms) => terms,
+        Err(CheckError::Rules(errors)) => return Err(told(alloc, files, errors)),
+        Err(CheckError::Memory) => return Err(CompileError::Memory),
+    };
+    match recursion::check(alloc, terms.as_slice(), &termenv) {
+        Ok(()) => {
             let checked = Checked {
                 typeenv,
                 termenv,

@@ -4,14 +4,12 @@ use Rattle.std.specs.Prelude.{IsSomeAnd, slice_get, OnOk, OnErr}
 use Rattle.std.proofs.lemmas.List.{take-append-drop}
 use Rattle.isle_outside.specs.Directory.{Contents, Counts, Rose}
 use Rattle.isle_outside.specs.Sinks.{Took, TookPart}
-use Rattle.isle_outside.specs.declared.errors.IoCause.{IoCause}
 use Rattle.isle_command_line.specs.Request.{Request}
 use Rattle.isle_command_line.specs.Lines.{LineS, IsBad}
 use Rattle.isle_run.specs.declared.refusal.Refusal.{Refusal}
 use Rattle.isle_run.specs.declared.refusal.Refusal.TheVariants as refusal
-use Rattle.isle_top.specs.Requests.{inputs_of}
 use Rattle.isle_top.specs.Causes.{HasCause}
-use Rattle.isle_top.specs.Lines.{Wrote, unread_line, bad_word_line}
+use Rattle.isle_top.specs.Lines.{Wrote, bad_word_line}
 use Rattle.isle_top.specs.Statuses.{IsOfLine, IsNoLine, Tells, Says, IsTold, Ends}
 use Rattle.isle_top.specs.Statuses as statuses
 

@@ -1,5 +1,5 @@
 -- Why a run gives no lines is the cause of its refusal.
-use Rattle.std.proofs.Common.{◌≡◌, inr, ℕ, List, [], ◌∷◌, false, Option, refl}
+use Rattle.std.proofs.Common.{inr, ℕ, List, false, Option, refl}
 use Rattle.isle_outside.specs.Directory.{Contents, Counts}
 use Rattle.isle_values.specs.Written.{Writtens}
 use Rattle.isle_command_line.specs.Request.{Run}
@@ -8,7 +8,7 @@ use Rattle.isle_command_line.specs.declared.commands.Source.TheVariants.{File}
 use Rattle.isle_run.specs.declared.refusal.Refusal.{Refusal}
 use Rattle.isle_run.specs.declared.refusal.Refusal.TheVariants as refusal
 use Rattle.isle_run.proofs.OfRun.{lines_of, lines_placed}
-use Rattle.isle_top.specs.Requests.{AreBuilt, IsBuilt}
+use Rattle.isle_top.specs.Requests.{AreBuilt}
 use Rattle.isle_top.specs.Causes.{GivesNoLines, HasCause}
 
 -- the cause of a refusal of a run whose line is built

@@ -1,11 +1,11 @@
 -- A valid line has no refusal but want of memory, where no call of the directory fails.
-use Rattle.std.proofs.Common.{◌≡◌, ◌⊎◌, ⊎_elim, ℕ, ◌<◌, ◌≤◌, zero, suc, List, [], ◌∷◌, length, true, false, Option, Some, None, Result, Ok, Err, refl, sym, ap, ◌∙◌, subst, arith}
+use Rattle.std.proofs.Common.{◌≡◌, ⊎_elim, ℕ, ◌<◌, ◌≤◌, zero, suc, List, [], ◌∷◌, length, true, false, Option, Some, None, Result, Ok, Err, refl, sym, ◌∙◌, subst, arith}
 use Rattle.std.specs.Prelude.{◌^◌, IsSomeAnd, IfErr, IsOkUnless, IsUtf8, slice_get}
 use Rattle.isle_outside.specs.Directory.{Contents, bytes_of, Rose, Counts}
 use Rattle.isle_outside.specs.Reading.{IsText, IsCause, RoseAt}
 use Rattle.isle_outside.specs.declared.errors.IoCause.{IoCause}
 use Rattle.isle_outside.specs.declared.errors.IoCause.TheVariants as cause
-use Rattle.isle_core.specs.Inputs.{AreRead, FailsAt, Fails}
+use Rattle.isle_core.specs.Inputs.{AreRead, Fails}
 use Rattle.isle_core.specs.declared.read_error.ReadError.TheVariants as read
 use Rattle.isle_core.specs.declared.errors.Errors.{Errors}
 use Rattle.isle_values.specs.Written.{Writtens}

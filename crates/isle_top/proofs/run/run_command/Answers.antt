@@ -1,4 +1,4 @@
-use Rattle.std.proofs.Common.{rules, refl, sym}
+use Rattle.std.proofs.Common.{rules, refl}
 use Rattle.isle_command_line.specs.Views.{seen_command}
 use Rattle.isle_top.specs.Statuses as statuses
 use Rattle.isle_top.proofs.Refusals.{says_end}
