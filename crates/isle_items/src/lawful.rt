@@ -11,8 +11,8 @@ use isle_core::{Field, Fields, OutOfMemory, Sym, TypeDef, TypeEnv, TypeId, Varia
 use isle_spelling::{is_identifier, is_name};
 use std::alloc::Global;
 
-// Whether a type may have the name.
-fn is_type_name(name: &str, has_rules: bool) -> bool
+/// Tells whether a type may have the name, where a term has rules or none has.
+pub fn is_type_name(name: &str, has_rules: bool) -> bool
     ensures { IsTrue result ↔ IsTypeName has_rules name.now }
 {
     if !is_name(name) {
@@ -102,8 +102,8 @@ fn are_lawful_types(types: &TypeEnv, has_rules: bool) -> bool
     true
 }
 
-// Whether a constant may have the name.
-fn is_constant_name(name: &str) -> bool
+/// Tells whether a constant may have the name.
+pub fn is_constant_name(name: &str) -> bool
     ensures { IsTrue result ↔ IsConstantName name.now }
 {
     if !is_name(name) {

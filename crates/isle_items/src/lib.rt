@@ -8,4 +8,5 @@ mod texts;
 mod words;
 
 pub use items::type_items;
-pub use lawful::are_lawful;
+pub use lawful::{are_lawful, is_constant_name, is_type_name};
+pub use texts::emitted_name;

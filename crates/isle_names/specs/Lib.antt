@@ -1,0 +1,5 @@
+pub mod Claims
+pub mod Functions
+pub mod Judges
+pub mod NameFault
+pub mod Words
