@@ -32,7 +32,7 @@ use Rattle.isle_core.specs.BuiltRule.{IsBuiltRule, CallsBuiltTerms}
 use Rattle.isle_core.proofs.LawfulExists.{lawful_with}
 use Rattle.isle_codegen.specs.FromBlock.{AreFromBlocks}
 use Rattle.isle_codegen.specs.Meant.{IsMeant}
-use Rattle.isle_codegen.specs.Names.{has_a_rule}
+use Rattle.isle_names.specs.Claims.{is_ruled}
 use Rattle.isle_codegen.specs.Headline.{FunctionsMean}
 use Rattle.isle_codegen.proofs.EmittedNames.{emitted_names, distinct_names}
 use Rattle.isle_codegen.proofs.MeanRules.{HasFunction, has_function, means_rules, of_term}
@@ -99,8 +99,8 @@ are_well_formed files env p [] (f ∷ fs) same c h = absurd h
 are_well_formed files env p (s ∷ sets) [] same c h = absurd h
 
 -- the types of all terms have names of Rust, and each answers at most once, also by an external extractor
-plain_terms : (defs : List Def) (env : Environment) → Typed defs env → AreLawful (has_a_rule env.rules) env.types → AllByRecursion (IsPlainTerm env) env.terms
-plain_terms defs env typed lawful = each env.terms (λ i t e. record { types = texts_are (has_a_rule env.rules) env (t.ret_ty ∷ t.arg_tys) lawful (typed_types defs env i t typed e); once = typed_once defs env i t typed e; extractor = typed_extractor defs env i t typed e })
+plain_terms : (defs : List Def) (env : Environment) → Typed defs env → AreLawful (is_ruled env.rules) env.types → AllByRecursion (IsPlainTerm env) env.terms
+plain_terms defs env typed lawful = each env.terms (λ i t e. record { types = texts_are (is_ruled env.rules) env (t.ret_ty ∷ t.arg_tys) lawful (typed_types defs env i t typed e); once = typed_once defs env i t typed e; extractor = typed_extractor defs env i t typed e })
   where
     each : (ts : List Term) → ((i : ℕ) (t : Term) → slice_get ts i ≡ Some t → IsPlainTerm env t) → AllByRecursion (IsPlainTerm env) ts
     each [] h = tt
@@ -118,15 +118,15 @@ module _ (defs : List Def) (files : Files) (env : Environment) (typed : Typed de
   declared_in p e = subst (λ (xs : List Function). AreDeclared files env (with_rules env) xs) (sym e) (subst (λ (ids : List TermId). AreDeclared files env ids fs) stand.ids (are_declared files env sets fs emitted))
 
   -- a program of these functions, those of the trait and the declared types is well formed
-  pub program_well_formed : (p : Program) → HasFnNames env → AreLawful (has_a_rule env.rules) env.types → p.trait_fns ≡ trait_fns_of env → p.types ≡ type_items_of env → p.fns ≡ fs → AllByRecursion (CanEmit files env) sets → IsWellFormed p
+  pub program_well_formed : (p : Program) → HasFnNames env → AreLawful (is_ruled env.rules) env.types → p.trait_fns ≡ trait_fns_of env → p.types ≡ type_items_of env → p.fns ≡ fs → AllByRecursion (CanEmit files env) sets → IsWellFormed p
   program_well_formed p names lawful a b e c =
       record {
         trait_fns = subst (AllByRecursion IsTraitFn) (sym a) (fns_are env env.terms names.identifiers (plain_terms defs env typed lawful));
-        types = subst (AllByRecursion IsTypeItem) (sym b) (items_are (has_a_rule env.rules) env.types lawful (typed_parts defs env typed).types);
+        types = subst (AllByRecursion IsTypeItem) (sym b) (items_are (is_ruled env.rules) env.types lawful (typed_parts defs env typed).types);
         fns = subst (AllByRecursion (IsFunction p)) (sym e) (are_well_formed files env p sets fs (callables_are files env p a (declared_in p e)) c emitted);
         distinct = subst (λ (xs : List Function). IsDistinct bytes_eq (map (λ (f : Function). f.term) xs)) (sym e) distinct;
         trait_names = subst (λ (xs : List TraitFn). IsDistinct bytes_eq (fn_names xs)) (sym a) names.distinct;
-        type_names = subst (λ (xs : List TypeItem). IsDistinct bytes_eq (declared_names xs)) (sym b) (items_apart (has_a_rule env.rules) env.types lawful);
+        type_names = subst (λ (xs : List TypeItem). IsDistinct bytes_eq (declared_names xs)) (sym b) (items_apart (is_ruled env.rules) env.types lawful);
       }
 
   -- the function of each term with rules
@@ -148,13 +148,13 @@ module _ (defs : List Def) (files : Files) (env : Environment) (typed : Typed de
       of_rules P k = recursion_from_All P (rules_of env id) (of_term P env id k)
 
   -- and its functions mean the rules
-  pub program_means : (p : Program) → HasFnNames env → HasTermFns env → AreLawful (has_a_rule env.rules) env.types → p.fns ≡ fs → FunctionsMean files env p
+  pub program_means : (p : Program) → HasFnNames env → HasTermFns env → AreLawful (is_ruled env.rules) env.types → p.fns ≡ fs → FunctionsMean files env p
   program_means p names term_fns lawful e =
       record {
         names = ap (map (λ (f : Function). f.term)) e ∙ names_of;
         declared = declared_in p e;
         blocks = subst (λ (xs : List Function). AreFromBlocks files env (with_rules env) xs) (sym e) (subst (λ (ids : List TermId). AreFromBlocks files env ids fs) stand.ids (are_from_blocks files env sets fs (recursion_from_All (λ (s : TermId × RuleSet). StandsFor env s.1 (rules_of env s.0)) sets stand.stand) emitted));
-        mean = λ id c. means_rules defs files env p id typed clean (has_rust_names (has_a_rule env.rules) env lawful (typed_parts defs env typed)) names term_fns c (subst (λ (xs : List Function). HasFunction files env xs id) (sym e) (function_for id c));
+        mean = λ id c. means_rules defs files env p id typed clean (has_rust_names (is_ruled env.rules) env lawful (typed_parts defs env typed)) names term_fns c (subst (λ (xs : List Function). HasFunction files env xs id) (sym e) (function_for id c));
         meant = λ id c. meant_of names id (function_for id c).emitted.term (function_for id c).emitted.found;
         values = inhabited_valued env (typed_parts defs env typed).variants;
       }

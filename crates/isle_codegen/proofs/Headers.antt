@@ -7,7 +7,8 @@ use Rattle.isle_printer.specs.Token.{tokens_of, without_comments}
 use Rattle.isle_printer.proofs.Comments.{comment_lines-append, are_lines-append, tokens-comment_lines}
 use Rattle.isle_tree.specs.Program.{Program}
 use Rattle.isle_target.specs.Reading.{program_of, read_program, SpellsOnly}
-use Rattle.isle_codegen.specs.Names.{is_name_byte, is_file_name, are_file_names}
+use Rattle.isle_names.specs.Words.{is_name_byte, is_file_name}
+use Rattle.isle_codegen.specs.Names.{are_file_names}
 use Rattle.isle_codegen.specs.Header.{first_lines, file_line, header_lines, header}
 
 -- the line of one file more

@@ -13,7 +13,7 @@ pub mod TermFunctions
 pub mod InhabitedTypes
 pub mod EmittedProgram
 pub mod Placed
-pub mod RootNames
+pub mod LawfulNames
 pub mod PlainTerms
 pub mod Emissions
 pub mod Answerable

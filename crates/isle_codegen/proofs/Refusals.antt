@@ -1,5 +1,5 @@
 -- Refusals of the texts of files.
-use Rattle.std.proofs.Common.{◌≡◌, ◌⊎◌, inl, inr, ⊎_elim, ℕ, zero, suc, List, [], ◌∷◌, length, map, Bool, true, false, Result, Ok, Err, Option, Some, None, refl, sym, ap, ◌∙◌, subst}
+use Rattle.std.proofs.Common.{◌≡◌, ◌⊎◌, ⊎_elim, ℕ, zero, suc, List, [], ◌∷◌, length, map, Bool, true, false, Result, Ok, Err, Option, Some, None, refl, sym, ap, ◌∙◌, subst}
 use Rattle.std.specs.Prelude.{All, IfErr, IfSome, slice_get}
 use Rattle.std.proofs.lemmas.List.Elements.{All-from_recursion}
 use Rattle.isle_outside.specs.Directory.{Contents, Counts}
@@ -13,21 +13,20 @@ use Rattle.isle_core.specs.declared.files.Files.{Files}
 use Rattle.isle_core.specs.Inputs.{AreRead}
 use Rattle.isle_core.specs.Rule.{Environment}
 use Rattle.isle_ast.specs.Tree.{Def}
-use Rattle.isle_sema.specs.declared.typing.EnvError.{EnvError}
-use Rattle.isle_sema.specs.declared.typing.EnvError.TheVariants as env_error
-use Rattle.isle_sema.specs.Typing.{SomeTyped, IsUntyped, told_fault}
+use Rattle.isle_sema.specs.Typing.{Typed, told_fault}
 use Rattle.isle_types.specs.Gathered.{TellsTyping}
 use Rattle.isle_checks.specs.CheckList.{IsCheckList, IsClean}
 use Rattle.isle_checks.proofs.PlacedErrors.{errors_placed}
+use Rattle.isle_checks.specs.declared.overlap.CheckError.{CheckError}
+use Rattle.isle_checks.specs.declared.overlap.CheckError.TheVariants as check
 use Rattle.isle_codegen.specs.declared.compile_error.CompileError.{CompileError}
 use Rattle.isle_codegen.specs.declared.compile_error.CompileError.TheVariants as compile_error
 use Rattle.isle_codegen.specs.declared.file_error.FileError.{FileError}
 use Rattle.isle_codegen.specs.declared.file_error.FileError.TheVariants as error
-use Rattle.isle_codegen.specs.Causes.{printed, of_texts, IsNotOfIt, IsUncompiled, IsRefusal, AllTried, HasCause}
+use Rattle.isle_codegen.specs.Causes.{printed, of_texts, IsFound, IsUncompiled, IsRefusal, AllTried, HasCause}
 use Rattle.isle_codegen.specs.Emission.{DefsArePlaced}
-use Rattle.isle_codegen.specs.Errors.{IsErrors, TellsParseError, of_parsing, of_defs as of_source, of_types, of_rules, of_recursion}
-use Rattle.isle_codegen.specs.Names.{are_file_names}
-use Rattle.isle_codegen.specs.Source.{Source, GoesWrong, IsCompilable, SomeCompilable, InLanguage}
+use Rattle.isle_codegen.specs.Errors.{IsErrors, IsNameError, TellsParseError, of_parsing, of_defs as of_source, of_types, of_rules, of_recursion}
+use Rattle.isle_codegen.specs.Source.{Source, GoesWrong}
 use Rattle.isle_codegen.proofs.Placed.{terms_placed, rules_placed, wrong_placed, typing_placed}
 use Rattle.isle_recursion.specs.Recursions.{told_before, recursion_error}
 use Rattle.isle_recursion.specs.RuleErrors.{AreUnmarkedTerms, IsRecursionOf}
@@ -40,14 +39,9 @@ use Rattle.std.proofs.lemmas.Option.{same_Some}
 -- why texts give no text, where the definitions that they spell give none
 pub of_defs : (e : CompileError) (names texts : List (List ℕ)) (defs : List Def) → Source 0 texts defs → ((others : List Def) → Source 0 texts others → others ≡ defs) → IsUncompiled e (record { file_names = names; file_texts = texts }) defs
     → IsRefusal (of_texts e) names texts
-of_defs compile_error.NotYet names texts defs source once h = (
-  (defs, source, h.0),
-  ⊎_elim
-      (λ (never : SomeCompilable defs → ⊥). inl (λ (l : InLanguage texts). never (l.1, subst (λ ds. IsCompilable ds l.1) (once l.0 l.2) l.3)))
-      (λ bad. inr bad) h.1,
-)
+of_defs compile_error.NotYet names texts defs source once h = (defs, source, h)
 of_defs (compile_error.Errors errors) names texts defs source once h = record { told = h.told; cause = of_source defs source once h.cause }
-of_defs (compile_error.Name name) names texts defs source once h = absurd h
+of_defs (compile_error.Name name) names texts defs source once h = record { defs = defs; source = source; once = once; error = h }
 of_defs compile_error.Memory names texts defs source once h = tt
 
 -- the error of a text that goes wrong
@@ -64,13 +58,13 @@ parse_refusal (error.Io index why) files pos same h wrong = absurd h
 parse_refusal (error.Name name) files pos same h wrong = absurd h
 
 -- errors that are told with files in which the definitions stand
-pub told_errors : (e : CompileError) (files : Files) (defs : List Def) (env : Environment) (errors : List Error) → (e ≡ compile_error.Memory) ⊎ (e ≡ compile_error.Errors (record { errors = errors; files = files })) → IsCompilable defs env → DefsArePlaced files defs
-    → are_file_names files.file_names ≡ true → IsCheckList env errors → (errors ≡ [] → ⊥) → IsUncompiled e files defs
-told_errors e files defs env errors is compilable placed named list some = ⊎_elim
+told_errors : (e : CompileError) (files : Files) (defs : List Def) (env : Environment) (errors : List Error) → (e ≡ compile_error.Memory) ⊎ (e ≡ compile_error.Errors (record { errors = errors; files = files })) → Typed defs env → DefsArePlaced files defs
+    → IsCheckList env errors → (errors ≡ [] → ⊥) → IsUncompiled e files defs
+told_errors e files defs env errors is typed placed list some = ⊎_elim
     (λ s. subst (λ x. IsUncompiled x files defs) (sym s) tt)
     (λ s. subst (λ x. IsUncompiled x files defs) (sym s) (record {
-      told = record { given = refl; placed = errors_placed files env errors (rules_placed files defs env compilable.typed placed) list };
-      cause = of_rules named (record { env = env; compilable = compilable; list = list; some = some });
+      told = record { given = refl; placed = errors_placed files env errors (rules_placed files defs env typed placed) list };
+      cause = of_rules (record { env = env; typed = typed; list = list; some = some });
     }))
     is
 
@@ -94,15 +88,27 @@ errors_lie : (files : Files) (ps : List Pos) → AllByRecursion (LiesIn files) p
 errors_lie files [] h = tt
 errors_lie files (p ∷ ps) h = (h.0, errors_lie files ps h.1)
 
-pub recursion_told : (e : CompileError) (files : Files) (defs : List Def) (env : Environment) (errors : List Error) → (e ≡ compile_error.Memory) ⊎ (e ≡ compile_error.Errors (record { errors = errors; files = files })) → IsCompilable defs env → DefsArePlaced files defs
-    → are_file_names files.file_names ≡ true → IsClean env → IsRecursionOf env errors → (errors ≡ [] → ⊥) → IsUncompiled e files defs
-recursion_told e files defs env errors is compilable placed named clean list some = ⊎_elim
+recursion_told : (e : CompileError) (files : Files) (defs : List Def) (env : Environment) (errors : List Error) → (e ≡ compile_error.Memory) ⊎ (e ≡ compile_error.Errors (record { errors = errors; files = files })) → Typed defs env → DefsArePlaced files defs
+    → IsClean env → IsRecursionOf env errors → (errors ≡ [] → ⊥) → IsUncompiled e files defs
+recursion_told e files defs env errors is typed placed clean list some = ⊎_elim
     (λ s. subst (λ x. IsUncompiled x files defs) (sym s) tt)
     (λ s. subst (λ x. IsUncompiled x files defs) (sym s) (record {
-      told = record { given = refl; placed = subst (All (IsPlaced files)) (sym list.2) (All-from_recursion (IsPlaced files) (map recursion_error list.0) (errors_lie files list.0 (recursion_placed files env.terms (with_rules env) list.0 env refl (terms_placed files defs env compilable.typed placed) list.1))) };
-      cause = of_recursion named (record { env = env; compilable = compilable; clean = clean; list = list; some = some });
+      told = record { given = refl; placed = subst (All (IsPlaced files)) (sym list.2) (All-from_recursion (IsPlaced files) (map recursion_error list.0) (errors_lie files list.0 (recursion_placed files env.terms (with_rules env) list.0 env refl (terms_placed files defs env typed placed) list.1))) };
+      cause = of_recursion (record { env = env; typed = typed; clean = clean; list = list; some = some });
     }))
     is
+
+-- what the check of rules found
+pub rules_found : (e : CompileError) (files : Files) (defs : List Def) (env : Environment) (fail : CheckError) → IsFound files fail e → Typed defs env → DefsArePlaced files defs
+    → ((errors : List Error) → fail ≡ check.Rules errors → IsCheckList env errors) → ((errors : List Error) → fail ≡ check.Rules errors → errors ≡ [] → ⊥) → IsUncompiled e files defs
+rules_found e files defs env (check.Rules errors) found typed placed list some = told_errors e files defs env errors found typed placed (list errors refl) (some errors refl)
+rules_found e files defs env check.Memory found typed placed list some = subst (λ x. IsUncompiled x files defs) (sym found) tt
+
+-- what the check of terms that use themselves found
+pub recursion_found : (e : CompileError) (files : Files) (defs : List Def) (env : Environment) (fail : CheckError) → IsFound files fail e → Typed defs env → DefsArePlaced files defs → IsClean env
+    → ((errors : List Error) → fail ≡ check.Rules errors → IsRecursionOf env errors) → ((errors : List Error) → fail ≡ check.Rules errors → errors ≡ [] → ⊥) → IsUncompiled e files defs
+recursion_found e files defs env (check.Rules errors) found typed placed clean list some = recursion_told e files defs env errors found typed placed clean (list errors refl) (some errors refl)
+recursion_found e files defs env check.Memory found typed placed clean list some = subst (λ x. IsUncompiled x files defs) (sym found) tt
 
 -- the one error of a fault that is told, in which the definitions stand
 pub typing_told : (e : CompileError) (files : Files) (defs : List Def) (error : Error) → (e ≡ compile_error.Memory) ⊎ (e ≡ compile_error.Errors (record { errors = error ∷ []; files = files })) → DefsArePlaced files defs → TellsTyping (told_fault defs) (Some error)
@@ -119,14 +125,8 @@ typing_told e files defs error is placed told = ⊎_elim
 pub read_causes : {T : Type 0} (r : Result T FileError) (options : CodegenOptions) (files : Option Contents) (inputs names texts : List (List ℕ)) (before after : Counts) → names ≡ printed options inputs
     → AllTried inputs before after → IfSome files (λ fs. AreRead fs inputs texts) → IfErr r (λ e. IsRefusal e names texts) → IfErr r (λ e. HasCause e options files inputs before after)
 read_causes (Ok x) options files inputs names texts before after is tried read h = tt
-read_causes (Err error.NotYet) options files inputs names texts before after is tried read h = (tried, record { texts = texts; read = read; refused = subst (λ (ns : List (List ℕ)). IsNotOfIt ns texts) is h })
+read_causes (Err error.NotYet) options files inputs names texts before after is tried read h = (tried, record { texts = texts; read = read; unbuilt = h })
 read_causes (Err error.Memory) options files inputs names texts before after is tried read h = tried.1
 read_causes (Err (error.Io index why)) options files inputs names texts before after is tried read h = absurd h
 read_causes (Err (error.Errors errors)) options files inputs names texts before after is tried read h = (tried, record { texts = texts; read = read; errors = subst (λ (ns : List (List ℕ)). IsErrors errors ns texts) is h })
-read_causes (Err (error.Name name)) options files inputs names texts before after is tried read h = absurd h
-
--- what gives no environment gives none that may be emitted
-pub uncompilable : (e : EnvError) (defs : List Def) → IsUntyped (told_fault defs) (SomeTyped defs) e → IsUntyped (told_fault defs) (SomeCompilable defs) e
-uncompilable (env_error.Typing error) defs h = h
-uncompilable env_error.NotYet defs h = (h.0, λ c. h.1 (c.0, c.1.typed))
-uncompilable env_error.Memory defs h = tt
+read_causes (Err (error.Name name)) options files inputs names texts before after is tried read h = (tried, record { texts = texts; read = read; error = subst (λ (ns : List (List ℕ)). IsNameError ns texts name) is h })

@@ -1,6 +1,5 @@
 -- What compiling files answers, and why.
-use Rattle.std.specs.Prelude.{◌≡◌, ℕ, ◌⊎◌, List, length, map, false, Option, None, IfSome}
-use Rattle.isle_sema.specs.Typing.{told_fault}
+use Rattle.std.specs.Prelude.{◌≡◌, ◌⊎◌, ℕ, List, length, map, Option, IfSome}
 use Rattle.isle_outside.specs.Directory.{Contents, Counts}
 use Rattle.isle_core.specs.declared.options.CodegenOptions.{CodegenOptions}
 use Rattle.isle_core.specs.declared.errors.Errors.{Errors as ErrorList}
@@ -9,29 +8,31 @@ use Rattle.isle_core.specs.declared.read_error.ReadError.TheVariants as read
 use Rattle.isle_core.specs.Inputs.{AreRead, Fails, IsTried}
 use Rattle.isle_core.specs.Printed.{shown}
 use Rattle.isle_ast.specs.Tree.{Def}
+use Rattle.isle_checks.specs.declared.overlap.CheckError.{CheckError}
+use Rattle.isle_checks.specs.declared.overlap.CheckError.TheVariants as check
 use Rattle.isle_codegen.specs.declared.compile_error.CompileError.{CompileError}
 use Rattle.isle_codegen.specs.declared.compile_error.CompileError.TheVariants as compile_error
 use Rattle.isle_codegen.specs.declared.file_error.FileError.{FileError}
 use Rattle.isle_codegen.specs.declared.file_error.FileError.TheVariants as error
-use Rattle.isle_codegen.specs.Errors.{IsErrors, AreErrorsOfDefs}
-use Rattle.isle_codegen.specs.Names.{are_file_names}
-use Rattle.isle_codegen.specs.Source.{Source, AreSpelt, SomeCompilable, InLanguage}
+use Rattle.isle_codegen.specs.Errors.{IsErrors, AreErrorsOfDefs, HasNameError, IsNameError}
+use Rattle.isle_codegen.specs.Source.{Source, AreUnbuilt, AreUnbuiltTexts}
+use Rattle.isle_names.specs.declared.name_error.NameError.{NameError}
 use Rattle.isle_codegen.specs.Headline.{HasHeadline}
 
 -- the names of the inputs, as printed
 abbrev pub printed : CodegenOptions → List (List ℕ) → List (List ℕ)
 printed options names = map (shown options.prefixes) names
 
--- the definitions have no fault that is told, and they are not of the language that is built, or a name of theirs or of a file may not
--- be emitted
-abbrev pub AreNotCompilable : FileTexts → List Def → Type 0
-AreNotCompilable files defs = (told_fault defs ≡ None) × ((SomeCompilable defs → ⊥) ⊎ (are_file_names files.file_names ≡ false))
+-- a check told these errors, with the files, or want of memory; memory may not hold the files either
+abbrev pub IsFound : FileTexts → CheckError → CompileError → Type 0
+IsFound files (check.Rules errors) e = (e ≡ compile_error.Memory) ⊎ (e ≡ compile_error.Errors (record { errors = errors; files = files }))
+IsFound files check.Memory e = e ≡ compile_error.Memory
 
 -- why definitions over files give no text
 abbrev pub IsUncompiled : CompileError → FileTexts → List Def → Type 0
-IsUncompiled compile_error.NotYet files defs = AreNotCompilable files defs
+IsUncompiled compile_error.NotYet files defs = AreUnbuilt defs
 IsUncompiled (compile_error.Errors errors) files defs = AreErrorsOfDefs errors files defs
-IsUncompiled (compile_error.Name name) files defs = ⊥
+IsUncompiled (compile_error.Name name) files defs = HasNameError files.file_names defs name
 IsUncompiled compile_error.Memory files defs = Unit {0}
 
 -- the text is that of the one list of definitions that the files' texts spell
@@ -47,18 +48,13 @@ pub record IsCompiled (options : CodegenOptions) (files : Contents) (names : Lis
   pub read : AreRead files names texts
   pub compiles : CompilesTo options (record { file_names = printed options names; file_texts = texts }) text
 
--- the texts spell definitions without a fault that is told, and are not of the language, or a name as printed may
--- not be emitted
-abbrev pub IsNotOfIt : List (List ℕ) → List (List ℕ) → Type 0
-IsNotOfIt names texts = AreSpelt texts × ((InLanguage texts → ⊥) ⊎ (are_file_names names ≡ false))
-
 -- why texts of files with these printed names give no text
 abbrev pub IsRefusal : FileError → List (List ℕ) → List (List ℕ) → Type 0
-IsRefusal error.NotYet names texts = IsNotOfIt names texts
+IsRefusal error.NotYet names texts = AreUnbuiltTexts texts
 IsRefusal error.Memory names texts = Unit {0}
 IsRefusal (error.Errors errors) names texts = IsErrors errors names texts
 IsRefusal (error.Io index why) names texts = ⊥
-IsRefusal (error.Name name) names texts = ⊥
+IsRefusal (error.Name name) names texts = IsNameError names texts name
 
 -- why files that were read give no text, where their definitions give none
 abbrev pub of_texts : CompileError → FileError
@@ -67,11 +63,17 @@ of_texts (compile_error.Errors errors) = error.Errors errors
 of_texts (compile_error.Name name) = error.Name name
 of_texts compile_error.Memory = error.Memory
 
--- all inputs were read, and they are not of the language, or a name may not be emitted
-pub record IsNotBuilt (options : CodegenOptions) (files : Option Contents) (names : List (List ℕ)) : Type 0 where
+-- all inputs were read, and their texts spell definitions that are not all built
+pub record IsNotBuilt (files : Option Contents) (names : List (List ℕ)) : Type 0 where
   pub texts : List (List ℕ)
   pub read : IfSome files (λ fs. AreRead fs names texts)
-  pub refused : IsNotOfIt (printed options names) texts
+  pub unbuilt : AreUnbuiltTexts texts
+
+-- all inputs were read, and of their names this is the first that may not be emitted
+pub record IsBadlyNamed (e : NameError) (options : CodegenOptions) (files : Option Contents) (names : List (List ℕ)) : Type 0 where
+  pub texts : List (List ℕ)
+  pub read : IfSome files (λ fs. AreRead fs names texts)
+  pub error : IsNameError (printed options names) texts e
 
 -- all inputs were read, and their texts have these errors
 pub record HasErrors (e : ErrorList) (options : CodegenOptions) (files : Option Contents) (names : List (List ℕ)) : Type 0 where
@@ -86,7 +88,7 @@ AllTried names before after = IsTried (length names) before after × (after.faul
 -- why files give no text; where the directory doesn't tell its files, some texts give none for it
 abbrev pub HasCause : FileError → CodegenOptions → Option Contents → List (List ℕ) → Counts → Counts → Type 0
 HasCause (error.Io index why) options files names before after = Fails (read.Io index why) files names before after
-HasCause error.NotYet options files names before after = AllTried names before after × IsNotBuilt options files names
+HasCause error.NotYet options files names before after = AllTried names before after × IsNotBuilt files names
 HasCause (error.Errors errors) options files names before after = AllTried names before after × HasErrors errors options files names
-HasCause (error.Name name) options files names before after = ⊥
+HasCause (error.Name name) options files names before after = AllTried names before after × IsBadlyNamed name options files names
 HasCause error.Memory options files names before after = after.faults ≡ before.faults

@@ -1,6 +1,6 @@
 -- The errors of definitions, and of the texts that spell them.
-use Rattle.std.specs.Prelude.{◌≡◌, ℕ, List, [], ◌∷◌, All, true, Some}
-use Rattle.isle_sema.specs.Typing.{told_fault}
+use Rattle.std.specs.Prelude.{◌≡◌, ℕ, List, [], ◌∷◌, All, Some}
+use Rattle.isle_sema.specs.Typing.{Typed, told_fault}
 use Rattle.isle_core.specs.declared.errors.Error.{Error}
 use Rattle.isle_core.specs.declared.errors.Error.TheVariants as error
 use Rattle.isle_core.specs.declared.position.Pos.{Pos}
@@ -14,14 +14,15 @@ use Rattle.isle_types.specs.Gathered.{TellsTyping}
 use Rattle.isle_checks.specs.CheckList.{IsCheckList, IsClean}
 use Rattle.isle_codegen.specs.declared.file_error.FileError.{FileError}
 use Rattle.isle_codegen.specs.declared.file_error.FileError.TheVariants as file
-use Rattle.isle_codegen.specs.Names.{are_file_names}
-use Rattle.isle_codegen.specs.Source.{Source, GoesWrong, IsCompilable}
+use Rattle.isle_names.specs.declared.name_error.NameError.{NameError}
+use Rattle.isle_names.specs.NameFault.{IsNameFault}
+use Rattle.isle_codegen.specs.Source.{Source, GoesWrong}
 use Rattle.isle_recursion.specs.RuleErrors.{IsRecursionOf}
 
--- the definitions give an environment that may be emitted, and these are the errors of its rules, of which there are some
+-- the definitions give an environment, and these are the errors of its rules, of which there are some
 pub record HasCheckErrors (defs : List Def) (errors : List Error) : Type 0 where
   pub env : Environment
-  pub compilable : IsCompilable defs env
+  pub typed : Typed defs env
   pub list : IsCheckList env errors
   pub some : errors ≡ [] → ⊥
 
@@ -29,14 +30,30 @@ pub record HasCheckErrors (defs : List Def) (errors : List Error) : Type 0 where
 abbrev pub HavePlaces : ErrorList → Type 0
 HavePlaces e = All (IsPlaced e.files) e.errors
 
--- the definitions give an environment that may be emitted and with whose rules nothing is wrong, and these are the errors of its terms that use
--- themselves and are not marked so, of which there are some
+-- the definitions give an environment with whose rules nothing is wrong, and these are the errors of its terms that use themselves and are
+-- not marked so, of which there are some
 pub record HasRecursionErrors (defs : List Def) (errors : List Error) : Type 0 where
   pub env : Environment
-  pub compilable : IsCompilable defs env
+  pub typed : Typed defs env
   pub clean : IsClean env
   pub list : IsRecursionOf env errors
   pub some : errors ≡ [] → ⊥
+
+-- the definitions give an environment with whose rules nothing is wrong and whose terms that use themselves are marked so, and of its names
+-- and those of the files this is the first that may not be emitted
+pub record HasNameError (names : List (List ℕ)) (defs : List Def) (e : NameError) : Type 0 where
+  pub env : Environment
+  pub typed : Typed defs env
+  pub clean : IsClean env
+  pub marked : IsRecursionOf env []
+  pub first : IsNameFault names env e
+
+-- the texts of files with these printed names spell definitions, and no others, that have this error
+pub record IsNameError (names texts : List (List ℕ)) (e : NameError) : Type 0 where
+  pub defs : List Def
+  pub source : Source 0 texts defs
+  pub once : (others : List Def) → Source 0 texts others → others ≡ defs
+  pub error : HasNameError names defs e
 
 -- errors are told with these files, and have their places in them
 pub record AreToldIn (files : Files) (e : ErrorList) : Type 0 where
@@ -56,23 +73,22 @@ pub record HasTypeError (defs : List Def) (errors : List Error) : Type 0 where
   pub told : TellsTyping (told_fault defs) (Some error)
   pub one : errors ≡ error ∷ []
 
--- why definitions of files with these printed names have these errors: of typing; or of rules, or else of terms that use themselves, where
--- the names may be emitted
-pub data HaveDefErrors (names : List (List ℕ)) (defs : List Def) (errors : List Error) : Type 0 where
-  of_types : HasTypeError defs errors → HaveDefErrors names defs errors
-  of_rules : are_file_names names ≡ true → HasCheckErrors defs errors → HaveDefErrors names defs errors
-  of_recursion : are_file_names names ≡ true → HasRecursionErrors defs errors → HaveDefErrors names defs errors
+-- why definitions have these errors: of typing; or else of rules; or else of terms that use themselves
+pub data HaveDefErrors (defs : List Def) (errors : List Error) : Type 0 where
+  of_types : HasTypeError defs errors → HaveDefErrors defs errors
+  of_rules : HasCheckErrors defs errors → HaveDefErrors defs errors
+  of_recursion : HasRecursionErrors defs errors → HaveDefErrors defs errors
 
--- why texts of files with these printed names have these errors: the first text that goes wrong does so at the place of the
+-- why texts have these errors: the first text that goes wrong does so at the place of the
 -- one error; or they spell definitions, and no others, that have them
-pub data HaveErrors (names texts : List (List ℕ)) (errors : List Error) : Type 0 where
-  of_parsing : (pos : Pos) → GoesWrong 0 texts pos → IsParseError pos errors → HaveErrors names texts errors
-  of_defs : (defs : List Def) → Source 0 texts defs → ((others : List Def) → Source 0 texts others → others ≡ defs) → HaveDefErrors names defs errors → HaveErrors names texts errors
+pub data HaveErrors (texts : List (List ℕ)) (errors : List Error) : Type 0 where
+  of_parsing : (pos : Pos) → GoesWrong 0 texts pos → IsParseError pos errors → HaveErrors texts errors
+  of_defs : (defs : List Def) → Source 0 texts defs → ((others : List Def) → Source 0 texts others → others ≡ defs) → HaveDefErrors defs errors → HaveErrors texts errors
 
 -- the errors of texts of files with these printed names
 pub record IsErrors (e : ErrorList) (names texts : List (List ℕ)) : Type 0 where
   pub told : AreToldIn (record { file_names = names; file_texts = texts }) e
-  pub cause : HaveErrors names texts e.errors
+  pub cause : HaveErrors texts e.errors
 
 -- want of memory, or the error of the grammar at this place, told with these files
 abbrev pub TellsParseError : FileError → Files → Pos → Type 0
@@ -85,4 +101,4 @@ TellsParseError (file.Name name) files pos = ⊥
 -- the errors of definitions over files
 pub record AreErrorsOfDefs (e : ErrorList) (files : Files) (defs : List Def) : Type 0 where
   pub told : AreToldIn files e
-  pub cause : HaveDefErrors files.file_names defs e.errors
+  pub cause : HaveDefErrors defs e.errors

@@ -1,13 +1,15 @@
 -- The definitions that texts spell together.
-use Rattle.std.specs.Prelude.{◌≡◌, ℕ, ◌+◌, List, [], ◌∷◌, ◌++◌, true, None}
+use Rattle.std.specs.Prelude.{◌≡◌, ℕ, ◌+◌, List, [], ◌∷◌, ◌++◌, true, false, None}
 use Rattle.isle_core.specs.Rule.{Environment}
 use Rattle.isle_ast.specs.Tree.{Def}
 use Rattle.isle_core.specs.declared.position.Pos.{Pos}
 use Rattle.isle_grammar.specs.Spelling.{Spells, IsTextFault}
+use Rattle.isle_sema.specs.Language.{are_built}
 use Rattle.isle_sema.specs.Typing.{Typed, told_fault}
 use Rattle.isle_checks.specs.CheckList.{IsClean}
 use Rattle.isle_recursion.specs.RuleErrors.{IsRecursionOf}
-use Rattle.isle_codegen.specs.Names.{are_term_names, has_a_rule}
+use Rattle.isle_names.specs.Claims.{is_ruled}
+use Rattle.isle_codegen.specs.Names.{are_term_names}
 use Rattle.isle_items.specs.LawfulNames.{AreLawful}
 use Rattle.isle_simulation.specs.TraitFns.{HasFnNames}
 
@@ -16,9 +18,13 @@ abbrev pub Source : ℕ → List (List ℕ) → List Def → Type 0
 Source file [] defs = defs ≡ []
 Source file (text ∷ texts) defs = (ds : List Def) × (es : List Def) × Spells file text ds × Source (file + 1) texts es × (defs ≡ ds ++ es)
 
--- they spell some definitions, which have no fault that is told
-abbrev pub AreSpelt : List (List ℕ) → Type 0
-AreSpelt texts = (defs : List Def) × Source 0 texts defs × (told_fault defs ≡ None)
+-- the definitions have no fault that is told, and one is of a form that isn't built
+abbrev pub AreUnbuilt : List Def → Type 0
+AreUnbuilt defs = (told_fault defs ≡ None) × (are_built defs ≡ false)
+
+-- the texts spell such definitions
+abbrev pub AreUnbuiltTexts : List (List ℕ) → Type 0
+AreUnbuiltTexts texts = (defs : List Def) × Source 0 texts defs × AreUnbuilt defs
 
 -- of the texts, read as the files from that number on, the first that spells no definitions goes wrong at this place
 pub data GoesWrong : ℕ → List (List ℕ) → Pos → Type 0 where
@@ -30,17 +36,9 @@ pub record IsCompilable (defs : List Def) (env : Environment) : Type 0 where
   pub typed : Typed defs env
   pub names : are_term_names env ≡ true
   pub fns : HasFnNames env
-  pub lawful : AreLawful (has_a_rule env.rules) env.types
+  pub lawful : AreLawful (is_ruled env.rules) env.types
 
--- some environment makes them so
-abbrev pub SomeCompilable : List Def → Type 0
-SomeCompilable defs = (env : Environment) × IsCompilable defs env
-
--- the texts are of the language: they spell such definitions
-abbrev pub InLanguage : List (List ℕ) → Type 0
-InLanguage texts = (defs : List Def) × (env : Environment) × Source 0 texts defs × IsCompilable defs env
-
--- they are, nothing is wrong with the rules, and each term that uses itself is marked so
+-- the texts spell such definitions, nothing is wrong with the rules, and each term that uses itself is marked so
 pub record AreAccepted (texts : List (List ℕ)) : Type 0 where
   pub defs : List Def
   pub env : Environment

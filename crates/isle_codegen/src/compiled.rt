@@ -10,15 +10,13 @@ ghost use Rattle.isle_codegen.specs.Causes.{IsUncompiled};
 
 use crate::checked::check_defs;
 use crate::compile_error::CompileError;
-use crate::text::text_of;
+use crate::text::codegen;
 use isle_ast::Def;
 use isle_core::{CodegenOptions, Files};
 use std::alloc::Global;
 
 /// Compiles definitions that stand in the files, and returns the text of the program that they give
-/// (`specs/Headline.antt`). `NotYet` comes exactly where they are not of the language that is built, or a name may not be
-/// emitted; `Errors` where rules are unreachable, overlap or are shadowed, and tells each (`specs/Errors.antt`); beside these only want of
-/// memory.
+/// (`specs/Headline.antt`). The errors are those of `check_defs`.
 pub fn compile(
     alloc: Global,
     files: &Files,
@@ -33,17 +31,16 @@ pub fn compile(
     ensures headline { IfOk result (λ text. HasHeadline options.now files.now (seen defs.now) (string_bytes text)) }
     ensures err { IfErr result (λ e. IsUncompiled e files.now (seen defs.now)) }
 {
-    let (checked, fns) = match check_defs(alloc, files, defs) {
+    let checked = match check_defs(alloc, files, defs) {
         Ok(checked) => checked,
         Err(fail) => return Err(fail),
     };
-    match text_of(
+    match codegen(
         alloc,
         files,
         &checked.typeenv,
         &checked.termenv,
         checked.terms.as_slice(),
-        fns,
         options,
     ) {
         Ok(text) => Ok(text),

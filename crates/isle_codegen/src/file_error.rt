@@ -2,18 +2,19 @@ ghost use Rattle.std.specs.Prelude.{◌≡◌};
 ghost use Rattle.isle_codegen.specs.Causes.{of_texts};
 
 use crate::compile_error::CompileError;
-use crate::names::NameError;
 use isle_core::{Errors, IoCause};
+use isle_names::NameError;
 
 /// Why files give no text.
 #[derive(Debug, Drop)]
 pub enum FileError {
     /// The first input that was not read, by its place among the inputs.
     Io { index: usize, cause: IoCause },
-    /// The inputs are not all of the language that is built, or a name may not be emitted.
+    /// Their definitions have no fault of typing, and are not all of forms that are built.
     NotYet,
     /// What is wrong with the definitions of the inputs, in order, with the inputs.
     Errors(Errors),
+    /// The first name that may not be emitted, of the inputs as printed, the types, the terms and the constants.
     Name(NameError),
     Memory,
 }

@@ -5,17 +5,14 @@ ghost use Rattle.isle_core.specs.RuleViews.{environment};
 ghost use Rattle.isle_rulesets.specs.Grouping.{AreRuleSets};
 ghost use Rattle.isle_codegen.specs.Emission.{IsGiven, ArePlaced};
 ghost use Rattle.isle_emission.specs.Built.{IsBuilt};
-ghost use Rattle.isle_simulation.specs.TraitFns.{trait_fns_of};
 ghost use Rattle.isle_codegen.specs.Names.{are_file_names};
 ghost use Rattle.isle_codegen.specs.Header.{header, HasHeader};
 ghost use Rattle.isle_codegen.specs.Headline.{IsText};
 
-use crate::tree::tree_of;
+use crate::tree::codegen_tree;
 use isle_core::{CodegenOptions, Files, OutOfMemory, RuleSet, TermEnv, TermId, Text, TypeEnv};
-use isle_emission::trait_fns;
 use isle_printer::push_comment;
 use isle_target::print_program;
-use isle_tree::TraitFn;
 use std::alloc::Global;
 
 /// Writes the text of an environment's program: the header comment, which names the files, and the print of
@@ -37,30 +34,7 @@ pub fn codegen(
     ensures header { IfOk result (λ text. HasHeader files.now.file_names (string_bytes text)) }
     ensures program { IfOk result (λ text. IsText options.now files.now (environment typeenv.now termenv.now) (string_bytes text)) }
 {
-    let fns = trait_fns(alloc, typeenv, termenv)?;
-    text_of(alloc, files, typeenv, termenv, terms, fns, options)
-}
-
-/// Does what `codegen` does, from the functions of the trait.
-pub fn text_of(
-    alloc: Global,
-    files: &Files,
-    typeenv: &TypeEnv,
-    termenv: &TermEnv,
-    terms: &[(TermId, RuleSet)],
-    trait_fns: Vec<TraitFn>,
-    options: &CodegenOptions,
-) -> Result<String, OutOfMemory>
-    requires given { IsGiven (environment typeenv.now termenv.now) }
-    requires terms { AreRuleSets (environment typeenv.now termenv.now) terms.now }
-    requires places { ArePlaced files.now (environment typeenv.now termenv.now) }
-    requires fns { trait_fns.items ≡ trait_fns_of (environment typeenv.now termenv.now) }
-    requires options { IsBuilt options.now }
-    requires names { are_file_names files.now.file_names ≡ true }
-    ensures header { IfOk result (λ text. HasHeader files.now.file_names (string_bytes text)) }
-    ensures program { IfOk result (λ text. IsText options.now files.now (environment typeenv.now termenv.now) (string_bytes text)) }
-{
-    let tree = tree_of(alloc, files, typeenv, termenv, terms, trait_fns, options)?;
+    let tree = codegen_tree(alloc, files, typeenv, termenv, terms, options)?;
     let print = print_program(alloc, &tree)?;
     let mut text = header(alloc, files.file_names.as_slice())?;
     text.push_str(print.as_str())?;

@@ -6,7 +6,6 @@ ghost use Rattle.isle_tree.specs.Views.{function, program};
 ghost use Rattle.isle_tree.specs.WellFormed.{IsWellFormed};
 ghost use Rattle.isle_codegen.specs.Emission.{IsGiven, IsFrame, ArePlaced};
 ghost use Rattle.isle_emission.specs.Built.{IsBuilt};
-ghost use Rattle.isle_simulation.specs.TraitFns.{trait_fns_of};
 ghost use Rattle.isle_codegen.specs.Emits.{CanEmit, IsEmitted, AreEmitted};
 ghost use Rattle.isle_codegen.specs.Headline.{FunctionsMean};
 ghost use Rattle.isle_core.specs.LineStarts.{starts_of};
@@ -17,7 +16,7 @@ use isle_core::{
 };
 use isle_emission::{ConstTypes, Context, term_function, trait_fns};
 use isle_items::type_items;
-use isle_tree::{Function, Program, TraitFn};
+use isle_tree::{Function, Program};
 use std::alloc::Global;
 
 // The function of the term of this number, from the block of its rule set. The table is that of the files, and the constants
@@ -91,34 +90,12 @@ pub fn codegen_tree(
     ensures frame { IfOk result (λ p. IsFrame options.now (environment typeenv.now termenv.now) (program p)) }
     ensures functions { IfOk result (λ p. FunctionsMean files.now (environment typeenv.now termenv.now) (program p)) }
 {
-    let fns = trait_fns(alloc, typeenv, termenv)?;
-    tree_of(alloc, files, typeenv, termenv, terms, fns, options)
-}
-
-/// Does what `codegen_tree` does, from the functions of the trait.
-pub fn tree_of(
-    alloc: Global,
-    files: &Files,
-    typeenv: &TypeEnv,
-    termenv: &TermEnv,
-    terms: &[(TermId, RuleSet)],
-    trait_fns: Vec<TraitFn>,
-    options: &CodegenOptions,
-) -> Result<Program, OutOfMemory>
-    requires given { IsGiven (environment typeenv.now termenv.now) }
-    requires terms { AreRuleSets (environment typeenv.now termenv.now) terms.now }
-    requires places { ArePlaced files.now (environment typeenv.now termenv.now) }
-    requires fns { trait_fns.items ≡ trait_fns_of (environment typeenv.now termenv.now) }
-    requires options { IsBuilt options.now }
-    ensures well_formed { IfOk result (λ p. IsWellFormed (program p)) }
-    ensures frame { IfOk result (λ p. IsFrame options.now (environment typeenv.now termenv.now) (program p)) }
-    ensures functions { IfOk result (λ p. FunctionsMean files.now (environment typeenv.now termenv.now) (program p)) }
-{
+    let signatures = trait_fns(alloc, typeenv, termenv)?;
     let types = type_items(alloc, typeenv)?;
     let fns = emit_all(alloc, files, typeenv, termenv, terms)?;
     Ok(Program {
         allow: !options.exclude_global_allow_pragmas,
-        trait_fns: List::new(trait_fns),
+        trait_fns: List::new(signatures),
         types: List::new(types),
         fns: List::new(fns),
     })

@@ -1,5 +1,5 @@
 -- Where a term can be run there are lines, or memory ran out.
-use Rattle.std.proofs.Common.{◌≡◌, ℕ, List, ◌++◌, map, true, false, Some, ⊎_elim, refl, sym, ap, ◌∙◌, subst}
+use Rattle.std.proofs.Common.{◌≡◌, ℕ, List, ◌++◌, map, true, false, Some, refl, sym, ap, ◌∙◌, subst}
 use Rattle.std.specs.Prelude.{Result, Ok, Err, IfErr, IsOkUnless}
 use Rattle.isle_core.specs.declared.files.Files.{Files}
 use Rattle.isle_core.specs.declared.options.CodegenOptions.{CodegenOptions}
@@ -28,10 +28,8 @@ use Rattle.isle_interpreter.proofs.OneRefusal.{not_refused}
 use Rattle.isle_simulation.specs.TypeTexts.{parameter, type_text}
 use Rattle.isle_run_inputs.specs.Built.{are_built}
 use Rattle.isle_run_inputs.specs.AnswersAt.{answers_at, constants_at, cases_at, turns_at}
-use Rattle.isle_codegen.specs.Causes.{IsNotOfIt}
 use Rattle.isle_codegen.specs.Checked.{IsChecked}
-use Rattle.isle_codegen.proofs.Accepted.{accepted_none, checked_accepted}
-use Rattle.isle_codegen.specs.Source.{InLanguage}
+use Rattle.isle_codegen.proofs.Accepted.{accepted_none, accepted_built, accepted_named, checked_accepted}
 use Rattle.isle_run.specs.declared.refusal.Refusal.{Refusal}
 use Rattle.isle_run.specs.declared.refusal.Refusal.TheVariants as refused
 use Rattle.isle_run.specs.Conforming.{Conforms}
@@ -47,12 +45,6 @@ use Rattle.isle_run.proofs.NamedTypes.{are_named}
 use Rattle.isle_run.proofs.RightEntries.{names_of, as_entries, all_front, all_back, all_right, cased_back, answered_back, given_back}
 
 -- ---- the source
-
-in_language : (files : Files) (env : Environment) → IsChecked files env → InLanguage files.file_texts
-in_language files env c = (c.defs, env, c.source, record { typed = c.typed.typed; names = c.given.compilable.names; fns = c.given.compilable.fns; lawful = c.given.compilable.lawful })
-
-not_of_it : (files : Files) (env : Environment) → IsChecked files env → IsNotOfIt files.file_names files.file_texts → ⊥
-not_of_it files env c h = ⊎_elim (λ never. never (in_language files env c)) (λ bad. let same : true ≡ false = sym c.names ∙ bad in cc) h.1
 
 -- files that are checked have one environment
 same_env : (files : Files) (a b : Environment) → IsChecked files a → IsChecked files b → b ≡ a
@@ -143,8 +135,9 @@ source_not_refused options files term ws text e c s =
 
 -- where it can be run, only memory is wanting
 pub only_memory : (options : CodegenOptions) (files : Files) (term : List ℕ) (ws : Writtens) (text : List ℕ) (e : Refusal) → CanRun files term ws text → HasNoLines options files term ws text e → e ≡ refused.Memory
-only_memory options files term ws text _ c (no_lines.not_of_it h) = absurd (not_of_it files c.env c.checked h)
+only_memory options files term ws text _ c (no_lines.not_built h) = absurd (accepted_built files.file_texts (checked_accepted files c.env c.checked) h)
 only_memory options files term ws text _ c (no_lines.faulty errors h) = absurd (accepted_none files.file_names files.file_texts errors (checked_accepted files c.env c.checked) h)
+only_memory options files term ws text _ c (no_lines.badly_named e h) = absurd (accepted_named files.file_names files.file_texts e (checked_accepted files c.env c.checked) c.checked.names h)
 only_memory options files term ws text _ c (no_lines.refused e s) = absurd (source_not_refused options files term ws text e c s)
 only_memory options files term ws text _ c no_lines.memory = refl
 

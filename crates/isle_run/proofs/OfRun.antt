@@ -16,6 +16,7 @@ abbrev pub IsOfRun : Refusal → Type 0
 IsOfRun refusal.NotYet = Unit {0}
 IsOfRun (refusal.Unread index why) = ⊥
 IsOfRun (refusal.Errors errors) = Unit {0}
+IsOfRun (refusal.Name name) = Unit {0}
 IsOfRun refusal.NoTerm = Unit {0}
 IsOfRun refusal.ArgCount = Unit {0}
 IsOfRun (refusal.ArgType i) = Unit {0}
@@ -27,6 +28,7 @@ abbrev HasPlaces : Refusal → Type 0
 HasPlaces refusal.NotYet = Unit {0}
 HasPlaces (refusal.Unread index why) = Unit {0}
 HasPlaces (refusal.Errors errors) = HavePlaces errors
+HasPlaces (refusal.Name name) = Unit {0}
 HasPlaces refusal.NoTerm = Unit {0}
 HasPlaces refusal.ArgCount = Unit {0}
 HasPlaces (refusal.ArgType i) = Unit {0}
@@ -44,8 +46,9 @@ run_of a text _ (no_lines.left_out forms spelt built runs h) = tt
 
 -- so of what gives no lines
 pub lines_of : (options : CodegenOptions) (files : Files) (term : List ℕ) (ws : Writtens) (text : List ℕ) (e : Refusal) → HasNoLines options files term ws text e → IsOfRun e
-lines_of options files term ws text _ (no_lines.not_of_it h) = tt
+lines_of options files term ws text _ (no_lines.not_built h) = tt
 lines_of options files term ws text _ (no_lines.faulty errors h) = tt
+lines_of options files term ws text _ (no_lines.badly_named e h) = tt
 lines_of options files term ws text _ (no_lines.refused e s) = run_of _ text e s.refused
 lines_of options files term ws text _ no_lines.memory = tt
 
@@ -59,8 +62,9 @@ run_places a text _ (no_lines.wrong forms i spelt built h) = tt
 run_places a text _ (no_lines.left_out forms spelt built runs h) = tt
 
 has_places : (options : CodegenOptions) (files : Files) (term : List ℕ) (ws : Writtens) (text : List ℕ) (e : Refusal) → HasNoLines options files term ws text e → HasPlaces e
-has_places options files term ws text _ (no_lines.not_of_it h) = tt
+has_places options files term ws text _ (no_lines.not_built h) = tt
 has_places options files term ws text _ (no_lines.faulty errors h) = h.told.placed
+has_places options files term ws text _ (no_lines.badly_named e h) = tt
 has_places options files term ws text _ (no_lines.refused e s) = run_places _ text e s.refused
 has_places options files term ws text _ no_lines.memory = tt
 

@@ -18,7 +18,10 @@ use Rattle.isle_interpreter.specs.declared.run_error.RunError.TheVariants as err
 use Rattle.isle_core.specs.declared.errors.Errors.{Errors}
 use Rattle.isle_codegen.specs.declared.file_error.FileError.{FileError}
 use Rattle.isle_codegen.specs.declared.file_error.FileError.TheVariants as file
-use Rattle.isle_codegen.specs.Causes.{IsNotOfIt, IsRefusal}
+use Rattle.isle_codegen.specs.Causes.{IsRefusal}
+use Rattle.isle_codegen.specs.Errors.{IsNameError}
+use Rattle.isle_codegen.specs.Source.{AreUnbuiltTexts}
+use Rattle.isle_names.specs.declared.name_error.NameError.{NameError}
 use Rattle.isle_codegen.specs.Checked.{IsChecked}
 use Rattle.isle_run.specs.declared.refusal.Refusal.{Refusal}
 use Rattle.isle_run.specs.declared.refusal.Refusal.TheVariants as refusal
@@ -49,17 +52,18 @@ pub record IsSourceRefused (options : CodegenOptions) (files : Files) (term : Li
   pub conforms : Conforms options files env program
   pub refused : IsRunRefused (record { program = program; env = env; term = term; args = args_given env term ws }) text e
 
--- why there are no lines of a source that isn't checked; inputs are read before, and no name is refused by itself
+-- why there are no lines of a source that isn't checked; inputs are read before
 abbrev pub of_source : FileError → Refusal
 of_source file.NotYet = refusal.NotYet
 of_source (file.Errors errors) = refusal.Errors errors
 of_source (file.Io index why) = refusal.Memory
-of_source (file.Name name) = refusal.Memory
+of_source (file.Name name) = refusal.Name name
 of_source file.Memory = refusal.Memory
 
--- why there are no lines: the source is not of the language, or errors are in it; or it isn't run; or memory ran out
+-- why there are no lines: the source is not all built, or errors are in it, or a name may not be emitted; or it isn't run; or memory ran out
 pub data HasNoLines (options : CodegenOptions) (files : Files) (term : List ℕ) (ws : Writtens) (text : List ℕ) : Refusal → Type 0 where
-  not_of_it : IsNotOfIt files.file_names files.file_texts → HasNoLines options files term ws text refusal.NotYet
+  not_built : AreUnbuiltTexts files.file_texts → HasNoLines options files term ws text refusal.NotYet
   faulty : (errors : Errors) → IsRefusal (file.Errors errors) files.file_names files.file_texts → HasNoLines options files term ws text (refusal.Errors errors)
+  badly_named : (e : NameError) → IsNameError files.file_names files.file_texts e → HasNoLines options files term ws text (refusal.Name e)
   refused : (e : Refusal) → IsSourceRefused options files term ws text e → HasNoLines options files term ws text e
   memory : HasNoLines options files term ws text refusal.Memory

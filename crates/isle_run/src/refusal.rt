@@ -1,3 +1,4 @@
+use isle_codegen::NameError;
 use isle_core::{Errors, IoCause, OutOfMemory};
 use isle_interpreter::RunError;
 use std::alloc::{AllocError, AllocFailed};
@@ -5,12 +6,14 @@ use std::alloc::{AllocError, AllocFailed};
 /// Why a line of words is not answered.
 #[derive(Debug, Drop)]
 pub enum Refusal {
-    /// The line, a source, or a form of the answers is not of what is built.
+    /// The line, a form of a source, or one of the answers is not built.
     NotYet,
     /// The first input that was not read, by its place among the inputs, and the cause.
     Unread(usize, IoCause),
     /// What is wrong in the source, each error with its place.
     Errors(Errors),
+    /// The first name of the source that may not be emitted.
+    Name(NameError),
     /// No term with rules has the name.
     NoTerm,
     /// Another number of arguments.

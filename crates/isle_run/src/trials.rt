@@ -25,7 +25,8 @@ fn of_source(fail: FileError) -> Refusal
     match fail {
         FileError::NotYet => Refusal::NotYet,
         FileError::Errors(errors) => Refusal::Errors(errors),
-        FileError::Memory | FileError::Io { .. } | FileError::Name(_) => Refusal::Memory,
+        FileError::Name(name) => Refusal::Name(name),
+        FileError::Memory | FileError::Io { .. } => Refusal::Memory,
     }
 }
 

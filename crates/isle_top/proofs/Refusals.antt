@@ -29,6 +29,7 @@ pub of_line : (request : Request) (e : Refusal) (files : Option Contents) (befor
 of_line request refusal.NotYet files before after h = tt
 of_line request (refusal.Unread index why) files before after h = h.1.0
 of_line request (refusal.Errors errors) files before after h = h.0
+of_line request (refusal.Name e) files before after h = tt
 of_line request refusal.NoTerm files before after h = tt
 of_line request refusal.ArgCount files before after h = tt
 of_line request (refusal.ArgType i) files before after h = tt
@@ -41,6 +42,7 @@ pub says_refusal : {asks : Request → Type 0} {none : Type 0} {files : Option C
 says_refusal request refusal.NotYet a cause line = statuses.refused request refusal.NotYet (λ same. absurd cc) a cause line
 says_refusal request (refusal.Unread index why) a cause line = statuses.refused request (refusal.Unread index why) (λ same. absurd cc) a cause line
 says_refusal request (refusal.Errors errors) a cause line = statuses.refused request (refusal.Errors errors) (λ same. absurd cc) a cause line
+says_refusal request (refusal.Name e) a cause line = statuses.refused request (refusal.Name e) (λ same. absurd cc) a cause line
 says_refusal request refusal.NoTerm a cause line = statuses.refused request refusal.NoTerm (λ same. absurd cc) a cause line
 says_refusal request refusal.ArgCount a cause line = statuses.refused request refusal.ArgCount (λ same. absurd cc) a cause line
 says_refusal request (refusal.ArgType i) a cause line = statuses.refused request (refusal.ArgType i) (λ same. absurd cc) a cause line
@@ -59,6 +61,7 @@ says_end request refusal.NotYet status a cause h = says_told request refusal.Not
 says_end request (refusal.Unread index why) status a cause h = says_told request (refusal.Unread index why) status a cause h
 says_end request (refusal.Errors errors) status a cause (inl h) = says_told request (refusal.Errors errors) status a cause h
 says_end {asks} {none} {files} {before} {after} {quiet} {wrote} request (refusal.Errors errors) status a cause (inr h) = subst (Says asks none files before after quiet wrote) (sym h.0) (statuses.no_memory h.1)
+says_end request (refusal.Name e) status a cause h = says_told request (refusal.Name e) status a cause h
 says_end request refusal.NoTerm status a cause h = says_told request refusal.NoTerm status a cause h
 says_end request refusal.ArgCount status a cause h = says_told request refusal.ArgCount status a cause h
 says_end request (refusal.ArgType i) status a cause h = says_told request (refusal.ArgType i) status a cause h

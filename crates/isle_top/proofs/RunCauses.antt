@@ -17,6 +17,7 @@ pub run_cause : (options : CodegenOptions) (name term : List ℕ) (vs : Writtens
 run_cause options name term vs answers files before after refusal.NotYet built h = inr h
 run_cause options name term vs answers files before after (refusal.Unread index why) built h = absurd (lines_of options _ term vs h.given (refusal.Unread index why) h.none)
 run_cause options name term vs answers files before after (refusal.Errors errors) built h = (lines_placed h.none, ((refl, built, tt), h))
+run_cause options name term vs answers files before after (refusal.Name e) built h = ((refl, built, tt), h)
 run_cause options name term vs answers files before after refusal.NoTerm built h = ((refl, built, tt), h)
 run_cause options name term vs answers files before after refusal.ArgCount built h = ((refl, built, tt), h)
 run_cause options name term vs answers files before after (refusal.ArgType i) built h = ((refl, built, tt), h)

@@ -1,5 +1,5 @@
 -- A valid line has no refusal but want of memory, where no call of the directory fails.
-use Rattle.std.proofs.Common.{◌≡◌, ⊎_elim, ℕ, ◌<◌, ◌≤◌, zero, suc, List, [], ◌∷◌, length, true, false, Option, Some, None, Result, Ok, Err, refl, sym, ◌∙◌, subst, arith}
+use Rattle.std.proofs.Common.{◌≡◌, ⊎_elim, ℕ, ◌<◌, ◌≤◌, zero, suc, List, [], ◌∷◌, length, Option, Some, None, Result, Ok, Err, refl, sym, ◌∙◌, subst, arith}
 use Rattle.std.specs.Prelude.{◌^◌, IsSomeAnd, IfErr, IsOkUnless, IsUtf8, slice_get}
 use Rattle.isle_outside.specs.Directory.{Contents, bytes_of, Rose, Counts}
 use Rattle.isle_outside.specs.Reading.{IsText, IsCause, RoseAt}
@@ -11,8 +11,9 @@ use Rattle.isle_core.specs.declared.errors.Errors.{Errors}
 use Rattle.isle_values.specs.Written.{Writtens}
 use Rattle.isle_codegen.specs.Causes as compiling
 use Rattle.isle_codegen.specs.Causes.{printed, IsNotBuilt}
-use Rattle.isle_codegen.specs.Source.{InLanguage, AreAccepted}
-use Rattle.isle_codegen.proofs.Accepted.{accepted_none}
+use Rattle.isle_codegen.specs.Source.{AreAccepted}
+use Rattle.isle_codegen.proofs.Accepted.{accepted_none, accepted_built, accepted_named}
+use Rattle.isle_names.specs.declared.name_error.NameError.{NameError}
 use Rattle.isle_command_line.specs.Request.{Request, Help, Version, Compile, Build, Prelude, Units, Isa, Run}
 use Rattle.isle_core.specs.declared.options.CodegenOptions.{CodegenOptions}
 use Rattle.isle_run.specs.Valid.{CanRun}
@@ -20,7 +21,7 @@ use Rattle.isle_run.specs.declared.refusal.Refusal.{Refusal}
 use Rattle.isle_run.specs.declared.refusal.Refusal.TheVariants as refusal
 use Rattle.isle_run.proofs.Complete.{only_memory}
 use Rattle.isle_top.specs.Requests.{IsBuilt, inputs_of, answers_names, source_name}
-use Rattle.isle_top.specs.Causes.{GivesNoLines, HasErrors, IsNotOfIt, IsNotRun, HasCause}
+use Rattle.isle_top.specs.Causes.{GivesNoLines, HasErrors, HasBadName, IsNotOfIt, IsNotRun, HasCause}
 use Rattle.isle_top.specs.Valid.{AreValid, IsValidRun, IsValidLine, IsAnswersText, one_file}
 
 -- ---- inputs
@@ -99,13 +100,12 @@ read_once fs (n ∷ names) (x ∷ a) (y ∷ b) r k =
     cc
 
 -- the files of a `compile`
-valid_files : (options : CodegenOptions) (fs : Contents) (names : List (List ℕ)) → AreValid options fs names → IsNotBuilt options (Some fs) names → ⊥
-valid_files options fs names v h =
-    let same : v.texts ≡ h.texts = read_once fs names v.texts h.texts v.found h.read in
-    ⊎_elim
-    (λ never. never (subst InLanguage same (v.accepted.defs, v.accepted.env, v.accepted.source, v.accepted.compilable)))
-    (λ bad. let clash : true ≡ false = sym v.emitted ∙ bad in cc)
-    h.refused.1
+valid_files : (options : CodegenOptions) (fs : Contents) (names : List (List ℕ)) → AreValid options fs names → IsNotBuilt (Some fs) names → ⊥
+valid_files options fs names v h = accepted_built h.texts (subst AreAccepted (read_once fs names v.texts h.texts v.found h.read) v.accepted) h.unbuilt
+
+no_bad_name : (options : CodegenOptions) (fs : Contents) (names : List (List ℕ)) (e : NameError) → AreValid options fs names → compiling.IsBadlyNamed e options (Some fs) names → ⊥
+no_bad_name options fs names e v h =
+    accepted_named (printed options names) h.texts e (subst AreAccepted (read_once fs names v.texts h.texts v.found h.read) v.accepted) v.emitted h.error
 
 no_file_errors : (options : CodegenOptions) (fs : Contents) (names : List (List ℕ)) (errors : Errors) → AreValid options fs names → compiling.HasErrors errors options (Some fs) names → ⊥
 no_file_errors options fs names errors v h =
@@ -163,12 +163,24 @@ no_errors Units fs before after errors v h = absurd h
 no_errors (Isa target) fs before after errors v h = absurd h
 no_errors (Run trace options from term vs answers) fs before after errors v h = not_run (Run trace options from term vs answers) fs (refusal.Errors errors) v h
 
+-- and each name may be emitted
+no_name : (request : Request) (fs : Contents) (before after : Counts) (e : NameError) → IsValidLine request fs → HasBadName request (Some fs) before after e → refusal.Name e ≡ refusal.Memory
+no_name Help fs before after e v h = absurd h
+no_name Version fs before after e v h = absurd h
+no_name (Compile options names) fs before after e v h = absurd (no_bad_name options fs names e v.1 h.1.1)
+no_name (Build options unit) fs before after e v h = absurd h
+no_name (Prelude kind) fs before after e v h = absurd h
+no_name Units fs before after e v h = absurd h
+no_name (Isa target) fs before after e v h = absurd h
+no_name (Run trace options from term vs answers) fs before after e v h = not_run (Run trace options from term vs answers) fs (refusal.Name e) v h
+
 -- the only cause is want of memory
 only_memory_wants : (request : Request) (e : Refusal) (fs : Contents) (before after : Counts) → IsValidLine request fs → HasCause e request (Some fs) before after → (Rose before.faults after.faults → ⊥) → e ≡ refusal.Memory
 only_memory_wants request refusal.Memory fs before after v h calm = refl
 only_memory_wants request refusal.NotYet fs before after v h calm = absurd (⊎_elim (λ never. never (built_line request fs v)) (λ bad. valid_inputs request fs v bad) h)
 only_memory_wants request (refusal.Unread index why) fs before after v h calm = absurd (all_read request fs index why before after v h.1 calm)
 only_memory_wants request (refusal.Errors errors) fs before after v h calm = no_errors request fs before after errors v h.1
+only_memory_wants request (refusal.Name e) fs before after v h calm = no_name request fs before after e v h
 only_memory_wants request refusal.NoTerm fs before after v h calm = not_run request fs refusal.NoTerm v h
 only_memory_wants request refusal.ArgCount fs before after v h calm = not_run request fs refusal.ArgCount v h
 only_memory_wants request (refusal.ArgType i) fs before after v h calm = not_run request fs (refusal.ArgType i) v h

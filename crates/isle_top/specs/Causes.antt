@@ -14,6 +14,7 @@ use Rattle.isle_run.specs.NoLines.{HasNoLines}
 use Rattle.isle_run.specs.declared.refusal.Refusal.{Refusal}
 use Rattle.isle_run.specs.declared.refusal.Refusal.TheVariants as refusal
 use Rattle.isle_codegen.specs.Errors.{HavePlaces}
+use Rattle.isle_names.specs.declared.name_error.NameError.{NameError}
 use Rattle.isle_top.specs.Requests.{IsBuilt, inputs_of, source_name}
 use Rattle.isle_top.specs.Valid.{IsAnswersText, one_file}
 
@@ -24,11 +25,11 @@ pub record GivesNoLines (options : CodegenOptions) (name term : List ℕ) (vs : 
   pub read : IfSome files (λ fs. AreRead fs (name ∷ []) (source ∷ []) × IsAnswersText fs answers given)
   pub none : HasNoLines options (one_file options name source) term vs given e
 
--- the inputs were read, and are not of what is built
+-- the inputs were read, and are not all built
 abbrev pub IsNotOfIt : Request → Option Contents → Type 0
 IsNotOfIt Help files = ⊥
 IsNotOfIt Version files = ⊥
-IsNotOfIt (Compile options names) files = IsNotBuilt options files names
+IsNotOfIt (Compile options names) files = IsNotBuilt files names
 IsNotOfIt (Build options unit) files = ⊥
 IsNotOfIt (Prelude kind) files = ⊥
 IsNotOfIt Units files = ⊥
@@ -57,12 +58,24 @@ HasErrors Units files before after errors = ⊥
 HasErrors (Isa target) files before after errors = ⊥
 HasErrors (Run trace options from term vs answers) files before after errors = IsNotRun (Run trace options from term vs answers) files (refusal.Errors errors)
 
+-- the first name that may not be emitted, of the inputs of a line that is built
+abbrev pub HasBadName : Request → Option Contents → (before after : Counts) → NameError → Type 0
+HasBadName Help files before after e = ⊥
+HasBadName Version files before after e = ⊥
+HasBadName (Compile options names) files before after e = IsBuilt (Compile options names) × compiling.HasCause (file.Name e) options files names before after
+HasBadName (Build options unit) files before after e = ⊥
+HasBadName (Prelude kind) files before after e = ⊥
+HasBadName Units files before after e = ⊥
+HasBadName (Isa target) files before after e = ⊥
+HasBadName (Run trace options from term vs answers) files before after e = IsNotRun (Run trace options from term vs answers) files (refusal.Name e)
+
 -- why a line is not answered: it is not built, or its inputs are not; it is built, and an input was not read, the first
--- that is not, or errors are in them, each at its place, or a term is not run; or want of memory
+-- that is not, or errors are in them, each at its place, or a name may not be emitted, or a term is not run; or want of memory
 abbrev pub HasCause : Refusal → Request → Option Contents → (before after : Counts) → Type 0
 HasCause refusal.NotYet request files before after = (IsBuilt request → ⊥) ⊎ IsNotOfIt request files
 HasCause (refusal.Unread index why) request files before after = IsBuilt request × Fails (read.Io index why) files (inputs_of request) before after
 HasCause (refusal.Errors errors) request files before after = HavePlaces errors × HasErrors request files before after errors
+HasCause (refusal.Name e) request files before after = HasBadName request files before after e
 HasCause refusal.NoTerm request files before after = IsNotRun request files refusal.NoTerm
 HasCause refusal.ArgCount request files before after = IsNotRun request files refusal.ArgCount
 HasCause (refusal.ArgType i) request files before after = IsNotRun request files (refusal.ArgType i)

@@ -5,6 +5,8 @@ use Rattle.isle_outside.specs.Directory.{Rose}
 use Rattle.isle_outside.specs.Sinks.{Took, TookPart}
 use Rattle.isle_outside.specs.declared.errors.IoCause.{IoCause}
 use Rattle.isle_outside.specs.declared.errors.IoCause.TheVariants as cause
+use Rattle.isle_names.specs.declared.name_error.NameUse.{NameUse}
+use Rattle.isle_names.specs.declared.name_error.NameUse.TheVariants as use_of
 
 -- a text and the end of its line
 abbrev pub line : List ℕ → List ℕ
@@ -80,6 +82,24 @@ argument_line i = argument_head ++ (numeral 10 i ++ argument_end)
 -- the answers go wrong at this place
 abbrev pub answers_line : ℕ → List ℕ
 answers_line at = answers_head ++ (numeral 10 at ++ codes "\n")
+
+-- what stands before a name that may not be emitted
+unfoldable pub bad_name_head : List ℕ
+bad_name_head = codes "isle: bad name "
+
+-- what stands behind it: what it stands for
+abbrev pub use_end : NameUse → List ℕ
+use_end use_of.File = line (codes ": File")
+use_end use_of.TypeName = line (codes ": TypeName")
+use_end use_of.Variant = line (codes ": Variant")
+use_end use_of.Field = line (codes ": Field")
+use_end use_of.Function = line (codes ": Function")
+use_end use_of.Term = line (codes ": Term")
+use_end use_of.Constant = line (codes ": Constant")
+
+-- a name may not be emitted
+abbrev pub bad_name_line : List ℕ → NameUse → List ℕ
+bad_name_line name usage = bad_name_head ++ (map masked name ++ use_end usage)
 
 -- memory ran out
 abbrev pub memory_line : List ℕ

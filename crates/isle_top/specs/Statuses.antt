@@ -9,7 +9,7 @@ use Rattle.isle_run.specs.declared.refusal.Refusal.TheVariants as refusal
 use Rattle.isle_top.specs.Errors.{errors_status}
 use Rattle.isle_codegen.specs.Errors.{HavePlaces}
 use Rattle.isle_top.specs.Requests.{inputs_of, term_of}
-use Rattle.isle_top.specs.Lines.{bad_word_line, missing_word_line, not_yet_line, unread_line, no_term_line, count_line, argument_line, answers_line, write_fault_line, memory_line}
+use Rattle.isle_top.specs.Lines.{bad_word_line, missing_word_line, not_yet_line, unread_line, bad_name_line, no_term_line, count_line, argument_line, answers_line, write_fault_line, memory_line}
 use Rattle.isle_top.specs.Causes.{HasCause}
 
 -- the status of a refusal
@@ -17,6 +17,7 @@ abbrev pub status_of : Refusal → ℕ
 status_of refusal.NotYet = 14
 status_of (refusal.Unread index why) = 5
 status_of (refusal.Errors errors) = errors_status errors.errors
+status_of (refusal.Name e) = 10
 status_of refusal.NoTerm = 13
 status_of refusal.ArgCount = 13
 status_of (refusal.ArgType i) = 13
@@ -28,6 +29,7 @@ abbrev pub IsOfLine : Request → Refusal → Type 0
 IsOfLine request refusal.NotYet = Unit {0}
 IsOfLine request (refusal.Unread index why) = index < length (inputs_of request)
 IsOfLine request (refusal.Errors errors) = HavePlaces errors
+IsOfLine request (refusal.Name e) = Unit {0}
 IsOfLine request refusal.NoTerm = Unit {0}
 IsOfLine request refusal.ArgCount = Unit {0}
 IsOfLine request (refusal.ArgType i) = Unit {0}
@@ -39,6 +41,7 @@ abbrev pub Tells : Request → (wrote : List ℕ → Type 0) → Refusal → Typ
 Tells request wrote refusal.NotYet = wrote not_yet_line
 Tells request wrote (refusal.Unread index why) = IsSomeAnd (slice_get (inputs_of request) index) (λ name. wrote (unread_line name why))
 Tells request wrote (refusal.Errors errors) = wrote (error_lines errors.files errors.errors)
+Tells request wrote (refusal.Name e) = wrote (bad_name_line e.name e.usage)
 Tells request wrote refusal.NoTerm = wrote (no_term_line (term_of request))
 Tells request wrote refusal.ArgCount = wrote count_line
 Tells request wrote (refusal.ArgType i) = wrote (argument_line i)
@@ -69,6 +72,7 @@ abbrev pub Ends : Request → (wrote : List ℕ → Type 0) → Refusal → ℕ 
 Ends request wrote refusal.NotYet status = IsTold request wrote refusal.NotYet status
 Ends request wrote (refusal.Unread index why) status = IsTold request wrote (refusal.Unread index why) status
 Ends request wrote (refusal.Errors errors) status = IsTold request wrote (refusal.Errors errors) status ⊎ ((status ≡ 12) × wrote memory_line)
+Ends request wrote (refusal.Name e) status = IsTold request wrote (refusal.Name e) status
 Ends request wrote refusal.NoTerm status = IsTold request wrote refusal.NoTerm status
 Ends request wrote refusal.ArgCount status = IsTold request wrote refusal.ArgCount status
 Ends request wrote (refusal.ArgType i) status = IsTold request wrote (refusal.ArgType i) status

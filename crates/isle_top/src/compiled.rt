@@ -45,6 +45,7 @@ pub fn compiled<D: Dir>(
         Err(FileError::Io { index, cause }) => Err(Refusal::Unread(index, cause)),
         Err(FileError::Memory) => Err(Refusal::Memory),
         Err(FileError::Errors(errors)) => Err(Refusal::Errors(errors)),
-        Err(FileError::NotYet | FileError::Name(_)) => Err(Refusal::NotYet),
+        Err(FileError::Name(name)) => Err(Refusal::Name(name)),
+        Err(FileError::NotYet) => Err(Refusal::NotYet),
     }
 }

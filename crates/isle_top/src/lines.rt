@@ -17,8 +17,12 @@ ghost use Rattle.isle_top.specs.Lines.{
   argument_line,
   answers_head,
   answers_line,
+  bad_name_head,
+  use_end,
+  bad_name_line,
 };
 
+use isle_codegen::NameUse;
 use isle_core::{Failed, IoCause, Sink, write_all};
 
 /// What is asked for is not built.
@@ -89,21 +93,17 @@ pub fn write_unread<S: Sink>(sink: &mut S, name: &str, cause: IoCause) -> Result
     ensures failed { OnErr result (Rose (S.faults sink.old) (S.faults sink.new)) }
     ensures later { S.faults sink.old ≤ S.faults sink.new }
 {
-    match write_head(sink) {
-        Ok(()) => write_name(sink, name, cause_end(cause)),
-        Err(fault) => Err(fault),
-    }
+    write_named(sink, unread_head(), name, cause_end(cause))
 }
 
-// Writes what stands before the name of a file that was not read.
-#[tactic(auto, unfolding(crate::specs::Lines::unread_head))]
-fn write_head<S: Sink>(sink: &mut S) -> Result<(), Failed>
-    ensures ok { OnOk result (Took (S.taken sink.old) (S.taken sink.new) unread_head) }
-    ensures part { OnErr result (TookPart (S.taken sink.old) (S.taken sink.new) unread_head) }
+/// Writes the line of a name that may not be emitted, and of what it stands for. It takes no memory.
+pub fn write_bad_name<S: Sink>(sink: &mut S, name: &str, usage: NameUse) -> Result<(), Failed>
+    ensures ok { OnOk result (Took (S.taken sink.old) (S.taken sink.new) (bad_name_line name.now usage)) }
+    ensures part { OnErr result (TookPart (S.taken sink.old) (S.taken sink.new) (bad_name_line name.now usage)) }
     ensures failed { OnErr result (Rose (S.faults sink.old) (S.faults sink.new)) }
     ensures later { S.faults sink.old ≤ S.faults sink.new }
 {
-    write_all(sink, b"isle: cannot read file ")
+    write_named(sink, bad_name_head(), name, use_end(usage))
 }
 
 /// Writes the line of a word with which no line goes on. It takes no memory.
@@ -113,7 +113,7 @@ pub fn write_bad_word<S: Sink>(sink: &mut S, word: &str) -> Result<(), Failed>
     ensures failed { OnErr result (Rose (S.faults sink.old) (S.faults sink.new)) }
     ensures later { S.faults sink.old ≤ S.faults sink.new }
 {
-    write_named(sink, bad_word_head(), word)
+    write_named(sink, bad_word_head(), word, "\n")
 }
 
 /// Writes that no term with rules has the name, with each byte below 32 as `?`. It takes no memory.
@@ -123,7 +123,7 @@ pub fn write_no_term<S: Sink>(sink: &mut S, term: &str) -> Result<(), Failed>
     ensures failed { OnErr result (Rose (S.faults sink.old) (S.faults sink.new)) }
     ensures later { S.faults sink.old ≤ S.faults sink.new }
 {
-    write_named(sink, no_term_head(), term)
+    write_named(sink, no_term_head(), term, "\n")
 }
 
 /// Writes that the term takes another number of arguments. It takes no memory.
@@ -156,15 +156,15 @@ pub fn write_bad_answers<S: Sink>(sink: &mut S, place: usize) -> Result<(), Fail
     write_numbered(sink, answers_head(), place, "\n")
 }
 
-// Writes a fixed text, a name with each byte below 32 as `?`, and the line's end. It takes no memory.
-fn write_named<S: Sink>(sink: &mut S, head: &str, name: &str) -> Result<(), Failed>
-    ensures ok { OnOk result (Took (S.taken sink.old) (S.taken sink.new) (head.now ++ (map masked name.now ++ 10 ∷ []))) }
-    ensures part { OnErr result (TookPart (S.taken sink.old) (S.taken sink.new) (head.now ++ (map masked name.now ++ 10 ∷ []))) }
+// Writes a fixed text, a name with each byte below 32 as `?`, and what stands behind it. It takes no memory.
+fn write_named<S: Sink>(sink: &mut S, head: &str, name: &str, end: &str) -> Result<(), Failed>
+    ensures ok { OnOk result (Took (S.taken sink.old) (S.taken sink.new) (head.now ++ (map masked name.now ++ end.now))) }
+    ensures part { OnErr result (TookPart (S.taken sink.old) (S.taken sink.new) (head.now ++ (map masked name.now ++ end.now))) }
     ensures failed { OnErr result (Rose (S.faults sink.old) (S.faults sink.new)) }
     ensures later { S.faults sink.old ≤ S.faults sink.new }
 {
     match write_all(sink, head.as_bytes()) {
-        Ok(()) => write_name(sink, name, "\n"),
+        Ok(()) => write_name(sink, name, end),
         Err(fault) => Err(fault),
     }
 }
@@ -221,6 +221,37 @@ fn write_digit<S: Sink>(sink: &mut S, digit: usize) -> Result<(), Failed>
 {
     let piece = [b'0' + digit as u8];
     write_all(sink, &piece)
+}
+
+// What stands before the name of a file that was not read.
+#[tactic(auto, unfolding(crate::specs::Lines::unread_head))]
+fn unread_head() -> &'static str
+    ensures { result.now ≡ unread_head }
+{
+    "isle: cannot read file "
+}
+
+// What stands before a name that may not be emitted.
+#[tactic(auto, unfolding(crate::specs::Lines::bad_name_head))]
+fn bad_name_head() -> &'static str
+    ensures { result.now ≡ bad_name_head }
+{
+    "isle: bad name "
+}
+
+// What stands behind it: what it stands for.
+fn use_end(usage: NameUse) -> &'static str
+    ensures { result.now ≡ use_end usage }
+{
+    match usage {
+        NameUse::File => ": File\n",
+        NameUse::TypeName => ": TypeName\n",
+        NameUse::Variant => ": Variant\n",
+        NameUse::Field => ": Field\n",
+        NameUse::Function => ": Function\n",
+        NameUse::Term => ": Term\n",
+        NameUse::Constant => ": Constant\n",
+    }
 }
 
 // What stands before a word with which no line goes on.

@@ -9,8 +9,8 @@ ghost use Rattle.isle_top.specs.Lines.{Wrote, memory_line};
 ghost use Rattle.isle_top.specs.Statuses.{IsOfLine, Ends};
 
 use crate::lines::{
-    NOT_YET, OUT_OF_MEMORY, write_argument, write_argument_count, write_bad_answers, write_no_term,
-    write_unread,
+    NOT_YET, OUT_OF_MEMORY, write_argument, write_argument_count, write_bad_answers,
+    write_bad_name, write_no_term, write_unread,
 };
 use crate::request::{input_name, term_of};
 use isle_command_line::Command;
@@ -19,7 +19,7 @@ use isle_run::Refusal;
 use std::alloc::Global;
 
 /// The status of a run: 0 done, 2 the words are no line, 5 an input was not read, 6 to 9 errors are in the inputs (of parsing,
-/// of typing, of rules, of recursion), 11 the output failed, 12 memory ran out, 13 a term is not run, 14 what is asked for is
+/// of typing, of rules, of recursion), 10 a name may not be emitted, 11 the output failed, 12 memory ran out, 13 a term is not run, 14 what is asked for is
 /// not built.
 #[derive(Clone, Copy, Debug, PartialEq, Eq)]
 pub struct Exit(pub u8);
@@ -92,6 +92,10 @@ pub fn refuse<E: Sink>(alloc: Global, err: &mut E, request: &Command, refusal: &
             Exit(5)
         }
         Refusal::Errors(errors) => tell_errors(alloc, err, errors),
+        Refusal::Name(error) => {
+            let _ = write_bad_name(err, error.name.as_str(), error.usage);
+            Exit(10)
+        }
         Refusal::NoTerm => {
             let _ = write_no_term(err, term_of(request));
             Exit(13)

@@ -4,7 +4,7 @@ use Rattle.isle_tree.specs.Views.{function}
 use Rattle.isle_codegen.proofs.Emitting.{can_emit}
 use Rattle.isle_codegen.proofs.EmittedProgram.{program_well_formed, program_means}
 use Rattle.isle_codegen.proofs.TermFunctions.{term_fns}
-use Rattle.isle_codegen.proofs.tree.tree_of.Goals as goal
+use Rattle.isle_codegen.proofs.tree.codegen_tree.Goals as goal
 
 pub emit_all-requires : goal.emit_all-requires
 emit_all-requires c =
@@ -15,7 +15,7 @@ pub returns-clause-well_formed : goal.returns-clause-well_formed
 returns-clause-well_formed c =
     let env = environment c.args.typeenv.now c.args.termenv.now in
     program_well_formed c.requires.given.defs c.args.files.now env c.requires.given.compilable.typed c.requires.given.clean c.args.terms.now c.requires.terms (map function c.in_ok-fns.fns.items) c.in_ok-fns.ensures
-    _ c.requires.given.compilable.fns c.requires.given.compilable.lawful (c.new.ensures ∙ c.requires.fns) (c.new-2.ensures ∙ c.in_ok-types.ensures) (ap (map function) c.new-3.ensures)
+    _ c.requires.given.compilable.fns c.requires.given.compilable.lawful (c.new.ensures ∙ c.in_ok-signatures.ensures) (c.new-2.ensures ∙ c.in_ok-types.ensures) (ap (map function) c.new-3.ensures)
     (can_emit c.requires.given.defs c.args.files.now env c.requires.given.compilable.typed c.requires.places c.requires.given.compilable.fns (term_fns c.requires.given.compilable) c.requires.given.compilable.lawful c.args.terms.now c.requires.given.compilable.names c.requires.terms)
 
 pub returns-clause-functions : goal.returns-clause-functions

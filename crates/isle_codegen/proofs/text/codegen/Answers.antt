@@ -2,7 +2,7 @@ use Rattle.std.proofs.Common.{◌∙◌, refl}
 use Rattle.std.specs.String.{string_bytes}
 use Rattle.isle_tree.specs.Views.{program}
 use Rattle.isle_codegen.proofs.Headers.{spells_behind}
-use Rattle.isle_codegen.proofs.text.text_of.Goals as goal
+use Rattle.isle_codegen.proofs.text.codegen.Goals as goal
 
 pub returns-clause-header : goal.returns-clause-header
 returns-clause-header c = record {
