@@ -17,6 +17,7 @@ pub use compiled::compile;
 pub use file_error::FileError;
 pub use files::from_files;
 pub use isle_emission::emit_term;
-pub use isle_names::{NameError, NameUse};
+pub use isle_names::{NameError, NameFail, NameUse, lawful_names};
+pub use isle_recursion::recursion;
 pub use text::codegen;
 pub use tree::codegen_tree;

@@ -3,10 +3,9 @@
 
 mod items;
 mod lawful;
-mod names_apart;
 mod texts;
 mod words;
 
 pub use items::type_items;
-pub use lawful::{are_lawful, is_constant_name, is_type_name};
+pub use lawful::{is_constant_name, is_type_name};
 pub use texts::emitted_name;
