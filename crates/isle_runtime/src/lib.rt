@@ -1,0 +1,13 @@
+//! Context iterators: what gives items one at a time and is handed a context for each, and a wrapper that makes one of
+//! any iterator.
+#![tactic(auto)]
+
+mod iterators;
+mod lists;
+#[cfg(test)]
+mod tests;
+mod wrapper;
+
+pub use iterators::{ContextIter, IntoContextIter};
+pub use lists::Length;
+pub use wrapper::ContextIterWrapper;
