@@ -5,11 +5,13 @@ use Rattle.std.specs.List.{AllByRecursion}
 use Rattle.std.specs.Str.{bytes_eq}
 use Rattle.std.proofs.lemmas.Slice.Eq.{bytes_eq-Decides}
 use Rattle.std.proofs.lemmas.List.Elements.{recursion_from_All, Contains-append_left, Contains-append_right}
+use Rattle.isle_core.specs.declared.types.ReturnKind.{ReturnKind}
+use Rattle.isle_core.specs.declared.types.ReturnKind.TheVariants as kind
 use Rattle.isle_core.specs.declared.values.Callee.{Callee}
 use Rattle.isle_core.specs.Value.{Value, Made, GivesSome}
 use Rattle.isle_core.specs.SameInRun.{same_in_run}
 use Rattle.isle_core.specs.Meaning.{PureAnswers, TurnAnswers, Meaning, turns_of, cases_of}
-use Rattle.isle_core.specs.Answered.{Held, a_value, an_option, answer_held, answer}
+use Rattle.isle_core.specs.Answered.{Item, Held, Absent, One, Optional, Listed, a_value, an_option, answer_held, answer}
 use Rattle.isle_core.specs.Having.{const_of, HasConst, HasCases, HasTurns, HasAnswers}
 use Rattle.isle_core.specs.Terms.{goes_to}
 use Rattle.isle_core.specs.ValueAt.{value_before}
@@ -22,7 +24,8 @@ use Rattle.isle_tree.specs.declared.tree.TPat.TheVariants as pattern
 use Rattle.isle_tree.specs.declared.tree.TExpr.{TExpr}
 use Rattle.isle_tree.specs.declared.tree.TExpr.TheVariants as expr
 use Rattle.isle_tree.specs.Program.{Program, Stmt, Let, LetList, IfEq, IfLet, Match, Loop, Return, Extend, Overflow, Log, Split, Tail, Body, Done, Then, Function}
-use Rattle.isle_tree.specs.Run.{Around, State, nothing_done, one_made, Env, Flow, Goes, Ends, Leaves, Stuck, value_of, name_value, bind, read_value, read_values, field_before, read_fields, on_value, value_in, constant, are_same, fit, fitted, then_run, after_scope, run_bind, run_call, run_try, run_variant, run_struct, part_of, run_part, run_let, ends_with, run_return, run_stmt, run_body, ended, function_run}
+use Rattle.isle_tree.specs.WellFormed.{GivesSeveral, FitsStmt, FitsBody, FitsLast, FitsEnding, FitsFunction}
+use Rattle.isle_tree.specs.Run.{Around, State, nothing_done, one_made, one_given, Env, Flow, Goes, Ends, Leaves, Stuck, look, value_of, name_value, bind, read_value, read_values, field_before, read_fields, on_value, on_list, value_in, constant, are_same, fit, fitted, then_run, after_scope, run_bind, run_call, run_try, run_variant, run_struct, part_of, run_part, run_let, ends_with, run_return, run_items, is_full, stops, run_stmt, run_body, ended, room, around, limited_run, function_run}
 use Rattle.isle_interpreter.specs.Entries.{Constant, Cases, Turns, entries, IsUnanswered}
 use Rattle.isle_tree.specs.Calls.{expr_calls, stmt_calls, body_calls}
 use Rattle.isle_naming.specs.Names.{operand_names, read_names, reads_names, fields_names, expr_names, pattern_names, stmt_names, body_names}
@@ -119,12 +122,12 @@ module _ (m given : Meaning) (has : HasAnswers m given) where
   back : (cs ds : List Callee) → Alike (cs ++ ds) → Alike ds
   back cs ds alike callee there = alike callee (Contains-append_right cs ds callee there)
 
-  module _ (p : Program) (f : Function) (args : List Value) where
+  module _ (p : Program) (f : Function) (args : List Value) (limit bound : Option ℕ) where
     abbrev one : Around
-    one = record { meaning = m; program = p; function = f; args = args; limit = None }
+    one = around p m args limit f
 
     abbrev other : Around
-    other = record { meaning = given; program = p; function = f; args = args; limit = None }
+    other = around p given args bound f
 
     same_operand : (env : Env) (o : Operand) → Same (operand_names o) → value_of one env o ≡ value_of other env o
     same_operand env (operand.Name name) same = ap (λ o. a_value (name_value o name)) (first_same name same)
@@ -204,37 +207,87 @@ module _ (m given : Meaning) (has : HasAnswers m given) where
     same_pattern pat r env met missed left right =
         ap (λ o. fitted o met missed) (same_fit pat (read_value one env r) left ∙ ap (fit other pat) (same_read env r right))
 
-    mutual
-      same_stmt : (t : Stmt) (env : Env) (s : State) → Alike (stmt_calls t) → Same (stmt_names t) → run_stmt one t env s ≡ run_stmt other t env s
-      same_stmt (Let n e) env s alike same = same_let n e env s alike same
-      same_stmt (IfEq a b inside) env s alike same =
-          let own = front_same (operand_names a ++ operand_names b) (body_names inside) same in
-          ap (λ flow. on_value (value_of one env a) (λ v. on_value (value_of one env b) (λ u. if same_in_run v u then after_scope env flow else Goes env s)))
-          (same_body inside env s alike (back_same (operand_names a ++ operand_names b) (body_names inside) same))
-          ∙ same_test a b env (after_scope env (run_body other inside env s)) (Goes env s) (front_same (operand_names a) (operand_names b) own) (back_same (operand_names a) (operand_names b) own)
-      same_stmt (Return e) env s alike same = same_return e env s same
-      same_stmt (Tail texts) env s alike same = refl
-      same_stmt (LetList n call) env s alike same = refl
-      same_stmt (IfLet pat r inside) env s alike same =
-          let own = front_same (pattern_names pat ++ read_names r) (body_names inside) same in
-          same_fitted (fit one pat (read_value one env r)) env (Goes env s) (λ bound. run_body one inside (env ++ bound) s) (λ bound. run_body other inside (env ++ bound) s)
-          (λ bound. same_body inside (env ++ bound) s alike (back_same (pattern_names pat ++ read_names r) (body_names inside) same))
-          ∙ same_pattern pat r env (λ bound. after_scope env (run_body other inside (env ++ bound) s)) (Goes env s) (front_same (pattern_names pat) (read_names r) own) (back_same (pattern_names pat) (read_names r) own)
-      same_stmt (Match r arms) env s alike same = refl
-      same_stmt (Loop list item inside) env s alike same = refl
-      same_stmt (Extend r) env s alike same = refl
-      same_stmt (Overflow inside) env s alike same = refl
-      same_stmt (Log term place) env s alike same = refl
-      same_stmt (Split inside within) env s alike same = refl
+    same_items : (go next : Item → State → Flow) (env : Env) (is : List Item) (s : State) → ((i : Item) (t : State) → go i t ≡ next i t) → run_items go env is s ≡ run_items next env is s
+    same_items go next env [] s same = refl
+    same_items go next env (i ∷ is) s same = then_same (go i s) (next i s) (λ inner t. run_items go env is t) (λ inner t. run_items next env is t) (same i s) (λ inner t. same_items go next env is t same)
 
-      same_body : (b : Body) (env : Env) (s : State) → Alike (body_calls b) → Same (body_names b) → run_body one b env s ≡ run_body other b env s
-      same_body Done env s alike same = refl
-      same_body (Then t ss) env s alike same =
-          then_same (run_stmt one t env s) (run_stmt other t env s) (run_body one ss) (run_body other ss)
-          (same_stmt t env s (front (stmt_calls t) (body_calls ss) alike) (front_same (stmt_names t) (body_names ss) same))
-          (λ inner calls. same_body ss inner calls (back (stmt_calls t) (body_calls ss) alike) (back_same (stmt_names t) (body_names ss) same))
+    same_list : (h : Held) (go next : List Item → Flow) → ((is : List Item) → go is ≡ next is) → on_list h go ≡ on_list h next
+    same_list (Listed is) go next same = same is
+    same_list (One i) go next same = refl
+    same_list (Optional o) go next same = refl
+    same_list Absent go next same = refl
 
-    -- the two runs are one, where names without an entry have no value under the one either
-    pub same_run : AreAnswered f (entries given) → ((name : List ℕ) → Contains (body_names f.body) name → const_of given name ≡ None → const_of m name ≡ None)
-        → function_run p m args (Some f) ≡ function_run p given args (Some f)
-    same_run some none = ap ended (same_body f.body [] nothing_done (λ callee there. same_answer callee (some callee there)) (λ name there. same_name name (none name there)))
+    -- functions that give several results have the same room for them; no other function asks for it
+    module _ (of : ReturnKind) (rooms : GivesSeveral of → limit ≡ bound) where
+      mutual
+        same_stmt : (closed : Bool) (t : Stmt) (env : Env) (s : State) → FitsStmt of closed t → Alike (stmt_calls t) → Same (stmt_names t) → run_stmt one t env s ≡ run_stmt other t env s
+        same_stmt closed (Let n e) env s fits alike same = same_let n e env s alike same
+        same_stmt closed (IfEq a b inside) env s fits alike same =
+            let own = front_same (operand_names a ++ operand_names b) (body_names inside) same in
+            ap (λ flow. on_value (value_of one env a) (λ v. on_value (value_of one env b) (λ u. if same_in_run v u then after_scope env flow else Goes env s)))
+            (same_body closed inside env s fits alike (back_same (operand_names a ++ operand_names b) (body_names inside) same))
+            ∙ same_test a b env (after_scope env (run_body other inside env s)) (Goes env s) (front_same (operand_names a) (operand_names b) own) (back_same (operand_names a) (operand_names b) own)
+        same_stmt closed (Return e) env s fits alike same = same_return e env s same
+        same_stmt closed (Tail texts) env s fits alike same = refl
+        same_stmt closed (LetList n call) env s fits alike same =
+            same_call n call.callee (read_values one env call.args) env s alike ∙ ap (λ o. run_call other n call.callee o env s) (same_reads env call.args same)
+        same_stmt closed (IfLet pat r inside) env s fits alike same =
+            let own = front_same (pattern_names pat ++ read_names r) (body_names inside) same in
+            same_fitted (fit one pat (read_value one env r)) env (Goes env s) (λ more. run_body one inside (env ++ more) s) (λ more. run_body other inside (env ++ more) s)
+            (λ more. same_body closed inside (env ++ more) s fits alike (back_same (pattern_names pat ++ read_names r) (body_names inside) same))
+            ∙ same_pattern pat r env (λ more. after_scope env (run_body other inside (env ++ more) s)) (Goes env s) (front_same (pattern_names pat) (read_names r) own) (back_same (pattern_names pat) (read_names r) own)
+        same_stmt closed (Match r arms) env s fits alike same = refl
+        same_stmt closed (Loop list item inside) env s fits alike same =
+            same_list (look env list) (λ is. run_items (λ i t. run_body one inside (bind env item (One i)) t) env is s) (λ is. run_items (λ i t. run_body other inside (bind env item (One i)) t) env is s)
+            (λ is. same_items (λ i t. run_body one inside (bind env item (One i)) t) (λ i t. run_body other inside (bind env item (One i)) t) env is s (λ i t. same_body closed inside (bind env item (One i)) t fits alike same))
+        same_stmt closed (Extend r) env s fits alike same = ap (λ h. on_value h (λ v. Goes env (one_given s v))) (same_read env r same)
+        same_stmt closed (Overflow inside) env s fits alike same = ap (λ o. if is_full o s.given then stops inside s else Goes env s) (rooms fits.0)
+        same_stmt closed (Log term place) env s fits alike same = refl
+        same_stmt closed (Split inside within) env s fits alike same = refl
+
+        same_body : (closed : Bool) (b : Body) (env : Env) (s : State) → FitsBody of closed b → Alike (body_calls b) → Same (body_names b) → run_body one b env s ≡ run_body other b env s
+        same_body closed Done env s fits alike same = refl
+        same_body closed (Then t ss) env s fits alike same =
+            then_same (run_stmt one t env s) (run_stmt other t env s) (run_body one ss) (run_body other ss)
+            (same_stmt closed t env s fits.0 (front (stmt_calls t) (body_calls ss) alike) (front_same (stmt_names t) (body_names ss) same))
+            (λ inner u. same_body closed ss inner u fits.1 (back (stmt_calls t) (body_calls ss) alike) (back_same (stmt_names t) (body_names ss) same))
+
+      same_last : (t : Stmt) (env : Env) (s : State) → FitsLast of t → Same (stmt_names t) → run_stmt one t env s ≡ run_stmt other t env s
+      same_last (Return e) env s fits same = same_return e env s same
+      same_last (Tail texts) env s fits same = refl
+      same_last (Let n e) env s fits same = absurd fits
+      same_last (LetList n call) env s fits same = absurd fits
+      same_last (IfEq a b inside) env s fits same = absurd fits
+      same_last (IfLet pat r inside) env s fits same = absurd fits
+      same_last (Match r arms) env s fits same = absurd fits
+      same_last (Loop list item inside) env s fits same = absurd fits
+      same_last (Extend r) env s fits same = absurd fits
+      same_last (Overflow inside) env s fits same = absurd fits
+      same_last (Log term place) env s fits same = absurd fits
+      same_last (Split inside within) env s fits same = absurd fits
+
+      same_ending : (b : Body) (env : Env) (s : State) → FitsEnding of b → Alike (body_calls b) → Same (body_names b) → run_body one b env s ≡ run_body other b env s
+      same_ending Done env s fits alike same = absurd fits
+      same_ending (Then t Done) env s fits alike same =
+          then_same (run_stmt one t env s) (run_stmt other t env s) (run_body one Done) (run_body other Done) (same_last t env s fits (front_same (stmt_names t) [] same)) (λ inner u. refl)
+      same_ending (Then t (Then u ss)) env s fits alike same =
+          then_same (run_stmt one t env s) (run_stmt other t env s) (run_body one (Then u ss)) (run_body other (Then u ss))
+          (same_stmt false t env s fits.0 (front (stmt_calls t) (body_calls (Then u ss)) alike) (front_same (stmt_names t) (body_names (Then u ss)) same))
+          (λ inner x. same_ending (Then u ss) inner x fits.1 (back (stmt_calls t) (body_calls (Then u ss)) alike) (back_same (stmt_names t) (body_names (Then u ss)) same))
+
+    -- the statements of a function
+    same_function : (of : ReturnKind) (b : Body) → (GivesSeveral of → limit ≡ bound) → FitsFunction of b → Alike (body_calls b) → Same (body_names b) → run_body one b [] nothing_done ≡ run_body other b [] nothing_done
+    same_function kind.Plain b rooms fits alike same = same_ending kind.Plain rooms b [] nothing_done fits alike same
+    same_function kind.Option b rooms fits alike same = same_ending kind.Option rooms b [] nothing_done fits alike same
+    same_function kind.Iterator b rooms fits alike same = same_body kind.Iterator rooms false b [] nothing_done fits alike same
+
+    -- the two runs are one, where names without an entry have no value under the one either, and where a function that gives several results has the
+    -- same room for them
+    pub same_limited : FitsFunction f.kind f.body → (GivesSeveral f.kind → limit ≡ bound) → AreAnswered f (entries given)
+        → ((name : List ℕ) → Contains (body_names f.body) name → const_of given name ≡ None → const_of m name ≡ None) → limited_run p m args limit f ≡ limited_run p given args bound f
+    same_limited fits rooms some none = ap (ended f.kind) (same_function f.kind f.body rooms fits (λ callee there. same_answer callee (some callee there)) (λ name there. same_name name (none name there)))
+
+  -- so in a program
+  pub same_run : (p : Program) (f : Function) (args : List Value) → FitsFunction f.kind f.body → (GivesSeveral f.kind → room m ≡ room given) → AreAnswered f (entries given)
+      → ((name : List ℕ) → Contains (body_names f.body) name → const_of given name ≡ None → const_of m name ≡ None) → function_run p m args (Some f) ≡ function_run p given args (Some f)
+  same_run p f args fits rooms some none = same_limited p f args (Some (room m)) (Some (room given)) fits (λ several. ap Some (rooms several)) some none

@@ -170,14 +170,12 @@ item_holds types (n ∷ m ∷ names) [] h = absurd h
 item_holds types (n ∷ m ∷ names) (v ∷ []) h = absurd h.1
 item_holds types (n ∷ m ∷ names) (v ∷ w ∷ vs) h = named_length types (n ∷ m ∷ names) (v ∷ w ∷ vs) h
 
-pub answer_holds : (types : List TypeItem) (s : Signature) (h : Holds) (a : Answer) → kind_holds s.kind (results_item s.results) ≡ Some h → AnswerFits types s a → HoldsIn h (answer_held a)
-answer_holds types s h (Plain vs) e fit =
-    let is : h ≡ holds.One (results_item s.results) = cc in
-    subst (λ x. HoldsIn x (answer_held (Plain vs))) (sym is) (item_holds types s.results vs fit.1)
-answer_holds types s h (Found vs) e fit =
-    let is : h ≡ holds.Optional (results_item s.results) = cc in
-    subst (λ x. HoldsIn x (answer_held (Found vs))) (sym is) (item_holds types s.results vs fit.1)
-answer_holds types s h Nothing e fit =
-    let is : h ≡ holds.Optional (results_item s.results) = cc in
-    subst (λ x. HoldsIn x (answer_held Nothing)) (sym is) tt
-answer_holds types s h (Several vss) e fit = absurd fit
+items_hold : (types : List TypeItem) (names : List (List ℕ)) (vss : List (List Value)) → AllByRecursion (AreNamed types names) vss → AllByRecursion (IsItem (results_item names)) (map item_of vss)
+items_hold types names [] h = tt
+items_hold types names (vs ∷ vss) h = (item_holds types names vs h.0, items_hold types names vss h.1)
+
+pub answer_holds : (types : List TypeItem) (s : Signature) (a : Answer) → AnswerFits types s a → HoldsIn (kind_holds s.kind (results_item s.results)) (answer_held a)
+answer_holds types s (Plain vs) fit = subst (λ k. HoldsIn (kind_holds k (results_item s.results)) (answer_held (Plain vs))) (sym fit.0) (item_holds types s.results vs fit.1)
+answer_holds types s (Found vs) fit = subst (λ k. HoldsIn (kind_holds k (results_item s.results)) (answer_held (Found vs))) (sym fit.0) (item_holds types s.results vs fit.1)
+answer_holds types s Nothing fit = subst (λ k. HoldsIn (kind_holds k (results_item s.results)) (answer_held Nothing)) (sym fit) tt
+answer_holds types s (Several vss) fit = subst (λ k. HoldsIn (kind_holds k (results_item s.results)) (answer_held (Several vss))) (sym fit.0) (items_hold types s.results vss fit.1)

@@ -16,7 +16,9 @@ pub mod Refusing
 pub mod Runs
 pub mod ValueKeys
 pub mod KeyOwners
+pub mod LocalsHold
 pub mod HeldPlaces
 pub mod HeldSteps
+pub mod WellFlows
 pub mod WithinArms
 pub mod WrongNamed

@@ -7,4 +7,5 @@ pub mod FirstWrong
 pub mod Served
 pub mod EntryViews
 pub mod Judged
+pub mod Ends
 pub mod Clashes

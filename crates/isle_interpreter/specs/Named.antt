@@ -2,6 +2,7 @@
 use Rattle.std.specs.Prelude.{◌≡◌, ℕ, List, [], ◌∷◌, codes, IsTrue, Some}
 use Rattle.std.specs.Int.{w128}
 use Rattle.std.specs.Int.RustNames.{FitsSigned}
+use Rattle.std.specs.List.{AllByRecursion}
 use Rattle.isle_core.specs.declared.types.ReturnKind.TheVariants as kind
 use Rattle.isle_core.specs.Value.{Value, Truth, Int, Opaque, Variant, Struct, FieldValues, NoField, Field, Answer, Plain, Found, Nothing, Several}
 use Rattle.isle_core.specs.HasType.{IsReduced}
@@ -36,9 +37,9 @@ AreNamed types (name ∷ names) (v ∷ vs) = IsNamed types name v × AreNamed ty
 AreNamed types [] (v ∷ vs) = ⊥
 AreNamed types (name ∷ names) [] = ⊥
 
--- an answer of the function's kind, with values of its types; lists of answers are not built
+-- an answer of the function's kind, with values of its types; where it answers several times, each time
 abbrev pub AnswerFits : List TypeItem → Signature → Answer → Type 0
 AnswerFits types s (Plain vs) = (s.kind ≡ kind.Plain) × AreNamed types s.results vs
 AnswerFits types s (Found vs) = (s.kind ≡ kind.Option) × AreNamed types s.results vs
 AnswerFits types s Nothing = s.kind ≡ kind.Option
-AnswerFits types s (Several answers) = ⊥
+AnswerFits types s (Several answers) = (s.kind ≡ kind.Iterator) × AllByRecursion (AreNamed types s.results) answers

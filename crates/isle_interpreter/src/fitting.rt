@@ -1,10 +1,11 @@
 //! The run of a function whose arguments and answers fit.
 
 ghost use Rattle.std.specs.Prelude.{◌≡◌, IfOk, IfErr, Some};
-ghost use Rattle.isle_core.specs.ValueViews.{values, meaning, ran};
+ghost use Rattle.isle_core.specs.ValueViews.{values, meaning, end, ran};
 ghost use Rattle.isle_tree.specs.Run.{run};
 ghost use Rattle.isle_tree.specs.Views.{function, program};
 ghost use Rattle.isle_tree.specs.WellFormed.{IsWellFormed};
+ghost use Rattle.isle_interpreter.specs.Ends.{EndFits};
 ghost use Rattle.isle_interpreter.specs.Refusals.{MayRun};
 ghost use Rattle.isle_interpreter.specs.declared.run_error.RunError.TheVariants.{Memory};
 
@@ -27,6 +28,7 @@ pub fn run_fitting(
     requires well_formed { IsWellFormed (program p.now) }
     requires may { MayRun (program p.now) term.now (values args.now) (meaning answers.now) (function f.now) }
     ensures ran { IfOk result (λ o. run (program p.now) term.now (values args.now) (meaning answers.now) ≡ Some (ran o)) }
+    ensures ends { IfOk result (λ o. EndFits f.now.kind (end o.end)) }
     ensures refused { IfErr result (λ e. e ≡ Memory) }
 {
     match run_function(alloc, p, f, args, answers)? {

@@ -2,10 +2,12 @@
 
 ghost use Rattle.std.specs.Prelude.{◌≡◌, ◌+◌, ◌^◌, ◌<◌, ◌⊎◌, length, IfOk, IfErr, OnOk, Some};
 ghost use Rattle.isle_core.specs.Meaning.{Meaning};
-ghost use Rattle.isle_core.specs.ValueViews.{values, meaning, ran};
-ghost use Rattle.isle_tree.specs.Run.{run};
+ghost use Rattle.isle_core.specs.ValueViews.{values, meaning, end, ran};
+ghost use Rattle.isle_tree.specs.Program.{Function};
+ghost use Rattle.isle_tree.specs.Run.{function_of, run};
 ghost use Rattle.isle_tree.specs.Views.{program};
 ghost use Rattle.isle_tree.specs.WellFormed.{IsWellFormed};
+ghost use Rattle.isle_interpreter.specs.Ends.{EndFits};
 ghost use Rattle.isle_interpreter.specs.Judged.{IsEarly, Takes, Runs};
 ghost use Rattle.isle_interpreter.specs.Refusals.{IsRefused};
 ghost use Rattle.isle_interpreter.specs.declared.run_error.RunError.{RunError};
@@ -48,6 +50,7 @@ pub fn run_term(
     requires counted { length answers.now.consts + length answers.now.pure + length answers.now.turns < 2 ^ 64 }
     ensures ran { IfOk result (λ o. run (program p.now) name.now (values args.now) (meaning answers.now) ≡ Some (ran o)) }
     ensures may { OnOk result (Runs (program p.now) name.now (values args.now) (meaning answers.now)) }
+    ensures ends { IfOk result (λ o. (f : Function) → function_of name.now (program p.now).fns ≡ Some f → EndFits f.kind (end o.end)) }
     ensures refused { IfErr result (λ e. (e ≡ Memory) ⊎ IsRefused (program p.now) name.now (values args.now) (meaning answers.now) e) }
     ensures never { OnOk result ((d : RunError) → IsRefused (program p.now) name.now (values args.now) (meaning answers.now) d → ⊥) }
     ensures only { IfErr result (λ e. (d : RunError) → IsRefused (program p.now) name.now (values args.now) (meaning answers.now) d

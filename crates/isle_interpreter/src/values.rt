@@ -1,6 +1,7 @@
 //! Arguments and answers of types.
 
-ghost use Rattle.std.specs.Prelude.{◌≡◌, ◌↔◌, ℕ, List, length, IsTrue, IfOk};
+ghost use Rattle.std.specs.Prelude.{◌≡◌, ◌↔◌, ℕ, List, length, map, IsTrue, IfOk};
+ghost use Rattle.std.specs.List.{AllByRecursion};
 ghost use Rattle.isle_core.specs.ValueViews.{values, answer};
 ghost use Rattle.isle_places.specs.Signatures.{type_names};
 ghost use Rattle.isle_interpreter.specs.Named.{AreNamed, AnswerFits};
@@ -8,7 +9,7 @@ ghost use Rattle.isle_interpreter.specs.FirstWrong.{IsFirstWrong};
 ghost use Rattle.isle_places.specs.SignatureViews.{signature};
 
 use crate::typed::is_named;
-use isle_core::{Answer, ReturnKind, Text, Value};
+use isle_core::{Answer, List, ReturnKind, Text, Value};
 use isle_places::{Signature, Types};
 use isle_tree::Ty;
 use std::alloc::{AllocError, Global};
@@ -28,6 +29,23 @@ fn are_named(
     }
     for index in 0..names.len() {
         if !is_named(alloc, types, names[index].as_str(), &given[index])? {
+            return Ok(false);
+        }
+    }
+    Ok(true)
+}
+
+// Whether there are as many values as names in each of these, each of its type.
+fn all_named(
+    alloc: Global,
+    types: &Types<'_>,
+    names: &[Text],
+    given: &[List<Value>],
+) -> Result<bool, AllocError>
+    ensures { IfOk result (λ all. IsTrue all ↔ AllByRecursion (AreNamed types.now names.now) (map values given.now)) }
+{
+    for found in given {
+        if !are_named(alloc, types, names, found.as_slice())? {
             return Ok(false);
         }
     }
@@ -56,7 +74,10 @@ fn answer_fits(
             Ok(kind == ReturnKind::Option && named)
         }
         Answer::Nothing => Ok(kind == ReturnKind::Option),
-        Answer::List(_) => Ok(false),
+        Answer::List(answers) => {
+            let named = all_named(alloc, types, results, answers.as_slice())?;
+            Ok(kind == ReturnKind::Iterator && named)
+        }
     }
 }
 

@@ -1,8 +1,8 @@
 //! Which statements fit the kind of their function.
 
-ghost use Rattle.std.specs.Prelude.{◌↔◌, IsTrue, false};
+ghost use Rattle.std.specs.Prelude.{◌≡◌, ◌↔◌, IsTrue};
 ghost use Rattle.isle_tree.specs.Views.{stmt, body};
-ghost use Rattle.isle_tree.specs.WellFormed.{FitsLet, IsReturned, FitsStmt, FitsBody, FitsTail, FitsLast, FitsFunction};
+ghost use Rattle.isle_tree.specs.WellFormed.{FitsLet, IsReturned, GivesSeveral, FitsStmt, FitsBody, FitsTail, FitsLast, FitsEnding, FitsFunction};
 
 use isle_core::{ReturnKind, Text};
 use isle_tree::{Stmt, TExpr};
@@ -36,6 +36,26 @@ fn is_returned(e: &TExpr) -> bool
     }
 }
 
+// Whether a function of the kind gives several results.
+fn gives_several(kind: ReturnKind) -> bool
+    ensures { IsTrue result ↔ GivesSeveral kind }
+{
+    match kind {
+        ReturnKind::Plain | ReturnKind::Option => false,
+        ReturnKind::Iterator => true,
+    }
+}
+
+// Whether statements may stop at a full list by this return.
+fn fits_stop(kind: ReturnKind, closed: bool, inside: bool) -> bool
+    ensures { IsTrue result ↔ (GivesSeveral kind × (inside ≡ closed)) }
+{
+    if !gives_several(kind) {
+        return false;
+    }
+    inside == closed
+}
+
 // Whether a statement may stand inside a function of the kind, or inside a closure of one.
 #[cycle(fits)]
 #[tactic(auto, using(isle_tree::proofs::Sees::sees))]
@@ -44,18 +64,13 @@ fn fits_stmt(kind: ReturnKind, closed: bool, s: &Stmt) -> bool
 {
     match s {
         Stmt::Let(_, e) => fits_let(kind, e),
-        Stmt::IfEq(_, _, inside) | Stmt::IfLet(_, _, inside) => {
-            fits_body(kind, closed, inside.as_slice())
-        }
+        Stmt::IfEq(_, _, inside) | Stmt::IfLet(_, _, inside) | Stmt::Loop { body: inside, .. } =>
+            fits_body(kind, closed, inside.as_slice()),
         Stmt::Return(e) => is_returned(e),
-        Stmt::Tail(_)
-        | Stmt::LetList { .. }
-        | Stmt::Match(..)
-        | Stmt::Loop { .. }
-        | Stmt::Extend(_)
-        | Stmt::Overflow { .. }
-        | Stmt::Log { .. }
-        | Stmt::Split { .. } => false,
+        Stmt::Extend(_) => gives_several(kind),
+        Stmt::Overflow { inside } => fits_stop(kind, closed, *inside),
+        Stmt::LetList { .. } | Stmt::Log { .. } => true,
+        Stmt::Match(..) | Stmt::Split { .. } | Stmt::Tail(_) => false,
     }
 }
 
@@ -104,9 +119,9 @@ fn fits_last(kind: ReturnKind, s: &Stmt) -> bool
     }
 }
 
-/// Tells whether the statements are those of a function of the kind.
-pub fn fits_function(kind: ReturnKind, stmts: &[Stmt]) -> bool
-    ensures { IsTrue result ↔ FitsFunction kind (body stmts.now) }
+// Whether the statements are those of a function that ends with one that is its last.
+fn fits_ending(kind: ReturnKind, stmts: &[Stmt]) -> bool
+    ensures { IsTrue result ↔ FitsEnding kind (body stmts.now) }
 {
     match stmts.split_last() {
         None => false,
@@ -116,5 +131,15 @@ pub fn fits_function(kind: ReturnKind, stmts: &[Stmt]) -> bool
             }
             fits_last(kind, last)
         }
+    }
+}
+
+/// Tells whether the statements are those of a function of the kind.
+pub fn fits_function(kind: ReturnKind, stmts: &[Stmt]) -> bool
+    ensures { IsTrue result ↔ FitsFunction kind (body stmts.now) }
+{
+    match kind {
+        ReturnKind::Plain | ReturnKind::Option => fits_ending(kind, stmts),
+        ReturnKind::Iterator => fits_body(kind, false, stmts),
     }
 }

@@ -2,14 +2,14 @@
 
 ghost use Rattle.std.specs.Prelude.{◌≡◌, ◌↔◌, IsTrue, Some, []};
 ghost use Rattle.isle_tree.specs.Views.{function};
-ghost use Rattle.isle_tree.specs.WellFormed.{local_holds, operand_holds, read_holds, is_value, are_values, are_field_values, made_holds, results_item, kind_holds, function_head, call_holds, head_holds, callee_holds, inner_holds, part_holds, expr_holds};
+ghost use Rattle.isle_tree.specs.WellFormed.{local_holds, operand_holds, read_holds, is_value, are_values, are_field_values, made_holds, results_item, kind_holds, function_head, call_holds, head_holds, callee_holds, inner_holds, once_holds, list_holds, each_holds, called_holds, part_holds, expr_holds};
 
 use isle_core::{Callee, ReturnKind, Text};
 use isle_scope::Table;
 use isle_tree::{Callables, Function, Holds, Item, Operand, Read, TCall, TExpr, TraitFn};
 
-// What a local holds.
-fn local_holds(bound: &Table<Holds>, n: usize) -> Option<Holds>
+/// Returns what a local holds.
+pub fn local_holds(bound: &Table<Holds>, n: usize) -> Option<Holds>
     ensures { result ≡ local_holds bound.now n }
 {
     bound.get(n).copied()
@@ -83,13 +83,13 @@ fn results_item(results: &[Text]) -> Item
 }
 
 // What an answer holds.
-fn kind_holds(kind: ReturnKind, item: Item) -> Option<Holds>
+fn kind_holds(kind: ReturnKind, item: Item) -> Holds
     ensures { result ≡ kind_holds kind item }
 {
     match kind {
-        ReturnKind::Plain => Some(Holds::One(item)),
-        ReturnKind::Option => Some(Holds::Optional(item)),
-        ReturnKind::Iterator => None,
+        ReturnKind::Plain => Holds::One(item),
+        ReturnKind::Option => Holds::Optional(item),
+        ReturnKind::Iterator => Holds::Several(item),
     }
 }
 
@@ -98,7 +98,7 @@ fn call_holds(f: &TraitFn, count: usize) -> Option<Holds>
     ensures { result ≡ call_holds (Some f.now) count }
 {
     if f.params.as_slice().len() == count {
-        kind_holds(f.kind, results_item(f.results.as_slice()))
+        Some(kind_holds(f.kind, results_item(f.results.as_slice())))
     } else {
         None
     }
@@ -109,7 +109,7 @@ fn head_holds(f: &Function, count: usize) -> Option<Holds>
     ensures { result ≡ head_holds (Some (function_head (function f.now))) count }
 {
     if f.params.as_slice().len() == count {
-        kind_holds(f.kind, Item::Value)
+        Some(kind_holds(f.kind, Item::Value))
     } else {
         None
     }
@@ -131,15 +131,14 @@ fn callee_holds(callees: &Callables, callee: &Callee, count: usize) -> Option<Ho
     }
 }
 
-// What a call gives.
-fn called(
+/// Returns what the answer of a call holds, where its arguments are values.
+pub fn called_holds(
     callees: &Callables,
     bound: &Table<Holds>,
     params: usize,
-    borrow: bool,
     call: &TCall,
 ) -> Option<Holds>
-    ensures { result ≡ expr_holds callees.now params bound.now (TExpr.Call borrow call.now) }
+    ensures { result ≡ called_holds callees.now params bound.now call.now }
 {
     let args = call.args.as_slice();
     if !are_values(bound, params, args) {
@@ -155,6 +154,37 @@ pub fn inner_holds(holds: Option<Holds>) -> Option<Holds>
     match holds {
         Some(Holds::Optional(item)) => Some(Holds::One(item)),
         Some(Holds::One(_) | Holds::Several(_)) | None => None,
+    }
+}
+
+// What is answered once.
+fn once_holds(holds: Option<Holds>) -> Option<Holds>
+    ensures { result ≡ once_holds holds }
+{
+    match holds {
+        Some(Holds::One(item)) => Some(Holds::One(item)),
+        Some(Holds::Optional(item)) => Some(Holds::Optional(item)),
+        Some(Holds::Several(_)) | None => None,
+    }
+}
+
+/// Returns what is answered several times.
+pub fn list_holds(holds: Option<Holds>) -> Option<Holds>
+    ensures { result ≡ list_holds holds }
+{
+    match holds {
+        Some(Holds::Several(item)) => Some(Holds::Several(item)),
+        Some(Holds::One(_) | Holds::Optional(_)) | None => None,
+    }
+}
+
+/// Returns what a list is of.
+pub fn each_holds(holds: Option<Holds>) -> Option<Holds>
+    ensures { result ≡ each_holds holds }
+{
+    match holds {
+        Some(Holds::Several(item)) => Some(Holds::One(item)),
+        Some(Holds::One(_) | Holds::Optional(_)) | None => None,
     }
 }
 
@@ -213,7 +243,7 @@ pub fn expr_holds(
 {
     match e {
         TExpr::Read(read) => read_holds(bound, params, read),
-        TExpr::Call { borrow, call } => called(callees, bound, params, *borrow, call),
+        TExpr::Call { call, .. } => once_holds(called_holds(callees, bound, params, call)),
         TExpr::Some(read) => some_holds(bound, params, read),
         TExpr::Try { source, .. } => inner_holds(operand_holds(bound, params, source)),
         TExpr::Variant { fields, .. } | TExpr::Struct { fields, .. } => {

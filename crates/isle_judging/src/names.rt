@@ -1,11 +1,10 @@
-//! The names, the types and the kind in the heads of functions.
+//! The names and the types in the heads of functions.
 
 ghost use Rattle.std.specs.Prelude.{◌↔◌, IsTrue};
 ghost use Rattle.std.specs.List.{AllByRecursion};
 ghost use Rattle.isle_tree.specs.Views.{function};
-ghost use Rattle.isle_tree.specs.WellFormed.{IsTermName, IsTy, IsKind, HasNames};
+ghost use Rattle.isle_tree.specs.WellFormed.{IsTermName, IsTy, HasNames};
 
-use isle_core::ReturnKind;
 use isle_spelling::{are_word_bytes, is_identifier};
 use isle_tree::{Function, Ty};
 
@@ -14,16 +13,6 @@ pub fn is_term_name(term: &str) -> bool
     ensures { IsTrue result ↔ IsTermName term.now }
 {
     are_word_bytes(term.as_bytes())
-}
-
-/// Tells whether a function may answer so often.
-pub fn is_kind(kind: ReturnKind) -> bool
-    ensures { IsTrue result ↔ IsKind kind }
-{
-    match kind {
-        ReturnKind::Plain | ReturnKind::Option => true,
-        ReturnKind::Iterator => false,
-    }
 }
 
 // Whether a parameter may have the type.

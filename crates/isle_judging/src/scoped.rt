@@ -2,10 +2,13 @@
 
 ghost use Rattle.std.specs.Prelude.{◌≡◌, ◌↔◌, IsTrue, IsSome, IfOk, OnOk};
 ghost use Rattle.isle_tree.specs.Views.{stmt, body};
-ghost use Rattle.isle_tree.specs.WellFormed.{expr_holds, GivesKind, after_let, IsStmtScoped, IsBodyScoped, bound_after};
+ghost use Rattle.isle_tree.specs.WellFormed.{GivesKind, after_let, IsStmtScoped, IsBodyScoped, bound_after};
 
 use crate::binding::enter;
-use crate::holding::{are_both_values, expr_holds};
+use crate::holding::{
+    are_both_values, called_holds, each_holds, expr_holds, is_value, list_holds, local_holds,
+    read_holds,
+};
 use isle_core::ReturnKind;
 use isle_scope::Table;
 use isle_tree::{Callables, Holds, Item, Stmt};
@@ -68,14 +71,25 @@ fn is_stmt_scoped(
             Ok(reads && scoped)
         }
         Stmt::Return(e) => Ok(gives_kind(kind, expr_holds(callees, bound, params, e))),
-        Stmt::Tail(_) => Ok(true),
-        Stmt::LetList { .. }
-        | Stmt::Match(..)
-        | Stmt::Loop { .. }
-        | Stmt::Extend(_)
-        | Stmt::Overflow { .. }
-        | Stmt::Log { .. }
-        | Stmt::Split { .. } => Ok(false),
+        Stmt::LetList { local, call } => {
+            let holds = list_holds(called_holds(callees, bound, params, call));
+            bind(bound, *local, holds)
+        }
+        Stmt::Loop {
+            list,
+            item,
+            body: inside,
+        } => {
+            let len = bound.len();
+            let each = each_holds(local_holds(bound, *list));
+            let listed = bind(bound, *item, each)?;
+            let scoped = is_body_scoped(callees, kind, params, bound, inside.as_slice())?;
+            bound.truncate(len);
+            Ok(listed && scoped)
+        }
+        Stmt::Extend(read) => Ok(is_value(read_holds(bound, params, read))),
+        Stmt::Overflow { .. } | Stmt::Log { .. } | Stmt::Tail(_) => Ok(true),
+        Stmt::Match(..) | Stmt::Split { .. } => Ok(false),
     }
 }
 

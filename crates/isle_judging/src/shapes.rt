@@ -155,14 +155,11 @@ fn is_stmt(s: &Stmt) -> bool
             }
             is_body(inside.as_slice())
         }
-        Stmt::Tail(_) => true,
-        Stmt::LetList { .. }
-        | Stmt::Match(..)
-        | Stmt::Loop { .. }
-        | Stmt::Extend(_)
-        | Stmt::Overflow { .. }
-        | Stmt::Log { .. }
-        | Stmt::Split { .. } => false,
+        Stmt::LetList { call, .. } => is_call(call),
+        Stmt::Loop { body: inside, .. } => is_body(inside.as_slice()),
+        Stmt::Extend(read) => is_read(read),
+        Stmt::Overflow { .. } | Stmt::Log { .. } | Stmt::Tail(_) => true,
+        Stmt::Match(..) | Stmt::Split { .. } => false,
     }
 }
 

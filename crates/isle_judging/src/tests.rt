@@ -43,10 +43,11 @@ fn program(alloc: Global, fns: Vec<Function>) -> Program {
     }
 }
 
-// Whether a program of one function, which has one statement, is well formed.
-fn judged(alloc: Global, stmt: Stmt) -> Result<bool, Fail> {
+// Whether a program of one function of the kind, which has one statement, is well formed.
+fn judged(alloc: Global, kind: ReturnKind, stmt: Stmt) -> Result<bool, Fail> {
     let body = vec![in alloc; stmt]?;
-    let f = function(alloc, "X", body)?;
+    let mut f = function(alloc, "X", body)?;
+    f.kind = kind;
     let p = program(alloc, vec![in alloc; f]?);
     Ok(well_formed(alloc, &p)?)
 }
@@ -58,7 +59,7 @@ fn returned(operand: Operand) -> Stmt {
 
 // Whether a function of one parameter may return the operand.
 fn may_return(alloc: Global, operand: Operand) -> Result<bool, Fail> {
-    judged(alloc, returned(operand))
+    judged(alloc, ReturnKind::Plain, returned(operand))
 }
 
 // A call of the function of a term, with the parameter so often.
@@ -140,10 +141,25 @@ fn refuses_a_number_beyond_its_type(rt: HostRuntime) -> Result<(), Fail> {
 
 #[test]
 fn refuses_statements_of_another_kind(rt: HostRuntime) -> Result<(), Fail> {
-    let none = judged(rt.alloc(), Stmt::Tail(None))?;
+    let none = judged(rt.alloc(), ReturnKind::Plain, Stmt::Tail(None))?;
     assert!(rt; !none);
-    let several = judged(rt.alloc(), Stmt::Extend(Read::Plain(Operand::Arg(0))))?;
-    assert!(rt; !several);
+    let result = Stmt::Extend(Read::Plain(Operand::Arg(0)));
+    let plain = judged(rt.alloc(), ReturnKind::Plain, result)?;
+    assert!(rt; !plain);
+    let inside = judged(
+        rt.alloc(),
+        ReturnKind::Iterator,
+        Stmt::Overflow { inside: true },
+    )?;
+    assert!(rt; !inside);
+    Ok(())
+}
+
+#[test]
+fn takes_results_of_a_function_that_gives_several(rt: HostRuntime) -> Result<(), Fail> {
+    let result = Stmt::Extend(Read::Plain(Operand::Arg(0)));
+    let several = judged(rt.alloc(), ReturnKind::Iterator, result)?;
+    assert!(rt; several);
     Ok(())
 }
 

@@ -4,7 +4,7 @@ ghost use Rattle.std.specs.Prelude.{◌↔◌, IsTrue};
 ghost use Rattle.std.specs.List.{AllByRecursion};
 ghost use Rattle.isle_tree.specs.WellFormed.{AreResults, IsTraitFn};
 
-use crate::names::{are_tys, is_kind};
+use crate::names::are_tys;
 use isle_core::Text;
 use isle_spelling::is_identifier;
 use isle_tree::TraitFn;
@@ -31,10 +31,7 @@ fn is_trait_fn(f: &TraitFn) -> bool
     if !are_tys(f.params.as_slice()) {
         return false;
     }
-    if !are_results(f.results.as_slice()) {
-        return false;
-    }
-    is_kind(f.kind)
+    are_results(f.results.as_slice())
 }
 
 /// Tells whether the trait may have all of them.

@@ -7,7 +7,7 @@ ghost use Rattle.isle_tree.specs.Views.{program, function};
 ghost use Rattle.isle_tree.specs.WellFormed.{callables, IsFunction, IsWellFormed};
 
 use crate::fits::fits_function;
-use crate::names::{has_names, is_kind};
+use crate::names::has_names;
 use crate::scoped::is_body_scoped;
 use crate::shapes::is_body;
 use crate::trait_fns::are_trait_fns;
@@ -23,9 +23,6 @@ fn is_function(alloc: Global, callees: &Callables, f: &Function) -> Result<bool,
     ensures { IfOk result (λ b. (p : Target) → callables p ≡ callees.now → IsTrue b ↔ IsFunction p (function f.now)) }
 {
     if !has_names(f) {
-        return Ok(false);
-    }
-    if !is_kind(f.kind) {
         return Ok(false);
     }
     let stmts = f.body.as_slice();

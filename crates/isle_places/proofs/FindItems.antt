@@ -10,7 +10,6 @@ use Rattle.std.proofs.lemmas.Map.Text.{btree_map_updates_str}
 use denote.Ref.{Bor}
 use Rattle.isle_tree.specs.declared.tree.TFields.{TFields}
 use Rattle.isle_tree.specs.declared.tree.TypeItem.{TypeItem}
-use Rattle.isle_places.specs.DeclaredTypes.{second_named}
 use Rattle.isle_places.specs.Types.{FindsItems, FindsVariants, FindsFields}
 
 module _ {A W V : Type 0} (key_of : A → List ℕ) (value_of : A → V) (seen : W → V) where

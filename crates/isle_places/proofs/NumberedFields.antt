@@ -1,5 +1,5 @@
 -- Fields of tuples, whose numbers are their names.
-use Rattle.std.proofs.Common.{◌≡◌, ℕ, zero, suc, ◌+◌, ◌<◌, ◌≤◌, List, [], ◌∷◌, length, Bool, true, false, cond, Option, Some, None, refl, sym, ap, ◌∙◌, subst, arith}
+use Rattle.std.proofs.Common.{◌≡◌, ℕ, zero, suc, ◌+◌, ◌<◌, ◌≤◌, List, [], ◌∷◌, length, Bool, true, false, cond, Some, None, refl, sym, ap, ◌∙◌, arith}
 use Rattle.std.specs.Prelude.{option_map, slice_get, find}
 use Rattle.std.specs.Str.{bytes_eq}
 use Rattle.std.specs.Fmt.{decimal}
@@ -7,7 +7,7 @@ use Rattle.std.proofs.lemmas.Slice.Eq.{bytes_eq-Decides}
 use Rattle.isle_printer.specs.Bytes.{same_bytes}
 use Rattle.isle_printer.proofs.Bytes.{same_is}
 use Rattle.isle_places.specs.DeclaredTypes.{These, tuple_fields, second_named}
-use Rattle.isle_places.specs.Told.{Told, AValue, Untold, field_told, typed_told}
+use Rattle.isle_places.specs.Told.{AValue, Untold, field_told, typed_told}
 
 -- the name is the number of none of these fields
 abbrev IsNone : ℕ → List (List ℕ) → List ℕ → Type 0

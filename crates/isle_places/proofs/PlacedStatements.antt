@@ -15,8 +15,9 @@ use Rattle.isle_tree.specs.declared.tree.Stmt.TheVariants as code
 use Rattle.isle_tree.specs.Program.{Function, Program}
 use Rattle.isle_tree.specs.Views.{stmt, body, arms, function}
 use Rattle.isle_tree.proofs.Sees.{stmt-let, stmt-let_list, stmt-if_eq}
+use Rattle.isle_places.specs.Signatures.{signature_of}
 use Rattle.isle_places.specs.declared.told.Told.{Told as CodeTold}
-use Rattle.isle_places.specs.Told.{Told, Untold, Tells, expr_told}
+use Rattle.isle_places.specs.Told.{Told, Tells, list_told, expr_told}
 use Rattle.isle_places.specs.ToldViews.{told, local_told, tells}
 use Rattle.isle_places.specs.Places.{Place, all_places, places, both_places, arm_places, stmt_places, body_places, arms_places, told_after}
 use Rattle.isle_places.proofs.PlacesAt.{part_more}
@@ -33,9 +34,9 @@ let_after (result.Ok v) p f n e s held old new is held_is more = tells_more old 
 let_after (result.Err x) p f n e s held old new is held_is more = tt
 
 -- so of a list
-pub list_after : {B E : Type 0} (r : Result B E) (p : Program) (f : Function) (n : ℕ) (call : TCall) (s : CodeStmt) (held : CodeTold) (old new : List (ℕ × CodeTold)) → s ≡ code.LetList n call → told held ≡ Untold → OnOk r (new ≡ old ++ (n, held) ∷ [])
+pub list_after : {B E : Type 0} (r : Result B E) (p : Program) (f : Function) (n : ℕ) (call : TCall) (s : CodeStmt) (held : CodeTold) (old new : List (ℕ × CodeTold)) → s ≡ code.LetList n call → told held ≡ list_told (signature_of p call.callee) → OnOk r (new ≡ old ++ (n, held) ∷ [])
     → OnOk r (tells new ≡ told_after p f (tells old) (stmt s))
-list_after (result.Ok v) p f n call s held old new is held_is more = tells_more old new n held Untold held_is more ∙ ap (told_after p f (tells old)) (sym (ap stmt is ∙ stmt-let_list n call))
+list_after (result.Ok v) p f n call s held old new is held_is more = tells_more old new n held (list_told (signature_of p call.callee)) held_is more ∙ ap (told_after p f (tells old)) (sym (ap stmt is ∙ stmt-let_list n call))
 list_after (result.Err x) p f n call s held old new is held_is more = tt
 
 -- the places of a test

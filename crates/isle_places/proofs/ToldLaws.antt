@@ -5,7 +5,8 @@ use Rattle.std.specs.declared.result.Result.{Result}
 use Rattle.std.proofs.lemmas.List.{take-map, length-map}
 use Rattle.isle_scope.specs.Table.{newest, held as table_held}
 use Rattle.isle_places.specs.DeclaredTypes.{Asked, variant_asked, struct_asked}
-use Rattle.isle_places.specs.Told.{Told, Untold, Tells, newer_told, look_told, expr_told, binds_told, pattern_told}
+use Rattle.isle_places.specs.Signatures.{signature_of}
+use Rattle.isle_places.specs.Told.{Told, Untold, Tells, newer_told, look_told, list_told, expr_told, binds_told, pattern_told}
 use Rattle.isle_tree.specs.declared.tree.TBind.{TBind}
 use Rattle.isle_tree.specs.declared.tree.TPat.{TPat}
 use Rattle.isle_tree.specs.declared.tree.TPat.TheVariants as pattern
@@ -77,7 +78,7 @@ none_more ts = record { more = []; grown = sym (append-nil ts) }
 
 grows : (p : Program) (f : Function) (ts : Tells) (s : Stmt) → Grows ts (told_after p f ts s)
 grows p f ts (Let n e) = record { more = (n, expr_told p f ts e) ∷ []; grown = refl }
-grows p f ts (LetList n call) = record { more = (n, Untold) ∷ []; grown = refl }
+grows p f ts (LetList n call) = record { more = (n, list_told (signature_of p call.callee)) ∷ []; grown = refl }
 grows p f ts (IfEq a b inside) = none_more ts
 grows p f ts (IfLet pat r inside) = none_more ts
 grows p f ts (Match r arms) = none_more ts

@@ -14,7 +14,7 @@ use Rattle.isle_tree.specs.declared.tree.TPat.TheVariants as pattern
 use Rattle.isle_tree.specs.Program.{Stmt, Let, LetList, IfEq, IfLet, Match, Loop, Return, Extend, Overflow, Log, Split, Tail, Body, Done, Then, Arms, NoArm, Arm, Function, Program}
 use Rattle.isle_places.specs.DeclaredTypes.{Asked, variant_asked, struct_asked}
 use Rattle.isle_places.specs.Signatures.{Signature, signature_of}
-use Rattle.isle_places.specs.Told.{Told, AValue, AnOption, ATuple, AnOptionalTuple, Untold, Tells, operand_told, operand_of, read_told, expr_told, field_told, pattern_told}
+use Rattle.isle_places.specs.Told.{Told, AValue, AnOption, ATuple, AnOptionalTuple, AList, AListOfTuples, Untold, Tells, item_told, list_told, look_told, operand_told, operand_of, read_told, expr_told, field_told, pattern_told}
 
 -- what stands at a place, and the name of its type
 abbrev pub Place : Type 0
@@ -35,6 +35,8 @@ where_told o (AValue ty) = (o, ty) ∷ []
 where_told o (AnOption ty) = []
 where_told o (ATuple tys) = []
 where_told o (AnOptionalTuple tys) = []
+where_told o (AList ty) = []
+where_told o (AListOfTuples tys) = []
 where_told o Untold = []
 
 -- an operand at a place of which this is told
@@ -113,7 +115,7 @@ pattern_places f tells (pattern.Some local) r = at (operand_of r) Untold
 -- what the locals hold behind a statement
 abbrev pub told_after : Program → Function → Tells → Stmt → Tells
 told_after p f tells (Let n e) = tells ++ (n, expr_told p f tells e) ∷ []
-told_after p f tells (LetList n call) = tells ++ (n, Untold) ∷ []
+told_after p f tells (LetList n call) = tells ++ (n, list_told (signature_of p call.callee)) ∷ []
 told_after p f tells (IfEq a b inside) = tells
 told_after p f tells (IfLet pat r inside) = tells
 told_after p f tells (Match r arms) = tells
@@ -125,6 +127,10 @@ told_after p f tells (Log term place) = tells
 told_after p f tells (Split inner inside) = tells
 told_after p f tells (Tail texts) = tells
 
+-- what the locals hold inside a loop over a list
+abbrev pub told_inside : (list item : ℕ) → Tells → Tells
+told_inside list item tells = tells ++ (item, item_told (look_told tells list)) ∷ []
+
 abbrev mutual
   pub stmt_places : Program → Function → Tells → Stmt → List Place
   stmt_places p f tells (Let n e) = expr_places p e
@@ -132,7 +138,7 @@ abbrev mutual
   stmt_places p f tells (IfEq a b inside) = both_places f tells a b ++ body_places p f tells inside
   stmt_places p f tells (IfLet pat r inside) = pattern_places f tells pat r ++ body_places p f (tells ++ pattern_told p pat (read_told f tells r)) inside
   stmt_places p f tells (Match r arms) = arms_places p f tells r arms
-  stmt_places p f tells (Loop list item inside) = body_places p f (tells ++ (item, Untold) ∷ []) inside
+  stmt_places p f tells (Loop list item inside) = body_places p f (told_inside list item tells) inside
   stmt_places p f tells (Return e) = returned p f.kind f.result e
   stmt_places p f tells (Extend r) = at (operand_of r) (AValue f.result)
   stmt_places p f tells (Overflow inside) = []

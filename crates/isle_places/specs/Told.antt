@@ -17,12 +17,15 @@ use Rattle.isle_tree.specs.Program.{Program, Function}
 use Rattle.isle_places.specs.DeclaredTypes.{Asked, These, Anything, Nowhere, second_named, variant_asked, struct_asked}
 use Rattle.isle_places.specs.Signatures.{Signature, signature_of}
 
--- a value of the type of this name, or a tuple of values of these types, or an option of either, or something whose type isn't fixed
+-- a value of the type of this name, or a tuple of values of these types, or an option of either, or a list of either, or something whose
+-- type isn't fixed
 pub data Told : Type 0 where
   AValue : (ty : List ℕ) → Told
   AnOption : (ty : List ℕ) → Told
   ATuple : (tys : List (List ℕ)) → Told
   AnOptionalTuple : (tys : List (List ℕ)) → Told
+  AList : (ty : List ℕ) → Told
+  AListOfTuples : (tys : List (List ℕ)) → Told
   Untold : Told
 
 -- a value of a type, where there is one
@@ -36,6 +39,8 @@ within (AnOption ty) = AValue ty
 within (AnOptionalTuple tys) = ATuple tys
 within (AValue ty) = Untold
 within (ATuple tys) = Untold
+within (AList ty) = Untold
+within (AListOfTuples tys) = Untold
 within Untold = Untold
 
 -- an option of a value
@@ -44,6 +49,8 @@ option_of (AValue ty) = AnOption ty
 option_of (AnOption ty) = Untold
 option_of (ATuple tys) = Untold
 option_of (AnOptionalTuple tys) = Untold
+option_of (AList ty) = Untold
+option_of (AListOfTuples tys) = Untold
 option_of Untold = Untold
 
 -- a part of a tuple
@@ -52,9 +59,21 @@ part_told part (ATuple tys) = typed_told (slice_get tys part)
 part_told part (AValue ty) = Untold
 part_told part (AnOption ty) = Untold
 part_told part (AnOptionalTuple tys) = Untold
+part_told part (AList ty) = Untold
+part_told part (AListOfTuples tys) = Untold
 part_told part Untold = Untold
 
--- an answer of a kind with these results, of which none and several are a tuple: lists are not told
+-- an item of a list
+abbrev pub item_told : Told → Told
+item_told (AList ty) = AValue ty
+item_told (AListOfTuples tys) = ATuple tys
+item_told (AValue ty) = Untold
+item_told (AnOption ty) = Untold
+item_told (ATuple tys) = Untold
+item_told (AnOptionalTuple tys) = Untold
+item_told Untold = Untold
+
+-- an answer of a kind with these results, of which none and several are a tuple; of a function that answers several times none is one
 abbrev pub answer_told : ReturnKind → List (List ℕ) → Told
 answer_told kind.Plain (ty ∷ []) = AValue ty
 answer_told kind.Option (ty ∷ []) = AnOption ty
@@ -68,6 +87,19 @@ answer_told kind.Iterator tys = Untold
 abbrev pub call_told : Option Signature → Told
 call_told None = Untold
 call_told (Some s) = answer_told s.kind s.results
+
+-- the list of the answers of a kind with these results: only a function that answers several times has one
+abbrev pub answers_told : ReturnKind → List (List ℕ) → Told
+answers_told kind.Iterator (ty ∷ []) = AList ty
+answers_told kind.Iterator [] = AListOfTuples []
+answers_told kind.Iterator (ty ∷ other ∷ more) = AListOfTuples (ty ∷ other ∷ more)
+answers_told kind.Plain tys = Untold
+answers_told kind.Option tys = Untold
+
+-- the list that a call gives
+abbrev pub list_told : Option Signature → Told
+list_told None = Untold
+list_told (Some s) = answers_told s.kind s.results
 
 -- what each local holds, the newest last
 abbrev pub Tells : Type 0

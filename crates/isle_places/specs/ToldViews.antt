@@ -4,7 +4,7 @@ use denote.Ref.{Bor}
 use Rattle.isle_tree.specs.declared.tree.Operand.{Operand}
 use Rattle.isle_places.specs.declared.told.Told.{Told as CodeTold}
 use Rattle.isle_places.specs.declared.told.Told.TheVariants as code
-use Rattle.isle_places.specs.Told.{Told, AValue, AnOption, ATuple, AnOptionalTuple, Untold, Tells}
+use Rattle.isle_places.specs.Told.{Told, AValue, AnOption, ATuple, AnOptionalTuple, AList, AListOfTuples, Untold, Tells}
 use Rattle.isle_places.specs.Places.{Place}
 
 -- what is told of something
@@ -13,6 +13,8 @@ told (code.AValue ty) = AValue ty.now
 told (code.AnOption ty) = AnOption ty.now
 told (code.ATuple tys) = ATuple tys.now
 told (code.AnOptionalTuple tys) = AnOptionalTuple tys.now
+told (code.AList ty) = AList ty.now
+told (code.AListOfTuples tys) = AListOfTuples tys.now
 told code.Untold = Untold
 
 -- a local with what is told of it

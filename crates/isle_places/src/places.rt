@@ -26,7 +26,12 @@ fn push_told<'s>(
 {
     match told {
         Told::AValue(ty) => Ok(found.push((operand, ty))?),
-        Told::AnOption(_) | Told::ATuple(_) | Told::AnOptionalTuple(_) | Told::Untold => Ok(()),
+        Told::AnOption(_)
+        | Told::ATuple(_)
+        | Told::AnOptionalTuple(_)
+        | Told::AList(_)
+        | Told::AListOfTuples(_)
+        | Told::Untold => Ok(()),
     }
 }
 

@@ -1,15 +1,14 @@
 //! The places in statements, and those in functions.
 
-ghost use Rattle.std.specs.Prelude.{◌≡◌, ◌++◌, [], ◌∷◌, OnOk};
+ghost use Rattle.std.specs.Prelude.{◌≡◌, ◌++◌, OnOk};
 ghost use Rattle.isle_tree.specs.Views.{function, program, stmt, body};
-ghost use Rattle.isle_places.specs.Places.{places, arm_places, stmt_places, body_places, told_after};
-ghost use Rattle.isle_places.specs.Told.{Untold};
+ghost use Rattle.isle_places.specs.Places.{places, arm_places, stmt_places, body_places, told_after, told_inside};
 ghost use Rattle.isle_places.specs.ToldViews.{tells, placed};
 
 use crate::binding::bind_pattern;
 use crate::places::{push_at, push_both, push_call, push_computed, push_pattern, push_returned};
 use crate::signatures::Signatures;
-use crate::told::{Told, expr_told, operand_of, operand_told};
+use crate::told::{Told, expr_told, item_told, list_told, local_told, operand_of, operand_told};
 use isle_scope::Table;
 use isle_tree::{Function, Operand, Read, Stmt, TPat};
 use std::alloc::{AllocError, Global};
@@ -39,7 +38,7 @@ fn push_arm<'s>(
     Ok(())
 }
 
-// Appends the places in a loop over items, whose types are not told.
+// Appends the places in a loop over the items of a list.
 #[cycle(placing)]
 fn push_loop<'s>(
     alloc: Global,
@@ -47,15 +46,17 @@ fn push_loop<'s>(
     f: &'s Function,
     bound: &mut Table<Told<'s>>,
     found: &mut Vec<(&'s Operand, &'s str)>,
+    list: usize,
     item: usize,
     inside: &'s [Stmt],
 ) -> Result<(), AllocError>
     ensures more { OnOk result (placed found.new.items
-        ≡ placed found.old.items ++ body_places (program signatures.now) (function f.now) (tells bound.old ++ (item, Untold) ∷ []) (body inside.now)) }
+        ≡ placed found.old.items ++ body_places (program signatures.now) (function f.now) (told_inside list item (tells bound.old)) (body inside.now)) }
     ensures kept { OnOk result (tells bound.new ≡ tells bound.old) }
 {
     let count = bound.len();
-    bound.bind(item, Told::Untold)?;
+    let held = item_told(local_told(bound, list));
+    bound.bind(item, held)?;
     push_body(alloc, signatures, f, bound, found, inside)?;
     bound.truncate(count);
     Ok(())
@@ -84,7 +85,8 @@ fn push_statement<'s>(
         }
         Stmt::LetList { local, call } => {
             push_call(signatures, found, call)?;
-            bound.bind(*local, Told::Untold)
+            let held = list_told(signatures, call);
+            bound.bind(*local, held)
         }
         Stmt::IfEq(a, b, inside) => {
             push_both(f, bound, found, a, b)?;
@@ -117,8 +119,17 @@ fn push_statement<'s>(
             }
             Ok(())
         }
-        Stmt::Loop { item, body, .. } => {
-            push_loop(alloc, signatures, f, bound, found, *item, body.as_slice())
+        Stmt::Loop { list, item, body } => {
+            push_loop(
+                alloc,
+                signatures,
+                f,
+                bound,
+                found,
+                *list,
+                *item,
+                body.as_slice(),
+            )
         }
         Stmt::Split { body, .. } => {
             push_body(alloc, signatures, f, bound, found, body.as_slice())

@@ -5,7 +5,7 @@ ghost use Rattle.isle_core.specs.declared.types.ReturnKind.TheVariants as kind;
 ghost use Rattle.isle_tree.specs.Views.{function, program};
 ghost use Rattle.isle_places.specs.Signatures.{trait_signature, term_signature, signature_of};
 ghost use Rattle.isle_places.specs.SignatureViews.{signature};
-ghost use Rattle.isle_places.specs.Told.{answer_told};
+ghost use Rattle.isle_places.specs.Told.{answer_told, answers_told};
 ghost use Rattle.isle_places.specs.ToldViews.{told};
 
 use crate::told::Told;
@@ -44,6 +44,16 @@ fn option_told<'p>(results: &'p [Text]) -> Told<'p>
     }
 }
 
+// So of a list of them.
+fn several_told<'p>(results: &'p [Text]) -> Told<'p>
+    ensures { told result ≡ answers_told kind.Iterator results.now }
+{
+    match results {
+        [ty] => Told::AList(ty.as_str()),
+        [] | [_, _, ..] => Told::AListOfTuples(results),
+    }
+}
+
 impl<'p> Signature<'p> {
     // That of a function of the trait.
     fn of_trait(f: &'p TraitFn) -> Signature<'p>
@@ -75,6 +85,16 @@ impl<'p> Signature<'p> {
             ReturnKind::Plain => plain_told(self.results),
             ReturnKind::Option => option_told(self.results),
             ReturnKind::Iterator => Told::Untold,
+        }
+    }
+
+    /// Returns what is told of the list of what a call of the function gives, where it answers several times.
+    pub fn answers_told(&self) -> Told<'p>
+        ensures { told result ≡ answers_told (signature self.now).kind (signature self.now).results }
+    {
+        match self.kind {
+            ReturnKind::Iterator => several_told(self.results),
+            ReturnKind::Plain | ReturnKind::Option => Told::Untold,
         }
     }
 }

@@ -2,21 +2,25 @@
 
 ghost use Rattle.std.specs.Prelude.{◌≡◌, slice_get};
 ghost use Rattle.isle_tree.specs.Views.{function, program};
+ghost use Rattle.isle_places.specs.Signatures.{signature_of};
 ghost use Rattle.isle_places.specs.Told as told_of;
 ghost use Rattle.isle_places.specs.ToldViews.{told, tells};
 
 use crate::signatures::Signatures;
 use isle_core::Text;
 use isle_scope::Table;
-use isle_tree::{Function, Operand, Read, TExpr, Ty};
+use isle_tree::{Function, Operand, Read, TCall, TExpr, Ty};
 
-/// A value of the type of this name, a tuple of values of these types, an option of either, or something whose type isn't told.
+/// A value of the type of this name, a tuple of values of these types, an option of either, a list of either, or something whose type
+/// isn't told.
 #[derive(Clone, Copy)]
 pub enum Told<'s> {
     AValue(&'s str),
     AnOption(&'s str),
     ATuple(&'s [Text]),
     AnOptionalTuple(&'s [Text]),
+    AList(&'s str),
+    AListOfTuples(&'s [Text]),
     Untold,
 }
 
@@ -27,7 +31,11 @@ pub fn within<'s>(of: Told<'s>) -> Told<'s>
     match of {
         Told::AnOption(ty) => Told::AValue(ty),
         Told::AnOptionalTuple(tys) => Told::ATuple(tys),
-        Told::AValue(_) | Told::ATuple(_) | Told::Untold => Told::Untold,
+        Told::AValue(_)
+        | Told::ATuple(_)
+        | Told::AList(_)
+        | Told::AListOfTuples(_)
+        | Told::Untold => Told::Untold,
     }
 }
 
@@ -37,9 +45,12 @@ fn option_of<'s>(of: Told<'s>) -> Told<'s>
 {
     match of {
         Told::AValue(ty) => Told::AnOption(ty),
-        Told::AnOption(_) | Told::ATuple(_) | Told::AnOptionalTuple(_) | Told::Untold => {
-            Told::Untold
-        }
+        Told::AnOption(_)
+        | Told::ATuple(_)
+        | Told::AnOptionalTuple(_)
+        | Told::AList(_)
+        | Told::AListOfTuples(_)
+        | Told::Untold => Told::Untold,
     }
 }
 
@@ -59,9 +70,27 @@ fn part_told<'s>(of: Told<'s>, part: usize) -> Told<'s>
 {
     match of {
         Told::ATuple(tys) => type_told(tys, part),
-        Told::AValue(_) | Told::AnOption(_) | Told::AnOptionalTuple(_) | Told::Untold => {
-            Told::Untold
-        }
+        Told::AValue(_)
+        | Told::AnOption(_)
+        | Told::AnOptionalTuple(_)
+        | Told::AList(_)
+        | Told::AListOfTuples(_)
+        | Told::Untold => Told::Untold,
+    }
+}
+
+/// Returns what is told of an item of a list.
+pub fn item_told<'s>(of: Told<'s>) -> Told<'s>
+    ensures { told result ≡ told_of.item_told (told of.entry) }
+{
+    match of {
+        Told::AList(ty) => Told::AValue(ty),
+        Told::AListOfTuples(tys) => Told::ATuple(tys),
+        Told::AValue(_)
+        | Told::AnOption(_)
+        | Told::ATuple(_)
+        | Told::AnOptionalTuple(_)
+        | Told::Untold => Told::Untold,
     }
 }
 
@@ -84,8 +113,8 @@ pub fn param_told<'s>(params: &'s [Ty], index: usize) -> Told<'s>
     }
 }
 
-// What is told of a local.
-fn local_told<'s>(bound: &Table<Told<'s>>, local: usize) -> Told<'s>
+/// Returns what is told of a local.
+pub fn local_told<'s>(bound: &Table<Told<'s>>, local: usize) -> Told<'s>
     ensures { told result ≡ told_of.look_told (tells bound.now) local }
 {
     match bound.get(local) {
@@ -104,6 +133,16 @@ pub fn operand_told<'s>(f: &'s Function, bound: &Table<Told<'s>>, operand: &Oper
         Operand::Bool(_) => Told::AValue("bool"),
         Operand::Int(ty, _) => Told::AValue(ty.name()),
         Operand::Raw(_) | Operand::Name(_) => Told::Untold,
+    }
+}
+
+/// Returns what is told of the list that a call gives.
+pub fn list_told<'s>(signatures: &'s Signatures<'_>, call: &'s TCall) -> Told<'s>
+    ensures { told result ≡ told_of.list_told (signature_of (program signatures.now) call.now.callee) }
+{
+    match signatures.of(&call.callee) {
+        Some(signature) => signature.answers_told(),
+        None => Told::Untold,
     }
 }
 

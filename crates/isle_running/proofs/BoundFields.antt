@@ -47,7 +47,7 @@ none_bound n None now mid there h e = h.1
 none_bound n (Some v) now mid there h e = absurd cc
 
 -- what was bound is cut off
-pub cut_follows : (old now mid : Frame) (len : ℕ) (ls : List (ℕ × Holding)) → Follows old now → mid.locals ≡ now.locals → mid.calls ≡ now.calls → len ≡ length old.locals → ls ≡ take len mid.locals → Follows old (record { locals = ls; calls = mid.calls })
+pub cut_follows : (old now mid : Frame) (len : ℕ) (ls : List (ℕ × Holding)) → Follows old now → mid.locals ≡ now.locals → mid.calls ≡ now.calls → len ≡ length old.locals → ls ≡ take len mid.locals → Follows old (record { locals = ls; calls = mid.calls; given = mid.given })
 cut_follows old now mid len ls f same calls is cut = record {
   more = [];
   grown =

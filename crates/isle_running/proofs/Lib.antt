@@ -9,6 +9,7 @@ pub mod NotBuilt
 pub mod ReadValues
 pub mod SourceLaws
 pub mod Tests
+pub mod Turns
 pub mod UnitStructs
 pub mod ValuesApart
 pub mod ValuesIn

@@ -77,9 +77,9 @@ field_named name (f ∷ fs) = ap (λ b. if b then Some (value f.1) else field_of
 
 -- a local more that holds the field's value
 pub binds_there : (n : ℕ) (name : List ℕ) (fs : List (List ℕ × CodeValue)) (v copy : CodeValue) (old : Frame) (ls : List (ℕ × Holding)) → Some v ≡ value_named fs name → copy ≡ v → ls ≡ old.locals ++ (n, holding.One (item.Value copy)) ∷ []
-    → BindsSo n (field_of name (fields fs)) old (record { locals = ls; calls = old.calls }) true
+    → BindsSo n (field_of name (fields fs)) old (record { locals = ls; calls = old.calls; given = old.given }) true
 binds_there n name fs v copy old ls e same is =
-    subst (λ o. BindsSo n o old (record { locals = ls; calls = old.calls }) true) (sym (field_named name fs ∙ ap (option_map value) (sym e))) (
+    subst (λ o. BindsSo n o old (record { locals = ls; calls = old.calls; given = old.given }) true) (sym (field_named name fs ∙ ap (option_map value) (sym e))) (
       refl,
       ap locals is ∙ map-append local old.locals ((n, holding.One (item.Value copy)) ∷ []) ∙ ap (λ x. locals old.locals ++ (n, a_value (value x)) ∷ []) same,
       record { more = (n, holding.One (item.Value copy)) ∷ []; grown = is; same = refl },

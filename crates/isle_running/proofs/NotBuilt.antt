@@ -1,25 +1,17 @@
 -- Statements that are not built have no run.
-use Rattle.std.proofs.Common.{◌≡◌, ℕ, List, Bool, ◌⊎◌, inl, inr, ap, ◌∙◌}
+use Rattle.std.proofs.Common.{◌≡◌, List, Bool, ◌⊎◌, inl, inr, ap, ◌∙◌}
 use Rattle.isle_tree.specs.declared.tree.Read.{Read}
-use Rattle.isle_tree.specs.declared.tree.TCall.{TCall}
 use Rattle.isle_tree.specs.declared.tree.TPat.{TPat}
 use Rattle.isle_tree.specs.declared.tree.Stmt.{Stmt as CodeStmt}
 use Rattle.isle_tree.specs.declared.tree.Stmt.TheVariants as code
 use Rattle.isle_tree.specs.Program.{Stmt}
 use Rattle.isle_tree.specs.Run.{Around, Env, State, Stuck, run_stmt}
 use Rattle.isle_tree.specs.Views.{stmt}
-use Rattle.isle_tree.proofs.Sees.{stmt-let_list, stmt-match, stmt-loop, stmt-extend, stmt-overflow, stmt-log, stmt-split}
+use Rattle.isle_tree.proofs.Sees.{stmt-match, stmt-split}
 
 -- the statement is of a form that is not built
 abbrev pub IsNotBuilt : CodeStmt → Type 0
-IsNotBuilt x =
-    ((n : ℕ) × (call : TCall) × x ≡ code.LetList n call)
-    ⊎ (((r : Read) × (arms : List (TPat × List CodeStmt)) × x ≡ code.Match r arms)
-    ⊎ (((list : ℕ) × (item : ℕ) × (inside : List CodeStmt) × x ≡ code.Loop list item inside)
-    ⊎ (((r : Read) × x ≡ code.Extend r)
-    ⊎ (((inside : Bool) × x ≡ code.Overflow inside)
-    ⊎ (((term : List ℕ) × (place : List ℕ) × x ≡ code.Log term place)
-    ⊎ ((inside : List CodeStmt) × (inner : Bool) × x ≡ code.Split inside inner))))))
+IsNotBuilt x = ((r : Read) × (arms : List (TPat × List CodeStmt)) × x ≡ code.Match r arms) ⊎ ((inside : List CodeStmt) × (inner : Bool) × x ≡ code.Split inside inner)
 
 -- such a statement is stuck
 pub stuck : (w : Around) (env : Env) (s : State) (x : CodeStmt) → IsNotBuilt x → run_stmt w (stmt x) env s ≡ Stuck
@@ -29,10 +21,5 @@ stuck w env s x h = by h
     seen y t e f = ap (λ z. run_stmt w z env s) (ap stmt e ∙ f)
 
     by : IsNotBuilt x → run_stmt w (stmt x) env s ≡ Stuck
-    by (inl g) = seen _ _ g.2 (stmt-let_list g.0 g.1)
-    by (inr (inl g)) = seen _ _ g.2 (stmt-match g.0 g.1)
-    by (inr (inr (inl g))) = seen _ _ g.3 (stmt-loop g.0 g.1 g.2)
-    by (inr (inr (inr (inl g)))) = seen _ _ g.1 (stmt-extend g.0)
-    by (inr (inr (inr (inr (inl g))))) = seen _ _ g.1 (stmt-overflow g.0)
-    by (inr (inr (inr (inr (inr (inl g)))))) = seen _ _ g.2 (stmt-log g.0 g.1)
-    by (inr (inr (inr (inr (inr (inr g)))))) = seen _ _ g.2 (stmt-split g.0 g.1)
+    by (inl g) = seen _ _ g.2 (stmt-match g.0 g.1)
+    by (inr g) = seen _ _ g.2 (stmt-split g.0 g.1)

@@ -1,10 +1,10 @@
 -- What contracts see of what the code's run holds.
-use Rattle.std.specs.Prelude.{ℕ, List, [], map, Bool, Option, Some, None, option_map}
+use Rattle.std.specs.Prelude.{ℕ, List, map, Bool, Option, Some, None, option_map}
 use Rattle.isle_core.specs.Answered.{Item, AValue, ATuple, Held, Absent, One, Optional, Listed}
-use Rattle.isle_core.specs.Value.{Value}
+use Rattle.isle_core.specs.Value.{Value, GivesList}
 use Rattle.isle_core.specs.SameInRun.{same_in_run}
 use Rattle.isle_core.specs.ValueViews.{value, values, end, made, meaning}
-use Rattle.isle_tree.specs.Run.{Around, State, Env, Flow, Goes, Ends, Stuck}
+use Rattle.isle_tree.specs.Run.{Around, State, Env, Flow, Goes, Ends, Leaves, Stuck}
 use Rattle.isle_tree.specs.Views.{function, program}
 use Rattle.isle_running.specs.declared.around.Around.{Around as CodeAround}
 use Rattle.isle_running.specs.declared.frame.Frame.{Frame}
@@ -39,24 +39,26 @@ locals = map local
 
 -- ---- a run
 
--- what a function runs in, with what its calls are answered; its results are not limited
+-- what a function runs in, with what its calls are answered, and the room for its results
 abbrev pub within : CodeAround → Frame → Around
 within w f = record {
   meaning = meaning f.calls.answers;
   program = program w.program.now;
   function = function w.function.now;
   args = values w.args.now;
-  limit = None;
+  limit = Some w.room;
 }
 
--- the calls made; no results are given
+-- the calls made, and the results given
 abbrev pub state : Frame → State
-state f = record { made = map made f.calls.made; given = [] }
+state f = record { made = map made f.calls.made; given = values f.given.items }
 
 -- how statements end, with what is behind them
 abbrev pub flow : CodeFlow → Frame → Flow
 flow code.Goes f = Goes (locals f.locals) (state f)
 flow (code.Ends e) f = Ends (end e) (state f)
+flow code.Full f = Ends (GivesList (state f).given) (state f)
+flow code.Leaves f = Leaves (state f)
 flow code.Stuck f = Stuck
 
 -- ---- tests

@@ -1,11 +1,12 @@
 -- Steps of the code's run as those of the definition.
-use Rattle.std.specs.Prelude.{◌≡◌, ℕ, List, [], ◌∷◌, ◌++◌, Bool, true, false, Option, Some, None, if◌then◌else◌, option_map}
+use Rattle.std.specs.Prelude.{◌≡◌, ℕ, List, [], ◌∷◌, ◌++◌, Bool, true, false, Option, Some, None, if◌then◌else◌, option_map, slice_get, drop}
 use Rattle.isle_core.specs.Answered.{Item, Held, Absent, One, Optional, Listed, a_value}
 use Rattle.isle_core.specs.Value.{Value, Variant, Struct, FieldValues}
 use Rattle.isle_tree.specs.Program.{Body}
 use Rattle.isle_tree.specs.declared.tree.Operand.{Operand}
 use Rattle.isle_tree.specs.declared.tree.TPat.{TPat}
-use Rattle.isle_tree.specs.Run.{Around, State, Env, Flow, Goes, after_scope, fit, fitted, run_body, value_in, value_of}
+use Rattle.isle_tree.specs.declared.tree.TPat.TheVariants as pattern
+use Rattle.isle_tree.specs.Run.{Around, State, Env, Flow, Goes, look, bind, on_list, after_scope, fit, fitted, run_items, run_body, value_in, value_of}
 use Rattle.isle_running.specs.Frames.{Follows}
 use Rattle.isle_running.specs.RunViews.{locals, within, state, flow, tested}
 use Rattle.isle_running.specs.declared.around.Around.{Around as CodeAround}
@@ -58,3 +59,31 @@ item_within Absent = None
 -- a field of this name that a place holds, where it holds a value
 abbrev pub field_read : List ℕ → Held → Option (List ℕ × Value)
 field_read name h = option_map (λ (v : Value). (name, v)) (value_in h)
+
+-- ---- lists
+
+-- the items of a list that a place holds, where it holds one
+abbrev pub list_in : Held → Option (List Item)
+list_in (Listed is) = Some is
+list_in (One i) = None
+list_in (Optional o) = None
+list_in Absent = None
+
+-- the item of this number of a list that a place holds, as an option
+abbrev pub item_at : ℕ → Held → Held
+item_at index (Listed is) = Optional (slice_get is index)
+item_at index (One i) = Absent
+item_at index (Optional o) = Absent
+item_at index Absent = Absent
+
+-- the turn of a loop that has this number: statements where the item is there, their bindings and its own are left
+abbrev pub run_turn : (list item index : ℕ) → Body → Around → Env → State → Flow
+run_turn list item index inside w env s = run_where (pattern.Some (Some item)) (item_at index (look env list)) inside w env s
+
+-- the turns of a loop from this number on
+abbrev pub run_turns : (list item index : ℕ) → Body → Around → Env → State → Flow
+run_turns list item index inside w env s = on_list (look env list) (λ is. run_items (λ i t. run_body w inside (bind env item (One i)) t) env (drop index is) s)
+
+-- a loop over the list that a local holds
+abbrev pub run_loop : (list item : ℕ) → Body → Around → Env → State → Flow
+run_loop list item inside w env s = on_list (look env list) (λ is. run_items (λ i t. run_body w inside (bind env item (One i)) t) env is s)

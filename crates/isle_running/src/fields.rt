@@ -25,6 +25,7 @@ fn bind_field(
 ) -> Result<bool, AllocError>
     ensures binds { IfOk result (BindsSo bind.now.local (run.field_of bind.now.field (fields found.now)) frame.old frame.new) }
     ensures calls { frame.new.calls ≡ frame.old.calls }
+    ensures given { frame.new.given.items ≡ frame.old.given.items }
 {
     match found.value(bind.field.as_str()) {
         Some(value) => {
@@ -46,6 +47,7 @@ fn bind_fields(
     ensures fits { IfOk result (FitsSo (run.fit_fields binds.now (fields found.now)) frame.old frame.new) }
     ensures kept { IfOk result (λ fits. fits ≡ false → frame.new.locals ≡ frame.old.locals) }
     ensures calls { frame.new.calls ≡ frame.old.calls }
+    ensures given { frame.new.given.items ≡ frame.old.given.items }
     ensures follows { OnOk result (Follows frame.old frame.new) }
 {
     let count = frame.locals.len();
@@ -68,6 +70,7 @@ fn fit_fields(
     ensures fits { IfOk result (FitsSo (run.fit_fields binds.now (fields given.now)) frame.old frame.new) }
     ensures kept { IfOk result (λ fits. fits ≡ false → frame.new.locals ≡ frame.old.locals) }
     ensures calls { frame.new.calls ≡ frame.old.calls }
+    ensures given { frame.new.given.items ≡ frame.old.given.items }
     ensures follows { OnOk result (Follows frame.old frame.new) }
 {
     let found = Named::new(alloc, given)?;
@@ -87,6 +90,7 @@ pub fn fit_variant(
     ensures fits { IfOk result (FitsSo (run.fit_variant ty.now variant.now binds.now (Some (value made.now))) frame.old frame.new) }
     ensures kept { IfOk result (λ fits. fits ≡ false → frame.new.locals ≡ frame.old.locals) }
     ensures calls { frame.new.calls ≡ frame.old.calls }
+    ensures given { frame.new.given.items ≡ frame.old.given.items }
     ensures follows { OnOk result (Follows frame.old frame.new) }
 {
     match made {
@@ -113,6 +117,7 @@ pub fn fit_struct(
     ensures fits { IfOk result (FitsSo (run.fit_struct ty.now binds.now (Some (value made.now))) frame.old frame.new) }
     ensures kept { IfOk result (λ fits. fits ≡ false → frame.new.locals ≡ frame.old.locals) }
     ensures calls { frame.new.calls ≡ frame.old.calls }
+    ensures given { frame.new.given.items ≡ frame.old.given.items }
     ensures follows { OnOk result (Follows frame.old frame.new) }
 {
     match made {

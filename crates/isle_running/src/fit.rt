@@ -26,6 +26,7 @@ fn fit_some(
     ensures fits { IfOk result (FitsSo (run.fit_some local (held holding)) frame.old frame.new) }
     ensures kept { IfOk result (λ fits. fits ≡ false → frame.new.locals ≡ frame.old.locals) }
     ensures calls { frame.new.calls ≡ frame.old.calls }
+    ensures given { frame.new.given.items ≡ frame.old.given.items }
     ensures follows { OnOk result (Follows frame.old frame.new) }
 {
     match item_within(holding) {
@@ -49,6 +50,7 @@ fn fit_value(
     ensures fits { (w : Around) → IfOk result (FitsSo (run.fit (within w frame.old) pat.now (a_value (value given.now))) frame.old frame.new) }
     ensures kept { IfOk result (λ fits. fits ≡ false → frame.new.locals ≡ frame.old.locals) }
     ensures calls { frame.new.calls ≡ frame.old.calls }
+    ensures given { frame.new.given.items ≡ frame.old.given.items }
     ensures follows { OnOk result (Follows frame.old frame.new) }
 {
     match pat {
@@ -83,6 +85,7 @@ pub fn fit(
     ensures fits { (w : Around) → IfOk result (FitsSo (run.fit (within w frame.old) pat.now (held holding)) frame.old frame.new) }
     ensures kept { IfOk result (λ fits. fits ≡ false → frame.new.locals ≡ frame.old.locals) }
     ensures calls { frame.new.calls ≡ frame.old.calls }
+    ensures given { frame.new.given.items ≡ frame.old.given.items }
     ensures follows { OnOk result (Follows frame.old frame.new) }
 {
     match pat {

@@ -1,32 +1,63 @@
 //! The run of a function.
 
 ghost use Rattle.std.specs.Prelude.{◌≡◌, IfOk, Some, option_map};
+ghost use Rattle.isle_core.specs.Value.{GivesList};
 ghost use Rattle.isle_core.specs.ValueViews.{values, meaning, ran};
-ghost use Rattle.isle_tree.specs.Run.{ended, function_run};
+ghost use Rattle.isle_tree.specs.Run.{ended, runs_out, room, function_run};
 ghost use Rattle.isle_tree.specs.Views.{function, program};
-ghost use Rattle.isle_running.specs.RunViews.{flow};
+ghost use Rattle.isle_running.specs.RunViews.{flow, state};
 
 use crate::around::Around;
 use crate::called::Calls;
 use crate::flow::Flow;
 use crate::frame::Frame;
 use crate::run::run_body;
-use isle_core::{Answers, List, Outcome, Value};
+use isle_core::{Answers, End, List, Outcome, ReturnKind, Value};
 use isle_scope::Table;
 use isle_tree::{Function, Program};
 use std::alloc::{AllocError, Global};
 
-// What a body's end leaves of a run, where it ends.
-fn outcome(end: Flow, frame: Frame<'_>) -> Option<Outcome>
-    ensures { option_map ran result ≡ ended (flow end frame.entry) }
+// The outcome that has the results given.
+fn listed(frame: Frame<'_>) -> Outcome
+    ensures { ran result ≡ record { end = GivesList (state frame.entry).given; calls = (state frame.entry).made } }
+{
+    let Frame { calls, given, .. } = frame;
+    Outcome {
+        end: End::List(List::new(given)),
+        calls: List::new(calls.into_vec()),
+    }
+}
+
+// What is left of a function of the kind behind its last statement.
+fn runs_out(of: ReturnKind, frame: Frame<'_>) -> Option<Outcome>
+    ensures { option_map ran result ≡ runs_out of (state frame.entry) }
+{
+    match of {
+        ReturnKind::Plain | ReturnKind::Option => None,
+        ReturnKind::Iterator => Some(listed(frame)),
+    }
+}
+
+// What a body's end leaves of a run of a function of the kind, where it ends.
+fn outcome(of: ReturnKind, end: Flow, frame: Frame<'_>) -> Option<Outcome>
+    ensures { option_map ran result ≡ ended of (flow end frame.entry) }
 {
     match end {
         Flow::Ends(end) => {
             let calls = List::new(frame.calls.into_vec());
             Some(Outcome { end, calls })
         }
-        Flow::Goes | Flow::Stuck => None,
+        Flow::Full => Some(listed(frame)),
+        Flow::Goes => runs_out(of, frame),
+        Flow::Leaves | Flow::Stuck => None,
     }
+}
+
+// How many results there is room for.
+fn room(answers: &Answers) -> usize
+    ensures { result ≡ room (meaning answers.now) }
+{
+    answers.max_returns.saturating_sub(answers.held)
 }
 
 /// Runs a function, where it has a run. The only error is want of memory.
@@ -43,10 +74,16 @@ pub fn run_function(
         program: p,
         function: f,
         args,
+        room: room(answers),
     };
     let calls = Calls::new(alloc, answers)?;
     let locals = Table::new(alloc);
-    let mut frame = Frame { locals, calls };
+    let given = Vec::new(alloc);
+    let mut frame = Frame {
+        locals,
+        calls,
+        given,
+    };
     let end = run_body(alloc, &around, f.body.as_slice(), &mut frame)?;
-    Ok(outcome(end, frame))
+    Ok(outcome(f.kind, end, frame))
 }

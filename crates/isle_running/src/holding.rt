@@ -38,8 +38,8 @@ pub fn values_copied(alloc: Global, given: &[Value]) -> Result<List<Value>, Allo
     Ok(List::new(copies))
 }
 
-// Copies an item.
-fn item_copied(alloc: Global, given: &Item) -> Result<Item, AllocError>
+/// Copies an item.
+pub fn item_copied(alloc: Global, given: &Item) -> Result<Item, AllocError>
     ensures { IfOk result (λ copy. copy ≡ given.now) }
 {
     match given {

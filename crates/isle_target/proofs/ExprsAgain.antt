@@ -1,5 +1,5 @@
 -- What is computed is read as what it was spelled from.
-use Rattle.std.proofs.Common.{◌≡◌, ℕ, zero, suc, ◌<◌, ◌≤◌, List, [], ◌∷◌, ◌++◌, length, length-append, Bool, true, false, Some, None, refl, append_assoc, arith}
+use Rattle.std.proofs.Common.{◌≡◌, ℕ, zero, suc, ◌<◌, List, [], ◌∷◌, ◌++◌, length, length-append, Bool, true, false, Some, None, refl, append_assoc, arith}
 use Rattle.std.specs.Prelude.{codes, ℤ, pos, negsuc, if◌then◌else◌}
 use Rattle.std.specs.List.{AllByRecursion}
 use Rattle.isle_printer.specs.Token.{Token, Word, Mark}
@@ -16,46 +16,57 @@ use Rattle.isle_tree.specs.declared.tree.TExpr.{TExpr}
 use Rattle.isle_tree.specs.declared.tree.TExpr.TheVariants as expr
 use Rattle.isle_tree.specs.WellFormed.{IsOperand, IsRead, IsFieldRead, IsCallee, IsExpr}
 use Rattle.isle_spelling.specs.Literal.{literal_tokens}
-use Rattle.isle_target.specs.Spelling.{operand_tokens, clone_part, read_tokens, borrow_part, constructor_word, args_tokens, call_tokens, field_read_tokens, field_reads_tokens, made_tokens, as_ref_part, expr_tokens}
-use Rattle.isle_target.specs.Tokens.{◌>>=◌, Reads, at}
+use Rattle.isle_target.specs.StatementSpelling.{operand_tokens, clone_part, read_tokens, borrow_part, constructor_word, args_tokens, call_tokens, field_read_tokens, field_reads_tokens, made_tokens, as_ref_part, expr_tokens}
+use Rattle.isle_target.specs.Tokens.{◌>>=◌, Reads, phrase, at}
 use Rattle.isle_target.specs.OperandReading.{goes_on, read_suffixed}
-use Rattle.isle_target.specs.Reading.{read_args, called_name, called_term_fn, called, read_field_reads, read_made_fields, read_expr}
+use Rattle.isle_target.specs.ExprReading.{read_args, called_name, called_term_fn, called, read_call, read_field_reads, read_made_fields, read_expr}
 use Rattle.isle_target.proofs.Words.{operand_again, operand_no_mark, operand_second}
 use Rattle.isle_target.proofs.ReadsAgain.{second_apart, operand_apart, bare_again, tried_again, cloned_again, part_again, read_again}
 
 -- ---- calls
 
--- nothing goes on an argument
-args_stop : (rs : List Read) (ts : List Token) → goes_on (args_tokens rs ++ ts) ≡ false
-args_stop [] ts = refl
-args_stop (r ∷ rs) ts = refl
+-- what closes arguments: no argument stands where it does, and nothing goes on the one before it
+pub record Closes (end : List Token) : Type 0 where
+  pub found : (ts : List Token) → phrase end (end ++ ts) ≡ Some ts
+  pub apart : (r : Read) (ts : List Token) → IsRead r → phrase end (Mark (codes ",") ∷ (read_tokens r ++ ts)) ≡ None
+  pub stops : (ts : List Token) → goes_on (end ++ ts) ≡ false
 
--- the arguments of a call are read again
-args_again : (n : ℕ) (rs : List Read) (ts : List Token) → AllByRecursion IsRead rs → length (args_tokens rs) ≤ n → read_args n (args_tokens rs ++ ts) ≡ Some (rs, ts)
+-- nothing goes on an argument
+args_stop : (rs : List Read) (ts : List Token) → goes_on ts ≡ false → goes_on (args_tokens rs ++ ts) ≡ false
+args_stop [] ts e = e
+args_stop (r ∷ rs) ts e = refl
+
+-- the arguments of a call are read again, up to what closes them
+pub args_again : (end : List Token) (n : ℕ) (rs : List Read) (ts : List Token) → Closes end → AllByRecursion IsRead rs → length (args_tokens rs) < n
+    → read_args end n (args_tokens rs ++ (end ++ ts)) ≡ Some (rs, ts)
 unfolding read_args
-args_again zero [] ts h le = absurd (omega (arith, le))
-args_again zero (r ∷ rs) ts h le = absurd (omega (arith, le))
-args_again (suc n) [] ts h le = refl
-args_again (suc n) (r ∷ rs) ts h le =
+args_again end zero rs ts c h lt = absurd (omega arith)
+args_again end (suc n) [] ts c h lt = rw (c.found ts) refl
+args_again end (suc n) (r ∷ rs) ts c h lt =
+    let more = args_tokens rs ++ (end ++ ts) in
     let l = length-append (read_tokens r) (args_tokens rs) in
-    rw (append_assoc (read_tokens r) (args_tokens rs) ts, read_again r (args_tokens rs ++ ts) h.0 (args_stop rs ts), args_again n rs ts h.1 (omega (arith, l, le))) refl
+    rw (append_assoc (read_tokens r) (args_tokens rs) (end ++ ts), c.apart r more h.0, read_again r more h.0 (args_stop rs (end ++ ts) (c.stops ts)), args_again end n rs ts c h.1 (omega (arith, l))) refl
+
+-- a ) closes them
+paren_closes : Closes (Mark (codes ")") ∷ [])
+paren_closes = record { found = λ ts. refl; apart = λ r ts h. refl; stops = λ ts. refl }
+
+-- a call from behind its ( on
+behind_again : (borrow : Bool) (to : Callee) (rs : List Read) (ts : List Token) → AllByRecursion IsRead rs
+    → read_call borrow to (Word (codes "ctx") ∷ ((args_tokens rs ++ Mark (codes ")") ∷ []) ++ ts)) ≡ Some (expr.Call borrow (record { callee = to; args = rs }), ts)
+behind_again borrow to rs ts h =
+    let inside = args_tokens rs ++ Mark (codes ")") ∷ ts in
+    let long : length (args_tokens rs) < length inside = omega (arith, length-append (args_tokens rs) (Mark (codes ")") ∷ ts)) in
+    rw (append_assoc (args_tokens rs) (Mark (codes ")") ∷ []) ts, args_again (Mark (codes ")") ∷ []) (length inside) rs ts paren_closes h long) refl
 
 -- a call is read again, behind a & or not
 call_again : (borrow : Bool) (to : Callee) (rs : List Read) (ts : List Token) → IsCallee to → AllByRecursion IsRead rs
     → read_expr (borrow_part borrow ++ (call_tokens to rs ++ ts)) ≡ Some (expr.Call borrow (record { callee = to; args = rs }), ts)
 unfolding read_expr constructor_word
-call_again true (callee.External name) rs ts k h =
-    let long : length (args_tokens rs) ≤ length (args_tokens rs ++ ts) = omega (arith, length-append (args_tokens rs) ts) in
-    rw (args_again (length (args_tokens rs ++ ts)) rs ts h long) refl
-call_again false (callee.External name) rs ts k h =
-    let long : length (args_tokens rs) ≤ length (args_tokens rs ++ ts) = omega (arith, length-append (args_tokens rs) ts) in
-    rw (args_again (length (args_tokens rs ++ ts)) rs ts h long) refl
-call_again true (callee.Internal term) rs ts k h =
-    let long : length (args_tokens rs) ≤ length (args_tokens rs ++ ts) = omega (arith, length-append (args_tokens rs) ts) in
-    rw (args_again (length (args_tokens rs ++ ts)) rs ts h long) refl
-call_again false (callee.Internal term) rs ts k h =
-    let long : length (args_tokens rs) ≤ length (args_tokens rs ++ ts) = omega (arith, length-append (args_tokens rs) ts) in
-    rw (args_again (length (args_tokens rs ++ ts)) rs ts h long) refl
+call_again true (callee.External name) rs ts k h = behind_again true (callee.External name) rs ts h
+call_again false (callee.External name) rs ts k h = behind_again false (callee.External name) rs ts h
+call_again true (callee.Internal term) rs ts k h = behind_again true (callee.Internal term) rs ts h
+call_again false (callee.Internal term) rs ts k h = behind_again false (callee.Internal term) rs ts h
 
 literal_no_call : (ty : IntType) (n : ℤ) (ts : List Token) → at (Mark (codes "(")) ts ≡ false → called_term_fn (literal_tokens ty n ++ ts) ≡ None
 literal_no_call ty (pos n) ts e = rw e refl

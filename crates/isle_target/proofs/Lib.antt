@@ -4,6 +4,7 @@ pub mod Words
 pub mod ReadsAgain
 pub mod ExprsAgain
 pub mod PatternsAgain
+pub mod StatementsAgain
 pub mod NoComments
 pub mod Phrases
 pub mod TypesAgain

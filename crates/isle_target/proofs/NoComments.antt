@@ -1,5 +1,5 @@
 -- No comment is among the tokens of a program.
-use Rattle.std.proofs.Common.{◌≡◌, ℕ, zero, suc, List, [], ◌∷◌, ◌++◌, Bool, true, false, Option, Some, None, refl}
+use Rattle.std.proofs.Common.{◌≡◌, ℕ, zero, suc, List, [], ◌∷◌, ◌++◌, length, Bool, true, false, Option, Some, None, refl}
 use Rattle.std.specs.Prelude.{codes, ℤ, pos, negsuc, ◌+◌}
 use Rattle.std.specs.List.{list_all}
 use Rattle.isle_printer.specs.Token.{Token, Word, Mark, is_read, step, begun}
@@ -31,7 +31,8 @@ use Rattle.isle_tree.specs.declared.tree.TBind.{TBind}
 use Rattle.isle_tree.specs.declared.tree.TPat.{TPat}
 use Rattle.isle_tree.specs.declared.tree.TPat.TheVariants as pattern
 use Rattle.isle_tree.specs.Program.{Stmt, Let, LetList, IfEq, IfLet, Match, Loop, Return, Extend, Overflow, Log, Split, Tail, Body, Done, Then, Function, Program}
-use Rattle.isle_target.specs.Spelling.{local_token, truth_token, operand_tokens, clone_part, read_tokens, borrow_part, args_tokens, call_tokens, field_read_tokens, field_reads_tokens, made_tokens, as_ref_part, expr_tokens, ref_part, bind_tokens, binds_tokens, braced_tokens, pattern_tokens, close, if_eq_head, if_let_head, param_tokens, tail_tokens, stmt_tokens, body_tokens, params_tokens, result_tokens, result_part, function_tokens, functions_tokens, allow_part, comma, typed_tokens, joined_tokens, joined_types, item_tokens, results_tokens, trait_result, trait_fn_tokens, trait_fns_tokens, trait_tokens, named_tokens, places_tokens, visible, fields_tokens, variant_tokens, variants_tokens, struct_end, type_body_tokens, derive_tokens, type_tokens, types_tokens, program_tokens}
+use Rattle.isle_target.specs.StatementSpelling.{local_token, truth_token, operand_tokens, clone_part, read_tokens, borrow_part, callee_head, args_tokens, call_tokens, field_read_tokens, field_reads_tokens, made_tokens, as_ref_part, expr_tokens, ref_part, bind_tokens, binds_tokens, braced_tokens, pattern_tokens, close, list_tokens, default_part, list_end, let_list_tokens, loop_head, overflow_tokens, if_eq_head, if_let_head, log_tokens, tail_tokens, stmt_tokens, body_tokens}
+use Rattle.isle_target.specs.Spelling.{typed_tokens, param_tokens, params_tokens, result_tokens, result_part, function_tokens, functions_tokens, allow_part, comma, joined_tokens, returns_param, joined_end, joined_types, item_tokens, results_tokens, list_type, trait_fn_tokens, trait_fns_tokens, trait_tokens, visible, named_tokens, places_tokens, fields_tokens, variant_tokens, variants_tokens, struct_end, type_body_tokens, derive_tokens, type_tokens, types_tokens, program_tokens}
 
 -- none of the tokens is a comment
 abbrev AreRead : List Token → Type 0
@@ -62,9 +63,12 @@ args_read : (rs : List Read) → AreRead (args_tokens rs)
 args_read [] = refl
 args_read (r ∷ rs) = both_read (read_tokens r) (args_tokens rs) (read_read r) (args_read rs)
 
+callee_read : (c : Callee) → AreRead (callee_head c)
+callee_read (callee.External name) = refl
+callee_read (callee.Internal term) = refl
+
 call_read : (c : Callee) (rs : List Read) → AreRead (call_tokens c rs)
-call_read (callee.External name) rs = args_read rs
-call_read (callee.Internal term) rs = args_read rs
+call_read c rs = both_read (callee_head c) _ (callee_read c) (both_read (args_tokens rs) (Mark (codes ")") ∷ []) (args_read rs) refl)
 
 borrow_read : (borrow : Bool) → AreRead (borrow_part borrow)
 borrow_read true = refl
@@ -122,6 +126,28 @@ pattern_read (pattern.Some (Some n)) = refl
 let_head_read : (p : TPat) (r : Read) → AreRead (if_let_head p r)
 let_head_read p r = both_read (pattern_tokens p) _ (pattern_read p) (both_read (read_tokens r) (Mark (codes "{") ∷ []) (read_read r) refl)
 
+list_read : (c : Callee) → AreRead (list_tokens c)
+list_read (callee.External name) = refl
+list_read (callee.Internal term) = refl
+
+filled_read : (n : ℕ) (c : Callee) (rs : List Read) → AreRead (let_list_tokens n (record { callee = c; args = rs }))
+filled_read n c rs =
+    let behind = args_tokens rs ++ list_end n in
+    both_read (list_tokens c) (default_part ++ (callee_head c ++ behind)) (list_read c)
+    (both_read default_part (callee_head c ++ behind) refl (both_read (callee_head c) behind (callee_read c) (both_read (args_tokens rs) (list_end n) (args_read rs) refl)))
+
+log_read : (term place : List ℕ) → AreRead (log_tokens term place)
+unfolding log_tokens
+log_read term place = refl
+
+loop_read : (list item : ℕ) → AreRead (loop_head list item)
+unfolding loop_head
+loop_read list item = refl
+
+stop_read : (inside : Bool) → AreRead (overflow_tokens inside)
+stop_read true = refl
+stop_read false = refl
+
 tail_read : (texts : Option (List ℕ × List ℕ)) → AreRead (tail_tokens texts)
 tail_read None = refl
 tail_read (Some texts) = refl
@@ -129,15 +155,15 @@ tail_read (Some texts) = refl
 mutual
   stmt_read : (s : Stmt) → AreRead (stmt_tokens s)
   stmt_read (Let n e) = both_read (expr_tokens e) (Mark (codes ";") ∷ []) (expr_read e) refl
-  stmt_read (LetList n call) = refl
+  stmt_read (LetList n call) = filled_read n call.callee call.args
   stmt_read (IfEq a b inside) = both_read (if_eq_head a b) (body_tokens inside ++ close) (head_read a b) (both_read (body_tokens inside) close (body_read inside) refl)
   stmt_read (IfLet p r inside) = both_read (if_let_head p r) (body_tokens inside ++ close) (let_head_read p r) (both_read (body_tokens inside) close (body_read inside) refl)
   stmt_read (Match r arms) = refl
-  stmt_read (Loop l i inside) = refl
+  stmt_read (Loop l i inside) = both_read (loop_head l i) (body_tokens inside ++ close) (loop_read l i) (both_read (body_tokens inside) close (body_read inside) refl)
   stmt_read (Return e) = both_read (expr_tokens e) (Mark (codes ";") ∷ []) (expr_read e) refl
-  stmt_read (Extend r) = refl
-  stmt_read (Overflow inside) = refl
-  stmt_read (Log t p) = refl
+  stmt_read (Extend r) = both_read (read_tokens r) _ (read_read r) refl
+  stmt_read (Overflow inside) = stop_read inside
+  stmt_read (Log t p) = log_read t p
   stmt_read (Split b inside) = refl
   stmt_read (Tail texts) = tail_read texts
 
@@ -192,11 +218,23 @@ results_read kind.Plain tys = item_read tys
 results_read kind.Option tys = both_read (item_tokens tys) (Mark (codes ">") ∷ []) (item_read tys) refl
 results_read kind.Iterator tys = refl
 
+end_read : (how : ReturnKind) (name : List ℕ) (n : ℕ) → AreRead (joined_end how name n)
+end_read kind.Plain name n = refl
+end_read kind.Option name n = refl
+end_read kind.Iterator name n = both_read (comma n) (returns_param name) (comma_read n) refl
+
+list_type_read : (how : ReturnKind) (name : List ℕ) (tys : List (List ℕ)) → AreRead (list_type how name tys)
+list_type_read kind.Plain name tys = refl
+list_type_read kind.Option name tys = refl
+list_type_read kind.Iterator name tys = both_read (item_tokens tys) (Mark (codes ">") ∷ Mark (codes ";") ∷ []) (item_read tys) refl
+
 trait_fn_read : (f : TraitFn) → AreRead (trait_fn_tokens f)
 unfolding trait_fn_tokens
 trait_fn_read f =
-    both_read (joined_tokens 0 f.params) (trait_result f.kind f.results) (joined_read 0 f.params)
-    (both_read (results_tokens f.kind f.results) (Mark (codes ";") ∷ []) (results_read f.kind f.results) refl)
+    both_read (list_type f.kind f.name f.results) _ (list_type_read f.kind f.name f.results)
+    (both_read (joined_tokens 0 f.params) _ (joined_read 0 f.params)
+    (both_read (joined_end f.kind f.name (length f.params)) _ (end_read f.kind f.name (length f.params))
+    (both_read (results_tokens f.kind f.results) (Mark (codes ";") ∷ []) (results_read f.kind f.results) refl)))
 
 trait_fns_read : (fs : List TraitFn) → AreRead (trait_fns_tokens fs)
 trait_fns_read [] = refl
@@ -225,14 +263,14 @@ variants_read [] = refl
 variants_read (v ∷ vs) =
     both_read (variant_tokens v) (variants_tokens vs) (both_read (fields_tokens false v.1) (Mark (codes ",") ∷ []) (fields_read false v.1) refl) (variants_read vs)
 
-end_read : (fs : TFields) → AreRead (struct_end fs)
-end_read shape.Unit = refl
-end_read (shape.Named fs) = refl
-end_read (shape.Tuple tys) = refl
+struct_end_read : (fs : TFields) → AreRead (struct_end fs)
+struct_end_read shape.Unit = refl
+struct_end_read (shape.Named fs) = refl
+struct_end_read (shape.Tuple tys) = refl
 
 type_body_read : (name : List ℕ) (body : TypeBody) → AreRead (type_body_tokens name body)
 type_body_read name (type_body.Enum vs) = variants_read vs
-type_body_read name (type_body.Struct fs) = both_read (fields_tokens true fs) (struct_end fs) (fields_read true fs) (end_read fs)
+type_body_read name (type_body.Struct fs) = both_read (fields_tokens true fs) (struct_end fs) (fields_read true fs) (struct_end_read fs)
 
 derive_read : (plain debug : Bool) → AreRead (derive_tokens plain debug)
 derive_read true true = refl

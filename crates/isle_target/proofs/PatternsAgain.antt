@@ -9,7 +9,7 @@ use Rattle.isle_tree.specs.declared.tree.TBind.{TBind}
 use Rattle.isle_tree.specs.declared.tree.TPat.{TPat}
 use Rattle.isle_tree.specs.declared.tree.TPat.TheVariants as pattern
 use Rattle.isle_tree.specs.WellFormed.{IsOperand, IsConstant, IsPattern}
-use Rattle.isle_target.specs.Spelling.{local_token, ref_part, bind_tokens, more_part, binds_tokens, braced_tokens, pattern_tokens}
+use Rattle.isle_target.specs.StatementSpelling.{local_token, ref_part, bind_tokens, more_part, binds_tokens, braced_tokens, pattern_tokens}
 use Rattle.isle_target.specs.Tokens.{at}
 use Rattle.isle_target.specs.PatternReading.{read_bound, read_binds, read_braced, read_pattern}
 use Rattle.isle_target.proofs.Words.{operand_again, operand_no_mark}

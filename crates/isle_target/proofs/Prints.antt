@@ -1,5 +1,5 @@
 -- One piece printed after another.
-use Rattle.std.proofs.Common.{◌≡◌, List, ◌++◌, Result, Ok, Err, ◌∙◌, append_assoc}
+use Rattle.std.proofs.Common.{◌≡◌, List, ◌++◌, Result, Ok, Err, ap, ◌∙◌, append_assoc}
 use Rattle.std.specs.Prelude.{OnOk}
 
 -- five pieces behind a line that has no token, and a line behind them
@@ -11,11 +11,7 @@ five_pieces (Ok u) old head params arrow inside end n0 n1 n2 n3 n4 n5 new e0 e1 
     all ∙ simp append_assoc
 five_pieces (Err x) old head params arrow inside end n0 n1 n2 n3 n4 n5 new e0 e1 e2 e3 e4 e5 h = tt
 
--- three pieces behind a line that has no token, the last of them in other words
-pub three_pieces : {A E T : Type 0} (r : Result T E) (old head inside end other n0 n1 n2 new : List A)
-    → n0 ≡ old → n1 ≡ n0 ++ head → n2 ≡ n1 ++ inside → other ≡ end → OnOk r (new ≡ n2 ++ other)
-    → OnOk r (new ≡ old ++ (head ++ (inside ++ end)))
-three_pieces (Ok u) old head inside end other n0 n1 n2 new e0 e1 e2 e3 h =
-    let all : new ≡ ((old ++ head) ++ inside) ++ end = cc in
-    all ∙ simp append_assoc
-three_pieces (Err x) old head inside end other n0 n1 n2 new e0 e1 e2 e3 h = tt
+-- what is printed behind a piece
+pub piece_then : {A E T : Type 0} (r : Result T E) (old first behind middle new : List A) → middle ≡ old ++ first → OnOk r (new ≡ middle ++ behind) → OnOk r (new ≡ old ++ (first ++ behind))
+piece_then (Ok u) old first behind middle new e h = h ∙ ap (λ l. l ++ behind) e ∙ append_assoc old first behind
+piece_then (Err x) old first behind middle new e h = tt

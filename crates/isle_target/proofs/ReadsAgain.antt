@@ -14,21 +14,22 @@ use Rattle.isle_tree.specs.declared.tree.TExpr.TheVariants as expr
 use Rattle.isle_tree.specs.WellFormed.{IsOperand, IsRead}
 use Rattle.isle_spelling.specs.Literal.{literal_tokens, literal_word}
 use Rattle.isle_spelling.specs.Raw.{raw_word}
-use Rattle.isle_target.specs.Spelling.{local_token, param_token, truth_token, operand_tokens, clone_part, as_ref_part, read_tokens}
+use Rattle.isle_target.specs.StatementSpelling.{local_token, param_token, truth_token, operand_tokens, clone_part, as_ref_part, read_tokens}
 use Rattle.isle_target.specs.Tokens.{same_token, phrase, at, rest}
 use Rattle.isle_target.specs.OperandReading.{is_number, goes_on, dotted, read_suffixed, read_read}
 use Rattle.isle_target.proofs.Words.{numeral_number, apart_by, operand_again, operand_no_mark}
+
+-- tokens stand nowhere that the first is another
+pub first_apart : (p : Token) (ps ts : List Token) → at p ts ≡ false → phrase (p ∷ ps) ts ≡ None
+first_apart p ps [] e = refl
+first_apart p ps (t ∷ ts) e = rw e refl
 
 -- two tokens stand nowhere that the second is another
 pub second_apart : (p q t : Token) (ts : List Token) → at q ts ≡ false → phrase (p ∷ q ∷ []) (t ∷ ts) ≡ None
 second_apart p q t ts e = one (same_token p t)
   where
-    next : (us : List Token) → at q us ≡ false → phrase (q ∷ []) us ≡ None
-    next [] h = refl
-    next (u ∷ us) h = rw h refl
-
     one : (b : Bool) → (if b then phrase (q ∷ []) ts else None) ≡ None
-    one true = next ts e
+    one true = first_apart q [] ts e
     one false = refl
 
 literal_apart : (w m : List ℕ) (ty : IntType) (n : ℤ) (ts : List Token) → at (Mark m) ts ≡ false → phrase (Word w ∷ Mark m ∷ []) (literal_tokens ty n ++ ts) ≡ None

@@ -1,6 +1,6 @@
 -- A word is read as what it was spelled from.
 use Rattle.std.proofs.Common.{◌≡◌, ℕ, zero, suc, ◌<◌, List, [], ◌∷◌, ◌++◌, length, map, get_or, Bool, true, false, Some, None, refl, sym, ap, ◌∙◌, arith}
-use Rattle.std.specs.Prelude.{ℤ, pos, negsuc, nat_le, ◌&&◌, not, codes}
+use Rattle.std.specs.Prelude.{ℤ, pos, negsuc, nat_le, ◌==◌, ◌&&◌, ◌||◌, not, codes}
 use Rattle.std.specs.List.{list_all, list_any}
 use Rattle.std.specs.Str.{bytes_eq}
 use Rattle.std.specs.Int.{w128}
@@ -26,7 +26,8 @@ use Rattle.isle_tree.specs.declared.tree.Operand.TheVariants as operand
 use Rattle.isle_spelling.specs.Identifier.{used_words, is_begin, IsIdentifier}
 use Rattle.isle_spelling.specs.Literal.{literal_word, literal_tokens, signed_bits}
 use Rattle.isle_spelling.specs.Names.{is_digit, are_digits}
-use Rattle.isle_target.specs.Spelling.{operand_tokens}
+use Rattle.isle_spelling.specs.Raw.{raw_word}
+use Rattle.isle_target.specs.StatementSpelling.{operand_tokens}
 use Rattle.isle_tree.specs.WellFormed.{IsOperand}
 use Rattle.isle_target.specs.Tokens.{at, rest}
 use Rattle.isle_target.specs.OperandReading.{truth_of, is_number, number_at, read_operand}
@@ -194,16 +195,34 @@ operand_second m (operand.Int ty z) ts e = literal_second m ty (wrapped ty z) ts
 operand_second m (operand.Raw z) ts e = e
 operand_second m (operand.Name w) ts e = e
 
-literal_no_let : (ty : IntType) (n : ℤ) (ts : List Token) → at (Word (codes "let")) (literal_tokens ty n ++ ts) ≡ false
-literal_no_let ty (pos n) ts = apart_by is_number (codes "let") (literal_word ty n) refl (literal_number ty n)
-literal_no_let ty (negsuc n) ts = refl
+-- whether a word begins as locals, parameters and truths do
+abbrev is_begun : List ℕ → Bool
+is_begun [] = false
+is_begun (b ∷ bs) = (b == 118) || (b == 97) || (b == 116) || (b == 102)
 
--- no operand begins with let
+-- a word that Rust uses, which begins as no number, local, parameter or truth does
+pub record StandsApart (w : List ℕ) : Type 0 where
+  pub number : is_number w ≡ false
+  pub begun : is_begun w ≡ false
+  pub used : is_unused w ≡ false
+
+literal_no_word : (w : List ℕ) (ty : IntType) (n : ℤ) (ts : List Token) → is_number w ≡ false → at (Word w) (literal_tokens ty n ++ ts) ≡ false
+literal_no_word w ty (pos n) ts e = apart_by is_number w (literal_word ty n) e (literal_number ty n)
+literal_no_word w ty (negsuc n) ts e = refl
+
+-- no operand begins with such a word
+operand_no_word : (w : List ℕ) (o : Operand) (ts : List Token) → StandsApart w → IsOperand o → at (Word w) (operand_tokens o ++ ts) ≡ false
+operand_no_word w (operand.Local n) ts k h = apart_by is_begun w (codes "v" ++ numeral 10 n) k.begun refl
+operand_no_word w (operand.Arg n) ts k h = apart_by is_begun w (codes "arg" ++ numeral 10 n) k.begun refl
+operand_no_word w (operand.Bool true) ts k h = apart_by is_begun w (codes "true") k.begun refl
+operand_no_word w (operand.Bool false) ts k h = apart_by is_begun w (codes "false") k.begun refl
+operand_no_word w (operand.Int ty z) ts k h = literal_no_word w ty (wrapped ty z) ts k.number
+operand_no_word w (operand.Raw z) ts k h = apart_by is_number w (raw_word z) k.number refl
+operand_no_word w (operand.Name name) ts k h = used_apart w name k.used h.identifier
+
+-- no operand begins with let, or with mut
 pub operand_no_let : (o : Operand) (ts : List Token) → IsOperand o → at (Word (codes "let")) (operand_tokens o ++ ts) ≡ false
-operand_no_let (operand.Local n) ts h = refl
-operand_no_let (operand.Arg n) ts h = refl
-operand_no_let (operand.Bool true) ts h = refl
-operand_no_let (operand.Bool false) ts h = refl
-operand_no_let (operand.Int ty z) ts h = literal_no_let ty (wrapped ty z) ts
-operand_no_let (operand.Raw z) ts h = refl
-operand_no_let (operand.Name w) ts h = used_apart (codes "let") w refl h.identifier
+operand_no_let o ts h = operand_no_word (codes "let") o ts (record { number = refl; begun = refl; used = refl }) h
+
+pub operand_no_mut : (o : Operand) (ts : List Token) → IsOperand o → at (Word (codes "mut")) (operand_tokens o ++ ts) ≡ false
+operand_no_mut o ts h = operand_no_word (codes "mut") o ts (record { number = refl; begun = refl; used = refl }) h

@@ -15,7 +15,7 @@ use Rattle.isle_tree.specs.declared.tree.TExpr.TheVariants as expr
 use Rattle.isle_spelling.specs.Literal.{literal_of, signed_bits}
 use Rattle.isle_spelling.specs.Names.{is_numbered}
 use Rattle.isle_spelling.specs.Raw.{raw_of}
-use Rattle.isle_target.specs.Spelling.{clone_part, as_ref_part}
+use Rattle.isle_target.specs.StatementSpelling.{clone_part, as_ref_part}
 use Rattle.isle_target.specs.Tokens.{◌>>=◌, Reads, phrase, at, rest, after, any_word}
 
 -- ---- words

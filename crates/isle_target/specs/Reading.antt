@@ -1,236 +1,20 @@
 -- Reading a text as a program: its tokens from left to right, each form told by the next few.
 use Rattle.std.specs.Prelude.{◌≡◌, ℕ, zero, suc, ◌+◌, List, [], ◌∷◌, ◌++◌, length, Bool, true, false, Option, Some, None, codes, if◌then◌else◌}
-use Rattle.std.specs.List.{list_any}
-use Rattle.isle_core.specs.declared.values.Callee.{Callee}
-use Rattle.isle_core.specs.declared.values.Callee.TheVariants as callee
 use Rattle.isle_core.specs.declared.types.ReturnKind.{ReturnKind}
+use Rattle.isle_printer.specs.Bytes.{same_bytes}
 use Rattle.isle_core.specs.declared.types.ReturnKind.TheVariants as kind
-use Rattle.isle_printer.specs.Token.{Token, Word, Mark, Quoted, tokens_of, without_comments}
+use Rattle.isle_printer.specs.Token.{Token, Word, Mark, tokens_of, without_comments}
 use Rattle.isle_tree.specs.declared.tree.Ty.{Ty}
 use Rattle.isle_tree.specs.declared.tree.TraitFn.{TraitFn}
-use Rattle.isle_tree.specs.declared.tree.Read.{Read}
-use Rattle.isle_tree.specs.declared.tree.TExpr.{TExpr}
-use Rattle.isle_tree.specs.declared.tree.TExpr.TheVariants as expr
 use Rattle.isle_spelling.specs.Fixed.{allow_tokens, uses_tokens, fixed_tokens}
-use Rattle.isle_target.specs.Spelling.{param_token, generics, context_param, self_param, comma, trait_head, close, no_rule, unreachable_head}
-use Rattle.isle_target.specs.Tokens.{◌>>=◌, Reads, phrase, at, rest, after, any_word, any_quoted}
-use Rattle.isle_target.specs.OperandReading.{after_prefix, numbered, read_operand, read_suffixed, read_borrowed, read_read}
-use Rattle.isle_target.specs.PatternReading.{read_pattern}
+use Rattle.isle_target.specs.Tokens.{◌>>=◌, Reads, phrase, at, rest, after, any_word}
+use Rattle.isle_target.specs.OperandReading.{after_prefix}
 use Rattle.isle_target.specs.TypeReading.{read_types}
-use Rattle.isle_tree.specs.Program.{Stmt, Let, IfEq, IfLet, Return, Tail, Body, Done, Then, Function, Program}
+use Rattle.isle_tree.specs.Program.{Function, Program}
 use Rattle.isle_tree.specs.WellFormed.{IsWellFormed}
-
--- ---- what is computed
-
--- an option of what is read, from behind its ( on
-abbrev pub read_some : List Token → Reads TExpr
-read_some ts = do
-  r ← read_read ts
-  ts1 ← after (Mark (codes ")")) r.1
-  Some (expr.Some r.0, ts1)
-
--- one argument more, given how to read those behind it
-abbrev pub read_arg : (List Token → Reads (List Read)) → List Token → Reads (List Read)
-read_arg args ts = do
-  ts1 ← after (Mark (codes ",")) ts
-  r ← read_read ts1
-  more ← args r.1
-  Some (r.0 ∷ more.0, more.1)
-
--- the arguments behind the context, and the ) behind them, at most so many
-unfoldable pub read_args : ℕ → List Token → Reads (List Read)
-read_args zero ts = None
-read_args (suc n) ts = if at (Mark (codes ")")) ts then Some ([], rest ts) else read_arg (read_args n) ts
-
--- a name with a ( behind it
-abbrev pub called_name : List Token → Reads (List ℕ)
-called_name ts = do
-  name ← any_word ts
-  ts1 ← after (Mark (codes "(")) name.1
-  Some (name.0, ts1)
-
--- the function of the trait that is called here, up to the ( behind its name
-abbrev pub called_trait_fn : List Token → Reads Callee
-called_trait_fn ts = do
-  ts1 ← phrase (Word (codes "C") ∷ Mark (codes "::") ∷ []) ts
-  name ← called_name ts1
-  Some (callee.External name.0, name.1)
-
--- the function of a term that is called here, up to the ( behind its name
-abbrev pub called_term_fn : List Token → Reads Callee
-called_term_fn ts = do
-  name ← called_name ts
-  term ← after_prefix (codes "constructor_") name.0
-  Some (callee.Internal term, name.1)
-
--- the function that is called here, up to the ( behind its name: one of the trait where :: stands behind the first word, else one of a term
-abbrev pub called : List Token → Reads Callee
-called ts = if at (Mark (codes "::")) (rest ts) then called_trait_fn ts else called_term_fn ts
-
--- a call of this function, behind a & or not, from behind its ( on
-abbrev pub read_call : Bool → Callee → List Token → Reads TExpr
-read_call borrow to ts = do
-  ts1 ← after (Word (codes "ctx")) ts
-  args ← read_args (length ts1) ts1
-  Some (expr.Call borrow (record { callee = to; args = args.0 }), args.1)
-
--- one field of a made value more, given how to read those behind it
-abbrev pub read_field_read : (List Token → Reads (List (List ℕ × Read))) → List Token → Reads (List (List ℕ × Read))
-read_field_read fields ts = do
-  name ← any_word ts
-  ts1 ← after (Mark (codes ":")) name.1
-  r ← read_read ts1
-  ts2 ← after (Mark (codes ",")) r.1
-  more ← fields ts2
-  Some ((name.0, r.0) ∷ more.0, more.1)
-
--- the fields of a made value, and the } behind them, at most so many
-unfoldable pub read_field_reads : ℕ → List Token → Reads (List (List ℕ × Read))
-read_field_reads zero ts = None
-read_field_reads (suc k) ts = if at (Mark (codes "}")) ts then Some ([], rest ts) else read_field_read (read_field_reads k) ts
-
--- fields between braces, from behind the { on: there is one
-abbrev pub read_some_fields : List Token → Reads (List (List ℕ × Read))
-read_some_fields ts = if at (Mark (codes "}")) ts then None else read_field_reads (length ts) ts
-
--- fields between braces, where these are there
-unfoldable pub read_made_fields : List Token → Reads (List (List ℕ × Read))
-read_made_fields ts = if at (Mark (codes "{")) ts then read_some_fields (rest ts) else Some ([], ts)
-
--- a value that a variant makes
-abbrev pub read_variant_made : List Token → Reads TExpr
-read_variant_made ts = do
-  ty ← any_word ts
-  ts1 ← after (Mark (codes "::")) ty.1
-  variant ← any_word ts1
-  fields ← read_made_fields variant.1
-  Some (expr.Variant ty.0 variant.0 fields.0, fields.1)
-
--- one that a struct makes
-abbrev pub read_struct_made : List Token → Reads TExpr
-read_struct_made ts = do
-  ty ← any_word ts
-  fields ← read_made_fields ty.1
-  Some (expr.Struct ty.0 fields.0, fields.1)
-
--- a made value where :: or { stands behind the first word, and else an operand with what goes on it
-abbrev pub read_made : List Token → Reads TExpr
-read_made ts =
-    if at (Mark (codes "::")) (rest ts) then read_variant_made ts
-    else (if at (Mark (codes "{")) (rest ts) then read_struct_made ts else read_suffixed ts)
-
--- a call where one begins, and else a made value or an operand
-abbrev pub read_called : Reads Callee → List Token → Reads TExpr
-read_called None ts = read_made ts
-read_called (Some call) ts = read_call false call.0 call.1
-
--- a call where one begins behind a &, and else an operand
-abbrev pub read_reference : Reads Callee → List Token → Reads TExpr
-read_reference None ts = do
-  r ← read_borrowed ts
-  Some (expr.Read r.0, r.1)
-read_reference (Some call) ts = read_call true call.0 call.1
-
--- an option where one begins, and else what is computed without one
-abbrev pub read_option : Option (List Token) → List Token → Reads TExpr
-read_option None ts = read_called (called ts) ts
-read_option (Some inner) ts = read_some inner
-
--- what a let or a return computes
-unfoldable pub read_expr : List Token → Reads TExpr
-read_expr ts =
-    if at (Mark (codes "&")) ts then read_reference (called (rest ts)) (rest ts)
-    else read_option (phrase (Word (codes "Some") ∷ Mark (codes "(") ∷ []) ts) ts
-
--- ---- statements, from behind their first word on, given how to read a body
-
--- let
-abbrev pub read_let : List Token → Reads Stmt
-read_let ts = do
-  w ← any_word ts
-  n ← numbered (codes "v") w.0
-  ts1 ← after (Mark (codes "=")) w.1
-  e ← read_expr ts1
-  ts2 ← after (Mark (codes ";")) e.1
-  Some (Let n e.0, ts2)
-
--- return
-abbrev pub read_return : List Token → Reads Stmt
-read_return ts = do
-  e ← read_expr ts
-  ts1 ← after (Mark (codes ";")) e.1
-  Some (Return e.0, ts1)
-
--- a body and what closes it
-abbrev pub read_inside : {A : Type 0} → (List Token → Reads Body) → (Body → A) → List Token → Reads A
-read_inside body make ts = do
-  inside ← body ts
-  ts1 ← after (Mark (codes "}")) inside.1
-  Some (make inside.0, ts1)
-
--- if with a test
-abbrev pub read_if_eq : (List Token → Reads Body) → List Token → Reads Stmt
-read_if_eq body ts = do
-  a ← read_operand ts
-  ts1 ← after (Mark (codes "==")) a.1
-  b ← read_operand ts1
-  ts2 ← after (Mark (codes "{")) b.1
-  read_inside body (IfEq a.0 b.0) ts2
-
--- if let, from behind the let on
-abbrev pub read_if_let : (List Token → Reads Body) → List Token → Reads Stmt
-read_if_let body ts = do
-  pat ← read_pattern ts
-  ts1 ← after (Mark (codes "=")) pat.1
-  r ← read_read ts1
-  ts2 ← after (Mark (codes "{")) r.1
-  read_inside body (IfLet pat.0 r.0) ts2
-
--- either of them
-abbrev pub read_if : (List Token → Reads Body) → List Token → Reads Stmt
-read_if body ts = if at (Word (codes "let")) ts then read_if_let body (rest ts) else read_if_eq body ts
-
--- unreachable
-abbrev pub read_unreachable : List Token → Reads Stmt
-read_unreachable ts = do
-  ts1 ← phrase (rest unreachable_head ++ Quoted no_rule ∷ Mark (codes ",") ∷ []) ts
-  term ← any_quoted ts1
-  ts2 ← after (Mark (codes ",")) term.1
-  place ← any_quoted ts2
-  ts3 ← after (Mark (codes ")")) place.1
-  Some (Tail (Some (term.0, place.0)), ts3)
-
--- a statement
-abbrev pub read_stmt : (List Token → Reads Body) → List Token → Reads Stmt
-read_stmt body ts =
-    if at (Word (codes "let")) ts then read_let (rest ts)
-    else (if at (Word (codes "if")) ts then read_if body (rest ts)
-    else (if at (Word (codes "return")) ts then read_return (rest ts)
-    else (if at (Word (codes "None")) ts then Some (Tail None, rest ts)
-    else (if at (Word (codes "unreachable")) ts then read_unreachable (rest ts)
-    else None))))
-
--- one statement more
-abbrev pub read_then : (List Token → Reads Body) → List Token → Reads Body
-read_then body ts = do
-  s ← read_stmt body ts
-  ss ← body s.1
-  Some (Then s.0 ss.0, ss.1)
-
--- the words that statements begin with; those of forms that are not built are not among them
-abbrev pub first_words : List (List ℕ)
-first_words = codes "let" ∷ codes "if" ∷ codes "return" ∷ codes "None" ∷ codes "unreachable" ∷ []
-
--- whether a statement begins here
-abbrev pub begins : List Token → Bool
-begins ts = list_any (λ w. at (Word w) ts) first_words
-
--- statements up to what begins none, at most this many
-unfoldable pub read_body : ℕ → List Token → Reads Body
-read_body zero ts = None
-read_body (suc n) ts = if begins ts then read_then (read_body n) ts else Some (Done, ts)
-
--- ---- items
+use Rattle.isle_target.specs.StatementSpelling.{param_token, close, returns_word}
+use Rattle.isle_target.specs.Spelling.{generics, context_param, returns_head, returns_end, trait_head, self_param, comma, joined_end, trait_result, list_bound}
+use Rattle.isle_target.specs.StatementReading.{read_inside, read_body}
 
 -- a type's name, behind a & or not
 abbrev pub read_type_name : Bool → List Token → Reads Ty
@@ -257,10 +41,10 @@ read_param n params ts = do
   more ← params ts1
   Some (ty.0 ∷ more.0, more.1)
 
--- the parameters from number n on, and the ) behind them, at most so many
+-- the parameters from number n on, at most so many
 unfoldable pub read_params : ℕ → ℕ → List Token → Reads (List Ty)
 read_params zero n ts = None
-read_params (suc k) n ts = if at (Mark (codes ")")) ts then Some ([], rest ts) else read_param n (read_params k (n + 1)) ts
+read_params (suc k) n ts = if at (param_token n) ts then read_param n (read_params k (n + 1)) ts else Some ([], ts)
 
 -- the type of a plain result
 abbrev pub read_plain_result : List Token → Reads (ReturnKind × List ℕ)
@@ -280,9 +64,23 @@ abbrev pub read_either_result : Option (List Token) → List Token → Reads (Re
 read_either_result None ts = read_plain_result ts
 read_either_result (Some inner) ts = read_option_result inner
 
--- how often a function answers, and what type
+-- what a function gives that answers once, from behind its ) on
+abbrev pub read_once_result : List Token → Reads (ReturnKind × List ℕ)
+read_once_result ts = do
+  ts1 ← after (Mark (codes "->")) ts
+  read_either_result (phrase (Word (codes "Option") ∷ Mark (codes "<") ∷ []) ts1) ts1
+
+-- what one appends that answers several times, from its last parameter on
+abbrev pub read_several_result : List Token → Reads (ReturnKind × List ℕ)
+read_several_result ts = do
+  ts1 ← phrase returns_head ts
+  w ← any_word ts1
+  ts2 ← phrase returns_end w.1
+  Some ((kind.Iterator, w.0), ts2)
+
+-- how often a function answers, and what type, from behind its parameters on
 unfoldable pub read_result : List Token → Reads (ReturnKind × List ℕ)
-read_result ts = read_either_result (phrase (Word (codes "Option") ∷ Mark (codes "<") ∷ []) ts) ts
+read_result ts = if at (Mark (codes ")")) ts then read_once_result (rest ts) else read_several_result ts
 
 -- a function
 unfoldable pub read_function : List Token → Reads Function
@@ -292,10 +90,9 @@ read_function ts = do
   term ← after_prefix (codes "constructor_") w.0
   ts2 ← phrase (generics ++ context_param) w.1
   params ← read_params (length ts2) 0 ts2
-  ts3 ← after (Mark (codes "->")) params.1
-  r ← read_result ts3
-  ts4 ← after (Mark (codes "{")) r.1
-  read_inside (read_body (length ts4)) (λ b. record { term = term; params = params.0; result = r.0.1; kind = r.0.0; body = b }) ts4
+  r ← read_result params.1
+  ts3 ← after (Mark (codes "{")) r.1
+  read_inside (read_body (length ts3)) (λ b. record { term = term; params = params.0; result = r.0.1; kind = r.0.0; body = b }) ts3
 
 -- functions up to the last token, at most so many
 unfoldable pub read_functions : ℕ → List Token → Option (List Function)
@@ -314,10 +111,15 @@ read_joined_param n params ts = do
   more ← params ty.1
   Some (ty.0 ∷ more.0, more.1)
 
--- those from number n on, and the ) behind them, at most so many
-unfoldable pub read_joined : ℕ → ℕ → List Token → Reads (List Ty)
-read_joined zero n ts = None
-read_joined (suc k) n ts = if at (Mark (codes ")")) ts then Some ([], rest ts) else read_joined_param n (read_joined k (n + 1)) ts
+-- a parameter, where what closes them isn't found
+abbrev pub read_joined_or : Option (List Token) → ℕ → (List Token → Reads (List Ty)) → List Token → Reads (List Ty)
+read_joined_or None n params ts = read_joined_param n params ts
+read_joined_or (Some behind) n params ts = Some ([], behind)
+
+-- those from number n on of the function of this name, and what closes them, at most so many
+unfoldable pub read_joined : ReturnKind → (name : List ℕ) → ℕ → ℕ → List Token → Reads (List Ty)
+read_joined how name zero n ts = None
+read_joined how name (suc k) n ts = read_joined_or (phrase (joined_end how name n) ts) n (read_joined how name k (n + 1)) ts
 
 -- one type more of a tuple, given how to read those behind it
 abbrev pub read_joined_type : ℕ → (List Token → Reads (List (List ℕ))) → List Token → Reads (List (List ℕ))
@@ -376,17 +178,44 @@ read_either_results (Some inner) ts = read_option_results inner
 unfoldable pub read_results : List Token → Reads (ReturnKind × List (List ℕ))
 read_results ts = read_either_results (phrase (Word (codes "Option") ∷ Mark (codes "<") ∷ []) ts) ts
 
--- a function of the trait
-unfoldable pub read_trait_fn : List Token → Reads TraitFn
-read_trait_fn ts = do
+-- a function of the trait that answers once
+abbrev pub read_once_fn : List Token → Reads TraitFn
+read_once_fn ts = do
   ts1 ← after (Word (codes "fn")) ts
   name ← any_word ts1
   ts2 ← phrase self_param name.1
-  params ← read_joined (length ts2) 0 ts2
+  params ← read_joined kind.Plain name.0 (length ts2) 0 ts2
   ts3 ← after (Mark (codes "->")) params.1
   r ← read_results ts3
   ts4 ← after (Mark (codes ";")) r.1
   Some (record { name = name.0; params = params.0; results = r.0.1; kind = r.0.0 }, ts4)
+
+-- the function, where the list is that of its name
+abbrev pub if_listed : List ℕ → TraitFn → List Token → Reads TraitFn
+if_listed list f ts = if same_bytes list (returns_word f.name) then Some (f, ts) else None
+
+-- one that answers several times, from behind the type of its list on
+abbrev pub read_several_fn : List ℕ → List (List ℕ) → List Token → Reads TraitFn
+read_several_fn list tys ts = do
+  ts1 ← after (Word (codes "fn")) ts
+  name ← any_word ts1
+  ts2 ← phrase self_param name.1
+  params ← read_joined kind.Iterator name.0 (length ts2) 0 ts2
+  ts3 ← phrase (trait_result kind.Iterator tys) params.1
+  if_listed list (record { name = name.0; params = params.0; results = tys; kind = kind.Iterator }) ts3
+
+-- the type of its list, from behind the type on, and such a function
+abbrev pub read_listed_fn : List Token → Reads TraitFn
+read_listed_fn ts = do
+  list ← any_word ts
+  ts1 ← phrase list_bound list.1
+  tys ← read_item ts1
+  ts2 ← phrase (Mark (codes ">") ∷ Mark (codes ";") ∷ []) tys.1
+  read_several_fn list.0 tys.0 ts2
+
+-- a function of the trait: behind the type of its list it answers several times
+unfoldable pub read_trait_fn : List Token → Reads TraitFn
+read_trait_fn ts = if at (Word (codes "type")) ts then read_listed_fn (rest ts) else read_once_fn ts
 
 -- one function of the trait more, given how to read those behind it
 abbrev pub read_trait_more : (List Token → Reads (List TraitFn)) → List Token → Reads (List TraitFn)

@@ -1,12 +1,8 @@
--- The tokens of a program. A form that is not built has none.
-use Rattle.std.specs.Prelude.{ℕ, zero, suc, ◌+◌, List, [], ◌∷◌, ◌++◌, Bool, true, false, Option, Some, None, codes}
-use Rattle.isle_core.specs.Int.{wrapped}
-use Rattle.isle_core.specs.declared.values.Callee.{Callee}
-use Rattle.isle_core.specs.declared.values.Callee.TheVariants as callee
+-- The tokens of functions, the trait, declared types and the program.
+use Rattle.std.specs.Prelude.{ℕ, zero, suc, ◌+◌, List, [], ◌∷◌, ◌++◌, length, Bool, true, false, codes}
 use Rattle.isle_core.specs.declared.types.ReturnKind.{ReturnKind}
 use Rattle.isle_core.specs.declared.types.ReturnKind.TheVariants as kind
-use Rattle.isle_printer.specs.Token.{Token, Word, Mark, Quoted}
-use Rattle.isle_printer.specs.Number.{numeral}
+use Rattle.isle_printer.specs.Token.{Token, Word, Mark}
 use Rattle.isle_tree.specs.declared.tree.Ty.{Ty}
 use Rattle.isle_tree.specs.declared.tree.TraitFn.{TraitFn}
 use Rattle.isle_tree.specs.declared.tree.TFields.{TFields}
@@ -14,214 +10,10 @@ use Rattle.isle_tree.specs.declared.tree.TFields.TheVariants as shape
 use Rattle.isle_tree.specs.declared.tree.TypeBody.{TypeBody}
 use Rattle.isle_tree.specs.declared.tree.TypeBody.TheVariants as type_body
 use Rattle.isle_tree.specs.declared.tree.TypeItem.{TypeItem}
-use Rattle.isle_tree.specs.declared.tree.Operand.{Operand}
-use Rattle.isle_tree.specs.declared.tree.Operand.TheVariants as operand
-use Rattle.isle_tree.specs.declared.tree.Read.{Read}
-use Rattle.isle_tree.specs.declared.tree.Read.TheVariants as read
-use Rattle.isle_tree.specs.declared.tree.TExpr.{TExpr}
-use Rattle.isle_tree.specs.declared.tree.TExpr.TheVariants as expr
-use Rattle.isle_tree.specs.declared.tree.TBind.{TBind}
-use Rattle.isle_tree.specs.declared.tree.TPat.{TPat}
-use Rattle.isle_tree.specs.declared.tree.TPat.TheVariants as pattern
 use Rattle.isle_spelling.specs.Fixed.{allow_tokens, uses_tokens, fixed_tokens}
-use Rattle.isle_spelling.specs.Literal.{literal_tokens}
-use Rattle.isle_spelling.specs.Raw.{raw_word}
 use Rattle.isle_tree.specs.Plain.{is_plain}
-use Rattle.isle_tree.specs.Program.{Stmt, Let, LetList, IfEq, IfLet, Match, Loop, Return, Extend, Overflow, Log, Split, Tail, Body, Done, Then, Function, Program}
-
--- what is spelled of a form that is not built
-abbrev pub not_built : List Token
-not_built = []
-
--- ---- what stands for a value
-
--- a local
-abbrev pub local_token : ℕ → Token
-local_token n = Word (codes "v" ++ numeral 10 n)
-
--- a parameter
-abbrev pub param_token : ℕ → Token
-param_token n = Word (codes "arg" ++ numeral 10 n)
-
--- a truth
-abbrev pub truth_token : Bool → Token
-truth_token true = Word (codes "true")
-truth_token false = Word (codes "false")
-
--- an operand; an integer is spelled as its type's number, which u128 holds as its signed bits
-abbrev pub operand_tokens : Operand → List Token
-operand_tokens (operand.Local n) = local_token n ∷ []
-operand_tokens (operand.Arg n) = param_token n ∷ []
-operand_tokens (operand.Bool b) = truth_token b ∷ []
-operand_tokens (operand.Int ty z) = literal_tokens ty (wrapped ty z)
-operand_tokens (operand.Raw z) = Word (raw_word z) ∷ []
-operand_tokens (operand.Name name) = Word name ∷ []
-
--- .clone()
-abbrev pub clone_part : List Token
-clone_part = Mark (codes ".") ∷ Word (codes "clone") ∷ Mark (codes "(") ∷ Mark (codes ")") ∷ []
-
--- an operand as it is read
-abbrev pub read_tokens : Read → List Token
-read_tokens (read.Plain o) = operand_tokens o
-read_tokens (read.Borrow o) = Mark (codes "&") ∷ operand_tokens o
-read_tokens (read.Clone o) = operand_tokens o ++ clone_part
-
--- a &, where something is behind one
-abbrev pub borrow_part : Bool → List Token
-borrow_part true = Mark (codes "&") ∷ []
-borrow_part false = []
-
--- the name of a term's function
-unfoldable pub constructor_word : List ℕ → List ℕ
-constructor_word term = codes "constructor_" ++ term
-
--- C::F(ctx
-abbrev pub call_head : List ℕ → List Token
-call_head name = Word (codes "C") ∷ Mark (codes "::") ∷ Word name ∷ Mark (codes "(") ∷ Word (codes "ctx") ∷ []
-
--- constructor_T(ctx
-abbrev pub term_call_head : List ℕ → List Token
-term_call_head term = Word (constructor_word term) ∷ Mark (codes "(") ∷ Word (codes "ctx") ∷ []
-
--- the arguments of a call, each behind a comma, and what closes them
-abbrev pub args_tokens : List Read → List Token
-args_tokens [] = Mark (codes ")") ∷ []
-args_tokens (r ∷ rs) = Mark (codes ",") ∷ (read_tokens r ++ args_tokens rs)
-
--- a call of a function of the trait, or of a term's
-abbrev pub call_tokens : Callee → List Read → List Token
-call_tokens (callee.External name) args = call_head name ++ args_tokens args
-call_tokens (callee.Internal term) args = term_call_head term ++ args_tokens args
-
--- f: READ,
-abbrev pub field_read_tokens : List ℕ × Read → List Token
-field_read_tokens f = Word f.0 ∷ Mark (codes ":") ∷ (read_tokens f.1 ++ Mark (codes ",") ∷ [])
-
--- the fields of a made value, and what closes them
-abbrev pub field_reads_tokens : List (List ℕ × Read) → List Token
-field_reads_tokens [] = Mark (codes "}") ∷ []
-field_reads_tokens (f ∷ fs) = field_read_tokens f ++ field_reads_tokens fs
-
--- its fields between braces, where it has some
-abbrev pub made_tokens : List (List ℕ × Read) → List Token
-made_tokens [] = []
-made_tokens (f ∷ fs) = Mark (codes "{") ∷ field_reads_tokens (f ∷ fs)
-
--- .as_ref(), where it stands
-abbrev pub as_ref_part : Bool → List Token
-as_ref_part true = Mark (codes ".") ∷ Word (codes "as_ref") ∷ Mark (codes "(") ∷ Mark (codes ")") ∷ []
-as_ref_part false = []
-
--- what a let or a return computes
-abbrev pub expr_tokens : TExpr → List Token
-expr_tokens (expr.Read r) = read_tokens r
-expr_tokens (expr.Call borrow call) = borrow_part borrow ++ call_tokens call.callee call.args
-expr_tokens (expr.Variant ty variant fields) = Word ty ∷ Mark (codes "::") ∷ Word variant ∷ made_tokens fields
-expr_tokens (expr.Struct ty fields) = Word ty ∷ made_tokens fields
-expr_tokens (expr.Some r) = Word (codes "Some") ∷ Mark (codes "(") ∷ (read_tokens r ++ Mark (codes ")") ∷ [])
-expr_tokens (expr.Try source as_ref) = operand_tokens source ++ (as_ref_part as_ref ++ Mark (codes "?") ∷ [])
-expr_tokens (expr.Tuple source part) = operand_tokens source ++ Mark (codes ".") ∷ Word (numeral 10 part) ∷ []
-
--- ---- patterns
-
--- ref, where a field is bound by it
-abbrev pub ref_part : Bool → List Token
-ref_part true = Word (codes "ref") ∷ []
-ref_part false = []
-
--- f: ref v0,
-abbrev pub bind_tokens : TBind → List Token
-bind_tokens b = Word b.field ∷ Mark (codes ":") ∷ (ref_part b.by_ref ++ local_token b.local ∷ Mark (codes ",") ∷ [])
-
--- .., where fields are left out
-abbrev pub more_part : Bool → List Token
-more_part true = Mark (codes "..") ∷ []
-more_part false = []
-
--- the fields that are bound, those left out, and what closes them
-abbrev pub binds_tokens : List TBind → Bool → List Token
-binds_tokens [] more = more_part more ++ Mark (codes "}") ∷ []
-binds_tokens (b ∷ bs) more = bind_tokens b ++ binds_tokens bs more
-
--- these between braces, where there are any
-abbrev pub braced_tokens : List TBind → Bool → List Token
-braced_tokens [] false = []
-braced_tokens [] true = Mark (codes "{") ∷ binds_tokens [] true
-braced_tokens (b ∷ bs) more = Mark (codes "{") ∷ binds_tokens (b ∷ bs) more
-
--- the local within Some(..), or _
-abbrev pub inner_token : Option ℕ → Token
-inner_token None = Word (codes "_")
-inner_token (Some n) = local_token n
-
--- a pattern
-abbrev pub pattern_tokens : TPat → List Token
-pattern_tokens (pattern.Const o) = operand_tokens o
-pattern_tokens (pattern.Variant ty variant binds more) = Mark (codes "&") ∷ Word ty ∷ Mark (codes "::") ∷ Word variant ∷ braced_tokens binds more
-pattern_tokens (pattern.Struct ty binds more) = Mark (codes "&") ∷ Word ty ∷ braced_tokens binds more
-pattern_tokens (pattern.Some local) = Word (codes "Some") ∷ Mark (codes "(") ∷ inner_token local ∷ Mark (codes ")") ∷ []
-
--- ---- statements
-
--- what a block or an item ends with
-abbrev pub close : List Token
-close = Mark (codes "}") ∷ []
-
--- let v0 = EXPR;
-abbrev pub let_tokens : ℕ → TExpr → List Token
-let_tokens n e = Word (codes "let") ∷ local_token n ∷ Mark (codes "=") ∷ (expr_tokens e ++ Mark (codes ";") ∷ [])
-
--- return EXPR;
-abbrev pub return_tokens : TExpr → List Token
-return_tokens e = Word (codes "return") ∷ (expr_tokens e ++ Mark (codes ";") ∷ [])
-
--- if OP == OP {
-abbrev pub if_eq_head : Operand → Operand → List Token
-if_eq_head a b = Word (codes "if") ∷ (operand_tokens a ++ Mark (codes "==") ∷ (operand_tokens b ++ Mark (codes "{") ∷ []))
-
--- if let PAT = READ {
-abbrev pub if_let_head : TPat → Read → List Token
-if_let_head pat r = Word (codes "if") ∷ Word (codes "let") ∷ (pattern_tokens pat ++ Mark (codes "=") ∷ (read_tokens r ++ Mark (codes "{") ∷ []))
-
--- what is said where no rule of a term that must answer matches
-unfoldable pub no_rule : List ℕ
-no_rule = codes "no rule matched for term {} at {}; should it be partial?"
-
--- unreachable!(
-abbrev pub unreachable_head : List Token
-unreachable_head = Word (codes "unreachable") ∷ Mark (codes "!") ∷ Mark (codes "(") ∷ []
-
--- "no rule ..", "TERM", "PLACE")
-abbrev pub texts_tokens : List ℕ → List ℕ → List Token
-texts_tokens term place = Quoted no_rule ∷ Mark (codes ",") ∷ Quoted term ∷ Mark (codes ",") ∷ Quoted place ∷ Mark (codes ")") ∷ []
-
--- the last statement of a function whose rules may not match
-abbrev pub tail_tokens : Option (List ℕ × List ℕ) → List Token
-tail_tokens None = Word (codes "None") ∷ []
-tail_tokens (Some texts) = unreachable_head ++ texts_tokens texts.0 texts.1
-
--- statements, one behind the other
-abbrev mutual
-  pub stmt_tokens : Stmt → List Token
-  stmt_tokens (Let n e) = let_tokens n e
-  stmt_tokens (LetList n call) = not_built
-  stmt_tokens (IfEq a b inside) = if_eq_head a b ++ (body_tokens inside ++ close)
-  stmt_tokens (IfLet pat r inside) = if_let_head pat r ++ (body_tokens inside ++ close)
-  stmt_tokens (Match read arms) = not_built
-  stmt_tokens (Loop list item inside) = not_built
-  stmt_tokens (Return e) = return_tokens e
-  stmt_tokens (Extend read) = not_built
-  stmt_tokens (Overflow within) = not_built
-  stmt_tokens (Log term place) = not_built
-  stmt_tokens (Split inside within) = not_built
-  stmt_tokens (Tail texts) = tail_tokens texts
-
-  pub body_tokens : Body → List Token
-  body_tokens Done = []
-  body_tokens (Then s ss) = stmt_tokens s ++ body_tokens ss
-
--- ---- items
+use Rattle.isle_tree.specs.Program.{Function, Program}
+use Rattle.isle_target.specs.StatementSpelling.{param_token, borrow_part, constructor_word, close, returns_word, body_tokens}
 
 -- <C: Context>
 abbrev pub generics : List Token
@@ -246,18 +38,31 @@ param_tokens n ty = typed_tokens n ty ++ Mark (codes ",") ∷ []
 
 -- the parameters from number n on
 abbrev pub params_tokens : ℕ → List Ty → List Token
-params_tokens n [] = Mark (codes ")") ∷ []
+params_tokens n [] = []
 params_tokens n (ty ∷ tys) = param_tokens n ty ++ params_tokens (n + 1) tys
 
--- what a function gives
-abbrev pub result_tokens : ReturnKind → List ℕ → List Token
-result_tokens kind.Plain ty = Word ty ∷ []
-result_tokens kind.Option ty = Word (codes "Option") ∷ Mark (codes "<") ∷ Word ty ∷ Mark (codes ">") ∷ []
-result_tokens kind.Iterator ty = not_built
+-- returns: &mut (impl Extend<
+abbrev pub returns_head : List Token
+returns_head =
+    Word (codes "returns") ∷ Mark (codes ":") ∷ Mark (codes "&") ∷ Word (codes "mut") ∷ Mark (codes "(") ∷ Word (codes "impl") ∷ Word (codes "Extend") ∷ Mark (codes "<")
+    ∷ []
 
--- -> RESULT {
+-- > + Length),) -> ()
+abbrev pub returns_end : List Token
+returns_end =
+    Mark (codes ">") ∷ Mark (codes "+") ∷ Word (codes "Length") ∷ Mark (codes ")") ∷ Mark (codes ",") ∷ Mark (codes ")")
+    ∷ Mark (codes "->") ∷ Mark (codes "(") ∷ Mark (codes ")")
+    ∷ []
+
+-- what closes the parameters, and what a function gives; several results are appended to its last parameter
+abbrev pub result_tokens : ReturnKind → List ℕ → List Token
+result_tokens kind.Plain ty = Mark (codes ")") ∷ Mark (codes "->") ∷ Word ty ∷ []
+result_tokens kind.Option ty = Mark (codes ")") ∷ Mark (codes "->") ∷ Word (codes "Option") ∷ Mark (codes "<") ∷ Word ty ∷ Mark (codes ">") ∷ []
+result_tokens kind.Iterator ty = returns_head ++ Word ty ∷ returns_end
+
+-- these, and a {
 abbrev pub result_part : ReturnKind → List ℕ → List Token
-result_part kind ty = Mark (codes "->") ∷ (result_tokens kind ty ++ Mark (codes "{") ∷ [])
+result_part kind ty = result_tokens kind ty ++ Mark (codes "{") ∷ []
 
 -- the function of a term
 unfoldable pub function_tokens : Function → List Token
@@ -290,10 +95,22 @@ abbrev pub comma : ℕ → List Token
 comma zero = []
 comma (suc n) = Mark (codes ",") ∷ []
 
--- the parameters from number n on, and what closes them
+-- the parameters from number n on
 abbrev pub joined_tokens : ℕ → List Ty → List Token
-joined_tokens n [] = Mark (codes ")") ∷ []
+joined_tokens n [] = []
 joined_tokens n (ty ∷ tys) = comma n ++ (typed_tokens n ty ++ joined_tokens (n + 1) tys)
+
+-- returns: &mut Self::F_returns)
+abbrev pub returns_param : List ℕ → List Token
+returns_param name =
+    Word (codes "returns") ∷ Mark (codes ":") ∷ Mark (codes "&") ∷ Word (codes "mut") ∷ Word (codes "Self") ∷ Mark (codes "::") ∷ Word (returns_word name) ∷ Mark (codes ")")
+    ∷ []
+
+-- what closes the parameters of a function of the trait, so many of them; the list that it fills is the last
+abbrev pub joined_end : ReturnKind → List ℕ → ℕ → List Token
+joined_end kind.Plain name n = Mark (codes ")") ∷ []
+joined_end kind.Option name n = Mark (codes ")") ∷ []
+joined_end kind.Iterator name n = comma n ++ returns_param name
 
 -- the types of a tuple from number n on, and what closes them
 abbrev pub joined_types : ℕ → List (List ℕ) → List Token
@@ -310,15 +127,30 @@ item_tokens (ty ∷ more ∷ tys) = Mark (codes "(") ∷ joined_types 0 (ty ∷ 
 abbrev pub results_tokens : ReturnKind → List (List ℕ) → List Token
 results_tokens kind.Plain tys = item_tokens tys
 results_tokens kind.Option tys = Word (codes "Option") ∷ Mark (codes "<") ∷ (item_tokens tys ++ Mark (codes ">") ∷ [])
-results_tokens kind.Iterator tys = not_built
+results_tokens kind.Iterator tys = Mark (codes "(") ∷ Mark (codes ")") ∷ []
 
 -- -> RESULT;
 abbrev pub trait_result : ReturnKind → List (List ℕ) → List Token
 trait_result kind tys = Mark (codes "->") ∷ (results_tokens kind tys ++ Mark (codes ";") ∷ [])
 
+-- : Default + IntoContextIter<Context = Self, Output =
+abbrev pub list_bound : List Token
+list_bound =
+    Mark (codes ":") ∷ Word (codes "Default") ∷ Mark (codes "+") ∷ Word (codes "IntoContextIter") ∷ Mark (codes "<") ∷ Word (codes "Context") ∷ Mark (codes "=") ∷ Word (codes "Self")
+    ∷ Mark (codes ",") ∷ Word (codes "Output") ∷ Mark (codes "=")
+    ∷ []
+
+-- the type of the list that a function of the trait fills, where it answers several times
+abbrev pub list_type : ReturnKind → List ℕ → List (List ℕ) → List Token
+list_type kind.Plain name tys = []
+list_type kind.Option name tys = []
+list_type kind.Iterator name tys = Word (codes "type") ∷ Word (returns_word name) ∷ (list_bound ++ (item_tokens tys ++ Mark (codes ">") ∷ Mark (codes ";") ∷ []))
+
 -- a function of the trait
 unfoldable pub trait_fn_tokens : TraitFn → List Token
-trait_fn_tokens f = trait_fn_head f.name ++ (joined_tokens 0 f.params ++ trait_result f.kind f.results)
+trait_fn_tokens f =
+    list_type f.kind f.name f.results
+    ++ (trait_fn_head f.name ++ (joined_tokens 0 f.params ++ (joined_end f.kind f.name (length f.params) ++ trait_result f.kind f.results)))
 
 -- the functions of the trait in order
 abbrev pub trait_fns_tokens : List TraitFn → List Token

@@ -2,12 +2,13 @@
 
 ghost use Rattle.std.specs.Prelude.{◌≡◌, ◌++◌, ◌∷◌, OnOk, codes};
 ghost use Rattle.std.specs.List.{AllByRecursion};
+ghost use Rattle.isle_core.specs.declared.types.ReturnKind.TheVariants.{Iterator};
 ghost use Rattle.isle_printer.specs.Token.{Mark};
 ghost use Rattle.isle_spelling.specs.Identifier.{IsIdentifier};
 ghost use Rattle.isle_tree.specs.WellFormed.{AreResults, IsTy, IsTraitFn};
-ghost use Rattle.isle_target.specs.Spelling.{trait_head, self_param, trait_fn_head, comma, joined_tokens, joined_types, item_tokens, results_tokens, trait_result, trait_fn_tokens, trait_fns_tokens, trait_tokens};
+ghost use Rattle.isle_target.specs.Spelling.{returns_param, joined_end, list_type, trait_head, self_param, trait_fn_head, comma, joined_tokens, joined_types, item_tokens, results_tokens, trait_result, trait_fn_tokens, trait_fns_tokens, trait_tokens};
 
-use crate::function::{print_gives, print_typed};
+use crate::function::print_typed;
 use isle_core::{ReturnKind, Text};
 use isle_printer::Printer;
 use isle_tree::{TraitFn, Ty};
@@ -43,7 +44,7 @@ pub fn print_comma(out: &mut Printer, i: usize) -> Result<(), AllocError>
     out.space()
 }
 
-// Prints the parameters, and what closes them.
+// Prints the parameters.
 fn print_joined(out: &mut Printer, params: &[Ty]) -> Result<(), AllocError>
     requires { AllByRecursion IsTy params.now }
     ensures { OnOk result (out.new ≡ out.old ++ joined_tokens 0 params.now) }
@@ -52,7 +53,39 @@ fn print_joined(out: &mut Printer, params: &[Ty]) -> Result<(), AllocError>
         print_comma(out, i)?;
         print_typed(out, i, ty)?;
     }
+    Ok(())
+}
+
+// Prints the list that a function fills as its last parameter, and what closes the parameters.
+#[tactic(auto, using(crate::proofs::Names::identifier_is_word), unfolding(isle_printer::specs::Token::step, isle_printer::specs::Token::begun))]
+fn print_returns(out: &mut Printer, name: &str) -> Result<(), AllocError>
+    requires { IsIdentifier name.now }
+    ensures { OnOk result (out.new ≡ out.old ++ returns_param name.now) }
+{
+    out.piece("returns: &mut ")?;
+    out.word("Self")?;
+    out.mark("::")?;
+    out.prefixed(name, "_returns")?;
     out.mark(")")
+}
+
+// Prints what closes so many parameters.
+fn print_joined_end(
+    out: &mut Printer,
+    kind: ReturnKind,
+    name: &str,
+    count: usize,
+) -> Result<(), AllocError>
+    requires { IsIdentifier name.now }
+    ensures { OnOk result (out.new ≡ out.old ++ joined_end kind name.now count) }
+{
+    match kind {
+        ReturnKind::Plain | ReturnKind::Option => out.mark(")"),
+        ReturnKind::Iterator => {
+            print_comma(out, count)?;
+            print_returns(out, name)
+        }
+    }
 }
 
 // Prints the types of a tuple, and what closes them.
@@ -102,7 +135,10 @@ fn print_results(out: &mut Printer, kind: ReturnKind, tys: &[Text]) -> Result<()
             print_item(out, tys)?;
             out.mark(">")
         }
-        ReturnKind::Iterator => Ok(()),
+        ReturnKind::Iterator => {
+            out.mark("(")?;
+            out.mark(")")
+        }
     }
 }
 
@@ -111,9 +147,46 @@ fn print_end(out: &mut Printer, kind: ReturnKind, tys: &[Text]) -> Result<(), Al
     requires { AreResults tys.now }
     ensures { OnOk result (out.new ≡ out.old ++ trait_result kind tys.now) }
 {
-    print_gives(out)?;
+    out.space()?;
+    out.mark("->")?;
+    out.space()?;
     print_results(out, kind, tys)?;
     out.mark(";")
+}
+
+// Prints the type of the list that a function fills.
+#[tactic(auto, using(crate::proofs::Names::identifier_is_word), unfolding(isle_printer::specs::Token::step, isle_printer::specs::Token::begun))]
+fn print_list(out: &mut Printer, name: &str, tys: &[Text]) -> Result<(), AllocError>
+    requires name { IsIdentifier name.now }
+    requires results { AreResults tys.now }
+    ensures { OnOk result (out.new ≡ out.old ++ list_type Iterator name.now tys.now) }
+{
+    out.piece("type ")?;
+    out.prefixed(name, "_returns")?;
+    out.piece(": Default + IntoContextIter<Context = Self, Output = ")?;
+    print_item(out, tys)?;
+    out.mark(">")?;
+    out.mark(";")
+}
+
+// Prints this type on a line of its own, where the function answers several times.
+fn print_list_type(
+    out: &mut Printer,
+    kind: ReturnKind,
+    name: &str,
+    tys: &[Text],
+) -> Result<(), AllocError>
+    requires name { IsIdentifier name.now }
+    requires results { AreResults tys.now }
+    ensures { OnOk result (out.new ≡ out.old ++ list_type kind name.now tys.now) }
+{
+    match kind {
+        ReturnKind::Plain | ReturnKind::Option => Ok(()),
+        ReturnKind::Iterator => {
+            out.line()?;
+            print_list(out, name, tys)
+        }
+    }
 }
 
 // Prints a function of the trait on a line of its own.
@@ -121,10 +194,15 @@ fn print_trait_fn(out: &mut Printer, f: &TraitFn) -> Result<(), AllocError>
     requires { IsTraitFn f.now }
     ensures { OnOk result (out.new ≡ out.old ++ trait_fn_tokens f.now) }
 {
+    let name = f.name.as_str();
+    let params = f.params.as_slice();
+    let results = f.results.as_slice();
+    print_list_type(out, f.kind, name, results)?;
     out.line()?;
-    print_name(out, f.name.as_str())?;
-    print_joined(out, f.params.as_slice())?;
-    print_end(out, f.kind, f.results.as_slice())
+    print_name(out, name)?;
+    print_joined(out, params)?;
+    print_joined_end(out, f.kind, name, params.len())?;
+    print_end(out, f.kind, results)
 }
 
 // Prints the functions of the trait, each on a line.

@@ -1,7 +1,7 @@
 //! The text of what is computed. A form that isn't built has none.
 
 ghost use Rattle.std.specs.Prelude.{◌≡◌, ◌++◌, OnOk};
-ghost use Rattle.isle_target.specs.Spelling.{as_ref_part, expr_tokens};
+ghost use Rattle.isle_target.specs.StatementSpelling.{as_ref_part, expr_tokens};
 ghost use Rattle.isle_tree.specs.WellFormed.{IsOperand, IsRead, IsCall, IsExpr};
 
 use crate::call::print_call;

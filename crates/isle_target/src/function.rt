@@ -6,7 +6,7 @@ ghost use Rattle.isle_printer.specs.Token.{Word, Mark};
 ghost use Rattle.isle_tree.specs.Views.{function, body};
 ghost use Rattle.isle_spelling.specs.Identifier.{IsIdentifier};
 ghost use Rattle.isle_tree.specs.WellFormed.{IsTermName, IsTy, IsBody, HasNames};
-ghost use Rattle.isle_target.specs.Spelling.{generics, context_param, function_head, typed_tokens, param_tokens, params_tokens, result_tokens, result_part, function_tokens};
+ghost use Rattle.isle_target.specs.Spelling.{generics, context_param, function_head, typed_tokens, param_tokens, params_tokens, returns_head, returns_end, result_tokens, result_part, function_tokens};
 
 use crate::call::print_constructor;
 use crate::operand::print_borrow;
@@ -72,7 +72,7 @@ fn print_param(out: &mut Printer, i: usize, ty: &Ty) -> Result<(), AllocError>
     out.mark(",")
 }
 
-// Prints the parameters, and what closes them.
+// Prints the parameters.
 fn print_params(out: &mut Printer, params: &[Ty]) -> Result<(), AllocError>
     requires { AllByRecursion IsTy params.now }
     ensures { OnOk result (out.new ≡ out.old ++ params_tokens 0 params.now) }
@@ -80,41 +80,55 @@ fn print_params(out: &mut Printer, params: &[Ty]) -> Result<(), AllocError>
     for (i, ty) in params.iter().enumerate() {
         print_param(out, i, ty)?;
     }
-    out.mark(")")
+    Ok(())
 }
 
-// Prints what a function gives.
+// Prints the list that results are appended to as the last parameter, and what closes the parameters.
+#[tactic(auto, using(crate::proofs::Names::identifier_is_word), unfolding(isle_printer::specs::Token::step, isle_printer::specs::Token::begun))]
+fn print_returns(out: &mut Printer, ty: &str) -> Result<(), AllocError>
+    requires { IsIdentifier ty.now }
+    ensures { OnOk result (out.new ≡ out.old ++ (returns_head ++ Word ty.now ∷ returns_end)) }
+{
+    out.piece(" returns: &mut (impl Extend<")?;
+    out.word(ty)?;
+    out.piece("> + Length),) -> ()")
+}
+
+// Prints what closes the parameters, and `->`.
+#[tactic(auto, unfolding(isle_printer::specs::Token::step, isle_printer::specs::Token::begun))]
+fn print_arrow(out: &mut Printer) -> Result<(), AllocError>
+    ensures { OnOk result (out.new ≡ out.old ++ Mark (codes ")") ∷ Mark (codes "->") ∷ []) }
+{
+    out.piece(") -> ")
+}
+
+// Prints what closes the parameters, and what a function gives.
 #[tactic(auto, using(crate::proofs::Names::identifier_is_word))]
 fn print_result(out: &mut Printer, kind: ReturnKind, ty: &str) -> Result<(), AllocError>
     requires { IsIdentifier ty.now }
     ensures { OnOk result (out.new ≡ out.old ++ result_tokens kind ty.now) }
 {
     match kind {
-        ReturnKind::Plain => out.word(ty),
+        ReturnKind::Plain => {
+            print_arrow(out)?;
+            out.word(ty)
+        }
         ReturnKind::Option => {
+            print_arrow(out)?;
             out.word("Option")?;
             out.mark("<")?;
             out.word(ty)?;
             out.mark(">")
         }
-        ReturnKind::Iterator => Ok(()),
+        ReturnKind::Iterator => print_returns(out, ty),
     }
 }
 
-/// Prints `->`, with a blank before it and behind it. What is printed after an error is left open.
-#[tactic(auto, unfolding(isle_printer::specs::Token::step, isle_printer::specs::Token::begun))]
-pub fn print_gives(out: &mut Printer) -> Result<(), AllocError>
-    ensures { OnOk result (out.new ≡ out.old ++ Mark (codes "->") ∷ []) }
-{
-    out.piece(" -> ")
-}
-
-// Prints `-> RESULT {`.
-fn print_arrow(out: &mut Printer, kind: ReturnKind, ty: &str) -> Result<(), AllocError>
+// Prints what closes the parameters, what a function gives, and `{`.
+fn print_gives(out: &mut Printer, kind: ReturnKind, ty: &str) -> Result<(), AllocError>
     requires { IsIdentifier ty.now }
     ensures { OnOk result (out.new ≡ out.old ++ result_part kind ty.now) }
 {
-    print_gives(out)?;
     print_result(out, kind, ty)?;
     out.space()?;
     out.mark("{")
@@ -129,7 +143,7 @@ pub fn print_function(out: &mut Printer, f: &Function) -> Result<(), AllocError>
     out.line()?;
     print_head(out, f.term.as_str())?;
     print_params(out, f.params.as_slice())?;
-    print_arrow(out, f.kind, f.result.as_str())?;
+    print_gives(out, f.kind, f.result.as_str())?;
     print_body(out, f.body.as_slice())?;
     out.mark("}")?;
     out.line()

@@ -9,6 +9,7 @@ mod made;
 mod operand;
 mod pattern;
 mod print;
+mod several;
 mod statement;
 #[cfg(test)]
 mod tests;

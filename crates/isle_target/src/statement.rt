@@ -4,11 +4,12 @@ ghost use Rattle.std.specs.Prelude.{◌≡◌, ◌++◌, [], ◌∷◌, OnOk, co
 ghost use Rattle.isle_printer.specs.Token.{Mark, Quoted};
 ghost use Rattle.isle_tree.specs.Views.{stmt, body};
 ghost use Rattle.isle_tree.specs.WellFormed.{IsOperand, IsRead, IsExpr, IsPattern, IsStmt, IsBody};
-ghost use Rattle.isle_target.specs.Spelling.{let_tokens, return_tokens, if_eq_head, if_let_head, no_rule, unreachable_head, tail_tokens, stmt_tokens, body_tokens};
+ghost use Rattle.isle_target.specs.StatementSpelling.{let_tokens, return_tokens, if_eq_head, if_let_head, no_rule, unreachable_head, log_head, log_tokens, tail_tokens, stmt_tokens, body_tokens};
 
 use crate::expr::print_expr;
 use crate::operand::{print_operand, print_read};
 use crate::pattern::print_pattern;
+use crate::several::{print_extend, print_let_list, print_loop_head, print_overflow};
 use isle_core::Text;
 use isle_printer::Printer;
 use isle_tree::{Operand, Read, Stmt, TExpr, TPat};
@@ -70,7 +71,7 @@ fn print_if_let(out: &mut Printer, pat: &TPat, read: &Read) -> Result<(), AllocE
 }
 
 // Prints what is said where no rule matches, up to the term.
-#[tactic(auto, unfolding(crate::specs::Spelling::no_rule, isle_printer::specs::Token::step, isle_printer::specs::Token::begun))]
+#[tactic(auto, unfolding(crate::specs::StatementSpelling::no_rule, isle_printer::specs::Token::step, isle_printer::specs::Token::begun))]
 fn print_no_rule(out: &mut Printer) -> Result<(), AllocError>
     ensures { OnOk result (out.new ≡ out.old ++ (unreachable_head ++ Quoted no_rule ∷ Mark (codes ",") ∷ [])) }
 {
@@ -93,6 +94,24 @@ fn print_texts(out: &mut Printer, term: &str, place: &str) -> Result<(), AllocEr
     print_comma(out)?;
     out.quoted(place)?;
     out.mark(")")
+}
+
+// Prints what a log line says of a rule, up to the term.
+#[tactic(auto, unfolding(crate::specs::StatementSpelling::log_format, isle_printer::specs::Token::step, isle_printer::specs::Token::begun))]
+fn print_log_head(out: &mut Printer) -> Result<(), AllocError>
+    ensures { OnOk result (out.new ≡ out.old ++ log_head) }
+{
+    out.piece("log::debug!(\"ISLE {} {}\", ")
+}
+
+// Prints a log line of a rule.
+#[tactic(auto, unfolding(crate::specs::StatementSpelling::log_tokens))]
+fn print_log(out: &mut Printer, term: &str, place: &str) -> Result<(), AllocError>
+    ensures { OnOk result (out.new ≡ out.old ++ log_tokens term.now place.now) }
+{
+    print_log_head(out)?;
+    print_texts(out, term, place)?;
+    out.mark(";")
 }
 
 // Prints what a function gives behind its last rule.
@@ -129,13 +148,20 @@ fn print_stmt(out: &mut Printer, s: &Stmt) -> Result<(), AllocError>
         }
         Stmt::Return(e) => print_return(out, e),
         Stmt::Tail(texts) => print_tail(out, texts),
-        Stmt::LetList { .. }
-        | Stmt::Match(..)
-        | Stmt::Loop { .. }
-        | Stmt::Extend(_)
-        | Stmt::Overflow { .. }
-        | Stmt::Log { .. }
-        | Stmt::Split { .. } => Ok(()),
+        Stmt::LetList { local, call } => print_let_list(out, *local, call),
+        Stmt::Loop {
+            list,
+            item,
+            body: inside,
+        } => {
+            print_loop_head(out, *list, *item)?;
+            print_body(out, inside.as_slice())?;
+            out.mark("}")
+        }
+        Stmt::Extend(read) => print_extend(out, read),
+        Stmt::Overflow { inside } => print_overflow(out, *inside),
+        Stmt::Log { term, place } => print_log(out, term.as_str(), place.as_str()),
+        Stmt::Match(..) | Stmt::Split { .. } => Ok(()),
     }
 }
 

@@ -1,5 +1,6 @@
 pub mod Program
 pub mod Views
+pub mod Items
 pub mod WellFormed
 pub mod Plain
 pub mod Callees

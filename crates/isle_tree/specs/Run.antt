@@ -1,11 +1,13 @@
 -- What the function of a term does, by cases on the forms of statements.
-use Rattle.std.specs.Prelude.{ℕ, List, [], ◌∷◌, ◌++◌, ◌==◌, ◌&&◌, Bool, false, Option, Some, None, slice_get, fold, if◌then◌else◌}
-use Rattle.isle_core.specs.Value.{Value, Truth, Int, Opaque, Variant, Struct, FieldValues, NoField, Field, Made, End, Gives, GivesSome, GivesNone, IsUnreachable, Ran}
+use Rattle.std.specs.Prelude.{ℕ, ◌-◌, nat_le, List, [], ◌∷◌, ◌++◌, ◌==◌, ◌&&◌, length, Bool, true, false, Option, Some, None, slice_get, fold, if◌then◌else◌}
+use Rattle.isle_core.specs.Value.{Value, Truth, Int, Opaque, Variant, Struct, FieldValues, NoField, Field, Made, End, Gives, GivesSome, GivesNone, IsUnreachable, GivesList, Ran}
 use Rattle.isle_core.specs.SameInRun.{same_in_run}
 use Rattle.isle_core.specs.Meaning.{Meaning}
 use Rattle.isle_core.specs.Having.{const_of}
-use Rattle.isle_core.specs.Answered.{AValue, ATuple, Held, Absent, One, Optional, Listed, a_value, an_option, answer_held, answer}
+use Rattle.isle_core.specs.Answered.{Item, AValue, ATuple, Held, Absent, One, Optional, Listed, a_value, an_option, answer_held, answer}
 use Rattle.isle_core.specs.ValueAt.{held, value_before}
+use Rattle.isle_core.specs.declared.types.ReturnKind.{ReturnKind}
+use Rattle.isle_core.specs.declared.types.ReturnKind.TheVariants as kind
 use Rattle.isle_core.specs.declared.values.Callee.{Callee}
 use Rattle.isle_printer.specs.Bytes.{same_bytes}
 use Rattle.isle_tree.specs.declared.tree.Operand.{Operand}
@@ -19,8 +21,8 @@ use Rattle.isle_tree.specs.declared.tree.TPat.TheVariants as pattern
 use Rattle.isle_tree.specs.declared.tree.TExpr.TheVariants as expr
 use Rattle.isle_tree.specs.Program.{Stmt, Let, LetList, IfEq, IfLet, Match, Loop, Return, Extend, Overflow, Log, Split, Tail, Body, Done, Then, Function, Program}
 
--- what a function runs in: how calls are answered, the program, the function itself, its arguments, and how many results fit,
--- where that is limited
+-- what a function runs in: how calls are answered, the program, the function itself, its arguments, and how many results there is
+-- room for, where that is limited
 pub record Around : Type 0 where
   pub meaning : Meaning
   pub program : Program
@@ -40,6 +42,10 @@ nothing_done = record { made = []; given = [] }
 -- a call more
 abbrev pub one_made : State → Made → State
 one_made s c = record { made = s.made ++ c ∷ []; given = s.given }
+
+-- a result more
+abbrev pub one_given : State → Value → State
+one_given s v = record { made = s.made; given = s.given ++ v ∷ [] }
 
 -- what each local holds, the newest last
 abbrev pub Env : Type 0
@@ -120,6 +126,13 @@ on_held (One i) go = go (One i)
 on_held (Optional o) go = go (Optional o)
 on_held (Listed is) go = go (Listed is)
 on_held Absent go = Stuck
+
+-- what follows a list
+abbrev pub on_list : Held → (List Item → Flow) → Flow
+on_list (Listed is) go = go is
+on_list (One i) go = Stuck
+on_list (Optional o) go = Stuck
+on_list Absent go = Stuck
 
 -- ---- patterns
 
@@ -287,26 +300,41 @@ run_return w (expr.Variant ty variant fields) env s = Stuck
 run_return w (expr.Struct ty fields) env s = Stuck
 run_return w (expr.Tuple source part) env s = Stuck
 
+-- what is done with each item of a list, in order; what was bound meanwhile is gone behind it
+abbrev pub run_items : (Item → State → Flow) → Env → List Item → State → Flow
+run_items go env [] s = Goes env s
+run_items go env (i ∷ is) s = then_run (go i s) (λ inner t. run_items go env is t)
+
+-- no room is left for results
+abbrev pub is_full : Option ℕ → List Value → Bool
+is_full None given = false
+is_full (Some room) given = nat_le room (length given)
+
+-- where no room is left, the closure around is left, or else the function ends with its results
+abbrev pub stops : (inside : Bool) → State → Flow
+stops true s = Leaves s
+stops false s = Ends (GivesList s.given) s
+
 -- a tail gives nothing, or is not to be reached
 abbrev pub tail_end : Option (List ℕ × List ℕ) → End
 tail_end None = GivesNone
 tail_end (Some texts) = IsUnreachable
 
--- a statement, and statements in order; lists, several patterns, loops, results of several, logs and closures are not built
+-- a statement, and statements in order; a log line means nothing; several patterns and closures are not built
 abbrev mutual
   pub run_stmt : Around → Stmt → Env → State → Flow
   run_stmt w (Let n e) env s = run_let w n e env s
-  run_stmt w (LetList n call) env s = Stuck
+  run_stmt w (LetList n call) env s = run_call w n call.callee (read_values w env call.args) env s
   run_stmt w (IfEq a b inside) env s =
       on_value (value_of w env a) (λ v. on_value (value_of w env b) (λ u.
       if same_in_run v u then after_scope env (run_body w inside env s) else Goes env s))
   run_stmt w (IfLet pat r inside) env s = fitted (fit w pat (read_value w env r)) (λ bound. after_scope env (run_body w inside (env ++ bound) s)) (Goes env s)
   run_stmt w (Match r arms) env s = Stuck
-  run_stmt w (Loop list item inside) env s = Stuck
+  run_stmt w (Loop list item inside) env s = on_list (look env list) (λ is. run_items (λ i t. run_body w inside (bind env item (One i)) t) env is s)
   run_stmt w (Return e) env s = run_return w e env s
-  run_stmt w (Extend r) env s = Stuck
-  run_stmt w (Overflow inside) env s = Stuck
-  run_stmt w (Log term place) env s = Stuck
+  run_stmt w (Extend r) env s = on_value (read_value w env r) (λ v. Goes env (one_given s v))
+  run_stmt w (Overflow inside) env s = if is_full w.limit s.given then stops inside s else Goes env s
+  run_stmt w (Log term place) env s = Goes env s
   run_stmt w (Split inner inside) env s = Stuck
   run_stmt w (Tail texts) env s = Ends (tail_end texts) s
 
@@ -316,23 +344,40 @@ abbrev mutual
 
 -- ---- functions
 
--- the end of a function; a body that goes on behind its last statement, leaves a closure where there is none, or is stuck, has
--- none
-abbrev pub ended : Flow → Option Ran
-ended (Goes env s) = None
-ended (Ends end s) = Some (record { end = end; calls = s.made })
-ended (Leaves s) = None
-ended Stuck = None
+-- a function that goes on behind its last statement ends with its results, where it gives several; any other has no end there
+abbrev pub runs_out : ReturnKind → State → Option Ran
+runs_out kind.Plain s = None
+runs_out kind.Option s = None
+runs_out kind.Iterator s = Some (record { end = GivesList s.given; calls = s.made })
+
+-- the end of a function of the kind; a body that leaves a closure where there is none, or is stuck, has none
+abbrev pub ended : ReturnKind → Flow → Option Ran
+ended of (Goes env s) = runs_out of s
+ended of (Ends end s) = Some (record { end = end; calls = s.made })
+ended of (Leaves s) = None
+ended of Stuck = None
 
 -- the function of a term
 abbrev pub function_of : List ℕ → List Function → Option Function
 function_of term [] = None
 function_of term (f ∷ fs) = if same_bytes term f.term then Some f else function_of term fs
 
--- the run of a function in its program; its results are not limited
+-- how many results there is room for: as many as the list may have, less those that it has at entry
+abbrev pub room : Meaning → ℕ
+room m = m.max_returns - m.held
+
+-- what a function of a program runs in, where its results are limited so
+abbrev pub around : Program → Meaning → List Value → Option ℕ → Function → Around
+around p m args limit f = record { meaning = m; program = p; function = f; args = args; limit = limit }
+
+-- the run of a function, its results limited so
+abbrev pub limited_run : Program → Meaning → List Value → Option ℕ → Function → Option Ran
+limited_run p m args limit f = ended f.kind (run_body (around p m args limit f) f.body [] nothing_done)
+
+-- the run of a function in its program, where there is one
 abbrev pub function_run : Program → Meaning → List Value → Option Function → Option Ran
 function_run p m args None = None
-function_run p m args (Some f) = ended (run_body (record { meaning = m; program = p; function = f; args = args; limit = None }) f.body [] nothing_done)
+function_run p m args (Some f) = limited_run p m args (Some (room m)) f
 
 -- the run of the function of a term in a program, where there is one
 abbrev pub run : Program → List ℕ → List Value → Meaning → Option Ran

@@ -14,13 +14,8 @@ use Rattle.isle_tree.specs.declared.holds.Holds.{Holds}
 use Rattle.isle_tree.specs.declared.holds.Holds.TheVariants as holds
 use Rattle.isle_tree.specs.declared.holds.Item.{Item}
 use Rattle.isle_tree.specs.declared.holds.Item.TheVariants as item
-use Rattle.isle_tree.specs.declared.tree.Ty.{Ty}
 use Rattle.isle_tree.specs.declared.tree.TCall.{TCall}
 use Rattle.isle_tree.specs.declared.tree.TraitFn.{TraitFn}
-use Rattle.isle_tree.specs.declared.tree.TFields.{TFields}
-use Rattle.isle_tree.specs.declared.tree.TFields.TheVariants as shape
-use Rattle.isle_tree.specs.declared.tree.TypeBody.{TypeBody}
-use Rattle.isle_tree.specs.declared.tree.TypeBody.TheVariants as type_body
 use Rattle.isle_tree.specs.declared.tree.TypeItem.{TypeItem}
 use Rattle.isle_tree.specs.declared.tree.Operand.{Operand}
 use Rattle.isle_tree.specs.declared.tree.Operand.TheVariants as operand
@@ -33,6 +28,7 @@ use Rattle.isle_tree.specs.declared.tree.TPat.{TPat}
 use Rattle.isle_tree.specs.declared.tree.TPat.TheVariants as pattern
 use Rattle.isle_spelling.specs.Identifier.{IsIdentifier}
 use Rattle.isle_spelling.specs.Names.{IsName, IsFieldName}
+pub use Rattle.isle_tree.specs.Items.{IsTy, AreResults, IsTraitFn, IsField, AreFields, IsVariant, IsTypeBody, IsTypeItem}
 use Rattle.isle_tree.specs.Program.{Stmt, Let, LetList, IfEq, IfLet, Match, Loop, Return, Extend, Overflow, Log, Split, Tail, Body, Done, Then, Function, Program}
 
 -- ---- the forms that are built, and that integers lie in their type
@@ -100,7 +96,7 @@ IsPattern (pattern.Variant ty variant binds more) = IsIdentifier ty × IsIdentif
 IsPattern (pattern.Struct ty binds more) = IsIdentifier ty × AllByRecursion IsBind binds
 IsPattern (pattern.Some local) = Unit {0}
 
--- a statement, and statements in order; lists of answers, several patterns, loops, logging and closures are not built
+-- a statement, and statements in order; several patterns and closures are not built
 abbrev mutual
   pub IsStmt : Stmt → Type 0
   IsStmt (Let n e) = IsExpr e
@@ -108,12 +104,12 @@ abbrev mutual
   IsStmt (IfLet pat read inside) = IsPattern pat × IsRead read × IsBody inside
   IsStmt (Return e) = IsExpr e
   IsStmt (Tail texts) = Unit {0}
-  IsStmt (LetList n call) = ⊥
+  IsStmt (LetList n call) = IsCall call
   IsStmt (Match read arms) = ⊥
-  IsStmt (Loop list each inside) = ⊥
-  IsStmt (Extend read) = ⊥
-  IsStmt (Overflow within) = ⊥
-  IsStmt (Log term place) = ⊥
+  IsStmt (Loop list each inside) = IsBody inside
+  IsStmt (Extend read) = IsRead read
+  IsStmt (Overflow within) = Unit {0}
+  IsStmt (Log term place) = Unit {0}
   IsStmt (Split inside within) = ⊥
 
   pub IsBody : Body → Type 0
@@ -167,11 +163,11 @@ results_item [] = item.Tuple 0
 results_item (ty ∷ []) = item.Value
 results_item (ty ∷ more ∷ tys) = item.Tuple (length (ty ∷ more ∷ tys))
 
--- what the answer of a function of the kind holds; several answers are not built
-abbrev pub kind_holds : ReturnKind → Item → Option Holds
-kind_holds kind.Plain x = Some (holds.One x)
-kind_holds kind.Option x = Some (holds.Optional x)
-kind_holds kind.Iterator x = None
+-- what the answer of a function of the kind holds
+abbrev pub kind_holds : ReturnKind → Item → Holds
+kind_holds kind.Plain x = holds.One x
+kind_holds kind.Option x = holds.Optional x
+kind_holds kind.Iterator x = holds.Several x
 
 -- the function of the trait of this name
 abbrev pub trait_fn : List TraitFn → List ℕ → Option TraitFn
@@ -195,12 +191,12 @@ pub record Callables : Type 0 where
 -- the answer of a function of the trait, called with as many arguments as it has parameters
 abbrev pub call_holds : Option TraitFn → ℕ → Option Holds
 call_holds None count = None
-call_holds (Some f) count = if length f.params == count then kind_holds f.kind (results_item f.results) else None
+call_holds (Some f) count = if length f.params == count then Some (kind_holds f.kind (results_item f.results)) else None
 
 -- the answer of a term's function, called with as many arguments as it has parameters
 abbrev pub head_holds : Option Head → ℕ → Option Holds
 head_holds None count = None
-head_holds (Some h) count = if h.params == count then kind_holds h.kind item.Value else None
+head_holds (Some h) count = if h.params == count then Some (kind_holds h.kind item.Value) else None
 
 -- the answer of what is called
 abbrev pub callee_holds : Callables → Callee → ℕ → Option Holds
@@ -213,6 +209,31 @@ inner_holds None = None
 inner_holds (Some (holds.One x)) = None
 inner_holds (Some (holds.Optional x)) = Some (holds.One x)
 inner_holds (Some (holds.Several x)) = None
+
+-- what is answered once: no list
+abbrev pub once_holds : Option Holds → Option Holds
+once_holds None = None
+once_holds (Some (holds.One x)) = Some (holds.One x)
+once_holds (Some (holds.Optional x)) = Some (holds.Optional x)
+once_holds (Some (holds.Several x)) = None
+
+-- what is answered several times: a list
+abbrev pub list_holds : Option Holds → Option Holds
+list_holds None = None
+list_holds (Some (holds.One x)) = None
+list_holds (Some (holds.Optional x)) = None
+list_holds (Some (holds.Several x)) = Some (holds.Several x)
+
+-- what a list is of
+abbrev pub each_holds : Option Holds → Option Holds
+each_holds None = None
+each_holds (Some (holds.One x)) = None
+each_holds (Some (holds.Optional x)) = None
+each_holds (Some (holds.Several x)) = Some (holds.One x)
+
+-- the answer of a call whose arguments are values
+abbrev pub called_holds : Callables → ℕ → Locals → TCall → Option Holds
+called_holds fns params bound call = if are_values params bound call.args then callee_holds fns call.callee (length call.args) else None
 
 -- each field is of a value
 abbrev pub are_field_values : ℕ → Locals → List (List ℕ × Read) → Bool
@@ -233,7 +254,7 @@ part_holds part (Some (holds.Several x)) = None
 -- what is computed holds, where each operand holds what is asked of it
 abbrev pub expr_holds : Callables → ℕ → Locals → TExpr → Option Holds
 expr_holds fns params bound (expr.Read r) = read_holds params bound r
-expr_holds fns params bound (expr.Call borrow call) = if are_values params bound call.args then callee_holds fns call.callee (length call.args) else None
+expr_holds fns params bound (expr.Call borrow call) = once_holds (called_holds fns params bound call)
 expr_holds fns params bound (expr.Some r) = if is_value (read_holds params bound r) then Some (holds.Optional item.Value) else None
 expr_holds fns params bound (expr.Try source as_ref) = inner_holds (operand_holds params bound source)
 expr_holds fns params bound (expr.Variant ty variant fields) = made_holds (are_field_values params bound fields)
@@ -242,7 +263,7 @@ expr_holds fns params bound (expr.Tuple source part) = part_holds part (operand_
 
 -- ---- each operand of a statement is in scope
 
--- a return gives a value in kind Plain, and an option of one in kind Option; several answers are not built
+-- a return gives a value in kind Plain, and an option of one in kind Option; one of several answers stands in no return
 abbrev pub GivesKind : ReturnKind → Option Holds → Type 0
 GivesKind kind.Plain None = ⊥
 GivesKind kind.Plain (Some (holds.One item.Value)) = Unit {0}
@@ -288,10 +309,10 @@ pattern_locals (pattern.Variant ty variant binds more) h = field_locals binds
 pattern_locals (pattern.Struct ty binds more) h = field_locals binds
 pattern_locals (pattern.Some local) h = inner_locals local (inner_holds h)
 
--- the locals that are bound behind a statement: none of those inside it; those of a list of answers are not built
+-- the locals that are bound behind a statement: none of those inside it
 abbrev pub bound_after : Callables → ℕ → Stmt → Locals → Locals
 bound_after fns params (Let n e) bound = after_let (expr_holds fns params bound e) n bound
-bound_after fns params (LetList n call) bound = bound
+bound_after fns params (LetList n call) bound = after_let (list_holds (called_holds fns params bound call)) n bound
 bound_after fns params (IfEq a b inside) bound = bound
 bound_after fns params (IfLet pat read inside) bound = bound
 bound_after fns params (Match read arms) bound = bound
@@ -304,7 +325,8 @@ bound_after fns params (Split inside within) bound = bound
 bound_after fns params (Tail texts) bound = bound
 
 -- each operand of a statement, and of statements in order, is in scope and holds what is asked of it, in a function of the kind with this
--- number of parameters; lists of answers, several patterns, loops, logging and closures are not built
+-- number of parameters: a call of one with several answers stands in a list alone, and a loop goes over a list; several patterns and closures
+-- are not built
 abbrev mutual
   pub IsStmtScoped : Callables → ReturnKind → ℕ → Locals → Stmt → Type 0
   IsStmtScoped fns kind params bound (Let n e) = IsSome (expr_holds fns params bound e)
@@ -314,12 +336,13 @@ abbrev mutual
       ReadsPattern pat (read_holds params bound read) × IsBodyScoped fns kind params (bound ++ pattern_locals pat (read_holds params bound read)) inside
   IsStmtScoped fns kind params bound (Return e) = GivesKind kind (expr_holds fns params bound e)
   IsStmtScoped fns kind params bound (Tail texts) = Unit {0}
-  IsStmtScoped fns kind params bound (LetList n call) = ⊥
+  IsStmtScoped fns kind params bound (LetList n call) = IsSome (list_holds (called_holds fns params bound call))
   IsStmtScoped fns kind params bound (Match read arms) = ⊥
-  IsStmtScoped fns kind params bound (Loop list each inside) = ⊥
-  IsStmtScoped fns kind params bound (Extend read) = ⊥
-  IsStmtScoped fns kind params bound (Overflow within) = ⊥
-  IsStmtScoped fns kind params bound (Log term place) = ⊥
+  IsStmtScoped fns kind params bound (Loop list each inside) =
+      IsSome (each_holds (local_holds bound list)) × IsBodyScoped fns kind params (after_let (each_holds (local_holds bound list)) each bound) inside
+  IsStmtScoped fns kind params bound (Extend read) = IsTrue (is_value (read_holds params bound read))
+  IsStmtScoped fns kind params bound (Overflow within) = Unit {0}
+  IsStmtScoped fns kind params bound (Log term place) = Unit {0}
   IsStmtScoped fns kind params bound (Split inside within) = ⊥
 
   pub IsBodyScoped : Callables → ReturnKind → ℕ → Locals → Body → Type 0
@@ -348,8 +371,15 @@ IsReturned (expr.Some r) = Unit {0}
 IsReturned (expr.Try source as_ref) = ⊥
 IsReturned (expr.Tuple o n) = ⊥
 
--- a statement inside a function, or inside a closure of one, and statements in order: no tail is among them; lists of answers, several
--- patterns, loops and logging are not built
+-- the function gives several results
+abbrev pub GivesSeveral : ReturnKind → Type 0
+GivesSeveral kind.Plain = ⊥
+GivesSeveral kind.Option = ⊥
+GivesSeveral kind.Iterator = Unit {0}
+
+-- a statement inside a function, or inside a closure of one, and statements in order: no tail is among them; results are appended, and
+-- statements stop at a full list, only where the function gives several, and the stop says true exactly inside a closure; several patterns and
+-- closures are not built
 abbrev mutual
   pub FitsStmt : ReturnKind → (closed : Bool) → Stmt → Type 0
   FitsStmt kind closed (Let n e) = FitsLet kind e
@@ -357,14 +387,12 @@ abbrev mutual
   FitsStmt kind closed (IfLet pat read inside) = FitsBody kind closed inside
   FitsStmt kind closed (Return e) = IsReturned e
   FitsStmt kind closed (Tail texts) = ⊥
-  FitsStmt kind closed (LetList n call) = ⊥
+  FitsStmt kind closed (LetList n call) = Unit {0}
   FitsStmt kind closed (Match read arms) = ⊥
-  FitsStmt kind closed (Loop list each inside) = ⊥
-  FitsStmt kind closed (Extend read) = ⊥
-  FitsStmt kind closed (Log term place) = ⊥
-  -- stopping at a full list, whose return says true exactly inside a closure, is not built
-  FitsStmt kind closed (Overflow within) = ⊥
-  -- a closure, behind which a return says true exactly inside another one, is not built
+  FitsStmt kind closed (Loop list each inside) = FitsBody kind closed inside
+  FitsStmt kind closed (Extend read) = GivesSeveral kind
+  FitsStmt kind closed (Overflow within) = GivesSeveral kind × (within ≡ closed)
+  FitsStmt kind closed (Log term place) = Unit {0}
   FitsStmt kind closed (Split inside within) = ⊥
 
   pub FitsBody : ReturnKind → (closed : Bool) → Body → Type 0
@@ -395,58 +423,19 @@ FitsLast kind (Overflow within) = ⊥
 FitsLast kind (Log term place) = ⊥
 FitsLast kind (Split inside within) = ⊥
 
--- the statements of a function, outside all closures
+-- the statements of a function that ends with one that is its last
+abbrev pub FitsEnding : ReturnKind → Body → Type 0
+FitsEnding kind Done = ⊥
+FitsEnding kind (Then s Done) = FitsLast kind s
+FitsEnding kind (Then s (Then t ss)) = FitsStmt kind false s × FitsEnding kind (Then t ss)
+
+-- the statements of a function, outside all closures; one with several answers ends behind them
 abbrev pub FitsFunction : ReturnKind → Body → Type 0
-FitsFunction kind Done = ⊥
-FitsFunction kind (Then s Done) = FitsLast kind s
-FitsFunction kind (Then s (Then t ss)) = FitsStmt kind false s × FitsFunction kind (Then t ss)
+FitsFunction kind.Plain b = FitsEnding kind.Plain b
+FitsFunction kind.Option b = FitsEnding kind.Option b
+FitsFunction kind.Iterator b = FitsBody kind.Iterator false b
 
 -- ---- items
-
--- the type of a parameter, behind a & or not
-abbrev pub IsTy : Ty → Type 0
-IsTy ty = IsIdentifier ty.name
-
--- how often a function answers
-abbrev pub IsKind : ReturnKind → Type 0
-IsKind kind.Plain = Unit {0}
-IsKind kind.Option = Unit {0}
-IsKind kind.Iterator = ⊥
-
--- the results of a function of the trait: one, several or none
-abbrev pub AreResults : List (List ℕ) → Type 0
-AreResults names = AllByRecursion IsIdentifier names
-
--- a function of the trait
-pub record IsTraitFn (f : TraitFn) : Type 0 where
-  pub name : IsIdentifier f.name
-  pub params : AllByRecursion IsTy f.params
-  pub results : AreResults f.results
-  pub kind : IsKind f.kind
-
--- a field with a name, and its type
-abbrev pub IsField : List ℕ × List ℕ → Type 0
-IsField f = IsIdentifier f.0 × IsIdentifier f.1
-
--- the fields of a variant or a struct: some, or Unit in place of none
-abbrev pub AreFields : TFields → Type 0
-AreFields shape.Unit = Unit {0}
-AreFields (shape.Named fs) = (0 < length fs) × AllByRecursion IsField fs
-AreFields (shape.Tuple tys) = (0 < length tys) × AllByRecursion IsIdentifier tys
-
--- a variant: its name and its fields
-abbrev pub IsVariant : List ℕ × TFields → Type 0
-IsVariant v = IsIdentifier v.0 × AreFields v.1
-
--- what a type is made of
-abbrev pub IsTypeBody : TypeBody → Type 0
-IsTypeBody (type_body.Enum vs) = AllByRecursion IsVariant vs
-IsTypeBody (type_body.Struct fs) = AreFields fs
-
--- a declared type: all names in it are names of Rust
-pub record IsTypeItem (t : TypeItem) : Type 0 where
-  pub name : IsIdentifier t.name
-  pub body : IsTypeBody t.body
 
 -- the names in the head of a function
 pub record HasNames (f : Function) : Type 0 where
@@ -465,7 +454,6 @@ callables p = record { trait_fns = p.trait_fns; heads = map function_head p.fns 
 -- a function in its program
 pub record IsFunction (p : Program) (f : Function) : Type 0 where
   pub names : HasNames f
-  pub kind : IsKind f.kind
   pub forms : IsBody f.body
   pub scoped : IsBodyScoped (callables p) f.kind (length f.params) [] f.body
   pub fits : FitsFunction f.kind f.body

@@ -1,10 +1,14 @@
 use Rattle.std.proofs.Common.{rules, ◌≡◌, Some}
-use Rattle.isle_core.specs.ValueViews.{values, meaning}
+use Rattle.std.proofs.lemmas.Result.{IfOk-weaker}
+use Rattle.isle_core.specs.ValueViews.{values, meaning, end}
+use Rattle.isle_tree.specs.Program.{Function}
 use Rattle.isle_tree.specs.Run.{function_of}
 use Rattle.isle_tree.specs.Views.{function, program}
+use Rattle.isle_interpreter.specs.Ends.{EndFits}
 use Rattle.isle_interpreter.specs.Judged.{Runs}
 use Rattle.isle_interpreter.specs.Refusals.{MayRun, IsRefused}
 use Rattle.isle_interpreter.specs.declared.run_error.RunError.{RunError}
+use Rattle.isle_interpreter.proofs.Founds.{kind_fits}
 use Rattle.isle_interpreter.proofs.OneRefusal.{not_refused}
 use Rattle.isle_interpreter.proofs.Refusing.{early_refused, bad_refused, only_one, on_ok}
 use Rattle.isle_interpreter.proofs.term.run_term.Goals as goal
@@ -17,6 +21,13 @@ fits c =
 pub returns-in-Ok-try_entries-clause-may : goal.returns-in-Ok-try_entries-clause-may
 returns-in-Ok-try_entries-clause-may c =
     on_ok c.run_fitting.result (Runs (program c.args.p.now) c.args.name.now (values c.args.args.now) (meaning c.args.answers.now)) (record { function = function c.in-Ok.f.now; may = fits c })
+
+pub returns-in-Ok-try_entries-clause-ends : goal.returns-in-Ok-try_entries-clause-ends
+returns-in-Ok-try_entries-clause-ends c =
+    let fs = (program c.args.p.now).fns in
+    let f = function c.in-Ok.f.now in
+    IfOk-weaker c.run_fitting.result (λ o. EndFits f.kind (end o.end)) (λ o. (g : Function) → function_of c.args.name.now fs ≡ Some g → EndFits g.kind (end o.end))
+    (λ o h g there. kind_fits c.args.name.now fs f g (end o.end) (fits c).found there h) c.run_fitting.ensures.ends
 
 pub returns-in-Ok-try_entries-clause-never : goal.returns-in-Ok-try_entries-clause-never
 returns-in-Ok-try_entries-clause-never c =

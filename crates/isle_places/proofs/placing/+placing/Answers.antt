@@ -1,6 +1,6 @@
-use Rattle.std.proofs.Common.{[], ◌∷◌, refl, ◌∙◌}
+use Rattle.std.proofs.Common.{[], ◌∷◌, ap, ◌∙◌}
 use Rattle.isle_tree.specs.Views.{function, program, stmt, body}
-use Rattle.isle_places.specs.Told.{Untold}
+use Rattle.isle_places.specs.Told.{item_told, look_told}
 use Rattle.isle_places.specs.Places.{both_places, stmt_places, body_places}
 use Rattle.isle_places.specs.ToldViews.{tells, placed}
 use Rattle.isle_places.proofs.PlacesAt.{two_ok}
@@ -13,8 +13,8 @@ push_arm-returns-clause-kept t c = left_scope c.push_body.new.bound c.args.bound
 
 pub push_loop-returns-clause-kept : goal.push_loop-returns-clause-kept
 push_loop-returns-clause-kept t c =
-    left_scope c.push_body.new.bound c.args.bound.now c.truncate.new.self c.len-count.result ((c.args.item, Untold) ∷ []) c.len-count.ensures c.truncate.ensures
-    (c.in_ok-push_body.ensures.kept ∙ tells_more c.args.bound.now c.bind.new.self c.args.item _ Untold refl c.in_ok-bind.ensures.more)
+    left_scope c.push_body.new.bound c.args.bound.now c.truncate.new.self c.len-count.result ((c.args.item, item_told (look_told (tells c.args.bound.now) c.args.list)) ∷ []) c.len-count.ensures c.truncate.ensures
+    (c.in_ok-push_body.ensures.kept ∙ tells_more c.args.bound.now c.bind.new.self c.args.item c.item_told-held.result (item_told (look_told (tells c.args.bound.now) c.args.list)) (c.item_told-held.ensures ∙ ap item_told c.local_told.ensures) c.in_ok-bind.ensures.more)
 
 pub push_body-returns-clause-kept : goal.push_body-returns-clause-kept
 push_body-returns-clause-kept t c = left_scope c.loop-statement.bound c.args.bound.now c.truncate.new.self c.len-count.result c.loop-statement.invariant.1.0 c.len-count.ensures c.truncate.ensures c.loop-statement.invariant.1.1
@@ -37,7 +37,7 @@ push_statement-returns-in_ok-push_computed-in-Let-clause-after t c =
 
 pub push_statement-returns-in_ok-push_call-in-LetList-clause-after : goal.push_statement-returns-in_ok-push_call-in-LetList-clause-after
 push_statement-returns-in_ok-push_call-in-LetList-clause-after t c =
-    list_after c.bind-in-LetList.result (program c.args.signatures.now) (function c.args.f.now) c.in-LetList.local c.in-LetList.call c.args.statement.now _ c.args.bound.now c.bind-in-LetList.new.self c.in-LetList.is refl c.bind-in-LetList.ensures.more
+    list_after c.bind-in-LetList.result (program c.args.signatures.now) (function c.args.f.now) c.in-LetList.local c.in-LetList.call c.args.statement.now c.list_told-held.result c.args.bound.now c.bind-in-LetList.new.self c.in-LetList.is c.list_told-held.ensures c.bind-in-LetList.ensures.more
 
 pub push_statement-returns-in_ok-push_both-in-IfEq-clause-more : goal.push_statement-returns-in_ok-push_both-in-IfEq-clause-more
 push_statement-returns-in_ok-push_both-in-IfEq-clause-more t c =

@@ -10,13 +10,14 @@ loop-bind-preserved c =
     let fs = fields c.args.found.now in (
       left_more c.args.binds.now c.loop-bind.bind-index b _ fs c.args.frame.now c.loop-bind.frame c.bind_field.new.frame c.in_ok-bind_field.field-0 c.loop-bind-test.true c.bind-item.is c.loop-bind.invariant.0 c.in_ok-bind_field.ensures.binds c.if-not-branch.false,
       c.bind_field.ensures.calls ∙ c.loop-bind.invariant.1,
-      follows_more b.local (field_of b.field fs) c.args.frame.now c.loop-bind.frame c.bind_field.new.frame c.in_ok-bind_field.field-0 c.loop-bind.invariant.2 c.in_ok-bind_field.ensures.binds c.if-not-branch.false,
+      c.bind_field.ensures.given ∙ c.loop-bind.invariant.2,
+      follows_more b.local (field_of b.field fs) c.args.frame.now c.loop-bind.frame c.bind_field.new.frame c.in_ok-bind_field.field-0 c.loop-bind.invariant.3 c.in_ok-bind_field.ensures.binds c.if-not-branch.false,
     )
 
 pub returns-then-not-branch-clause-follows : goal.returns-then-not-branch-clause-follows
 returns-then-not-branch-clause-follows c =
     let b = c.bind-item.result in
     let bound : c.len-count.result ≡ length c.args.frame.now.locals = search rules in
-    cut_follows c.args.frame.now c.loop-bind.frame c.bind_field.new.frame c.len-count.result c.truncate.new.self c.loop-bind.invariant.2
+    cut_follows c.args.frame.now c.loop-bind.frame c.bind_field.new.frame c.len-count.result c.truncate.new.self c.loop-bind.invariant.3
     (none_bound b.local (field_of b.field (fields c.args.found.now)) c.loop-bind.frame c.bind_field.new.frame c.in_ok-bind_field.field-0 c.in_ok-bind_field.ensures.binds c.if-not-branch.true)
     c.bind_field.ensures.calls bound c.truncate.ensures

@@ -9,4 +9,5 @@ abbrev pub invariant-loop-bind : goal.invariant-loop-bind
 invariant-loop-bind l =
     LeftSo (fit_fields l.binds (fields l.found)) (fit_fields (drop l.bind-index l.binds) (fields l.found)) l.fn.frame l.frame
     × (l.frame.calls ≡ l.fn.frame.calls)
+    × (l.frame.given.items ≡ l.fn.frame.given.items)
     × Follows l.fn.frame l.frame

@@ -1,7 +1,7 @@
 use Rattle.std.proofs.Common.{◌≡◌, ◌++◌, drop}
 use Rattle.std.specs.List.{AllByRecursion}
 use Rattle.isle_tree.specs.WellFormed.{IsRead}
-use Rattle.isle_target.specs.Spelling.{args_tokens}
+use Rattle.isle_target.specs.StatementSpelling.{args_tokens}
 use Rattle.isle_target.proofs.call.print_args.Given as goal
 
 abbrev pub invariant-loop-read : goal.invariant-loop-read

@@ -1,6 +1,7 @@
 use Rattle.std.proofs.Common.{◌++◌, ap, ◌∙◌}
 use Rattle.isle_tree.specs.Views.{body}
-use Rattle.isle_target.specs.Spelling.{function_head, params_tokens, result_part, body_tokens, close, function_tokens}
+use Rattle.isle_target.specs.StatementSpelling.{body_tokens, close}
+use Rattle.isle_target.specs.Spelling.{function_head, params_tokens, result_part, function_tokens}
 use Rattle.isle_target.proofs.Prints.{five_pieces}
 use Rattle.isle_target.proofs.function.print_function.Goals as goal
 
@@ -12,7 +13,7 @@ returns c =
     c.in_ok-line.ensures
     (c.in_ok-print_head.ensures ∙ ap (λ t. c.line.new.self ++ function_head t) c.as_str.ensures)
     (c.in_ok-print_params.ensures ∙ ap (λ t. c.print_head.new.out ++ params_tokens 0 t) c.as_slice.ensures)
-    (c.in_ok-print_arrow.ensures ∙ ap (λ t. c.print_params.new.out ++ result_part f.kind t) c.as_str-2.ensures)
-    (c.in_ok-print_body.ensures ∙ ap (λ t. c.print_arrow.new.out ++ body_tokens (body t)) c.as_slice-2.ensures)
+    (c.in_ok-print_gives.ensures ∙ ap (λ t. c.print_params.new.out ++ result_part f.kind t) c.as_str-2.ensures)
+    (c.in_ok-print_body.ensures ∙ ap (λ t. c.print_gives.new.out ++ body_tokens (body t)) c.as_slice-2.ensures)
     c.in_ok-mark.ensures
     c.line-2.ensures

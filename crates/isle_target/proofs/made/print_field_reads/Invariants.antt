@@ -1,7 +1,7 @@
 use Rattle.std.proofs.Common.{◌≡◌, ◌++◌, drop}
 use Rattle.std.specs.List.{AllByRecursion}
 use Rattle.isle_tree.specs.WellFormed.{IsFieldRead}
-use Rattle.isle_target.specs.Spelling.{field_reads_tokens}
+use Rattle.isle_target.specs.StatementSpelling.{field_reads_tokens}
 use Rattle.isle_target.proofs.made.print_field_reads.Given as goal
 
 abbrev pub invariant-loop-field : goal.invariant-loop-field

@@ -1,7 +1,7 @@
 use Rattle.std.proofs.Common.{◌≡◌, ◌++◌, drop}
 use Rattle.std.specs.List.{AllByRecursion}
 use Rattle.isle_tree.specs.WellFormed.{IsBind}
-use Rattle.isle_target.specs.Spelling.{binds_tokens}
+use Rattle.isle_target.specs.StatementSpelling.{binds_tokens}
 use Rattle.isle_target.proofs.pattern.print_binds.Given as goal
 
 abbrev pub invariant-loop-bind : goal.invariant-loop-bind

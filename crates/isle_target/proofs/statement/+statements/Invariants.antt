@@ -1,6 +1,6 @@
 use Rattle.std.proofs.Common.{◌≡◌, ◌++◌, drop}
 use Rattle.isle_tree.specs.Views.{body}
-use Rattle.isle_target.specs.Spelling.{body_tokens}
+use Rattle.isle_target.specs.StatementSpelling.{body_tokens}
 use Rattle.isle_tree.specs.WellFormed.{IsBody}
 use Rattle.isle_target.proofs.statement.+statements.Given as goal
 

@@ -1,5 +1,5 @@
 use Rattle.isle_judging.proofs.Ending.{parted, by_last, not_front}
-use Rattle.isle_judging.proofs.fits.fits_function.Goals as goal
+use Rattle.isle_judging.proofs.fits.fits_ending.Goals as goal
 
 pub returns-then-not-fits_body : goal.returns-then-not-fits_body
 returns-then-not-fits_body c =
