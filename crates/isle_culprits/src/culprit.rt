@@ -37,8 +37,10 @@ pub enum Flaw {
     Partial,
     /// A term that is not `pure` is called in a `pure` one.
     Impure,
-    /// A `multi` term stands in a rule of one that is not `multi`.
+    /// A `multi` term is called in a rule of one that is not `multi`.
     Multi,
+    /// A pattern uses a `multi` term, by itself or through templates, in a rule of one that is not `multi`.
+    MultiTaken,
 }
 
 /// A part that breaks a row, and what is wrong with it.
@@ -67,6 +69,7 @@ fn first<'d>(firsts: &Firsts<'d>, row: Row) -> Option<Culprit<'d>> {
         Row::LiteralMisfit => (Flaw::Misplaced, firsts.misplaced),
         Row::ConstantUndeclared => (Flaw::Undeclared, firsts.undeclared),
         Row::VariableTypeMisfit => (Flaw::MetOtherwise, firsts.met_otherwise),
+        Row::MultiExtractor => (Flaw::MultiTaken, firsts.multi_taken),
         Row::ExprNameMisfit => (Flaw::Unknown, firsts.unknown),
         Row::ExprTypeMisfit => (Flaw::Mistyped, firsts.mistyped),
         Row::ImpureCondition => (Flaw::InCondition, firsts.impure),
@@ -80,7 +83,7 @@ fn first<'d>(firsts: &Firsts<'d>, row: Row) -> Option<Culprit<'d>> {
         Row::TypeMissing | Row::ManyArguments | Row::MultiAndPartial => return None,
         Row::TermUndeclared | Row::SecondOfTerm | Row::InfallibleMulti => return None,
         Row::ParametersMisfit | Row::ConverterMisfit | Row::HeadMisfit => return None,
-        Row::ExtractorReachesItself | Row::MultiExtractor | Row::ManyNodes => return None,
+        Row::ExtractorReachesItself | Row::ManyNodes => return None,
     };
     Some(Culprit { flaw, part: first? })
 }

@@ -12,6 +12,7 @@ pub struct Firsts<'d> {
     pub misplaced: Option<Part<'d>>,
     pub undeclared: Option<Part<'d>>,
     pub met_otherwise: Option<Part<'d>>,
+    pub multi_taken: Option<Part<'d>>,
     pub unknown: Option<Part<'d>>,
     pub mistyped: Option<Part<'d>>,
     pub partial: Option<Part<'d>>,
@@ -50,6 +51,9 @@ impl<'d> Firsts<'d> {
         }
         if rows.met_otherwise & self.met_otherwise.is_none() {
             self.met_otherwise = Some(part);
+        }
+        if rows.multi_taken & self.multi_taken.is_none() {
+            self.multi_taken = Some(part);
         }
         if rows.unknown & self.unknown.is_none() {
             self.unknown = Some(part);

@@ -152,6 +152,14 @@ pub fn push_culprit(
         Flaw::Multi => {
             words.push_str(told(alloc, " is multi, and '", term, "' is not")?.as_str())?;
         }
+        Flaw::MultiTaken => {
+            words.push_str(told(
+                alloc,
+                " is multi in a pattern, and '",
+                term,
+                "' is not",
+            )?.as_str())?;
+        }
     }
     Ok(())
 }

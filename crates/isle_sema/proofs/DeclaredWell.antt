@@ -33,16 +33,14 @@ use Rattle.isle_terms.specs.TypeNames.{type_named}
 use Rattle.isle_terms.specs.Whole.{whole_of, declared, termed}
 use Rattle.isle_terms.proofs.MadeTerms.{before_both, all_at}
 use Rattle.isle_sema.specs.Fault.{OfTerms, fault_in}
-use Rattle.isle_sema.specs.Language.{is_built_def}
 use Rattle.isle_sema.proofs.Conversions.{term_alone, declared_there}
 use Rattle.isle_sema.proofs.NamesApart.{terms_apart, made_apart, declared_unmade}
 use Rattle.isle_sema.proofs.RuleRoots.{signature_at}
 use Rattle.isle_sema.proofs.TermFaults.{names_no_type, TermParts, terms_kept}
 use Rattle.isle_sema.proofs.TreedPatterns.{IsTypedTerm, KnowsTypes, numbered}
 
--- definitions that are built break no row of types or of terms
+-- definitions break no row of types or of terms
 pub record AreDeclaredWell (defs : List Def) : Type 0 where
-  pub built : list_all is_built_def defs ≡ true
   pub types : type_fault defs ≡ None
   pub terms : fault_in OfTerms (whole_of defs) ≡ None
 
@@ -165,7 +163,7 @@ term_typed all s h =
 
 -- what the rows of terms keep
 pub declarations_kept : (defs : List Def) → AreDeclaredWell defs → TermParts defs [] defs
-declarations_kept defs d = terms_kept defs [] defs d.built d.terms
+declarations_kept defs d = terms_kept defs [] defs d.terms
 
 -- the types of each term are declared
 pub knows_types : (defs : List Def) → AreDeclaredWell defs → KnowsTypes (whole_of defs)

@@ -28,7 +28,7 @@ use Rattle.isle_terms.proofs.MadeTerms.{first_there, made_of, term_is}
 use Rattle.isle_sema.specs.RulePass.{rule_pass, rules_pass}
 use Rattle.isle_sema.specs.Typing.{Typed}
 use Rattle.isle_sema.proofs.RuleRoots.{rule_made}
-use Rattle.isle_sema.proofs.TypedParts.{typed_in}
+use Rattle.isle_sema.proofs.TypedParts.{given_in}
 use Rattle.isle_sema.proofs.TypedTemplates.{number_at}
 
 -- a term of this kind is called through its rules
@@ -86,7 +86,7 @@ id_there env id lt =
 -- a term that is called through its rules has one
 pub internal_ruled : (defs : List Def) (env : Environment) → Typed defs env → (id : TermId) (t : Term) → slice_get env.terms id.0 ≡ Some t → IsRuled t.kind → Contains (with_rules env) id
 internal_ruled defs env h id t at ruled =
-    let g = typed_in h in
+    let g = given_in h in
     let w = whole_of defs in
     let m = made_of w (terms defs) env.terms id.0 t g.terms at in
     let s = m.signature in

@@ -6,8 +6,8 @@ use Rattle.isle_core.specs.declared.rules.Rule.{Rule as CodeRule}
 use Rattle.isle_declarations.specs.Signatures.{rule_defs}
 use Rattle.isle_types.specs.declared.row.Row.{Row}
 use Rattle.isle_terms.specs.Whole.{Whole}
-use Rattle.isle_templates.specs.declared.templates.Templates.{Templates}
 use Rattle.isle_sema.specs.declared.fault.Fault.{Fault}
+use Rattle.isle_sema.specs.declared.templates.Extractors.{Extractors}
 use Rattle.isle_sema.specs.Fault.{OfExtractors, OfRules, or_later, fault_in, later_fault}
 use Rattle.isle_sema.specs.RulesFound.{rules_fault, AreRulesFound}
 use Rattle.isle_sema.specs.TakenAt.{AreRulesAt}
@@ -23,7 +23,7 @@ pub rules_behind : (w : Whole) (o : Option (Row × Pos)) → fault_in OfExtracto
 rules_behind w o none h = ap (λ x. or_later x (fault_in OfRules w)) none ∙ rules_fault_is w [] w.defs ∙ h
 
 -- what is found of rules, behind templates that are taken
-pub rules_given : (w : Whole) (taken : Templates) (found : Result (Option (Vec CodeRule)) Fault) → AreTaken w taken → AreRulesFound w found → AreRulesAt w found
+pub rules_given : (w : Whole) (taken : Extractors) (found : Result (Option (Vec CodeRule)) Fault) → AreTaken w taken → AreRulesFound w found → AreRulesAt w found
 rules_given w taken (Err fault) t h = rules_behind w (Some (fault.row, fault.pos)) t.sound h
 rules_given w taken (Ok None) t h = record { sound = rules_behind w None t.sound h.0; left = h.1 }
 rules_given w taken (Ok (Some rules)) t h = record { sound = rules_behind w None t.sound h.0; treed = t.treed; taken = sym h.1 }

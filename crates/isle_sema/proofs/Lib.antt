@@ -3,7 +3,6 @@ pub mod Firsts
 pub mod KnownLaws
 pub mod TermFaults
 pub mod BuiltForms
-pub mod FormSteps
 pub mod CallLaws
 pub mod Steps
 pub mod LetSteps
@@ -51,7 +50,7 @@ pub mod InternalTerms
 pub mod TreedExprs
 pub mod TreedRules
 pub mod MadeConverters
-pub mod BuiltTyped
+pub mod SoundTyped
 pub mod BuiltRules
 pub mod OpenedTypes
 pub mod StandingPaths
@@ -64,3 +63,5 @@ pub mod PassedConditions
 pub mod TypedFields
 pub mod SerializableRules
 pub mod ToldFaults
+pub mod TreeUses
+pub mod SingleRules

@@ -43,4 +43,4 @@ all_made defs done (c ∷ cs) d h =
 
 -- the converters of such definitions are made
 pub converters_made : (defs : List Def) → AreDeclaredWell defs → (xs : List (TypeId × TypeId × TermId)) × (converters_pass (whole_of defs) (converters defs) ≡ Some xs)
-converters_made defs d = all_made defs [] (converters defs) d (converters_kept defs [] defs d.built d.terms)
+converters_made defs d = all_made defs [] (converters defs) d (converters_kept defs [] defs d.terms)

@@ -111,18 +111,18 @@ outer_term defs env name s number ty g is numbered has ret none = by (is_made s.
     by : (made : Bool) → is_made s.origin ≡ made → IsOpenedOuter defs env s ty number
     by true made =
         let found = slice_get env.terms number.0 in
-        let m = made_form defs env name s number ty g g.types_kept is numbered made ret in
+        let m = made_form defs env name s number ty g g.given.types_kept is numbered made ret in
         record { types = m.1; opens = opens_made ty (making env number) found m.0; parts = made_parts env ty (making env number) found m.0 ∙ m.2; args = m.3 }
     by false other =
         let w = whole_of defs in
         let at = signature_at w name s number is numbered in
-        let m = term_made w (terms defs) env.terms number.0 s g.terms at in
+        let m = term_made w (terms defs) env.terms number.0 s g.given.terms at in
         let t = m.term in
         let k = term_is w s t m.made in
         let plain = all_at IsPlainTerm (terms defs) number.0 s (plain_terms defs g.built) at other in
         let kind : kind_from w s t.ret_ty s.origin ≡ t.kind = ap (λ (u : Term). u.kind) k.is in
         let makes : making env number ≡ MakesNothing = ap making_of m.there ∙ ap making_kind (sym kind) ∙ kind_unmade w s t.ret_ty s.origin other in
-        let outer : (x : ExtractorDef) → extractor_named (extractors defs) s.term ≡ Some x → IsOuter x.by = λ x e. outer_at w s.term x g.treed e (sym (ap (option_and_then (λ (y : ExtractorDef). template_tree w s.term y.by)) e) ∙ sym (template_there w number s at) ∙ none) in
+        let outer : (x : ExtractorDef) → extractor_named (extractors defs) s.term ≡ Some x → IsOuter x.by = λ x e. outer_at w s.term x g.given.treed e (sym (ap (option_and_then (λ (y : ExtractorDef). template_tree w s.term y.by)) e) ∙ sym (template_there w number s at) ∙ none) in
         let how : IsExtractorKind t.kind = subst IsExtractorKind kind (kind_extracts w s t.ret_ty s.origin other plain (or_second (is_made s.origin) (is_some (extractor_named (extractors defs) s.term)) other has) outer) in
         let opens : OpensType ty MakesNothing (Some t) = (how, same_Some t.ret_ty ty (sym k.ret ∙ ret)) in
         record {
@@ -148,7 +148,7 @@ opened_term defs env name s number ty g is numbered has ret = by (template_of (t
         }
     by (Some q) some =
         let w = whole_of defs in
-        let m = term_made w (terms defs) env.terms number.0 s g.terms (signature_at w name s number is numbered) in
+        let m = term_made w (terms defs) env.terms number.0 s g.given.terms (signature_at w name s number is numbered) in
         let k = term_is w s m.term m.made in
         let gives : m.term.ret_ty ≡ ty = same_Some m.term.ret_ty ty (sym k.ret ∙ ret) in
         record {

@@ -1,4 +1,5 @@
 -- The rules that are taken break no row, and have trees.
+use denote.Ref.{Bor}
 use Rattle.std.proofs.Common.{◌≡◌, ℕ, zero, suc, ◌+◌, ◌<◌, ◌≤◌, length, arith, Bool, true, false, cond, List, [], ◌∷◌, ◌++◌, map, Option, Some, None, Result, Ok, Err, refl, sym, ap, ◌∙◌}
 use Rattle.std.specs.Prelude.{IfOk, not, nat_le, is_some, option_map, option_and_then, slice_get}
 use Rattle.std.specs.List.{list_any}
@@ -47,7 +48,7 @@ use Rattle.isle_declarations.specs.Symbols.{index_of}
 use Rattle.isle_declarations.specs.Heads.{terms_of}
 use Rattle.isle_sema.specs.Taken.{row_of, taken_rule, taken_rules}
 use Rattle.isle_sema.proofs.Firsts.{later_none, none_later}
-use Rattle.isle_sema.proofs.Judgements.{lowest_is}
+use Rattle.isle_sema.proofs.Judgements.{AreMultis, lowest_is}
 use Rattle.isle_declarations.proofs.LookUps.{at_place, named_at, named_is}
 use Rattle.isle_declarations.proofs.SymbolLaws.{index_below}
 use Rattle.isle_terms.proofs.MadeTerms.{first_there, before_both}
@@ -138,9 +139,9 @@ number_is sigs name = by (signature_named sigs name) refl
     by (Some s) e = ap (term_named sigs) (named_is sigs name s e)
 
 -- what is elaborated at the types of a declared head are both sides of the rule, and its conditions
-pub sides_are : (w : Whole) (r : RuleDef) (own : Called) (sides : Sides) (old bound vars : Scope) (next : ℕ) (found : Option CodeExpr × ℕ) (before middle first : Judged) → IsHead w r.term own → old ≡ no_variables → before ≡ unjudged → next ≡ vars.next → first ≡ unjudged → sides.rhs ≡ found.0
-    → ArePatternsAt w own.args.now (seen_patterns r.args) old bound before middle sides.args → AreConditionsAt w r.iflets bound vars middle sides.left.rows sides.iflets → IsExprOver w (Some own.ret) r.rhs vars next first sides.right.rows found → AreSides w r sides
-sides_are w r own sides old bound vars next found before middle first h none start begun again whole ps cs e =
+pub sides_are : (w : Whole) (r : RuleDef) (own : Called) (multis : Bor (List Bool)) (sides : Sides) (old bound vars : Scope) (next : ℕ) (found : Option CodeExpr × ℕ) (before middle first : Judged) → IsHead w r.term own → old ≡ no_variables → before ≡ unjudged multis → next ≡ vars.next → first ≡ unjudged multis → sides.rhs ≡ found.0
+    → ArePatternsAt w own.args.now (seen_patterns r.args) old bound before middle sides.args → AreConditionsAt w r.iflets bound vars middle sides.left.rows sides.iflets → IsExprOver w (Some own.ret) r.rhs vars next first sides.right.rows found → AreSides w r multis sides
+sides_are w r own multis sides old bound vars next found before middle first h none start begun again whole ps cs e =
     let is = h.there in
     let patterns : patterns_pass w (map Some own.args.now) old (seen_patterns r.args) ≡ patterns_of w r =
     ap (λ (scope : Scope). patterns_pass w (map Some own.args.now) scope (seen_patterns r.args)) none ∙ ap (λ os. patterns_pass w os no_variables (seen_patterns r.args)) (sym h.called.args) ∙ ap (λ o. patterns_pass w (arg_types w o) no_variables (seen_patterns r.args)) (sym is) in
@@ -149,12 +150,12 @@ sides_are w r own sides old bound vars next found before middle first h none sta
     let own_side : Option TypeId → ExprPass = λ ty. expr_pass w (of_patterns (conditions_of w r).scope) (conditions_of w r).scope.next ty r.rhs in
     let right : expr_pass w (of_patterns vars) next (Some own.ret) r.rhs ≡ right_side_of w r =
     ap (λ n. expr_pass w (of_patterns vars) n (Some own.ret) r.rhs) begun ∙ ap (λ (s : Scope). expr_pass w (of_patterns s) s.next (Some own.ret) r.rhs) scope ∙ ap own_side (sym h.called.ret) ∙ ap (λ o. own_side (ret_type w o)) (sym is) in
-    let argued : middle ≡ judge_all w unjudged (patterns_of w r).sites = ps.sites ∙ ap (λ (p : PatternsPass). judge_all w before p.sites) patterns ∙ ap (λ (j : Judged). judge_all w j (patterns_of w r).sites) start in
+    let argued : middle ≡ judge_all w (unjudged multis) (patterns_of w r).sites = ps.sites ∙ ap (λ (p : PatternsPass). judge_all w before p.sites) patterns ∙ ap (λ (j : Judged). judge_all w j (patterns_of w r).sites) start in
     record {
       trees = ps.trees ∙ ap (λ (p : PatternsPass). p.trees) patterns;
       tree = ap (option_map elaborated_expr) whole ∙ e.tree ∙ ap (λ (x : ExprPass). x.tree) right;
       conditions = cs.trees ∙ ap (λ (c : ConditionsPass). c.trees) conditions;
-      left = cs.sites ∙ ap (λ (c : ConditionsPass). judge_all w middle c.sites) conditions ∙ ap (λ (j : Judged). judge_all w j (conditions_of w r).sites) argued ∙ sym (fold-append (judge w) unjudged (patterns_of w r).sites (conditions_of w r).sites);
+      left = cs.sites ∙ ap (λ (c : ConditionsPass). judge_all w middle c.sites) conditions ∙ ap (λ (j : Judged). judge_all w j (conditions_of w r).sites) argued ∙ sym (fold-append (judge w) (unjudged multis) (patterns_of w r).sites (conditions_of w r).sites);
       right = e.sites ∙ ap (λ (x : ExprPass). judge_all w first x.sites) right ∙ ap (λ (j : Judged). judge_all w j (right_side_of w r).sites) again;
     }
 
@@ -166,11 +167,11 @@ untreed w i r h = by (is_broken w r)
     by false = sym (ap (option_map (elaborated (templates w))) h)
 
 -- what the code finds is a row that the rule breaks, before that of its nodes
-pub lowest_found : (w : Whole) (r : RuleDef) (own : Called) (sides : Sides) (found : Option Row) (count : ℕ) → IsHead w r.term own → AreSides w r sides → count ≡ length r.args → found ≡ lowest own count sides.left.rows sides.right.rows → or_later found (cond (is_large w r) (Some row.ManyNodes) None) ≡ row_of w r
-lowest_found w r own sides found count h p as_many f =
+pub lowest_found : (w : Whole) (r : RuleDef) (own : Called) (multis : Bor (List Bool)) (sides : Sides) (found : Option Row) (count : ℕ) → AreMultis w multis.now → IsHead w r.term own → AreSides w r multis sides → count ≡ length r.args → found ≡ lowest own count sides.left.rows sides.right.rows → or_later found (cond (is_large w r) (Some row.ManyNodes) None) ≡ row_of w r
+lowest_found w r own multis sides found count marks h p as_many f =
     ap (λ o. or_later o (cond (is_large w r) (Some row.ManyNodes) None)) (f ∙ ap (λ n. lowest own n sides.left.rows sides.right.rows) as_many ∙ ap (λ (j : Judged). lowest own (length r.args) j sides.right.rows) p.left
-    ∙ ap (λ (j : Judged). lowest own (length r.args) (judge_all w unjudged (left_of w r)) j) p.right)
-    ∙ lowest_is w r h.signature own h.there h.called
+    ∙ ap (λ (j : Judged). lowest own (length r.args) (judge_all w (unjudged multis) (left_of w r)) j) p.right)
+    ∙ lowest_is w r h.signature own multis marks h.there h.called
 
 -- the tree of a rule of these parts
 abbrev made : Whole → ℕ → RuleDef → Option TermId → Option (List CorePattern) → Option (List CoreIfLet) → Option CoreExpr → Option CoreRule

@@ -14,7 +14,7 @@ use Rattle.isle_sema.specs.RulePass.{rule_pass, rules_pass}
 use Rattle.isle_terms.specs.Whole.{whole_of}
 use Rattle.isle_sema.specs.Typing.{Typed}
 use Rattle.isle_terms.proofs.MadeTerms.{first_there}
-use Rattle.isle_sema.proofs.TypedParts.{typed_in}
+use Rattle.isle_sema.proofs.TypedParts.{given_in}
 use Rattle.isle_sema.proofs.RuleRoots.{rule_made}
 
 -- a definition stands there
@@ -63,6 +63,6 @@ passed w i (r ∷ rules) xs x h c =
 pub rule_places : (defs : List Def) (env : Environment) (r : Rule) → Typed defs env → Contains env.rules r → (d : Def) × Contains defs d × (place_of d ≡ r.pos)
 unfolding StandsAt
 rule_places defs env r h c =
-    let p = passed (whole_of defs) 0 (rule_defs defs) env.rules r (typed_in h).rules c in
+    let p = passed (whole_of defs) 0 (rule_defs defs) env.rules r (given_in h).rules c in
     let s = stands_at defs p.given p.among in
     (s.0, s.1, s.2 ∙ p.pos)

@@ -25,7 +25,7 @@ use Rattle.isle_core.proofs.Contained.{head_contained, tail_contained, contained
 use Rattle.isle_core.proofs.ListLaws.{filter_keeps}
 use Rattle.isle_ast.specs.Tree.{Def}
 use Rattle.isle_templates.specs.TypedRule.{IsRuleOf}
-use Rattle.isle_sema.specs.Typing.{Typed}
+use Rattle.isle_sema.specs.Typing.{TypedBuilt}
 use Rattle.isle_sema.proofs.FalliblePaths.{Fallible, rules_fallible}
 use Rattle.isle_sema.proofs.TestablePatterns.{IsTestableAt, AreTestableAt, constraints_testable, HasConstraints, AreComparableAt}
 use Rattle.isle_sema.proofs.PassedConditions.{rule_testable, rule_placed, rule_compares}
@@ -137,5 +137,5 @@ rules_serializable env id t s h stands =
     }
 
 -- a rule set that stands for the rules of a term is ready
-pub set_serializable : (defs : List Def) (env : Environment) (id : TermId) (t : Term) (s : RuleSet) → Typed defs env → slice_get env.terms id.0 ≡ Some t → StandsFor env s (rules_of env id) → IsSerializable env t s
+pub set_serializable : (defs : List Def) (env : Environment) (id : TermId) (t : Term) (s : RuleSet) → TypedBuilt defs env → slice_get env.terms id.0 ≡ Some t → StandsFor env s (rules_of env id) → IsSerializable env t s
 set_serializable defs env id t s h there stands = rules_serializable env id t s (typed_of defs env id t h there) stands

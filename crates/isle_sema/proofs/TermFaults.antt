@@ -4,7 +4,7 @@ use Rattle.std.specs.Prelude.{◌&&◌, ◌||◌, not, is_some, nat_le}
 use Rattle.std.specs.List.{list_all, list_any, cons_option}
 use Rattle.std.proofs.lemmas.List.{append-nil}
 use Rattle.std.proofs.lemmas.List.Elements.{filter_map-append}
-use Rattle.std.proofs.lemmas.Bool.{or_parts, or_from, and_parts}
+use Rattle.std.proofs.lemmas.Bool.{or_parts, or_from}
 use Rattle.isle_ast.specs.Tree as tree
 use Rattle.isle_ast.specs.Tree.{Def}
 use Rattle.isle_declarations.specs.Symbols.{index_of}
@@ -14,7 +14,6 @@ use Rattle.isle_terms.specs.TypeNames.{type_named}
 use Rattle.isle_declarations.specs.Signatures.{Signature, Extern, ByTemplate, ExtractorDef, RuleDef, signature_of, extern_of, extractor_of, signatures, externs, extractors, rule_defs, signature_named, func_named}
 use Rattle.isle_declarations.specs.Heads.{terms_of, extern_terms, extractor_terms}
 use Rattle.isle_declarations.specs.Repeats.{repeats_after}
-use Rattle.isle_sema.specs.Language.{is_built_def}
 use Rattle.isle_terms.specs.Converters.{Conversion, converter_of, converters, is_misfit}
 use Rattle.isle_terms.specs.DeclarationRows.{template_misfit}
 use Rattle.isle_terms.specs.Tests.{has_undeclared, has_unknown, have_misfit}
@@ -116,18 +115,17 @@ templated_kept false false true h = absurd cc
 templated_kept false false false h = (refl, refl, refl)
 
 -- the rows of terms are kept: each test fails
-pub terms_kept : (all before ds : List Def) → list_all is_built_def ds ≡ true → fault_after OfTerms (whole_of all) before ds ≡ None → TermParts all before ds
-terms_kept all before [] f h = record { apart = refl; unmade = refl; typed = refl; few = refl; externs_apart = refl; extractors_apart = refl; known = refl; extracted = refl; fitted = refl; heads = refl }
-terms_kept all before (tree.Decl term pure multi partial recursive args ret pos ∷ ds) f h =
+pub terms_kept : (all before ds : List Def) → fault_after OfTerms (whole_of all) before ds ≡ None → TermParts all before ds
+terms_kept all before [] h = record { apart = refl; unmade = refl; typed = refl; few = refl; externs_apart = refl; extractors_apart = refl; known = refl; extracted = refl; fitted = refl; heads = refl }
+terms_kept all before (tree.Decl term pure multi partial recursive args ret pos ∷ ds) h =
     let d = tree.Decl term pure multi partial recursive args ret pos in
     let s : Signature = record { term = term; pure = pure; multi = multi; partial = partial; recursive = recursive; args = args; ret = ret; pos = pos; origin = origin.Declared } in
     let names = terms_of (signatures before) in
-    let g = and_parts (is_built_def d) (list_all is_built_def ds) f in
     let l = later_none (λ (r : Row). (r, pos)) (broken_in OfTerms (record { whole = whole_of all; before = before }) d) (fault_after OfTerms (whole_of all) (before ++ d ∷ []) ds) h in
     let n = decl_kept (is_some (index_of names term) || is_made_twice all s) (names_no_type all s) (has_too_many s) (multi && partial) l.0 in
     let k = or_parts (is_some (index_of names term)) (is_made_twice all s) n.0 in
     let rest : AreTestedIn all (names ++ term ∷ []) (extern_terms (externs before)) (extractor_terms (extractors before)) ds =
-    same_tests (grown signature_of (λ (x : Signature). x.term) before d) (not_external before d refl) (not_extracting before d refl) (terms_kept all (before ++ d ∷ []) ds g.1 l.1) in
+    same_tests (grown signature_of (λ (x : Signature). x.term) before d) (not_external before d refl) (not_extracting before d refl) (terms_kept all (before ++ d ∷ []) ds l.1) in
     record {
       apart = or_from (is_some (index_of names term)) (repeats_after (names ++ term ∷ []) (terms_of (signatures ds))) k.0 rest.apart;
       unmade = or_from (is_made_twice all s) (list_any (is_made_twice all) (signatures ds)) k.1 rest.unmade;
@@ -140,7 +138,7 @@ terms_kept all before (tree.Decl term pure multi partial recursive args ret pos 
       fitted = rest.fitted;
       heads = rest.heads;
     }
-terms_kept all before (tree.ExternConstructor term func pos ∷ ds) f h =
+terms_kept all before (tree.ExternConstructor term func pos ∷ ds) h =
     let d = tree.ExternConstructor term func pos in
     let external = extern_terms (externs before) in
     let l = later_none (λ (r : Row). (r, pos)) (broken_in OfTerms (record { whole = whole_of all; before = before }) d) (fault_after OfTerms (whole_of all) (before ++ d ∷ []) ds) h in
@@ -148,7 +146,7 @@ terms_kept all before (tree.ExternConstructor term func pos ∷ ds) f h =
     let unknown = not (is_some (signature_named (signatures all) term)) in
     let k = named_kept unknown again false l.0 in
     let rest : AreTestedIn all (terms_of (signatures before)) (external ++ term ∷ []) (extractor_terms (extractors before)) ds =
-    same_tests (undeclared before d refl) (grown extern_of (λ (x : Extern). x.term) before d) (not_extracting before d refl) (terms_kept all (before ++ d ∷ []) ds f l.1) in
+    same_tests (undeclared before d refl) (grown extern_of (λ (x : Extern). x.term) before d) (not_extracting before d refl) (terms_kept all (before ++ d ∷ []) ds l.1) in
     record {
       apart = rest.apart;
       unmade = rest.unmade;
@@ -161,7 +159,7 @@ terms_kept all before (tree.ExternConstructor term func pos ∷ ds) f h =
       fitted = rest.fitted;
       heads = rest.heads;
     }
-terms_kept all before (tree.ExternExtractor term func infallible pos ∷ ds) f h =
+terms_kept all before (tree.ExternExtractor term func infallible pos ∷ ds) h =
     let d = tree.ExternExtractor term func infallible pos in
     let extracting = extractor_terms (extractors before) in
     let l = later_none (λ (r : Row). (r, pos)) (broken_in OfTerms (record { whole = whole_of all; before = before }) d) (fault_after OfTerms (whole_of all) (before ++ d ∷ []) ds) h in
@@ -169,7 +167,7 @@ terms_kept all before (tree.ExternExtractor term func infallible pos ∷ ds) f h
     let unknown = not (is_some (signature_named (signatures all) term)) in
     let k = extern_kept unknown again _ l.0 in
     let rest : AreTestedIn all (terms_of (signatures before)) (extern_terms (externs before)) (extracting ++ term ∷ []) ds =
-    same_tests (undeclared before d refl) (not_external before d refl) (grown extractor_of (λ (x : ExtractorDef). x.term) before d) (terms_kept all (before ++ d ∷ []) ds f l.1) in
+    same_tests (undeclared before d refl) (not_external before d refl) (grown extractor_of (λ (x : ExtractorDef). x.term) before d) (terms_kept all (before ++ d ∷ []) ds l.1) in
     record {
       apart = rest.apart;
       unmade = rest.unmade;
@@ -182,13 +180,12 @@ terms_kept all before (tree.ExternExtractor term func infallible pos ∷ ds) f h
       fitted = rest.fitted;
       heads = rest.heads;
     }
-terms_kept all before (tree.Rule name prio term args iflets rhs pos ∷ ds) f h =
+terms_kept all before (tree.Rule name prio term args iflets rhs pos ∷ ds) h =
     let d = tree.Rule name prio term args iflets rhs pos in
     let r : RuleDef = record { name = name; prio = prio; term = term; args = args; iflets = iflets; rhs = rhs; pos = pos } in
-    let g = and_parts (is_built_def d) (list_all is_built_def ds) f in
     let l = later_none (λ (r : Row). (r, pos)) (broken_in OfTerms (record { whole = whole_of all; before = before }) d) (fault_after OfTerms (whole_of all) (before ++ d ∷ []) ds) h in
     let k = first_none (is_headless all r) row.HeadMisfit None l.0 in
-    let rest = behind all before d ds refl refl refl (terms_kept all (before ++ d ∷ []) ds g.1 l.1) in
+    let rest = behind all before d ds refl refl refl (terms_kept all (before ++ d ∷ []) ds l.1) in
     record {
       apart = rest.apart;
       unmade = rest.unmade;
@@ -201,13 +198,13 @@ terms_kept all before (tree.Rule name prio term args iflets rhs pos ∷ ds) f h 
       fitted = rest.fitted;
       heads = or_from (is_headless all r) (list_any (is_headless all) (rule_defs ds)) k.0 rest.heads;
     }
-terms_kept all before (tree.TypeDecl name is_extern is_nodebug body pos ∷ ds) f h =
+terms_kept all before (tree.TypeDecl name is_extern is_nodebug body pos ∷ ds) h =
     let d = tree.TypeDecl name is_extern is_nodebug body pos in
-    behind all before d ds refl refl refl (terms_kept all (before ++ d ∷ []) ds f h)
-terms_kept all before (tree.ExternConst name ty pos ∷ ds) f h =
+    behind all before d ds refl refl refl (terms_kept all (before ++ d ∷ []) ds h)
+terms_kept all before (tree.ExternConst name ty pos ∷ ds) h =
     let d = tree.ExternConst name ty pos in
-    behind all before d ds refl refl refl (terms_kept all (before ++ d ∷ []) ds f h)
-terms_kept all before (tree.Extractor term params template pos ∷ ds) f h =
+    behind all before d ds refl refl refl (terms_kept all (before ++ d ∷ []) ds h)
+terms_kept all before (tree.Extractor term params template pos ∷ ds) h =
     let d = tree.Extractor term params template pos in
     let x : ExtractorDef = record { term = term; by = ByTemplate (record { params = params; pattern = template }); pos = pos } in
     let extracting = extractor_terms (extractors before) in
@@ -217,7 +214,7 @@ terms_kept all before (tree.Extractor term params template pos ∷ ds) f h =
     let misfit = template_misfit (whole_of all) x in
     let k = templated_kept unknown again misfit l.0 in
     let rest : AreTestedIn all (terms_of (signatures before)) (extern_terms (externs before)) (extracting ++ term ∷ []) ds =
-    same_tests (undeclared before d refl) (not_external before d refl) (grown extractor_of (λ (y : ExtractorDef). y.term) before d) (terms_kept all (before ++ d ∷ []) ds f l.1) in
+    same_tests (undeclared before d refl) (not_external before d refl) (grown extractor_of (λ (y : ExtractorDef). y.term) before d) (terms_kept all (before ++ d ∷ []) ds l.1) in
     record {
       apart = rest.apart;
       unmade = rest.unmade;
@@ -230,13 +227,13 @@ terms_kept all before (tree.Extractor term params template pos ∷ ds) f h =
       fitted = or_from misfit (list_any (template_misfit (whole_of all)) (extractors ds)) k.2 rest.fitted;
       heads = rest.heads;
     }
-terms_kept all before (tree.Converter from to term pos ∷ ds) f h =
+terms_kept all before (tree.Converter from to term pos ∷ ds) h =
     let d = tree.Converter from to term pos in
     let l = later_none (λ (r : Row). (r, pos)) (broken_in OfTerms (record { whole = whole_of all; before = before }) d) (fault_after OfTerms (whole_of all) (before ++ d ∷ []) ds) h in
-    behind all before d ds refl refl refl (terms_kept all (before ++ d ∷ []) ds f l.1)
-terms_kept all before (tree.Passed head items pos ∷ ds) f h =
+    behind all before d ds refl refl refl (terms_kept all (before ++ d ∷ []) ds l.1)
+terms_kept all before (tree.Passed head items pos ∷ ds) h =
     let d = tree.Passed head items pos in
-    behind all before d ds refl refl refl (terms_kept all (before ++ d ∷ []) ds f h)
+    behind all before d ds refl refl refl (terms_kept all (before ++ d ∷ []) ds h)
 
 -- ---- converters
 
@@ -255,46 +252,44 @@ converting_kept false true h = absurd cc
 converting_kept false false h = refl
 
 -- the rows of terms are kept: no converter is wrong
-pub converters_kept : (all before ds : List Def) → list_all is_built_def ds ≡ true → fault_after OfTerms (whole_of all) before ds ≡ None → have_misfit all (converters before) (converters ds) ≡ false
-converters_kept all before [] f h = refl
-converters_kept all before (tree.Converter from to term pos ∷ ds) f h =
+pub converters_kept : (all before ds : List Def) → fault_after OfTerms (whole_of all) before ds ≡ None → have_misfit all (converters before) (converters ds) ≡ false
+converters_kept all before [] h = refl
+converters_kept all before (tree.Converter from to term pos ∷ ds) h =
     let d = tree.Converter from to term pos in
     let x : Conversion = record { from = from; to = to; term = term } in
     let unknown = not (is_some (signature_named (signatures all) term)) in
     let l = later_none (λ (r : Row). (r, pos)) (broken_in OfTerms (record { whole = whole_of all; before = before }) d) (fault_after OfTerms (whole_of all) (before ++ d ∷ []) ds) h in
     let own = converting_kept unknown (is_misfit all (converters before) x) l.0 in
-    let rest = ap (λ cs. have_misfit all cs (converters ds)) (sym (converted_more before d x refl)) ∙ converters_kept all (before ++ d ∷ []) ds f l.1 in
+    let rest = ap (λ cs. have_misfit all cs (converters ds)) (sym (converted_more before d x refl)) ∙ converters_kept all (before ++ d ∷ []) ds l.1 in
     or_from (unknown || is_misfit all (converters before) x) (have_misfit all (converters before ++ x ∷ []) (converters ds)) own rest
-converters_kept all before (tree.Decl term pure multi partial recursive args ret pos ∷ ds) f h =
+converters_kept all before (tree.Decl term pure multi partial recursive args ret pos ∷ ds) h =
     let d = tree.Decl term pure multi partial recursive args ret pos in
-    let g = and_parts (is_built_def d) (list_all is_built_def ds) f in
     let l = later_none (λ (r : Row). (r, pos)) (broken_in OfTerms (record { whole = whole_of all; before = before }) d) (fault_after OfTerms (whole_of all) (before ++ d ∷ []) ds) h in
-    ap (λ cs. have_misfit all cs (converters ds)) (sym (unconverted before d refl)) ∙ converters_kept all (before ++ d ∷ []) ds g.1 l.1
-converters_kept all before (tree.ExternConstructor term func pos ∷ ds) f h =
+    ap (λ cs. have_misfit all cs (converters ds)) (sym (unconverted before d refl)) ∙ converters_kept all (before ++ d ∷ []) ds l.1
+converters_kept all before (tree.ExternConstructor term func pos ∷ ds) h =
     let d = tree.ExternConstructor term func pos in
     let l = later_none (λ (r : Row). (r, pos)) (broken_in OfTerms (record { whole = whole_of all; before = before }) d) (fault_after OfTerms (whole_of all) (before ++ d ∷ []) ds) h in
-    ap (λ cs. have_misfit all cs (converters ds)) (sym (unconverted before d refl)) ∙ converters_kept all (before ++ d ∷ []) ds f l.1
-converters_kept all before (tree.ExternExtractor term func infallible pos ∷ ds) f h =
+    ap (λ cs. have_misfit all cs (converters ds)) (sym (unconverted before d refl)) ∙ converters_kept all (before ++ d ∷ []) ds l.1
+converters_kept all before (tree.ExternExtractor term func infallible pos ∷ ds) h =
     let d = tree.ExternExtractor term func infallible pos in
     let l = later_none (λ (r : Row). (r, pos)) (broken_in OfTerms (record { whole = whole_of all; before = before }) d) (fault_after OfTerms (whole_of all) (before ++ d ∷ []) ds) h in
-    ap (λ cs. have_misfit all cs (converters ds)) (sym (unconverted before d refl)) ∙ converters_kept all (before ++ d ∷ []) ds f l.1
-converters_kept all before (tree.Rule name prio term args iflets rhs pos ∷ ds) f h =
+    ap (λ cs. have_misfit all cs (converters ds)) (sym (unconverted before d refl)) ∙ converters_kept all (before ++ d ∷ []) ds l.1
+converters_kept all before (tree.Rule name prio term args iflets rhs pos ∷ ds) h =
     let d = tree.Rule name prio term args iflets rhs pos in
-    let g = and_parts (is_built_def d) (list_all is_built_def ds) f in
     let l = later_none (λ (r : Row). (r, pos)) (broken_in OfTerms (record { whole = whole_of all; before = before }) d) (fault_after OfTerms (whole_of all) (before ++ d ∷ []) ds) h in
-    ap (λ cs. have_misfit all cs (converters ds)) (sym (unconverted before d refl)) ∙ converters_kept all (before ++ d ∷ []) ds g.1 l.1
-converters_kept all before (tree.TypeDecl name is_extern is_nodebug body pos ∷ ds) f h =
+    ap (λ cs. have_misfit all cs (converters ds)) (sym (unconverted before d refl)) ∙ converters_kept all (before ++ d ∷ []) ds l.1
+converters_kept all before (tree.TypeDecl name is_extern is_nodebug body pos ∷ ds) h =
     let d = tree.TypeDecl name is_extern is_nodebug body pos in
-    ap (λ cs. have_misfit all cs (converters ds)) (sym (unconverted before d refl)) ∙ converters_kept all (before ++ d ∷ []) ds f h
-converters_kept all before (tree.ExternConst name ty pos ∷ ds) f h =
+    ap (λ cs. have_misfit all cs (converters ds)) (sym (unconverted before d refl)) ∙ converters_kept all (before ++ d ∷ []) ds h
+converters_kept all before (tree.ExternConst name ty pos ∷ ds) h =
     let d = tree.ExternConst name ty pos in
-    ap (λ cs. have_misfit all cs (converters ds)) (sym (unconverted before d refl)) ∙ converters_kept all (before ++ d ∷ []) ds f h
-converters_kept all before (tree.Extractor term params template pos ∷ ds) f h =
+    ap (λ cs. have_misfit all cs (converters ds)) (sym (unconverted before d refl)) ∙ converters_kept all (before ++ d ∷ []) ds h
+converters_kept all before (tree.Extractor term params template pos ∷ ds) h =
     let d = tree.Extractor term params template pos in
     let l = later_none (λ (r : Row). (r, pos)) (broken_in OfTerms (record { whole = whole_of all; before = before }) d) (fault_after OfTerms (whole_of all) (before ++ d ∷ []) ds) h in
-    ap (λ cs. have_misfit all cs (converters ds)) (sym (unconverted before d refl)) ∙ converters_kept all (before ++ d ∷ []) ds f l.1
-converters_kept all before (tree.Passed head items pos ∷ ds) f h =
+    ap (λ cs. have_misfit all cs (converters ds)) (sym (unconverted before d refl)) ∙ converters_kept all (before ++ d ∷ []) ds l.1
+converters_kept all before (tree.Passed head items pos ∷ ds) h =
     let d = tree.Passed head items pos in
-    ap (λ cs. have_misfit all cs (converters ds)) (sym (unconverted before d refl)) ∙ converters_kept all (before ++ d ∷ []) ds f h
+    ap (λ cs. have_misfit all cs (converters ds)) (sym (unconverted before d refl)) ∙ converters_kept all (before ++ d ∷ []) ds h
 
 -- ---- the rows

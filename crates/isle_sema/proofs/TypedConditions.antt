@@ -108,7 +108,7 @@ conditions_typed defs env scope vars (c ∷ cs) xs g knows s h kept well =
     let rhs = own_typed defs env in_condition (of_patterns scope) vars next c.rhs f.first.rhs (stage_over defs env scope vars next g s le) m.rhs_is (kept_parts w in_condition right.sites left.sites k.0).0 in
     let at : (pattern_pass w (Some ty) scope c.lhs).tree ≡ Some f.first.lhs = ap (λ o. (pattern_pass w o scope c.lhs).tree) (sym expected) ∙ m.lhs_is in
     let taken = subst (λ o. AreTakenWell w (pattern_pass w o scope c.lhs).sites) expected (taken_parts w right.sites left.sites t.0).1 in
-    let lhs = pattern_typed defs env ty scope c.lhs f.first.lhs knows g.types at taken in
+    let lhs = pattern_typed defs env ty scope c.lhs f.first.lhs knows g.given.types at taken in
     let stage = condition_stage w own scope vars right.next c.lhs f.first.lhs s m.lhs_is in
     let others = conditions_typed defs env one.scope (vars ++ typed_variables f.first.lhs) cs f.others g knows stage f.found k.1 t.1 in
     subst (AreTypedConditions env (templates w) rest.scope vars) (sym f.all) (record { typed = (record { ty = ty; rhs = rhs; lhs = lhs }, others.typed); stage = others.stage })

@@ -84,8 +84,8 @@ kind_typed defs env allowed i s t origin.Declared g at plain is same has partial
     let either : is_some func || ruled ≡ true = ap (λ o. is_made o || is_some func || ruled) (sym is) ∙ has in
     subst (IsTermKind env allowed t) (ap (kind_from (whole_of defs) s t.ret_ty) (sym is) ∙ same)
     (declared_kind env t allowed s.pure s.multi s.recursive s.partial ruled (type_env_of defs).syms func (extracting_named (whole_of defs) s.term) (plain (ap is_made is)) either (allowed_where allowed.nothing s.partial partial, allowed_where allowed.impure (not s.pure) impure))
-kind_typed defs env allowed i s t (origin.Variant number) g at plain is same has partial impure = made_term defs env i t g g.types_kept at (ap is_made_kind (sym (ap (kind_from (whole_of defs) s t.ret_ty) (sym is) ∙ same))) allowed
-kind_typed defs env allowed i s t origin.Struct g at plain is same has partial impure = made_term defs env i t g g.types_kept at (ap is_made_kind (sym (ap (kind_from (whole_of defs) s t.ret_ty) (sym is) ∙ same))) allowed
+kind_typed defs env allowed i s t (origin.Variant number) g at plain is same has partial impure = made_term defs env i t g g.given.types_kept at (ap is_made_kind (sym (ap (kind_from (whole_of defs) s t.ret_ty) (sym is) ∙ same))) allowed
+kind_typed defs env allowed i s t origin.Struct g at plain is same has partial impure = made_term defs env i t g g.given.types_kept at (ap is_made_kind (sym (ap (kind_from (whole_of defs) s t.ret_ty) (sym is) ∙ same))) allowed
 
 -- ---- a call
 
@@ -151,7 +151,7 @@ called_typed : (defs : List Def) (env : Environment) (allowed : Allowed) (vars :
 called_typed defs env allowed vars ty of name s number args g is numbered has partial impure ret gives typed =
     let w = whole_of defs in
     let at = signature_at w name s number is numbered in
-    let m = term_made w (terms defs) env.terms number.0 s g.terms at in
+    let m = term_made w (terms defs) env.terms number.0 s g.given.terms at in
     let t = term_is w s m.term m.made in
     let same : m.term.ret_ty ≡ ty = same_Some m.term.ret_ty of (sym t.ret ∙ ret) ∙ gives in
     let takes = typed m.term.arg_tys (types_are defs s.args m.term.arg_tys t.args) in
@@ -355,8 +355,8 @@ named_typed defs env allowed vars ty name x g h kept =
     let m = mapped (λ (t : TypeId). core_expr.ConstPrim t (sym_of (type_env_of defs).syms name)) (constant_type w name) x h in
     let typed = (or_parts (is_mistyped w (ConstantAt false (Some ty) (constant_type w name))) false kept.typed).0 in
     let is : m.from ≡ ty = same_type m.from ty (ap (λ o. differ o (Some ty)) (sym m.there) ∙ typed) in
-    let known = constant_typed defs env name m.from g.types m.there in
-    let at : const_type env (sym_of (type_env_of defs).syms name) ≡ Some ty = ap (λ (ts : TypeEnv). const_type env (sym_of ts.syms name)) (sym g.types) ∙ known ∙ ap Some is in
+    let known = constant_typed defs env name m.from g.given.types m.there in
+    let at : const_type env (sym_of (type_env_of defs).syms name) ≡ Some ty = ap (λ (ts : TypeEnv). const_type env (sym_of ts.syms name)) (sym g.given.types) ∙ known ∙ ap Some is in
     subst (IsExprOf env allowed vars ty) m.is (is, at)
 
 mutual
@@ -365,10 +365,10 @@ mutual
       → AreKept (whole_of defs) allowed (expr_pass (whole_of defs) locals next (Some ty) e).sites → IsExprOf env allowed vars ty x
   expr_typed defs env allowed locals vars next ty (tree.Number n) x over h kept =
       let m = mapped (λ (v : TypeId × ℤ). core_expr.ConstInt v.0 v.1) (typed_integer (type_env_of defs) (Some ty) n) x h in
-      number_typed env allowed vars ty (type_env_of defs) n x over.given.types m.from m.there m.is
+      number_typed env allowed vars ty (type_env_of defs) n x over.given.given.types m.from m.there m.is
   expr_typed defs env allowed locals vars next ty (tree.Fact b) x over h kept =
       let takes = not-false (takes_truths (type_env_of defs) (Some ty)) (or_parts (is_misplaced (whole_of defs) (TruthAt (Some ty))) false kept.placed).0 in
-      subst (IsExprOf env allowed vars ty) (same_Some (core_expr.ConstBool b) x h) (truth_typed defs env b ty over.given.types (ap (λ (ts : TypeEnv). takes_truths ts (Some ty)) over.given.types ∙ takes))
+      subst (IsExprOf env allowed vars ty) (same_Some (core_expr.ConstBool b) x h) (truth_typed defs env b ty over.given.given.types (ap (λ (ts : TypeEnv). takes_truths ts (Some ty)) over.given.given.types ∙ takes))
   expr_typed defs env allowed locals vars next ty (tree.Name name) x over h kept =
       let found = local_named locals name in
       within_typed defs env allowed vars ty (known_type found) (conversion (whole_of defs) (known_type found) (Some ty)) (local_tree found) x (λ o. UsedAt o (local_type found)) [] over.given refl

@@ -1,7 +1,6 @@
 -- The parts of what typed definitions are, and what their environment is.
 use Rattle.std.proofs.Common.{◌≡◌, Bool, true, false, cond, List, Option, Some, None, refl, sym, ap, ◌∙◌}
 use Rattle.std.specs.Prelude.{option_map, option_and_then}
-use Rattle.std.specs.List.{list_all}
 use Rattle.std.proofs.lemmas.Option.{same_Some}
 use Rattle.isle_core.specs.declared.TermId.{TermId}
 use Rattle.isle_core.specs.declared.TypeId.{TypeId}
@@ -12,21 +11,19 @@ use Rattle.isle_declarations.specs.Signatures.{rule_defs}
 use Rattle.isle_declarations.specs.Terms.{terms}
 use Rattle.isle_types.specs.TypeEnvironment.{type_env_of}
 use Rattle.isle_types.specs.Fault.{type_fault}
-use Rattle.isle_sema.specs.Language.{is_built_def}
+use Rattle.isle_sema.specs.Language.{are_built}
 use Rattle.isle_sema.specs.Templates.{are_treed}
 use Rattle.isle_sema.specs.RulePass.{rules_pass}
-use Rattle.isle_sema.specs.Fault.{OfTypes, OfTerms, OfExtractors, OfRules, or_later, fault_in, later_fault}
+use Rattle.isle_sema.specs.Fault.{OfTypes, OfTerms, OfExtractors, OfRules, or_later, fault_in}
 use Rattle.isle_terms.specs.Converters.{converters, converters_pass}
 use Rattle.isle_terms.specs.Whole.{Whole, whole_of}
 use Rattle.isle_terms.specs.TermPass.{terms_pass}
 use Rattle.isle_sema.specs.Environment.{env_over, env_with}
-use Rattle.isle_sema.specs.Typing.{Typed, told_fault}
-use Rattle.isle_terms.specs.TermFault.{term_fault}
-use Rattle.isle_sema.proofs.Firsts.{stages_none, none_stages}
+use Rattle.isle_sema.specs.Typing.{Typed, TypedBuilt}
+use Rattle.isle_sema.proofs.Firsts.{stages_none}
 
 -- what typed definitions keep, and what their environment has
-pub record IsTypedIn (defs : List Def) (env : Environment) : Type 0 where
-  pub built : list_all is_built_def defs ≡ true
+pub record IsGivenIn (defs : List Def) (env : Environment) : Type 0 where
   pub types_kept : fault_in OfTypes (whole_of defs) ≡ None
   pub terms_kept : fault_in OfTerms (whole_of defs) ≡ None
   pub extractors_kept : fault_in OfExtractors (whole_of defs) ≡ None
@@ -36,6 +33,11 @@ pub record IsTypedIn (defs : List Def) (env : Environment) : Type 0 where
   pub terms : terms_pass (whole_of defs) (terms defs) ≡ Some env.terms
   pub converters : converters_pass (whole_of defs) (converters defs) ≡ Some env.converters
   pub rules : rules_pass (whole_of defs) 0 (rule_defs defs) ≡ Some env.rules
+
+-- so of definitions that are built
+pub record IsTypedIn (defs : List Def) (env : Environment) : Type 0 where
+  pub given : IsGivenIn defs env
+  pub built : are_built defs ≡ true
 
 -- what an environment is made of
 record AreParts (w : Whole) (ts : Option (List Term)) (env : Environment) : Type 0 where
@@ -60,8 +62,8 @@ guarded : {X : Type 0} (b : Bool) (o : Option X) (x : X) → cond b o None ≡ S
 guarded true o x h = (refl, h)
 guarded false o x h = absurd cc
 
-pub typed_in : {defs : List Def} {env : Environment} → Typed defs env → IsTypedIn defs env
-typed_in {defs = defs} {env = env} t =
+pub given_in : {defs : List Def} {env : Environment} → Typed defs env → IsGivenIn defs env
+given_in {defs = defs} {env = env} t =
     let w = whole_of defs in
     let s = stages_none (fault_in OfTypes w) (or_later (fault_in OfTerms w) (or_later (fault_in OfExtractors w) (fault_in OfRules w))) t.sound in
     let u = stages_none (fault_in OfTerms w) (or_later (fault_in OfExtractors w) (fault_in OfRules w)) s.1 in
@@ -69,7 +71,6 @@ typed_in {defs = defs} {env = env} t =
     let d = guarded (are_treed w) (option_and_then (env_with w) (terms_pass w (terms defs))) env t.given in
     let e = env_parts w (terms_pass w (terms defs)) env d.1 in
     record {
-      built = t.built;
       types_kept = s.0;
       terms_kept = u.0;
       extractors_kept = v.0;
@@ -81,15 +82,9 @@ typed_in {defs = defs} {env = env} t =
       rules = e.rules;
     }
 
+pub typed_in : {defs : List Def} {env : Environment} → TypedBuilt defs env → IsTypedIn defs env
+typed_in t = record { given = given_in t.typed; built = t.built }
+
 -- typed definitions have no fault of types and constants
 pub typed_types_sound : {defs : List Def} {env : Environment} → Typed defs env → type_fault defs ≡ None
-typed_types_sound t = (typed_in t).types_kept
-
--- nor any that is told
-pub typed_told : {defs : List Def} {env : Environment} → Typed defs env → told_fault defs ≡ None
-typed_told {defs = defs} t =
-    let g = typed_in t in
-    let w = whole_of defs in
-    let later = none_stages (fault_in OfExtractors w) (fault_in OfRules w) g.extractors_kept g.rules_kept in
-    let told = ap (λ b. cond b (later_fault w) None) g.built ∙ later in
-    none_stages (type_fault defs) (or_later (term_fault w) (cond (list_all is_built_def defs) (later_fault w) None)) g.types_kept (none_stages (term_fault w) (cond (list_all is_built_def defs) (later_fault w) None) g.terms_kept told)
+typed_types_sound t = (given_in t).types_kept

@@ -42,7 +42,7 @@ use Rattle.isle_terms.specs.Whole.{whole_of}
 use Rattle.isle_terms.specs.TermPass.{constructor_named, extracting_named, kind_from}
 use Rattle.isle_sema.specs.Judging.{is_partial_call}
 use Rattle.isle_sema.specs.Taken.{row_of}
-use Rattle.isle_sema.specs.Typing.{Typed}
+use Rattle.isle_sema.specs.Typing.{TypedBuilt}
 use Rattle.isle_core.specs.ExprType.{in_condition, in_right_side, IsExprOf}
 use Rattle.isle_core.specs.TypedVariables.{all_typed, rule_typed}
 use Rattle.isle_templates.specs.TypedRule.{IsRuleOf, IsTypedRule}
@@ -126,7 +126,7 @@ rule_is_typed defs env i r x g row h =
     let d = signature_there w r.term x.root_term m.root in
     let s = d.0 in
     let at = signature_at w r.term s x.root_term d.1 m.root in
-    let t = term_made w (terms defs) env.terms x.root_term.0 s g.terms at in
+    let t = term_made w (terms defs) env.terms x.root_term.0 s g.given.terms at in
     let is = term_is w s t.term t.made in
     let tys = types_are defs s.args t.term.arg_tys is.args in
     let f = row_fails w r row in
@@ -163,7 +163,7 @@ rule_is_typed defs env i r x g row h =
     let conditions = conditions_typed defs env (patterns_of w r).scope (all_typed y.args) r.iflets y.iflets g k (patterns_stage w (arg_types w (termed w r.term)) (seen_patterns r.args) y.args m.args) m.iflets (kept_parts w in_condition ps cs before).1 halves.1 in
     let over = stage_over defs env scope (rule_typed y) scope.next g conditions.stage (omega arith) in
     let written : IsWrittenRuleOf env (templates w) t.term y = record {
-      args = patterns_typed defs env t.term.arg_tys no_variables (seen_patterns r.args) y.args k g.types count (ap (λ (z : PatternsPass). z.trees) patterns ∙ m.args) (subst (λ (z : PatternsPass). AreTakenWell w z.sites) (sym patterns) halves.0);
+      args = patterns_typed defs env t.term.arg_tys no_variables (seen_patterns r.args) y.args k g.given.types count (ap (λ (z : PatternsPass). z.trees) patterns ∙ m.args) (subst (λ (z : PatternsPass). AreTakenWell w z.sites) (sym patterns) halves.0);
       variables = have_one_type scope (rule_typed y) conditions.stage.numbered conditions.stage.stand;
       iflets = conditions.typed;
       rhs = subst (λ b. IsExprOf env (in_right_side b) (rule_typed y) t.term.ret_ty y.rhs) (sym allowed)
@@ -186,10 +186,10 @@ rules_typed defs env i (r ∷ rules) xs g rows h =
     (rule_is_typed defs env i r f.first g (none_is (row_of w r) k.0) f.here, rules_typed defs env (i + 1) rules f.others g k.1 f.found)
 
 -- the rules of an environment are typed
-pub typed_rules : (defs : List Def) (env : Environment) → Typed defs env → All (IsTypedRule env) env.rules
+pub typed_rules : (defs : List Def) (env : Environment) → TypedBuilt defs env → All (IsTypedRule env) env.rules
 typed_rules defs env t =
     let g = typed_in t in
-    All-from_recursion (IsTypedRule env) env.rules (rules_typed defs env 0 (rule_defs defs) env.rules g (none_fault (whole_of defs) [] defs g.rules_kept) g.rules)
+    All-from_recursion (IsTypedRule env) env.rules (rules_typed defs env 0 (rule_defs defs) env.rules g (none_fault (whole_of defs) [] defs g.given.rules_kept) g.given.rules)
 
 -- ---- the rules of a term
 
@@ -208,5 +208,5 @@ of_terms env id t [] at h = tt
 of_terms env id t (r ∷ rs) at h = among env id t r (filter (λ (r : Rule). r.root_term.0 == id.0) rs) (r.root_term.0 == id.0) at refl h.0 (of_terms env id t rs at h.1)
 
 -- the rules of a term have its types
-pub typed_of : (defs : List Def) (env : Environment) (id : TermId) (t : Term) → Typed defs env → slice_get env.terms id.0 ≡ Some t → All (IsRuleOf env t) (rules_of env id)
+pub typed_of : (defs : List Def) (env : Environment) (id : TermId) (t : Term) → TypedBuilt defs env → slice_get env.terms id.0 ≡ Some t → All (IsRuleOf env t) (rules_of env id)
 typed_of defs env id t h at = All-from_recursion (IsRuleOf env t) (rules_of env id) (of_terms env id t env.rules at (recursion_from_All (IsTypedRule env) env.rules (typed_rules defs env h)))

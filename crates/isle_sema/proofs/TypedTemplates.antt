@@ -36,7 +36,7 @@ use Rattle.isle_sema.proofs.OpenedTerms.{opened_term}
 use Rattle.isle_sema.proofs.ParameterScopes.{listed, params_listed, listed_at, listed_found, name_at}
 use Rattle.isle_sema.proofs.TemplateScopes.{pattern_stays, named_stands}
 use Rattle.isle_sema.proofs.TermFaults.{terms_kept}
-use Rattle.isle_sema.proofs.TypedParts.{IsTypedIn}
+use Rattle.isle_sema.proofs.TypedParts.{IsGivenIn, IsTypedIn}
 use Rattle.isle_sema.proofs.TypedPatterns.{KnowsTerms, AreTakenWell, pattern_typed}
 use Rattle.isle_sema.proofs.UsesSeen.{uses_same}
 use Rattle.isle_sema.proofs.VariableTypes.{pattern_stand}
@@ -58,15 +58,15 @@ pub knows : (defs : List Def) (env : Environment) → IsTypedIn defs env → Kno
 knows defs env g = record {
   opened = λ name s number ty is at has ret. opened_term defs env name s number ty g is at has ret;
   converts = λ of ty s h. conversion_is defs env of ty s g h;
-  constant = λ name ty h. ap (λ (ts : TypeEnv). const_type env (sym_of ts.syms name)) (sym g.types) ∙ constant_typed defs env name ty g.types h;
+  constant = λ name ty h. ap (λ (ts : TypeEnv). const_type env (sym_of ts.syms name)) (sym g.given.types) ∙ constant_typed defs env name ty g.given.types h;
 }
 
 -- ---- the term of a template
 
 -- the names of terms are apart
-names_apart : (defs : List Def) (env : Environment) → IsTypedIn defs env → IsDistinct bytes_eq (terms_of (terms defs))
+names_apart : (defs : List Def) (env : Environment) → IsGivenIn defs env → IsDistinct bytes_eq (terms_of (terms defs))
 names_apart defs env g =
-    let kept = terms_kept defs [] defs g.built g.terms_kept in
+    let kept = terms_kept defs [] defs g.terms_kept in
     terms_apart defs (distinct_names (terms_of (signatures defs)) kept.apart) (made_apart defs g.types_kept) (declared_unmade defs (signatures defs) kept.unmade)
 
 contained_at : {X : Type 0} (xs : List X) (i : ℕ) (x : X) → slice_get xs i ≡ Some x → Contains xs x
@@ -75,11 +75,11 @@ contained_at (y ∷ xs) zero x h = subst (Contains (y ∷ xs)) (same_Some y x h)
 contained_at (y ∷ xs) (suc i) x h = tail_contained y xs x (contained_at xs i x h)
 
 -- a term that stands there is the one of its name
-alone_at : (defs : List Def) (env : Environment) (i : ℕ) (s : Signature) → IsTypedIn defs env → slice_get (terms defs) i ≡ Some s → termed (whole_of defs) s.term ≡ Some s
+alone_at : (defs : List Def) (env : Environment) (i : ℕ) (s : Signature) → IsGivenIn defs env → slice_get (terms defs) i ≡ Some s → termed (whole_of defs) s.term ≡ Some s
 alone_at defs env i s g at = term_alone (terms defs) s (names_apart defs env g) (contained_at (terms defs) i s at)
 
 -- and its name's number is its place
-pub number_at : (defs : List Def) (env : Environment) (i : ℕ) (s : Signature) → IsTypedIn defs env → slice_get (terms defs) i ≡ Some s → term_named (terms defs) s.term ≡ Some (record { 0 = i })
+pub number_at : (defs : List Def) (env : Environment) (i : ℕ) (s : Signature) → IsGivenIn defs env → slice_get (terms defs) i ≡ Some s → term_named (terms defs) s.term ≡ Some (record { 0 = i })
 number_at defs env i s g at =
     ap (option_map (λ (n : ℕ). record { 0 = n }))
     (place_is (terms_of (terms defs)) i s.term (names_apart defs env g) (slice_get-map (λ (y : Signature). y.term) (terms defs) i ∙ ap (option_map (λ (y : Signature). y.term)) at))
@@ -113,7 +113,7 @@ record AreParams (s : Signature) (params : List (List ℕ)) : Type 0 where
 
 params_are : (defs : List Def) (env : Environment) (s : Signature) (q : CorePattern) (f : IsFrom defs s q) → IsTypedIn defs env → termed (whole_of defs) s.term ≡ Some s → AreParams s f.template.params
 params_are defs env s q f g alone =
-    let kept = terms_kept defs [] defs g.built g.terms_kept in
+    let kept = terms_kept defs [] defs g.given.terms_kept in
     let w = whole_of defs in
     let misfit : template_misfit w (record { term = s.term; by = ByTemplate f.template; pos = f.by.pos }) ≡ false =
     ap (λ (how : Extracting). template_misfit w (record { term = s.term; by = how; pos = f.by.pos })) (sym f.how) ∙ ap (λ (name : List ℕ). template_misfit w (record { term = name; by = f.by.by; pos = f.by.pos })) (sym f.named)
@@ -126,7 +126,7 @@ params_are defs env s q f g alone =
     as_many None is u e = absurd cc
     as_many (Some d) is u e =
         let named : d.term ≡ s.term = named_is (signatures defs) s.term d is in
-        let own = term_alone (terms defs) d (names_apart defs env g) (declared_there defs s.term d is) in
+        let own = term_alone (terms defs) d (names_apart defs env g.given) (declared_there defs s.term d is) in
         let same : d ≡ s = same_Some d s (sym own ∙ ap (termed (whole_of defs)) named ∙ alone) in
         eqb-true (length f.template.params) (length d.args) (not-false (length f.template.params == length d.args) e) ∙ ap (λ (y : Signature). length y.args) same
 
@@ -136,7 +136,7 @@ params_are defs env s q f g alone =
 built_from : (defs : List Def) (env : Environment) (s : Signature) (q : CorePattern) (f : IsFrom defs s q) → IsTypedIn defs env → IsWellBuilt (whole_of defs) s.term (ByTemplate f.template)
 built_from defs env s q f g =
     let w = whole_of defs in
-    let k = kept_in w [] defs g.extractors_kept in
+    let k = kept_in w [] defs g.given.extractors_kept in
     subst (λ (how : Extracting). IsWellBuilt w s.term how) f.how (subst (λ (name : List ℕ). IsWellBuilt w name f.by.by) f.named (well_built w f.by (fails_at _ (extractors defs) f.by k.built f.among)))
 
 index_contained : (names : List (List ℕ)) (name : List ℕ) → is_some (index_of names name) ≡ true → Contains names name
@@ -171,7 +171,7 @@ template_sound defs env i t s q f g alone ret tys =
     let long : length f.template.params ≡ length t.arg_tys = p.many ∙ sym (length-map s.args (type_named defs)) ∙ ap length tys ∙ length-map t.arg_tys Some in
     let stand = pattern_stand w (ret_type w (termed w s.term)) scope f.template.pattern q f.tree in
     record {
-      whole = pattern_typed defs env t.ret_ty scope f.template.pattern q (knows defs env g) g.types tree well;
+      whole = pattern_typed defs env t.ret_ty scope f.template.pattern q (knows defs env g) g.given.types tree well;
       params = λ ty n c.
           let a = stand.by ty n c in
           let there : Contains (listed 0 f.template.params (map Some t.arg_tys)) a.local = subst (λ (ls : List Local). Contains ls a.local) (ap (λ (x : Scope). x.variables) stays ∙ vars) a.there in
@@ -192,11 +192,11 @@ template_sound defs env i t s q f g alone ret tys =
 pub templates_typed : (defs : List Def) (env : Environment) → IsTypedIn defs env → AreWrittenTemplates env (templates (whole_of defs))
 templates_typed defs env g term t q there is =
     let w = whole_of defs in
-    let m = made_of w (terms defs) env.terms term.0 t g.terms there in
+    let m = made_of w (terms defs) env.terms term.0 t g.given.terms there in
     let s = m.signature in
     let k = term_is w s t m.made in
     let f = from defs s q (sym (template_there w term s m.there) ∙ is) in
-    template_sound defs env term.0 t s q f g (alone_at defs env term.0 s g m.there) k.ret (types_are defs s.args t.arg_tys k.args)
+    template_sound defs env term.0 t s q f g (alone_at defs env term.0 s g.given m.there) k.ret (types_are defs s.args t.arg_tys k.args)
 
 -- ---- no template reaches itself
 
@@ -222,9 +222,9 @@ templates_apart defs env g i = by (slice_get (terms defs) i) refl
     some s None at is = none (template_there w term s at ∙ is)
     some s (Some q) at is =
         let f = from defs s q is in
-        let k = (kept_in w [] defs g.extractors_kept).walks f.by f.among f.template f.how in
-        ap (λ graph. on_closed_walk graph i) (sym (uses_same w g.treed))
-        ∙ ap (λ (o : Option TermId). on o (λ (n : TermId). on_closed_walk (template_uses w) n.0)) (sym (number_at defs env i s g at) ∙ ap (term_named (terms defs)) (sym f.named)) ∙ k
+        let k = (kept_in w [] defs g.given.extractors_kept).walks f.by f.among f.template f.how in
+        ap (λ graph. on_closed_walk graph i) (sym (uses_same w g.given.treed))
+        ∙ ap (λ (o : Option TermId). on o (λ (n : TermId). on_closed_walk (template_uses w) n.0)) (sym (number_at defs env i s g.given at) ∙ ap (term_named (terms defs)) (sym f.named)) ∙ k
 
     by : (o : Option Signature) → slice_get (terms defs) i ≡ o → on_closed_walk (uses (templates w)) i ≡ false
     by None at = none (ap (option_and_then (λ (t : Option CorePattern). t)) (slice_get-map (template_for w) (terms defs) i ∙ ap (option_map (template_for w)) at))

@@ -46,12 +46,12 @@ use Rattle.isle_terms.specs.Whole.{whole_of}
 use Rattle.isle_terms.specs.TermPass.{types_named, constructor_named, extracting_named, kind_from, term_pass, terms_pass}
 use Rattle.isle_sema.specs.Language.{is_built_def}
 use Rattle.isle_terms.specs.TypeNames.{type_named}
-use Rattle.isle_sema.specs.Typing.{Typed}
+use Rattle.isle_sema.specs.Typing.{Typed, TypedBuilt}
 use Rattle.isle_sema.proofs.BuiltForms.{IsPlain}
 use Rattle.isle_terms.proofs.MadeTerms.{first_there, made_of, term_is, types_are, all_at}
 use Rattle.isle_sema.proofs.NamesApart.{made_apart, terms_apart, declared_unmade}
 use Rattle.isle_sema.proofs.TermFaults.{has_too_many, terms_kept}
-use Rattle.isle_sema.proofs.TypedParts.{typed_in}
+use Rattle.isle_sema.proofs.TypedParts.{given_in}
 
 -- ---- what holds of all terms
 
@@ -117,13 +117,13 @@ kind_plain w s ret (origin.Variant n) k plain is other = let bad : true ≡ fals
 kind_plain w s ret origin.Struct k plain is other = let bad : true ≡ false = ap is_made_kind is ∙ other in absurd cc
 
 -- a term that no type makes is not `multi`
-pub typed_kind : (defs : List Def) (env : Environment) (i : ℕ) (t : Term) → Typed defs env → slice_get env.terms i ≡ Some t → is_made_kind t.kind ≡ false → IsPlainKind t.kind
+pub typed_kind : (defs : List Def) (env : Environment) (i : ℕ) (t : Term) → TypedBuilt defs env → slice_get env.terms i ≡ Some t → is_made_kind t.kind ≡ false → IsPlainKind t.kind
 typed_kind defs env i t h at other =
-    let g = typed_in h in
+    let g = given_in h.typed in
     let m = made_of (whole_of defs) (terms defs) env.terms i t g.terms at in
     let s = m.signature in
     let is = term_is (whole_of defs) s t m.made in
-    kind_plain (whole_of defs) s t.ret_ty s.origin t.kind (all_at IsPlainTerm (terms defs) i s (plain_terms defs g.built) m.there) (ap (λ (u : Term). u.kind) is.is) other
+    kind_plain (whole_of defs) s t.ret_ty s.origin t.kind (all_at IsPlainTerm (terms defs) i s (plain_terms defs h.built) m.there) (ap (λ (u : Term). u.kind) is.is) other
 
 -- ---- its arguments
 
@@ -160,13 +160,13 @@ unmade_origin w s ret origin.Struct h = h
 -- a term that no type makes has at most 256 arguments
 pub typed_few : (defs : List Def) (env : Environment) (i : ℕ) (t : Term) → Typed defs env → slice_get env.terms i ≡ Some t → is_made_kind t.kind ≡ false → length t.arg_tys ≤ 256
 typed_few defs env i t h at other =
-    let g = typed_in h in
+    let g = given_in h in
     let w = whole_of defs in
     let m = made_of w (terms defs) env.terms i t g.terms at in
     let s = m.signature in
     let is = term_is w s t m.made in
     let unmade = unmade_origin w s t.ret_ty s.origin (ap (λ (u : Term). is_made_kind u.kind) is.is ∙ other) in
-    let few = all_at IsFewTerm (terms defs) i s (few_terms defs (terms_kept defs [] defs g.built g.terms_kept).few) m.there unmade in
+    let few = all_at IsFewTerm (terms defs) i s (few_terms defs (terms_kept defs [] defs g.terms_kept).few) m.there unmade in
     let same : length s.args ≡ length t.arg_tys = sym (length-map s.args (type_named defs)) ∙ ap length (types_are defs s.args t.arg_tys is.args) ∙ length-map t.arg_tys Some in
     omega (arith, few, same)
 
@@ -202,7 +202,7 @@ all_stand all (tree.Passed head items pos ∷ ds) h = all_stand all ds (rest_in 
 -- a term stands where a definition does: a made one where its type's does
 pub typed_places : (defs : List Def) (env : Environment) (i : ℕ) (t : Term) → Typed defs env → slice_get env.terms i ≡ Some t → (d : Def) × Contains defs d × (place_of d ≡ t.decl_pos)
 typed_places defs env i t h at =
-    let m = made_of (whole_of defs) (terms defs) env.terms i t (typed_in h).terms at in
+    let m = made_of (whole_of defs) (terms defs) env.terms i t (given_in h).terms at in
     let s = all_at (StandsIn defs) (terms defs) i m.signature (all_stand defs defs (λ d c. c)) m.there in
     (s.0, s.1, s.2 ∙ ap (λ (u : Term). u.decl_pos) (term_is (whole_of defs) m.signature t m.made).is)
 
@@ -262,7 +262,7 @@ types_there defs env (name ∷ names) tys types h =
 -- the types of a term are there
 pub typed_types : (defs : List Def) (env : Environment) (i : ℕ) (t : Term) → Typed defs env → slice_get env.terms i ≡ Some t → AllByRecursion (IsThere env.types) (t.ret_ty ∷ t.arg_tys)
 typed_types defs env i t h at =
-    let g = typed_in h in
+    let g = given_in h in
     let m = made_of (whole_of defs) (terms defs) env.terms i t g.terms at in
     let is = term_is (whole_of defs) m.signature t m.made in
     (type_there defs env m.signature.ret t.ret_ty g.types is.ret, types_there defs env m.signature.args t.arg_tys g.types is.args)
@@ -281,8 +281,8 @@ names_are w (s ∷ sigs) typed h among =
 -- no two terms have one name
 pub typed_names : (defs : List Def) (env : Environment) → Typed defs env → IsDistinct bytes_eq (map (λ (t : Term). sym_text env t.name) env.terms)
 typed_names defs env h =
-    let g = typed_in h in
-    let kept = terms_kept defs [] defs g.built g.terms_kept in
+    let g = given_in h in
+    let kept = terms_kept defs [] defs g.terms_kept in
     let apart = terms_apart defs (distinct_names (terms_of (signatures defs)) kept.apart) (made_apart defs g.types_kept) (declared_unmade defs (signatures defs) kept.unmade) in
     subst (λ (types : TypeEnv). IsDistinct bytes_eq (map (λ (t : Term). symbol_text types t.name) env.terms)) (sym g.types)
     (subst (IsDistinct bytes_eq) (sym (names_are (whole_of defs) (terms defs) env.terms g.terms (are_terms_among defs))) apart)

@@ -1,5 +1,6 @@
 -- What the code gives of patterns and expressions: their trees, the variables and what the rows say are those of the pass.
-use Rattle.std.specs.Prelude.{◌≡◌, ℕ, suc, List, [], ◌∷◌, length, take, map, Option, Some, None, option_map, replicate}
+use denote.Ref.{Bor}
+use Rattle.std.specs.Prelude.{◌≡◌, ℕ, suc, Bool, List, [], ◌∷◌, length, take, map, Option, Some, None, option_map, replicate}
 use Rattle.std.specs.Global.{Vec}
 use Rattle.isle_core.specs.declared.TypeId.{TypeId}
 use Rattle.isle_core.specs.declared.rules.Pattern.{Pattern as CodePattern}
@@ -116,10 +117,10 @@ pub record AreConditionsAt (w : Whole) (cs : List IfLet) (old new : Scope) (befo
   pub scope : new ≡ (conditions_pass w old cs).scope
   pub sites : after ≡ judge_all w before (conditions_pass w old cs).sites
 
--- both sides of a rule, and its conditions
-pub record AreSides (w : Whole) (r : RuleDef) (sides : Sides) : Type 0 where
+-- both sides of a rule, and its conditions, over these marks of terms
+pub record AreSides (w : Whole) (r : RuleDef) (multis : Bor (List Bool)) (sides : Sides) : Type 0 where
   pub trees : pattern_trees sides.args ≡ (patterns_of w r).trees
   pub tree : option_map elaborated_expr sides.rhs ≡ (right_side_of w r).tree
   pub conditions : condition_trees sides.iflets ≡ (conditions_of w r).trees
-  pub left : sides.left.rows ≡ judge_all w unjudged (left_of w r)
-  pub right : sides.right.rows ≡ judge_all w unjudged (right_side_of w r).sites
+  pub left : sides.left.rows ≡ judge_all w (unjudged multis) (left_of w r)
+  pub right : sides.right.rows ≡ judge_all w (unjudged multis) (right_side_of w r).sites

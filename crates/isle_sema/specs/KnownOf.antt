@@ -1,6 +1,5 @@
 -- What is known of definitions whose types, constants and terms have no fault.
-use Rattle.std.specs.Prelude.{◌≡◌, List, true, Some, None}
-use Rattle.std.specs.List.{list_all}
+use Rattle.std.specs.Prelude.{◌≡◌, List, Some, None}
 use Rattle.isle_core.specs.declared.types.Term.{Term}
 use Rattle.isle_core.specs.declared.types.TypeEnv.{TypeEnv}
 use Rattle.isle_ast.specs.declared.tree.Def.{Def as CodeDef}
@@ -18,10 +17,9 @@ use Rattle.isle_terms.specs.ConverterViews.{AreFound}
 use Rattle.isle_terms.specs.TermFault.{term_fault}
 use Rattle.isle_terms.specs.TermPass.{terms_pass}
 use Rattle.isle_terms.specs.Whole.{whole}
-use Rattle.isle_sema.specs.Language.{is_built_def}
 
--- the names of types and constants, the types and constants, the terms of definitions, with their types, and their converters; all
--- are built, and no type, no constant and no term is wrong
+-- the names of types and constants, the types and constants, the terms of definitions, with their types, and their converters; no
+-- type, no constant and no term is wrong
 pub record AreKnown (ds : List CodeDef) (names : Before) (given : TypeEnv) (found : Terms) (typed_terms : List Term) (by : Converters) : Type 0 where
   pub before : IsBefore (seen ds) names
   pub types : given ≡ type_env_of (seen ds)
@@ -30,4 +28,3 @@ pub record AreKnown (ds : List CodeDef) (names : Before) (given : TypeEnv) (foun
   pub converted : AreFound (seen ds) (converters (seen ds)) by
   pub sound : type_fault (seen ds) ≡ None
   pub declared : term_fault (whole ds) ≡ None
-  pub built : list_all is_built_def (seen ds) ≡ true

@@ -1,16 +1,19 @@
 -- The rows of rules and of templates, one definition each, over the parts of a rule or of a template where they stand.
-use Rattle.std.specs.Prelude.{ℕ, List, [], length, Bool, true, false, ◌==◌, ◌&&◌, ◌||◌, not, Option, Some, None, is_some, nat_le}
+use Rattle.std.specs.Prelude.{ℕ, List, [], length, map, Bool, true, false, ◌==◌, ◌&&◌, ◌||◌, not, Option, Some, None, is_some, nat_le}
 use Rattle.std.specs.List.{list_any}
+use Rattle.isle_core.specs.declared.TermId.{TermId}
 use Rattle.isle_core.specs.declared.TypeId.{TypeId}
 use Rattle.isle_core.specs.Rule.{Rule as CoreRule}
 use Rattle.isle_ast.specs.Tree.{Def, TypeDecl, Decl, ExternConstructor, ExternExtractor, ExternConst, Extractor, Converter, Rule, Passed}
-use Rattle.isle_declarations.specs.Signatures.{Signature, Extracting, ByFunction, ByTemplate, ExtractorDef, RuleDef, rule_of}
+use Rattle.isle_declarations.specs.Signatures.{Signature, Extracting, ByFunction, ByTemplate, ExtractorDef, RuleDef, rule_of, term_named}
+use Rattle.isle_declarations.specs.Terms.{terms}
 use Rattle.isle_terms.specs.TypeNames.{type_named}
 use Rattle.isle_terms.specs.Expected.{takes_integers, takes_truths}
 use Rattle.isle_terms.specs.Whole.{Whole, termed, has_constructor, has_extractor}
 use Rattle.isle_sema.specs.Site.{Site, IntegerAt, TruthAt, PartAt, MetAt, UsedAt, CalledAt, TakenAt, ConstantAt, BoundAt}
 use Rattle.isle_sema.specs.RulePass.{right_side_of, left_of, sites_of, written_pass}
 use Rattle.isle_sema.specs.Templates.{template_pass, templates}
+use Rattle.isle_multis.specs.Multi.{marked, is_multi}
 use Rattle.isle_templates.specs.Elaborated.{rule_expanded}
 use Rattle.isle_templates.specs.NodeCount.{rule_nodes}
 use Rattle.isle_templates.specs.Substituted.{whole_templates}
@@ -133,6 +136,34 @@ is_met_otherwise (BoundAt ty) = false
 -- a variable that is met again in a rule or a template has another type
 abbrev pub variable_type_misfit : Context → Def → Bool
 variable_type_misfit c d = list_any is_met_otherwise (sites_in c.whole d)
+
+-- for each term whether its declaration says `multi`
+abbrev pub declared_multis : Whole → List Bool
+declared_multis w = map (λ (s : Signature). s.multi) (terms w.defs)
+
+-- the term of a signature is `multi` where a pattern uses it, by the marks of terms
+abbrev pub has_mark : Whole → List Bool → Signature → Bool
+has_mark w marks s = on (term_named (terms w.defs) s.term) (λ (n : TermId). marked marks n.0)
+
+-- it is, with templates replaced
+abbrev pub is_multi_used : Whole → Signature → Bool
+is_multi_used w s = on (term_named (terms w.defs) s.term) (λ (n : TermId). is_multi (templates w) (declared_multis w) n.0)
+
+-- a term in a pattern of which this holds
+abbrev pub is_use_of : (Signature → Bool) → Site → Bool
+is_use_of test (IntegerAt expected) = false
+is_use_of test (TruthAt expected) = false
+is_use_of test PartAt = false
+is_use_of test (MetAt expected bound) = false
+is_use_of test (UsedAt expected bound) = false
+is_use_of test (CalledAt expected callee count) = false
+is_use_of test (TakenAt expected callee count) = on callee test
+is_use_of test (ConstantAt in_pattern expected found) = false
+is_use_of test (BoundAt ty) = false
+
+-- a pattern of a rule or of one of its conditions uses a `multi` term, by itself or through templates, in a rule of a term without `multi`
+abbrev pub multi_use : Context → Def → Bool
+multi_use c d = on (rule_of d) (λ (r : RuleDef). on (termed c.whole r.term) (λ (s : Signature). not s.multi && list_any (is_use_of (is_multi_used c.whole)) (left_of c.whole r)))
 
 -- a call of a term that is not there, has another number of arguments, or has no constructor
 abbrev pub is_call_misfit : Whole → Option Signature → ℕ → Bool

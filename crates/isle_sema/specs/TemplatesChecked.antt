@@ -11,8 +11,10 @@ use Rattle.isle_types.specs.declared.row.Row.{Row}
 use Rattle.isle_terms.specs.Whole.{Whole}
 use Rattle.isle_culprits.specs.declared.culprit.Breach.{Breach}
 use Rattle.isle_sema.specs.declared.fault.Fault.{Fault}
-use Rattle.isle_templates.specs.declared.templates.Templates.{Templates}
+use Rattle.isle_sema.specs.declared.templates.Extractors.{Extractors}
+use Rattle.isle_multis.specs.Multi.{AreMultisTold}
 use Rattle.isle_sema.specs.Fault.{OfExtractors, broken_in, or_later, fault_in}
+use Rattle.isle_sema.specs.RuleRows.{declared_multis}
 use Rattle.isle_sema.specs.Templates.{template_tree, templates, are_treed}
 use Rattle.isle_templates.specs.Uses.{uses}
 use Rattle.isle_templates.specs.Whole.{AreWhole}
@@ -62,15 +64,16 @@ AreTried w xs (Err fault) = extractors_fault w xs ≡ Some (fault.row, fault.pos
 
 -- ---- what is told
 
--- no extractor breaks a row, and these are the templates of definitions with those that they use replaced; each has a tree, and none reaches
--- itself
-pub record AreTaken (w : Whole) (taken : Templates) : Type 0 where
+-- no extractor breaks a row, and these are the templates of definitions with those that they use replaced, each of which has a tree, and none
+-- reaches itself, and the terms that are `multi` where a pattern uses them
+pub record AreTaken (w : Whole) (taken : Extractors) : Type 0 where
   pub sound : fault_in OfExtractors w ≡ None
   pub treed : are_treed w ≡ true
   pub free : (term : ℕ) → on_closed_walk (uses (templates w)) term ≡ false
-  pub whole : AreWhole (templates w) taken
+  pub whole : AreWhole (templates w) taken.templates
+  pub multis : AreMultisTold (templates w) (declared_multis w) taken.multis.items
 
 -- so, or the first extractor that breaks one
-abbrev pub AreTemplatesChecked : Whole → Result Templates Fault → Type 0
+abbrev pub AreTemplatesChecked : Whole → Result Extractors Fault → Type 0
 AreTemplatesChecked w (Ok taken) = AreTaken w taken
 AreTemplatesChecked w (Err fault) = fault_in OfExtractors w ≡ Some (fault.row, fault.pos)

@@ -24,7 +24,7 @@ pub fn expr_over<'d>(
     alloc: Global,
     known: &Known,
     vars: &Variables<'d>,
-    judged: &mut Judging<'d>,
+    judged: &mut Judging<'_, 'd>,
     next: usize,
     expected: Option<TypeId>,
     e: &'d AstExpr,
@@ -63,7 +63,7 @@ fn condition_at<'d>(
     alloc: Global,
     known: &Known,
     vars: &mut Variables<'d>,
-    judged: &mut Judging<'d>,
+    judged: &mut Judging<'_, 'd>,
     given: &'d AstIfLet,
 ) -> Result<Option<IfLet>, AllocError>
     ensures { IfOk result (λ found. IsConditionAt (whole known.now) (iflet given.now) vars.old vars.new judged.old.rows judged.new.rows found) }
@@ -84,7 +84,7 @@ pub fn conditions_at<'d>(
     alloc: Global,
     known: &Known,
     vars: &mut Variables<'d>,
-    judged: &mut Judging<'d>,
+    judged: &mut Judging<'_, 'd>,
     given: &'d [AstIfLet],
 ) -> Result<Option<Vec<IfLet>>, AllocError>
     ensures { IfOk result (λ found. AreConditionsAt (whole known.now) (map iflet given.now) vars.old vars.new judged.old.rows judged.new.rows found) }

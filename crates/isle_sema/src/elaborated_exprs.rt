@@ -85,7 +85,7 @@ fn variable_at<'d>(
     alloc: Global,
     known: &Known,
     vars: &Locals,
-    judged: &mut Judging<'d>,
+    judged: &mut Judging<'_, 'd>,
     expected: Option<TypeId>,
     name: &'d Text,
 ) -> Result<Option<Expr>, AllocError>
@@ -108,7 +108,7 @@ fn named_at<'d>(
     alloc: Global,
     known: &Known,
     vars: &Locals,
-    judged: &mut Judging<'d>,
+    judged: &mut Judging<'_, 'd>,
     expected: Option<TypeId>,
     name: &'d Text,
 ) -> Result<Option<Expr>, AllocError>
@@ -175,7 +175,7 @@ pub fn expr_at<'d>(
     alloc: Global,
     known: &Known,
     vars: &mut Locals<'_, 'd>,
-    judged: &mut Judging<'d>,
+    judged: &mut Judging<'_, 'd>,
     expected: Option<TypeId>,
     e: &'d AstExpr,
 ) -> Result<Option<Expr>, AllocError>
@@ -217,7 +217,7 @@ fn call_at<'d>(
     alloc: Global,
     known: &Known,
     vars: &mut Locals<'_, 'd>,
-    judged: &mut Judging<'d>,
+    judged: &mut Judging<'_, 'd>,
     expected: Option<TypeId>,
     name: &'d Text,
     args: &'d [AstExpr],
@@ -244,7 +244,7 @@ fn exprs_at<'d>(
     alloc: Global,
     known: &Known,
     vars: &mut Locals<'_, 'd>,
-    judged: &mut Judging<'d>,
+    judged: &mut Judging<'_, 'd>,
     types: &[TypeId],
     es: &'d [AstExpr],
 ) -> Result<Option<Vec<Expr>>, AllocError>
@@ -267,7 +267,7 @@ fn lets_at<'d>(
     alloc: Global,
     known: &Known,
     vars: &mut Locals<'_, 'd>,
-    judged: &mut Judging<'d>,
+    judged: &mut Judging<'_, 'd>,
     lets: &'d [AstLet],
 ) -> Result<Option<Vec<LetBinding>>, AllocError>
     ensures { IfOk result (λ found. AreBindingsAt (whole known.now) (lets_of (map binding lets.now)) vars.old vars.new judged.old.rows judged.new.rows found) }
@@ -289,7 +289,7 @@ fn binding_at<'d>(
     alloc: Global,
     known: &Known,
     vars: &mut Locals<'_, 'd>,
-    judged: &mut Judging<'d>,
+    judged: &mut Judging<'_, 'd>,
     l: &'d AstLet,
 ) -> Result<Option<LetBinding>, AllocError>
     ensures { IfOk result (λ found. IsBindingAt (whole known.now) l.now.var l.now.ty (expr l.now.val) vars.old vars.new judged.old.rows judged.new.rows found) }

@@ -9,17 +9,20 @@ ghost use Rattle.isle_sema.specs.RulePass.{rule_from};
 ghost use Rattle.isle_terms.specs.Whole.{whole, termed};
 ghost use Rattle.isle_sema.specs.Known.{IsHead};
 ghost use Rattle.isle_sema.specs.RulesFound.{found_rule, IsRuleFound, AreRulesFound, AreHeadsDeclared};
+ghost use Rattle.isle_sema.specs.RuleRows.{declared_multis};
 ghost use Rattle.isle_sema.specs.Templates.{templates as written};
+ghost use Rattle.isle_multis.specs.Multi.{AreMultisTold};
 ghost use Rattle.isle_templates.specs.Whole.{AreWhole};
 
 use crate::fault::Fault;
 use crate::known::{Called, Known};
 use crate::rows::lowest_row;
 use crate::sides::sides_of;
+use crate::templates::Extractors;
 use isle_core::{Expr, IfLet, List, Pattern, Rule, RuleId};
 use isle_culprits::{Breach, rule_culprit};
 use isle_declarations::RuleDef;
-use isle_templates::{Templates, elaborated};
+use isle_templates::elaborated;
 use isle_types::Row;
 use std::alloc::{AllocError, Global};
 
@@ -76,16 +79,17 @@ fn found_rule<'d>(elaborated: Option<Rule>) -> Found<'d>
 fn rule_of<'d>(
     alloc: Global,
     known: &Known,
-    templates: &Templates,
+    extractors: &Extractors,
     own: &Called,
     number: usize,
     given: &RuleDef<'d>,
 ) -> Result<Found<'d>, AllocError>
     requires own { IsHead (whole known.now) given.now.term.now own.now }
-    requires templates { AreWhole (written (whole known.now)) templates.now }
+    requires templates { AreWhole (written (whole known.now)) extractors.now.templates }
+    requires multis { AreMultisTold (written (whole known.now)) (declared_multis (whole known.now)) extractors.now.multis.items }
     ensures { IfOk result (λ found. IsRuleFound (whole known.now) number (seen given.now) found) }
 {
-    let sides = sides_of(alloc, known, own, given)?;
+    let sides = sides_of(alloc, known, extractors.multis.as_slice(), own, given)?;
     let args = sides.args;
     let iflets = sides.iflets;
     let rhs = sides.rhs;
@@ -111,7 +115,7 @@ fn rule_of<'d>(
         return Ok(Found::Unbuilt);
     };
     let written = rule_from(known, own, number, given, args, iflets, rhs);
-    let found = elaborated(alloc, templates, written)?;
+    let found = elaborated(alloc, &extractors.templates, written)?;
     Ok(found_rule(found))
 }
 
@@ -119,17 +123,18 @@ fn rule_of<'d>(
 fn rule_at<'d>(
     alloc: Global,
     known: &Known,
-    templates: &Templates,
+    extractors: &Extractors,
     number: usize,
     given: &RuleDef<'d>,
 ) -> Result<Found<'d>, AllocError>
     requires number { index_of (whole known.now).types.syms given.now.term.now ≡ Some given.now.number }
     requires declared { is_some (termed (whole known.now) given.now.term.now) ≡ true }
-    requires templates { AreWhole (written (whole known.now)) templates.now }
+    requires templates { AreWhole (written (whole known.now)) extractors.now.templates }
+    requires multis { AreMultisTold (written (whole known.now)) (declared_multis (whole known.now)) extractors.now.multis.items }
     ensures { IfOk result (λ found. IsRuleFound (whole known.now) number (seen given.now) found) }
 {
     match known.at(given.number) {
-        Some(own) => rule_of(alloc, known, templates, &own, number, given),
+        Some(own) => rule_of(alloc, known, extractors, &own, number, given),
         None => Ok(Found::Unbuilt),
     }
 }
@@ -139,18 +144,19 @@ fn rule_at<'d>(
 pub fn rules_at<'d>(
     alloc: Global,
     known: &Known<'_, 'd>,
-    templates: &Templates,
+    extractors: &Extractors,
     given: &[RuleDef<'d>],
 ) -> Result<Result<Option<Vec<Rule>>, Fault<'d>>, AllocError>
     requires rules { AreRules (seen_defs known.now) given.now }
     requires declared { AreHeadsDeclared (whole known.now) }
-    requires templates { AreWhole (written (whole known.now)) templates.now }
+    requires templates { AreWhole (written (whole known.now)) extractors.now.templates }
+    requires multis { AreMultisTold (written (whole known.now)) (declared_multis (whole known.now)) extractors.now.multis.items }
     ensures { IfOk result (λ found. AreRulesFound (whole known.now) found) }
 {
     let mut rules = Vec::with_capacity(alloc, given.len())?;
     let mut complete = true;
     for (number, rule) in given.iter().enumerate() {
-        match rule_at(alloc, known, templates, number, rule)? {
+        match rule_at(alloc, known, extractors, number, rule)? {
             Found::Broken(breach) => {
                 return Ok(Err(Fault {
                     row: breach.row,

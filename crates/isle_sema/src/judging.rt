@@ -14,13 +14,14 @@ ghost use Rattle.isle_sema.specs.ExprPass.{called_by};
 use crate::known::Called;
 use isle_core::{Text, TypeEnv, TypeId};
 use isle_culprits::{Counts, Firsts, Judged, Thing};
+use isle_multis::marked;
 use isle_terms::{takes_integers, takes_truths};
 
 /// Which rows the parts that were met so far break, and the first part that breaks each: nothing is said of the latter, which is
 /// for the words of a fault.
 #[derive(Clone, Copy)]
-pub struct Judging<'d> {
-    pub rows: Judged,
+pub struct Judging<'m, 'd> {
+    pub rows: Judged<'m>,
     pub firsts: Firsts<'d>,
 }
 
@@ -35,18 +36,20 @@ fn is_other_type(bound: Option<Option<TypeId>>, expected: Option<TypeId>) -> boo
 }
 
 // The rows look at the definitions at integers, truths and terms alone: elsewhere it is all one what definitions there are.
-impl<'d> Judging<'d> {
-    /// Begins with no part.
-    pub fn new() -> Judging<'d>
-        ensures { result.rows ≡ unjudged }
+impl<'m, 'd> Judging<'m, 'd> {
+    /// Begins with no part, over these marks of terms that are `multi` where a pattern uses them.
+    pub fn new(multis: &'m [bool]) -> Judging<'m, 'd>
+        ensures { result.rows ≡ unjudged multis.entry }
     {
         Judging {
             rows: Judged {
+                multis,
                 untaken: false,
                 mistaken: false,
                 misplaced: false,
                 undeclared: false,
                 met_otherwise: false,
+                multi_taken: false,
                 unknown: false,
                 mistyped: false,
                 partial: false,
@@ -60,6 +63,7 @@ impl<'d> Judging<'d> {
                 misplaced: None,
                 undeclared: None,
                 met_otherwise: None,
+                multi_taken: None,
                 unknown: None,
                 mistyped: None,
                 partial: None,
@@ -175,6 +179,8 @@ impl<'d> Judging<'d> {
             | !(callee.made | callee.extracting)
             | self.rows.untaken;
         self.rows.mistaken = is_other_type(Some(Some(callee.ret)), expected) | self.rows.mistaken;
+        self.rows.multi_taken = marked(self.rows.multis, callee.term.index())
+            | self.rows.multi_taken;
         let counts = Counts {
             given: count,
             wanted: callee.args.len(),

@@ -9,7 +9,6 @@ mod expr_types;
 mod fault;
 mod judging;
 mod known;
-mod language;
 mod rows;
 mod sides;
 mod template_uses;

@@ -44,6 +44,8 @@ pub fn lowest_row(own: &Called, count: usize, left: &Judged, right: &Judged) -> 
         Some(Row::ConstantUndeclared)
     } else if left.met_otherwise || right.met_otherwise {
         Some(Row::VariableTypeMisfit)
+    } else if !own.multi && left.multi_taken {
+        Some(Row::MultiExtractor)
     } else if left.unknown || right.unknown {
         Some(Row::ExprNameMisfit)
     } else if left.mistyped || right.mistyped {

@@ -18,29 +18,31 @@ use std::alloc::{AllocError, Global};
 /// The patterns, the conditions and the right side of a rule, where they have trees, and what the rows say of the parts of the
 /// patterns and conditions, and of those of the right side.
 #[derive(Drop)]
-pub struct Sides<'d> {
+pub struct Sides<'m, 'd> {
     pub args: Option<Vec<Pattern>>,
     pub iflets: Option<Vec<IfLet>>,
     pub rhs: Option<Expr>,
-    pub left: Judging<'d>,
-    pub right: Judging<'d>,
+    pub left: Judging<'m, 'd>,
+    pub right: Judging<'m, 'd>,
 }
 
-/// Elaborates both sides of a rule of this term, and its conditions.
-pub fn sides_of<'d>(
+/// Elaborates both sides of a rule of this term, and its conditions, over these marks of terms that are `multi` where a pattern uses
+/// them.
+pub fn sides_of<'m, 'd>(
     alloc: Global,
     known: &Known,
+    multis: &'m [bool],
     own: &Called,
     given: &RuleDef<'d>,
-) -> Result<Sides<'d>, AllocError>
+) -> Result<Sides<'m, 'd>, AllocError>
     requires { IsHead (whole known.now) given.now.term.now own.now }
-    ensures { IfOk result (λ sides. AreSides (whole known.now) (seen given.now) sides) }
+    ensures { IfOk result (λ sides. AreSides (whole known.now) (seen given.now) multis.entry sides) }
 {
     let mut vars = Variables::new(alloc);
-    let mut left = Judging::new();
+    let mut left = Judging::new(multis);
     let args = patterns_at(alloc, known, &mut vars, &mut left, own.args, given.args)?;
     let iflets = conditions_at(alloc, known, &mut vars, &mut left, given.iflets)?;
-    let mut right = Judging::new();
+    let mut right = Judging::new(multis);
     let found = expr_over(
         alloc,
         known,

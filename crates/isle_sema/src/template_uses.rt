@@ -15,7 +15,6 @@ use crate::known::{Called, Known, argument_types, result_type};
 use isle_ast::AstPattern;
 use isle_core::{List, TypeId};
 use isle_declarations::{Extracting, TermDef};
-use isle_walks::closed_walks;
 use std::alloc::{AllocError, Global};
 
 // Notes a term, if it is there and has a template.
@@ -107,15 +106,15 @@ fn used_of(alloc: Global, known: &Known, term: &TermDef) -> Result<Vec<usize>, A
     }
 }
 
-/// Tells of each term whether it reaches itself through the templates that templates use. The only error is want of memory.
-pub fn closed_terms(alloc: Global, known: &Known) -> Result<Vec<bool>, AllocError>
-    ensures { IfOk result (λ closed. AreClosedTold (template_uses (whole known.now)) closed.items) }
+/// Tells of each term which terms with templates its template uses. The only error is want of memory.
+pub fn used_templates(alloc: Global, known: &Known) -> Result<Vec<List<usize>>, AllocError>
+    ensures { IfOk result (λ graph. graph.items ≡ template_uses (whole known.now)) }
 {
     let mut graph = Vec::with_capacity(alloc, known.terms.terms.len())?;
     for term in known.terms.terms.as_slice() {
         graph.push(List::new(used_of(alloc, known, term)?))?;
     }
-    closed_walks(alloc, graph.as_slice())
+    Ok(graph)
 }
 
 /// Tells whether a term is among those that reach themselves.

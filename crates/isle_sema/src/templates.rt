@@ -13,7 +13,7 @@ ghost use Rattle.isle_variables.specs.Scope.{no_variables};
 ghost use Rattle.isle_walks.specs.Walks.{AreClosedTold};
 ghost use Rattle.isle_sema.specs.Known.{MayBeCalled};
 ghost use Rattle.isle_sema.specs.Templates.{params_met, template_for, templates};
-ghost use Rattle.isle_sema.specs.TemplatesChecked.{tree_of, IsTried, AreTried, AreTemplatesChecked};
+ghost use Rattle.isle_sema.specs.TemplatesChecked.{tree_of, IsTried, AreTreesAt, AreTried, AreTaken, AreTemplatesChecked};
 ghost use Rattle.isle_sema.specs.TemplateUses.{template_uses};
 
 use crate::elaborated_patterns::pattern_at;
@@ -21,13 +21,15 @@ use crate::fault::Fault;
 use crate::judging::Judging;
 use crate::known::{Called, Known, argument_types, result_type};
 use crate::rows::template_row;
-use crate::template_uses::{closed_terms, reaches_itself};
+use crate::template_uses::{reaches_itself, used_templates};
 use isle_ast::AstPattern;
-use isle_core::{Pattern, Text};
+use isle_core::{List, Pattern, Text};
 use isle_culprits::{Breach, template_culprit};
 use isle_declarations::{Extracting, ExtractorDef, TermDef};
+use isle_multis::multi_extractors;
 use isle_templates::{Templates, copied_at, whole_templates};
 use isle_variables::{Variables, misses_variable};
+use isle_walks::closed_walks;
 use std::alloc::{AllocError, Global};
 
 // The variables of a template: its parameters, each at the type of its argument.
@@ -62,7 +64,7 @@ fn template_of<'d>(
         Extracting::Template { params, template } => {
             let callee = known.at(given.number);
             let mut vars = parameters(alloc, &callee, params)?;
-            let mut judged = Judging::new();
+            let mut judged = Judging::new(&[]);
             let expected = result_type(&callee);
             let tree = pattern_at(alloc, known, &mut vars, &mut judged, expected, template)?;
             let misses = misses_variable(alloc, params, template)?;
@@ -143,24 +145,58 @@ fn by_terms(
     Ok(found)
 }
 
+// Of each term whether its declaration says `multi`.
+fn declared_multis(alloc: Global, terms: &[TermDef]) -> Result<Vec<bool>, AllocError>
+    ensures { IfOk result (λ flags. flags.items ≡ map (λ (s : Signature). s.multi) (map term_def terms.now)) }
+{
+    let mut flags = Vec::with_capacity(alloc, terms.len())?;
+    for term in terms {
+        flags.push(term.multi)?;
+    }
+    Ok(flags)
+}
+
+/// What stands for terms in patterns: their templates, with those that they use replaced, and of each whether it is `multi` there.
+#[derive(Drop)]
+pub struct Extractors {
+    pub templates: Templates,
+    pub multis: Vec<bool>,
+}
+
+// What stands for all terms, by the trees of extractors and by which templates use which.
+fn extractors_of(
+    alloc: Global,
+    known: &Known,
+    graph: &[List<usize>],
+    trees: &[Option<Pattern>],
+) -> Result<Extractors, AllocError>
+    requires graph { graph.now ≡ template_uses (whole known.now) }
+    requires trees { AreTreesAt (whole known.now) (extractors (seen_defs known.now)) trees.now }
+    ensures { IfOk result (λ found. AreTaken (whole known.now) found) }
+{
+    let terms = known.terms.terms.as_slice();
+    let written = by_terms(alloc, known, trees, terms)?;
+    let Some(templates) = whole_templates(alloc, written.as_slice())? else {
+        unreachable!();
+    };
+    let flags = declared_multis(alloc, terms)?;
+    let multis = multi_extractors(alloc, graph, written.as_slice(), flags)?;
+    Ok(Extractors { templates, multis })
+}
+
 /// Looks for extractors that break a row of the typing table: tells the first that does, by the lowest row that it breaks
-/// (`specs/Fault.antt`); or else returns the templates of all terms, with those that they use replaced. The only error is want of memory.
+/// (`specs/Fault.antt`); or else returns what stands for all terms. The only error is want of memory.
 pub fn check_templates<'d>(
     alloc: Global,
     known: &Known<'_, 'd>,
-) -> Result<Result<Templates, Fault<'d>>, AllocError>
+) -> Result<Result<Extractors, Fault<'d>>, AllocError>
     ensures { IfOk result (λ found. AreTemplatesChecked (whole known.now) found) }
 {
-    let closed = closed_terms(alloc, known)?;
+    let graph = used_templates(alloc, known)?;
+    let closed = closed_walks(alloc, graph.as_slice())?;
     let given = known.declarations.extractors();
-    let trees = match templates_of(alloc, known, closed.as_slice(), given)? {
-        Ok(trees) => trees,
-        Err(fault) => return Ok(Err(fault)),
-    };
-    let terms = known.terms.terms.as_slice();
-    let written = by_terms(alloc, known, trees.as_slice(), terms)?;
-    match whole_templates(alloc, written.as_slice())? {
-        Some(templates) => Ok(Ok(templates)),
-        None => unreachable!(),
+    match templates_of(alloc, known, closed.as_slice(), given)? {
+        Ok(trees) => Ok(Ok(extractors_of(alloc, known, graph.as_slice(), trees.as_slice())?)),
+        Err(fault) => Ok(Err(fault)),
     }
 }

@@ -11,12 +11,11 @@ ghost use Rattle.isle_types.specs.TypeEnvironment.{type_env_of};
 ghost use Rattle.isle_sema.specs.KnownOf.{AreKnown};
 ghost use Rattle.isle_terms.specs.Whole.{whole};
 ghost use Rattle.isle_sema.specs.TakenAt.{AreRulesAt};
-ghost use Rattle.isle_sema.specs.Typing.{TypedOnly, SomeTyped, told_fault, IsUntyped};
+ghost use Rattle.isle_sema.specs.Typing.{TypedOnly, fault, IsUntyped};
 
 use crate::elaborated_rules::rules_at;
 use crate::fault::Fault;
 use crate::known::Known;
-use crate::language::are_built_forms;
 use crate::templates::check_templates;
 use crate::typing::EnvError;
 use isle_core::{List, Rule, Term, TermEnv, Text, TypeEnv};
@@ -47,16 +46,15 @@ fn rules_of<'d>(
         typed,
         converters,
     };
-    let templates = match check_templates(alloc, &known)? {
-        Ok(templates) => templates,
+    let extractors = match check_templates(alloc, &known)? {
+        Ok(extractors) => extractors,
         Err(fault) => return Ok(Err(fault)),
     };
-    rules_at(alloc, &known, &templates, declarations.rules())
+    rules_at(alloc, &known, &extractors, declarations.rules())
 }
 
 /// Returns the terms, rules and converters of definitions, whose types make these: `Typing` comes where a declaration, what names its
-/// term, a converter or a head is wrong; `NotYet` where none is and a declaration is `multi`; `Typing` where none is `multi` and an
-/// extractor is wrong, or else a rule.
+/// term, a converter or a head is wrong, or else an extractor, or else a rule.
 pub fn term_env<'d>(
     alloc: Global,
     declarations: &Declarations<'d>,
@@ -69,18 +67,15 @@ pub fn term_env<'d>(
     requires types { types.now ≡ type_env_of (seen declarations.now) }
     requires made { made.now ≡ map made_of (seen declarations.now) }
     ensures ok { IfOk result (λ terms. TypedOnly (seen declarations.now) (environment types.now terms)) }
-    ensures err { IfErr result (λ e. IsUntyped (told_fault (seen declarations.now)) (SomeTyped (seen declarations.now)) e) }
+    ensures err { IfErr result (λ e. IsUntyped (fault (seen declarations.now)) e) }
 {
     let terms = gathered_terms(alloc, declarations, made)?;
     let converters = match check_terms(alloc, &*declarations, &*before, &terms)? {
         Ok(found) => found,
         Err(error) => return Err(EnvError::Typing(error)),
     };
-    if !are_built_forms(declarations.defs()) {
-        return Err(EnvError::NotYet);
-    }
     let Some(typed) = terms_of(alloc, declarations, before, &terms)? else {
-        return Err(EnvError::NotYet);
+        unreachable!();
     };
     let found = rules_of(
         alloc,
@@ -93,7 +88,7 @@ pub fn term_env<'d>(
     )?;
     let rules = match found {
         Ok(Some(rules)) => rules,
-        Ok(None) => return Err(EnvError::NotYet),
+        Ok(None) => unreachable!(),
         Err(fault) => return Err(EnvError::Typing(fault.error(alloc, types)?)),
     };
     Ok(TermEnv {

@@ -5,7 +5,7 @@ ghost use Rattle.isle_declarations.specs.DeclaredTypes.{made_of};
 ghost use Rattle.isle_types.specs.Fault.{type_fault};
 ghost use Rattle.isle_types.specs.Gathered.{IsBefore};
 ghost use Rattle.isle_types.specs.TypeEnvironment.{type_env_of};
-ghost use Rattle.isle_sema.specs.Typing.{TypesFrom, TypedOnly, SomeTypes, SomeTyped, told_fault, IsUntyped};
+ghost use Rattle.isle_sema.specs.Typing.{TypesFrom, TypedOnly, fault, IsUntyped};
 
 use crate::term_env::term_env;
 use isle_ast::Def;
@@ -17,8 +17,6 @@ use std::alloc::{AllocError, Global};
 /// Why definitions give no environment.
 #[derive(Debug, Drop)]
 pub enum EnvError {
-    /// None is wrong that is told, and a declaration is `multi`.
-    NotYet,
     /// The first that is wrong, of types and constants, then of declarations, of extractors and of rules, by the lowest row that it breaks.
     Typing(Error),
     Memory,
@@ -55,7 +53,7 @@ fn built_types<'k, 'd>(
     requires sound { type_fault (seen declarations.now) ≡ None }
     requires before { IsBefore (seen declarations.now) before.now }
     ensures ok { IfOk result (λ env. TypesFrom (seen declarations.now) env) }
-    ensures err { IfErr result (λ e. IsUntyped (type_fault (seen declarations.now)) (SomeTypes (seen declarations.now)) e) }
+    ensures err { IfErr result (λ e. IsUntyped (type_fault (seen declarations.now)) e) }
 {
     Ok(type_env(alloc, declarations, before)?)
 }
@@ -71,7 +69,7 @@ fn built_env<'d>(
     requires before { IsBefore (seen declarations.now) before.now }
     requires made { made.now ≡ map made_of (seen declarations.now) }
     ensures ok { IfOk result (λ envs. TypedOnly (seen declarations.now) (environment envs.0 envs.1)) }
-    ensures err { IfErr result (λ e. IsUntyped (told_fault (seen declarations.now)) (SomeTyped (seen declarations.now)) e) }
+    ensures err { IfErr result (λ e. IsUntyped (fault (seen declarations.now)) e) }
 {
     let types = type_env(alloc, declarations, before)?;
     let terms = term_env(alloc, declarations, before, &types, made)?;
@@ -89,8 +87,8 @@ fn gathered<'d>(
     ensures sound { IfOk result (λ found. type_fault (seen found.0) ≡ None) }
     ensures before { IfOk result (λ found. IsBefore (seen found.0) found.1) }
     ensures made { IfOk result (λ found. made.now ≡ map made_of (seen found.0)) }
-    ensures no_types { IfErr result (λ e. IsUntyped (type_fault (seen defs.now)) (SomeTypes (seen defs.now)) e) }
-    ensures no_terms { IfErr result (λ e. IsUntyped (told_fault (seen defs.now)) (SomeTyped (seen defs.now)) e) }
+    ensures no_types { IfErr result (λ e. IsUntyped (type_fault (seen defs.now)) e) }
+    ensures no_terms { IfErr result (λ e. IsUntyped (fault (seen defs.now)) e) }
 {
     match check_types(alloc, defs, made)? {
         Ok(before) => Ok((Declarations::gather(alloc, defs, made)?, before)),
@@ -99,11 +97,10 @@ fn gathered<'d>(
 }
 
 /// Types the definitions' symbols, types and constants, of all forms (`specs/Typing.antt`). `Typing` comes exactly where one of
-/// their types or constants is wrong, and tells the first by the lowest row that it breaks; beside it only want of memory:
-/// `NotYet` never comes.
+/// their types or constants is wrong, and tells the first by the lowest row that it breaks; beside it only want of memory.
 pub fn type_env_from_ast(alloc: Global, defs: &[Def]) -> Result<TypeEnv, EnvError>
     ensures ok { IfOk result (λ env. TypesFrom (seen defs.now) env) }
-    ensures err { IfErr result (λ e. IsUntyped (type_fault (seen defs.now)) (SomeTypes (seen defs.now)) e) }
+    ensures err { IfErr result (λ e. IsUntyped (type_fault (seen defs.now)) e) }
 {
     let made = made_each(alloc, defs)?;
     let found = gathered(alloc, defs, made.as_slice())?;
@@ -111,13 +108,12 @@ pub fn type_env_from_ast(alloc: Global, defs: &[Def]) -> Result<TypeEnv, EnvErro
 }
 
 /// Types the terms, rules and converters of the definitions, whose types are given (`specs/Typing.antt`). `Typing` comes exactly
-/// where a declaration, what names its term, a converter or a rule's head is wrong, or else, where all are of forms that are built, an
-/// extractor, or else a rule; it tells the first by the lowest row that it breaks. `NotYet` comes where no fault is told and a declaration
-/// is `multi`; beside them only want of memory.
+/// where a declaration, what names its term, a converter or a rule's head is wrong, or else an extractor, or else a rule; it tells the
+/// first by the lowest row that it breaks. Beside it only want of memory.
 pub fn term_env_from_ast(alloc: Global, env: &TypeEnv, defs: &[Def]) -> Result<TermEnv, EnvError>
     requires { TypesFrom (seen defs.now) env.now }
     ensures ok { IfOk result (λ terms. TypedOnly (seen defs.now) (environment env.now terms)) }
-    ensures err { IfErr result (λ e. IsUntyped (told_fault (seen defs.now)) (SomeTyped (seen defs.now)) e) }
+    ensures err { IfErr result (λ e. IsUntyped (fault (seen defs.now)) e) }
 {
     let made = made_each(alloc, defs)?;
     let found = gathered(alloc, defs, made.as_slice())?;
@@ -128,7 +124,7 @@ pub fn term_env_from_ast(alloc: Global, env: &TypeEnv, defs: &[Def]) -> Result<T
 /// constants judged, and names gathered, once for both. The errors are theirs.
 pub fn env_from_ast(alloc: Global, defs: &[Def]) -> Result<(TypeEnv, TermEnv), EnvError>
     ensures ok { IfOk result (λ envs. TypedOnly (seen defs.now) (environment envs.0 envs.1)) }
-    ensures err { IfErr result (λ e. IsUntyped (told_fault (seen defs.now)) (SomeTyped (seen defs.now)) e) }
+    ensures err { IfErr result (λ e. IsUntyped (fault (seen defs.now)) e) }
 {
     let made = made_each(alloc, defs)?;
     let found = gathered(alloc, defs, made.as_slice())?;

@@ -14,6 +14,7 @@ use Rattle.isle_sema.specs.RulePass.{rule_from}
 use Rattle.isle_sema.specs.RuleRows.{is_large}
 use Rattle.isle_sema.specs.RulesFound.{found_rule, IsRuleFound}
 use Rattle.isle_sema.specs.Templates.{templates}
+use Rattle.isle_sema.proofs.Judgements.{AreMultis}
 use Rattle.isle_sema.proofs.RuleLaws.{lowest_found, without_trees, without_conditions, without_tree, found_made}
 use Rattle.isle_sema.proofs.elaborated_rules.rule_of.Goals as goal
 
@@ -22,7 +23,9 @@ returns-in-Some c =
     let w = whole c.args.known.now in
     let r = seen c.args.given.now in
     let sides = c.in_ok-sides.sides in
-    let found = lowest_found w r c.args.own.now sides c.lowest_row.result (length c.args.given.now.args.now) c.requires.own c.in_ok-sides.ensures (sym (length-map c.args.given.now.args.now pattern)) c.lowest_row.ensures in
+    let listed : c.args.extractors.now.multis.items ≡ c.as_slice.result.now = search rules in
+    let marks = subst (AreMultis w) listed c.requires.multis in
+    let found = lowest_found w r c.args.own.now c.as_slice.result sides c.lowest_row.result (length c.args.given.now.args.now) marks c.requires.own c.in_ok-sides.ensures (sym (length-map c.args.given.now.args.now pattern)) c.lowest_row.ensures in
     sym found ∙ ap (λ o. or_later o (cond (is_large w r) (Some row.ManyNodes) None)) c.in-Some.is
 
 pub returns-in_default-args : goal.returns-in_default-args
@@ -30,8 +33,10 @@ returns-in_default-args c =
     let w = whole c.args.known.now in
     let r = seen c.args.given.now in
     let sides = c.in_ok-sides.sides in
+    let listed : c.args.extractors.now.multis.items ≡ c.as_slice.result.now = search rules in
+    let marks = subst (AreMultis w) listed c.requires.multis in
     let none : c.lowest_row.result ≡ None = search rules in
-    let found = lowest_found w r c.args.own.now sides c.lowest_row.result (length c.args.given.now.args.now) c.requires.own c.in_ok-sides.ensures (sym (length-map c.args.given.now.args.now pattern)) c.lowest_row.ensures in
+    let found = lowest_found w r c.args.own.now c.as_slice.result sides c.lowest_row.result (length c.args.given.now.args.now) marks c.requires.own c.in_ok-sides.ensures (sym (length-map c.args.given.now.args.now pattern)) c.lowest_row.ensures in
     let nothing : sides.args ≡ None = search rules in
     without_trees w c.args.number r (ap (λ o. or_later o (cond (is_large w r) (Some row.ManyNodes) None)) (sym none) ∙ found) (sym c.in_ok-sides.ensures.trees ∙ ap pattern_trees nothing)
 
@@ -40,8 +45,10 @@ returns-in_default-iflets c =
     let w = whole c.args.known.now in
     let r = seen c.args.given.now in
     let sides = c.in_ok-sides.sides in
+    let listed : c.args.extractors.now.multis.items ≡ c.as_slice.result.now = search rules in
+    let marks = subst (AreMultis w) listed c.requires.multis in
     let none : c.lowest_row.result ≡ None = search rules in
-    let found = lowest_found w r c.args.own.now sides c.lowest_row.result (length c.args.given.now.args.now) c.requires.own c.in_ok-sides.ensures (sym (length-map c.args.given.now.args.now pattern)) c.lowest_row.ensures in
+    let found = lowest_found w r c.args.own.now c.as_slice.result sides c.lowest_row.result (length c.args.given.now.args.now) marks c.requires.own c.in_ok-sides.ensures (sym (length-map c.args.given.now.args.now pattern)) c.lowest_row.ensures in
     let nothing : sides.iflets ≡ None = search rules in
     without_conditions w c.args.number r (ap (λ o. or_later o (cond (is_large w r) (Some row.ManyNodes) None)) (sym none) ∙ found) (sym c.in_ok-sides.ensures.conditions ∙ ap condition_trees nothing)
 
@@ -50,8 +57,10 @@ returns-in_default-rhs c =
     let w = whole c.args.known.now in
     let r = seen c.args.given.now in
     let sides = c.in_ok-sides.sides in
+    let listed : c.args.extractors.now.multis.items ≡ c.as_slice.result.now = search rules in
+    let marks = subst (AreMultis w) listed c.requires.multis in
     let none : c.lowest_row.result ≡ None = search rules in
-    let found = lowest_found w r c.args.own.now sides c.lowest_row.result (length c.args.given.now.args.now) c.requires.own c.in_ok-sides.ensures (sym (length-map c.args.given.now.args.now pattern)) c.lowest_row.ensures in
+    let found = lowest_found w r c.args.own.now c.as_slice.result sides c.lowest_row.result (length c.args.given.now.args.now) marks c.requires.own c.in_ok-sides.ensures (sym (length-map c.args.given.now.args.now pattern)) c.lowest_row.ensures in
     let nothing : sides.rhs ≡ None = search rules in
     without_tree w c.args.number r (ap (λ o. or_later o (cond (is_large w r) (Some row.ManyNodes) None)) (sym none) ∙ found) (sym c.in_ok-sides.ensures.tree ∙ ap (option_map elaborated_expr) nothing)
 
@@ -60,8 +69,10 @@ returns c =
     let w = whole c.args.known.now in
     let r = seen c.args.given.now in
     let sides = c.in_ok-sides.sides in
+    let listed : c.args.extractors.now.multis.items ≡ c.as_slice.result.now = search rules in
+    let marks = subst (AreMultis w) listed c.requires.multis in
     let none : c.lowest_row.result ≡ None = search rules in
-    let lowest = lowest_found w r c.args.own.now sides c.lowest_row.result (length c.args.given.now.args.now) c.requires.own c.in_ok-sides.ensures (sym (length-map c.args.given.now.args.now pattern)) c.lowest_row.ensures in
+    let lowest = lowest_found w r c.args.own.now c.as_slice.result sides c.lowest_row.result (length c.args.given.now.args.now) marks c.requires.own c.in_ok-sides.ensures (sym (length-map c.args.given.now.args.now pattern)) c.lowest_row.ensures in
     let kept = ap (λ o. or_later o (cond (is_large w r) (Some row.ManyNodes) None)) (sym none) ∙ lowest in
     let args = map elaborated_pattern c.in-Some-args.args.items in
     let iflets = map elaborated_iflet c.in-Some-iflets.iflets.items in

@@ -15,9 +15,9 @@ returns-in-Some c =
     let t : Template = record { params = c.in-Template.params.now; pattern = pattern c.in-Template.template.now } in
     let by : x.by ≡ ByTemplate t = ap extracting c.in-Template.is in
     let callee : MayBeCalled w (termed w x.term) c.at-callee.result = c.at-callee.ensures x.term c.requires.number in
-    let found = template_found w x t _ _ _ _ _ _ by (c.result_type-expected.ensures w (termed w x.term) callee) (c.in_ok-vars-in-Template.ensures w (termed w x.term) callee) c.new-judged.ensures c.in_ok-tree-in-Template.ensures in
+    let found = template_found w x t _ _ _ _ _ _ _ by (c.result_type-expected.ensures w (termed w x.term) callee) (c.in_ok-vars-in-Template.ensures w (termed w x.term) callee) c.new-judged.ensures c.in_ok-tree-in-Template.ensures in
     let missed = c.in_ok-misses-in-Template.ensures ∙ ap misses_parameter (sym by) in
-    sym (row_judged w x t _ _ _ by (c.reaches_itself.ensures w x callee c.requires.closed) missed found.1) ∙ sym c.template_row.ensures ∙ c.in-Some.is
+    sym (row_judged w x t _ _ _ _ by (c.reaches_itself.ensures w x callee c.requires.closed) missed found.1) ∙ sym c.template_row.ensures ∙ c.in-Some.is
 
 pub returns : goal.returns
 returns c =
@@ -26,9 +26,9 @@ returns c =
     let t : Template = record { params = c.in-Template.params.now; pattern = pattern c.in-Template.template.now } in
     let by : x.by ≡ ByTemplate t = ap extracting c.in-Template.is in
     let callee : MayBeCalled w (termed w x.term) c.at-callee.result = c.at-callee.ensures x.term c.requires.number in
-    let found = template_found w x t _ _ _ _ _ _ by (c.result_type-expected.ensures w (termed w x.term) callee) (c.in_ok-vars-in-Template.ensures w (termed w x.term) callee) c.new-judged.ensures c.in_ok-tree-in-Template.ensures in
+    let found = template_found w x t _ _ _ _ _ _ _ by (c.result_type-expected.ensures w (termed w x.term) callee) (c.in_ok-vars-in-Template.ensures w (termed w x.term) callee) c.new-judged.ensures c.in_ok-tree-in-Template.ensures in
     let missed = c.in_ok-misses-in-Template.ensures ∙ ap misses_parameter (sym by) in
     record {
-      sound = sym (row_judged w x t _ _ _ by (c.reaches_itself.ensures w x callee c.requires.closed) missed found.1) ∙ sym c.template_row.ensures ∙ c.in-None.is;
+      sound = sym (row_judged w x t _ _ _ _ by (c.reaches_itself.ensures w x callee c.requires.closed) missed found.1) ∙ sym c.template_row.ensures ∙ c.in-None.is;
       tree_is = found.0;
     }

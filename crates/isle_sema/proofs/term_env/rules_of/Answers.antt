@@ -10,7 +10,7 @@ use Rattle.isle_sema.proofs.term_env.rules_of.Goals as goal
 
 pub rules_at-requires-clause-declared : goal.rules_at-requires-clause-declared
 rules_at-requires-clause-declared c =
-    heads_declared (seen c.args.declarations.now) (record { built = c.requires.built; types = c.requires.sound; terms = c.requires.declared })
+    heads_declared (seen c.args.declarations.now) (record { types = c.requires.sound; terms = c.requires.declared })
 
 pub returns-in-Err : goal.returns-in-Err
 returns-in-Err c =
@@ -21,5 +21,5 @@ returns-in-Err c =
 pub returns : goal.returns
 returns c =
     let w = whole c.args.declarations.now in
-    let taken : AreTaken w c.in-Ok.templates = search rules in
-    ok_map c.rules_at.result (λ found h. rules_given w c.in-Ok.templates found taken h) c.rules_at.ensures
+    let taken : AreTaken w c.in-Ok.extractors = search rules in
+    ok_map c.rules_at.result (λ found h. rules_given w c.in-Ok.extractors found taken h) c.rules_at.ensures

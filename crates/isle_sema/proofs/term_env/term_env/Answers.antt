@@ -1,5 +1,4 @@
-use Rattle.std.proofs.Common.{◌≡◌, rules, true, false, None, Some, [], map, ap, sym, ◌∙◌}
-use Rattle.std.specs.List.{list_all}
+use Rattle.std.proofs.Common.{◌≡◌, rules, None, Some, [], map, ap, sym, ◌∙◌}
 use Rattle.isle_core.specs.RuleViews.{rule as elaborated_rule}
 use Rattle.isle_ast.specs.Views.{defs as seen}
 use Rattle.isle_declarations.specs.Terms.{terms}
@@ -9,10 +8,10 @@ use Rattle.isle_terms.specs.TermFault.{term_fault}
 use Rattle.isle_terms.specs.TermPass.{terms_pass}
 use Rattle.isle_terms.specs.Whole.{whole_of}
 use Rattle.isle_types.specs.Gathered.{TellsTyping}
-use Rattle.isle_sema.specs.Language.{is_built_def}
 use Rattle.isle_sema.specs.Fault.{later_fault}
 use Rattle.isle_sema.specs.TakenAt.{HaveRules, HaveUnbuilt}
-use Rattle.isle_sema.proofs.Givings.{none_told, none_later, later_is, told_behind, told_last, unformed_untyped, unmade, none_untyped, given_typed, over_types}
+use Rattle.isle_sema.proofs.Givings.{told_behind, told_last, unmade, given_typed, over_types}
+use Rattle.isle_sema.proofs.SoundTyped.{none_untaken}
 use Rattle.isle_sema.proofs.term_env.term_env.Goals as goal
 
 pub returns-in-Err-clause-err : goal.returns-in-Err-clause-err
@@ -21,41 +20,30 @@ returns-in-Err-clause-err c =
     let told : TellsTyping (term_fault (whole_of defs)) (Some c.in-Err.error) = search rules in
     told_behind defs c.in-Err.error c.requires.sound told
 
-pub returns-then-not-are_built_forms-clause-err : goal.returns-then-not-are_built_forms-clause-err
-returns-then-not-are_built_forms-clause-err c =
+pub unreachable-requires : goal.unreachable-requires
+unreachable-requires c =
     let defs = seen c.args.declarations.now in
-    let declared : term_fault (whole_of defs) ≡ None = search rules in
-    let other : list_all is_built_def defs ≡ false = search rules in
-    (none_told defs c.requires.sound declared (none_later defs other), λ t. unformed_untyped defs other t.0 t.1)
-
-pub returns-in_default-clause-err : goal.returns-in_default-clause-err
-returns-in_default-clause-err c =
-    let defs = seen c.args.declarations.now in
-    let forms : list_all is_built_def defs ≡ true = search rules in
     let declared : term_fault (whole_of defs) ≡ None = search rules in
     let none : None ≡ terms_pass (whole_of defs) (terms defs) = search rules in
-    absurd (unmade defs forms c.requires.sound declared none)
+    unmade defs c.requires.sound declared none
 
-pub returns-in-Ok-None-clause-err : goal.returns-in-Ok-None-clause-err
-returns-in-Ok-None-clause-err c =
+pub unreachable-requires-in-Ok-None : goal.unreachable-requires-in-Ok-None
+unreachable-requires-in-Ok-None c =
     let defs = seen c.args.declarations.now in
-    let forms : list_all is_built_def defs ≡ true = search rules in
     let declared : term_fault (whole_of defs) ≡ None = search rules in
     let unbuilt : HaveUnbuilt (whole_of defs) = search rules in
-    (none_told defs c.requires.sound declared (later_is defs forms ∙ unbuilt.sound), λ t. none_untyped defs unbuilt t.0 t.1)
+    none_untaken defs c.requires.sound declared unbuilt
 
 pub returns-in-Err-found-clause-err : goal.returns-in-Err-found-clause-err
 returns-in-Err-found-clause-err c =
     let defs = seen c.args.declarations.now in
-    let forms : list_all is_built_def defs ≡ true = search rules in
     let declared : term_fault (whole_of defs) ≡ None = search rules in
     let later : later_fault (whole_of defs) ≡ Some (c.in-Err-found.fault.row, c.in-Err-found.fault.pos) = search rules in
-    told_last defs c.in_ok-error-in-Err-found.field-0 (c.in-Err-found.fault.row, c.in-Err-found.fault.pos) c.requires.sound declared forms later c.in_ok-error-in-Err-found.ensures
+    told_last defs c.in_ok-error-in-Err-found.field-0 (c.in-Err-found.fault.row, c.in-Err-found.fault.pos) c.requires.sound declared later c.in_ok-error-in-Err-found.ensures
 
 pub returns-clause-ok : goal.returns-clause-ok
 returns-clause-ok c =
     let defs = seen c.args.declarations.now in
-    let forms : list_all is_built_def defs ≡ true = search rules in
     let declared : term_fault (whole_of defs) ≡ None = search rules in
     let made : Some c.new.result ≡ terms_pass (whole_of defs) (terms defs) = search rules in
     let given : HaveRules (whole_of defs) (map elaborated_rule c.in-Ok-Some.rules.items) = search rules in
@@ -63,13 +51,12 @@ returns-clause-ok c =
     let converting : taken_converters (whole_of defs) [] (converters defs) ≡ Some c.in-Ok.found.listed.items = search rules in
     let listed : c.new-3.result ≡ c.in-Ok.found.listed.items = search rules in
     over_types _ c.requires.types
-    (given_typed defs _ forms c.requires.sound declared (sym made) given.sound given.treed (given.taken ∙ sym (ap (λ rs. Some (map elaborated_rule rs)) items)) (converting ∙ ap Some (sym listed)))
+    (given_typed defs _ c.requires.sound declared (sym made) given.sound given.treed (given.taken ∙ sym (ap (λ rs. Some (map elaborated_rule rs)) items)) (converting ∙ ap Some (sym listed)))
 
 pub rules_of-requires : goal.rules_of-requires
 rules_of-requires c =
     let defs = seen c.args.declarations.now in
     let declared : term_fault (whole_of defs) ≡ None = search rules in
-    let forms : list_all is_built_def defs ≡ true = search rules in
     let made : terms_pass (whole_of defs) (terms defs) ≡ Some c.as_slice.result.now = search rules in
     let found : AreFound defs (converters defs) c.in-Ok.found = search rules in
-    record { before = c.requires.before; types = c.requires.types; termed = c.in_ok-terms.ensures; typed = made; converted = found; sound = c.requires.sound; declared = declared; built = forms }
+    record { before = c.requires.before; types = c.requires.types; termed = c.in_ok-terms.ensures; typed = made; converted = found; sound = c.requires.sound; declared = declared }

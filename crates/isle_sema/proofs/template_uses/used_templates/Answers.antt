@@ -1,14 +1,11 @@
-use Rattle.std.proofs.Common.{◌≡◌, rules, ◌≤◌, ◌++◌, length, [], ◌∷◌, map, ap, sym, ◌∙◌, subst}
-use Rattle.std.specs.Prelude.{IfOk}
+use Rattle.std.proofs.Common.{◌≡◌, rules, ◌≤◌, ◌++◌, length, [], ◌∷◌, map, ap, sym, ◌∙◌}
 use Rattle.isle_ast.specs.Views.{defs as seen}
 use Rattle.isle_declarations.specs.Terms.{terms}
 use Rattle.isle_declarations.specs.TermViews.{term_def}
 use Rattle.isle_terms.specs.Whole.{whole}
 use Rattle.isle_terms.proofs.TermSteps.{named_here}
 use Rattle.isle_sema.proofs.UseSteps.{term_more, terms_all}
-use Rattle.isle_sema.proofs.UsedTerms.{uses_there}
-use Rattle.isle_walks.specs.Walks.{AreNodes, AreClosedTold}
-use Rattle.isle_sema.proofs.template_uses.closed_terms.Goals as goal
+use Rattle.isle_sema.proofs.template_uses.used_templates.Goals as goal
 
 pub used_of-requires : goal.used_of-requires
 used_of-requires c =
@@ -21,18 +18,8 @@ loop-term-preserved c =
     term_more (whole c.args.known.now) c.as_slice-term-items.result.now c.loop-term.term-index c.loop-term.graph.items c.push.new.self.items c.in_ok-used_of.field-0.items _ c.term-item.result _ c.loop-term-test.true c.term-item.is
     (c.in_ok-push.ensures.items ∙ ap (λ x. c.loop-term.graph.items ++ x ∷ []) listed) c.in_ok-used_of.ensures c.loop-term.invariant
 
-pub closed_walks-requires : goal.closed_walks-requires
-closed_walks-requires c =
-    let w = whole c.args.known.now in
-    let end : length c.as_slice-term-items.result.now ≤ c.loop-term.term-index = search rules in
-    let all = terms_all w c.as_slice-term-items.result.now c.loop-term.term-index c.loop-term.graph.items _ end c.loop-term.invariant in
-    let graph : c.loop-term.graph.items ≡ c.as_slice.result.now = search rules in
-    subst AreNodes (all ∙ graph) (uses_there w)
-
 pub returns : goal.returns
 returns c =
     let w = whole c.args.known.now in
     let end : length c.as_slice-term-items.result.now ≤ c.loop-term.term-index = search rules in
-    let all = terms_all w c.as_slice-term-items.result.now c.loop-term.term-index c.loop-term.graph.items _ end c.loop-term.invariant in
-    let graph : c.loop-term.graph.items ≡ c.as_slice.result.now = search rules in
-    subst (λ g. IfOk c.closed_walks.result (λ closed. AreClosedTold g closed.items)) (sym (all ∙ graph)) c.closed_walks.ensures
+    sym (terms_all w c.as_slice-term-items.result.now c.loop-term.term-index c.loop-term.graph.items _ end c.loop-term.invariant)

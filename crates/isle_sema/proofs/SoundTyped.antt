@@ -1,5 +1,5 @@
--- Definitions that are built and have no fault give an environment.
-use Rattle.std.proofs.Common.{◌≡◌, ℕ, ◌+◌, Bool, true, false, cond, List, [], ◌∷◌, Some, None, refl, ap, ◌∙◌}
+-- Definitions without a fault give an environment.
+use Rattle.std.proofs.Common.{◌≡◌, ℕ, ◌+◌, true, false, cond, List, [], ◌∷◌, Some, None, refl, ap, ◌∙◌}
 use Rattle.std.specs.Prelude.{Contains, option_map, option_and_then}
 use Rattle.std.specs.List.{list_any}
 use Rattle.std.proofs.lemmas.Bool.{or_parts}
@@ -18,16 +18,16 @@ use Rattle.isle_terms.proofs.MadeTerms.{before_both}
 use Rattle.isle_types.specs.Fault.{type_fault}
 use Rattle.isle_sema.specs.Environment.{env_over, env_with}
 use Rattle.isle_sema.specs.Fault.{OfTypes, OfTerms, OfExtractors, OfRules, or_later, fault_in, later_fault}
-use Rattle.isle_sema.specs.Language.{are_built}
 use Rattle.isle_sema.specs.RulePass.{rule_pass, rules_pass}
 use Rattle.isle_sema.specs.Taken.{row_of}
+use Rattle.isle_sema.specs.TakenAt.{HaveUnbuilt}
 use Rattle.isle_sema.specs.Templates.{templates, are_treed}
-use Rattle.isle_sema.specs.Typing.{fault, SomeTyped, told_fault}
+use Rattle.isle_sema.specs.Typing.{fault, SomeTyped}
 use Rattle.isle_sema.proofs.DeclaredWell.{AreDeclaredWell, terms_made}
 use Rattle.isle_sema.proofs.ExtractorLaws.{kept_in}
-use Rattle.isle_sema.proofs.Firsts.{stages_none, none_stages}
+use Rattle.isle_sema.proofs.Firsts.{stages_none}
 use Rattle.isle_sema.proofs.MadeConverters.{converters_made}
-use Rattle.isle_sema.proofs.RuleLaws.{is_broken, none_fault, none_is}
+use Rattle.isle_sema.proofs.RuleLaws.{is_broken, none_fault, none_is, are_taken}
 use Rattle.isle_sema.proofs.TreedRules.{rule_treed}
 use Rattle.isle_sema.proofs.TreedTemplates.{all_treed}
 
@@ -43,21 +43,31 @@ rules_made defs i (r ∷ rules) d among h =
     let rest = rules_made defs (i + 1) rules d (λ x c. among x (tail_contained r rules x c)) k.1 in
     (first ∷ rest.0, before_both (rule_pass w i r) (rules_pass w (i + 1) rules) first rest.0 (ap (option_map (elaborated (templates w))) written.1) rest.1)
 
--- built definitions without a fault give an environment
-pub built_typed : (defs : List Def) → are_built defs ≡ true → fault defs ≡ None → SomeTyped defs
-built_typed defs built sound =
+-- where extractors and rules have no fault either, their rules are taken
+pub none_untaken : (defs : List Def) → type_fault defs ≡ None → term_fault (whole_of defs) ≡ None → HaveUnbuilt (whole_of defs) → ⊥
+none_untaken defs types declared u =
+    let w = whole_of defs in
+    let d : AreDeclaredWell defs = record { types = types; terms = declared } in
+    let later = stages_none (fault_in OfExtractors w) (fault_in OfRules w) u.sound in
+    let kept = none_fault w [] defs later.1 in
+    let rs = rules_made defs 0 (rule_defs defs) d (λ r c. c) kept in
+    let bad : None ≡ Some rs.0 = u.left ∙ are_taken w 0 (rule_defs defs) rs.0 (record { kept = kept; trees = rs.1 }) in
+    cc
+
+-- definitions without a fault give an environment
+pub sound_typed : (defs : List Def) → fault defs ≡ None → SomeTyped defs
+sound_typed defs sound =
     let w = whole_of defs in
     let types = stages_none (fault_in OfTypes w) (or_later (fault_in OfTerms w) (later_fault w)) sound in
     let declared = stages_none (fault_in OfTerms w) (later_fault w) types.1 in
     let later = stages_none (fault_in OfExtractors w) (fault_in OfRules w) declared.1 in
-    let d : AreDeclaredWell defs = record { built = built; types = types.0; terms = declared.0 } in
+    let d : AreDeclaredWell defs = record { types = types.0; terms = declared.0 } in
     let ts = terms_made defs d in
     let cs = converters_made defs d in
     let rs = rules_made defs 0 (rule_defs defs) d (λ r c. c) (none_fault w [] defs later.1) in
     let treed : are_treed w ≡ true = all_treed defs d (kept_in w [] defs later.0).built in (
       env_over w.types ts.0 cs.0 rs.0,
       record {
-        built = built;
         sound = sound;
         given =
             ap (λ b. cond b (option_and_then (env_with w) (terms_pass w (terms defs))) None) treed
@@ -66,16 +76,3 @@ built_typed defs built sound =
             ∙ ap (option_map (env_over w.types ts.0 cs.0)) rs.1;
       },
     )
-
--- those of which no fault is told, and which give none, are not built
-pub unbuilt : (defs : List Def) → told_fault defs ≡ None → (SomeTyped defs → ⊥) → are_built defs ≡ false
-unbuilt defs told untyped = by (are_built defs) refl told
-  where
-    by : (b : Bool) → are_built defs ≡ b → or_later (type_fault defs) (or_later (term_fault (whole_of defs)) (cond b (later_fault (whole_of defs)) None)) ≡ None → are_built defs ≡ false
-    by false built none = built
-    by true built none =
-        let w = whole_of defs in
-        let types = stages_none (type_fault defs) (or_later (term_fault w) (later_fault w)) none in
-        let declared = stages_none (term_fault w) (later_fault w) types.1 in
-        let sound : fault defs ≡ None = none_stages (fault_in OfTypes w) (or_later (fault_in OfTerms w) (later_fault w)) types.0 (none_stages (fault_in OfTerms w) (later_fault w) declared.0 declared.1) in
-        absurd (untyped (built_typed defs built sound))

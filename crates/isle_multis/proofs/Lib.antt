@@ -1,0 +1,2 @@
+pub mod MarkedTerms
+pub mod ExpandedUses
