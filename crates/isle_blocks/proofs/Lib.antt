@@ -16,4 +16,5 @@ pub mod LawBinds
 pub mod LawBound
 pub mod LawChain
 pub mod LawPositions
+pub mod LawReturns
 pub mod LawSerializable

@@ -6,9 +6,8 @@ use Rattle.isle_core.specs.declared.files.Files.{Files}
 use Rattle.isle_core.specs.Rule.{Environment}
 use Rattle.isle_ast.specs.Tree.{Def}
 use Rattle.isle_sema.specs.Language.{are_built}
-use Rattle.isle_sema.specs.Typing.{Typed}
+use Rattle.isle_sema.specs.Typing.{TypedBuilt}
 use Rattle.isle_sema.proofs.TypedOnce.{typed_once}
-use Rattle.isle_sema.proofs.TypedParts.{typed_told}
 use Rattle.isle_sema.proofs.ToldFaults.{untold}
 use Rattle.isle_checks.specs.CheckList.{IsCheckList, IsClean}
 use Rattle.isle_checks.proofs.ListOnce.{none_wrong}
@@ -23,17 +22,17 @@ use Rattle.isle_names.specs.NameFault.{IsNameFault}
 use Rattle.isle_codegen.specs.Names.{are_file_names}
 use Rattle.isle_codegen.specs.Source.{AreAccepted, AreUnbuiltTexts}
 
-none_of_defs : (defs : List Def) (env : Environment) (errors : List Error) → Typed defs env → IsClean env → IsRecursionOf env [] → HaveDefErrors defs errors → ⊥
-none_of_defs defs env errors typed clean marked (of_types h) = untold defs h.error (typed_told typed) h.told
+none_of_defs : (defs : List Def) (env : Environment) (errors : List Error) → TypedBuilt defs env → IsClean env → IsRecursionOf env [] → HaveDefErrors defs errors → ⊥
+none_of_defs defs env errors typed clean marked (of_types h) = untold defs h.error typed.typed.sound h.told
 none_of_defs defs env errors typed clean marked (of_rules h) =
-    h.some (none_wrong env errors clean (subst (λ (e : Environment). IsCheckList e errors) (typed_once typed h.typed) h.list))
+    h.some (none_wrong env errors clean (subst (λ (e : Environment). IsCheckList e errors) (typed_once typed.typed h.typed.typed) h.list))
 none_of_defs defs env errors typed clean marked (of_recursion h) =
-    h.some (recursion_once env errors [] (subst (λ (e : Environment). IsRecursionOf e errors) (typed_once typed h.typed) h.list) marked)
+    h.some (recursion_once env errors [] (subst (λ (e : Environment). IsRecursionOf e errors) (typed_once typed.typed h.typed.typed) h.list) marked)
 
 none_have : (texts : List (List ℕ)) (errors : List Error) → AreAccepted texts → HaveErrors texts errors → ⊥
 none_have texts errors a (of_parsing pos wrong one) = wrong_unspelt 0 texts pos a.defs wrong a.source
 none_have texts errors a (of_defs defs source once h) =
-    none_of_defs defs a.env errors (subst (λ (ds : List Def). Typed ds a.env) (once a.defs a.source) a.compilable.typed) a.clean a.marked h
+    none_of_defs defs a.env errors (subst (λ (ds : List Def). TypedBuilt ds a.env) (once a.defs a.source) a.compilable.typed) a.clean a.marked h
 
 -- texts that are accepted have no errors
 pub accepted_none : (names texts : List (List ℕ)) (e : Errors) → AreAccepted texts → IsErrors e names texts → ⊥
@@ -46,10 +45,10 @@ accepted_built texts a h = true≢false (sym a.compilable.typed.built ∙ ap are
 -- where texts are accepted, and the names of their files may stand in a comment, no name is one that may not be emitted
 pub accepted_named : (names texts : List (List ℕ)) (e : NameError) → AreAccepted texts → are_file_names names ≡ true → IsNameError names texts e → ⊥
 accepted_named names texts e a printed h =
-    let same = typed_once (subst (λ (ds : List Def). Typed ds a.env) (h.once a.defs a.source) a.compilable.typed) h.error.typed in
+    let same = typed_once (subst (λ (ds : List Def). TypedBuilt ds a.env) (h.once a.defs a.source) a.compilable.typed).typed h.error.typed.typed in
     none_unlawful names a.defs a.env e a.compilable printed (subst (λ (env : Environment). IsNameFault names env e) same h.error.first)
 
 -- files that pass the check have texts that are accepted
 pub checked_accepted : (files : Files) (env : Environment) → IsChecked files env → AreAccepted files.file_texts
 checked_accepted files env h =
-    record { defs = h.defs; env = env; source = h.source; compilable = record { typed = h.typed.typed; names = h.given.compilable.names; fns = h.given.compilable.fns; lawful = h.given.compilable.lawful }; clean = h.given.clean; marked = h.given.marked }
+    record { defs = h.defs; env = env; source = h.source; compilable = record { typed = record { typed = h.typed.typed; built = h.built }; names = h.given.compilable.names; fns = h.given.compilable.fns; lawful = h.given.compilable.lawful }; clean = h.given.clean; marked = h.given.marked }

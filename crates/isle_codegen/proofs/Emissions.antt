@@ -1,7 +1,7 @@
 -- Functions that are emitted one after another.
-use Rattle.std.proofs.Common.{◌≡◌, ℕ, ◌+◌, ◌<◌, ◌≤◌, List, [], ◌∷◌, ◌++◌, length, take, get_or, Some, None, sym, ap, ◌∙◌, subst}
+use Rattle.std.proofs.Common.{◌≡◌, ℕ, ◌+◌, ◌<◌, List, Bool, [], ◌∷◌, ◌++◌, length, take, get_or, Some, None, sym, ap, ◌∙◌, subst}
 use Rattle.std.specs.Prelude.{slice_get}
-use Rattle.std.proofs.lemmas.List.{take_more, take_all}
+use Rattle.std.proofs.lemmas.List.{take_more}
 use Rattle.std.proofs.lemmas.Option.{slice_get_within, slice_get-get_or}
 use Rattle.isle_core.specs.declared.TermId.{TermId}
 use Rattle.isle_core.specs.declared.files.Files.{Files}
@@ -9,6 +9,7 @@ use Rattle.isle_core.specs.declared.rule_sets.RuleSet.{RuleSet}
 use Rattle.isle_core.specs.declared.types.Term.{Term}
 use Rattle.isle_core.specs.Block.{Block}
 use Rattle.isle_core.specs.BlockLawful.{IsLawfulBlock}
+use Rattle.isle_core.specs.ReturnPositions.{return_positions, ArePositionsOf}
 use Rattle.isle_core.specs.Rule.{Environment}
 use Rattle.isle_core.specs.Serializable.{IsSerializable}
 use Rattle.isle_core.specs.Setting.{setting}
@@ -27,41 +28,38 @@ pub at_place : (ts : List Term) (i : ℕ) (x t : Term) → x ≡ get_or ts i x �
 at_place ts i x t is e = slice_get-get_or ts i x (slice_get_within ts i t e) ∙ ap Some (sym is)
 
 -- the function of a block of the rule set is emitted for it
-pub is_emitted : (files : Files) (env : Environment) (id : TermId) (s : RuleSet) (t : Term) (b : Block) (f : Function) → CanEmit files env (id, s) → slice_get env.terms id.0 ≡ Some t
-    → ((u : Term) → IsSerializable env u s → IsLawfulBlock (setting env u s.bindings) b) → HasSingleArms b → MeansSet env s b → term_function files (setting env t s.bindings) b ≡ Some f → IsEmitted files env id s f
-is_emitted files env id s t b f h there lawful single means given = record {
+pub is_emitted : (logging : Bool) (files : Files) (env : Environment) (id : TermId) (s : RuleSet) (t : Term) (b : Block) (f : Function) → CanEmit files env (id, s) → slice_get env.terms id.0 ≡ Some t
+    → ((u : Term) → IsSerializable env u s → IsLawfulBlock (setting env u s.bindings) b) → HasSingleArms b → MeansSet env s b → ArePositionsOf s.rules (return_positions b) → term_function logging files (setting env t s.bindings) b ≡ Some f → IsEmitted logging files env id s f
+is_emitted logging files env id s t b f h there lawful single means returns given = record {
   term = h.term;
   found = h.found;
   block = b;
   lawful = lawful h.term h.ready;
   single = single;
   means = means;
+  returns = returns;
   once = h.emittable.once;
-  given = ap (λ (u : Term). term_function files (setting env u s.bindings) b) (sym (some_one t h.term (sym there ∙ h.found))) ∙ given;
+  given = ap (λ (u : Term). term_function logging files (setting env u s.bindings) b) (sym (some_one t h.term (sym there ∙ h.found))) ∙ given;
 }
 
 -- and its function is there
-pub is_given : (files : Files) (env : Environment) (id : TermId) (s : RuleSet) (t : Term) (b : Block) → CanEmit files env (id, s) → slice_get env.terms id.0 ≡ Some t
-    → ((u : Term) → IsSerializable env u s → IsLawfulBlock (setting env u s.bindings) b) → HasSingleArms b → None ≡ term_function files (setting env t s.bindings) b → ⊥
-is_given files env id s t b h there lawful single none =
+pub is_given : (logging : Bool) (files : Files) (env : Environment) (id : TermId) (s : RuleSet) (t : Term) (b : Block) → CanEmit files env (id, s) → slice_get env.terms id.0 ≡ Some t
+    → ((u : Term) → IsSerializable env u s → IsLawfulBlock (setting env u s.bindings) b) → HasSingleArms b → None ≡ term_function logging files (setting env t s.bindings) b → ⊥
+is_given logging files env id s t b h there lawful single none =
     let same = some_one h.term t (sym h.found ∙ there) in
-    let made = function_made files env h.term s.bindings b h.emittable.once (lawful h.term h.ready) single in
-    let bad : None ≡ Some (function_of files env h.term s.bindings b) = none ∙ ap (λ (u : Term). term_function files (setting env u s.bindings) b) (sym same) ∙ made in
+    let made = function_made logging files env h.term s.bindings b h.emittable.once (lawful h.term h.ready) single in
+    let bad : None ≡ Some (function_of logging files env h.term s.bindings b) = none ∙ ap (λ (u : Term). term_function logging files (setting env u s.bindings) b) (sym same) ∙ made in
     cc
 
-both_emitted : (files : Files) (env : Environment) (ss ts : List (TermId × RuleSet)) (fs gs : List Function) → AreEmitted files env ss fs → AreEmitted files env ts gs → AreEmitted files env (ss ++ ts) (fs ++ gs)
-both_emitted files env [] ts [] gs h k = k
-both_emitted files env (s ∷ ss) ts (f ∷ fs) gs h k = (h.0, both_emitted files env ss ts fs gs h.1 k)
-both_emitted files env [] ts (f ∷ fs) gs h k = absurd h
-both_emitted files env (s ∷ ss) ts [] gs h k = absurd h
+both_emitted : (logging : Bool) (files : Files) (env : Environment) (ss ts : List (TermId × RuleSet)) (fs gs : List Function) → AreEmitted logging files env ss fs → AreEmitted logging files env ts gs → AreEmitted logging files env (ss ++ ts) (fs ++ gs)
+both_emitted logging files env [] ts [] gs h k = k
+both_emitted logging files env (s ∷ ss) ts (f ∷ fs) gs h k = (h.0, both_emitted logging files env ss ts fs gs h.1 k)
+both_emitted logging files env [] ts (f ∷ fs) gs h k = absurd h
+both_emitted logging files env (s ∷ ss) ts [] gs h k = absurd h
 
 -- one function more
-pub emitted_more : (files : Files) (env : Environment) (sets : List (TermId × RuleSet)) (i : ℕ) (s : TermId × RuleSet) (fs : List Function) (f : Function) → i < length sets → s ≡ get_or sets i s
-    → AreEmitted files env (take i sets) fs → IsEmitted files env s.0 s.1 f → AreEmitted files env (take (i + 1) sets) (fs ++ f ∷ [])
-emitted_more files env sets i s fs f lt is h k =
+pub emitted_more : (logging : Bool) (files : Files) (env : Environment) (sets : List (TermId × RuleSet)) (i : ℕ) (s : TermId × RuleSet) (fs : List Function) (f : Function) → i < length sets → s ≡ get_or sets i s
+    → AreEmitted logging files env (take i sets) fs → IsEmitted logging files env s.0 s.1 f → AreEmitted logging files env (take (i + 1) sets) (fs ++ f ∷ [])
+emitted_more logging files env sets i s fs f lt is h k =
     let all : take (i + 1) sets ≡ take i sets ++ s ∷ [] = take_more sets i s lt ∙ ap (λ y. take i sets ++ y ∷ []) (sym is) in
-    subst (λ xs. AreEmitted files env xs (fs ++ f ∷ [])) (sym all) (both_emitted files env (take i sets) (s ∷ []) fs (f ∷ []) h (k, tt))
-
--- at the end they are all
-pub emitted_all : (files : Files) (env : Environment) (sets : List (TermId × RuleSet)) (i : ℕ) (fs : List Function) → length sets ≤ i → AreEmitted files env (take i sets) fs → AreEmitted files env sets fs
-emitted_all files env sets i fs le h = subst (λ xs. AreEmitted files env xs fs) (take_all i sets le) h
+    subst (λ xs. AreEmitted logging files env xs (fs ++ f ∷ [])) (sym all) (both_emitted logging files env (take i sets) (s ∷ []) fs (f ∷ []) h (k, tt))

@@ -6,6 +6,7 @@ pub mod EachPath
 pub mod NamedConstants
 pub mod ExtractedPaths
 pub mod CalledTerms
+pub mod RulePositions
 pub mod MeanRules
 pub mod TypedNames
 pub mod Emitting
@@ -19,3 +20,4 @@ pub mod Emissions
 pub mod Answerable
 pub mod RulesApart
 pub mod Accepted
+pub mod FormSteps

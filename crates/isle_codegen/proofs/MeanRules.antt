@@ -33,7 +33,7 @@ use Rattle.isle_core.proofs.SetMeans.{set_means}
 use Rattle.isle_printer.specs.Bytes.{same_bytes}
 use Rattle.isle_printer.proofs.Bytes.{same_bytes_refl, same_bytes_sound}
 use Rattle.isle_ast.specs.Tree.{Def}
-use Rattle.isle_sema.specs.Typing.{Typed}
+use Rattle.isle_sema.specs.Typing.{TypedBuilt}
 use Rattle.isle_sema.proofs.BuiltRules.{typed_built, typed_scoped, typed_terms, typed_tests}
 use Rattle.isle_checks.specs.CheckList.{IsClean}
 use Rattle.isle_codegen.proofs.RulesApart.{rules_apart}
@@ -54,11 +54,11 @@ use Rattle.isle_codegen.proofs.EmittedNames.{name_of_term, emitted_name}
 -- ---- the function of a term is found by its name
 
 -- the function that is found by a term's name is emitted for a rule set that stands for the term's rules
-pub record HasFunction (files : Files) (env : Environment) (fs : List Function) (id : TermId) : Type 0 where
+pub record HasFunction (logging : Bool) (files : Files) (env : Environment) (fs : List Function) (id : TermId) : Type 0 where
   pub set : RuleSet
   pub stands : StandsFor env set (rules_of env id)
   pub function : Function
-  pub emitted : IsEmitted files env id set function
+  pub emitted : IsEmitted logging files env id set function
   pub found : function_of (term_name env id) fs ≡ Some function
   pub among : Contains (map (λ (f : Function). f.term) fs) (term_name env id)
 
@@ -77,18 +77,18 @@ later_found name f g fs true e differ h =
     differs : (x : List ℕ) → bytes_eq x x ≡ false → ⊥
     differs x k = let same : bytes_eq x x ≡ true = (bytes_eq-Decides x x).1 refl in cc
 
-module _ (files : Files) (env : Environment) (f : Function) (fs : List Function) (id : TermId) where
-  here_found : (s : TermId × RuleSet) → IsEmitted files env s.0 s.1 f → StandsFor env s.1 (rules_of env s.0) → s.0 ≡ id → HasFunction files env (f ∷ fs) id
-  here_found s e st same = subst (HasFunction files env (f ∷ fs)) same (record {
+module _ (logging : Bool) (files : Files) (env : Environment) (f : Function) (fs : List Function) (id : TermId) where
+  here_found : (s : TermId × RuleSet) → IsEmitted logging files env s.0 s.1 f → StandsFor env s.1 (rules_of env s.0) → s.0 ≡ id → HasFunction logging files env (f ∷ fs) id
+  here_found s e st same = subst (HasFunction logging files env (f ∷ fs)) same (record {
     set = s.1;
     stands = st;
     function = f;
     emitted = e;
-    found = first_found (term_name env s.0) f fs (emitted_name files env s.0 s.1 f e);
-    among = subst (Contains (map (λ (g : Function). g.term) (f ∷ fs))) (emitted_name files env s.0 s.1 f e) (head_contained f.term (map (λ (g : Function). g.term) fs));
+    found = first_found (term_name env s.0) f fs (emitted_name logging files env s.0 s.1 f e);
+    among = subst (Contains (map (λ (g : Function). g.term) (f ∷ fs))) (emitted_name logging files env s.0 s.1 f e) (head_contained f.term (map (λ (g : Function). g.term) fs));
   })
 
-  behind_found : AllByRecursion (λ y. bytes_eq f.term y ≡ false) (map (λ (g : Function). g.term) fs) → HasFunction files env fs id → HasFunction files env (f ∷ fs) id
+  behind_found : AllByRecursion (λ y. bytes_eq f.term y ≡ false) (map (λ (g : Function). g.term) fs) → HasFunction logging files env fs id → HasFunction logging files env (f ∷ fs) id
   behind_found d h = record {
     set = h.set;
     stands = h.stands;
@@ -99,16 +99,16 @@ module _ (files : Files) (env : Environment) (f : Function) (fs : List Function)
   }
 
 -- the function of each term that is listed is found
-pub has_function : (files : Files) (env : Environment) (sets : List (TermId × RuleSet)) (fs : List Function) (id : TermId) → AreEmitted files env sets fs
+pub has_function : (logging : Bool) (files : Files) (env : Environment) (sets : List (TermId × RuleSet)) (fs : List Function) (id : TermId) → AreEmitted logging files env sets fs
     → AllByRecursion (λ (s : TermId × RuleSet). StandsFor env s.1 (rules_of env s.0)) sets → IsDistinct bytes_eq (map (λ (f : Function). f.term) fs)
-    → Contains (map (λ (s : TermId × RuleSet). s.0) sets) id → HasFunction files env fs id
+    → Contains (map (λ (s : TermId × RuleSet). s.0) sets) id → HasFunction logging files env fs id
 unfolding IsDistinct
-has_function files env [] [] id e st d c = absurd (none_contained id c)
-has_function files env (s ∷ sets) (f ∷ fs) id e st d c =
-    ⊎_elim (here_found files env f fs id s e.0 st.0) (λ k. behind_found files env f fs id d.0 (has_function files env sets fs id e.1 st.1 d.1 k))
+has_function logging files env [] [] id e st d c = absurd (none_contained id c)
+has_function logging files env (s ∷ sets) (f ∷ fs) id e st d c =
+    ⊎_elim (here_found logging files env f fs id s e.0 st.0) (λ k. behind_found logging files env f fs id d.0 (has_function logging files env sets fs id e.1 st.1 d.1 k))
     (contained_cases s.0 (map (λ (x : TermId × RuleSet). x.0) sets) id c)
-has_function files env [] (f ∷ fs) id e st d c = absurd e
-has_function files env (s ∷ sets) [] id e st d c = absurd e
+has_function logging files env [] (f ∷ fs) id e st d c = absurd e
+has_function logging files env (s ∷ sets) [] id e st d c = absurd e
 
 -- ---- it gives what the rules prescribe
 
@@ -141,7 +141,7 @@ keep_all P keep (r ∷ rs) h = pick_all P r (filter keep rs) (keep r) h.0 (keep_
 pub of_term : (P : Rule → Type 0) (env : Environment) (id : TermId) → All P env.rules → All P (rules_of env id)
 of_term P env id h = All-from_recursion P (rules_of env id) (keep_all P (λ (r : Rule). r.root_term.0 == id.0) env.rules (recursion_from_All P env.rules h))
 
-module _ (defs : List Def) (files : Files) (env : Environment) (p : Program) (id : TermId) (typed : Typed defs env) (clean : IsClean env) (names : HasRustNames env) (fns : HasFnNames env) (term_fns : HasTermFns env) (listed : Contains (with_rules env) id) (h : HasFunction files env p.fns id) where
+module _ (defs : List Def) (logging : Bool) (files : Files) (env : Environment) (p : Program) (id : TermId) (typed : TypedBuilt defs env) (clean : IsClean env) (names : HasRustNames env) (fns : HasFnNames env) (term_fns : HasTermFns env) (listed : Contains (with_rules env) id) (h : HasFunction logging files env p.fns id) where
   abbrev the_term : Term
   the_term = h.emitted.term
 
@@ -169,7 +169,7 @@ module _ (defs : List Def) (files : Files) (env : Environment) (p : Program) (id
   runs args m types lawful =
       let named = name_of_term env id the_term h.emitted.found in
       ap (λ (n : List ℕ). option_map (λ (q : Ran). nameless_ran (impure_ran env q)) (run p n args m)) named
-      ∙ runs_as_block files env the_term h.set.bindings h.emitted.block h.function h.emitted.lawful h.emitted.single h.emitted.once h.emitted.given names fns term_fns p args m
+      ∙ runs_as_block logging files env the_term h.set.bindings h.emitted.block h.function h.emitted.lawful h.emitted.single h.emitted.once h.emitted.given names fns term_fns p args m
       (ap (λ (n : List ℕ). function_of n p.fns) (sym named) ∙ h.found) types (bindings_answered env id h.set h.stands m lawful) lawful.declared
       ∙ ap (λ (o : Prescription). option_map nameless_ran (ran_of the_term o)) (same_outcome args m types lawful)
 

@@ -11,7 +11,7 @@ use Rattle.isle_core.proofs.Contained.{contained_cases, none_contained}
 use Rattle.isle_ast.specs.Tree.{Def}
 use Rattle.isle_ast.specs.Positions.{place_of, AreWithin}
 use Rattle.isle_grammar.proofs.Within.{spelt_within}
-use Rattle.isle_sema.specs.Typing.{Typed, told_fault}
+use Rattle.isle_sema.specs.Typing.{Typed, fault}
 use Rattle.isle_sema.proofs.TypedTerms.{typed_places}
 use Rattle.isle_sema.proofs.RulePlaces.{rule_places}
 use Rattle.isle_checks.proofs.PlacedErrors.{LieIn}
@@ -90,7 +90,7 @@ rules_placed files defs env h k =
     (λ i r lt. let d = rule_places defs env _ h (Contains-get_or env.rules i r lt) in subst (LiesIn files) d.2 (placed_among files defs d.0 k d.1))
 
 -- an error of typing stands where a definition does
-pub typing_placed : (files : Files) (defs : List Def) (error : Error) → DefsArePlaced files defs → TellsTyping (told_fault defs) (Some error) → IsPlaced files error
+pub typing_placed : (files : Files) (defs : List Def) (error : Error) → DefsArePlaced files defs → TellsTyping (fault defs) (Some error) → IsPlaced files error
 typing_placed files defs error placed told =
     let at = told_lies (LiesIn files) defs error placed told in
     subst (IsPlaced files) (sym at.2.is) (subst (LiesIn files) (sym at.2.begins) at.1)

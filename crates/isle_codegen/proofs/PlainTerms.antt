@@ -13,7 +13,7 @@ use Rattle.isle_core.specs.declared.types.ReturnKind.{ReturnKind}
 use Rattle.isle_core.specs.Calling.{extractor_kind, kind_of, AnswersOnce}
 use Rattle.isle_core.specs.Rule.{Environment}
 use Rattle.isle_ast.specs.Tree.{Def}
-use Rattle.isle_sema.specs.Typing.{Typed}
+use Rattle.isle_sema.specs.Typing.{TypedBuilt}
 use Rattle.isle_sema.proofs.TypedTerms.{IsPlainKind, typed_kind}
 use Rattle.isle_simulation.specs.TraitFns.{extracted_of}
 
@@ -27,7 +27,7 @@ kind_once (term_kind.Decl pure multi partial recursive by x) h = let plain = h r
 kind_once (term_kind.Variant ty variant) h = tt
 kind_once (term_kind.Struct ty) h = tt
 
-pub typed_once : (defs : List Def) (env : Environment) (i : ℕ) (t : Term) → Typed defs env → slice_get env.terms i ≡ Some t → AnswersOnce (kind_of t.kind)
+pub typed_once : (defs : List Def) (env : Environment) (i : ℕ) (t : Term) → TypedBuilt defs env → slice_get env.terms i ≡ Some t → AnswersOnce (kind_of t.kind)
 typed_once defs env i t typed at = kind_once t.kind (typed_kind defs env i t typed at)
 
 -- ---- extractors
@@ -49,5 +49,5 @@ by_kind (term_kind.Variant ty variant) extracted plain e = cc
 by_kind (term_kind.Struct ty) extracted plain e = cc
 
 -- each external extractor of typed definitions answers at most once
-pub typed_extractor : (defs : List Def) (env : Environment) (i : ℕ) (t : Term) → Typed defs env → slice_get env.terms i ≡ Some t → (extracted : Sym × ReturnKind) → extracted_of t.kind ≡ Some extracted → AnswersOnce extracted.1
+pub typed_extractor : (defs : List Def) (env : Environment) (i : ℕ) (t : Term) → TypedBuilt defs env → slice_get env.terms i ≡ Some t → (extracted : Sym × ReturnKind) → extracted_of t.kind ≡ Some extracted → AnswersOnce extracted.1
 typed_extractor defs env i t typed at extracted e = by_kind t.kind extracted (typed_kind defs env i t typed at) e

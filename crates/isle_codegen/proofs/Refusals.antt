@@ -13,7 +13,7 @@ use Rattle.isle_core.specs.declared.files.Files.{Files}
 use Rattle.isle_core.specs.Inputs.{AreRead}
 use Rattle.isle_core.specs.Rule.{Environment}
 use Rattle.isle_ast.specs.Tree.{Def}
-use Rattle.isle_sema.specs.Typing.{Typed, told_fault}
+use Rattle.isle_sema.specs.Typing.{TypedBuilt, fault}
 use Rattle.isle_types.specs.Gathered.{TellsTyping}
 use Rattle.isle_checks.specs.CheckList.{IsCheckList, IsClean}
 use Rattle.isle_checks.proofs.PlacedErrors.{errors_placed}
@@ -58,12 +58,12 @@ parse_refusal (error.Io index why) files pos same h wrong = absurd h
 parse_refusal (error.Name name) files pos same h wrong = absurd h
 
 -- errors that are told with files in which the definitions stand
-told_errors : (e : CompileError) (files : Files) (defs : List Def) (env : Environment) (errors : List Error) → (e ≡ compile_error.Memory) ⊎ (e ≡ compile_error.Errors (record { errors = errors; files = files })) → Typed defs env → DefsArePlaced files defs
+told_errors : (e : CompileError) (files : Files) (defs : List Def) (env : Environment) (errors : List Error) → (e ≡ compile_error.Memory) ⊎ (e ≡ compile_error.Errors (record { errors = errors; files = files })) → TypedBuilt defs env → DefsArePlaced files defs
     → IsCheckList env errors → (errors ≡ [] → ⊥) → IsUncompiled e files defs
 told_errors e files defs env errors is typed placed list some = ⊎_elim
     (λ s. subst (λ x. IsUncompiled x files defs) (sym s) tt)
     (λ s. subst (λ x. IsUncompiled x files defs) (sym s) (record {
-      told = record { given = refl; placed = errors_placed files env errors (rules_placed files defs env typed placed) list };
+      told = record { given = refl; placed = errors_placed files env errors (rules_placed files defs env typed.typed placed) list };
       cause = of_rules (record { env = env; typed = typed; list = list; some = some });
     }))
     is
@@ -88,30 +88,30 @@ errors_lie : (files : Files) (ps : List Pos) → AllByRecursion (LiesIn files) p
 errors_lie files [] h = tt
 errors_lie files (p ∷ ps) h = (h.0, errors_lie files ps h.1)
 
-recursion_told : (e : CompileError) (files : Files) (defs : List Def) (env : Environment) (errors : List Error) → (e ≡ compile_error.Memory) ⊎ (e ≡ compile_error.Errors (record { errors = errors; files = files })) → Typed defs env → DefsArePlaced files defs
+recursion_told : (e : CompileError) (files : Files) (defs : List Def) (env : Environment) (errors : List Error) → (e ≡ compile_error.Memory) ⊎ (e ≡ compile_error.Errors (record { errors = errors; files = files })) → TypedBuilt defs env → DefsArePlaced files defs
     → IsClean env → IsRecursionOf env errors → (errors ≡ [] → ⊥) → IsUncompiled e files defs
 recursion_told e files defs env errors is typed placed clean list some = ⊎_elim
     (λ s. subst (λ x. IsUncompiled x files defs) (sym s) tt)
     (λ s. subst (λ x. IsUncompiled x files defs) (sym s) (record {
-      told = record { given = refl; placed = subst (All (IsPlaced files)) (sym list.2) (All-from_recursion (IsPlaced files) (map recursion_error list.0) (errors_lie files list.0 (recursion_placed files env.terms (with_rules env) list.0 env refl (terms_placed files defs env typed placed) list.1))) };
+      told = record { given = refl; placed = subst (All (IsPlaced files)) (sym list.2) (All-from_recursion (IsPlaced files) (map recursion_error list.0) (errors_lie files list.0 (recursion_placed files env.terms (with_rules env) list.0 env refl (terms_placed files defs env typed.typed placed) list.1))) };
       cause = of_recursion (record { env = env; typed = typed; clean = clean; list = list; some = some });
     }))
     is
 
 -- what the check of rules found
-pub rules_found : (e : CompileError) (files : Files) (defs : List Def) (env : Environment) (fail : CheckError) → IsFound files fail e → Typed defs env → DefsArePlaced files defs
+pub rules_found : (e : CompileError) (files : Files) (defs : List Def) (env : Environment) (fail : CheckError) → IsFound files fail e → TypedBuilt defs env → DefsArePlaced files defs
     → ((errors : List Error) → fail ≡ check.Rules errors → IsCheckList env errors) → ((errors : List Error) → fail ≡ check.Rules errors → errors ≡ [] → ⊥) → IsUncompiled e files defs
 rules_found e files defs env (check.Rules errors) found typed placed list some = told_errors e files defs env errors found typed placed (list errors refl) (some errors refl)
 rules_found e files defs env check.Memory found typed placed list some = subst (λ x. IsUncompiled x files defs) (sym found) tt
 
 -- what the check of terms that use themselves found
-pub recursion_found : (e : CompileError) (files : Files) (defs : List Def) (env : Environment) (fail : CheckError) → IsFound files fail e → Typed defs env → DefsArePlaced files defs → IsClean env
+pub recursion_found : (e : CompileError) (files : Files) (defs : List Def) (env : Environment) (fail : CheckError) → IsFound files fail e → TypedBuilt defs env → DefsArePlaced files defs → IsClean env
     → ((errors : List Error) → fail ≡ check.Rules errors → IsRecursionOf env errors) → ((errors : List Error) → fail ≡ check.Rules errors → errors ≡ [] → ⊥) → IsUncompiled e files defs
 recursion_found e files defs env (check.Rules errors) found typed placed clean list some = recursion_told e files defs env errors found typed placed clean (list errors refl) (some errors refl)
 recursion_found e files defs env check.Memory found typed placed clean list some = subst (λ x. IsUncompiled x files defs) (sym found) tt
 
--- the one error of a fault that is told, in which the definitions stand
-pub typing_told : (e : CompileError) (files : Files) (defs : List Def) (error : Error) → (e ≡ compile_error.Memory) ⊎ (e ≡ compile_error.Errors (record { errors = error ∷ []; files = files })) → DefsArePlaced files defs → TellsTyping (told_fault defs) (Some error)
+-- the one error of a fault, in which the definitions stand
+pub typing_told : (e : CompileError) (files : Files) (defs : List Def) (error : Error) → (e ≡ compile_error.Memory) ⊎ (e ≡ compile_error.Errors (record { errors = error ∷ []; files = files })) → DefsArePlaced files defs → TellsTyping (fault defs) (Some error)
     → IsUncompiled e files defs
 typing_told e files defs error is placed told = ⊎_elim
     (λ s. subst (λ x. IsUncompiled x files defs) (sym s) tt)

@@ -1,5 +1,5 @@
 -- When functions are emitted for rule sets.
-use Rattle.std.specs.Prelude.{◌≡◌, List, [], ◌∷◌, Some, slice_get}
+use Rattle.std.specs.Prelude.{◌≡◌, List, Bool, [], ◌∷◌, Some, slice_get}
 use Rattle.isle_core.specs.declared.types.ReturnKind.{ReturnKind}
 use Rattle.isle_core.specs.declared.TermId.{TermId}
 use Rattle.isle_core.specs.declared.files.Files.{Files}
@@ -15,6 +15,7 @@ use Rattle.isle_core.specs.BlockRun.{block_outcome}
 use Rattle.isle_core.specs.BlockLawful.{IsLawfulBlock}
 use Rattle.isle_core.specs.Places.{LiesIn}
 use Rattle.isle_core.specs.Rule.{Environment}
+use Rattle.isle_core.specs.ReturnPositions.{return_positions, ArePositionsOf}
 use Rattle.isle_core.specs.Serializable.{IsSerializable}
 use Rattle.isle_core.specs.Setting.{setting}
 use Rattle.isle_core.specs.SingleArms.{HasSingleArms}
@@ -42,20 +43,21 @@ abbrev pub MeansSet : Environment → RuleSet → Block → Type 0
 MeansSet env s b = (m : Meaning) (args : List Value) (kind : ReturnKind) → block_outcome env m args (paths_of s.bindings) b kind ≡ set_outcome env m args (paths_of s.bindings) s.rules kind
 
 -- the function of the term, which answers at most once, from a block that is lawful for its rule set, has one arm in each
--- Match and means the set
-pub record IsEmitted (files : Files) (env : Environment) (id : TermId) (s : RuleSet) (f : Function) : Type 0 where
+-- Match, returns at the positions of its rules and means the set
+pub record IsEmitted (logging : Bool) (files : Files) (env : Environment) (id : TermId) (s : RuleSet) (f : Function) : Type 0 where
   pub term : Term
   pub found : slice_get env.terms id.0 ≡ Some term
   pub block : Block
   pub lawful : IsLawfulBlock (setting env term s.bindings) block
   pub single : HasSingleArms block
   pub means : MeansSet env s block
+  pub returns : ArePositionsOf s.rules (return_positions block)
   pub once : AnswersOnce (kind_of term.kind)
-  pub given : term_function files (setting env term s.bindings) block ≡ Some f
+  pub given : term_function logging files (setting env term s.bindings) block ≡ Some f
 
 -- so of each term with its rule set, in order
-abbrev pub AreEmitted : Files → Environment → List (TermId × RuleSet) → List Function → Type 0
-AreEmitted files env [] [] = Unit {0}
-AreEmitted files env (s ∷ sets) (f ∷ fs) = IsEmitted files env s.0 s.1 f × AreEmitted files env sets fs
-AreEmitted files env [] (f ∷ fs) = ⊥
-AreEmitted files env (s ∷ sets) [] = ⊥
+abbrev pub AreEmitted : (logging : Bool) → Files → Environment → List (TermId × RuleSet) → List Function → Type 0
+AreEmitted logging files env [] [] = Unit {0}
+AreEmitted logging files env (s ∷ sets) (f ∷ fs) = IsEmitted logging files env s.0 s.1 f × AreEmitted logging files env sets fs
+AreEmitted logging files env [] (f ∷ fs) = ⊥
+AreEmitted logging files env (s ∷ sets) [] = ⊥

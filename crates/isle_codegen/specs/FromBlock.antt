@@ -1,5 +1,6 @@
 -- The functions of a program, each made from a block of its term's rules.
-use Rattle.std.specs.Prelude.{◌≡◌, List, [], ◌∷◌, Some, Contains, slice_get}
+use Rattle.std.specs.Prelude.{◌≡◌, List, Bool, [], ◌∷◌, map, Some, Contains, slice_get}
+use Rattle.std.specs.List.{AllByRecursion}
 use Rattle.isle_core.specs.declared.TermId.{TermId}
 use Rattle.isle_core.specs.declared.files.Files.{Files}
 use Rattle.isle_core.specs.declared.rule_sets.RuleSet.{RuleSet}
@@ -7,19 +8,23 @@ use Rattle.isle_core.specs.declared.types.Term.{Term}
 use Rattle.isle_core.specs.declared.values.Callee.{Callee}
 use Rattle.isle_core.specs.Block.{Block}
 use Rattle.isle_core.specs.BlockLawful.{IsLawfulBlock}
-use Rattle.isle_core.specs.Rule.{Environment, rules_of}
+use Rattle.isle_core.specs.ReturnPositions.{return_positions}
+use Rattle.isle_core.specs.Rule.{Environment, Rule, rules_of}
 use Rattle.isle_core.specs.Setting.{setting}
 use Rattle.isle_core.specs.StandsFor.{StandsFor}
 use Rattle.isle_simulation.specs.Shape.{HasShape}
-use Rattle.isle_simulation.specs.TermFunction.{term_function}
+use Rattle.isle_simulation.specs.LogLines.{lines_of}
+use Rattle.isle_simulation.specs.TermFunction.{log_lines, term_function}
 use Rattle.isle_tree.specs.Calls.{body_calls}
 use Rattle.isle_tree.specs.Program.{Function}
 use Rattle.isle_codegen.specs.CalledBy.{IsCalledBy}
 use Rattle.isle_codegen.specs.Emits.{MeansSet}
 
 -- the function is that of a block which is lawful for a rule set that stands for the term's rules, and means it: it has
--- the block's shape, its head, its statements and its tail are those of the block, and its calls are those of the rules
-pub record IsFromBlock (files : Files) (env : Environment) (id : TermId) (f : Function) : Type 0 where
+-- the block's shape, its head, its statements and its tail are those of the block; its log lines are, where they are asked for, the term's
+-- name with the place of each Return of the block, in order, and each Return has the position of one of the rules; its calls are those of
+-- the rules
+pub record IsFromBlock (logging : Bool) (files : Files) (env : Environment) (id : TermId) (f : Function) : Type 0 where
   pub term : Term
   pub found : slice_get env.terms id.0 ≡ Some term
   pub set : RuleSet
@@ -28,12 +33,14 @@ pub record IsFromBlock (files : Files) (env : Environment) (id : TermId) (f : Fu
   pub lawful : IsLawfulBlock (setting env term set.bindings) block
   pub means : MeansSet env set block
   pub shape : HasShape (setting env term set.bindings) f.body block
-  pub statements : term_function files (setting env term set.bindings) block ≡ Some f
+  pub statements : term_function logging files (setting env term set.bindings) block ≡ Some f
+  pub lines : lines_of f.body ≡ log_lines logging files (setting env term set.bindings) block
+  pub returns : AllByRecursion (Contains (map (λ (r : Rule). r.pos) (rules_of env id))) (return_positions block)
   pub calls : (callee : Callee) → Contains (body_calls f.body) callee → IsCalledBy env id callee
 
 -- so of each term, in order
-abbrev pub AreFromBlocks : Files → Environment → List TermId → List Function → Type 0
-AreFromBlocks files env [] [] = Unit {0}
-AreFromBlocks files env (id ∷ ids) (f ∷ fs) = IsFromBlock files env id f × AreFromBlocks files env ids fs
-AreFromBlocks files env [] (f ∷ fs) = ⊥
-AreFromBlocks files env (id ∷ ids) [] = ⊥
+abbrev pub AreFromBlocks : (logging : Bool) → Files → Environment → List TermId → List Function → Type 0
+AreFromBlocks logging files env [] [] = Unit {0}
+AreFromBlocks logging files env (id ∷ ids) (f ∷ fs) = IsFromBlock logging files env id f × AreFromBlocks logging files env ids fs
+AreFromBlocks logging files env [] (f ∷ fs) = ⊥
+AreFromBlocks logging files env (id ∷ ids) [] = ⊥

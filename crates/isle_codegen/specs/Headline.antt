@@ -1,5 +1,5 @@
 -- What an emitted text is to the definitions that it was made from.
-use Rattle.std.specs.Prelude.{◌≡◌, ℕ, List, [], map, Some, Contains, option_map, slice_get, IsSomeAnd}
+use Rattle.std.specs.Prelude.{◌≡◌, ℕ, List, Bool, [], map, Some, Contains, option_map, slice_get, IsSomeAnd}
 use Rattle.isle_base.specs.declared.ids.TermId.{TermId}
 use Rattle.isle_base.specs.declared.ids.TypeId.{TypeId}
 use Rattle.isle_core.specs.declared.types.ReturnKind.{ReturnKind}
@@ -47,10 +47,10 @@ MeansRules env p id = IsSomeAnd (slice_get env.terms id.0) (λ (t : Term).
 -- the functions of the program are the terms with rules, in order of ids, each as its term is declared, made from a block
 -- of its rules, and with their meaning, which says something: there are arguments and lawful meanings where types have values,
 -- as inhabited ones do
-pub record FunctionsMean (files : Files) (env : Environment) (p : Program) : Type 0 where
+pub record FunctionsMean (logging : Bool) (files : Files) (env : Environment) (p : Program) : Type 0 where
   pub names : map (λ (f : Function). f.term) p.fns ≡ map (term_name env) (with_rules env)
   pub declared : AreDeclared files env (with_rules env) p.fns
-  pub blocks : AreFromBlocks files env (with_rules env) p.fns
+  pub blocks : AreFromBlocks logging files env (with_rules env) p.fns
   pub mean : (id : TermId) → Contains (with_rules env) id → MeansRules env p id
   pub meant : (id : TermId) → Contains (with_rules env) id → IsMeant env id
   pub values : (ty : TypeId) → IsInhabited env ty → HasValue env ty
@@ -60,7 +60,7 @@ pub record IsText (options : CodegenOptions) (files : Files) (env : Environment)
   pub program : Program
   pub spells : SpellsOnly text program
   pub frame : IsFrame options env program
-  pub functions : FunctionsMean files env program
+  pub functions : FunctionsMean options.emit_logging files env program
 
 -- the text is that of the one environment of the definitions, which stand in the files; nothing is wrong with its rules
 pub record HasHeadline (options : CodegenOptions) (files : Files) (defs : List Def) (text : List ℕ) : Type 0 where

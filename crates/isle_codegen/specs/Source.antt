@@ -5,7 +5,7 @@ use Rattle.isle_ast.specs.Tree.{Def}
 use Rattle.isle_core.specs.declared.position.Pos.{Pos}
 use Rattle.isle_grammar.specs.Spelling.{Spells, IsTextFault}
 use Rattle.isle_sema.specs.Language.{are_built}
-use Rattle.isle_sema.specs.Typing.{Typed, told_fault}
+use Rattle.isle_sema.specs.Typing.{TypedBuilt, fault}
 use Rattle.isle_checks.specs.CheckList.{IsClean}
 use Rattle.isle_recursion.specs.RuleErrors.{IsRecursionOf}
 use Rattle.isle_names.specs.Claims.{is_ruled}
@@ -18,9 +18,9 @@ abbrev pub Source : ℕ → List (List ℕ) → List Def → Type 0
 Source file [] defs = defs ≡ []
 Source file (text ∷ texts) defs = (ds : List Def) × (es : List Def) × Spells file text ds × Source (file + 1) texts es × (defs ≡ ds ++ es)
 
--- the definitions have no fault that is told, and one is of a form that isn't built
+-- the definitions have no fault, and one is of a form that isn't built: a declaration that is `multi`
 abbrev pub AreUnbuilt : List Def → Type 0
-AreUnbuilt defs = (told_fault defs ≡ None) × (are_built defs ≡ false)
+AreUnbuilt defs = (fault defs ≡ None) × (are_built defs ≡ false)
 
 -- the texts spell such definitions
 abbrev pub AreUnbuiltTexts : List (List ℕ) → Type 0
@@ -33,7 +33,7 @@ pub data GoesWrong : ℕ → List (List ℕ) → Pos → Type 0 where
 
 -- the definitions are built and have no fault, and the names of their terms, external functions, types and constants may be emitted
 pub record IsCompilable (defs : List Def) (env : Environment) : Type 0 where
-  pub typed : Typed defs env
+  pub typed : TypedBuilt defs env
   pub names : are_term_names env ≡ true
   pub fns : HasFnNames env
   pub lawful : AreLawful (is_ruled env.rules) env.types

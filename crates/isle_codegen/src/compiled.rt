@@ -1,7 +1,6 @@
 ghost use Rattle.std.specs.Prelude.{◌≡◌, true, IfOk, IfErr};
 ghost use Rattle.std.specs.String.{string_bytes};
 ghost use Rattle.isle_ast.specs.Views.{defs as seen};
-ghost use Rattle.isle_emission.specs.Built.{IsBuilt};
 ghost use Rattle.isle_codegen.specs.Emission.{DefsArePlaced};
 ghost use Rattle.isle_codegen.specs.Names.{are_file_names};
 ghost use Rattle.isle_codegen.specs.Header.{HasHeader};
@@ -24,7 +23,6 @@ pub fn compile(
     options: &CodegenOptions,
 ) -> Result<String, CompileError>
     requires places { DefsArePlaced files.now (seen defs.now) }
-    requires options { IsBuilt options.now }
     ensures program { IfOk result (λ text. SpellsOne (string_bytes text)) }
     ensures header { IfOk result (λ text. HasHeader files.now.file_names (string_bytes text)) }
     ensures names { IfOk result (λ text. are_file_names files.now.file_names ≡ true) }

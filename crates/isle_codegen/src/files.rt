@@ -1,7 +1,6 @@
 ghost use Rattle.std.specs.Prelude.{◌≡◌, ◌+◌, ◌-◌, ◌*◌, ◌^◌, ◌≤◌, true, length, IfOk, IfErr, IfSome};
 ghost use Rattle.std.specs.String.{string_bytes};
 ghost use Rattle.isle_core.specs.Inputs.{bytes_each, IsTried};
-ghost use Rattle.isle_emission.specs.Built.{IsBuilt};
 ghost use Rattle.isle_codegen.specs.Names.{are_file_names};
 ghost use Rattle.isle_codegen.specs.Header.{HasHeader};
 ghost use Rattle.isle_codegen.specs.Headline.{SpellsOne};
@@ -14,7 +13,7 @@ use isle_core::{CodegenOptions, Dir, Files, ReadError};
 use std::alloc::Global;
 
 /// Compiles the named files, and returns the text of the program that their definitions give (`specs/Headline.antt`).
-/// `NotYet` comes exactly where all were read, have no fault that is told, and are not all of forms that are built; `Errors` where all were
+/// `NotYet` comes exactly where all were read, have no fault of typing, and are not all of forms that are built; `Errors` where all were
 /// read, and tells what is wrong with them (`specs/Errors.antt`); `Name` where nothing else is wrong, and tells the first name that may not be
 /// emitted; `Io` tells the first input that is not read. Each name is looked up once, none behind that input,
 /// and of each input at most 2^24 + 1 bytes are taken.
@@ -24,7 +23,6 @@ pub fn from_files<D: Dir>(
     inputs: &[String],
     options: &CodegenOptions,
 ) -> Result<String, FileError>
-    requires { IsBuilt options.now }
     ensures program { IfOk result (λ text. SpellsOne (string_bytes text)) }
     ensures header { IfOk result (λ text. HasHeader (printed options.now (bytes_each inputs.now)) (string_bytes text)) }
     ensures names { IfOk result (λ text. are_file_names (printed options.now (bytes_each inputs.now)) ≡ true) }
@@ -47,7 +45,6 @@ pub fn from_files<D: Dir>(
 // The text of the program of the definitions that the files' texts spell. There are as many names as texts.
 fn compiled(alloc: Global, files: &Files, options: &CodegenOptions) -> Result<String, FileError>
     requires count { length files.now.file_texts ≡ length files.now.file_names }
-    requires options { IsBuilt options.now }
     ensures header { IfOk result (λ text. HasHeader files.now.file_names (string_bytes text)) }
     ensures names { IfOk result (λ text. are_file_names files.now.file_names ≡ true) }
     ensures ok { IfOk result (λ text. CompilesTo options.now files.now (string_bytes text)) }

@@ -4,7 +4,6 @@ ghost use Rattle.isle_printer.specs.Comment.{comment_lines};
 ghost use Rattle.isle_core.specs.RuleViews.{environment};
 ghost use Rattle.isle_rulesets.specs.Grouping.{AreRuleSets};
 ghost use Rattle.isle_codegen.specs.Emission.{IsGiven, ArePlaced};
-ghost use Rattle.isle_emission.specs.Built.{IsBuilt};
 ghost use Rattle.isle_codegen.specs.Names.{are_file_names};
 ghost use Rattle.isle_codegen.specs.Header.{header, HasHeader};
 ghost use Rattle.isle_codegen.specs.Headline.{IsText};
@@ -29,7 +28,6 @@ pub fn codegen(
     requires given { IsGiven (environment typeenv.now termenv.now) }
     requires terms { AreRuleSets (environment typeenv.now termenv.now) terms.now }
     requires places { ArePlaced files.now (environment typeenv.now termenv.now) }
-    requires options { IsBuilt options.now }
     requires names { are_file_names files.now.file_names ≡ true }
     ensures header { IfOk result (λ text. HasHeader files.now.file_names (string_bytes text)) }
     ensures program { IfOk result (λ text. IsText options.now files.now (environment typeenv.now termenv.now) (string_bytes text)) }

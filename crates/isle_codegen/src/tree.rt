@@ -5,7 +5,6 @@ ghost use Rattle.isle_rulesets.specs.Grouping.{AreRuleSets};
 ghost use Rattle.isle_tree.specs.Views.{function, program};
 ghost use Rattle.isle_tree.specs.WellFormed.{IsWellFormed};
 ghost use Rattle.isle_codegen.specs.Emission.{IsGiven, IsFrame, ArePlaced};
-ghost use Rattle.isle_emission.specs.Built.{IsBuilt};
 ghost use Rattle.isle_codegen.specs.Emits.{CanEmit, IsEmitted, AreEmitted};
 ghost use Rattle.isle_codegen.specs.Headline.{FunctionsMean};
 ghost use Rattle.isle_core.specs.LineStarts.{starts_of};
@@ -30,11 +29,12 @@ fn emit_one(
     termenv: &TermEnv,
     term: TermId,
     rules: &RuleSet,
+    logging: bool,
 ) -> Result<Function, OutOfMemory>
     requires starts { starts.now ≡ map starts_of files.now.file_texts }
     requires consts { consts.now ≡ typeenv.now.consts }
     requires can { CanEmit files.now (environment typeenv.now termenv.now) (term, rules.now) }
-    ensures { IfOk result (λ f. IsEmitted files.now (environment typeenv.now termenv.now) term rules.now (function f)) }
+    ensures { IfOk result (λ f. IsEmitted logging files.now (environment typeenv.now termenv.now) term rules.now (function f)) }
 {
     let block = serialize(alloc, rules, false)?;
     let context = Context {
@@ -43,7 +43,7 @@ fn emit_one(
         term: &termenv.terms.as_slice()[term.index()],
         bindings: rules.bindings.as_slice(),
     };
-    match term_function(alloc, files, starts, consts, &context, &block)? {
+    match term_function(alloc, files, starts, consts, &context, &block, logging)? {
         Some(function) => Ok(function),
         None => unreachable!(),
     }
@@ -56,16 +56,17 @@ fn emit_all(
     typeenv: &TypeEnv,
     termenv: &TermEnv,
     terms: &[(TermId, RuleSet)],
+    logging: bool,
 ) -> Result<Vec<Function>, OutOfMemory>
     requires { AllByRecursion (CanEmit files.now (environment typeenv.now termenv.now)) terms.now }
-    ensures { IfOk result (λ fns. AreEmitted files.now (environment typeenv.now termenv.now) terms.now (map function fns.items)) }
+    ensures { IfOk result (λ fns. AreEmitted logging files.now (environment typeenv.now termenv.now) terms.now (map function fns.items)) }
 {
     let starts = LineStarts::new(alloc, files)?;
     let consts = ConstTypes::new(alloc, typeenv.consts.as_slice())?;
     let mut fns = Vec::new(alloc);
     for (term, rules) in terms {
         fns.push(emit_one(
-            alloc, files, &starts, &consts, typeenv, termenv, *term, rules,
+            alloc, files, &starts, &consts, typeenv, termenv, *term, rules, logging,
         )?)?;
     }
     Ok(fns)
@@ -85,14 +86,13 @@ pub fn codegen_tree(
     requires given { IsGiven (environment typeenv.now termenv.now) }
     requires terms { AreRuleSets (environment typeenv.now termenv.now) terms.now }
     requires places { ArePlaced files.now (environment typeenv.now termenv.now) }
-    requires options { IsBuilt options.now }
     ensures well_formed { IfOk result (λ p. IsWellFormed (program p)) }
     ensures frame { IfOk result (λ p. IsFrame options.now (environment typeenv.now termenv.now) (program p)) }
-    ensures functions { IfOk result (λ p. FunctionsMean files.now (environment typeenv.now termenv.now) (program p)) }
+    ensures functions { IfOk result (λ p. FunctionsMean options.now.emit_logging files.now (environment typeenv.now termenv.now) (program p)) }
 {
     let signatures = trait_fns(alloc, typeenv, termenv)?;
     let types = type_items(alloc, typeenv)?;
-    let fns = emit_all(alloc, files, typeenv, termenv, terms)?;
+    let fns = emit_all(alloc, files, typeenv, termenv, terms, options.emit_logging)?;
     Ok(Program {
         allow: !options.exclude_global_allow_pragmas,
         trait_fns: List::new(signatures),

@@ -43,6 +43,7 @@ pub mod Block
 pub mod BlockViews
 pub mod BlockRun
 pub mod ReturnPosition
+pub mod ReturnPositions
 pub mod Setting
 pub mod ExternalCall
 pub mod ExternalSig

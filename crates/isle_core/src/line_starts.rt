@@ -2,7 +2,8 @@
 
 ghost use Rattle.std.specs.Prelude.{◌≡◌, ◌≤◌, ◌++◌, ℕ, List as ListOf, length, map, IfOk};
 ghost use Rattle.std.specs.String.{string_bytes};
-ghost use Rattle.isle_core.specs.Places.{LiesIn, place_in};
+ghost use Rattle.isle_core.specs.Places.{LiesIn, name_in, text_in, place_in};
+ghost use Rattle.isle_core.specs.declared.files.Files.{Files as CodeFiles};
 ghost use Rattle.isle_core.specs.Printed.{line_of};
 ghost use Rattle.isle_core.specs.LineStarts.{start_at, starts_of};
 ghost use Rattle.isle_core.specs.ErrorLines.{column_of, told_of};
@@ -66,6 +67,16 @@ fn column_number(text: &str, starts: &[usize], offset: usize) -> usize
     1 + (offset - start_at(starts, before))
 }
 
+// Returns the name of a file; of one that is not there it is empty.
+fn name_of(files: &Files, file: usize) -> &str
+    ensures { result.now ≡ name_in files.now file }
+{
+    match files.file_names.as_slice().get(file) {
+        Some(name) => name.as_str(),
+        None => "",
+    }
+}
+
 impl LineStarts {
     /// Makes the places of all files, by one walk over their texts. Fails for want of memory alone.
     pub fn new(alloc: Global, files: &Files) -> Result<LineStarts, AllocError>
@@ -79,14 +90,24 @@ impl LineStarts {
         Ok(LineStarts { files: starts })
     }
 
-    /// Prints a place, which lies in the files; the table is theirs. Fails for want of memory alone.
+    // Returns the number of the line of a place in a file; of a file that is not there it is 1.
+    fn line(&self, pos: Pos) -> usize
+        ensures { (files : CodeFiles) → self.now ≡ map starts_of files.file_texts → result ≡ line_of (text_in files pos.file) pos.offset }
+    {
+        match self.files.as_slice().get(pos.file) {
+            Some(starts) => line_number(starts.as_slice(), pos.offset),
+            None => 1,
+        }
+    }
+
+    /// Prints a place; the table is that of the files. Where its file is not there, its name is empty. Fails for want of memory
+    /// alone.
     pub fn place(&self, alloc: Global, files: &Files, pos: Pos) -> Result<String, OutOfMemory>
-        requires table { self.now ≡ map starts_of files.now.file_texts }
-        requires place { LiesIn files.now pos }
+        requires { self.now ≡ map starts_of files.now.file_texts }
         ensures { IfOk result (λ text. string_bytes text ≡ place_in files.now pos) }
     {
-        let name = files.file_names.as_slice()[pos.file].as_str();
-        let line = line_number(self.files.as_slice()[pos.file].as_slice(), pos.offset);
+        let name = name_of(files, pos.file);
+        let line = self.line(pos);
         Ok(format!(in alloc; "{name} line {line}")?)
     }
 

@@ -1,5 +1,5 @@
 -- What holds of an emitted function.
-use Rattle.std.proofs.Common.{◌≡◌, ◌<◌, ℕ, zero, suc, [], ◌∷◌, length, get_or, slice_get, List, Option, Some, None, subst, sym, arith}
+use Rattle.std.proofs.Common.{◌≡◌, ◌<◌, ℕ, zero, suc, [], ◌∷◌, length, get_or, slice_get, List, Bool, Option, Some, None, subst, sym, arith}
 use Rattle.std.specs.Prelude.{IsSomeAnd}
 use Rattle.isle_core.specs.declared.types.Term.{Term}
 use Rattle.isle_core.specs.Setting.{Setting, setting}
@@ -7,9 +7,9 @@ use Rattle.isle_tree.specs.Program.{Function}
 use Rattle.isle_tree.specs.WellFormed.{IsFunction}
 use Rattle.isle_emission.specs.Origin.{Origin, InSetting}
 use Rattle.isle_emission.specs.MayEmit.{MayEmit, MayEmitTerm}
-use Rattle.isle_emission.specs.EmittedTerm.{IsGiven, IsWellFormedIn, HasBlockShape, RunsAsItsBlock}
+use Rattle.isle_emission.specs.EmittedTerm.{IsGiven, HasLogLines, IsWellFormedIn, HasBlockShape, RunsAsItsBlock}
 use Rattle.isle_simulation.specs.TermFunction.{term_function}
-use Rattle.isle_simulation.proofs.GivenFunctions.{emitted_well_formed, has_shape, runs_as_block}
+use Rattle.isle_simulation.proofs.GivenFunctions.{emitted_well_formed, has_shape, runs_as_block, its_lines}
 use Rattle.isle_simulation.proofs.Made.{function_made}
 
 -- what is so of an item is so of the item of its number
@@ -35,23 +35,26 @@ both : {A : Type 0} (o : Option A) (P Q R : A → Type 0) → ((x : A) → P x �
 both (Some x) P Q R f h k = f x h k
 both None P Q R f h k = absurd h
 
-pub is_well_formed : (o : Origin) (f : Function) → MayEmitTerm o → IsGiven o f → IsWellFormedIn o f
-is_well_formed o f h e p fns = one (slice_get o.env.terms o.id.0) h e
+pub is_well_formed : (logging : Bool) (o : Origin) (f : Function) → MayEmitTerm o → IsGiven logging o f → IsWellFormedIn o f
+is_well_formed logging o f h e p fns = one (slice_get o.env.terms o.id.0) h e
   where
-    one : (t : Option Term) → IsSomeAnd t (λ u. MayEmit o.files (setting o.env u o.bindings) o.block) → IsSomeAnd t (λ u. term_function o.files (setting o.env u o.bindings) o.block ≡ Some f) → IsFunction p f
-    one (Some t) may is = emitted_well_formed o.files o.env t o.bindings o.block f may.lawful may.single may.emittable.once is may.emittable may.names may.fns may.term_fns p fns
+    one : (t : Option Term) → IsSomeAnd t (λ u. MayEmit o.files (setting o.env u o.bindings) o.block) → IsSomeAnd t (λ u. term_function logging o.files (setting o.env u o.bindings) o.block ≡ Some f) → IsFunction p f
+    one (Some t) may is = emitted_well_formed logging o.files o.env t o.bindings o.block f may.lawful may.single may.emittable.once is may.emittable may.names may.fns may.term_fns p fns
     one None may is = absurd may
 
-pub is_shaped : (o : Origin) (f : Function) → MayEmitTerm o → IsGiven o f → HasBlockShape o f
-is_shaped o f h e = both (slice_get o.env.terms o.id.0) _ _ _ (λ t may is. has_shape o.files o.env t o.bindings o.block f may.lawful may.single may.emittable.once is) h e
+pub is_shaped : (logging : Bool) (o : Origin) (f : Function) → MayEmitTerm o → IsGiven logging o f → HasBlockShape o f
+is_shaped logging o f h e = both (slice_get o.env.terms o.id.0) _ _ _ (λ t may is. has_shape logging o.files o.env t o.bindings o.block f may.lawful may.single may.emittable.once is) h e
 
-pub is_run : (o : Origin) (f : Function) → MayEmitTerm o → IsGiven o f → RunsAsItsBlock o f
-is_run o f h e = both (slice_get o.env.terms o.id.0) _ _ _ (λ t may is. runs_as_block o.files o.env t o.bindings o.block f may.lawful may.single may.emittable.once is may.names may.fns may.term_fns) h e
+pub is_run : (logging : Bool) (o : Origin) (f : Function) → MayEmitTerm o → IsGiven logging o f → RunsAsItsBlock o f
+is_run logging o f h e = both (slice_get o.env.terms o.id.0) _ _ _ (λ t may is. runs_as_block logging o.files o.env t o.bindings o.block f may.lawful may.single may.emittable.once is may.names may.fns may.term_fns) h e
+
+pub is_logged : (logging : Bool) (o : Origin) (f : Function) → MayEmitTerm o → IsGiven logging o f → HasLogLines logging o f
+is_logged logging o f h e = both (slice_get o.env.terms o.id.0) _ _ _ (λ t may is. its_lines logging o.files o.env t o.bindings o.block f may.lawful may.single may.emittable.once is) h e
 
 -- and it is there
-pub is_made : (o : Origin) → MayEmitTerm o → InSetting o (λ (s : Setting). None ≡ term_function o.files s o.block) → ⊥
-is_made o h e = one (slice_get o.env.terms o.id.0) h e
+pub is_made : (logging : Bool) (o : Origin) → MayEmitTerm o → InSetting o (λ (s : Setting). None ≡ term_function logging o.files s o.block) → ⊥
+is_made logging o h e = one (slice_get o.env.terms o.id.0) h e
   where
-    one : (t : Option Term) → IsSomeAnd t (λ u. MayEmit o.files (setting o.env u o.bindings) o.block) → IsSomeAnd t (λ u. None ≡ term_function o.files (setting o.env u o.bindings) o.block) → ⊥
-    one (Some t) may none = let made = function_made o.files o.env t o.bindings o.block may.emittable.once may.lawful may.single in cc
+    one : (t : Option Term) → IsSomeAnd t (λ u. MayEmit o.files (setting o.env u o.bindings) o.block) → IsSomeAnd t (λ u. None ≡ term_function logging o.files (setting o.env u o.bindings) o.block) → ⊥
+    one (Some t) may none = let made = function_made logging o.files o.env t o.bindings o.block may.emittable.once may.lawful may.single in cc
     one None may none = may

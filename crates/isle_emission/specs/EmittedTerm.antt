@@ -1,17 +1,22 @@
 -- What the function is that is emitted for a term.
-use Rattle.std.specs.Prelude.{◌≡◌, Some}
+use Rattle.std.specs.Prelude.{◌≡◌, Bool, Some}
 use Rattle.isle_core.specs.Setting.{Setting}
 use Rattle.isle_tree.specs.Program.{Function, Program}
 use Rattle.isle_tree.specs.WellFormed.{callables, IsFunction}
 use Rattle.isle_emission.specs.Origin.{Origin, InSetting}
 use Rattle.isle_simulation.specs.Emitted.{RunsAsBlock}
 use Rattle.isle_simulation.specs.Shape.{HasShape}
-use Rattle.isle_simulation.specs.TermFunction.{term_function}
+use Rattle.isle_simulation.specs.LogLines.{lines_of}
+use Rattle.isle_simulation.specs.TermFunction.{log_lines, term_function}
 use Rattle.isle_simulation.specs.TermFns.{callables_of}
 
--- the function is that of the term
-abbrev pub IsGiven : Origin → Function → Type 0
-IsGiven o f = InSetting o (λ (s : Setting). term_function o.files s o.block ≡ Some f)
+-- the function is that of the term, with log lines where they are asked for
+abbrev pub IsGiven : (logging : Bool) → Origin → Function → Type 0
+IsGiven logging o f = InSetting o (λ (s : Setting). term_function logging o.files s o.block ≡ Some f)
+
+-- its log lines are, where they are asked for, one for each Return of the block, in order
+abbrev pub HasLogLines : (logging : Bool) → Origin → Function → Type 0
+HasLogLines logging o f = InSetting o (λ (s : Setting). lines_of f.body ≡ log_lines logging o.files s o.block)
 
 -- it is well formed in every program in which the functions may be called that the environment gives: those of the trait, and those of
 -- terms with rules

@@ -1,8 +1,8 @@
-pub mod Built
 pub mod Binds
 pub mod MadeValues
 pub mod BodyOnto
 pub mod PushedLets
+pub mod Tellings
 pub mod MadeBodies
 pub mod Tests
 pub mod Views

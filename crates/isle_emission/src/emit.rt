@@ -7,8 +7,7 @@ ghost use Rattle.isle_core.specs.Terms.{sym_text};
 ghost use Rattle.isle_tree.specs.Views as Views;
 ghost use Rattle.isle_operands.specs.Contexts.{env_of, setting_of};
 ghost use Rattle.isle_core.specs.LineStarts.{starts_of};
-ghost use Rattle.isle_emission.specs.Built.{IsBuilt};
-ghost use Rattle.isle_emission.specs.EmittedTerm.{IsGiven, IsWellFormedIn, HasBlockShape, RunsAsItsBlock};
+ghost use Rattle.isle_emission.specs.EmittedTerm.{IsGiven, HasLogLines, IsWellFormedIn, HasBlockShape, RunsAsItsBlock};
 ghost use Rattle.isle_emission.specs.MayEmit.{MayEmitTerm};
 ghost use Rattle.isle_emission.specs.Origin.{origin};
 ghost use Rattle.isle_emission.specs.Views.{body_in};
@@ -52,22 +51,24 @@ fn term_stmts(
     consts: &ConstTypes<'_>,
     context: &Context<'_>,
     block: &Block,
+    logging: bool,
 ) -> Result<Option<Vec<Stmt>>, OutOfMemory>
     requires starts { starts.now ≡ map starts_of files.now.file_texts }
     requires consts { consts.now ≡ context.now.typeenv.now.consts }
     requires place { LiesIn files.now context.now.term.now.decl_pos }
-    ensures { IfOk result (λ stmts. body_in stmts ≡ TermFunction.root_body files.now (setting_of context.now) (BlockViews.block block.now)) }
+    ensures { IfOk result (λ stmts. body_in stmts ≡ TermFunction.root_body logging files.now (setting_of context.now) (BlockViews.block block.now)) }
 {
     let types = binding_types(alloc, context, consts)?;
     let typed = Typed {
         context: *context,
         types: types.as_slice(),
     };
-    root_stmts(alloc, files, starts, &typed, block)
+    root_stmts(alloc, files, starts, &typed, block, logging)
 }
 
-/// Makes the function of a term from its context and its block, where its forms are built. The table is that of the files,
-/// and the constants are those of the context. Fails for want of memory alone.
+/// Makes the function of a term from its context and its block, where its forms are built; `logging` says whether a log line
+/// stands before each result. The table is that of the files, and the constants are those of the context. Fails for want of
+/// memory alone.
 pub fn term_function(
     alloc: Global,
     files: &Files,
@@ -75,13 +76,14 @@ pub fn term_function(
     consts: &ConstTypes<'_>,
     context: &Context<'_>,
     block: &Block,
+    logging: bool,
 ) -> Result<Option<Function>, OutOfMemory>
     requires starts { starts.now ≡ map starts_of files.now.file_texts }
     requires consts { consts.now ≡ context.now.typeenv.now.consts }
     requires place { LiesIn files.now context.now.term.now.decl_pos }
-    ensures { IfOk result (λ f. option_map Views.function f ≡ TermFunction.term_function files.now (setting_of context.now) (BlockViews.block block.now)) }
+    ensures { IfOk result (λ f. option_map Views.function f ≡ TermFunction.term_function logging files.now (setting_of context.now) (BlockViews.block block.now)) }
 {
-    let Some(body) = term_stmts(alloc, files, starts, consts, context, block)? else {
+    let Some(body) = term_stmts(alloc, files, starts, consts, context, block, logging)? else {
         return Ok(None);
     };
     let (term, params, result) = head(alloc, context)?;
@@ -108,8 +110,8 @@ pub fn emit_term(
     options: &CodegenOptions,
 ) -> Result<Function, OutOfMemory>
     requires term { MayEmitTerm (origin files.now typeenv.now termenv.now term rules.now block.now) }
-    requires options { IsBuilt options.now }
-    ensures emitted { IfOk result (λ f. IsGiven (origin files.now typeenv.now termenv.now term rules.now block.now) (Views.function f)) }
+    ensures emitted { IfOk result (λ f. IsGiven options.now.emit_logging (origin files.now typeenv.now termenv.now term rules.now block.now) (Views.function f)) }
+    ensures logs { IfOk result (λ f. HasLogLines options.now.emit_logging (origin files.now typeenv.now termenv.now term rules.now block.now) (Views.function f)) }
     ensures well_formed { IfOk result (λ f. IsWellFormedIn (origin files.now typeenv.now termenv.now term rules.now block.now) (Views.function f)) }
     ensures shape { IfOk result (λ f. HasBlockShape (origin files.now typeenv.now termenv.now term rules.now block.now) (Views.function f)) }
     ensures run { IfOk result (λ f. RunsAsItsBlock (origin files.now typeenv.now termenv.now term rules.now block.now) (Views.function f)) }
@@ -122,7 +124,15 @@ pub fn emit_term(
         bindings: rules.bindings.as_slice(),
     };
     let consts = ConstTypes::new(alloc, typeenv.consts.as_slice())?;
-    match term_function(alloc, files, &starts, &consts, &context, block)? {
+    match term_function(
+        alloc,
+        files,
+        &starts,
+        &consts,
+        &context,
+        block,
+        options.emit_logging,
+    )? {
         Some(function) => Ok(function),
         None => unreachable!(),
     }

@@ -10,6 +10,8 @@ mod made;
 mod patterns;
 mod root;
 mod statements;
+mod telling;
+mod told;
 
 pub use emit::{emit_term, term_function};
 pub use externals::trait_fns;

@@ -10,9 +10,13 @@ ghost use Rattle.isle_operands.specs.Typed.{setting_in};
 ghost use Rattle.isle_core.specs.LineStarts.{starts_of};
 ghost use Rattle.isle_simulation.specs.TermFunction as TermFunction;
 ghost use Rattle.isle_emission.specs.BodyOnto.{body_onto};
+ghost use Rattle.isle_core.specs.Setting.{Setting};
+ghost use Rattle.isle_simulation.specs.Telling.{telling_of};
+ghost use Rattle.isle_emission.specs.Tellings.{telling_in};
 ghost use Rattle.isle_emission.specs.Views.{body_in};
 
 use crate::statements::block_stmts;
+use crate::telling::Telling;
 use isle_core::{Block, ControlFlow, Files, LineStarts, OutOfMemory, ReturnKind, Text};
 use isle_operands::{Context, Typed, kind_of, sym_name};
 use isle_scope::Scope;
@@ -88,21 +92,31 @@ fn with_tail(
     Ok(stmts)
 }
 
-/// Makes the statements of a term's function, where its forms are built: those of its block, and the tail where the block
-/// can end without a result.
+// Returns what is told, where logging is asked for.
+fn where_asked<'t, 'a>(logging: bool, told: &'t Telling<'a>) -> Option<&'t Telling<'a>>
+    ensures { (s : Setting) → telling_in s result ≡ telling_of logging told.now.files.now s }
+{
+    if logging { Some(told) } else { None }
+}
+
+/// Makes the statements of a term's function, where its forms are built: those of its block, with log lines where `logging` asks for
+/// them, and the tail where the block can end without a result.
 pub fn root_stmts(
     alloc: Global,
     files: &Files,
     starts: &LineStarts,
     typed: &Typed<'_>,
     block: &Block,
+    logging: bool,
 ) -> Result<Option<Vec<Stmt>>, OutOfMemory>
     requires starts { starts.now ≡ map starts_of files.now.file_texts }
     requires place { LiesIn files.now typed.now.context.term.now.decl_pos }
-    ensures { IfOk result (λ stmts. body_in stmts ≡ TermFunction.root_body files.now (setting_in typed.now) (BlockViews.block block.now)) }
+    ensures { IfOk result (λ stmts. body_in stmts ≡ TermFunction.root_body logging files.now (setting_in typed.now) (BlockViews.block block.now)) }
 {
+    let told = Telling { files, starts };
+    let telling = where_asked(logging, &told);
     let mut bound = Scope::new(alloc);
-    let Some(stmts) = block_stmts(alloc, typed, &mut bound, block)? else {
+    let Some(stmts) = block_stmts(alloc, typed, telling, &mut bound, block)? else {
         return Ok(None);
     };
     Ok(Some(with_tail(alloc, files, starts, &typed.context, block, stmts)?))

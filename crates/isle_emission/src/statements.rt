@@ -10,6 +10,7 @@ ghost use Rattle.isle_tree.specs.Program.{Body, Done};
 ghost use Rattle.isle_tree.specs.Views.{stmt};
 ghost use Rattle.isle_emission.specs.BodyOnto.{onto, stmts_of, AreMadeAs};
 ghost use Rattle.isle_emission.specs.MadeBodies.{made_body, made_control, made_arms, PushesStep};
+ghost use Rattle.isle_emission.specs.Tellings.{telling_in};
 ghost use Rattle.isle_emission.specs.Tests.{test_stmt};
 ghost use Rattle.isle_operands.specs.Contexts.{env_of, bindings_in};
 ghost use Rattle.isle_operands.specs.Typed.{setting_in};
@@ -20,7 +21,11 @@ ghost use Rattle.isle_simulation.specs.Statements as Statements;
 
 use crate::lets::push_lets;
 use crate::patterns::pattern_of;
-use isle_core::{BindingId, Block, Constraint, ControlFlow, EvalStep, List, MatchArm, ReturnKind};
+use crate::telling::Telling;
+use crate::told::push_told;
+use isle_core::{
+    BindingId, Block, Constraint, ControlFlow, EvalStep, List, MatchArm, OutOfMemory, ReturnKind,
+};
 use isle_operands::{Context, Typed, kind_of, operand_of, read_in, tested};
 use isle_scope::Scope;
 use isle_tree::{Operand, Read, Stmt, TExpr, TPat};
@@ -204,14 +209,15 @@ fn bind_places(bound: &mut Scope, places: &[Option<BindingId>]) -> Result<(), Al
 pub fn block_stmts(
     alloc: Global,
     typed: &Typed<'_>,
+    telling: Option<&Telling<'_>>,
     bound: &mut Scope,
     block: &Block,
-) -> Result<Option<Vec<Stmt>>, AllocError>
-    ensures stmts { IfOk result (λ stmts. AreMadeAs stmts (made_body (setting_in typed.now) bound.old (BlockViews.block block.now))) }
+) -> Result<Option<Vec<Stmt>>, OutOfMemory>
+    ensures stmts { IfOk result (λ stmts. AreMadeAs stmts (made_body (telling_in (setting_in typed.now) telling.entry) (setting_in typed.now) bound.old (BlockViews.block block.now))) }
     ensures bound { OnOk result (bound.new ≡ bound.old) }
 {
     let len = bound.len();
-    let stmts = step_stmts(alloc, typed, bound, block.steps.as_slice())?;
+    let stmts = step_stmts(alloc, typed, telling, bound, block.steps.as_slice())?;
     bound.truncate(len);
     Ok(stmts)
 }
@@ -221,19 +227,21 @@ pub fn block_stmts(
 fn push_step(
     alloc: Global,
     typed: &Typed<'_>,
+    telling: Option<&Telling<'_>>,
     bound: &mut Scope,
     step: &EvalStep,
     out: &mut Vec<Stmt>,
-) -> Result<bool, AllocError>
-    ensures { IfOk result (λ made. PushesStep (setting_in typed.now) step.now made bound.old bound.new out.old.items out.new.items) }
+) -> Result<bool, OutOfMemory>
+    ensures { IfOk result (λ made. PushesStep (telling_in (setting_in typed.now) telling.entry) (setting_in typed.now) step.now made bound.old bound.new out.old.items out.new.items) }
 {
     let binds = step.bind_order.as_slice();
     if !push_lets(alloc, typed, bound, binds, &step.check, out)? {
         return Ok(false);
     }
-    let Some(made) = control_stmt(alloc, typed, bound, &step.check)? else {
+    let Some(made) = control_stmt(alloc, typed, telling, bound, &step.check)? else {
         return Ok(false);
     };
+    push_told(alloc, &typed.context, telling, &step.check, out)?;
     out.push(made)?;
     Ok(true)
 }
@@ -244,15 +252,16 @@ fn push_step(
 fn step_stmts(
     alloc: Global,
     typed: &Typed<'_>,
+    telling: Option<&Telling<'_>>,
     bound: &mut Scope,
     steps: &[EvalStep],
-) -> Result<Option<Vec<Stmt>>, AllocError>
-    ensures stmts { IfOk result (λ stmts. AreMadeAs stmts (made_body (setting_in typed.now) bound.old (steps_block steps.now))) }
+) -> Result<Option<Vec<Stmt>>, OutOfMemory>
+    ensures stmts { IfOk result (λ stmts. AreMadeAs stmts (made_body (telling_in (setting_in typed.now) telling.entry) (setting_in typed.now) bound.old (steps_block steps.now))) }
     ensures grows { OnOk result ((more : ListOf ℕ) × (bound.new ≡ bound.old ++ more)) }
 {
     let mut out = Vec::new(alloc);
     for step in steps {
-        if !push_step(alloc, typed, bound, step, &mut out)? {
+        if !push_step(alloc, typed, telling, bound, step, &mut out)? {
             return Ok(None);
         }
     }
@@ -265,19 +274,20 @@ fn step_stmts(
 fn control_stmt(
     alloc: Global,
     typed: &Typed<'_>,
+    telling: Option<&Telling<'_>>,
     bound: &mut Scope,
     control: &ControlFlow,
-) -> Result<Option<Stmt>, AllocError>
-    ensures stmt { IfOk result (λ s. option_map stmt s ≡ made_control (setting_in typed.now) bound.old (BlockViews.control control.now)) }
+) -> Result<Option<Stmt>, OutOfMemory>
+    ensures stmt { IfOk result (λ s. option_map stmt s ≡ made_control (telling_in (setting_in typed.now) telling.entry) (setting_in typed.now) bound.old (BlockViews.control control.now)) }
     ensures bound { OnOk result (bound.new ≡ bound.old) }
 {
     match control {
         ControlFlow::Match { source, arms } => {
-            arms_stmt(alloc, typed, bound, *source, arms.as_slice())
+            arms_stmt(alloc, typed, telling, bound, *source, arms.as_slice())
         }
-        ControlFlow::Equal { a, b, body } => equal_stmt(alloc, typed, bound, *a, *b, body),
+        ControlFlow::Equal { a, b, body } => equal_stmt(alloc, typed, telling, bound, *a, *b, body),
         ControlFlow::Loop { .. } => Ok(None),
-        ControlFlow::Return { result, .. } => return_stmt(alloc, typed, bound, *result),
+        ControlFlow::Return { result, .. } => Ok(return_stmt(alloc, typed, bound, *result)?),
     }
 }
 
@@ -286,15 +296,16 @@ fn control_stmt(
 fn equal_stmt(
     alloc: Global,
     typed: &Typed<'_>,
+    telling: Option<&Telling<'_>>,
     bound: &mut Scope,
     a: BindingId,
     b: BindingId,
     body: &Block,
-) -> Result<Option<Stmt>, AllocError>
-    ensures stmt { IfOk result (λ s. option_map stmt s ≡ made_control (setting_in typed.now) bound.old (Equal a b (BlockViews.block body.now))) }
+) -> Result<Option<Stmt>, OutOfMemory>
+    ensures stmt { IfOk result (λ s. option_map stmt s ≡ made_control (telling_in (setting_in typed.now) telling.entry) (setting_in typed.now) bound.old (Equal a b (BlockViews.block body.now))) }
     ensures bound { OnOk result (bound.new ≡ bound.old) }
 {
-    let inside = block_stmts(alloc, typed, bound, body)?;
+    let inside = block_stmts(alloc, typed, telling, bound, body)?;
     Ok(tested_stmt(equal_test(alloc, typed, bound, a, b)?, inside))
 }
 
@@ -303,16 +314,17 @@ fn equal_stmt(
 fn arm_stmts(
     alloc: Global,
     typed: &Typed<'_>,
+    telling: Option<&Telling<'_>>,
     bound: &mut Scope,
     places: &[Option<BindingId>],
     body: &Block,
-) -> Result<Option<Vec<Stmt>>, AllocError>
-    ensures stmts { IfOk result (λ stmts. AreMadeAs stmts (made_body (setting_in typed.now) (bound_within bound.old places.now) (BlockViews.block body.now))) }
+) -> Result<Option<Vec<Stmt>>, OutOfMemory>
+    ensures stmts { IfOk result (λ stmts. AreMadeAs stmts (made_body (telling_in (setting_in typed.now) telling.entry) (setting_in typed.now) (bound_within bound.old places.now) (BlockViews.block body.now))) }
     ensures bound { OnOk result (bound.new ≡ bound.old) }
 {
     let outer = bound.len();
     bind_places(bound, places)?;
-    let stmts = block_stmts(alloc, typed, bound, body)?;
+    let stmts = block_stmts(alloc, typed, telling, bound, body)?;
     bound.truncate(outer);
     Ok(stmts)
 }
@@ -323,11 +335,12 @@ fn arm_stmts(
 fn arms_stmt(
     alloc: Global,
     typed: &Typed<'_>,
+    telling: Option<&Telling<'_>>,
     bound: &mut Scope,
     source: BindingId,
     arms: &[MatchArm],
-) -> Result<Option<Stmt>, AllocError>
-    ensures stmt { IfOk result (λ s. option_map stmt s ≡ made_arms (setting_in typed.now) bound.old source (match_arms arms.now)) }
+) -> Result<Option<Stmt>, OutOfMemory>
+    ensures stmt { IfOk result (λ s. option_map stmt s ≡ made_arms (telling_in (setting_in typed.now) telling.entry) (setting_in typed.now) bound.old source (match_arms arms.now)) }
     ensures bound { OnOk result (bound.new ≡ bound.old) }
 {
     if arms.len() != 1 {
@@ -335,7 +348,7 @@ fn arms_stmt(
     }
     let arm = &arms[0];
     let places = arm.bindings.as_slice();
-    let inside = arm_stmts(alloc, typed, bound, places, &arm.body)?;
+    let inside = arm_stmts(alloc, typed, telling, bound, places, &arm.body)?;
     let test = arm_test(alloc, typed, bound, source, arm.constraint, places)?;
     Ok(tested_stmt(test, inside))
 }

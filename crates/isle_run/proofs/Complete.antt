@@ -1,5 +1,5 @@
 -- Where a term can be run there are lines, or memory ran out.
-use Rattle.std.proofs.Common.{◌≡◌, ℕ, List, ◌++◌, map, true, false, Some, refl, sym, ap, ◌∙◌, subst}
+use Rattle.std.proofs.Common.{◌≡◌, ℕ, List, Bool, ◌++◌, map, true, false, Some, refl, sym, ap, ◌∙◌, subst}
 use Rattle.std.specs.Prelude.{Result, Ok, Err, IfErr, IsOkUnless}
 use Rattle.isle_core.specs.declared.files.Files.{Files}
 use Rattle.isle_core.specs.declared.options.CodegenOptions.{CodegenOptions}
@@ -80,8 +80,8 @@ module _ (options : CodegenOptions) (files : Files) (term : List ℕ) (ws : Writ
   abbrev args : List Value
   args = args_given c.env term ws
 
-  abbrev the_function : HasFunction files c.env term p.fns c.id
-  the_function = requested_function files c.env term (with_rules c.env) p.fns c.id conforms.functions.declared conforms.functions.blocks c.requested
+  abbrev the_function : HasFunction options.emit_logging files c.env term p.fns c.id
+  the_function = requested_function options.emit_logging files c.env term (with_rules c.env) p.fns c.id conforms.functions.declared conforms.functions.blocks c.requested
 
   some_same : (a b : Term) → Some a ≡ Some b → a ≡ b
   some_same a b e = cc

@@ -79,7 +79,7 @@ are_lines options files env p term ws f r answers kept conforms may runs =
       declared = h.declared.term;
       found = h.declared.found;
       typed = types;
-      means = means options files env p term (args_given env term ws) answers f r h.id h.declared.term kept conforms may runs h.among (declared_name files env h.id f h.declared ∙ sym h.named) h.declared.found types;
+      means = means options files env p term (args_given env term ws) answers f r h.id h.declared.term kept conforms may runs h.among (declared_name files env h.id f h.declared ∙ sym h.named) h.declared.found h.declared.of_term.kind types;
       program = p;
       conforms = conforms;
       fits = record { function = f; may = may };

@@ -1,5 +1,5 @@
 -- Constants, cases and turns that are right at the types of a source are right entries of a program that conforms to it.
-use Rattle.std.proofs.Common.{◌≡◌, List, [], ◌∷◌, ◌++◌, map, true, Option, Some, refl, sym, ap, ◌∙◌, subst, append-nil, append_assoc}
+use Rattle.std.proofs.Common.{◌≡◌, List, Bool, [], ◌∷◌, ◌++◌, map, true, Option, Some, refl, sym, ap, ◌∙◌, subst, append-nil, append_assoc}
 use Rattle.std.specs.Prelude.{ℕ, IsSomeAnd, option_map}
 use Rattle.std.specs.List.{AllByRecursion, IsDistinct}
 use Rattle.std.specs.Str.{bytes_eq}
@@ -127,7 +127,7 @@ module _ (options : CodegenOptions) (files : Files) (env : Environment) (names :
     record { params = sym (names_of env t.arg_tys); results = refl; kind = refl },
   )
   served_signature _ _ (internal name id t requested at) =
-      let h = requested_function files env name (with_rules env) p.fns id conforms.functions.declared conforms.functions.blocks requested in
+      let h = requested_function options.emit_logging files env name (with_rules env) p.fns id conforms.functions.declared conforms.functions.blocks requested in
       let same : h.declared.term ≡ t = some_same h.declared.term t (sym h.declared.found ∙ at) in (
         term_signature h.function,
         ap (option_map term_signature) h.found,

@@ -13,7 +13,7 @@ use Rattle.isle_ast.specs.Tree.{Def}
 use Rattle.isle_types.specs.Builtins.{builtins}
 use Rattle.isle_types.specs.TypeEnvironment.{type_def_in}
 use Rattle.isle_sema.specs.Typing.{Typed}
-use Rattle.isle_sema.proofs.TypedParts.{typed_in}
+use Rattle.isle_sema.proofs.TypedParts.{given_in}
 use Rattle.isle_codegen.specs.Checked.{IsChecked}
 use Rattle.isle_run.proofs.LawfulNames.{HasLawfulNames}
 use Rattle.isle_run.proofs.NamedTypes.{HasBuiltins}
@@ -38,7 +38,7 @@ builtin_first more (builtin.Int I128) = (11, refl)
 builtin_first more (builtin.Int ISize) = (12, refl)
 
 typed_builtins : (defs : List Def) (env : Environment) → Typed defs env → HasBuiltins env.types
-typed_builtins defs env typed of = subst (λ (types : TypeEnv). IsAmong types.types (def.Builtin of)) (sym (typed_in typed).types) (builtin_first (filter_map (type_def_in defs) defs) of)
+typed_builtins defs env typed of = subst (λ (types : TypeEnv). IsAmong types.types (def.Builtin of)) (sym (given_in typed).types) (builtin_first (filter_map (type_def_in defs) defs) of)
 
 -- so of the environment of a source that was checked
 pub lawful_names : (files : Files) (env : Environment) → IsChecked files env → HasLawfulNames env

@@ -4,7 +4,6 @@ ghost use Rattle.std.specs.Prelude.{IfOk, IfErr};
 ghost use Rattle.std.specs.String.{string_bytes};
 ghost use Rattle.isle_rulesets.specs.Grouping.{AreRuleSets};
 ghost use Rattle.isle_values.specs.Views.{seen};
-ghost use Rattle.isle_emission.specs.Built.{IsBuilt};
 ghost use Rattle.isle_codegen.specs.Checked.{IsChecked};
 ghost use Rattle.isle_run.specs.Compiled.{env_checked};
 ghost use Rattle.isle_run.specs.Trial.{IsTrial};
@@ -29,7 +28,6 @@ pub fn of_checked(
 ) -> Result<String, Refusal>
     requires checked { IsChecked files.now (env_checked checked.now) }
     requires terms { AreRuleSets (env_checked checked.now) checked.now.terms.items }
-    requires options { IsBuilt options.now }
     ensures ok { IfOk result (λ lines. IsTrial options.now files.now term.now (seen given.now) answers.now (string_bytes lines)) }
     ensures err { IfErr result (λ e. HasNoLines options.now files.now term.now (seen given.now) answers.now e) }
 {

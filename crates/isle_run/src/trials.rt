@@ -5,7 +5,6 @@ ghost use Rattle.std.specs.String.{string_bytes};
 ghost use Rattle.isle_core.specs.RuleViews.{environment};
 ghost use Rattle.isle_rulesets.specs.Grouping.{AreRuleSets};
 ghost use Rattle.isle_values.specs.Views.{seen};
-ghost use Rattle.isle_emission.specs.Built.{IsBuilt};
 ghost use Rattle.isle_codegen.specs.Checked.{IsChecked};
 ghost use Rattle.isle_run.specs.Trial.{IsTrial};
 ghost use Rattle.isle_run.specs.NoLines.{of_source, HasNoLines};
@@ -43,7 +42,6 @@ pub fn trial(
     answers: &str,
 ) -> Result<String, Refusal>
     requires count { length files.now.file_texts ≡ length files.now.file_names }
-    requires options { IsBuilt options.now }
     ensures ok { IfOk result (λ lines. IsTrial options.now files.now term.now (seen given.now) answers.now (string_bytes lines)) }
     ensures err { IfErr result (λ e. HasNoLines options.now files.now term.now (seen given.now) answers.now e) }
     ensures complete { CanRun files.now term.now (seen given.now) answers.now → IsOkUnless result Refusal.Memory }

@@ -27,17 +27,18 @@ use Rattle.isle_core.specs.Rule.{Environment}
 use Rattle.isle_core.specs.Setting.{Setting, setting, paths_in}
 use Rattle.isle_core.specs.SingleArms.{HasSingleArms, IsSingle}
 use Rattle.isle_core.proofs.Contained.{contained_cases, none_contained}
-use Rattle.isle_tree.specs.Calls.{expr_calls, stmt_calls, body_calls}
+use Rattle.isle_tree.specs.Calls.{expr_calls, own_calls, stmt_calls, body_calls}
 use Rattle.isle_tree.specs.Program.{Body, Done, Then}
 use Rattle.isle_tree.specs.declared.tree.Read.{Read}
 use Rattle.isle_simulation.specs.Completed.{completed}
 use Rattle.isle_simulation.specs.Statements.{callee_of as callee_made_of, made_named}
-use Rattle.isle_simulation.specs.TermFunction.{mark_of, tail_body, tail_of, ends_in_return}
+use Rattle.isle_simulation.specs.TermFunction.{mark_of, tail_body, tail_of, ends_in_return, log_lines}
 use Rattle.isle_simulation.proofs.CompletedReady.{completed_ready}
 use Rattle.isle_simulation.proofs.CompletedRuns.{completed_single}
 use Rattle.isle_simulation.proofs.Made.{callee_made, extractor_made}
 use Rattle.isle_simulation.proofs.Ready.{IsReadyBind, AreReadyBinds, IsReadyFrom, IsReadyControl}
-use Rattle.isle_simulation.proofs.Written.{arm_stmt, block_body, bound_expr, callee_of, call_expr, extraction_expr, control_stmt, lets, made_expr, returned, written_read, function_of}
+use Rattle.isle_simulation.proofs.Written.{arm_stmt, block_body, bound_expr, callee_of, call_expr, extraction_expr, control_stmt, lets, made_expr, returned, written_read, written_body, logged_function}
+use Rattle.isle_simulation.proofs.LoggedLaws.{IsOwn, logged_of}
 
 -- the callee is that of a call of a constructor among the bindings
 pub record IsConstructorCall (env : Environment) (bs : List Binding) (callee : Callee) : Type 0 where
@@ -158,9 +159,13 @@ tail_calls kind name place b callee c = one (ends_in_return b) refl
     one true e = none_contained callee (rw e at c)
     one false e = mark_calls (mark_of kind name place) callee (rw e at c)
 
+calls_own : IsOwn own_calls
+calls_own = record { if_eq = λ a b x y. refl; if_let = λ pat r x y. refl; arms = λ r x y. refl; loop = λ list item x y. refl; split = λ within x y. refl; log = λ term place. refl }
+
 -- each call of a term's function is among the bindings of its block
-pub written_calls : (files : Files) (env : Environment) (t : Term) (bs : List Binding) (b : Block) (callee : Callee) → IsLawfulBlock (setting env t bs) b → HasSingleArms b
-    → Contains (body_calls (function_of files env t bs b).body) callee → IsBoundCall env bs callee
-written_calls files env t bs b callee h o c =
+pub written_calls : (logging : Bool) (files : Files) (env : Environment) (t : Term) (bs : List Binding) (b : Block) (callee : Callee) → IsLawfulBlock (setting env t bs) b → HasSingleArms b
+    → Contains (body_calls (logged_function logging files env t bs b).body) callee → IsBoundCall env bs callee
+written_calls logging files env t bs b callee h o c =
     let s = setting env t bs in
-    ⊎_elim (λ x. x) (λ x. absurd (tail_calls _ _ _ b callee x)) (block_calls (completed s [] b) s [] [] _ callee (completed_ready s b h) (completed_single s [] b o) c)
+    ⊎_elim (λ x. x) (λ x. absurd (tail_calls _ _ _ b callee x)) (block_calls (completed s [] b) s [] [] _ callee (completed_ready s b h) (completed_single s [] b o)
+    (subst (λ cs. Contains cs callee) (logged_of own_calls calls_own (written_body files env t bs b) (log_lines logging files s b)) c))

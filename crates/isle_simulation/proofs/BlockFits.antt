@@ -22,7 +22,7 @@ use Rattle.isle_core.specs.Setting.{Setting, paths_in}
 use Rattle.isle_core.specs.SingleArms.{HasSingleArms, IsSingle}
 use Rattle.isle_tree.specs.declared.tree.Read.{Read}
 use Rattle.isle_tree.specs.Program.{Stmt, Let, Body, Done, Then}
-use Rattle.isle_tree.specs.WellFormed.{FitsLet, IsReturned, FitsStmt, FitsBody, FitsFunction}
+use Rattle.isle_tree.specs.WellFormed.{FitsLet, IsReturned, FitsStmt, FitsBody, FitsEnding, FitsFunction}
 use Rattle.isle_simulation.specs.Completed.{completed, step_binds}
 use Rattle.isle_simulation.specs.Statements.{made_named}
 use Rattle.isle_simulation.specs.TermFunction.{ends_in_return, mark_of, tail_body, tail_of}
@@ -102,18 +102,18 @@ mutual
 -- ---- a whole function
 
 -- a statement more before the last
-fits_more : (kind : ReturnKind) (st : Stmt) (ss : Body) → FitsStmt kind false st → FitsFunction kind ss → FitsFunction kind (Then st ss)
+fits_more : (kind : ReturnKind) (st : Stmt) (ss : Body) → FitsStmt kind false st → FitsEnding kind ss → FitsEnding kind (Then st ss)
 fits_more kind st Done h k = absurd k
 fits_more kind st (Then u ss) h k = (h, k)
 
-lets_before : (s : Setting) (bound : List ℕ) (binds : List BindingId) (more : Body) → AreReadyBinds s bound binds → FitsFunction (kind_of s.term.kind) more → FitsFunction (kind_of s.term.kind) (lets s bound binds more)
+lets_before : (s : Setting) (bound : List ℕ) (binds : List BindingId) (more : Body) → AreReadyBinds s bound binds → FitsEnding (kind_of s.term.kind) more → FitsEnding (kind_of s.term.kind) (lets s bound binds more)
 lets_before s bound [] more k h = h
 lets_before s bound (b ∷ binds) more k h =
     fits_more (kind_of s.term.kind) (Let b.0 (bound_expr s bound b (slice_get s.bindings b.0))) (lets s (bound ++ b.0 ∷ []) binds more)
     (bound_fits s bound b (slice_get s.bindings b.0) k.0) (lets_before s (bound ++ b.0 ∷ []) binds more k.1 h)
 
 -- a block before an end that fits
-block_before : (b : Block) (s : Setting) (bound made : List ℕ) (end : Body) → IsReadyFrom s bound made b → HasSingleArms b → FitsFunction (kind_of s.term.kind) end → FitsFunction (kind_of s.term.kind) (block_body s bound b end)
+block_before : (b : Block) (s : Setting) (bound made : List ℕ) (end : Body) → IsReadyFrom s bound made b → HasSingleArms b → FitsEnding (kind_of s.term.kind) end → FitsEnding (kind_of s.term.kind) (block_body s bound b end)
 block_before Stop s bound made end k o h = h
 block_before (Step binds c more) s bound made end k o h =
     lets_before s bound binds (Then (control_stmt s (bound_by bound binds) c) (block_body s (bound_by bound binds) more end)) k.0
@@ -121,7 +121,7 @@ block_before (Step binds c more) s bound made end k o h =
     (control_fits c s (bound_by bound binds) _ k.2 o.0) (block_before more s (bound_by bound binds) _ end k.3 o.1 h))
 
 -- a block whose last step is a Return
-return_last : (b : Block) (s : Setting) (bound made : List ℕ) → IsReadyFrom s bound made b → HasSingleArms b → ends_in_return b ≡ true → FitsFunction (kind_of s.term.kind) (block_body s bound b Done)
+return_last : (b : Block) (s : Setting) (bound made : List ℕ) → IsReadyFrom s bound made b → HasSingleArms b → ends_in_return b ≡ true → FitsEnding (kind_of s.term.kind) (block_body s bound b Done)
 return_last Stop s bound made k o e = cc
 return_last (Step binds (block.Return pos result) Stop) s bound made k o e =
     lets_before s bound binds (Then (control_stmt s (bound_by bound binds) (block.Return pos result)) Done) k.0 (returned_fits (kind_of s.term.kind) (written_read s (bound_by bound binds) false result))
@@ -133,7 +133,7 @@ return_last (Step binds c (Step ds d more)) s bound made k o e =
     (fits_more (kind_of s.term.kind) (control_stmt s (bound_by bound binds) c) (block_body s (bound_by bound binds) (Step ds d more) Done)
     (control_fits c s (bound_by bound binds) _ k.2 o.0) (return_last (Step ds d more) s (bound_by bound binds) _ k.3 o.1 e))
 
-tail_fits : (kind : ReturnKind) → AnswersOnce kind → (name place : List ℕ) → FitsFunction kind (tail_body (mark_of kind name place))
+tail_fits : (kind : ReturnKind) → AnswersOnce kind → (name place : List ℕ) → FitsEnding kind (tail_body (mark_of kind name place))
 tail_fits return_kind.Plain once name place = tt
 tail_fits return_kind.Option once name place = tt
 tail_fits return_kind.Iterator once name place = absurd once
@@ -147,11 +147,17 @@ completed_ends (Step binds (block.Equal x y body) Stop) s bound = refl
 completed_ends (Step binds (block.Loop result body) Stop) s bound = refl
 completed_ends (Step binds c (Step ds d more)) s bound = completed_ends (Step ds d more) s (bound_by bound (step_binds s bound binds c))
 
+-- an ending is a function's statements where it answers at most once
+ending_fits : (kind : ReturnKind) → AnswersOnce kind → (b : Body) → FitsEnding kind b → FitsFunction kind b
+ending_fits return_kind.Plain once b h = h
+ending_fits return_kind.Option once b h = h
+ending_fits return_kind.Iterator once b h = absurd once
+
 -- a completed block with the tail of its kind
 pub function_fits : (b : Block) (s : Setting) (name place : List ℕ) → AnswersOnce (kind_of s.term.kind) → IsReadyFrom s [] [] (completed s [] b) → HasSingleArms (completed s [] b)
     → FitsFunction (kind_of s.term.kind) (block_body s [] (completed s [] b) (tail_of (kind_of s.term.kind) name place b))
-function_fits b s name place once k o = one (ends_in_return b) refl
+function_fits b s name place once k o = ending_fits (kind_of s.term.kind) once _ (one (ends_in_return b) refl)
   where
-    one : (x : Bool) → ends_in_return b ≡ x → FitsFunction (kind_of s.term.kind) (block_body s [] (completed s [] b) (tail_of (kind_of s.term.kind) name place b))
+    one : (x : Bool) → ends_in_return b ≡ x → FitsEnding (kind_of s.term.kind) (block_body s [] (completed s [] b) (tail_of (kind_of s.term.kind) name place b))
     one true is = rw is (return_last (completed s [] b) s [] [] k o (rw (completed_ends b s []) is))
     one false is = rw is (block_before (completed s [] b) s [] [] _ k o (tail_fits (kind_of s.term.kind) once name place))

@@ -62,12 +62,12 @@ callee_is env term t of names there call =
 
 -- called with a term's arguments it answers one value, as often as the term does
 pub callee_answers : (env : Environment) (term : TermId) (t : Term) (of : ReturnKind) → HasCallees env → slice_get env.terms term.0 ≡ Some t → IsCall of (calling env term)
-    → callee_holds (callables_of env) (callee_of (calling env term)) (length t.arg_tys) ≡ kind_holds of item.Value
+    → callee_holds (callables_of env) (callee_of (calling env term)) (length t.arg_tys) ≡ Some (kind_holds of item.Value)
 callee_answers env term t of names there call =
     let n = length t.arg_tys in
     ⊎_elim
     (λ (x : IsExternalTerm env t of (calling env term)). ap (λ y. callee_holds (callables_of env) y n) x.callee ∙ ap (λ y. call_holds y n) (term_fn_found env term t of names.fns there x)
-    ∙ ap (λ y. cond y (kind_holds (kind_of t.kind) item.Value) None) (eq-eqb (length (map (parameter env) t.arg_tys)) n (length-map t.arg_tys (parameter env))) ∙ ap (λ y. kind_holds y item.Value) x.answers)
+    ∙ ap (λ y. cond y (Some (kind_holds (kind_of t.kind) item.Value)) None) (eq-eqb (length (map (parameter env) t.arg_tys)) n (length-map t.arg_tys (parameter env))) ∙ ap (λ y. Some (kind_holds y item.Value)) x.answers)
     (λ (x : IsRuledTerm env t of (calling env term)). ap (λ y. callee_holds (callables_of env) y n) x.callee ∙ ap (λ y. head_holds y n) (head_found env term t names.terms there x.ruled)
-    ∙ ap (λ y. cond y (kind_holds (kind_of t.kind) item.Value) None) (eq-eqb n n refl) ∙ ap (λ y. kind_holds y item.Value) x.answers)
+    ∙ ap (λ y. cond y (Some (kind_holds (kind_of t.kind) item.Value)) None) (eq-eqb n n refl) ∙ ap (λ y. Some (kind_holds y item.Value)) x.answers)
     (called_term env term t of there call)

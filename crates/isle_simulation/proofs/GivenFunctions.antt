@@ -1,5 +1,5 @@
 -- What holds of the function that a lawful block of a term gives.
-use Rattle.std.proofs.Common.{◌≡◌, List, Some, sym, subst, ◌∙◌}
+use Rattle.std.proofs.Common.{◌≡◌, List, Bool, Some, sym, subst, ◌∙◌}
 use Rattle.std.specs.Prelude.{Contains}
 use Rattle.isle_core.specs.declared.files.Files.{Files}
 use Rattle.isle_core.specs.declared.rule_sets.Binding.{Binding}
@@ -18,37 +18,42 @@ use Rattle.isle_simulation.specs.Emitted.{IsEmittable, RunsAsBlock}
 use Rattle.isle_simulation.specs.OfTerm.{IsOfTerm}
 use Rattle.isle_simulation.specs.RustNames.{HasRustNames}
 use Rattle.isle_simulation.specs.Shape.{HasShape}
-use Rattle.isle_simulation.specs.TermFunction.{term_function}
+use Rattle.isle_simulation.specs.LogLines.{lines_of}
+use Rattle.isle_simulation.specs.TermFunction.{term_function, log_lines}
 use Rattle.isle_simulation.specs.TermFns.{callables_of, HasTermFns}
 use Rattle.isle_simulation.specs.TraitFns.{HasFnNames}
 use Rattle.isle_simulation.proofs.BlockCalls.{IsBoundCall, written_calls}
 use Rattle.isle_simulation.proofs.FunctionsApart.{pure_extractors, pure_constructors}
+use Rattle.isle_simulation.proofs.LoggedLines.{told_is, written_lines}
 use Rattle.isle_simulation.proofs.Made.{function_made}
 use Rattle.isle_simulation.proofs.Shapes.{written_shape}
 use Rattle.isle_simulation.proofs.Simulation.{written_runs}
 use Rattle.isle_simulation.proofs.Tails.{written_of_term}
 use Rattle.isle_simulation.proofs.WellFormedFunctions.{written_well_formed}
-use Rattle.isle_simulation.proofs.Written.{function_of}
+use Rattle.isle_simulation.proofs.Written.{logged_function, function_of}
 
-module _ (files : Files) (env : Environment) (t : Term) (bs : List Binding) (b : Block) (f : Function) (lawful : IsLawfulBlock (setting env t bs) b) (single : HasSingleArms b) (once : AnswersOnce (kind_of t.kind)) (given : term_function files (setting env t bs) b ≡ Some f) where
+module _ (logging : Bool) (files : Files) (env : Environment) (t : Term) (bs : List Binding) (b : Block) (f : Function) (lawful : IsLawfulBlock (setting env t bs) b) (single : HasSingleArms b) (once : AnswersOnce (kind_of t.kind)) (given : term_function logging files (setting env t bs) b ≡ Some f) where
   -- it is the written one
-  given_is : function_of files env t bs b ≡ f
-  given_is = some_one (function_of files env t bs b) f (sym (function_made files env t bs b once lawful single) ∙ given)
+  given_is : logged_function logging files env t bs b ≡ f
+  given_is = sym (told_is logging files env t bs b lawful single) ∙ some_one (function_of logging files env t bs b) f (sym (function_made logging files env t bs b once lawful single) ∙ given)
     where
       some_one : (g h : Function) → Some g ≡ Some h → g ≡ h
       some_one g h e = cc
 
   pub emitted_well_formed : IsEmittable env t → HasRustNames env → HasFnNames env → HasTermFns env → (p : Program) → callables p ≡ callables_of env → IsFunction p f
-  emitted_well_formed h names fns terms p same = subst (IsFunction p) given_is (written_well_formed files env t bs b h names lawful single (record { fns = fns; terms = terms }) p same)
+  emitted_well_formed h names fns terms p same = subst (IsFunction p) given_is (written_well_formed logging files env t bs b h names lawful single (record { fns = fns; terms = terms }) p same)
 
   pub has_shape : HasShape (setting env t bs) f.body b
-  has_shape = subst (λ (g : Function). HasShape (setting env t bs) g.body b) given_is (written_shape files env t bs b once lawful single)
+  has_shape = subst (λ (g : Function). HasShape (setting env t bs) g.body b) given_is (written_shape logging files env t bs b once lawful single)
 
   pub runs_as_block : HasRustNames env → HasFnNames env → HasTermFns env → RunsAsBlock env t bs b f
-  runs_as_block names fns terms = subst (RunsAsBlock env t bs b) given_is (written_runs files env t bs b once names (pure_extractors env bs fns) (pure_constructors env fns terms) lawful single)
+  runs_as_block names fns terms = subst (RunsAsBlock env t bs b) given_is (written_runs logging files env t bs b once names (pure_extractors env bs fns) (pure_constructors env fns terms) lawful single)
 
   pub of_its_term : IsOfTerm files env t f
-  of_its_term = subst (IsOfTerm files env t) given_is (written_of_term files env t bs b lawful single)
+  of_its_term = subst (IsOfTerm files env t) given_is (written_of_term logging files env t bs b lawful single)
 
   pub function_calls : (callee : Callee) → Contains (body_calls f.body) callee → IsBoundCall env bs callee
-  function_calls callee c = written_calls files env t bs b callee lawful single (subst (λ (g : Function). Contains (body_calls g.body) callee) (sym given_is) c)
+  function_calls callee c = written_calls logging files env t bs b callee lawful single (subst (λ (g : Function). Contains (body_calls g.body) callee) (sym given_is) c)
+
+  pub its_lines : lines_of f.body ≡ log_lines logging files (setting env t bs) b
+  its_lines = subst (λ (g : Function). lines_of g.body ≡ log_lines logging files (setting env t bs) b) given_is (written_lines logging files env t bs b lawful single)

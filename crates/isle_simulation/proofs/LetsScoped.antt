@@ -38,7 +38,7 @@ use Rattle.isle_tree.specs.declared.tree.Operand.TheVariants as operand
 use Rattle.isle_tree.specs.declared.tree.Read.{Read}
 use Rattle.isle_tree.specs.declared.tree.TExpr.TheVariants as expr
 use Rattle.isle_tree.specs.Program.{Body}
-use Rattle.isle_tree.specs.WellFormed.{Locals, Callables, newer, local_holds, operand_holds, read_holds, is_value, are_values, results_item, kind_holds, call_holds, part_holds, callee_holds, inner_holds, are_field_values, made_holds, expr_holds, after_let, IsBodyScoped}
+use Rattle.isle_tree.specs.WellFormed.{Locals, Callables, newer, local_holds, operand_holds, read_holds, is_value, are_values, results_item, kind_holds, once_holds, call_holds, part_holds, callee_holds, inner_holds, are_field_values, made_holds, expr_holds, after_let, IsBodyScoped}
 use Rattle.isle_simulation.specs.Operands.{constant, in_place, is_bound}
 use Rattle.isle_simulation.specs.References.{is_declared, result_type, is_reference_in, read_as}
 use Rattle.isle_simulation.specs.Statements.{made_named}
@@ -176,7 +176,7 @@ plain_let s bound locals b k = (
 )
 
 -- what an answer holds
-abbrev answer_holds : (of : ReturnKind) (x : Item) → AnswersOnce of → (h : Holds) × (kind_holds of x ≡ Some h)
+abbrev answer_holds : (of : ReturnKind) (x : Item) → AnswersOnce of → (h : Holds) × (once_holds (Some (kind_holds of x)) ≡ Some h)
 answer_holds return_kind.Plain x once = ((holds.One x), refl)
 answer_holds return_kind.Option x once = ((holds.Optional x), refl)
 answer_holds return_kind.Iterator x once = absurd once
@@ -217,20 +217,19 @@ answer_as env t p return_kind.Iterator x once plain tuple option = absurd once
 
 -- a call of what takes as many
 called_holds : (s : Setting) (bound : List ℕ) (locals : Locals) (borrow : Bool) (callee : _) (tys : List TypeId) (parameters : List BindingId) (of : ReturnKind) (x : Item) → LocalsHold s bound locals → AreReady s bound parameters tys
-    → callee_holds (callables_of s.env) callee (length tys) ≡ kind_holds of x → expr_holds (callables_of s.env) (length s.term.arg_tys) locals (expr.Call borrow (record { callee = callee; args = reads s bound tys parameters })) ≡ kind_holds of x
+    → callee_holds (callables_of s.env) callee (length tys) ≡ Some (kind_holds of x) → expr_holds (callables_of s.env) (length s.term.arg_tys) locals (expr.Call borrow (record { callee = callee; args = reads s bound tys parameters })) ≡ once_holds (Some (kind_holds of x))
 called_holds s bound locals borrow callee tys parameters of x l args k =
     let r = reads_hold s bound locals tys parameters l args in
-    ap (λ y. cond y (callee_holds (callables_of s.env) callee (length (reads s bound tys parameters))) None) r.0
-    ∙ ap (callee_holds (callables_of s.env) callee) r.1 ∙ k
+    ap once_holds (ap (λ y. cond y (callee_holds (callables_of s.env) callee (length (reads s bound tys parameters))) None) r.0 ∙ ap (callee_holds (callables_of s.env) callee) r.1 ∙ k)
 
 call_let : (s : Setting) (bound : List ℕ) (locals : Locals) (o : Option Term) (called : Term) (callee : _) (parameters : List BindingId) (of : ReturnKind) (x : Item) → o ≡ Some called → LocalsHold s bound locals → AreReady s bound parameters called.arg_tys
-    → callee_holds (callables_of s.env) callee (length called.arg_tys) ≡ kind_holds of x → expr_holds (callables_of s.env) (length s.term.arg_tys) locals (call_expr s bound o callee parameters) ≡ kind_holds of x
+    → callee_holds (callables_of s.env) callee (length called.arg_tys) ≡ Some (kind_holds of x) → expr_holds (callables_of s.env) (length s.term.arg_tys) locals (call_expr s bound o callee parameters) ≡ once_holds (Some (kind_holds of x))
 call_let s bound locals o called callee parameters of x e l args k =
     ap (λ x. expr_holds (callables_of s.env) (length s.term.arg_tys) locals (call_expr s bound x callee parameters)) e
     ∙ called_holds s bound locals (is_declared s.env called.ret_ty) callee called.arg_tys parameters of x l args k
 
 extraction_let : (s : Setting) (bound : List ℕ) (locals : Locals) (o : Option Term) (called : Term) (callee : _) (parameter : BindingId) (of : ReturnKind) (x : Item) → o ≡ Some called → LocalsHold s bound locals → IsReady s bound parameter called.ret_ty
-    → callee_holds (callables_of s.env) callee 1 ≡ kind_holds of x → expr_holds (callables_of s.env) (length s.term.arg_tys) locals (extraction_expr s bound o callee parameter) ≡ kind_holds of x
+    → callee_holds (callables_of s.env) callee 1 ≡ Some (kind_holds of x) → expr_holds (callables_of s.env) (length s.term.arg_tys) locals (extraction_expr s bound o callee parameter) ≡ once_holds (Some (kind_holds of x))
 extraction_let s bound locals o called callee parameter of x e l arg k =
     ap (λ x. expr_holds (callables_of s.env) (length s.term.arg_tys) locals (extraction_expr s bound x callee parameter)) e
     ∙ called_holds s bound locals (option_map_or (is_declared s.env) (result_type (Some called)) false) callee (called.ret_ty ∷ []) (parameter ∷ []) of x l (arg, tt) k

@@ -14,6 +14,9 @@ pub mod MadeBinds
 pub mod BindsRun
 pub mod CompletedRuns
 pub mod CompletedReady
+pub mod Logged
+pub mod LoggedLaws
+pub mod LoggedLines
 pub mod Simulation
 pub mod Made
 pub mod Shapes

@@ -44,7 +44,8 @@ use Rattle.isle_simulation.specs.Completed.{completed}
 use Rattle.isle_simulation.specs.Operands.{constant, in_place, tested, is_bound, operand_of}
 use Rattle.isle_simulation.specs.Patterns.{some_pattern}
 use Rattle.isle_simulation.specs.References.{is_declared, result_type, is_reference_in, read_as}
-use Rattle.isle_simulation.specs.Statements.{callee_of, read_before, read_in, reads, call_on, call_of, extraction_of, read_of, field_before, field_reads, made_of, made_in, computed, stmt_before, let_of, lets, if_eq, if_let, return_of, plain_read, block_body, control_stmt}
+use Rattle.isle_simulation.specs.Statements.{callee_of, read_before, read_in, reads, call_on, call_of, extraction_of, read_of, field_before, field_reads, made_of, made_in, computed, stmt_before, let_of, lets, if_eq, if_let, return_of, plain_read, told_body, told_control}
+use Rattle.isle_simulation.specs.Telling.{Telling, line_before, told_before, telling_of}
 use Rattle.isle_simulation.specs.TermFunction.{tail_in, function_with, term_function}
 use Rattle.isle_simulation.proofs.ArmsRun.{arm_pattern}
 use Rattle.isle_simulation.proofs.OneBind.{spelled}
@@ -204,43 +205,50 @@ return_made return_kind.Plain once o x e = rw e refl
 return_made return_kind.Option once o x e = rw e refl
 return_made return_kind.Iterator once o x e = absurd once
 
+told_made : (telling : Telling) (c : Control) (o : Option Body) (after : Body) → o ≡ Some after → told_before telling c o ≡ Some (written.told_before telling c after)
+told_made None c o after e = e
+told_made (Some line) (block.Match source arms) o after e = e
+told_made (Some line) (block.Equal a b body) o after e = e
+told_made (Some line) (block.Loop result body) o after e = e
+told_made (Some line) (block.Return place result) o after e = ap (option_map (line_before (line place))) e
+
 mutual
   -- the statements of a lawful block
-  block_made : (b : Block) (s : Setting) → AnswersOnce (kind_of s.term.kind) → (bound made : List ℕ) (end : Body) → IsReadyFrom s bound made b → HasSingleArms b → block_body s bound b (Some end) ≡ Some (written.block_body s bound b end)
-  block_made Stop s once bound made end k o = refl
-  block_made (Step binds c more) s once bound made end k o =
+  block_made : (telling : Telling) (b : Block) (s : Setting) → AnswersOnce (kind_of s.term.kind) → (bound made : List ℕ) (end : Body) → IsReadyFrom s bound made b → HasSingleArms b → told_body telling s bound b (Some end) ≡ Some (written.told_body telling s bound b end)
+  block_made telling Stop s once bound made end k o = refl
+  block_made telling (Step binds c more) s once bound made end k o =
       lets_made s bound binds _ _ k.0
-      (before_made _ _ _ _ (control_made c s once (bound_by bound binds) _ k.2 o.0) (block_made more s once (bound_by bound binds) _ end k.3 o.1))
+      (told_made telling c _ _ (before_made _ _ _ _ (control_made telling c s once (bound_by bound binds) _ k.2 o.0) (block_made telling more s once (bound_by bound binds) _ end k.3 o.1)))
 
-  control_made : (c : Control) (s : Setting) → AnswersOnce (kind_of s.term.kind) → (bound made : List ℕ) → IsReadyControl s bound made c → IsSingle c → control_stmt s bound c ≡ Some (written.control_stmt s bound c)
-  control_made (block.Match source (Arm (constraint.ConstBool val) places body NoArm)) s once bound made k o =
+  control_made : (telling : Telling) (c : Control) (s : Setting) → AnswersOnce (kind_of s.term.kind) → (bound made : List ℕ) → IsReadyControl s bound made c → IsSingle c → told_control telling s bound c ≡ Some (written.told_control telling s bound c)
+  control_made telling (block.Match source (Arm (constraint.ConstBool val) places body NoArm)) s once bound made k o =
       let v = over_value s bound source (constraint.ConstBool val) k.1.0 (λ e. cc) k.1.1 k.1.2.0 in
-      test_made _ _ _ _ _ _ (operand_there s bound source v.ty v.ready) (test_there s.env (constraint.ConstBool val) tt) (block_made body s once (bound_within bound places) made Done k.1.2.2 o)
-  control_made (block.Match source (Arm (constraint.ConstInt val of) places body NoArm)) s once bound made k o =
+      test_made _ _ _ _ _ _ (operand_there s bound source v.ty v.ready) (test_there s.env (constraint.ConstBool val) tt) (block_made telling body s once (bound_within bound places) made Done k.1.2.2 o)
+  control_made telling (block.Match source (Arm (constraint.ConstInt val of) places body NoArm)) s once bound made k o =
       let v = over_value s bound source (constraint.ConstInt val of) k.1.0 (λ e. cc) k.1.1 k.1.2.0 in
-      test_made _ _ _ _ _ _ (operand_there s bound source v.ty v.ready) (test_there s.env (constraint.ConstInt val of) tt) (block_made body s once (bound_within bound places) made Done k.1.2.2 o)
-  control_made (block.Match source (Arm (constraint.ConstPrim val) places body NoArm)) s once bound made k o =
+      test_made _ _ _ _ _ _ (operand_there s bound source v.ty v.ready) (test_there s.env (constraint.ConstInt val of) tt) (block_made telling body s once (bound_within bound places) made Done k.1.2.2 o)
+  control_made telling (block.Match source (Arm (constraint.ConstPrim val) places body NoArm)) s once bound made k o =
       let v = over_value s bound source (constraint.ConstPrim val) k.1.0 (λ e. cc) k.1.1 k.1.2.0 in
-      test_made _ _ _ _ _ _ (operand_there s bound source v.ty v.ready) (test_there s.env (constraint.ConstPrim val) tt) (block_made body s once (bound_within bound places) made Done k.1.2.2 o)
-  control_made (block.Match source (Arm (constraint.Variant of variant) places body NoArm)) s once bound made k o =
+      test_made _ _ _ _ _ _ (operand_there s bound source v.ty v.ready) (test_there s.env (constraint.ConstPrim val) tt) (block_made telling body s once (bound_within bound places) made Done k.1.2.2 o)
+  control_made telling (block.Match source (Arm (constraint.Variant of variant) places body NoArm)) s once bound made k o =
       let v = over_value s bound source (constraint.Variant of variant) k.1.0 (λ e. cc) k.1.1 k.1.2.0 in
-      pattern_made _ _ _ _ _ _ (arm_pattern s source v.ty (constraint.Variant of variant) places v.is k.1.2.1 tt).is (read_there s bound true source v.ty v.ready) (block_made body s once (bound_within bound places) made Done k.1.2.2 o)
-  control_made (block.Match source (Arm (constraint.Struct of) places body NoArm)) s once bound made k o =
+      pattern_made _ _ _ _ _ _ (arm_pattern s source v.ty (constraint.Variant of variant) places v.is k.1.2.1 tt).is (read_there s bound true source v.ty v.ready) (block_made telling body s once (bound_within bound places) made Done k.1.2.2 o)
+  control_made telling (block.Match source (Arm (constraint.Struct of) places body NoArm)) s once bound made k o =
       let v = over_value s bound source (constraint.Struct of) k.1.0 (λ e. cc) k.1.1 k.1.2.0 in
-      pattern_made _ _ _ _ _ _ (arm_pattern s source v.ty (constraint.Struct of) places v.is k.1.2.1 tt).is (read_there s bound true source v.ty v.ready) (block_made body s once (bound_within bound places) made Done k.1.2.2 o)
-  control_made (block.Match source (Arm constraint.Some places body NoArm)) s once bound made k o =
+      pattern_made _ _ _ _ _ _ (arm_pattern s source v.ty (constraint.Struct of) places v.is k.1.2.1 tt).is (read_there s bound true source v.ty v.ready) (block_made telling body s once (bound_within bound places) made Done k.1.2.2 o)
+  control_made telling (block.Match source (Arm constraint.Some places body NoArm)) s once bound made k o =
       let v = over_option s bound source k.1.0 k.1.1 k.1.2.0 in
-      pattern_made _ _ _ _ _ _ (some_made places k.1.2.1.0).1 (ap plain_read (option_there s bound source v.0 v.1)) (block_made body s once (bound_within bound places) made Done k.1.2.2 o)
-  control_made (block.Match source (Arm c places body (Arm d others inside arms))) s once bound made k o = absurd o
-  control_made (block.Match source NoArm) s once bound made k o = absurd o
-  control_made (block.Equal x y body) s once bound made k o =
-      test_made _ _ _ _ _ _ (operand_there s bound x k.0.0 k.0.1) (operand_there s bound y k.0.0 k.0.2) (block_made body s once bound made Done k.1 o)
-  control_made (block.Loop result body) s once bound made k o = absurd k
-  control_made (block.Return pos result) s once bound made k o = return_made (kind_of s.term.kind) once _ _ (read_there s bound false result s.term.ret_ty k)
+      pattern_made _ _ _ _ _ _ (some_made places k.1.2.1.0).1 (ap plain_read (option_there s bound source v.0 v.1)) (block_made telling body s once (bound_within bound places) made Done k.1.2.2 o)
+  control_made telling (block.Match source (Arm c places body (Arm d others inside arms))) s once bound made k o = absurd o
+  control_made telling (block.Match source NoArm) s once bound made k o = absurd o
+  control_made telling (block.Equal x y body) s once bound made k o =
+      test_made _ _ _ _ _ _ (operand_there s bound x k.0.0 k.0.1) (operand_there s bound y k.0.0 k.0.2) (block_made telling body s once bound made Done k.1 o)
+  control_made telling (block.Loop result body) s once bound made k o = absurd k
+  control_made telling (block.Return pos result) s once bound made k o = return_made (kind_of s.term.kind) once _ _ (read_there s bound false result s.term.ret_ty k)
 
 -- ---- functions
 
-pub function_made : (files : Files) (env : Environment) (t : Term) (bs : List Binding) (b : Block) → AnswersOnce (kind_of t.kind) → IsLawfulBlock (setting env t bs) b → HasSingleArms b → term_function files (setting env t bs) b ≡ Some (function_of files env t bs b)
-function_made files env t bs b once h o =
+pub function_made : (logging : Bool) (files : Files) (env : Environment) (t : Term) (bs : List Binding) (b : Block) → AnswersOnce (kind_of t.kind) → IsLawfulBlock (setting env t bs) b → HasSingleArms b → term_function logging files (setting env t bs) b ≡ Some (function_of logging files env t bs b)
+function_made logging files env t bs b once h o =
     let s = setting env t bs in
-    ap (option_map (function_with env t)) (block_made (completed s [] b) s once [] [] (tail_in files env t b) (completed_ready s b h) (completed_single s [] b o))
+    ap (option_map (function_with env t)) (block_made (telling_of logging files s) (completed s [] b) s once [] [] (tail_in files env t b) (completed_ready s b h) (completed_single s [] b o))

@@ -35,13 +35,14 @@ use Rattle.isle_simulation.specs.Patterns.{pattern_named, some_pattern, pattern_
 use Rattle.isle_simulation.specs.References.{is_reference_in, read_as}
 use Rattle.isle_simulation.specs.Shape.{IsOperandOf, IsReadOf, IsResultOf, IsTestedBy, AreSteps, HasShape}
 use Rattle.isle_simulation.specs.Statements.{plain_read}
-use Rattle.isle_simulation.specs.TermFunction.{ends_in_return, mark_of, tail_body}
+use Rattle.isle_simulation.specs.TermFunction.{ends_in_return, mark_of, tail_body, log_lines}
 use Rattle.isle_simulation.proofs.ArmsRun.{ArmPattern, arm_pattern}
 use Rattle.isle_simulation.proofs.CompletedReady.{completed_ready}
 use Rattle.isle_simulation.proofs.CompletedRuns.{Adds, adds_none, adds_step, adds_within, operands_same}
 use Rattle.isle_simulation.proofs.Made.{over_value, over_option, test_there, operand_there, option_there, some_made}
 use Rattle.isle_simulation.proofs.Ready.{IsReady, IsOptionReady, IsReadyFrom, IsReadyControl}
-use Rattle.isle_simulation.proofs.Written.{written_operand, written_read, written_pattern, block_body, control_stmt, lets, returned, function_of}
+use Rattle.isle_simulation.proofs.Written.{written_operand, written_read, written_pattern, block_body, control_stmt, lets, returned, written_body, logged_function}
+use Rattle.isle_simulation.proofs.LoggedLaws.{logged_bare}
 
 -- ---- operands
 
@@ -136,6 +137,7 @@ tail_bare mark true = refl
 tail_bare mark false = mark_bare mark
 
 -- the statements of a term's function are its block's steps
-pub written_shape : (files : Files) (env : Environment) (t : Term) (bs : List Binding) (b : Block) → AnswersOnce (kind_of t.kind) → IsLawfulBlock (setting env t bs) b → HasSingleArms b → HasShape (setting env t bs) (function_of files env t bs b).body b
-written_shape files env t bs b once h o =
-    block_shape b (setting env t bs) once [] [] [] _ (adds_none (setting env t bs) []) (completed_ready (setting env t bs) b h) o (tail_bare (mark_of (kind_of t.kind) (sym_text env t.name) (place_in files t.decl_pos)) (ends_in_return b))
+pub written_shape : (logging : Bool) (files : Files) (env : Environment) (t : Term) (bs : List Binding) (b : Block) → AnswersOnce (kind_of t.kind) → IsLawfulBlock (setting env t bs) b → HasSingleArms b → HasShape (setting env t bs) (logged_function logging files env t bs b).body b
+written_shape logging files env t bs b once h o =
+    subst (λ (body : Body). AreSteps (setting env t bs) [] body b) (sym (logged_bare (written_body files env t bs b) (log_lines logging files (setting env t bs) b)))
+    (block_shape b (setting env t bs) once [] [] [] _ (adds_none (setting env t bs) []) (completed_ready (setting env t bs) b h) o (tail_bare (mark_of (kind_of t.kind) (sym_text env t.name) (place_in files t.decl_pos)) (ends_in_return b)))

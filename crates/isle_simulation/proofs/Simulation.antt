@@ -34,19 +34,22 @@ use Rattle.isle_core.specs.BlockLawful.{IsLawfulBlock}
 use Rattle.isle_core.specs.Occurrences.{AreNew, occurrences, after_block, after_control}
 use Rattle.isle_core.specs.Terms.{sym_text, impure_calls}
 use Rattle.isle_core.specs.Rule.{Environment}
+use Rattle.isle_core.specs.HasType.{HaveTypes}
+use Rattle.isle_core.specs.NamesApart.{ValuesConstants}
 use Rattle.isle_core.specs.Setting.{Setting, setting, paths_in}
 use Rattle.isle_core.specs.SingleArms.{HasSingleArms, IsSingle}
 use Rattle.isle_tree.specs.declared.tree.Operand.{Operand}
 use Rattle.isle_tree.specs.declared.tree.Read.{Read}
 use Rattle.isle_tree.specs.declared.tree.Read.TheVariants as read
 use Rattle.isle_tree.specs.declared.tree.TPat.{TPat}
-use Rattle.isle_tree.specs.Program.{IfEq, IfLet, Body, Done, Then}
-use Rattle.isle_tree.specs.Run.{Around, Env, value_of, read_value, fitted, Flow, Goes, then_run, after_scope, run_return, run_stmt, run_body, ended, function_run}
+use Rattle.isle_tree.specs.Program.{IfEq, IfLet, Body, Done, Then, Function, Program}
+use Rattle.isle_tree.specs.Run.{Around, Env, value_of, read_value, fitted, Flow, Goes, then_run, after_scope, run_return, run_stmt, run_body, ended, nothing_done, around, room, function_run}
 use Rattle.isle_simulation.specs.Completed.{completed}
 use Rattle.isle_simulation.specs.Patterns.{pattern_of}
-use Rattle.isle_simulation.specs.TermFunction.{ends_in_return, mark_of, tail_body}
+use Rattle.isle_simulation.specs.TermFunction.{ends_in_return, mark_of, tail_body, log_lines}
+use Rattle.isle_simulation.proofs.LoggedLaws.{logged_runs}
 use Rattle.isle_simulation.specs.Ends.{end_of as ending}
-use Rattle.isle_simulation.specs.Emitted.{HasPureExtractors, HasPureConstructors, impure_ran, AreSameRuns, RunsAsBlock, ran_with}
+use Rattle.isle_simulation.specs.Emitted.{HasPureExtractors, HasPureConstructors, impure_ran, AreSameRuns, RunsAsBlock, ran_with, AnswersBindings, ran_of}
 use Rattle.isle_simulation.specs.RustNames.{HasRustNames}
 use Rattle.isle_simulation.proofs.ArmsRun.{FitsBy, IsForm, ArmFits, arm_fits, some_fits}
 use Rattle.isle_simulation.proofs.BindsRun.{LetsRun, lets_run}
@@ -59,7 +62,7 @@ use Rattle.isle_simulation.proofs.Made.{over_value, over_option}
 use Rattle.isle_simulation.proofs.NamelessLaws.{AreSameCalls, run_same}
 use Rattle.isle_simulation.proofs.PathValues.{Grounds, constraint_tests, IsConstant}
 use Rattle.isle_simulation.proofs.Ready.{IsReady, IsOptionReady, IsReadyFrom, IsReadyControl}
-use Rattle.isle_simulation.proofs.Written.{written_operand, written_read, written_test, written_pattern, block_body, control_stmt, end_of, returned, function_of}
+use Rattle.isle_simulation.proofs.Written.{written_operand, written_read, written_test, written_pattern, block_body, control_stmt, end_of, returned, written_body, logged_function}
 
 -- ---- how statements go
 
@@ -380,19 +383,19 @@ returns (Step binds c (Step ds d more)) env m args bs known made e =
     ended_after (went.Ends o) go h = (o, refl)
 
 -- a run that ends is the same but for names
-ran_same : (env : Environment) (kind : ReturnKind) (f : Flow) (o : Prescription) → EndsSo env kind f o → AreSameRuns env (ended f) (Some (ran_with o.calls (end_of kind o.result)))
+ran_same : (env : Environment) (kind : ReturnKind) (f : Flow) (o : Prescription) → EndsSo env kind f o → AreSameRuns env (ended kind f) (Some (ran_with o.calls (end_of kind o.result)))
 ran_same env kind f o e =
-    ap (λ x. option_map (λ (q : Ran). nameless_ran (impure_ran env q)) (ended x)) e.is ∙ ap (λ x. Some (record { end = x; calls = map nameless_made (impure_calls env e.those) })) e.same ∙ ap (λ x. Some (record { end = nameless_end (end_of kind o.result); calls = x })) e.calls
+    ap (λ x. option_map (λ (q : Ran). nameless_ran (impure_ran env q)) (ended kind x)) e.is ∙ ap (λ x. Some (record { end = x; calls = map nameless_made (impure_calls env e.those) })) e.same ∙ ap (λ x. Some (record { end = nameless_end (end_of kind o.result); calls = x })) e.calls
 
 -- behind a block that goes on stands the tail of its kind
 tail_runs : (env : Environment) (u : Around) (kind : ReturnKind) → AnswersOnce kind → (x : Bool) (name place : List ℕ) (f : Body → Flow) (w : Went) → (x ≡ true → (o : Prescription) × (w ≡ went.Ends o)) → RunsSo env kind u f w
-    → AreSameRuns env (ended (f (cond x Done (tail_body (mark_of kind name place))))) (Some (ran_with (gave kind w).calls (end_of kind (gave kind w).result)))
+    → AreSameRuns env (ended kind (f (cond x Done (tail_body (mark_of kind name place))))) (Some (ran_with (gave kind w).calls (end_of kind (gave kind w).result)))
 tail_runs env u kind once x name place f (went.Ends o) h r = ran_same env kind (f (cond x Done (tail_body (mark_of kind name place)))) o (r (cond x Done (tail_body (mark_of kind name place))))
 tail_runs env u kind once true name place f (went.Goes known made) h r = let k = h refl in cc
 tail_runs env u return_kind.Plain once false name place f (went.Goes known made) h r =
-    ap (λ x. option_map (λ (q : Ran). nameless_ran (impure_ran env q)) (ended x)) (r.is (tail_body (mark_of return_kind.Plain name place))) ∙ ap (λ x. Some (record { end = IsUnreachable; calls = x })) r.same
+    ap (λ x. option_map (λ (q : Ran). nameless_ran (impure_ran env q)) (ended return_kind.Plain x)) (r.is (tail_body (mark_of return_kind.Plain name place))) ∙ ap (λ x. Some (record { end = IsUnreachable; calls = x })) r.same
 tail_runs env u return_kind.Option once false name place f (went.Goes known made) h r =
-    ap (λ x. option_map (λ (q : Ran). nameless_ran (impure_ran env q)) (ended x)) (r.is (tail_body (mark_of return_kind.Option name place))) ∙ ap (λ x. Some (record { end = GivesNone; calls = x })) r.same
+    ap (λ x. option_map (λ (q : Ran). nameless_ran (impure_ran env q)) (ended return_kind.Option x)) (r.is (tail_body (mark_of return_kind.Option name place))) ∙ ap (λ x. Some (record { end = GivesNone; calls = x })) r.same
 tail_runs env u return_kind.Iterator once false name place f (went.Goes known made) h r = absurd once
 
 -- the end that a kind has
@@ -405,19 +408,30 @@ ends_as return_kind.Option once Failure = refl
 ends_as return_kind.Option once Unmatched = refl
 ends_as return_kind.Iterator once r = absurd once
 
--- the function of a term whose block is lawful runs as the block
-pub written_runs : (files : Files) (env : Environment) (t : Term) (bs : List Binding) (b : Block) → AnswersOnce (kind_of t.kind) → HasRustNames env → HasPureExtractors env bs → HasPureConstructors env → IsLawfulBlock (setting env t bs) b → HasSingleArms b → RunsAsBlock env t bs b (function_of files env t bs b)
-written_runs files env t bs b once names pure pure_made h o p args m e k answers values =
+-- the statements of a lawful block run as the block, in whatever function they stand and however its results are limited
+pub written_flow : (files : Files) (env : Environment) (t : Term) (bs : List Binding) (b : Block) → AnswersOnce (kind_of t.kind) → HasRustNames env → HasPureExtractors env bs → HasPureConstructors env → IsLawfulBlock (setting env t bs) b → HasSingleArms b
+    → (p : Program) (args : List Value) (m : Meaning) → HaveTypes env args t.arg_tys → AnswersBindings env m bs → ValuesConstants env m → (limit : Option ℕ) (f : Function)
+    → AreSameRuns env (ended (kind_of t.kind) (run_body (around p m args limit f) (written_body files env t bs b) [] nothing_done)) (ran_of t (block_outcome env m args (paths_of bs) b (kind_of t.kind)))
+written_flow files env t bs b once names pure pure_made h o p args m k answers values limit g =
     let kind = kind_of t.kind in
     let name = sym_text env t.name in
     let place = place_in files t.decl_pos in
     let s = setting env t bs in
-    let u : Around = record { meaning = m; program = p; function = function_of files env t bs b; args = args; limit = None } in
-    let g : Grounds s u = record { typed = k; answers = answers; constants = values; names = names; pure = pure; pure_made = pure_made } in
+    let u = around p m args limit g in
+    let grounds : Grounds s u = record { typed = k; answers = answers; constants = values; names = names; pure = pure; pure_made = pure_made } in
     let c = completed s [] b in
     let f : Body → Flow = λ end. run_body u (block_body s [] c end) [] (done []) in
-    let r = block_runs s u g c [] [] [] nothing_known [] [] (λ j apart. refl) refl (completed_ready s b h) (completed_single s [] b o) (none_agree s u nothing_known) in
+    let r = block_runs s u grounds c [] [] [] nothing_known [] [] (λ j apart. refl) refl (completed_ready s b h) (completed_single s [] b o) (none_agree s u nothing_known) in
     let outcome = block_outcome env m args (paths_of bs) b kind in
-    ap (option_map (λ (q : Ran). nameless_ran (impure_ran env q))) (ap (function_run p m args) e)
-    ∙ tail_runs env u kind once (ends_in_return b) name place f (block_run env m args (paths_of bs) b nothing_known []) (λ x. returns b env m args bs nothing_known [] x) (subst (RunsSo env kind u f) (completed_runs s m args [] b nothing_known []) r.runs)
+    tail_runs env u kind once (ends_in_return b) name place f (block_run env m args (paths_of bs) b nothing_known []) (λ x. returns b env m args bs nothing_known [] x) (subst (RunsSo env kind u f) (completed_runs s m args [] b nothing_known []) r.runs)
     ∙ ap (λ x. option_map nameless_ran (option_map (ran_with outcome.calls) x)) (sym (ends_as kind once outcome.result))
+
+-- so the function of a term, with its log lines
+pub written_runs : (logging : Bool) (files : Files) (env : Environment) (t : Term) (bs : List Binding) (b : Block) → AnswersOnce (kind_of t.kind) → HasRustNames env → HasPureExtractors env bs → HasPureConstructors env → IsLawfulBlock (setting env t bs) b → HasSingleArms b
+    → RunsAsBlock env t bs b (logged_function logging files env t bs b)
+written_runs logging files env t bs b once names pure pure_made h o p args m e k answers values =
+    let f = logged_function logging files env t bs b in
+    let w = around p m args (Some (room m)) f in
+    ap (λ g. option_map (λ (q : Ran). nameless_ran (impure_ran env q)) (function_run p m args g)) e
+    ∙ ap (λ x. option_map (λ (q : Ran). nameless_ran (impure_ran env q)) (ended (kind_of t.kind) x)) (logged_runs (written_body files env t bs b) (log_lines logging files (setting env t bs) b) w [] nothing_done)
+    ∙ written_flow files env t bs b once names pure pure_made h o p args m k answers values (Some (room m)) f

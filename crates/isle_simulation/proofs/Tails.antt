@@ -19,11 +19,12 @@ use Rattle.isle_tree.specs.Program.{Body, Done}
 use Rattle.isle_tree.specs.Walk.{of_stmt}
 use Rattle.isle_simulation.specs.Completed.{completed}
 use Rattle.isle_simulation.specs.OfTerm.{own_marks, marks, IsOfTerm}
-use Rattle.isle_simulation.specs.TermFunction.{ends_in_return, mark_in, tail_body, tail_in}
+use Rattle.isle_simulation.specs.TermFunction.{ends_in_return, mark_in, tail_body, tail_in, log_lines}
 use Rattle.isle_simulation.proofs.CompletedReady.{completed_ready}
 use Rattle.isle_simulation.proofs.CompletedRuns.{completed_single}
 use Rattle.isle_simulation.proofs.Ready.{IsReadyFrom, IsReadyControl}
-use Rattle.isle_simulation.proofs.Written.{arm_stmt, block_body, control_stmt, lets, function_of}
+use Rattle.isle_simulation.proofs.Written.{arm_stmt, block_body, control_stmt, lets, written_body, logged_function}
+use Rattle.isle_simulation.proofs.LoggedLaws.{IsOwn, logged_of}
 
 -- lets have no mark
 lets_marks : (s : Setting) (bound : List ℕ) (binds : List BindingId) (more : Body) → marks (lets s bound binds more) ≡ marks more
@@ -62,9 +63,12 @@ tail_marks mark true = tt
 tail_marks None false = tt
 tail_marks (Some mark) false = (refl, tt)
 
+marks_own : IsOwn own_marks
+marks_own = record { if_eq = λ a b x y. refl; if_let = λ pat r x y. refl; arms = λ r x y. refl; loop = λ list item x y. refl; split = λ within x y. refl; log = λ term place. refl }
+
 -- the function of a term has its name, its types and its kind, and says where it is declared
-pub written_of_term : (files : Files) (env : Environment) (t : Term) (bs : List Binding) (b : Block) → IsLawfulBlock (setting env t bs) b → HasSingleArms b → IsOfTerm files env t (function_of files env t bs b)
-written_of_term files env t bs b h o =
+pub written_of_term : (logging : Bool) (files : Files) (env : Environment) (t : Term) (bs : List Binding) (b : Block) → IsLawfulBlock (setting env t bs) b → HasSingleArms b → IsOfTerm files env t (logged_function logging files env t bs b)
+written_of_term logging files env t bs b h o =
     let s = setting env t bs in
     record {
       name = refl;
@@ -73,6 +77,6 @@ written_of_term files env t bs b h o =
       kind = refl;
       tails =
           subst (AllByRecursion (λ (m : Option (List ℕ × List ℕ)). Some m ≡ mark_in files env t))
-          (sym (block_marks (completed s [] b) s [] [] (tail_in files env t b) (completed_ready s b h) (completed_single s [] b o)))
+          (sym (logged_of own_marks marks_own (written_body files env t bs b) (log_lines logging files s b) ∙ block_marks (completed s [] b) s [] [] (tail_in files env t b) (completed_ready s b h) (completed_single s [] b o)))
           (tail_marks (mark_in files env t) (ends_in_return b));
     }

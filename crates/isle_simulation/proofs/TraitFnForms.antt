@@ -1,5 +1,5 @@
 -- The functions of the trait are well formed.
-use Rattle.std.proofs.Common.{◌≡◌, List, [], ◌∷◌, map, Option, Some, None, refl}
+use Rattle.std.proofs.Common.{◌≡◌, List, [], ◌∷◌, map, Option, Some, None}
 use Rattle.std.specs.Prelude.{option_map}
 use Rattle.std.specs.List.{AllByRecursion, cons_option}
 use Rattle.isle_base.specs.declared.ids.Sym.{Sym}
@@ -14,7 +14,6 @@ use Rattle.isle_tree.specs.WellFormed.{AreResults, IsTraitFn}
 use Rattle.isle_simulation.specs.TraitFns.{constructor_fn, extractor_fn, func_of, extracted_of, trait_fns_in}
 use Rattle.isle_simulation.specs.TypeTexts.{type_text}
 use Rattle.isle_simulation.proofs.TermNames.{params_are}
-use Rattle.isle_simulation.proofs.WellFormedFunctions.{kind_is}
 
 -- a term of types with names of Rust that answers at most once, also by an external extractor
 pub record IsPlainTerm (env : Environment) (t : Term) : Type 0 where
@@ -33,13 +32,13 @@ fns_are env (t ∷ ts) names terms = by_extractor (extracted_of t.kind) terms.0.
 
     by_constructor : (o : Option Sym) → (AllByRecursion (λ (f : TraitFn). IsIdentifier f.name) (trait_fns_in env ts) → AllByRecursion IsTraitFn (trait_fns_in env ts)) → AllByRecursion (λ (f : TraitFn). IsIdentifier f.name) (cons_option (option_map (constructor_fn env t) o) (trait_fns_in env ts)) → AllByRecursion IsTraitFn (cons_option (option_map (constructor_fn env t) o) (trait_fns_in env ts))
     by_constructor None rest named = rest named
-    by_constructor (Some func) rest named = (record { name = named.0; params = params_are env t.arg_tys terms.0.types.1; results = (terms.0.types.0, tt); kind = kind_is (kind_of t.kind) terms.0.once }, rest named.1)
+    by_constructor (Some func) rest named = (record { name = named.0; params = params_are env t.arg_tys terms.0.types.1; results = (terms.0.types.0, tt) }, rest named.1)
 
     by_extractor : (x : Option (Sym × ReturnKind)) → ((extracted : Sym × ReturnKind) → x ≡ Some extracted → AnswersOnce extracted.1) → (AllByRecursion (λ (f : TraitFn). IsIdentifier f.name) (trait_fns_in env ts) → AllByRecursion IsTraitFn (trait_fns_in env ts))
         → AllByRecursion (λ (f : TraitFn). IsIdentifier f.name) (cons_option (option_map (extractor_fn env t) x) (cons_option (option_map (constructor_fn env t) (func_of t.kind)) (trait_fns_in env ts)))
         → AllByRecursion IsTraitFn (cons_option (option_map (extractor_fn env t) x) (cons_option (option_map (constructor_fn env t) (func_of t.kind)) (trait_fns_in env ts)))
     by_extractor None once rest named = by_constructor (func_of t.kind) rest named
     by_extractor (Some extracted) once rest named = (
-      record { name = named.0; params = (terms.0.types.0, tt); results = results_are t.arg_tys terms.0.types.1; kind = kind_is extracted.1 (once extracted refl) },
+      record { name = named.0; params = (terms.0.types.0, tt); results = results_are t.arg_tys terms.0.types.1 },
       by_constructor (func_of t.kind) rest named.1,
     )

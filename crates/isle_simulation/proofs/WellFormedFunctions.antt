@@ -1,7 +1,7 @@
 -- The function of a term is well formed in every program.
 use Rattle.std.proofs.Common.{◌≡◌, ℕ, List, [], length, map, Bool, true, false, cond, Option, Some, None, sym, subst}
 use Rattle.std.proofs.lemmas.List.{length-map}
-use Rattle.isle_core.specs.Calling.{kind_of, AnswersOnce}
+use Rattle.isle_core.specs.Calling.{kind_of}
 use Rattle.isle_core.specs.declared.files.Files.{Files}
 use Rattle.isle_core.specs.declared.types.Term.{Term}
 use Rattle.isle_core.specs.declared.rule_sets.Binding.{Binding}
@@ -13,28 +13,24 @@ use Rattle.isle_core.specs.Rule.{Environment}
 use Rattle.isle_core.specs.Setting.{setting}
 use Rattle.isle_core.specs.SingleArms.{HasSingleArms}
 use Rattle.isle_tree.specs.Program.{Done, Program}
-use Rattle.isle_tree.specs.WellFormed.{Locals, Callables, callables, IsBody, IsBodyScoped, IsKind, IsFunction}
+use Rattle.isle_tree.specs.WellFormed.{Locals, Callables, callables, IsBody, IsBodyScoped, IsFunction}
 use Rattle.isle_core.specs.declared.types.ReturnKind.{ReturnKind}
-use Rattle.isle_core.specs.declared.types.ReturnKind.TheVariants as return_kind
 use Rattle.isle_simulation.specs.Completed.{completed}
 use Rattle.isle_simulation.specs.RustNames.{HasRustNames}
-use Rattle.isle_simulation.specs.TermFunction.{ends_in_return, mark_of, tail_body, tail_of}
+use Rattle.isle_simulation.specs.TermFunction.{ends_in_return, mark_of, tail_body, tail_of, log_lines}
 use Rattle.isle_simulation.specs.TypeTexts.{parameter}
 use Rattle.isle_simulation.proofs.CompletedReady.{completed_ready}
 use Rattle.isle_simulation.proofs.CompletedRuns.{completed_single}
 use Rattle.isle_simulation.specs.Emitted.{IsEmittable}
 use Rattle.isle_simulation.specs.TermFns.{callables_of}
 use Rattle.isle_simulation.proofs.CalledTerms.{HasCallees}
-use Rattle.isle_simulation.proofs.Written.{function_of}
+use Rattle.isle_simulation.proofs.Logged.{logged}
+use Rattle.isle_simulation.proofs.LoggedLaws.{logged_is, logged_scoped, logged_fits_function}
+use Rattle.isle_simulation.proofs.Written.{written_body, logged_function}
 use Rattle.isle_simulation.proofs.TermNames.{has_names}
 use Rattle.isle_simulation.proofs.BlockForms.{block_is}
 use Rattle.isle_simulation.proofs.BlockScoped.{root_scoped}
 use Rattle.isle_simulation.proofs.BlockFits.{function_fits}
-
-pub kind_is : (kind : ReturnKind) → AnswersOnce kind → IsKind kind
-kind_is return_kind.Plain once = tt
-kind_is return_kind.Option once = tt
-kind_is return_kind.Iterator once = absurd once
 
 mark_is : (mark : Option (Option (List ℕ × List ℕ))) → IsBody (tail_body mark)
 mark_is None = tt
@@ -50,8 +46,8 @@ tail_scoped (Some mark) false fns kind params locals = (tt, tt)
 tail_scoped None false fns kind params locals = tt
 
 -- the function of a term that may be emitted and whose block is lawful, in a program with the functions that the environment gives
-pub written_well_formed : (files : Files) (env : Environment) (t : Term) (bs : List Binding) (b : Block) → IsEmittable env t → HasRustNames env → IsLawfulBlock (setting env t bs) b → HasSingleArms b → HasCallees env → (p : Program) → callables p ≡ callables_of env → IsFunction p (function_of files env t bs b)
-written_well_formed files env t bs b h names k o fns p same =
+pub written_well_formed : (logging : Bool) (files : Files) (env : Environment) (t : Term) (bs : List Binding) (b : Block) → IsEmittable env t → HasRustNames env → IsLawfulBlock (setting env t bs) b → HasSingleArms b → HasCallees env → (p : Program) → callables p ≡ callables_of env → IsFunction p (logged_function logging files env t bs b)
+written_well_formed logging files env t bs b h names k o fns p same =
     let s = setting env t bs in
     let kind = kind_of t.kind in
     let name = sym_text env t.name in
@@ -60,13 +56,13 @@ written_well_formed files env t bs b h names k o fns p same =
     let c = completed s [] b in
     let ready = completed_ready s b k in
     let single = completed_single s [] b o in
-    let body = (function_of files env t bs b).body in
+    let body = written_body files env t bs b in
+    let lines = log_lines logging files s b in
     record {
-      names = has_names env t body h;
-      kind = kind_is kind h.once;
-      forms = block_is c s [] [] (tail_of kind name place b) names fns ready single (tail_is mark (ends_in_return b));
-      scoped = subst (λ (ts : Callables). IsBodyScoped ts kind (length (map (parameter env) t.arg_tys)) [] body) (sym same)
+      names = has_names env t (logged lines body) h;
+      forms = logged_is body lines (block_is c s [] [] (tail_of kind name place b) names fns ready single (tail_is mark (ends_in_return b)));
+      scoped = logged_scoped body lines (callables p) kind (length (map (parameter env) t.arg_tys)) [] (subst (λ (ts : Callables). IsBodyScoped ts kind (length (map (parameter env) t.arg_tys)) [] body) (sym same)
           (subst (λ n. IsBodyScoped (callables_of env) kind n [] body) (sym (length-map t.arg_tys (parameter env)))
-          (root_scoped c s (tail_of kind name place b) fns h.once ready single (λ locals. tail_scoped mark (ends_in_return b) (callables_of env) kind (length t.arg_tys) locals)));
-      fits = function_fits b s name place h.once ready single;
+          (root_scoped c s (tail_of kind name place b) fns h.once ready single (λ locals. tail_scoped mark (ends_in_return b) (callables_of env) kind (length t.arg_tys) locals))));
+      fits = logged_fits_function body lines kind (function_fits b s name place h.once ready single);
     }

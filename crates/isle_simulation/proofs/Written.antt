@@ -41,7 +41,9 @@ use Rattle.isle_simulation.specs.Operands.{in_place, tested, operand_of}
 use Rattle.isle_simulation.specs.Patterns.{pattern_of}
 use Rattle.isle_simulation.specs.References.{is_declared, result_type, is_reference_in, read_as}
 use Rattle.isle_simulation.specs.Statements.{made_of}
-use Rattle.isle_simulation.specs.TermFunction.{tail_in, function_with}
+use Rattle.isle_simulation.specs.Telling.{Telling, line_before, telling_of}
+use Rattle.isle_simulation.specs.TermFunction.{tail_in, function_with, log_lines}
+use Rattle.isle_simulation.proofs.Logged.{logged}
 
 -- ---- operands
 
@@ -120,25 +122,47 @@ arm_stmt s bound source (constraint.Struct ty) places inside = IfLet (written_pa
 arm_stmt s bound source constraint.Some places inside = IfLet (written_pattern (pattern_of s.env constraint.Some places)) (read.Plain (written_operand s bound source)) inside
 arm_stmt s bound source c places inside = IfEq (written_operand s bound source) (written_test s.env c) inside
 
+abbrev pub told_before : Telling → Control → Body → Body
+told_before None c after = after
+told_before (Some line) (block.Match source arms) after = after
+told_before (Some line) (block.Equal a b body) after = after
+told_before (Some line) (block.Loop result body) after = after
+told_before (Some line) (block.Return place result) after = line_before (line place) after
+
 abbrev mutual
-  pub block_body : Setting → List ℕ → Block → Body → Body
-  block_body s bound block.Stop end = end
-  block_body s bound (block.Step binds c more) end = lets s bound binds (Then (control_stmt s (bound_by bound binds) c) (block_body s (bound_by bound binds) more end))
+  pub told_body : Telling → Setting → List ℕ → Block → Body → Body
+  told_body telling s bound block.Stop end = end
+  told_body telling s bound (block.Step binds c more) end =
+      lets s bound binds (told_before telling c (Then (told_control telling s (bound_by bound binds) c) (told_body telling s (bound_by bound binds) more end)))
 
-  pub control_stmt : Setting → List ℕ → Control → Stmt
-  control_stmt s bound (block.Match source arms) = arms_stmt s bound source arms
-  control_stmt s bound (block.Equal a b body) = IfEq (written_operand s bound a) (written_operand s bound b) (block_body s bound body Done)
-  control_stmt s bound (block.Loop result body) = Tail None
-  control_stmt s bound (block.Return place result) = Return (returned (kind_of s.term.kind) (written_read s bound false result))
+  pub told_control : Telling → Setting → List ℕ → Control → Stmt
+  told_control telling s bound (block.Match source arms) = told_arms telling s bound source arms
+  told_control telling s bound (block.Equal a b body) = IfEq (written_operand s bound a) (written_operand s bound b) (told_body telling s bound body Done)
+  told_control telling s bound (block.Loop result body) = Tail None
+  told_control telling s bound (block.Return place result) = Return (returned (kind_of s.term.kind) (written_read s bound false result))
 
-  pub arms_stmt : Setting → List ℕ → BindingId → Arms → Stmt
-  arms_stmt s bound source block.NoArm = Tail None
-  arms_stmt s bound source (block.Arm c places body arms) = arm_stmt s bound source c places (block_body s (bound_within bound places) body Done)
+  pub told_arms : Telling → Setting → List ℕ → BindingId → Arms → Stmt
+  told_arms telling s bound source block.NoArm = Tail None
+  told_arms telling s bound source (block.Arm c places body arms) = arm_stmt s bound source c places (told_body telling s (bound_within bound places) body Done)
+
+abbrev pub block_body : Setting → List ℕ → Block → Body → Body
+block_body = told_body None
+
+abbrev pub control_stmt : Setting → List ℕ → Control → Stmt
+control_stmt = told_control None
 
 -- ---- functions
 
-abbrev pub function_of : Files → Environment → Term → List Binding → Block → Function
-function_of files env t bs b = function_with env t (block_body (setting env t bs) [] (completed (setting env t bs) [] b) (tail_in files env t b))
+abbrev pub written_body : Files → Environment → Term → List Binding → Block → Body
+written_body files env t bs b = block_body (setting env t bs) [] (completed (setting env t bs) [] b) (tail_in files env t b)
+
+-- its statements with its log lines before its results
+abbrev pub logged_function : (logging : Bool) → Files → Environment → Term → List Binding → Block → Function
+logged_function logging files env t bs b = function_with env t (logged (log_lines logging files (setting env t bs) b) (written_body files env t bs b))
+
+abbrev pub function_of : (logging : Bool) → Files → Environment → Term → List Binding → Block → Function
+function_of logging files env t bs b =
+    function_with env t (told_body (telling_of logging files (setting env t bs)) (setting env t bs) [] (completed (setting env t bs) [] b) (tail_in files env t b))
 
 abbrev pub end_of : ReturnKind → Result → End
 end_of return_kind.Plain (Value' v) = Gives v

@@ -4,7 +4,9 @@ pub mod References
 pub mod Operands
 pub mod Patterns
 pub mod Completed
+pub mod Telling
 pub mod Statements
+pub mod LogLines
 pub mod TermFunction
 pub mod TraitFns
 pub mod TermFns

@@ -35,6 +35,7 @@ use Rattle.isle_tree.specs.Program.{Stmt, Let, IfEq, IfLet, Return, Body, Done, 
 use Rattle.isle_simulation.specs.Patterns.{pattern_of}
 use Rattle.isle_simulation.specs.References.{is_declared, result_type, is_reference_in, read_as}
 use Rattle.isle_simulation.specs.Operands.{in_place, tested, operand_of}
+use Rattle.isle_simulation.specs.Telling.{Telling, told_before}
 
 -- ---- what bound locals compute
 
@@ -195,21 +196,33 @@ arm_stmt s bound source (constraint.Variant ty variant) places inside = if_let (
 arm_stmt s bound source (constraint.Struct ty) places inside = if_let (pattern_of s.env (constraint.Struct ty) places) (read_in s bound true source) inside
 arm_stmt s bound source constraint.Some places inside = if_let (pattern_of s.env constraint.Some places) (plain_read (operand_of s.env s.bindings bound source)) inside
 
--- a block's steps in order, and what follows; a match of several arms and a loop are not built
+-- a block's steps in order, each Return behind its log line where it is told, and what follows; a match of several arms and a loop are not
+-- built
 abbrev mutual
-  pub block_body : Setting → List ℕ → Block → Option Body → Option Body
-  block_body s bound block.Stop end = end
-  block_body s bound (block.Step binds c more) end =
-      lets s bound binds (stmt_before (control_stmt s (bound_by bound binds) c) (block_body s (bound_by bound binds) more end))
+  pub told_body : Telling → Setting → List ℕ → Block → Option Body → Option Body
+  told_body telling s bound block.Stop end = end
+  told_body telling s bound (block.Step binds c more) end =
+      lets s bound binds (told_before telling c (stmt_before (told_control telling s (bound_by bound binds) c) (told_body telling s (bound_by bound binds) more end)))
 
-  pub control_stmt : Setting → List ℕ → Control → Option Stmt
-  control_stmt s bound (block.Match source arms) = arms_stmt s bound source arms
-  control_stmt s bound (block.Equal a b body) =
-      if_eq (operand_of s.env s.bindings bound a) (operand_of s.env s.bindings bound b) (block_body s bound body (Some Done))
-  control_stmt s bound (block.Loop result body) = None
-  control_stmt s bound (block.Return pos result) = return_of (kind_of s.term.kind) (read_in s bound false result)
+  pub told_control : Telling → Setting → List ℕ → Control → Option Stmt
+  told_control telling s bound (block.Match source arms) = told_arms telling s bound source arms
+  told_control telling s bound (block.Equal a b body) =
+      if_eq (operand_of s.env s.bindings bound a) (operand_of s.env s.bindings bound b) (told_body telling s bound body (Some Done))
+  told_control telling s bound (block.Loop result body) = None
+  told_control telling s bound (block.Return pos result) = return_of (kind_of s.term.kind) (read_in s bound false result)
 
-  pub arms_stmt : Setting → List ℕ → BindingId → Arms → Option Stmt
-  arms_stmt s bound source block.NoArm = None
-  arms_stmt s bound source (block.Arm c places body block.NoArm) = arm_stmt s bound source c places (block_body s (bound_within bound places) body (Some Done))
-  arms_stmt s bound source (block.Arm c places body (block.Arm d others inside arms)) = None
+  pub told_arms : Telling → Setting → List ℕ → BindingId → Arms → Option Stmt
+  told_arms telling s bound source block.NoArm = None
+  told_arms telling s bound source (block.Arm c places body block.NoArm) =
+      arm_stmt s bound source c places (told_body telling s (bound_within bound places) body (Some Done))
+  told_arms telling s bound source (block.Arm c places body (block.Arm d others inside arms)) = None
+
+-- the statements without log lines
+abbrev pub block_body : Setting → List ℕ → Block → Option Body → Option Body
+block_body = told_body None
+
+abbrev pub control_stmt : Setting → List ℕ → Control → Option Stmt
+control_stmt = told_control None
+
+abbrev pub arms_stmt : Setting → List ℕ → BindingId → Arms → Option Stmt
+arms_stmt = told_arms None

@@ -1,6 +1,7 @@
 -- The function of a term.
 use Rattle.std.specs.Prelude.{ℕ, List, [], Bool, true, false, Option, Some, None, if◌then◌else◌, map, option_map}
 use Rattle.isle_core.specs.declared.files.Files.{Files}
+use Rattle.isle_core.specs.declared.position.Pos.{Pos}
 use Rattle.isle_core.specs.declared.types.ReturnKind.{ReturnKind}
 use Rattle.isle_core.specs.declared.types.ReturnKind.TheVariants as kind
 use Rattle.isle_core.specs.declared.types.Term.{Term}
@@ -9,10 +10,13 @@ use Rattle.isle_core.specs.Block.{Block, Stop, Step, Control, Match, Equal, Loop
 use Rattle.isle_core.specs.Calling.{kind_of}
 use Rattle.isle_core.specs.Terms.{sym_text}
 use Rattle.isle_core.specs.Rule.{Environment}
+use Rattle.isle_core.specs.ReturnPositions.{return_positions}
 use Rattle.isle_core.specs.Setting.{Setting}
 use Rattle.isle_tree.specs.Program.{Tail, Body, Done, Then, Function}
 use Rattle.isle_simulation.specs.Completed.{completed}
-use Rattle.isle_simulation.specs.Statements.{block_body}
+use Rattle.isle_simulation.specs.LogLines.{LogLine}
+use Rattle.isle_simulation.specs.Statements.{told_body}
+use Rattle.isle_simulation.specs.Telling.{log_line, telling_of}
 use Rattle.isle_simulation.specs.TypeTexts.{type_text, parameter}
 
 -- a step that ends the run
@@ -52,9 +56,9 @@ tail_of of name place b = if ends_in_return b then Done else tail_body (mark_of 
 abbrev pub tail_in : Files → Environment → Term → Block → Body
 tail_in files env t b = tail_of (kind_of t.kind) (sym_text env t.name) (place_in files t.decl_pos) b
 
--- the statements of a term's function
-abbrev pub root_body : Files → Setting → Block → Option Body
-root_body files s b = block_body s [] (completed s [] b) (Some (tail_in files s.env s.term b))
+-- the statements of a term's function, with log lines where they are asked for
+abbrev pub root_body : (logging : Bool) → Files → Setting → Block → Option Body
+root_body logging files s b = told_body (telling_of logging files s) s [] (completed s [] b) (Some (tail_in files s.env s.term b))
 
 -- the function of a term with these statements
 abbrev pub function_with : Environment → Term → Body → Function
@@ -66,6 +70,10 @@ function_with env t body = record {
   body = body;
 }
 
--- the function of a term whose block is this, where its forms are built; the files have the place of its declaration
-abbrev pub term_function : Files → Setting → Block → Option Function
-term_function files s b = option_map (function_with s.env s.term) (root_body files s b)
+-- the function of a term whose block is this, where its forms are built; the files have the place of its declaration, and those of its rules
+abbrev pub term_function : (logging : Bool) → Files → Setting → Block → Option Function
+term_function logging files s b = option_map (function_with s.env s.term) (root_body logging files s b)
+
+-- the log lines of a term's function, where logging is asked for: one for each Return of its block, in order
+abbrev pub log_lines : (logging : Bool) → Files → Setting → Block → List LogLine
+log_lines logging files s b = if logging then map (log_line files s) (return_positions b) else []

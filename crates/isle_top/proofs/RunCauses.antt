@@ -8,18 +8,17 @@ use Rattle.isle_command_line.specs.declared.commands.Source.TheVariants.{File}
 use Rattle.isle_run.specs.declared.refusal.Refusal.{Refusal}
 use Rattle.isle_run.specs.declared.refusal.Refusal.TheVariants as refusal
 use Rattle.isle_run.proofs.OfRun.{lines_of, lines_placed}
-use Rattle.isle_top.specs.Requests.{AreBuilt}
 use Rattle.isle_top.specs.Causes.{GivesNoLines, HasCause}
 
 -- the cause of a refusal of a run whose line is built
-pub run_cause : (options : CodegenOptions) (name term : List ℕ) (vs : Writtens) (answers : Option (List ℕ)) (files : Option Contents) (before after : Counts) (e : Refusal) → AreBuilt options → GivesNoLines options name term vs answers files e
+pub run_cause : (options : CodegenOptions) (name term : List ℕ) (vs : Writtens) (answers : Option (List ℕ)) (files : Option Contents) (before after : Counts) (e : Refusal) → GivesNoLines options name term vs answers files e
     → HasCause e (Run false options (File name) term vs answers) files before after
-run_cause options name term vs answers files before after refusal.NotYet built h = inr h
-run_cause options name term vs answers files before after (refusal.Unread index why) built h = absurd (lines_of options _ term vs h.given (refusal.Unread index why) h.none)
-run_cause options name term vs answers files before after (refusal.Errors errors) built h = (lines_placed h.none, ((refl, built, tt), h))
-run_cause options name term vs answers files before after (refusal.Name e) built h = ((refl, built, tt), h)
-run_cause options name term vs answers files before after refusal.NoTerm built h = ((refl, built, tt), h)
-run_cause options name term vs answers files before after refusal.ArgCount built h = ((refl, built, tt), h)
-run_cause options name term vs answers files before after (refusal.ArgType i) built h = ((refl, built, tt), h)
-run_cause options name term vs answers files before after (refusal.BadAnswers at) built h = ((refl, built, tt), h)
-run_cause options name term vs answers files before after refusal.Memory built h = tt
+run_cause options name term vs answers files before after refusal.NotYet h = inr h
+run_cause options name term vs answers files before after (refusal.Unread index why) h = absurd (lines_of options _ term vs h.given (refusal.Unread index why) h.none)
+run_cause options name term vs answers files before after (refusal.Errors errors) h = (lines_placed h.none, ((refl, tt), h))
+run_cause options name term vs answers files before after (refusal.Name e) h = ((refl, tt), h)
+run_cause options name term vs answers files before after refusal.NoTerm h = ((refl, tt), h)
+run_cause options name term vs answers files before after refusal.ArgCount h = ((refl, tt), h)
+run_cause options name term vs answers files before after (refusal.ArgType i) h = ((refl, tt), h)
+run_cause options name term vs answers files before after (refusal.BadAnswers at) h = ((refl, tt), h)
+run_cause options name term vs answers files before after refusal.Memory h = tt

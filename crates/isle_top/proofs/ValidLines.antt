@@ -66,7 +66,7 @@ no_input i name e = absurd (let bad : None ≡ Some name = e in cc)
 inputs_there : (request : Request) (fs : Contents) (i : ℕ) (name : List ℕ) → IsValidLine request fs → slice_get (inputs_of request) i ≡ Some name → HasText fs name
 inputs_there Help fs i name v e = no_input i name e
 inputs_there Version fs i name v e = no_input i name e
-inputs_there (Compile options names) fs i name v e = named_there fs names v.1.texts i name v.1.found e
+inputs_there (Compile options names) fs i name v e = named_there fs names v.texts i name v.found e
 inputs_there (Build options unit) fs i name v e = absurd v
 inputs_there (Prelude kind) fs i name v e = absurd v
 inputs_there Units fs i name v e = absurd v
@@ -124,7 +124,7 @@ has_lines options fs name term vs answers e v h =
 built_line : (request : Request) (fs : Contents) → IsValidLine request fs → IsBuilt request
 built_line Help fs v = tt
 built_line Version fs v = tt
-built_line (Compile options names) fs v = v.0
+built_line (Compile options names) fs v = tt
 built_line (Build options unit) fs v = v
 built_line (Prelude kind) fs v = v
 built_line Units fs v = v
@@ -134,7 +134,7 @@ built_line (Run trace options from term vs answers) fs v = v.0
 valid_inputs : (request : Request) (fs : Contents) → IsValidLine request fs → IsNotOfIt request (Some fs) → ⊥
 valid_inputs Help fs v h = h
 valid_inputs Version fs v h = h
-valid_inputs (Compile options names) fs v h = valid_files options fs names v.1 h
+valid_inputs (Compile options names) fs v h = valid_files options fs names v h
 valid_inputs (Build options unit) fs v h = v
 valid_inputs (Prelude kind) fs v h = v
 valid_inputs Units fs v h = v
@@ -156,7 +156,7 @@ not_run (Run trace options from term vs answers) fs e v h = has_lines options fs
 no_errors : (request : Request) (fs : Contents) (before after : Counts) (errors : Errors) → IsValidLine request fs → HasErrors request (Some fs) before after errors → refusal.Errors errors ≡ refusal.Memory
 no_errors Help fs before after errors v h = absurd h
 no_errors Version fs before after errors v h = absurd h
-no_errors (Compile options names) fs before after errors v h = absurd (no_file_errors options fs names errors v.1 h.1.1)
+no_errors (Compile options names) fs before after errors v h = absurd (no_file_errors options fs names errors v h.1.1)
 no_errors (Build options unit) fs before after errors v h = absurd h
 no_errors (Prelude kind) fs before after errors v h = absurd h
 no_errors Units fs before after errors v h = absurd h
@@ -167,7 +167,7 @@ no_errors (Run trace options from term vs answers) fs before after errors v h = 
 no_name : (request : Request) (fs : Contents) (before after : Counts) (e : NameError) → IsValidLine request fs → HasBadName request (Some fs) before after e → refusal.Name e ≡ refusal.Memory
 no_name Help fs before after e v h = absurd h
 no_name Version fs before after e v h = absurd h
-no_name (Compile options names) fs before after e v h = absurd (no_bad_name options fs names e v.1 h.1.1)
+no_name (Compile options names) fs before after e v h = absurd (no_bad_name options fs names e v h.1.1)
 no_name (Build options unit) fs before after e v h = absurd h
 no_name (Prelude kind) fs before after e v h = absurd h
 no_name Units fs before after e v h = absurd h

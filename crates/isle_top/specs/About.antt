@@ -13,8 +13,8 @@ help_text =
     codes "  isle isa TARGET\n      Writes what a target has (not yet).\n      isle isa x86\n" ++ (
     codes "  isle --help\n      Writes this text.\n      isle --help\n" ++ (
     codes "  isle --version\n      Writes the program's name and version.\n      isle --version\n\n" ++ (
-    codes "OPTION is --no-allow, which leaves the pragmas out, or --prefix P=NAME, which prints NAME in place of P where the name of a file\n" ++ (
-    codes "begins with it; and, not yet: --log, --split, --threshold N.\nNo words mean: isle compile first.isle\n"))))))))))
+    codes "OPTION is --no-allow, which leaves the pragmas out; --log, which puts a log line before each result; --prefix P=NAME, which prints\n" ++ (
+    codes "NAME in place of P where the name of a file begins with it; or --split or --threshold N, which change nothing yet.\nNo words mean: isle compile first.isle\n"))))))))))
 
 -- the program's name and version
 unfoldable pub version_text : List ℕ

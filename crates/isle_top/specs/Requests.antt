@@ -1,8 +1,6 @@
 -- What words ask for, and which lines are built.
 use Rattle.std.specs.Prelude.{◌≡◌, ℕ, List, [], ◌∷◌, false, Option, Some, None}
 use Rattle.isle_command_line.specs.Request.{Request, Help, Version, Compile, Build, Prelude, Units, Isa, Run}
-use Rattle.isle_core.specs.declared.options.CodegenOptions.{CodegenOptions}
-use Rattle.isle_emission.specs.Built.{IsBuilt as AreEmitted}
 use Rattle.isle_command_line.specs.Lines.{LineS}
 use Rattle.isle_command_line.specs.declared.commands.Source.{Source}
 use Rattle.isle_command_line.specs.declared.commands.Source.TheVariants as source
@@ -12,25 +10,21 @@ pub record Asks (words : List (List ℕ)) (request : Request) : Type 0 where
   pub line : LineS words request
   pub only : (other : Request) → LineS words other → other ≡ request
 
--- options that are built: neither logging nor splitting is asked for, nor is its threshold given
-abbrev pub AreBuilt : CodegenOptions → Type 0
-AreBuilt options = AreEmitted options × (options.match_arm_split_threshold ≡ None)
-
 -- a file, and no unit
 abbrev pub IsFile : Source → Type 0
 IsFile (source.File name) = Unit {0}
 IsFile (source.Unit name) = ⊥
 
--- a line that is built: files are compiled, or a term of one run, with options that are built
+-- a line that is built: files are compiled, or a term of one run
 abbrev pub IsBuilt : Request → Type 0
 IsBuilt Help = Unit {0}
 IsBuilt Version = Unit {0}
-IsBuilt (Compile options names) = AreBuilt options
+IsBuilt (Compile options names) = Unit {0}
 IsBuilt (Build options unit) = ⊥
 IsBuilt (Prelude kind) = ⊥
 IsBuilt Units = ⊥
 IsBuilt (Isa target) = ⊥
-IsBuilt (Run trace options from term vs answers) = (trace ≡ false) × AreBuilt options × IsFile from
+IsBuilt (Run trace options from term vs answers) = (trace ≡ false) × IsFile from
 
 -- the name of a source
 abbrev pub source_name : Source → List ℕ

@@ -15,7 +15,7 @@ use Rattle.isle_command_line.specs.Request.{Request, Help, Version, Compile, Bui
 use Rattle.isle_run.specs.Trial.{IsTrial}
 use Rattle.isle_run.specs.Valid.{CanRun}
 use Rattle.isle_top.specs.About.{help_text, version_text}
-use Rattle.isle_top.specs.Requests.{source_name, AreBuilt, IsBuilt}
+use Rattle.isle_top.specs.Requests.{source_name, IsBuilt}
 
 -- the files of the names hold texts of the language with whose rules nothing is wrong, and the names as printed may be emitted
 pub record AreValid (options : CodegenOptions) (files : Contents) (names : List (List ℕ)) : Type 0 where
@@ -60,7 +60,7 @@ pub record IsValidRun (options : CodegenOptions) (files : Contents) (name term :
 abbrev pub IsValidLine : Request → Contents → Type 0
 IsValidLine Help files = Unit {0}
 IsValidLine Version files = Unit {0}
-IsValidLine (Compile options names) files = AreBuilt options × AreValid options files names
+IsValidLine (Compile options names) files = AreValid options files names
 IsValidLine (Build options unit) files = ⊥
 IsValidLine (Prelude kind) files = ⊥
 IsValidLine Units files = ⊥

@@ -36,8 +36,8 @@ pub fn help() -> &'static str
 \x20     Writes the program's name and version.\n\
 \x20     isle --version\n\
 \n\
-OPTION is --no-allow, which leaves the pragmas out, or --prefix P=NAME, which prints NAME in place of P where the name of a file\n\
-begins with it; and, not yet: --log, --split, --threshold N.\n\
+OPTION is --no-allow, which leaves the pragmas out; --log, which puts a log line before each result; --prefix P=NAME, which prints\n\
+NAME in place of P where the name of a file begins with it; or --split or --threshold N, which change nothing yet.\n\
 No words mean: isle compile first.isle\n"
 }
 

@@ -4,7 +4,6 @@ ghost use Rattle.std.specs.Prelude.{◌≡◌, ◌≤◌, IfOk, IfErr, ◌+◌, 
 ghost use Rattle.std.specs.String.{string_bytes};
 ghost use Rattle.isle_core.specs.Inputs.{bytes_each};
 ghost use Rattle.isle_command_line.specs.Request.{Compile};
-ghost use Rattle.isle_top.specs.Requests.{AreBuilt};
 ghost use Rattle.isle_top.specs.Valid.{IsProgramOf};
 ghost use Rattle.isle_top.specs.Causes.{HasCause};
 
@@ -31,7 +30,6 @@ pub fn compiled<D: Dir>(
     options: &CodegenOptions,
     dir: &mut D,
 ) -> Result<String, Refusal>
-    requires { AreBuilt options.now }
     ensures ok { IfOk result (λ text. IsProgramOf options.now names.now (D.files dir.old) (string_bytes text)) }
     ensures err { IfErr result (λ e. HasCause e (Compile options.now names.now) (D.files dir.old) (D.counts dir.old) (D.counts dir.new)) }
     ensures files { D.files dir.new ≡ D.files dir.old }

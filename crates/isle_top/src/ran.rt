@@ -6,7 +6,7 @@ ghost use Rattle.std.specs.String.{string_bytes};
 ghost use Rattle.isle_values.specs.Views.{seen};
 ghost use Rattle.isle_command_line.specs.Request.{Run};
 ghost use Rattle.isle_command_line.specs.declared.commands.Source.TheVariants.{File};
-ghost use Rattle.isle_top.specs.Requests.{AreBuilt, answers_names};
+ghost use Rattle.isle_top.specs.Requests.{answers_names};
 ghost use Rattle.isle_top.specs.Valid.{IsRunOf};
 ghost use Rattle.isle_top.specs.Causes.{HasCause};
 
@@ -17,7 +17,7 @@ use isle_values::Written;
 use std::alloc::Global;
 
 /// Runs the term of the source of this name at the values, under the answers of a file, and returns the
-/// lines of the run. The options are built (`specs/Requests.antt`). Each refusal has its cause (`specs/Causes.antt`).
+/// lines of the run. Each refusal has its cause (`specs/Causes.antt`).
 pub fn ran<D: Dir>(
     alloc: Global,
     options: &CodegenOptions,
@@ -27,7 +27,6 @@ pub fn ran<D: Dir>(
     answers: Option<&str>,
     dir: &mut D,
 ) -> Result<String, Refusal>
-    requires { AreBuilt options.now }
     ensures ok { IfOk result (λ lines. IsRunOf options.now source.now term.now (seen values.now) (option_copied answers.entry)
         (D.files dir.old) (string_bytes lines)) }
     ensures err { let request = Run false options.now (File source.now) term.now (seen values.now) (option_copied answers.entry) in

@@ -16,6 +16,8 @@ use Rattle.isle_blocks.specs.Chain.{chain}
 use Rattle.isle_blocks.proofs.LawChain.{chain_means}
 use Rattle.isle_blocks.proofs.LawSerializable.{rules_still, chain_lawful, chain_single}
 use Rattle.isle_blocks.proofs.LawPositions.{chain_positions}
+use Rattle.isle_blocks.proofs.LawReturns.{chain_returns_at}
+use Rattle.isle_core.specs.ReturnPositions.{return_positions, ArePositionsOf}
 use Rattle.isle_blocks.proofs.chain.serialize.Goals as goal
 
 pub returns-clause-means : goal.returns-clause-means
@@ -61,3 +63,12 @@ returns-clause-positions c = λ env m t args h.
     let finds : FindsFields s.bindings (get key_cmp fields.found) (get shown_cmp fields.counts) = subst (λ bs. FindsFields bs (get key_cmp fields.found) (get shown_cmp fields.counts)) c.as_slice.ensures c.in_ok-fields.ensures in
     let still = rules_still env t s.bindings (get key_cmp fields.found) (get shown_cmp fields.counts) inners finds found h.once h.fields s.rules h.rules in
     ap (λ b. block_position env m args (paths_of s.bindings) b nothing_known []) is_chain ∙ chain_positions shows env t m args s.bindings inners found h.once s.rules h.rules still
+
+pub returns-clause-returns : goal.returns-clause-returns
+returns-clause-returns c =
+    let s = c.args.rules.now in
+    let inners : ℕ → Option BindingId = get nat_cmp c.in_ok-inners.inners in
+    let fields = c.in_ok-fields.fields in
+    let shows = places fields inners in
+    let is_chain : block c.in_ok-chained.field-0 ≡ chain s.bindings shows inners s.rules = c.in_ok-chained.ensures ∙ ap (λ bs. chain bs shows inners c.as_slice-4.result.now) c.as_slice-3.ensures ∙ ap (chain s.bindings shows inners) c.as_slice-4.ensures in
+    subst (λ b. ArePositionsOf s.rules (return_positions b)) (sym is_chain) (chain_returns_at s.bindings shows inners s.rules)

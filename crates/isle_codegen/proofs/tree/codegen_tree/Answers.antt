@@ -14,11 +14,11 @@ emit_all-requires c =
 pub returns-clause-well_formed : goal.returns-clause-well_formed
 returns-clause-well_formed c =
     let env = environment c.args.typeenv.now c.args.termenv.now in
-    program_well_formed c.requires.given.defs c.args.files.now env c.requires.given.compilable.typed c.requires.given.clean c.args.terms.now c.requires.terms (map function c.in_ok-fns.fns.items) c.in_ok-fns.ensures
+    program_well_formed c.requires.given.defs c.args.options.now.emit_logging c.args.files.now env c.requires.given.compilable.typed c.requires.given.clean c.args.terms.now c.requires.terms (map function c.in_ok-fns.fns.items) c.in_ok-fns.ensures
     _ c.requires.given.compilable.fns c.requires.given.compilable.lawful (c.new.ensures ∙ c.in_ok-signatures.ensures) (c.new-2.ensures ∙ c.in_ok-types.ensures) (ap (map function) c.new-3.ensures)
     (can_emit c.requires.given.defs c.args.files.now env c.requires.given.compilable.typed c.requires.places c.requires.given.compilable.fns (term_fns c.requires.given.compilable) c.requires.given.compilable.lawful c.args.terms.now c.requires.given.compilable.names c.requires.terms)
 
 pub returns-clause-functions : goal.returns-clause-functions
 returns-clause-functions c =
-    program_means c.requires.given.defs c.args.files.now (environment c.args.typeenv.now c.args.termenv.now) c.requires.given.compilable.typed c.requires.given.clean c.args.terms.now c.requires.terms
+    program_means c.requires.given.defs c.args.options.now.emit_logging c.args.files.now (environment c.args.typeenv.now c.args.termenv.now) c.requires.given.compilable.typed c.requires.given.clean c.args.terms.now c.requires.terms
     (map function c.in_ok-fns.fns.items) c.in_ok-fns.ensures _ c.requires.given.compilable.fns (term_fns c.requires.given.compilable) c.requires.given.compilable.lawful (ap (map function) c.new-3.ensures)

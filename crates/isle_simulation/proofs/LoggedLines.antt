@@ -1,0 +1,281 @@
+-- The log lines of a term's function are those of its block, in order.
+use Rattle.std.proofs.Common.{append_assoc, ◌≡◌, ℕ, zero, suc, ◌+◌, List, [], ◌∷◌, ◌++◌, length, map, Bool, true, false, cond, Option, Some, None, refl, sym, ap, ◌∙◌, arith}
+use Rattle.std.specs.Prelude.{take, drop, slice_get}
+use Rattle.std.proofs.lemmas.List.{append-nil, length-append, length-map, map-append}
+use Rattle.isle_core.specs.declared.BindingId.{BindingId}
+use Rattle.isle_core.specs.declared.files.Files.{Files}
+use Rattle.isle_core.specs.declared.position.Pos.{Pos}
+use Rattle.isle_core.specs.declared.rule_sets.Binding.{Binding}
+use Rattle.isle_core.specs.declared.rule_sets.Constraint.{Constraint}
+use Rattle.isle_core.specs.declared.rule_sets.Constraint.TheVariants as constraint
+use Rattle.isle_core.specs.declared.types.Term.{Term}
+use Rattle.isle_core.specs.ArmPlaces.{bound_within}
+use Rattle.isle_core.specs.Bindable.{bound_by}
+use Rattle.isle_core.specs.Block as block
+use Rattle.isle_core.specs.Block.{Block, Control}
+use Rattle.isle_core.specs.BlockLawful.{IsLawfulBlock}
+use Rattle.isle_core.specs.Places.{place_in}
+use Rattle.isle_core.specs.ReturnPositions.{return_positions, control_positions, arms_positions}
+use Rattle.isle_core.specs.Rule.{Environment}
+use Rattle.isle_core.specs.Setting.{Setting, setting}
+use Rattle.isle_core.specs.SingleArms.{HasSingleArms, IsSingle}
+use Rattle.isle_core.specs.Terms.{sym_text}
+use Rattle.isle_tree.specs.Program.{Stmt, Let, LetList, IfEq, IfLet, Match, Loop, Return, Extend, Overflow, Log, Split, Tail, Body, Done, Then, Arms, NoArm, Arm}
+use Rattle.isle_tree.specs.Walk.{of_stmt, of_body, of_arms}
+use Rattle.isle_simulation.specs.Completed.{completed, completed_control, completed_arms, step_binds}
+use Rattle.isle_simulation.specs.LogLines.{LogLine, own_lines, lines_of}
+use Rattle.isle_simulation.proofs.Logged.{first_before, logged, logged_before, logged_arms, own_results, results_in, results_of}
+use Rattle.isle_simulation.specs.TermFunction.{ends_in_return, mark_in, tail_body, tail_in, function_with, log_lines}
+use Rattle.isle_simulation.proofs.CompletedReady.{completed_ready}
+use Rattle.isle_simulation.proofs.CompletedRuns.{completed_single}
+use Rattle.isle_simulation.proofs.Ready.{IsReadyFrom, IsReadyControl}
+use Rattle.isle_simulation.specs.Telling.{log_line}
+use Rattle.isle_simulation.proofs.LoggedLaws.{logged_none}
+use Rattle.isle_simulation.proofs.Written.{written_operand, bound_expr, arm_stmt, told_before, told_body, told_control, block_body, control_stmt, lets, written_body, logged_function, function_of}
+
+-- ---- lists
+
+take_none : {A : Type 0} (n : ℕ) → take {A = A} n [] ≡ []
+take_none zero = refl
+take_none (suc n) = refl
+
+take_both : {A : Type 0} (a b : ℕ) (xs : List A) → take a xs ++ take b (drop a xs) ≡ take (a + b) xs
+take_both zero b xs = let is : b ≡ 0 + b = omega arith in ap (λ n. take n xs) is
+take_both (suc a) b [] = take_none b ∙ sym (take_none (suc a + b))
+take_both (suc a) b (x ∷ xs) =
+    let is : suc (a + b) ≡ suc a + b = omega arith in
+    ap (λ ys. x ∷ ys) (take_both a b xs) ∙ ap (λ n. take n (x ∷ xs)) is
+
+take_whole : {A : Type 0} (xs : List A) → take (length xs) xs ≡ xs
+take_whole [] = refl
+take_whole (x ∷ xs) = ap (λ ys. x ∷ ys) (take_whole xs)
+
+first_none : {A : Type 0} (xs ys : List A) → xs ++ ys ≡ [] → xs ≡ []
+first_none [] ys e = refl
+first_none (x ∷ xs) ys e = cc
+
+last_none : {A : Type 0} (xs ys : List A) → xs ++ ys ≡ [] → ys ≡ []
+last_none [] ys e = e
+last_none (x ∷ xs) ys e = cc
+
+-- ---- lines before results
+
+line_lines : (lines : List LogLine) (after : Body) → lines_of (first_before lines after) ≡ take 1 lines ++ lines_of after
+line_lines [] after = refl
+line_lines (l ∷ lines) after = refl
+
+mutual
+  logged_lines : (b : Body) (lines : List LogLine) → lines_of b ≡ [] → lines_of (logged lines b) ≡ take (results_of b) lines
+  logged_lines Done lines e = refl
+  logged_lines (Then s ss) lines e =
+      before_lines s lines (logged (drop (results_in s) lines) ss) (first_none (of_stmt own_lines s) (lines_of ss) e)
+      ∙ ap (λ ls. take (results_in s) lines ++ ls) (logged_lines ss (drop (results_in s) lines) (last_none (of_stmt own_lines s) (lines_of ss) e))
+      ∙ take_both (results_in s) (results_of ss) lines ∙ ap (λ n. take n lines) (sym (length-append (of_stmt own_results s) (of_body own_results ss)))
+
+  before_lines : (s : Stmt) (lines : List LogLine) (after : Body) → of_stmt own_lines s ≡ [] → lines_of (logged_before lines s after) ≡ take (results_in s) lines ++ lines_of after
+  before_lines (Let n e) lines after h = refl
+  before_lines (LetList n call) lines after h = refl
+  before_lines (IfEq a b inside) lines after h = ap (λ ls. ls ++ lines_of after) (logged_lines inside lines h)
+  before_lines (IfLet pat r inside) lines after h = ap (λ ls. ls ++ lines_of after) (logged_lines inside lines h)
+  before_lines (Match r arms) lines after h = ap (λ ls. ls ++ lines_of after) (arms_lines arms lines h)
+  before_lines (Loop list item inside) lines after h = ap (λ ls. ls ++ lines_of after) (logged_lines inside lines h)
+  before_lines (Return e) lines after h = line_lines lines (Then (Return e) after)
+  before_lines (Extend r) lines after h = line_lines lines (Then (Extend r) after)
+  before_lines (Overflow within) lines after h = refl
+  before_lines (Log term place) lines after h = cc
+  before_lines (Split inside within) lines after h = ap (λ ls. ls ++ lines_of after) (logged_lines inside lines h)
+  before_lines (Tail mark) lines after h = refl
+
+  arms_lines : (arms : Arms) (lines : List LogLine) → of_arms own_lines arms ≡ [] → of_arms own_lines (logged_arms lines arms) ≡ take (length (of_arms own_results arms)) lines
+  arms_lines NoArm lines h = refl
+  arms_lines (Arm pat inside arms) lines h =
+      ap (λ ls. ls ++ of_arms own_lines (logged_arms (drop (results_of inside) lines) arms)) (logged_lines inside lines (first_none (lines_of inside) (of_arms own_lines arms) h))
+      ∙ ap (λ ls. take (results_of inside) lines ++ ls) (arms_lines arms (drop (results_of inside) lines) (last_none (lines_of inside) (of_arms own_lines arms) h))
+      ∙ take_both (results_of inside) (length (of_arms own_results arms)) lines ∙ ap (λ n. take n lines) (sym (length-append (of_body own_results inside) (of_arms own_results arms)))
+
+-- ---- results and lines of a block's statements
+
+lets_results : (s : Setting) (bound : List ℕ) (binds : List BindingId) (more : Body) → of_body own_results (lets s bound binds more) ≡ of_body own_results more
+lets_results s bound [] more = refl
+lets_results s bound (b ∷ binds) more = lets_results s (bound ++ b.0 ∷ []) binds more
+
+arm_results : (s : Setting) (bound : List ℕ) (source : BindingId) (c : Constraint) (places : List (Option BindingId)) (inside : Body) → of_stmt own_results (arm_stmt s bound source c places inside) ≡ of_body own_results inside
+arm_results s bound source (constraint.ConstBool val) places inside = refl
+arm_results s bound source (constraint.ConstInt val ty) places inside = refl
+arm_results s bound source (constraint.ConstPrim val) places inside = refl
+arm_results s bound source (constraint.Variant ty variant) places inside = refl
+arm_results s bound source (constraint.Struct ty) places inside = refl
+arm_results s bound source constraint.Some places inside = refl
+
+mutual
+  control_results : (c : Control) (s : Setting) (bound made : List ℕ) → IsReadyControl s bound made c → IsSingle c → results_in (control_stmt s bound c) ≡ length (control_positions c)
+  control_results (block.Match source (block.Arm c places body block.NoArm)) s bound made h o =
+      ap length (arm_results s bound source c places (block_body s (bound_within bound places) body Done))
+      ∙ block_results body s (bound_within bound places) made Done h.1.2.2 o ∙ sym (length-append (return_positions body) [])
+  control_results (block.Match source (block.Arm c places body (block.Arm d others inside arms))) s bound made h o = absurd o
+  control_results (block.Match source block.NoArm) s bound made h o = absurd o
+  control_results (block.Equal a b body) s bound made h o = block_results body s bound made Done h.1 o ∙ sym (length-append (return_positions body) []) ∙ ap length (append-nil (return_positions body))
+  control_results (block.Loop result body) s bound made h o = absurd h
+  control_results (block.Return pos result) s bound made h o = refl
+
+  block_results : (b : Block) (s : Setting) (bound made : List ℕ) (end : Body) → IsReadyFrom s bound made b → HasSingleArms b → results_of (block_body s bound b end) ≡ length (return_positions b) + results_of end
+  block_results block.Stop s bound made end h o = omega arith
+  block_results (block.Step binds c more) s bound made end h o =
+      let here = of_stmt own_results (control_stmt s (bound_by bound binds) c) in
+      let there = of_body own_results (block_body s (bound_by bound binds) more end) in
+      let one : length here ≡ length (control_positions c) = control_results c s (bound_by bound binds) _ h.2 o.0 in
+      let others : length there ≡ length (return_positions more) + results_of end = block_results more s (bound_by bound binds) _ end h.3 o.1 in
+      let apart : length (control_positions c ++ return_positions more) ≡ length (control_positions c) + length (return_positions more) = length-append (control_positions c) (return_positions more) in
+      ap length (lets_results s bound binds _) ∙ length-append here there ∙ omega arith
+
+lets_lines : (s : Setting) (bound : List ℕ) (binds : List BindingId) (more : Body) → lines_of (lets s bound binds more) ≡ lines_of more
+lets_lines s bound [] more = refl
+lets_lines s bound (b ∷ binds) more = lets_lines s (bound ++ b.0 ∷ []) binds more
+
+arm_own : (s : Setting) (bound : List ℕ) (source : BindingId) (c : Constraint) (places : List (Option BindingId)) (inside : Body) → of_stmt own_lines (arm_stmt s bound source c places inside) ≡ lines_of inside
+arm_own s bound source (constraint.ConstBool val) places inside = refl
+arm_own s bound source (constraint.ConstInt val ty) places inside = refl
+arm_own s bound source (constraint.ConstPrim val) places inside = refl
+arm_own s bound source (constraint.Variant ty variant) places inside = refl
+arm_own s bound source (constraint.Struct ty) places inside = refl
+arm_own s bound source constraint.Some places inside = refl
+
+mutual
+  control_lines : (c : Control) (s : Setting) (bound made : List ℕ) → IsReadyControl s bound made c → IsSingle c → of_stmt own_lines (control_stmt s bound c) ≡ []
+  control_lines (block.Match source (block.Arm c places body block.NoArm)) s bound made h o =
+      arm_own s bound source c places (block_body s (bound_within bound places) body Done) ∙ block_lines body s (bound_within bound places) made Done h.1.2.2 o
+  control_lines (block.Match source (block.Arm c places body (block.Arm d others inside arms))) s bound made h o = absurd o
+  control_lines (block.Match source block.NoArm) s bound made h o = absurd o
+  control_lines (block.Equal a b body) s bound made h o = block_lines body s bound made Done h.1 o
+  control_lines (block.Loop result body) s bound made h o = absurd h
+  control_lines (block.Return pos result) s bound made h o = refl
+
+  block_lines : (b : Block) (s : Setting) (bound made : List ℕ) (end : Body) → IsReadyFrom s bound made b → HasSingleArms b → lines_of (block_body s bound b end) ≡ lines_of end
+  block_lines block.Stop s bound made end h o = refl
+  block_lines (block.Step binds c more) s bound made end h o =
+      lets_lines s bound binds _
+      ∙ ap (λ ls. ls ++ lines_of (block_body s (bound_by bound binds) more end)) (control_lines c s (bound_by bound binds) _ h.2 o.0)
+      ∙ block_lines more s (bound_by bound binds) _ end h.3 o.1
+
+-- ---- positions
+
+mutual
+  completed_positions : (b : Block) (s : Setting) (bound : List ℕ) → return_positions (completed s bound b) ≡ return_positions b
+  completed_positions block.Stop s bound = refl
+  completed_positions (block.Step binds c more) s bound =
+      let now = bound_by bound (step_binds s bound binds c) in
+      ap (λ ps. ps ++ return_positions (completed s now more)) (control_same c s now) ∙ ap (λ ps. control_positions c ++ ps) (completed_positions more s now)
+
+  control_same : (c : Control) (s : Setting) (bound : List ℕ) → control_positions (completed_control s bound c) ≡ control_positions c
+  control_same (block.Match source arms) s bound = arms_same arms s bound
+  control_same (block.Equal a b body) s bound = completed_positions body s bound
+  control_same (block.Loop result body) s bound = refl
+  control_same (block.Return pos result) s bound = refl
+
+  arms_same : (arms : block.Arms) (s : Setting) (bound : List ℕ) → arms_positions (completed_arms s bound arms) ≡ arms_positions arms
+  arms_same block.NoArm s bound = refl
+  arms_same (block.Arm c places body arms) s bound =
+      ap (λ ps. ps ++ arms_positions (completed_arms s bound arms)) (completed_positions body s (bound_within bound places)) ∙ ap (λ ps. return_positions body ++ ps) (arms_same arms s bound)
+
+-- ---- lines where Returns are
+
+drop_lines : (line : Pos → LogLine) (ps qs : List Pos) (lines : List LogLine) → drop (length ps) (map line (ps ++ qs) ++ lines) ≡ map line qs ++ lines
+drop_lines line [] qs lines = refl
+drop_lines line (p ∷ ps) qs lines = drop_lines line ps qs lines
+
+lets_logged : (lines : List LogLine) (s : Setting) (bound : List ℕ) (binds : List BindingId) (more : Body) → logged lines (lets s bound binds more) ≡ lets s bound binds (logged lines more)
+lets_logged lines s bound [] more = refl
+lets_logged lines s bound (b ∷ binds) more = ap (Then (Let b.0 (bound_expr s bound b (slice_get s.bindings b.0)))) (lets_logged lines s (bound ++ b.0 ∷ []) binds more)
+
+arm_logged : (lines : List LogLine) (s : Setting) (bound : List ℕ) (source : BindingId) (c : Constraint) (places : List (Option BindingId)) (inside after : Body)
+    → logged_before lines (arm_stmt s bound source c places inside) after ≡ Then (arm_stmt s bound source c places (logged lines inside)) after
+arm_logged lines s bound source (constraint.ConstBool val) places inside after = refl
+arm_logged lines s bound source (constraint.ConstInt val ty) places inside after = refl
+arm_logged lines s bound source (constraint.ConstPrim val) places inside after = refl
+arm_logged lines s bound source (constraint.Variant ty variant) places inside after = refl
+arm_logged lines s bound source (constraint.Struct ty) places inside after = refl
+arm_logged lines s bound source constraint.Some places inside after = refl
+
+parted : (line : Pos → LogLine) (ps qs : List Pos) (lines : List LogLine) → map line ps ++ (map line qs ++ lines) ≡ map line (ps ++ qs) ++ lines
+parted line ps qs lines = sym (append_assoc (map line ps) (map line qs) lines) ∙ ap (λ ls. ls ++ lines) (sym (map-append line ps qs))
+
+mutual
+  -- statements with a line before each Return are those with these lines in order
+  told_logged : (b : Block) (line : Pos → LogLine) (s : Setting) (bound made : List ℕ) (end : Body) (lines : List LogLine) → IsReadyFrom s bound made b → HasSingleArms b
+      → told_body (Some line) s bound b (logged lines end) ≡ logged (map line (return_positions b) ++ lines) (block_body s bound b end)
+  told_logged block.Stop line s bound made end lines h o = refl
+  told_logged (block.Step binds c more) line s bound made end lines h o =
+      let now = bound_by bound binds in
+      let all = map line (control_positions c ++ return_positions more) ++ lines in
+      let rest = map line (return_positions more) ++ lines in
+      let after = block_body s now more end in
+      let left : drop (results_in (control_stmt s now c)) all ≡ rest =
+      ap (λ n. drop n all) (control_results c s now _ h.2 o.0) ∙ drop_lines line (control_positions c) (return_positions more) lines in
+      ap (lets s bound binds)
+      (ap (λ x. told_before (Some line) c (Then (told_control (Some line) s now c) x)) (told_logged more line s now _ end lines h.3 o.1)
+      ∙ control_logged c line s now _ (return_positions more) lines (logged rest after) h.2 o.0
+      ∙ ap (λ ls. logged_before all (control_stmt s now c) (logged ls after)) (sym left))
+      ∙ sym (lets_logged all s bound binds (Then (control_stmt s now c) after))
+
+  control_logged : (c : Control) (line : Pos → LogLine) (s : Setting) (bound made : List ℕ) (others : List Pos) (lines : List LogLine) (after : Body) → IsReadyControl s bound made c → IsSingle c
+      → told_before (Some line) c (Then (told_control (Some line) s bound c) after) ≡ logged_before (map line (control_positions c ++ others) ++ lines) (control_stmt s bound c) after
+  control_logged (block.Match source (block.Arm c places body block.NoArm)) line s bound made others lines after h o =
+      let ps = return_positions body in
+      let inside = block_body s (bound_within bound places) body Done in
+      ap (λ x. Then (arm_stmt s bound source c places x) after) (told_logged body line s (bound_within bound places) made Done (map line others ++ lines) h.1.2.2 o)
+      ∙ sym (arm_logged (map line ps ++ (map line others ++ lines)) s bound source c places inside after)
+      ∙ ap (λ ls. logged_before ls (arm_stmt s bound source c places inside) after) (parted line ps others lines ∙ ap (λ qs. map line (qs ++ others) ++ lines) (sym (append-nil ps)))
+  control_logged (block.Match source (block.Arm c places body (block.Arm d others' inside arms))) line s bound made others lines after h o = absurd o
+  control_logged (block.Match source block.NoArm) line s bound made others lines after h o = absurd o
+  control_logged (block.Equal a b body) line s bound made others lines after h o =
+      let ps = return_positions body in
+      let x = written_operand s bound a in
+      let y = written_operand s bound b in
+      let inside = block_body s bound body Done in
+      ap (λ i. Then (IfEq x y i) after) (told_logged body line s bound made Done (map line others ++ lines) h.1 o)
+      ∙ ap (λ ls. logged_before ls (IfEq x y inside) after) (parted line ps others lines)
+  control_logged (block.Loop result body) line s bound made others lines after h o = absurd h
+  control_logged (block.Return pos result) line s bound made others lines after h o = refl
+
+-- ---- functions
+
+tail_results : (mark : Option (Option (List ℕ × List ℕ))) (x : Bool) → results_of (cond x Done (tail_body mark)) ≡ 0
+tail_results mark true = refl
+tail_results None false = refl
+tail_results (Some mark) false = refl
+
+tail_lines : (mark : Option (Option (List ℕ × List ℕ))) (x : Bool) → lines_of (cond x Done (tail_body mark)) ≡ []
+tail_lines mark true = refl
+tail_lines None false = refl
+tail_lines (Some mark) false = refl
+
+logging_lines : (logging : Bool) (files : Files) (s : Setting) (ps : List Pos) (n : ℕ) → n ≡ length ps → take n (cond logging (map (log_line files s) ps) []) ≡ cond logging (map (log_line files s) ps) []
+logging_lines true files s ps n e = ap (λ k. take k (map (log_line files s) ps)) (e ∙ sym (length-map ps (log_line files s))) ∙ take_whole (map (log_line files s) ps)
+logging_lines false files s ps n e = take_none n
+
+-- the log lines of the statements that a lawful block gives
+pub written_lines : (logging : Bool) (files : Files) (env : Environment) (t : Term) (bs : List Binding) (b : Block) → IsLawfulBlock (setting env t bs) b → HasSingleArms b
+    → lines_of (logged (log_lines logging files (setting env t bs) b) (block_body (setting env t bs) [] (completed (setting env t bs) [] b) (tail_in files env t b))) ≡ log_lines logging files (setting env t bs) b
+written_lines logging files env t bs b h o =
+    let s = setting env t bs in
+    let c = completed s [] b in
+    let ready = completed_ready s b h in
+    let single = completed_single s [] b o in
+    let end = tail_in files env t b in
+    let lines = log_lines logging files s b in
+    let count : results_of (block_body s [] c end) ≡ length (return_positions b) =
+    block_results c s [] [] end ready single ∙ ap (λ n. length (return_positions c) + n) (tail_results (mark_in files env t) (ends_in_return b)) ∙ omega arith ∙ ap length (completed_positions b s []) in
+    logged_lines (block_body s [] c end) lines (block_lines c s [] [] end ready single ∙ tail_lines (mark_in files env t) (ends_in_return b))
+    ∙ logging_lines logging files s (return_positions b) (results_of (block_body s [] c end)) count
+
+-- the function of a term, with a line before each Return, is that with these lines
+pub told_is : (logging : Bool) (files : Files) (env : Environment) (t : Term) (bs : List Binding) (b : Block) → IsLawfulBlock (setting env t bs) b → HasSingleArms b → function_of logging files env t bs b ≡ logged_function logging files env t bs b
+told_is true files env t bs b h o =
+    let s = setting env t bs in
+    let c = completed s [] b in
+    let end = tail_in files env t b in
+    let line = log_line files s in
+    ap (function_with env t)
+    (ap (told_body (Some line) s [] c) (sym (logged_none end)) ∙ told_logged c line s [] [] end [] (completed_ready s b h) (completed_single s [] b o)
+    ∙ ap (λ ls. logged ls (block_body s [] c end)) (append-nil (map line (return_positions c)) ∙ ap (map line) (completed_positions b s [])))
+told_is false files env t bs b h o = ap (function_with env t) (sym (logged_none (written_body files env t bs b)))
