@@ -1,7 +1,7 @@
 -- What is bound behind tests and calls.
 use Rattle.std.proofs.Common.{◌≡◌, ◌⊎◌, inl, inr, ⊎_elim, ℕ, zero, suc, ◌<◌, List, [], ◌∷◌, ◌++◌, Option, Some, sym, ap, ◌∙◌, subst, arith}
 use Rattle.std.specs.Prelude.{slice_get, Contains}
-use Rattle.std.proofs.lemmas.List.Elements.{Contains-push, Contains-append_left}
+use Rattle.std.proofs.lemmas.List.Elements.{Contains-push}
 use Rattle.isle_core.specs.declared.BindingId.{BindingId}
 use Rattle.isle_core.specs.declared.TypeId.{TypeId}
 use Rattle.isle_core.specs.declared.VariantId.{VariantId}
@@ -10,7 +10,7 @@ use Rattle.isle_core.specs.declared.rule_sets.Binding.TheVariants as binding
 use Rattle.isle_core.specs.declared.rule_sets.Constraint.{Constraint}
 use Rattle.isle_core.specs.declared.rule_sets.Constraint.TheVariants as constraint
 use Rattle.isle_core.specs.ArmPlaces.{bound_within}
-use Rattle.isle_core.specs.Path.{Path, Inner, VariantField, StructField, at, paths_of}
+use Rattle.isle_core.specs.Path.{Path, Inner, Chosen, VariantField, StructField, at, paths_of}
 use Rattle.isle_core.specs.RuleSet.{is_test}
 use Rattle.isle_core.specs.StandsFor.{EachOnce}
 use Rattle.isle_core.specs.Tests.{Test, Is}
@@ -18,14 +18,15 @@ use Rattle.isle_core.proofs.BindingPaths.{IsThere, contains_at, place_once, inne
 use Rattle.isle_blocks.specs.declared.fields.Shown.{Shown}
 use Rattle.isle_blocks.specs.declared.fields.Shown.TheVariants as shown
 use Rattle.isle_blocks.specs.Fields.{FieldKey, FindsFields, inner_place, shows}
-use Rattle.isle_blocks.specs.Inners.{FindsInners}
+use Rattle.isle_blocks.specs.Followers.{FindsInners}
 use Rattle.isle_blocks.proofs.FieldPlaces.{within_kept, field_bound}
 use Rattle.isle_blocks.proofs.MoreBound.{Keeps}
 
--- the fields and the inner values that the tests show, the calls that were made and their inner values are bound
+-- the fields and the inner values that the tests show, the calls that were made, their inner values and their items are bound
 pub record IsBehind (ps : List Path) (tests : List Test) (done : List Path) (bound : List ℕ) : Type 0 where
   pub call : (q : BindingId) → Contains done (at ps q) → Contains bound q.0
   pub inner : (q : BindingId) (p : Path) → at ps q ≡ Inner p → Contains done p → Contains bound q.0
+  pub item : (q : BindingId) (p : Path) → at ps q ≡ Chosen p → Contains done p → Contains bound q.0
   pub opened : (q : BindingId) (p : Path) → at ps q ≡ Inner p → Contains tests (Is p constraint.Some) → Contains bound q.0
   pub variant : (q : BindingId) (ty : TypeId) (variant : VariantId) (field : ℕ) (p : Path) → at ps q ≡ VariantField variant field p → Contains tests (Is p (constraint.Variant ty variant)) → Contains bound q.0
   pub struct : (q : BindingId) (ty : TypeId) (field : ℕ) (p : Path) → at ps q ≡ StructField field p → Contains tests (Is p (constraint.Struct ty)) → Contains bound q.0
@@ -47,6 +48,7 @@ pub behind_none : (ps : List Path) → IsBehind ps [] [] []
 behind_none ps = record {
   call = λ q k. absurd (none_in (at ps q) k);
   inner = λ q p e k. absurd (none_in p k);
+  item = λ q p e k. absurd (none_in p k);
   opened = λ q p e k. absurd (none_in (Is p constraint.Some) k);
   variant = λ q ty v field p e k. absurd (none_in (Is p (constraint.Variant ty v)) k);
   struct = λ q ty field p e k. absurd (none_in (Is p (constraint.Struct ty)) k);
@@ -57,6 +59,7 @@ pub behind_fewer : (ps : List Path) (tests more : List Test) (done : List Path) 
 behind_fewer ps tests more done bound less h = record {
   call = h.call;
   inner = h.inner;
+  item = h.item;
   opened = λ q p e k. h.opened q p e (less (Is p constraint.Some) k);
   variant = λ q ty v field p e k. h.variant q ty v field p e (less (Is p (constraint.Variant ty v)) k);
   struct = λ q ty field p e k. h.struct q ty field p e (less (Is p (constraint.Struct ty)) k);
@@ -67,6 +70,7 @@ pub behind_grows : (ps : List Path) (tests : List Test) (done : List Path) (boun
 behind_grows ps tests done bound more keeps h = record {
   call = λ q k. keeps q.0 (h.call q k);
   inner = λ q p e k. keeps q.0 (h.inner q p e k);
+  item = λ q p e k. keeps q.0 (h.item q p e k);
   opened = λ q p e k. keeps q.0 (h.opened q p e k);
   variant = λ q ty v field p e k. keeps q.0 (h.variant q ty v field p e k);
   struct = λ q ty field p e k. keeps q.0 (h.struct q ty field p e k);
@@ -85,6 +89,7 @@ pub behind_test : (bs : List Binding) (found : FieldKey → Option BindingId) (c
 behind_test bs found counts inners f g once tests bound c there h = record {
   call = λ q k. absurd (none_in (at ps q) k);
   inner = λ q p e k. absurd (none_in p k);
+  item = λ q p e k. absurd (none_in p k);
   opened = λ q p e k. ⊎_elim (λ j. new_inner q p e j) (λ j. within_kept bound (shows found counts inners c.0 c.1) q.0 (h.opened q p e j)) (cons_cases (is_test ps c) (Is p constraint.Some) tests k);
   variant = λ q ty v field p e k. ⊎_elim (λ j. new_variant q ty v field p e j) (λ j. within_kept bound (shows found counts inners c.0 c.1) q.0 (h.variant q ty v field p e j)) (cons_cases (is_test ps c) (Is p (constraint.Variant ty v)) tests k);
   struct = λ q ty field p e k. ⊎_elim (λ j. new_struct q ty field p e j) (λ j. within_kept bound (shows found counts inners c.0 c.1) q.0 (h.struct q ty field p e j)) (cons_cases (is_test ps c) (Is p (constraint.Struct ty)) tests k);
@@ -123,34 +128,29 @@ behind_test bs found counts inners f g once tests bound c there h = record {
         subst (λ d. Contains (bound_within bound (shows found counts inners c.0 d)) q.0) (sym same.1)
         (field_bound bs found counts f once bound (shown.Struct c.0) field q stands (subst (λ (s : BindingId). s.0 < q.0) source is.4))
 
--- behind a call without an inner value
-pub behind_call : (ps : List Path) (tests : List Test) (done : List Path) (bound : List ℕ) (c : BindingId) → EachOnce ps → IsThere (at ps c) → (Contains ps (Inner (at ps c)) → ⊥) → IsBehind ps tests done bound → IsBehind ps tests (at ps c ∷ done) (bound ++ c.0 ∷ [])
-behind_call ps tests done bound c once there without h = record {
+-- what is bound behind a call, and what stands behind it
+abbrev Adds : List Path → BindingId → Path → List ℕ → Type 0
+Adds ps c p more = (q : BindingId) → at ps q ≡ p → Contains more q.0
+
+-- behind a call, where its inner value and its item are bound, if they stand anywhere
+pub behind_next : (ps : List Path) (tests : List Test) (done : List Path) (bound more : List ℕ) (c : BindingId) → EachOnce ps → IsThere (at ps c) → Keeps bound more → Contains more c.0 → Adds ps c (Inner (at ps c)) more → Adds ps c (Chosen (at ps c)) more
+    → IsBehind ps tests done bound → IsBehind ps tests (at ps c ∷ done) more
+behind_next ps tests done bound more c once there keeps call inner item h = record {
   call = λ q k. ⊎_elim
-      (λ e. last_bound bound c.0 q.0 (place_once ps c.0 q.0 once there e))
-      (λ j. Contains-append_left bound (c.0 ∷ []) q.0 (h.call q j))
+      (λ e. subst (Contains more) (place_once ps c.0 q.0 once there e) call)
+      (λ j. keeps q.0 (h.call q j))
       (cons_cases (at ps c) (at ps q) done k);
-  inner = λ q p is k. ⊎_elim
-      (λ e. absurd (without (contains_at ps q.0 (Inner (at ps c)) tt (is ∙ ap Inner (sym e)))))
-      (λ j. Contains-append_left bound (c.0 ∷ []) q.0 (h.inner q p is j))
-      (cons_cases (at ps c) p done k);
-  opened = λ q p is k. Contains-append_left bound (c.0 ∷ []) q.0 (h.opened q p is k);
-  variant = λ q ty v field p is k. Contains-append_left bound (c.0 ∷ []) q.0 (h.variant q ty v field p is k);
-  struct = λ q ty field p is k. Contains-append_left bound (c.0 ∷ []) q.0 (h.struct q ty field p is k);
+  inner = λ q p is k. ⊎_elim (λ e. inner q (is ∙ ap Inner (sym e))) (λ j. keeps q.0 (h.inner q p is j)) (cons_cases (at ps c) p done k);
+  item = λ q p is k. ⊎_elim (λ e. item q (is ∙ ap Chosen (sym e))) (λ j. keeps q.0 (h.item q p is j)) (cons_cases (at ps c) p done k);
+  opened = λ q p is k. keeps q.0 (h.opened q p is k);
+  variant = λ q ty v field p is k. keeps q.0 (h.variant q ty v field p is k);
+  struct = λ q ty field p is k. keeps q.0 (h.struct q ty field p is k);
 }
 
--- behind a call and its inner value
-pub behind_inner : (ps : List Path) (tests : List Test) (done : List Path) (bound : List ℕ) (c b : BindingId) → EachOnce ps → IsThere (at ps c) → at ps b ≡ Inner (at ps c) → IsBehind ps tests done bound → IsBehind ps tests (at ps c ∷ done) ((bound ++ c.0 ∷ []) ++ b.0 ∷ [])
-behind_inner ps tests done bound c b once there path h = record {
-  call = λ q k. Contains-append_left (bound ++ c.0 ∷ []) (b.0 ∷ []) q.0 (⊎_elim
-      (λ e. last_bound bound c.0 q.0 (place_once ps c.0 q.0 once there e))
-      (λ j. Contains-append_left bound (c.0 ∷ []) q.0 (h.call q j))
-      (cons_cases (at ps c) (at ps q) done k));
-  inner = λ q p is k. ⊎_elim
-      (λ e. last_bound (bound ++ c.0 ∷ []) b.0 q.0 (place_once ps b.0 q.0 once (subst IsThere (sym path) tt) (path ∙ ap Inner e ∙ sym is)))
-      (λ j. Contains-append_left (bound ++ c.0 ∷ []) (b.0 ∷ []) q.0 (Contains-append_left bound (c.0 ∷ []) q.0 (h.inner q p is j)))
-      (cons_cases (at ps c) p done k);
-  opened = λ q p is k. Contains-append_left (bound ++ c.0 ∷ []) (b.0 ∷ []) q.0 (Contains-append_left bound (c.0 ∷ []) q.0 (h.opened q p is k));
-  variant = λ q ty v field p is k. Contains-append_left (bound ++ c.0 ∷ []) (b.0 ∷ []) q.0 (Contains-append_left bound (c.0 ∷ []) q.0 (h.variant q ty v field p is k));
-  struct = λ q ty field p is k. Contains-append_left (bound ++ c.0 ∷ []) (b.0 ∷ []) q.0 (Contains-append_left bound (c.0 ∷ []) q.0 (h.struct q ty field p is k));
-}
+-- what stands nowhere
+pub adds_none : (ps : List Path) (c : BindingId) (p : Path) (more : List ℕ) → IsThere p → (Contains ps p → ⊥) → Adds ps c p more
+adds_none ps c p more there without q is = absurd (without (contains_at ps q.0 p there is))
+
+-- what stands at a bound place
+pub adds_one : (ps : List Path) (c b : BindingId) (p : Path) (more : List ℕ) → EachOnce ps → IsThere p → at ps b ≡ p → Contains more b.0 → Adds ps c p more
+adds_one ps c b p more once there path k q is = subst (Contains more) (place_once ps b.0 q.0 once (subst IsThere (sym path) there) (path ∙ sym is)) k

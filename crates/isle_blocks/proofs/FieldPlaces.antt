@@ -33,7 +33,7 @@ use Rattle.isle_core.proofs.Contained.{contained_cases, none_contained}
 use Rattle.isle_blocks.specs.declared.fields.Shown.{Shown}
 use Rattle.isle_blocks.specs.declared.fields.Shown.TheVariants as shown
 use Rattle.isle_blocks.specs.Fields.{FieldKey, source_of, part_of, FindsFields, first_places, inner_place, places_of, shows}
-use Rattle.isle_blocks.specs.Inners.{FindsInners}
+use Rattle.isle_blocks.specs.Followers.{FindsInners}
 use Rattle.isle_blocks.proofs.PathTypes.{path_type_once}
 use Rattle.isle_blocks.proofs.PushedLists.{some_same}
 

@@ -21,9 +21,9 @@ use Rattle.isle_core.specs.BlockViews.{SeenStep, block_of}
 use Rattle.isle_core.specs.BlockRun.{bind_all, block_run, control_run, block_outcome}
 use Rattle.isle_core.specs.StandsFor.{EachOnce}
 use Rattle.isle_core.specs.Serializable.{IsSerializableRule}
+use Rattle.isle_core.specs.Calling.{kind_of, is_several}
 use Rattle.isle_core.specs.Rule.{Environment}
 use Rattle.isle_blocks.specs.Order.{by_priority}
-use Rattle.isle_blocks.specs.Inners.{FindsInners}
 use Rattle.isle_blocks.specs.Needed.{needs}
 use Rattle.isle_blocks.specs.Nest.{Shows, Behind, last_step, all_matched, all_equated, rule_step}
 use Rattle.isle_blocks.specs.Chain.{no_tests, chain_steps, chain}
@@ -31,6 +31,7 @@ use Rattle.isle_blocks.proofs.LawFirst.{first, first_is_highest}
 use Rattle.isle_blocks.proofs.LawOrder.{all_in_order}
 use Rattle.isle_blocks.proofs.LawBinds.{last_binds_run}
 use Rattle.isle_blocks.proofs.NeededRuns.{AreStill, goes_on, needs_still}
+use Rattle.isle_blocks.proofs.NextLaws.{FindsNext}
 use Rattle.isle_blocks.proofs.StillRules.{StillLast, StillEquated, StillMatched, StillRule}
 
 if_inside : (b c : Bool) (x y z : Went) → (b ≡ true → x ≡ cond c y z) → cond b x z ≡ cond (b && c) y z
@@ -58,39 +59,39 @@ step_still : (env : Environment) (m : Meaning) (args : List Value) (ps : List Pa
 step_still env m args ps ns c h = ap (λ w. then_go w (control_run env m args ps c)) (needs_still env m args ps ns nothing_known [] h)
 
 matched_does : (shows : Shows) (cs : List (BindingId × Constraint)) (ts : List Test) (inner : Behind) (y : Went) (env : Environment) (m : Meaning) (args : List Value) (bs : List Binding) (P : List ℕ → Type 0)
-    → ((bound : List ℕ) → P bound → AllHold env m args (paths_of bs) cs → DoesWhere env m args (paths_of bs) (inner bound) ts y) → (bound : List ℕ) → StillMatched env bs shows cs P bound → DoesWhere env m args (paths_of bs) (all_matched bs shows cs inner bound) (map (is_test (paths_of bs)) cs ++ ts) y
+    → ((bound : List ℕ) → P bound → AllHold env m args (paths_of bs) cs → DoesWhere env m args (paths_of bs) (inner bound) ts y) → (bound : List ℕ) → StillMatched env bs shows cs P bound → DoesWhere env m args (paths_of bs) (all_matched false bs shows cs inner bound) (map (is_test (paths_of bs)) cs ++ ts) y
 matched_does shows [] ts inner y env m args bs P h bound still = h bound still refl
 matched_does shows (c ∷ cs) ts inner y env m args bs P h bound still =
     let ps = paths_of bs in
     let within = bound_within (bound_by bound (needs bs bound (c.0 ∷ []))) (shows c.0 c.1) in
-    step_still env m args ps (needs bs bound (c.0 ∷ [])) (all_matched bs shows (c ∷ cs) inner bound).1 still.0
+    step_still env m args ps (needs bs bound (c.0 ∷ [])) (all_matched false bs shows (c ∷ cs) inner bound).1 still.0
     ∙ if_inside (meets env m c.1 (value_at env m args nothing_known (at ps c.0))) (all_hold env m (value_at env m args nothing_known) (map (is_test ps) cs ++ ts)) _ _ _
-    (λ is. goes_on (step_run env m args ps (all_matched bs shows cs inner within)) ∙ matched_does shows cs ts inner y env m args bs P (λ b k all. h b k (hold_more env m args ps c cs is all)) within still.1)
+    (λ is. goes_on (step_run env m args ps (all_matched false bs shows cs inner within)) ∙ matched_does shows cs ts inner y env m args bs P (λ b k all. h b k (hold_more env m args ps c cs is all)) within still.1)
 
 equated_does : (es : List (BindingId × BindingId)) (inner : Behind) (y : Went) (env : Environment) (m : Meaning) (args : List Value) (bs : List Binding) (P : List ℕ → Type 0)
-    → ((bound : List ℕ) → P bound → step_run env m args (paths_of bs) (inner bound) ≡ y) → (bound : List ℕ) → StillEquated env bs es P bound → DoesWhere env m args (paths_of bs) (all_equated bs es inner bound) (map (equal_test (paths_of bs)) es) y
+    → ((bound : List ℕ) → P bound → step_run env m args (paths_of bs) (inner bound) ≡ y) → (bound : List ℕ) → StillEquated env bs es P bound → DoesWhere env m args (paths_of bs) (all_equated false bs es inner bound) (map (equal_test (paths_of bs)) es) y
 equated_does [] inner y env m args bs P h bound still = h bound still
 equated_does (e ∷ es) inner y env m args bs P h bound still =
     let ps = paths_of bs in
     let within = bound_by bound (needs bs bound (e.0 ∷ e.1 ∷ [])) in
-    step_still env m args ps (needs bs bound (e.0 ∷ e.1 ∷ [])) (all_equated bs (e ∷ es) inner bound).1 still.0
+    step_still env m args ps (needs bs bound (e.0 ∷ e.1 ∷ [])) (all_equated false bs (e ∷ es) inner bound).1 still.0
     ∙ if_inside (equal_held (value_at env m args nothing_known (at ps e.0)) (value_at env m args nothing_known (at ps e.1))) (all_hold env m (value_at env m args nothing_known) (map (equal_test ps) es)) _ _ _
-    (λ is. goes_on (step_run env m args ps (all_equated bs es inner within)) ∙ equated_does es inner y env m args bs P h within still.1)
+    (λ is. goes_on (step_run env m args ps (all_equated false bs es inner within)) ∙ equated_does es inner y env m args bs P h within still.1)
 
 -- ---- rules that are ready
 
-last_runs : (env : Environment) (t : Term) (m : Meaning) (args : List Value) (bs : List Binding) (inners : ℕ → Option BindingId) (f : FlatRule) → FindsInners bs inners → EachOnce (paths_of bs) → IsSerializableRule env t (paths_of bs) f
-    → AllHold env m args (paths_of bs) f.constraints → (bound : List ℕ) → StillLast env bs inners f bound → step_run env m args (paths_of bs) (last_step bs inners f bound) ≡ flat_run env m args (paths_of bs) f
-last_runs env t m args bs inners f found once h all bound still =
-    ap (λ w. then_go w (returns env m args (at (paths_of bs) f.result))) (last_binds_run env t m args bs inners found once f bound all h.calls still nothing_known [])
+last_runs : (env : Environment) (t : Term) (answers_once : is_several (kind_of t.kind) ≡ false) (m : Meaning) (args : List Value) (bs : List Binding) (next items : ℕ → Option BindingId) (f : FlatRule) → FindsNext bs next → EachOnce (paths_of bs) → IsSerializableRule env t (paths_of bs) f
+    → AllHold env m args (paths_of bs) f.constraints → (bound : List ℕ) → StillLast false env bs next items f bound → step_run env m args (paths_of bs) (last_step false bs next items f bound) ≡ flat_run env m args (paths_of bs) f
+last_runs env t answers_once m args bs next items f found once h all bound still =
+    ap (λ w. then_go w (returns env m args (at (paths_of bs) f.result))) (last_binds_run env t answers_once m args bs next found once f bound all h.calls still.1 nothing_known [] refl)
 
-pub rule_does : (shows : Shows) (env : Environment) (t : Term) (m : Meaning) (args : List Value) (bs : List Binding) (inners : ℕ → Option BindingId) (f : FlatRule) → FindsInners bs inners → EachOnce (paths_of bs) → IsSerializableRule env t (paths_of bs) f → StillRule env bs shows inners f
-    → DoesWhere env m args (paths_of bs) (rule_step bs shows inners f) (flat_tests (paths_of bs) f) (flat_run env m args (paths_of bs) f)
-rule_does shows env t m args bs inners f found once h still =
+pub rule_does : (shows : Shows) (env : Environment) (t : Term) (answers_once : is_several (kind_of t.kind) ≡ false) (m : Meaning) (args : List Value) (bs : List Binding) (next items : ℕ → Option BindingId) (f : FlatRule) → FindsNext bs next → EachOnce (paths_of bs) → IsSerializableRule env t (paths_of bs) f → StillRule false env bs shows next items f
+    → DoesWhere env m args (paths_of bs) (rule_step false bs shows next items f) (flat_tests (paths_of bs) f) (flat_run env m args (paths_of bs) f)
+rule_does shows env t answers_once m args bs next items f found once h still =
     let ps = paths_of bs in
     let y = flat_run env m args ps f in
-    matched_does shows f.constraints (map (equal_test ps) f.equals) (all_equated bs f.equals (last_step bs inners f)) y env m args bs (StillEquated env bs f.equals (StillLast env bs inners f))
-    (λ bound k all. equated_does f.equals (last_step bs inners f) y env m args bs (StillLast env bs inners f) (last_runs env t m args bs inners f found once h all) bound k) [] still
+    matched_does shows f.constraints (map (equal_test ps) f.equals) (all_equated false bs f.equals (last_step false bs next items f)) y env m args bs (StillEquated env bs f.equals (StillLast false env bs next items f))
+    (λ bound k all. equated_does f.equals (last_step false bs next items f) y env m args bs (StillLast false env bs next items f) (last_runs env t answers_once m args bs next items f found once h all) bound k) [] still
 
 -- a rule without tests holds
 pub untested_holds : (cs : List (BindingId × Constraint)) (es : List (BindingId × BindingId)) (env : Environment) (m : Meaning) (args : List Value) (ps : List Path) → no_tests cs es ≡ true → all_hold env m (value_at env m args nothing_known) (map (is_test ps) cs ++ map (equal_test ps) es) ≡ true
@@ -103,24 +104,24 @@ result_ends : (w : Went) (env : Environment) (m : Meaning) (args : List Value) (
 result_ends (Goes known made) env m args p more = refl
 result_ends (Ends o) env m args p more = refl
 
-chain_gives : (shows : Shows) (env : Environment) (t : Term) (m : Meaning) (args : List Value) (bs : List Binding) (inners : ℕ → Option BindingId) (kind : ReturnKind) → FindsInners bs inners → EachOnce (paths_of bs)
-    → (fs : List FlatRule) → AllByRecursion (IsSerializableRule env t (paths_of bs)) fs → AllByRecursion (StillRule env bs shows inners) fs
-    → gave kind (block_run env m args (paths_of bs) (block_of (chain_steps bs shows inners fs)) nothing_known []) ≡ given env m args (paths_of bs) kind (first (flat_holds env m args (paths_of bs)) fs)
-chain_gives shows env t m args bs inners kind found once [] h still = refl
-chain_gives shows env t m args bs inners kind found once (f ∷ fs) h still =
-    ap (λ w. gave kind (then_go w (block_run env m args (paths_of bs) (block_of (cond (no_tests f.constraints f.equals) [] (chain_steps bs shows inners fs)))))) (rule_does shows env t m args bs inners f found once h.0 still.0)
-    ∙ pick (flat_holds env m args (paths_of bs) f) (no_tests f.constraints f.equals) (untested_holds f.constraints f.equals env m args (paths_of bs)) (chain_gives shows env t m args bs inners kind found once fs h.1 still.1)
+chain_gives : (shows : Shows) (env : Environment) (t : Term) (answers_once : is_several (kind_of t.kind) ≡ false) (m : Meaning) (args : List Value) (bs : List Binding) (next items : ℕ → Option BindingId) (kind : ReturnKind) → FindsNext bs next → EachOnce (paths_of bs)
+    → (fs : List FlatRule) → AllByRecursion (IsSerializableRule env t (paths_of bs)) fs → AllByRecursion (StillRule false env bs shows next items) fs
+    → gave kind (block_run env m args (paths_of bs) (block_of (chain_steps false bs shows next items fs)) nothing_known []) ≡ given env m args (paths_of bs) kind (first (flat_holds env m args (paths_of bs)) fs)
+chain_gives shows env t answers_once m args bs next items kind found once [] h still = refl
+chain_gives shows env t answers_once m args bs next items kind found once (f ∷ fs) h still =
+    ap (λ w. gave kind (then_go w (block_run env m args (paths_of bs) (block_of (cond (no_tests f.constraints f.equals) [] (chain_steps false bs shows next items fs)))))) (rule_does shows env t answers_once m args bs next items f found once h.0 still.0)
+    ∙ pick (flat_holds env m args (paths_of bs) f) (no_tests f.constraints f.equals) (untested_holds f.constraints f.equals env m args (paths_of bs)) (chain_gives shows env t answers_once m args bs next items kind found once fs h.1 still.1)
   where
     ps : List Path
     ps = paths_of bs
 
-    pick : (holds untested : Bool) → (untested ≡ true → holds ≡ true) → gave kind (block_run env m args ps (block_of (chain_steps bs shows inners fs)) nothing_known []) ≡ given env m args ps kind (first (flat_holds env m args ps) fs)
-        → gave kind (then_go (cond holds (flat_run env m args ps f) (Goes nothing_known [])) (block_run env m args ps (block_of (cond untested [] (chain_steps bs shows inners fs))))) ≡ given env m args ps kind (cond holds (Some f) (first (flat_holds env m args ps) fs))
-    pick true untested k e = ap (gave kind) (result_ends (run_calls env m args (map (at ps) f.ordered) nothing_known []) env m args (at ps f.result) (block_run env m args ps (block_of (cond untested [] (chain_steps bs shows inners fs)))))
+    pick : (holds untested : Bool) → (untested ≡ true → holds ≡ true) → gave kind (block_run env m args ps (block_of (chain_steps false bs shows next items fs)) nothing_known []) ≡ given env m args ps kind (first (flat_holds env m args ps) fs)
+        → gave kind (then_go (cond holds (flat_run env m args ps f) (Goes nothing_known [])) (block_run env m args ps (block_of (cond untested [] (chain_steps false bs shows next items fs))))) ≡ given env m args ps kind (cond holds (Some f) (first (flat_holds env m args ps) fs))
+    pick true untested k e = ap (gave kind) (result_ends (run_calls env m args (map (at ps) f.ordered) nothing_known []) env m args (at ps f.result) (block_run env m args ps (block_of (cond untested [] (chain_steps false bs shows next items fs)))))
     pick false false k e = e
     pick false true k e = let bad = k refl in cc
 
-pub chain_means : (shows : Shows) (env : Environment) (t : Term) (m : Meaning) (args : List Value) (bs : List Binding) (inners : ℕ → Option BindingId) (kind : ReturnKind) → FindsInners bs inners → EachOnce (paths_of bs)
-    → (fs : List FlatRule) → AllByRecursion (IsSerializableRule env t (paths_of bs)) fs → AllByRecursion (StillRule env bs shows inners) fs → block_outcome env m args (paths_of bs) (chain bs shows inners fs) kind ≡ set_outcome env m args (paths_of bs) fs kind
-chain_means shows env t m args bs inners kind found once fs h still =
-    chain_gives shows env t m args bs inners kind found once (by_priority fs) (all_in_order (IsSerializableRule env t (paths_of bs)) fs h) (all_in_order (StillRule env bs shows inners) fs still) ∙ ap (given env m args (paths_of bs) kind) (first_is_highest (flat_holds env m args (paths_of bs)) fs)
+pub chain_means : (shows : Shows) (env : Environment) (t : Term) (answers_once : is_several (kind_of t.kind) ≡ false) (m : Meaning) (args : List Value) (bs : List Binding) (next items : ℕ → Option BindingId) (kind : ReturnKind) → FindsNext bs next → EachOnce (paths_of bs)
+    → (fs : List FlatRule) → AllByRecursion (IsSerializableRule env t (paths_of bs)) fs → AllByRecursion (StillRule false env bs shows next items) fs → block_outcome env m args (paths_of bs) (chain false bs shows next items fs) kind ≡ set_outcome env m args (paths_of bs) fs kind
+chain_means shows env t answers_once m args bs next items kind found once fs h still =
+    chain_gives shows env t answers_once m args bs next items kind found once (by_priority fs) (all_in_order (IsSerializableRule env t (paths_of bs)) fs h) (all_in_order (StillRule false env bs shows next items) fs still) ∙ ap (given env m args (paths_of bs) kind) (first_is_highest (flat_holds env m args (paths_of bs)) fs)

@@ -1,151 +1,279 @@
 -- A chain of ready rules is lawful, and each Match of it has one arm.
-use Rattle.std.proofs.Common.{◌≡◌, inr, ⊎_elim, ℕ, List, [], ◌∷◌, ◌++◌, Bool, true, false, cond, Option, map, refl, sym, ap, ◌∙◌, subst}
+use Rattle.std.proofs.Common.{◌≡◌, ◌⊎◌, inl, inr, ⊎_elim, ℕ, List, [], ◌∷◌, ◌++◌, Bool, true, false, not, ◌&&◌, cond, Option, Some, None, map, refl, sym, ap, ◌∙◌, subst}
+use Rattle.std.specs.Prelude.{Contains}
 use Rattle.std.specs.List.{AllByRecursion}
+use Rattle.std.proofs.lemmas.List.{append-nil}
+use Rattle.std.proofs.lemmas.List.Elements.{Contains-push, Contains-append_left, Contains-append_right}
 use Rattle.isle_core.specs.declared.BindingId.{BindingId}
+use Rattle.isle_core.specs.declared.TypeId.{TypeId}
 use Rattle.isle_core.specs.declared.rule_sets.Binding.{Binding}
 use Rattle.isle_core.specs.declared.rule_sets.Constraint.{Constraint}
 use Rattle.isle_core.specs.declared.rule_sets.Constraint.TheVariants as constraint
 use Rattle.isle_core.specs.declared.rule_sets.FlatRule.{FlatRule}
 use Rattle.isle_core.specs.declared.types.Term.{Term}
-use Rattle.isle_core.specs.Path.{Path, at, paths_of}
-use Rattle.isle_core.specs.Block.{Block, Stop, Step, Control, Arm, NoArm}
+use Rattle.isle_core.specs.Calling.{kind_of, is_several}
+use Rattle.isle_core.specs.Path.{Path, Nowhere, Chosen, at, paths_of}
+use Rattle.isle_core.specs.PathType.{IsListOf}
+use Rattle.isle_core.specs.Block.{Block, Stop, Control, Match, Equal, Loop, Return, Arm, NoArm}
 use Rattle.isle_core.specs.BlockViews.{SeenStep, block_of}
 use Rattle.isle_core.specs.ArmPlaces.{ArePlacesOf, bound_within}
-use Rattle.isle_core.specs.Bindable.{AreBindable, bound_by}
-use Rattle.isle_core.specs.BlockLawful.{Source, AValue, AnOption, IsReadIn, IsConstraintOver, IsLawfulFrom, IsLawfulControl, IsLawfulBlock}
+use Rattle.isle_core.specs.Bindable.{bound_by}
+use Rattle.isle_core.specs.BlockLawful.{Source, AValue, AnOption, IsReadIn, IsConstraintOver, IsLawfulFrom, IsLawfulControl, LoopsOnce, looped_by, without, IsLawfulBlock}
+use Rattle.isle_core.specs.NewItems.{HasNewItems}
 use Rattle.isle_core.specs.Readable.{IsReadAs}
 use Rattle.isle_core.specs.StandsFor.{EachOnce}
-use Rattle.isle_core.specs.Serializable.{StandsOn, IsValueTest, IsTest, AreTestable, AreComparable, constraint_tests, IsSerializableRule}
+use Rattle.isle_core.specs.Serializable.{StandsOn, IsValueTest, IsTest, AreTestable, AreComparable, IsSerializableList, constraint_tests, IsSerializableRule, occurrences_of}
 use Rattle.isle_core.specs.Rule.{Environment}
 use Rattle.isle_core.specs.RuleSet.{is_test}
-use Rattle.isle_core.specs.Setting.{setting}
+use Rattle.isle_core.specs.Setting.{Setting, setting, gives_several}
 use Rattle.isle_core.specs.Tests.{Test}
 use Rattle.isle_core.specs.SingleArms.{HasSingleArms, IsSingle}
-use Rattle.isle_core.specs.Occurrences.{AreNew, occurrences, after_control, after_arms}
-use Rattle.isle_core.proofs.BindingPaths.{IsThere, path_there, option_there}
-use Rattle.isle_core.proofs.Contained.{none_contained}
+use Rattle.isle_core.specs.Occurrences.{AreNew, occurrences, after_control}
+use Rattle.isle_core.proofs.BindingPaths.{IsThere, path_there, option_there, place_once}
+use Rattle.isle_core.proofs.Contained.{none_contained, contained_cases}
 use Rattle.isle_blocks.specs.Order.{by_priority}
-use Rattle.isle_blocks.specs.Inners.{FindsInners}
+use Rattle.isle_blocks.specs.Followers.{FindsInners, FindsItems}
 use Rattle.isle_blocks.specs.declared.fields.Shown.{Shown}
 use Rattle.isle_blocks.specs.Fields.{FieldKey, FindsFields, shows}
-use Rattle.isle_blocks.specs.Needed.{needs}
-use Rattle.isle_blocks.specs.Nest.{Shows, Behind, alone, binds, left_calls, last_step, all_matched, all_equated, rule_step}
+use Rattle.isle_blocks.specs.Needed.{is_bound, needs}
+use Rattle.isle_blocks.specs.Nest.{Shows, Behind, alone, opened, binds, left_calls, left_item, items_left, left_items, last_binds, last_step, all_matched, all_equated, rule_step}
 use Rattle.isle_blocks.specs.Chain.{no_tests, chain_steps, chain}
 use Rattle.isle_blocks.proofs.LawOrder.{all_in_order}
+use Rattle.isle_blocks.proofs.RulesInOrder.{occurrences_in_order}
 use Rattle.isle_blocks.proofs.Behind.{IsBehind, behind_test}
 use Rattle.isle_blocks.proofs.FieldPlaces.{AreFieldsTyped, fields_lawful, inner_lawful}
+use Rattle.isle_blocks.proofs.FreshLists.{needs_fresh, last_fresh, ordered_plain}
+use Rattle.isle_blocks.proofs.ItemPaths.{item_path}
+use Rattle.isle_core.specs.ListOrder.{ListsWithin}
 use Rattle.isle_blocks.proofs.LawBinds.{last_occurrences}
+use Rattle.isle_blocks.proofs.ListsRead.{HasOpened, read_within}
+use Rattle.isle_blocks.proofs.OrderItems.{NeedLists, AreItemsNew}
 use Rattle.isle_blocks.proofs.LawBound.{came_behind, came_holds, came_from, stands_more, binds_all, binds_still}
 use Rattle.isle_blocks.proofs.MadeBefore.{IsWithin, within_none, within_same, within_needs, within_places, was_tested}
-use Rattle.isle_blocks.proofs.MoreBound.{by_kept, bindable_append, still_lawful}
-use Rattle.isle_blocks.proofs.NeededBound.{all_read_as, first_read, needs_read, option_needs}
+use Rattle.isle_blocks.proofs.MoreBound.{by_kept, still_lawful}
+use Rattle.isle_blocks.proofs.NeededBound.{is_marked, all_read_as, first_read, needs_read, option_needs, IsItemReady, items_needed}
 use Rattle.isle_blocks.proofs.NeededRuns.{AreStill, needs_uncalled}
+use Rattle.isle_blocks.proofs.NextLaws.{FindsNext}
+use Rattle.isle_blocks.proofs.Openable.{AreOpenable, openable_append}
+use Rattle.isle_blocks.proofs.OncePairs.{each_first, each_second, each_apart}
+use Rattle.isle_blocks.proofs.OpenedSteps.{Within, only_append, only_none, MakesOnly, DoesOnly, opened_only, opened_holds, IsLawfulAlone, opened_lawful, LoopsAlways, opened_loops}
 use Rattle.isle_blocks.proofs.PushedBinds.{bound_append}
-use Rattle.isle_blocks.proofs.StillRules.{StillLast, StillEquated, StillMatched, StillRule}
+use Rattle.isle_blocks.proofs.StillRules.{StillBehind, StillLast, StillEquated, StillMatched, StillRule}
 
--- a step before others is lawful where these are bound, and no impure call of it was bound where it goes on
-record IsLawfulStep (env : Environment) (t : Term) (bs : List Binding) (bound : List ℕ) (s : SeenStep) (more : Block) : Type 0 where
-  lawful : IsLawfulFrom (setting env t bs) bound [] (Step s.0 s.1 more)
-  after : after_control env (paths_of bs) (occurrences env (paths_of bs) s.0) s.1 ≡ []
+-- ---- controls
 
-no_new : AreNew [] []
-no_new = record { once = tt; apart = λ k c d. none_contained k c }
+-- a Return
+abbrev IsReturn : Control → Type 0
+IsReturn (Return pos result) = Unit {0}
+IsReturn (Match source arms) = ⊥
+IsReturn (Equal a b body) = ⊥
+IsReturn (Loop result body) = ⊥
 
--- a step that binds what is needed alone
-needs_lawful : (env : Environment) (t : Term) (bs : List Binding) (bound : List ℕ) (reads : List BindingId) (c : Control) (more : Block) → AreBindable (setting env t bs) bound (needs bs bound reads) → AreStill env (paths_of bs) (needs bs bound reads)
-    → IsLawfulControl (setting env t bs) (bound_by bound (needs bs bound reads)) [] c more → after_control env (paths_of bs) [] c ≡ [] → IsLawfulFrom (setting env t bs) bound [] more → IsLawfulStep env t bs bound (needs bs bound reads, c) more
-needs_lawful env t bs bound reads c more binds still control after rest =
-    let s = setting env t bs in
-    let ps = paths_of bs in
-    let ns = needs bs bound reads in
-    let behind = bound_by bound ns in
-    let none = needs_uncalled env ps ns still in
-    let more_lawful : IsLawfulFrom s behind (after_control env ps [] c) more = subst (λ ks. IsLawfulFrom s behind ks more) (sym after) (still_lawful more s bound behind [] (by_kept ns bound) rest) in
-    let all : AreNew [] [] × IsLawfulControl s behind [] c more × IsLawfulFrom s behind (after_control env ps [] c) more = (no_new, control, more_lawful) in
-    let k = subst (λ ks. AreNew [] ks × IsLawfulControl s behind ks c more × IsLawfulFrom s behind (after_control env ps ks c) more) (sym none) all in
-    record { lawful = (binds, k.0, k.1, k.2); after = ap (λ ks. after_control env ps ks c) none ∙ after }
+-- what is lawful alone is so before others
+before_others : (c : Control) (s : Setting) (bound made : List ℕ) (more : Block) → (IsReturn c → gives_several s ≡ false → more ≡ Stop) → IsLawfulControl s bound made c Stop → IsLawfulControl s bound made c more
+before_others (Match source arms) s bound made more ends h = h
+before_others (Equal a b body) s bound made more ends h = h
+before_others (Loop result body) s bound made more ends h = h
+before_others (Return pos result) s bound made more ends h = (h.0, ends tt)
 
--- what a rule's calls and its result are read with
-last_still : (env : Environment) (t : Term) (bs : List Binding) (inners : ℕ → Option BindingId) (f : FlatRule) (bound : List ℕ) → FindsInners bs inners → EachOnce (paths_of bs) → IsSerializableRule env t (paths_of bs) f
-    → IsWithin env (paths_of bs) (constraint_tests (paths_of bs) f) bound → StillLast env bs inners f bound
-last_still env t bs inners f bound found once h k =
-    let ps = paths_of bs in
-    let tests = constraint_tests ps f in
-    let calls = map (at ps) f.ordered in
-    let all = binds_all env t bs tests inners found once bound f.ordered [] bound (λ n j. j) k.behind h.calls in
-    let stands = stands_more env tests calls (came_behind [] calls) (λ p j. came_holds [] calls p (inr j)) (at ps f.result) h.stands in
-    let r = needs_read env t bs tests (came_behind [] calls) (bound_by bound (binds bs inners bound (left_calls inners bound f.ordered))) (f.result ∷ []) (t.ret_ty ∷ []) all.behind (h.result, tt) (stands, tt) in
-    (binds_still env t bs tests inners found once bound f.ordered [] bound (λ n j. j) k.behind h.calls, r.still, was_tested env bs inners found tests bound k.tested)
+-- a Return goes on with what was made, or not at all
+return_only : (several : Bool) (P : ℕ → Type 0) (made : List ℕ) → Within P made → Within P (cond several made [])
+return_only true P made h = h
+return_only false P made h = only_none P
 
--- calls and a result that is last
-last_lawful : (env : Environment) (t : Term) (bs : List Binding) (inners : ℕ → Option BindingId) (f : FlatRule) (bound : List ℕ) → FindsInners bs inners → EachOnce (paths_of bs) → IsSerializableRule env t (paths_of bs) f
-    → IsWithin env (paths_of bs) (constraint_tests (paths_of bs) f) bound → IsLawfulStep env t bs bound (last_step bs inners f bound) Stop
-last_lawful env t bs inners f bound found once h k =
-    let s = setting env t bs in
-    let ps = paths_of bs in
-    let tests = constraint_tests ps f in
-    let calls = map (at ps) f.ordered in
-    let order = binds bs inners bound (left_calls inners bound f.ordered) in
-    let behind = bound_by bound order in
-    let ns = needs bs behind (f.result ∷ []) in
-    let all = binds_all env t bs tests inners found once bound f.ordered [] bound (λ n j. j) k.behind h.calls in
-    let stands = stands_more env tests calls (came_behind [] calls) (λ p j. came_holds [] calls p (inr j)) (at ps f.result) h.stands in
-    let r = needs_read env t bs tests (came_behind [] calls) behind (f.result ∷ []) (t.ret_ty ∷ []) all.behind (h.result, tt) (stands, tt) in
-    let read : IsReadAs s (bound_by behind ns) f.result t.ret_ty = record { path = h.result; read = first_read s (bound_by behind ns) r.read } in
-    let new : AreNew [] (occurrences env ps (order ++ ns)) = record { once = subst EachOnce (sym (last_occurrences env bs inners found f bound (last_still env t bs inners f bound found once h k))) h.once; apart = λ k c d. none_contained k c } in
-    record {
-      lawful = (bindable_append s order ns bound all.bindable r.binds, new, (subst (λ m. IsReadAs s m f.result t.ret_ty) (sym (bound_append bound order ns)) read, refl), tt);
-      after = refl;
-    }
+-- a step with no test before its Return, in a term that answers once
+equated_ends : (bs : List Binding) (es : List (BindingId × BindingId)) (inner : Behind) (bound : List ℕ) → IsReturn (all_equated false bs es inner bound).1 → no_tests [] es ≡ true
+equated_ends bs [] inner bound h = refl
+equated_ends bs (e ∷ es) inner bound h = absurd h
 
--- what stands inside tests, behind which these are bound
-abbrev IsLawfulBehind : Environment → Term → List Binding → List Test → Behind → Type 0
-IsLawfulBehind env t bs tests inner = (bound : List ℕ) → IsWithin env (paths_of bs) tests bound → IsLawfulStep env t bs bound (inner bound) Stop
+matched_ends : (bs : List Binding) (places : Shows) (cs : List (BindingId × Constraint)) (es : List (BindingId × BindingId)) (inner : Behind) (bound : List ℕ) → IsReturn (all_matched false bs places cs (all_equated false bs es inner) bound).1 → no_tests cs es ≡ true
+matched_ends bs places [] es inner bound h = equated_ends bs es inner bound h
+matched_ends bs places (c ∷ cs) es inner bound h = absurd h
 
--- equalities round it
-equated_lawful : (es : List (BindingId × BindingId)) (last : Behind) (env : Environment) (t : Term) (bs : List Binding) (tests : List Test) (bound : List ℕ) (more : Block) → IsWithin env (paths_of bs) tests bound
-    → AllByRecursion (AreComparable env t (paths_of bs) tests) es → IsLawfulBehind env t bs tests last → (no_tests [] es ≡ true → more ≡ Stop) → IsLawfulFrom (setting env t bs) bound [] more → IsLawfulStep env t bs bound (all_equated bs es last bound) more
-equated_lawful [] last env t bs tests bound more k h l stop r = subst (IsLawfulStep env t bs bound (last bound)) (sym (stop refl)) (l bound k)
-equated_lawful (e ∷ es) last env t bs tests bound more k h l stop r =
-    let one : AreComparable env t (paths_of bs) tests e = h.0 in
-    let reads = e.0 ∷ e.1 ∷ [] in
-    let ns = needs bs bound reads in
-    let behind = bound_by bound ns in
-    let all = needs_read env t bs tests [] bound reads (one.ty ∷ one.ty ∷ []) k.behind (one.left, (one.right, tt)) (one.left_stands, (one.right_stands, tt)) in
-    let read = all_read_as (setting env t bs) behind (one.ty ∷ one.ty ∷ []) (one.left, (one.right, tt)) all.read in
-    let body = equated_lawful es last env t bs tests behind Stop (within_needs env (paths_of bs) tests ns bound all.still k) h.1 l (λ _. refl) tt in
-    needs_lawful env t bs bound reads (all_equated bs (e ∷ es) last bound).1 more all.binds all.still ((one.ty, read.0, read.1.0), body.lawful) body.after r
+-- a binding whose path is that of one that was bound
+pub bound_has : (ps : List Path) (l : BindingId) → EachOnce ps → IsThere (at ps l) → (cs : List BindingId) (bound : List ℕ) → Contains (map (at ps) cs) (at ps l) → Contains (bound_by bound cs) l.0
+bound_has ps l once there [] bound k = absurd (none_contained (at ps l) k)
+bound_has ps l once there (c ∷ cs) bound k = ⊎_elim
+    (λ (e : at ps c ≡ at ps l). by_kept cs (bound ++ c.0 ∷ []) l.0 (subst (Contains (bound ++ c.0 ∷ [])) (sym (place_once ps l.0 c.0 once there (sym e))) (Contains-push bound c.0)))
+    (λ j. bound_has ps l once there cs (bound ++ c.0 ∷ []) j)
+    (contained_cases (at ps c) (map (at ps) cs) (at ps l) k)
 
--- what they are read with
-equated_still : (es : List (BindingId × BindingId)) (P : List ℕ → Type 0) (env : Environment) (t : Term) (bs : List Binding) (tests : List Test) (bound : List ℕ) → IsWithin env (paths_of bs) tests bound
-    → AllByRecursion (AreComparable env t (paths_of bs) tests) es → ((within : List ℕ) → IsWithin env (paths_of bs) tests within → P within) → StillEquated env bs es P bound
-equated_still [] P env t bs tests bound k h l = l bound k
-equated_still (e ∷ es) P env t bs tests bound k h l =
-    let one : AreComparable env t (paths_of bs) tests e = h.0 in
-    let reads = e.0 ∷ e.1 ∷ [] in
-    let ns = needs bs bound reads in
-    let all = needs_read env t bs tests [] bound reads (one.ty ∷ one.ty ∷ []) k.behind (one.left, (one.right, tt)) (one.left_stands, (one.right_stands, tt)) in
-    (all.still, equated_still es P env t bs tests (bound_by bound ns) (within_needs env (paths_of bs) tests ns bound all.still k) h.1 l)
+pub list_there : (env : Environment) (t : Term) (p : Path) (tys : List TypeId) → IsListOf env t p tys → IsThere p
+list_there env t Nowhere tys h = absurd h
+list_there env t p tys h = tt
 
--- ---- constraints
+-- ---- rules
 
 -- a test that may stand behind what its source is read with
-record IsTestReady (env : Environment) (t : Term) (bs : List Binding) (bound : List ℕ) (source : BindingId) (c : Constraint) (places : List (Option BindingId)) : Type 0 where
-  binds : AreBindable (setting env t bs) bound (needs bs bound (source ∷ []))
-  still : AreStill env (paths_of bs) (needs bs bound (source ∷ []))
-  over : Source
-  read : IsReadIn (setting env t bs) (bound_by bound (needs bs bound (source ∷ []))) source over
-  constraint' : IsConstraintOver env c over
-  places' : ArePlacesOf (setting env t bs) source c places
-  there : IsThere (at (paths_of bs) source)
+pub record IsTestReady (env : Environment) (t : Term) (bs : List Binding) (bound : List ℕ) (source : BindingId) (c : Constraint) (places : List (Option BindingId)) : Type 0 where
+  pub binds : AreOpenable (setting env t bs) bound (needs bs bound (source ∷ []))
+  pub still : AreStill env (paths_of bs) (needs bs bound (source ∷ []))
+  pub over : Source
+  pub read : IsReadIn (setting env t bs) (bound_by bound (needs bs bound (source ∷ []))) source over
+  pub constraint' : IsConstraintOver env c over
+  pub places' : ArePlacesOf (setting env t bs) source c places
+  pub there : IsThere (at (paths_of bs) source)
+  pub items : (qs : List Path) → NeedLists env qs (at (paths_of bs) source) → AreItemsNew qs bs bound (needs bs bound (source ∷ []))
+  pub within : (opened : List Path) → HasOpened bs (bound_by bound (needs bs bound (source ∷ []))) opened → ListsWithin opened (at (paths_of bs) source)
 
-module _ (env : Environment) (t : Term) (bs : List Binding) (found : FieldKey → Option BindingId) (counts : Shown → Option ℕ) (inners : ℕ → Option BindingId) (finds : FindsFields bs found counts) (found_inners : FindsInners bs inners)
-    (once : EachOnce (paths_of bs)) (typed : AreFieldsTyped env t bs) where
+module _ (several : Bool) (env : Environment) (t : Term) (bs : List Binding) (found : FieldKey → Option BindingId) (counts : Shown → Option ℕ) (inners next items : ℕ → Option BindingId) (is : is_several (kind_of t.kind) ≡ several) (finds : FindsFields bs found counts)
+    (found_inners : FindsInners bs inners) (found_items : FindsItems bs items) (found_next : FindsNext bs next) (once : EachOnce (paths_of bs)) (typed : AreFieldsTyped env t bs) (fits : (p : Path) → Contains (paths_of bs) (Chosen p) → is_several (kind_of t.kind) ≡ true) where
+  -- ---- lists
+
+  -- the item of a list that is no ordered call
+  item_ready : (f : FlatRule) (l : BindingId) → IsSerializableList env t (constraint_tests (paths_of bs) f) (paths_of bs) (map (at (paths_of bs)) f.ordered) l → (b : Bool) → is_bound (bound_by [] f.ordered) l ≡ b → (o : Option BindingId) → items l.0 ≡ o
+      → AllByRecursion (IsItemReady env t bs (constraint_tests (paths_of bs) f) [] fits) (left_item b o)
+  item_ready f l h true e o k = tt
+  item_ready f l h false e None k = tt
+  item_ready f l h false e (Some b) k =
+      let ps = paths_of bs in
+      let stands = found_items.found l.0 b k in (
+        record {
+          source = l;
+          is = stands.0;
+          path = item_path bs l b stands.0 stands.1;
+          below = stands.1;
+          tys = h.tys;
+          list = h.list;
+          stands = ⊎_elim (λ j. j.1) (λ j. let marked = is_marked (bound_by [] f.ordered) l.0 (bound_has ps l once (list_there env t (at ps l) h.tys h.list) f.ordered [] j) in absurd cc) h.stands;
+        },
+        tt,
+      )
+
+  all_append : {A : Type 0} (P : A → Type 0) (xs ys : List A) → AllByRecursion P xs → AllByRecursion P ys → AllByRecursion P (xs ++ ys)
+  all_append P [] ys h k = k
+  all_append P (x ∷ xs) ys h k = (h.0, all_append P xs ys h.1 k)
+
+  items_ready : (f : FlatRule) (ls : List BindingId) → AllByRecursion (IsSerializableList env t (constraint_tests (paths_of bs) f) (paths_of bs) (map (at (paths_of bs)) f.ordered)) ls
+      → AllByRecursion (IsItemReady env t bs (constraint_tests (paths_of bs) f) [] fits) (items_left items (bound_by [] f.ordered) ls)
+  items_ready f [] h = tt
+  items_ready f (l ∷ ls) h =
+      all_append (IsItemReady env t bs (constraint_tests (paths_of bs) f) [] fits) (left_item (is_bound (bound_by [] f.ordered) l) (items l.0)) (items_left items (bound_by [] f.ordered) ls)
+      (item_ready f l h.0 (is_bound (bound_by [] f.ordered) l) refl (items l.0) refl) (items_ready f ls h.1)
+
+  pub left_ready : (flag : Bool) (f : FlatRule) → IsSerializableRule env t (paths_of bs) f → AllByRecursion (IsItemReady env t bs (constraint_tests (paths_of bs) f) [] fits) (left_items flag items f)
+  left_ready true f h = items_ready f f.iterators h.lists
+  left_ready false f h = tt
+
+  -- ---- what is read makes no impure call
+
+  pub behind_still : (f : FlatRule) (bound : List ℕ) → IsSerializableRule env t (paths_of bs) f → IsWithin env (paths_of bs) (constraint_tests (paths_of bs) f) bound → StillBehind env bs next f bound
+  behind_still f bound h k =
+      let ps = paths_of bs in
+      let tests = constraint_tests ps f in
+      let calls = map (at ps) f.ordered in
+      let all = binds_all env t bs fits tests next found_next once bound f.ordered [] bound (λ n j. j) k.behind h.calls in
+      let stands = stands_more env tests calls (came_behind [] calls) (λ p j. came_holds [] calls p (inr j)) (at ps f.result) h.stands in
+      let r = needs_read env t bs tests (came_behind [] calls) fits (bound_by bound (binds bs next bound (left_calls next bound f.ordered))) (f.result ∷ []) (t.ret_ty ∷ []) all.behind (h.result, tt) (stands, tt) in
+      (binds_still env t bs fits tests next found_next once bound f.ordered [] bound (λ n j. j) k.behind h.calls, r.still, was_tested env bs next tests bound k.tested)
+
+  last_still : (f : FlatRule) (bound : List ℕ) → IsSerializableRule env t (paths_of bs) f → IsWithin env (paths_of bs) (constraint_tests (paths_of bs) f) bound → StillLast several env bs next items f bound
+  last_still f bound h k =
+      let ps = paths_of bs in
+      let tests = constraint_tests ps f in
+      let lists = needs bs bound (left_items several items f) in
+      let r = items_needed env t bs tests [] fits bound (left_items several items f) k.behind (left_ready several f h) in
+      (r.still, behind_still f (bound_by bound lists) h (within_needs env ps tests lists bound r.still k))
+
+  -- ---- steps
+
+  -- an impure call that was made before, or is the rule's
+  abbrev pub OfRule : FlatRule → List ℕ → ℕ → Type 0
+  OfRule f made k = Contains made k ⊎ Contains (occurrences env (paths_of bs) f.ordered) k
+
+  -- it is lawful, makes no impure call but those of the rule, and loops over each list once
+  pub record IsGoodStep (f : FlatRule) (made bound : List ℕ) (step : SeenStep) : Type 0 where
+    pub lawful : IsLawfulAlone (setting env t bs) bound made step
+    pub only : MakesOnly (is_several (kind_of t.kind)) env (paths_of bs) (OfRule f made) step
+    pub loops : (fresh : List ℕ) → LoopsOnce (setting env t bs) fresh (alone step)
+
+  -- the step of what is read, before what is done then
+  good_needs : (f : FlatRule) (made bound : List ℕ) (reads : List BindingId) (c : Control) → AreOpenable (setting env t bs) bound (needs bs bound reads) → AreStill env (paths_of bs) (needs bs bound reads)
+      → IsLawfulControl (setting env t bs) (bound_by bound (needs bs bound reads)) made c Stop → DoesOnly (is_several (kind_of t.kind)) env (paths_of bs) (OfRule f made) c → LoopsAlways (setting env t bs) c
+      → IsGoodStep f made bound (opened several bs (needs bs bound reads) c)
+  good_needs f made bound reads c binds still lawful only loops =
+      let s = setting env t bs in
+      let ps = paths_of bs in
+      let ns = needs bs bound reads in
+      let none = needs_uncalled env ps ns still in
+      let here : IsLawfulControl s (bound_by bound ns) (made ++ occurrences env ps ns) c Stop = subst (λ ks. IsLawfulControl s (bound_by bound ns) ks c Stop) (sym (ap (λ ks. made ++ ks) none ∙ append-nil made)) lawful in
+      let new : AreNew made (occurrences env ps ns) = subst (AreNew made) (sym none) (record { once = tt; apart = λ k c d. absurd (none_contained k d) }) in
+      record {
+        lawful = opened_lawful s several is ns c bound made binds new here;
+        only = opened_only (is_several (kind_of t.kind)) env bs ps (OfRule f made) several ns c (subst (Within (OfRule f made)) (sym none) (only_none (OfRule f made))) only;
+        loops = opened_loops s several ns c (needs_fresh bs bound reads) loops;
+      }
+
+  -- impure calls that a rule may make
+  abbrev pub IsNewTo : FlatRule → List ℕ → Type 0
+  IsNewTo f made = AreNew made (occurrences env (paths_of bs) f.ordered)
+
+  last_good : (f : FlatRule) (made bound : List ℕ) → IsSerializableRule env t (paths_of bs) f → IsNewTo f made → IsWithin env (paths_of bs) (constraint_tests (paths_of bs) f) bound → IsGoodStep f made bound (last_step several bs next items f bound)
+  last_good f made bound h new k =
+      let s = setting env t bs in
+      let ps = paths_of bs in
+      let tests = constraint_tests ps f in
+      let calls = map (at ps) f.ordered in
+      let lists = needs bs bound (left_items several items f) in
+      let first = items_needed env t bs tests [] fits bound (left_items several items f) k.behind (left_ready several f h) in
+      let within = bound_by bound lists in
+      let k' = within_needs env ps tests lists bound first.still k in
+      let order = binds bs next within (left_calls next within f.ordered) in
+      let behind = bound_by within order in
+      let ns = needs bs behind (f.result ∷ []) in
+      let all = binds_all env t bs fits tests next found_next once within f.ordered [] within (λ n j. j) k'.behind h.calls in
+      let stands = stands_more env tests calls (came_behind [] calls) (λ p j. came_holds [] calls p (inr j)) (at ps f.result) h.stands in
+      let r = needs_read env t bs tests (came_behind [] calls) fits behind (f.result ∷ []) (t.ret_ty ∷ []) all.behind (h.result, tt) (stands, tt) in
+      let read : IsReadAs s (bound_by behind ns) f.result t.ret_ty = record { path = h.result; read = first_read s (bound_by behind ns) r.read } in
+      let whole = last_binds several bs next items bound f in
+      let here : IsReadAs s (bound_by bound whole) f.result t.ret_ty = subst (λ m. IsReadAs s m f.result t.ret_ty) (sym (bound_append bound lists (order ++ ns) ∙ bound_append within order ns)) read in
+      let made_of = last_occurrences several env bs next items found_next f bound (last_still f bound h k) in
+      record {
+        lawful = opened_lawful s several is whole (Return f.pos f.result) bound made (openable_append s lists (order ++ ns) bound first.binds (openable_append s order ns within all.bindable r.binds)) (subst (AreNew made) (sym made_of) new) (here, λ e. refl);
+        only = opened_only (is_several (kind_of t.kind)) env bs ps (OfRule f made) several whole (Return f.pos f.result) (subst (Within (OfRule f made)) (sym made_of) (λ n c. inr c)) (λ ks w. return_only (is_several (kind_of t.kind)) (OfRule f made) ks w);
+        loops = opened_loops s several whole (Return f.pos f.result) (last_fresh several bs next items found_next f bound (ordered_plain env t tests bs f.ordered h.calls)) (λ fresh. tt);
+      }
+
+  -- what stands inside tests, behind which these are bound
+  abbrev IsGoodBehind : FlatRule → List ℕ → List Test → Behind → Type 0
+  IsGoodBehind f made tests inner = (bound : List ℕ) → IsWithin env (paths_of bs) tests bound → IsGoodStep f made bound (inner bound)
+
+  -- a step that goes on alone
+  alone_only : (f : FlatRule) (made bound : List ℕ) (step : SeenStep) → IsGoodStep f made bound step → DoesOnly (is_several (kind_of t.kind)) env (paths_of bs) (OfRule f made) (Equal (record { 0 = 0 }) (record { 0 = 0 }) (alone step))
+  alone_only f made bound step h ks w = only_append (OfRule f made) ks (after_control (is_several (kind_of t.kind)) env (paths_of bs) (ks ++ occurrences env (paths_of bs) step.0) step.1) w (h.only ks w)
+
+  -- equalities round it
+  equated_good : (f : FlatRule) (made : List ℕ) (es : List (BindingId × BindingId)) (last : Behind) (tests : List Test) (bound : List ℕ) → IsWithin env (paths_of bs) tests bound → AllByRecursion (AreComparable env t (paths_of bs) tests) es → IsGoodBehind f made tests last
+      → IsGoodStep f made bound (all_equated several bs es last bound)
+  equated_good f made [] last tests bound k h l = l bound k
+  equated_good f made (e ∷ es) last tests bound k h l =
+      let one : AreComparable env t (paths_of bs) tests e = h.0 in
+      let reads = e.0 ∷ e.1 ∷ [] in
+      let ns = needs bs bound reads in
+      let behind = bound_by bound ns in
+      let all = needs_read env t bs tests [] fits bound reads (one.ty ∷ one.ty ∷ []) k.behind (one.left, (one.right, tt)) (one.left_stands, (one.right_stands, tt)) in
+      let read = all_read_as (setting env t bs) behind (one.ty ∷ one.ty ∷ []) (one.left, (one.right, tt)) all.read in
+      let body = equated_good f made es last tests behind (within_needs env (paths_of bs) tests ns bound all.still k) h.1 l in
+      good_needs f made bound reads (Equal e.0 e.1 (alone (all_equated several bs es last behind))) all.binds all.still ((one.ty, read.0, read.1.0), body.lawful) (alone_only f made behind (all_equated several bs es last behind) body) body.loops
+
+  -- what they are read with
+  equated_still : (es : List (BindingId × BindingId)) (P : List ℕ → Type 0) (tests : List Test) (bound : List ℕ) → IsWithin env (paths_of bs) tests bound → AllByRecursion (AreComparable env t (paths_of bs) tests) es
+      → ((within : List ℕ) → IsWithin env (paths_of bs) tests within → P within) → StillEquated env bs es P bound
+  equated_still [] P tests bound k h l = l bound k
+  equated_still (e ∷ es) P tests bound k h l =
+      let one : AreComparable env t (paths_of bs) tests e = h.0 in
+      let reads = e.0 ∷ e.1 ∷ [] in
+      let ns = needs bs bound reads in
+      let all = needs_read env t bs tests [] fits bound reads (one.ty ∷ one.ty ∷ []) k.behind (one.left, (one.right, tt)) (one.left_stands, (one.right_stands, tt)) in
+      (all.still, equated_still es P tests (bound_by bound ns) (within_needs env (paths_of bs) tests ns bound all.still k) h.1 l)
+
+  -- ---- constraints
+
   value_ready : (tests : List Test) (bound : List ℕ) (source : BindingId) (c : Constraint) → IsBehind (paths_of bs) tests [] bound → IsValueTest env t (at (paths_of bs) source) c → StandsOn env tests [] (at (paths_of bs) source)
       → IsTestReady env t bs bound source c (shows found counts inners source c)
   value_ready tests bound source c k h st =
       let s = setting env t bs in
-      let r = needs_read env t bs tests [] bound (source ∷ []) (h.ty ∷ []) k (h.path, tt) (st, tt) in
+      let r = needs_read env t bs tests [] fits bound (source ∷ []) (h.ty ∷ []) k (h.path, tt) (st, tt) in
       record {
         binds = r.binds;
         still = r.still;
@@ -154,12 +282,14 @@ module _ (env : Environment) (t : Term) (bs : List Binding) (found : FieldKey �
         constraint' = h.constraint;
         places' = fields_lawful env t bs found counts inners finds typed source c h.ty h.path h.constraint;
         there = path_there env t (at (paths_of bs) source) h.ty h.path;
+        items = λ qs lists. r.items qs (lists, tt);
+        within = λ opened ready. read_within env t bs (bound_by bound (needs bs bound (source ∷ []))) opened ready (first_read s (bound_by bound (needs bs bound (source ∷ []))) r.read) h.ty h.path;
       }
 
-  test_ready : (tests : List Test) (bound : List ℕ) (source : BindingId) (c : Constraint) → IsBehind (paths_of bs) tests [] bound → IsTest env t (at (paths_of bs) source) c → StandsOn env tests [] (at (paths_of bs) source)
+  pub test_ready : (tests : List Test) (bound : List ℕ) (source : BindingId) (c : Constraint) → IsBehind (paths_of bs) tests [] bound → IsTest env t (at (paths_of bs) source) c → StandsOn env tests [] (at (paths_of bs) source)
       → IsTestReady env t bs bound source c (shows found counts inners source c)
   test_ready tests bound source constraint.Some k h st =
-      let r = option_needs env t bs tests [] bound source h.0 k h.1 st in
+      let r = option_needs env t bs tests [] fits bound source h.0 k h.1 st in
       record {
         binds = r.binds;
         still = r.still;
@@ -168,6 +298,8 @@ module _ (env : Environment) (t : Term) (bs : List Binding) (found : FieldKey �
         constraint' = refl;
         places' = inner_lawful env t bs inners found_inners source;
         there = option_there env t (at (paths_of bs) source) h.0 h.1;
+        items = λ qs lists. r.items qs lists;
+        within = λ opened ready. ready.within source r.there;
       }
   test_ready tests bound source (constraint.ConstBool val) k h st = value_ready tests bound source (constraint.ConstBool val) k h st
   test_ready tests bound source (constraint.ConstInt val of) k h st = value_ready tests bound source (constraint.ConstInt val of) k h st
@@ -175,112 +307,147 @@ module _ (env : Environment) (t : Term) (bs : List Binding) (found : FieldKey �
   test_ready tests bound source (constraint.Variant of variant) k h st = value_ready tests bound source (constraint.Variant of variant) k h st
   test_ready tests bound source (constraint.Struct of) k h st = value_ready tests bound source (constraint.Struct of) k h st
 
-  -- what is inside all arms is lawful before any steps, where it has a test or none follow it
-  abbrev IsLawfulInside : List Test → List (BindingId × BindingId) → Behind → Type 0
-  IsLawfulInside tests es inner = (bound : List ℕ) (more : Block) → IsWithin env (paths_of bs) tests bound → (no_tests [] es ≡ true → more ≡ Stop) → IsLawfulFrom (setting env t bs) bound [] more → IsLawfulStep env t bs bound (inner bound) more
-
-  -- and constraints round these
-  matched_lawful : (cs : List (BindingId × Constraint)) (es : List (BindingId × BindingId)) (inner : Behind) (tests : List Test) (bound : List ℕ) (more : Block) → IsWithin env (paths_of bs) tests bound → AreTestable env t (paths_of bs) tests cs
-      → IsLawfulInside (came_behind tests (map (is_test (paths_of bs)) cs)) es inner → (no_tests cs es ≡ true → more ≡ Stop) → IsLawfulFrom (setting env t bs) bound [] more → IsLawfulStep env t bs bound (all_matched bs (shows found counts inners) cs inner bound) more
-  matched_lawful [] es inner tests bound more k h l stop r = l bound more k stop r
-  matched_lawful (c ∷ cs) es inner tests bound more k h l stop r =
+  -- what is bound within the arm of a test
+  pub within_arm : (tests : List Test) (bound : List ℕ) (c : BindingId × Constraint) → IsWithin env (paths_of bs) tests bound → (ready : IsTestReady env t bs bound c.0 c.1 (shows found counts inners c.0 c.1))
+      → IsWithin env (paths_of bs) (is_test (paths_of bs) c ∷ tests) (bound_within (bound_by bound (needs bs bound (c.0 ∷ []))) (shows found counts inners c.0 c.1))
+  within_arm tests bound c k ready =
       let ps = paths_of bs in
       let ns = needs bs bound (c.0 ∷ []) in
       let behind = bound_by bound ns in
-      let places = shows found counts inners c.0 c.1 in
-      let within = bound_within behind places in
-      let ready = test_ready tests bound c.0 c.1 k.behind h.0.test h.0.stands in
       let grown = within_needs env ps tests ns bound ready.still k in
       let shown = behind_test bs found counts inners finds found_inners once tests behind c ready.there grown.behind in
-      let inside = within_places env t bs found counts inners found_inners tests behind c.0 c.1 ready.places' grown shown in
-      let body = matched_lawful cs es inner (is_test ps c ∷ tests) within Stop inside h.1 l (λ _. refl) tt in
-      let after : after_arms env ps [] (Arm c.1 places (alone (all_matched bs (shows found counts inners) cs inner within)) NoArm) ≡ [] = ap (λ ks. ks ++ []) body.after in
-      needs_lawful env t bs bound (c.0 ∷ []) (all_matched bs (shows found counts inners) (c ∷ cs) inner bound).1 more ready.binds ready.still (tt, (ready.over, ready.read, (ready.constraint', ready.places', body.lawful, tt))) after r
+      within_places env t bs found counts inners found_inners tests behind c.0 c.1 ready.places' grown shown
+
+  -- and constraints round these
+  matched_good : (f : FlatRule) (made : List ℕ) (cs : List (BindingId × Constraint)) (inner : Behind) (tests : List Test) (bound : List ℕ) → IsWithin env (paths_of bs) tests bound → AreTestable env t (paths_of bs) tests cs
+      → IsGoodBehind f made (came_behind tests (map (is_test (paths_of bs)) cs)) inner → IsGoodStep f made bound (all_matched several bs (shows found counts inners) cs inner bound)
+  matched_good f made [] inner tests bound k h l = l bound k
+  matched_good f made (c ∷ cs) inner tests bound k h l =
+      let ps = paths_of bs in
+      let ns = needs bs bound (c.0 ∷ []) in
+      let places = shows found counts inners c.0 c.1 in
+      let within = bound_within (bound_by bound ns) places in
+      let ready = test_ready tests bound c.0 c.1 k.behind h.0.test h.0.stands in
+      let step = all_matched several bs (shows found counts inners) cs inner within in
+      let body = matched_good f made cs inner (is_test ps c ∷ tests) within (within_arm tests bound c k ready) h.1 l in
+      good_needs f made bound (c.0 ∷ []) (Match c.0 (Arm c.1 places (alone step) NoArm)) ready.binds ready.still (tt, (ready.over, ready.read, (ready.constraint', ready.places', body.lawful, tt)))
+      (λ ks w. only_append (OfRule f made) ks (after_control (is_several (kind_of t.kind)) env ps (ks ++ occurrences env ps step.0) step.1 ++ []) w (only_append (OfRule f made) (after_control (is_several (kind_of t.kind)) env ps (ks ++ occurrences env ps step.0) step.1) [] (body.only ks w) (only_none (OfRule f made))))
+      (λ fresh. (body.loops fresh, tt))
 
   -- the tests of a rule, in order
-  came_within : (ps : List Path) (f : FlatRule) (bound : List ℕ) → IsWithin env ps (came_behind [] (constraint_tests ps f)) bound → IsWithin env ps (constraint_tests ps f) bound
+  pub came_within : (ps : List Path) (f : FlatRule) (bound : List ℕ) → IsWithin env ps (came_behind [] (constraint_tests ps f)) bound → IsWithin env ps (constraint_tests ps f) bound
   came_within ps f bound k =
       within_same env ps (constraint_tests ps f) (came_behind [] (constraint_tests ps f)) bound (λ x j. came_holds [] (constraint_tests ps f) x (inr j))
       (λ x j. ⊎_elim (λ none. absurd (none_contained x none)) (λ i. i) (came_from [] (constraint_tests ps f) x j)) k
 
   -- the step of a rule
-  rule_lawful : (f : FlatRule) (more : Block) → IsSerializableRule env t (paths_of bs) f → (no_tests f.constraints f.equals ≡ true → more ≡ Stop) → IsLawfulBlock (setting env t bs) more
-      → IsLawfulStep env t bs [] (rule_step bs (shows found counts inners) inners f) more
-  rule_lawful f more h stop r = matched_lawful f.constraints f.equals (all_equated bs f.equals (last_step bs inners f)) [] [] more (within_none env ps) h.constraints inside stop r
-    where
-      ps : List Path
-      ps = paths_of bs
-
-      inside : IsLawfulInside (came_behind [] (constraint_tests ps f)) f.equals (all_equated bs f.equals (last_step bs inners f))
-      inside bound rest k last l =
-          let behind = came_within ps f bound k in
-          equated_lawful f.equals (last_step bs inners f) env t bs (constraint_tests ps f) bound rest behind h.equals (λ bound' k'. last_lawful env t bs inners f bound' found_inners once h k') last l
+  pub rule_good : (f : FlatRule) (made : List ℕ) → IsSerializableRule env t (paths_of bs) f → IsNewTo f made → IsGoodStep f made [] (rule_step several bs (shows found counts inners) next items f)
+  rule_good f made h new = matched_good f made f.constraints (all_equated several bs f.equals (last_step several bs next items f)) [] [] (within_none env (paths_of bs)) h.constraints
+      (λ bound k. equated_good f made f.equals (last_step several bs next items f) (constraint_tests (paths_of bs) f) bound (came_within (paths_of bs) f bound k) h.equals (λ bound' k'. last_good f made bound' h new k'))
 
   -- what constraints are read with
   matched_still : (cs : List (BindingId × Constraint)) (P : List ℕ → Type 0) (tests : List Test) (bound : List ℕ) → IsWithin env (paths_of bs) tests bound → AreTestable env t (paths_of bs) tests cs
       → ((within : List ℕ) → IsWithin env (paths_of bs) (came_behind tests (map (is_test (paths_of bs)) cs)) within → P within) → StillMatched env bs (shows found counts inners) cs P bound
   matched_still [] P tests bound k h l = l bound k
   matched_still (c ∷ cs) P tests bound k h l =
-      let ps = paths_of bs in
-      let ns = needs bs bound (c.0 ∷ []) in
-      let behind = bound_by bound ns in
       let ready = test_ready tests bound c.0 c.1 k.behind h.0.test h.0.stands in
-      let grown = within_needs env ps tests ns bound ready.still k in
-      let shown = behind_test bs found counts inners finds found_inners once tests behind c ready.there grown.behind in
-      let inside = within_places env t bs found counts inners found_inners tests behind c.0 c.1 ready.places' grown shown in
-      (ready.still, matched_still cs P (is_test ps c ∷ tests) (bound_within behind (shows found counts inners c.0 c.1)) inside h.1 l)
+      (ready.still, matched_still cs P (is_test (paths_of bs) c ∷ tests) (bound_within (bound_by bound (needs bs bound (c.0 ∷ []))) (shows found counts inners c.0 c.1)) (within_arm tests bound c k ready) h.1 l)
 
   -- what a rule is read with
-  rule_still : (f : FlatRule) → IsSerializableRule env t (paths_of bs) f → StillRule env bs (shows found counts inners) inners f
-  rule_still f h = matched_still f.constraints (StillEquated env bs f.equals (StillLast env bs inners f)) [] [] (within_none env ps) h.constraints inside
-    where
-      ps : List Path
-      ps = paths_of bs
+  rule_still : (f : FlatRule) → IsSerializableRule env t (paths_of bs) f → StillRule several env bs (shows found counts inners) next items f
+  rule_still f h = matched_still f.constraints (StillEquated env bs f.equals (StillLast several env bs next items f)) [] [] (within_none env (paths_of bs)) h.constraints
+      (λ within k. equated_still f.equals (StillLast several env bs next items f) (constraint_tests (paths_of bs) f) within (came_within (paths_of bs) f within k) h.equals (λ bound' k'. last_still f bound' h k'))
 
-      inside : (within : List ℕ) → IsWithin env ps (came_behind [] (constraint_tests ps f)) within → StillEquated env bs f.equals (StillLast env bs inners f) within
-      inside within k =
-          let behind = came_within ps f within k in
-          equated_still f.equals (StillLast env bs inners f) env t bs (constraint_tests ps f) within behind h.equals (λ bound' k'. last_still env t bs inners f bound' found_inners once h k')
-
-  pub rules_still : (fs : List FlatRule) → AllByRecursion (IsSerializableRule env t (paths_of bs)) fs → AllByRecursion (StillRule env bs (shows found counts inners) inners) fs
+  pub rules_still : (fs : List FlatRule) → AllByRecursion (IsSerializableRule env t (paths_of bs)) fs → AllByRecursion (StillRule several env bs (shows found counts inners) next items) fs
   rules_still [] h = tt
   rules_still (f ∷ fs) h = (rule_still f h.0, rules_still fs h.1)
 
-  steps_lawful : (fs : List FlatRule) → AllByRecursion (IsSerializableRule env t (paths_of bs)) fs → IsLawfulBlock (setting env t bs) (block_of (chain_steps bs (shows found counts inners) inners fs))
-  steps_lawful [] h = tt
-  steps_lawful (f ∷ fs) h =
-      (rule_lawful f (block_of (cond (no_tests f.constraints f.equals) [] (chain_steps bs (shows found counts inners) inners fs))) h.0 (last (no_tests f.constraints f.equals)) (rest (no_tests f.constraints f.equals) (steps_lawful fs h.1))).lawful
-    where
-      last : (b : Bool) → b ≡ true → block_of (cond b [] (chain_steps bs (shows found counts inners) inners fs)) ≡ Stop
-      last true e = refl
-      last false e = cc
+  -- ---- chains
 
-      rest : (b : Bool) → IsLawfulBlock (setting env t bs) (block_of (chain_steps bs (shows found counts inners) inners fs)) → IsLawfulBlock (setting env t bs) (block_of (cond b [] (chain_steps bs (shows found counts inners) inners fs)))
-      rest true r = tt
-      rest false r = r
+  -- impure calls that are none of these
+  abbrev AreOthers : List ℕ → List FlatRule → Type 0
+  AreOthers made fs = (k : ℕ) → Contains made k → Contains (occurrences_of env (paths_of bs) fs) k → ⊥
 
-  pub chain_lawful : (fs : List FlatRule) → AllByRecursion (IsSerializableRule env t (paths_of bs)) fs → IsLawfulBlock (setting env t bs) (chain bs (shows found counts inners) inners fs)
-  chain_lawful fs h = steps_lawful (by_priority fs) (all_in_order (IsSerializableRule env t (paths_of bs)) fs h)
+  -- the steps of a list, cut where nothing is reached
+  abbrev rest_of : Bool → List FlatRule → Block
+  rest_of last fs = block_of (cond last [] (chain_steps several bs (shows found counts inners) next items fs))
+
+  rest_lawful : (last : Bool) (fs : List FlatRule) (made : List ℕ) → IsLawfulFrom (setting env t bs) [] made (rest_of false fs) → IsLawfulFrom (setting env t bs) [] made (rest_of last fs)
+  rest_lawful true fs made h = tt
+  rest_lawful false fs made h = h
+
+  rest_loops : (last : Bool) (fs : List FlatRule) (fresh : List ℕ) → LoopsOnce (setting env t bs) fresh (rest_of false fs) → LoopsOnce (setting env t bs) fresh (rest_of last fs)
+  rest_loops true fs fresh h = tt
+  rest_loops false fs fresh h = h
+
+  -- where a rule's step is a Return in a term that answers once, no steps follow
+  step_ends : (flag : Bool) → is_several (kind_of t.kind) ≡ flag → (f : FlatRule) (fs : List FlatRule) → IsReturn (rule_step flag bs (shows found counts inners) next items f).1 → is_several (kind_of t.kind) ≡ false → rest_of (not flag && no_tests f.constraints f.equals) fs ≡ Stop
+  step_ends true e f fs = λ returns alone'. let bad = sym e ∙ alone' in cc
+  step_ends false e f fs = λ returns alone'. ap (λ b. rest_of b fs) (matched_ends bs (shows found counts inners) f.constraints f.equals (last_step false bs next items f) [] returns)
+
+  steps_lawful : (fs : List FlatRule) (made : List ℕ) → AllByRecursion (IsSerializableRule env t (paths_of bs)) fs → EachOnce (occurrences_of env (paths_of bs) fs) → AreOthers made fs → IsLawfulFrom (setting env t bs) [] made (rest_of false fs)
+  steps_lawful [] made h apart others = tt
+  steps_lawful (f ∷ fs) made h apart others =
+      let s = setting env t bs in
+      let ps = paths_of bs in
+      let calls = occurrences env ps f.ordered in
+      let more = occurrences_of env ps fs in
+      let last = not several && no_tests f.constraints f.equals in
+      let step = rule_step several bs (shows found counts inners) next items f in
+      let good = rule_good f made h.0 (record { once = each_first calls more apart; apart = λ k c d. others k c (Contains-append_left calls more k d) }) in
+      let after = after_control (is_several (kind_of t.kind)) env ps (made ++ occurrences env ps step.0) step.1 in
+      let new : AreOthers after fs = λ k c d. ⊎_elim (λ j. others k j (Contains-append_right calls more k d)) (λ j. each_apart calls more apart k j d) (good.only made (λ n j. inl j) k c) in
+      let rest = rest_lawful last fs after (steps_lawful fs after h.1 (each_second calls more apart) new) in
+      (good.lawful.0, good.lawful.1, before_others step.1 s (bound_by [] step.0) (made ++ occurrences env ps step.0) (rest_of last fs) (step_ends several is f fs) good.lawful.2, still_lawful (rest_of last fs) s [] (bound_by [] step.0) after (λ n c. absurd (none_contained n c)) rest)
+
+  steps_loop : (fs : List FlatRule) (fresh : List ℕ) → AllByRecursion (IsSerializableRule env t (paths_of bs)) fs → EachOnce (occurrences_of env (paths_of bs) fs) → LoopsOnce (setting env t bs) fresh (rest_of false fs)
+  steps_loop [] fresh h apart = tt
+  steps_loop (f ∷ fs) fresh h apart =
+      let ps = paths_of bs in
+      let calls = occurrences env ps f.ordered in
+      let step = rule_step several bs (shows found counts inners) next items f in
+      let good = rule_good f [] h.0 (record { once = each_first calls (occurrences_of env ps fs) apart; apart = λ k c d. absurd (none_contained k c) }) in
+      let left = without (fresh ++ map (λ (b : BindingId). b.0) step.0) (looped_by (setting env t bs) step.1) in
+      ((good.loops fresh).0, rest_loops (not several && no_tests f.constraints f.equals) fs left (steps_loop fs left h.1 (each_second calls (occurrences_of env ps fs) apart)))
+
+  pub chain_lawful : (fs : List FlatRule) → AllByRecursion (IsSerializableRule env t (paths_of bs)) fs → EachOnce (occurrences_of env (paths_of bs) fs) → HasNewItems (setting env t bs) (chain several bs (shows found counts inners) next items fs)
+      → IsLawfulBlock (setting env t bs) (chain several bs (shows found counts inners) next items fs)
+  chain_lawful fs h apart anew =
+      let all = all_in_order (IsSerializableRule env t (paths_of bs)) fs h in
+      let new = occurrences_in_order env (paths_of bs) fs apart in
+      record { from = steps_lawful (by_priority fs) [] all new (λ k c d. none_contained k c); loops = steps_loop (by_priority fs) [] all new; items = anew }
 
 -- ---- single arms
 
-equated_single : (bs : List Binding) (es : List (BindingId × BindingId)) (inner : Behind) → ((bound : List ℕ) → IsSingle (inner bound).1) → (bound : List ℕ) → IsSingle (all_equated bs es inner bound).1
-equated_single bs [] inner h bound = h bound
-equated_single bs (e ∷ es) inner h bound = (equated_single bs es inner h (bound_by bound (needs bs bound (e.0 ∷ e.1 ∷ []))), tt)
+module _ (several : Bool) (bs : List Binding) where
+  opened_single : (order : List BindingId) (c : Control) → IsSingle c → IsSingle (opened several bs order c).1
+  opened_single order c h = opened_holds IsSingle (λ b s k. (k, tt)) (λ b source s k. (k, tt)) several bs order c h
 
-matched_single : (bs : List Binding) (places : Shows) (cs : List (BindingId × Constraint)) (inner : Behind) → ((bound : List ℕ) → IsSingle (inner bound).1) → (bound : List ℕ) → IsSingle (all_matched bs places cs inner bound).1
-matched_single bs places [] inner h bound = h bound
-matched_single bs places (c ∷ cs) inner h bound = (matched_single bs places cs inner h (bound_within (bound_by bound (needs bs bound (c.0 ∷ []))) (places c.0 c.1)), tt)
+  equated_single : (es : List (BindingId × BindingId)) (inner : Behind) → ((bound : List ℕ) → IsSingle (inner bound).1) → (bound : List ℕ) → IsSingle (all_equated several bs es inner bound).1
+  equated_single [] inner h bound = h bound
+  equated_single (e ∷ es) inner h bound =
+      let ns = needs bs bound (e.0 ∷ e.1 ∷ []) in
+      opened_single ns (Equal e.0 e.1 (alone (all_equated several bs es inner (bound_by bound ns)))) (equated_single es inner h (bound_by bound ns), tt)
 
-steps_single : (bs : List Binding) (places : Shows) (inners : ℕ → Option BindingId) (fs : List FlatRule) → HasSingleArms (block_of (chain_steps bs places inners fs))
-steps_single bs places inners [] = tt
-steps_single bs places inners (f ∷ fs) =
-    (matched_single bs places f.constraints (all_equated bs f.equals (last_step bs inners f)) (equated_single bs f.equals (last_step bs inners f) (λ bound. tt)) [], one (no_tests f.constraints f.equals) (steps_single bs places inners fs))
-  where
-    one : (b : Bool) → HasSingleArms (block_of (chain_steps bs places inners fs)) → HasSingleArms (block_of (cond b [] (chain_steps bs places inners fs)))
-    one true h = tt
-    one false h = h
+  matched_single : (places : Shows) (cs : List (BindingId × Constraint)) (inner : Behind) → ((bound : List ℕ) → IsSingle (inner bound).1) → (bound : List ℕ) → IsSingle (all_matched several bs places cs inner bound).1
+  matched_single places [] inner h bound = h bound
+  matched_single places (c ∷ cs) inner h bound =
+      let ns = needs bs bound (c.0 ∷ []) in
+      let within = bound_within (bound_by bound ns) (places c.0 c.1) in
+      opened_single ns (Match c.0 (Arm c.1 (places c.0 c.1) (alone (all_matched several bs places cs inner within)) NoArm)) (matched_single places cs inner h within, tt)
 
--- each Match of a chain has one arm
-pub chain_single : (bs : List Binding) (places : Shows) (inners : ℕ → Option BindingId) (fs : List FlatRule) → HasSingleArms (chain bs places inners fs)
-chain_single bs places inners fs = steps_single bs places inners (by_priority fs)
+  one_single : (last : Bool) (steps : List SeenStep) → HasSingleArms (block_of steps) → HasSingleArms (block_of (cond last [] steps))
+  one_single true steps h = tt
+  one_single false steps h = h
+
+  steps_single : (places : Shows) (next items : ℕ → Option BindingId) (fs : List FlatRule) → HasSingleArms (block_of (chain_steps several bs places next items fs))
+  steps_single places next items [] = tt
+  steps_single places next items (f ∷ fs) = (
+    matched_single places f.constraints (all_equated several bs f.equals (last_step several bs next items f))
+        (equated_single f.equals (last_step several bs next items f) (λ bound. opened_single (last_binds several bs next items bound f) (Return f.pos f.result) tt)) [],
+    one_single (not several && no_tests f.constraints f.equals) (chain_steps several bs places next items fs) (steps_single places next items fs),
+  )
+
+  -- each Match of a chain has one arm
+  pub chain_single : (places : Shows) (next items : ℕ → Option BindingId) (fs : List FlatRule) → HasSingleArms (chain several bs places next items fs)
+  chain_single places next items fs = steps_single places next items (by_priority fs)

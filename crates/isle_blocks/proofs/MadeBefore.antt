@@ -8,23 +8,25 @@ use Rattle.isle_core.specs.declared.rule_sets.Binding.{Binding}
 use Rattle.isle_core.specs.declared.rule_sets.Binding.TheVariants as binding
 use Rattle.isle_core.specs.declared.rule_sets.Constraint.{Constraint}
 use Rattle.isle_core.specs.declared.rule_sets.Constraint.TheVariants as constraint
+use Rattle.isle_core.specs.declared.types.ReturnKind.{ReturnKind}
+use Rattle.isle_core.specs.declared.types.ReturnKind.TheVariants as return_kind
 use Rattle.isle_core.specs.declared.types.Term.{Term}
 use Rattle.isle_core.specs.ArmPlaces.{AreParts, ArePlacesOf, bound_within}
 use Rattle.isle_core.specs.Bindable.{bound_by}
 use Rattle.isle_core.specs.Occurrences.{occurrence_at}
-use Rattle.isle_core.specs.Path.{Path, Inner, VariantField, StructField, at, paths_of}
+use Rattle.isle_core.specs.Path.{Path, Inner, Chosen, VariantField, StructField, at, paths_of}
 use Rattle.isle_core.specs.Rule.{Environment}
 use Rattle.isle_core.specs.Setting.{setting}
 use Rattle.isle_core.specs.StandsFor.{EachOnce}
 use Rattle.isle_core.specs.Tests.{Test, Is}
-use Rattle.isle_core.proofs.BindingPaths.{IsThere, at_before, contains_at, place_once, inner_path}
+use Rattle.isle_core.proofs.BindingPaths.{IsThere, at_before, inner_path}
 use Rattle.isle_blocks.specs.declared.fields.Shown.{Shown}
 use Rattle.isle_blocks.specs.Fields.{FieldKey, inner_place, shows}
-use Rattle.isle_blocks.specs.Inners.{FindsInners}
+use Rattle.isle_blocks.specs.Followers.{FindsInners}
 use Rattle.isle_blocks.specs.Needed.{is_bound}
 use Rattle.isle_blocks.specs.Nest.{bound_with, was_bound}
-use Rattle.isle_blocks.proofs.Behind.{IsBehind, none_in, cons_cases, cons_later, cons_here, behind_none, behind_fewer, behind_grows}
-use Rattle.isle_blocks.proofs.InnerLaws.{HasInner, has_none, has_one}
+use Rattle.isle_blocks.proofs.Behind.{IsBehind, none_in, cons_later, cons_here, behind_none, behind_fewer, behind_grows, behind_next, adds_none, adds_one}
+use Rattle.isle_blocks.proofs.NextLaws.{HasNext, has_none, has_inner, has_item}
 use Rattle.isle_blocks.proofs.MoreBound.{Keeps, by_kept}
 use Rattle.isle_blocks.proofs.NeededBound.{contained}
 use Rattle.isle_blocks.proofs.NeededRuns.{IsStill, AreStill, path_uncalled}
@@ -138,45 +140,39 @@ both_true true b e = (refl, e)
 both_true false b e = cc
 
 -- the call is bound
-pub call_there : (inners : ℕ → Option BindingId) (bound : List ℕ) (c : BindingId) → was_bound inners bound c ≡ true → Contains bound c.0
-call_there inners bound c e = pick (inners c.0) e
+pub call_there : (next : ℕ → Option BindingId) (bound : List ℕ) (c : BindingId) → was_bound next bound c ≡ true → Contains bound c.0
+call_there next bound c e = pick (next c.0) e
   where
     pick : (o : Option BindingId) → bound_with bound c o ≡ true → Contains bound c.0
     pick None is = contained bound c.0 is
     pick (Some b) is = contained bound c.0 (both_true (is_bound bound c) (is_bound bound b) is).0
 
--- and its inner value
-inner_there : (inners : ℕ → Option BindingId) (bound : List ℕ) (c b : BindingId) → inners c.0 ≡ Some b → was_bound inners bound c ≡ true → Contains bound b.0
-inner_there inners bound c b has e = contained bound b.0 (both_true (is_bound bound c) (is_bound bound b) (sym (ap (bound_with bound c) has) ∙ e)).1
+-- and what stands behind it
+pub next_there : (next : ℕ → Option BindingId) (bound : List ℕ) (c b : BindingId) → next c.0 ≡ Some b → was_bound next bound c ≡ true → Contains bound b.0
+next_there next bound c b has e = contained bound b.0 (both_true (is_bound bound c) (is_bound bound b) (sym (ap (bound_with bound c) has) ∙ e)).1
 
 -- behind tests such a call was tested
-pub was_tested : (env : Environment) (bs : List Binding) (inners : ℕ → Option BindingId) → FindsInners bs inners → (tests : List Test) (bound : List ℕ) → BindsTested env (paths_of bs) tests bound → AreTested env bs inners tests bound
-was_tested env bs inners f tests bound h c e = record {
-  uncalled = h.uncalled c (call_there inners bound c e);
-  found = λ b has. let k = f.found c.0 b has in h.shown b (at (paths_of bs) c) (inner_there inners bound c b has e) (inner_path bs c b k.0 k.1);
+pub was_tested : (env : Environment) (bs : List Binding) (next : ℕ → Option BindingId) (tests : List Test) (bound : List ℕ) → BindsTested env (paths_of bs) tests bound → AreTested env bs next tests bound
+was_tested env bs next tests bound h c e = record {
+  uncalled = h.uncalled c (call_there next bound c e);
+  found = λ b has is. h.shown b (at (paths_of bs) c) (next_there next bound c b has e) is;
 }
 
 -- behind such a call
-pub behind_bound : (tests : List Test) (done : List Path) (bs : List Binding) (inners : ℕ → Option BindingId) (start bound : List ℕ) (c : BindingId) (partial : Bool) → EachOnce (paths_of bs) → IsThere (at (paths_of bs) c) → HasInner bs inners c partial
-    → was_bound inners start c ≡ true → Keeps start bound → IsBehind (paths_of bs) tests done bound → IsBehind (paths_of bs) tests (at (paths_of bs) c ∷ done) bound
-behind_bound tests done bs inners start bound c partial once there has e keeps h = record {
-  call = λ q k. ⊎_elim
-      (λ is. subst (Contains bound) (place_once ps c.0 q.0 once there is) (keeps c.0 (call_there inners start c e)))
-      (λ j. h.call q j)
-      (cons_cases (at ps c) (at ps q) done k);
-  inner = λ q p is k. ⊎_elim
-      (λ same. inside partial has q (is ∙ ap Inner (sym same)))
-      (λ j. h.inner q p is j)
-      (cons_cases (at ps c) p done k);
-  opened = h.opened;
-  variant = h.variant;
-  struct = h.struct;
-}
+pub behind_bound : (tests : List Test) (done : List Path) (bs : List Binding) (next : ℕ → Option BindingId) (start bound : List ℕ) (c : BindingId) (kind : ReturnKind) → EachOnce (paths_of bs) → IsThere (at (paths_of bs) c) → HasNext bs next c kind
+    → was_bound next start c ≡ true → Keeps start bound → IsBehind (paths_of bs) tests done bound → IsBehind (paths_of bs) tests (at (paths_of bs) c ∷ done) bound
+behind_bound tests done bs next start bound c kind once there has e keeps h = pick kind has
   where
     ps : List Path
     ps = paths_of bs
 
-    inside : (any : Bool) → HasInner bs inners c any → (q : BindingId) → at ps q ≡ Inner (at ps c) → Contains bound q.0
-    inside false (has_none none without) q is = absurd (without (contains_at ps q.0 (Inner (at ps c)) tt is))
-    inside true (has_one b one stands path) q is =
-        subst (Contains bound) (place_once ps b.0 q.0 once (subst IsThere (sym path) tt) (path ∙ sym is)) (keeps b.0 (inner_there inners start c b one e))
+    p : Path
+    p = at ps c
+
+    pick : (any : ReturnKind) → HasNext bs next c any → IsBehind ps tests (at ps c ∷ done) bound
+    pick return_kind.Plain (has_none none no_inner no_item) =
+        behind_next ps tests done bound bound c once there (λ n j. j) (keeps c.0 (call_there next start c e)) (adds_none ps c (Inner p) bound tt no_inner) (adds_none ps c (Chosen p) bound tt no_item) h
+    pick return_kind.Option (has_inner b one stands path no_item) =
+        behind_next ps tests done bound bound c once there (λ n j. j) (keeps c.0 (call_there next start c e)) (adds_one ps c b (Inner p) bound once tt path (keeps b.0 (next_there next start c b one e))) (adds_none ps c (Chosen p) bound tt no_item) h
+    pick return_kind.Iterator (has_item b one stands path no_inner) =
+        behind_next ps tests done bound bound c once there (λ n j. j) (keeps c.0 (call_there next start c e)) (adds_none ps c (Inner p) bound tt no_inner) (adds_one ps c b (Chosen p) bound once tt path (keeps b.0 (next_there next start c b one e))) h

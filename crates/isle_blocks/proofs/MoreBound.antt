@@ -117,7 +117,8 @@ mutual
   still_control : (c : Control) (rest : Block) (s : Setting) (bound more made : List ℕ) → Keeps bound more → IsLawfulControl s bound made c rest → IsLawfulControl s more made c rest
   still_control (Match source arms) rest s bound more made h k = (k.0, (k.1.0, still_read_in s bound more source k.1.0 h k.1.1, still_arms arms s source k.1.0 bound more made h k.1.2))
   still_control (Equal a b body) rest s bound more made h k = ((k.0.0, still_read_as s bound more a k.0.0 h k.0.1, still_read_as s bound more b k.0.0 h k.0.2), still_lawful body s bound more made h k.1)
-  still_control (Loop result body) rest s bound more made h k = k
+  still_control (Loop result body) rest s bound more made h k =
+      (k.0, record { source = k.1.source; is = k.1.is; tys = k.1.tys; list = k.1.list; bound' = h k.1.source.0 k.1.bound' }, still_lawful body s (bound ++ result.0 ∷ []) (more ++ result.0 ∷ []) made (keeps_push bound more result.0 h) k.2)
   still_control (Return pos result) rest s bound more made h k = (still_read_as s bound more result s.term.ret_ty h k.0, k.1)
 
   still_arms : (arms : Arms) (s : Setting) (source : BindingId) (over : Source) (bound more made : List ℕ) → Keeps bound more → AreLawfulArms s bound made source over arms → AreLawfulArms s more made source over arms

@@ -10,7 +10,7 @@ use Rattle.isle_core.specs.BlockRun.{bind_one, bind_all, check_inner}
 use Rattle.isle_core.specs.CallRun.{Went, Goes, Ends, then_go, make_call}
 use Rattle.isle_core.specs.Meaning.{Meaning}
 use Rattle.isle_core.specs.Occurrences.{occurrence, occurrence_at, occurrences}
-use Rattle.isle_core.specs.Path.{Path, Called, Extracted, MadeVariant, MadeStruct, Part, Paths, at}
+use Rattle.isle_core.specs.Path.{Path, Called, Extracted, Chosen, MadeVariant, MadeStruct, Part, Paths, at}
 use Rattle.isle_core.specs.Rule.{Environment}
 use Rattle.isle_core.specs.Value.{Value, Made}
 use Rattle.isle_core.specs.ValueAt.{Known, values_at}
@@ -23,11 +23,12 @@ IsPure (ByCases callee kind) = Unit {0}
 IsPure (ByTurns callee kind) = ⊥
 IsPure NoCall = ⊥
 
--- a pure call, also of an extractor, a part of a tuple, or a made value
+-- a pure call, also of an extractor, a part of a tuple, an item of a list, or a made value
 abbrev pub IsStill : Environment → Path → Type 0
 IsStill env (Called term ps instance) = IsPure (calling env term)
 IsStill env (Extracted term p) = Unit {0}
 IsStill env (Part part p) = Unit {0}
+IsStill env (Chosen p) = Unit {0}
 IsStill env (MadeVariant ty variant ps) = Unit {0}
 IsStill env (MadeStruct ty ps) = Unit {0}
 IsStill env p = ⊥
@@ -53,10 +54,11 @@ pure_made env m args term ps instance (ByCases callee kind) known made e h = ap 
 pure_made env m args term ps instance (ByTurns callee kind) known made e h = absurd h
 pure_made env m args term ps instance NoCall known made e h = absurd h
 
-path_still : (env : Environment) (m : Meaning) (args : List Value) (p : Path) (known : Known) (made : List Made) → IsStill env p → bind_one env m args p known made ≡ Goes known made
+pub path_still : (env : Environment) (m : Meaning) (args : List Value) (p : Path) (known : Known) (made : List Made) → IsStill env p → bind_one env m args p known made ≡ Goes known made
 path_still env m args (Called term ps instance) known made h = pure_made env m args term ps instance (calling env term) known made refl h
 path_still env m args (Extracted term p) known made h = refl
 path_still env m args (Part part p) known made h = refl
+path_still env m args (Chosen p) known made h = refl
 path_still env m args (MadeVariant ty variant ps) known made h = refl
 path_still env m args (MadeStruct ty ps) known made h = refl
 path_still env m args p known made h = absurd h
@@ -109,6 +111,7 @@ pub path_uncalled : (env : Environment) (p : Path) → IsStill env p → occurre
 path_uncalled env (Called term ps instance) h = pure_uncalled (calling env term) instance h
 path_uncalled env (Extracted term p) h = refl
 path_uncalled env (Part part p) h = refl
+path_uncalled env (Chosen p) h = refl
 path_uncalled env (MadeVariant ty variant ps) h = refl
 path_uncalled env (MadeStruct ty ps) h = refl
 path_uncalled env p h = absurd h

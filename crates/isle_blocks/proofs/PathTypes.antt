@@ -5,8 +5,8 @@ use Rattle.isle_core.specs.declared.TypeId.{TypeId}
 use Rattle.isle_core.specs.declared.types.Term.{Term}
 use Rattle.isle_core.specs.Form.{Form, form, form_types}
 use Rattle.isle_core.specs.Making.{MakesVariant, MakesStruct}
-use Rattle.isle_core.specs.Path.{Path, Arg, ConstBool, ConstInt, ConstPrim, Extracted, Called, MadeVariant, MadeStruct, VariantField, StructField, Inner, Part, Paths}
-use Rattle.isle_core.specs.PathType.{IsPathOf, IsTupleOf, IsOptionOf, ArePathsOf}
+use Rattle.isle_core.specs.Path.{Path, Arg, ConstBool, ConstInt, ConstPrim, Extracted, Called, Chosen, MadeVariant, MadeStruct, VariantField, StructField, Inner, Part, Paths}
+use Rattle.isle_core.specs.PathType.{IsPathOf, IsTupleOf, IsOptionOf, IsListOf, ArePathsOf}
 use Rattle.isle_core.specs.Rule.{Environment}
 use Rattle.isle_blocks.proofs.PushedLists.{some_same}
 
@@ -33,9 +33,15 @@ option_once env t (Called term ps instance) a b h k = option_answer_once env t p
 option_once env t (Extracted term q) a b h k = extracted_once env t q (slice_get env.terms term.0) a b h.1 k.1
 option_once env t p a b h k = absurd h
 
+list_once : (env : Environment) (t : Term) (p : Path) (a b : List TypeId) → IsListOf env t p a → IsListOf env t p b → a ≡ b
+list_once env t (Called term ps instance) a b h k = option_answer_once env t ps (slice_get env.terms term.0) a b h.1 k.1
+list_once env t (Extracted term q) a b h k = extracted_once env t q (slice_get env.terms term.0) a b h.1 k.1
+list_once env t p a b h k = absurd h
+
 tuple_once : (env : Environment) (t : Term) (p : Path) (a b : List TypeId) → IsTupleOf env t p a → IsTupleOf env t p b → a ≡ b
 tuple_once env t (Extracted term q) a b h k = extracted_once env t q (slice_get env.terms term.0) a b h.2 k.2
 tuple_once env t (Inner q) a b h k = option_once env t q a b h.1 k.1
+tuple_once env t (Chosen q) a b h k = list_once env t q a b h.1 k.1
 tuple_once env t p a b h k = absurd h
 
 -- a field of a form is of one type
@@ -51,6 +57,7 @@ path_type_once env t (ConstPrim name) a b h k = some_same a b (sym h ∙ k)
 path_type_once env t (Called term ps instance) a b h k = answer_once env t ps (slice_get env.terms term.0) a b h.1 k.1
 path_type_once env t (Extracted term q) a b h k = only_same a b (extracted_once env t q (slice_get env.terms term.0) (a ∷ []) (b ∷ []) h.1 k.1)
 path_type_once env t (Inner q) a b h k = only_same a b (option_once env t q (a ∷ []) (b ∷ []) h k)
+path_type_once env t (Chosen q) a b h k = only_same a b (list_once env t q (a ∷ []) (b ∷ []) h k)
 path_type_once env t (Part part q) a b h k = some_same a b (sym h.2 ∙ ap (λ tys. slice_get tys part) (tuple_once env t q h.0 k.0 h.1 k.1) ∙ k.2)
 path_type_once env t (MadeVariant of variant ps) a b h k = sym h.0 ∙ k.0
 path_type_once env t (MadeStruct of ps) a b h k = sym h.0 ∙ k.0

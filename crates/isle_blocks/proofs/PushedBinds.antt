@@ -5,8 +5,8 @@ use Rattle.std.proofs.lemmas.List.{drop_more, append-nil}
 use Rattle.isle_core.specs.declared.BindingId.{BindingId}
 use Rattle.isle_core.specs.declared.rule_sets.Binding.{Binding}
 use Rattle.isle_core.specs.Bindable.{bound_by}
-use Rattle.isle_blocks.specs.Needed.{parts_of, is_bound, each_needed, with_parts, needed}
-use Rattle.isle_blocks.specs.Nest.{was_bound, left_one, left_calls}
+use Rattle.isle_blocks.specs.Needed.{parts_of, list_before, with_list, is_bound, each_needed, with_parts, unbound, needed}
+use Rattle.isle_blocks.specs.Nest.{was_bound, left_one, left_calls, left_item, items_left}
 use Rattle.isle_blocks.specs.Pushed.{Pushes}
 
 pub bound_append : (bound : List ℕ) (xs ys : List BindingId) → bound_by bound (xs ++ ys) ≡ bound_by (bound_by bound xs) ys
@@ -39,15 +39,15 @@ so_named {old = old} {new = new} {before = before} {after = after} is p = subst 
 -- ---- what is needed for one
 
 -- its parts, and then it itself
-pub needed_parts : (bs : List Binding) (depth less : ℕ) (bound : List ℕ) (b : BindingId) (parts : List BindingId) → depth ≡ suc less → is_bound bound b ≡ false → Some parts ≡ parts_of (slice_get bs b.0)
-    → each_needed (needed bs less) bound parts ++ b ∷ [] ≡ needed bs depth bound b
+pub needed_parts : (bs : List Binding) (depth less : ℕ) (bound : List ℕ) (b : BindingId) (parts : List BindingId) → depth ≡ suc less → is_bound bound b ≡ false → Some parts ≡ parts_of bs (slice_get bs b.0)
+    → each_needed (needed bs less) bound parts ++ with_list (list_before (slice_get bs b.0)) b ≡ needed bs depth bound b
 needed_parts bs depth less bound b parts is free has =
-    ap (with_parts (needed bs less) bound b) has ∙ ap (λ c. cond c [] (with_parts (needed bs less) bound b (parts_of (slice_get bs b.0)))) (sym free) ∙ ap (λ d. needed bs d bound b) (sym is)
+    ap (with_parts (needed bs less) bound (with_list (list_before (slice_get bs b.0)) b)) has ∙ ap (λ c. cond c [] (unbound bs (needed bs less) bound b (slice_get bs b.0))) (sym free) ∙ ap (λ d. needed bs d bound b) (sym is)
 
 -- nothing, where it is bound
 pub needed_none : (bs : List Binding) (depth : ℕ) (bound : List ℕ) (b : BindingId) → is_bound bound b ≡ true → needed bs depth bound b ≡ []
 needed_none bs zero bound b is = refl
-needed_none bs (suc depth) bound b is = ap (λ c. cond c [] (with_parts (needed bs depth) bound b (parts_of (slice_get bs b.0)))) is
+needed_none bs (suc depth) bound b is = ap (λ c. cond c [] (unbound bs (needed bs depth) bound b (slice_get bs b.0))) is
 
 -- ---- loops: what is left to be put, behind what was
 
@@ -79,3 +79,12 @@ left_step inners bound calls i call d out new all lt item is h =
     let rest = each (drop (i + 1) calls) in
     let first : each (drop i calls) ≡ left_one (was_bound inners bound call) call ++ rest = ap each (drop_more calls i d lt) ∙ ap (λ x. each (x ∷ drop (i + 1) calls)) (sym item) in
     ap (λ x. x ++ rest) is ∙ append_assoc out (left_one (was_bound inners bound call) call) rest ∙ ap (λ x. out ++ x) (sym first) ∙ h
+
+-- one list more
+pub item_step : (items : ℕ → Option BindingId) (called : List ℕ) (lists : List BindingId) (i : ℕ) (list d : BindingId) (out new all : List BindingId) → i < length lists → list ≡ get_or lists i d → new ≡ out ++ left_item (is_bound called list) (items list.0)
+    → out ++ items_left items called (drop i lists) ≡ all → new ++ items_left items called (drop (i + 1) lists) ≡ all
+item_step items called lists i list d out new all lt item is h =
+    let each = items_left items called in
+    let rest = each (drop (i + 1) lists) in
+    let first : each (drop i lists) ≡ left_item (is_bound called list) (items list.0) ++ rest = ap each (drop_more lists i d lt) ∙ ap (λ x. each (x ∷ drop (i + 1) lists)) (sym item) in
+    ap (λ x. x ++ rest) is ∙ append_assoc out (left_item (is_bound called list) (items list.0)) rest ∙ ap (λ x. out ++ x) (sym first) ∙ h

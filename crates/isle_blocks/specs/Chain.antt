@@ -1,5 +1,5 @@
 -- The steps of rules, one for each.
-use Rattle.std.specs.Prelude.{ℕ, List, [], ◌∷◌, Bool, true, false, Option, if◌then◌else◌}
+use Rattle.std.specs.Prelude.{ℕ, List, [], ◌∷◌, Bool, true, false, not, ◌&&◌, Option, if◌then◌else◌}
 use Rattle.isle_core.specs.declared.BindingId.{BindingId}
 use Rattle.isle_core.specs.declared.rule_sets.Binding.{Binding}
 use Rattle.isle_core.specs.declared.rule_sets.Constraint.{Constraint}
@@ -15,11 +15,12 @@ no_tests [] [] = true
 no_tests [] (e ∷ es) = false
 no_tests (c ∷ cs) es = false
 
--- the steps of rules in order, up to the first rule without tests: nothing behind it is reached
-abbrev pub chain_steps : List Binding → Shows → (ℕ → Option BindingId) → List FlatRule → List SeenStep
-chain_steps bs shows inners [] = []
-chain_steps bs shows inners (f ∷ fs) = rule_step bs shows inners f ∷ (if no_tests f.constraints f.equals then [] else chain_steps bs shows inners fs)
+-- the steps of rules in order; of a term that answers once, up to the first rule without tests: nothing behind it is reached
+abbrev pub chain_steps : (several : Bool) → List Binding → Shows → (next items : ℕ → Option BindingId) → List FlatRule → List SeenStep
+chain_steps several bs shows next items [] = []
+chain_steps several bs shows next items (f ∷ fs) =
+    rule_step several bs shows next items f ∷ (if not several && no_tests f.constraints f.equals then [] else chain_steps several bs shows next items fs)
 
 -- the block of the rules of a set
-abbrev pub chain : List Binding → Shows → (ℕ → Option BindingId) → List FlatRule → Block
-chain bs shows inners fs = block_of (chain_steps bs shows inners (by_priority fs))
+abbrev pub chain : (several : Bool) → List Binding → Shows → (next items : ℕ → Option BindingId) → List FlatRule → Block
+chain several bs shows next items fs = block_of (chain_steps several bs shows next items (by_priority fs))

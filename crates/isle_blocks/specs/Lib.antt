@@ -1,8 +1,10 @@
 pub mod Order
-pub mod Inners
+pub mod Followers
 pub mod Fields
 pub mod Pushed
 pub mod Needed
 pub mod Nest
 pub mod Tables
 pub mod Chain
+pub mod CallsOnce
+pub mod Several

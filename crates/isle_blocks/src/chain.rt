@@ -1,8 +1,10 @@
-ghost use Rattle.std.specs.Prelude.{◌≡◌, IfOk, [], false, map, List as ListOf};
+ghost use Rattle.std.specs.Prelude.{◌≡◌, IfOk, [], true, false, map, List as ListOf};
+ghost use Rattle.std.specs.List.{AllByRecursion};
 ghost use Rattle.isle_core.specs.declared.types.ReturnKind.{ReturnKind};
 ghost use Rattle.isle_core.specs.declared.types.Term.{Term};
 ghost use Rattle.isle_core.specs.Value.{Value};
 ghost use Rattle.isle_core.specs.Meaning.{Meaning};
+ghost use Rattle.isle_core.specs.Calling.{is_several, kind_of};
 ghost use Rattle.isle_core.specs.Rule.{Environment};
 ghost use Rattle.isle_core.specs.Path.{paths_of};
 ghost use Rattle.isle_core.specs.ValueAt.{nothing_known};
@@ -15,11 +17,13 @@ ghost use Rattle.isle_core.specs.BlockLawful.{IsLawfulBlock};
 ghost use Rattle.isle_core.specs.Serializable.{IsSerializable};
 ghost use Rattle.isle_core.specs.Setting.{setting};
 ghost use Rattle.isle_core.specs.SingleArms.{HasSingleArms};
-ghost use Rattle.isle_blocks.specs.Tables.{shows_in, inners_in};
+ghost use Rattle.isle_blocks.specs.Tables.{shows_in, items_in, next_in};
+ghost use Rattle.isle_blocks.specs.CallsOnce.{HasCallsOnce};
 ghost use Rattle.isle_blocks.specs.Chain as Chain;
+ghost use Rattle.isle_blocks.specs.Several.{HasItsLists, AddsSeveral};
 
 use crate::fields::fields_of;
-use crate::inners::inner_values;
+use crate::followers::{Following, followers_of};
 use crate::nest::rule_step;
 use crate::order::in_order;
 use crate::tables::Tables;
@@ -33,18 +37,18 @@ fn is_untested(rule: &FlatRule) -> bool
     rule.constraints.as_slice().is_empty() && rule.equals.as_slice().is_empty()
 }
 
-// The steps of rules in order, up to the first one without tests.
+// The steps of rules in order, of a term that answers once up to the first one without tests.
 fn chain_steps(
     alloc: Global,
     tables: &Tables<'_>,
     rules: &[&FlatRule],
 ) -> Result<Vec<EvalStep>, AllocError>
-    ensures { IfOk result (λ steps. map BlockViews.step steps.items ≡ Chain.chain_steps tables.now.bindings.now (shows_in tables.now) (inners_in tables.now) (map (λ f. f.now) rules.now)) }
+    ensures { IfOk result (λ steps. map BlockViews.step steps.items ≡ Chain.chain_steps tables.now.several tables.now.bindings.now (shows_in tables.now) (next_in tables.now) (items_in tables.now) (map (λ f. f.now) rules.now)) }
 {
     let mut steps = Vec::new(alloc);
     for rule in rules {
         steps.push(rule_step(alloc, tables, rule)?)?;
-        if is_untested(rule) {
+        if !tables.several && is_untested(rule) {
             return Ok(steps);
         }
     }
@@ -54,7 +58,7 @@ fn chain_steps(
 // The steps of the rules, highest priority first.
 #[tactic(auto, using(isle_core::proofs::SeesBlocks::sees_blocks))]
 fn chained(alloc: Global, tables: &Tables<'_>, rules: &[FlatRule]) -> Result<Block, AllocError>
-    ensures { IfOk result (λ b. BlockViews.block b ≡ Chain.chain tables.now.bindings.now (shows_in tables.now) (inners_in tables.now) rules.now) }
+    ensures { IfOk result (λ b. BlockViews.block b ≡ Chain.chain tables.now.several tables.now.bindings.now (shows_in tables.now) (next_in tables.now) (items_in tables.now) rules.now) }
 {
     let order = in_order(alloc, rules)?;
     let steps = chain_steps(alloc, tables, order.as_slice())?;
@@ -63,25 +67,29 @@ fn chained(alloc: Global, tables: &Tables<'_>, rules: &[FlatRule]) -> Result<Blo
     })
 }
 
-/// Makes the block of a rule set: a step for each rule, tried from the highest priority down, and equal ones in their
-/// order. A rule's calls are made behind its tests, in order (`isle_core/specs/BlockRun.antt`). `iterator` says whether the
-/// term is `multi`; of such terms no block is built. The only error is want of memory.
+/// Makes the block of a rule set: a step for each rule, from the highest priority down, and equal ones in their order. Where the
+/// term isn't `multi`, rules are tried in turn until one holds (`isle_core/specs/BlockRun.antt`); `iterator` says that it is, and then each rule
+/// adds its results, its lists being gone through in loops of its own (`isle_core/specs/SeveralRun.antt`). A rule's calls are made behind its
+/// tests, in order. The only error is want of memory.
 pub fn serialize(alloc: Global, rules: &RuleSet, iterator: bool) -> Result<Block, OutOfMemory>
-    requires { iterator ≡ false }
-    ensures means { IfOk result (λ b. (env : Environment) (m : Meaning) (t : Term) (args : ListOf Value) (kind : ReturnKind) → IsSerializable env t rules.now →
+    ensures means { IfOk result (λ b. (env : Environment) (m : Meaning) (t : Term) (args : ListOf Value) (kind : ReturnKind) → IsSerializable env t rules.now → is_several (kind_of t.kind) ≡ iterator → is_several (kind_of t.kind) ≡ false →
         block_outcome env m args (paths_of rules.now.bindings) (BlockViews.block b) kind ≡ set_outcome env m args (paths_of rules.now.bindings) rules.now.rules kind) }
-    ensures positions { IfOk result (λ b. (env : Environment) (m : Meaning) (t : Term) (args : ListOf Value) → IsSerializable env t rules.now →
+    ensures positions { IfOk result (λ b. (env : Environment) (m : Meaning) (t : Term) (args : ListOf Value) → IsSerializable env t rules.now → is_several (kind_of t.kind) ≡ iterator → is_several (kind_of t.kind) ≡ false →
         block_position env m args (paths_of rules.now.bindings) (BlockViews.block b) nothing_known [] ≡ set_position env m args (paths_of rules.now.bindings) rules.now.rules) }
     ensures returns { IfOk result (λ b. ArePositionsOf rules.now.rules (return_positions (BlockViews.block b))) }
-    ensures lawful { IfOk result (λ b. (env : Environment) (t : Term) → IsSerializable env t rules.now → IsLawfulBlock (setting env t rules.now.bindings) (BlockViews.block b)) }
+    ensures lawful { IfOk result (λ b. (env : Environment) (t : Term) → IsSerializable env t rules.now → (is_several (kind_of t.kind) ≡ true → AllByRecursion (HasCallsOnce env (paths_of rules.now.bindings)) rules.now.rules) → is_several (kind_of t.kind) ≡ iterator → IsLawfulBlock (setting env t rules.now.bindings) (BlockViews.block b)) }
+    ensures several { IfOk result (λ b. (env : Environment) (t : Term) → IsSerializable env t rules.now → is_several (kind_of t.kind) ≡ iterator → is_several (kind_of t.kind) ≡ true → AllByRecursion (HasItsLists env (paths_of rules.now.bindings)) rules.now.rules → AddsSeveral env rules.now (BlockViews.block b)) }
     ensures single { IfOk result (λ b. HasSingleArms (BlockViews.block b)) }
 {
     let fields = fields_of(alloc, rules.bindings.as_slice())?;
-    let inners = inner_values(alloc, rules.bindings.as_slice())?;
+    let inners = followers_of(alloc, rules.bindings.as_slice(), Following::Inner)?;
+    let items = followers_of(alloc, rules.bindings.as_slice(), Following::Item)?;
     let tables = Tables {
+        several: iterator,
         bindings: rules.bindings.as_slice(),
         fields: &fields,
         inners: &inners,
+        items: &items,
     };
     Ok(chained(alloc, &tables, rules.rules.as_slice())?)
 }

@@ -3,10 +3,12 @@
 
 mod chain;
 mod fields;
-mod inners;
+mod followers;
 mod needed;
 mod nest;
+mod openings;
 mod order;
+mod steps;
 mod tables;
 
 pub use chain::serialize;

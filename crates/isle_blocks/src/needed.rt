@@ -1,12 +1,14 @@
-//! What is bound before bindings are read: calls that aren't bound yet, also of extractors, parts of their answers, and the made
-//! values on the way to them.
+//! What is bound before bindings are read: calls that aren't bound yet, also of extractors, parts of their answers, items of lists, and
+//! the made values on the way to them.
 
-ghost use Rattle.std.specs.Prelude.{◌≡◌, OnOk, [], ◌∷◌, Some as Is, option_map, slice_get};
+ghost use Rattle.std.specs.Prelude.{◌≡◌, OnOk, [], ◌∷◌, Some as Is, List as ListOf, option_map, slice_get};
 ghost use Rattle.isle_core.specs.declared.TypeId.{TypeId as TypeIdOf};
+ghost use Rattle.isle_core.specs.declared.rule_sets.Binding.{Binding as BindingOf};
 ghost use Rattle.isle_core.specs.declared.rule_sets.Binding.TheVariants.{MakeStruct};
 ghost use Rattle.isle_blocks.specs.Needed as Needed;
 ghost use Rattle.isle_blocks.specs.Pushed.{Pushes};
 
+use crate::followers::item_source;
 use isle_core::{Binding, BindingId};
 use isle_scope::Scope;
 use std::alloc::AllocError;
@@ -27,7 +29,7 @@ pub fn push_one(
 
 // Returns the parts of a struct, where it has any.
 fn some_parts<'a>(fields: &'a [BindingId]) -> Option<&'a [BindingId]>
-    ensures { (ty : TypeIdOf) → option_map (λ parts. parts.now) result ≡ Needed.parts_of (Is (MakeStruct ty fields.now)) }
+    ensures { (bs : ListOf BindingOf) (ty : TypeIdOf) → option_map (λ parts. parts.now) result ≡ Needed.parts_of bs (Is (MakeStruct ty fields.now)) }
 {
     if fields.is_empty() {
         None
@@ -36,13 +38,45 @@ fn some_parts<'a>(fields: &'a [BindingId]) -> Option<&'a [BindingId]>
     }
 }
 
-// Returns what a binding is made over that is bound where it is first read.
-fn parts_of<'a>(binding: &'a Binding) -> Option<&'a [BindingId]>
-    ensures { option_map (λ parts. parts.now) result ≡ Needed.parts_of (Is binding.now) }
+// Returns what a list is made over: its call's arguments, or what an extractor takes apart.
+fn list_parts<'a>(binding: &'a Binding) -> Option<&'a [BindingId]>
+    ensures { option_map (λ parts. parts.now) result ≡ Needed.list_parts (Is binding.now) }
 {
     match binding {
         Binding::Constructor { parameters, .. } => Some(parameters.as_slice()),
         Binding::Extractor { parameter, .. } => Some(slice::from_ref(parameter)),
+        Binding::ConstBool { .. }
+        | Binding::ConstInt { .. }
+        | Binding::ConstPrim { .. }
+        | Binding::Argument { .. }
+        | Binding::Iterator { .. }
+        | Binding::MakeVariant { .. }
+        | Binding::MakeStruct { .. }
+        | Binding::MatchVariant { .. }
+        | Binding::ExtractStruct { .. }
+        | Binding::MakeSome { .. }
+        | Binding::MatchSome { .. }
+        | Binding::MatchTuple { .. } => None,
+    }
+}
+
+// Returns that of the list of this number.
+fn list_parts_at<'a>(bindings: &'a [Binding], list: BindingId) -> Option<&'a [BindingId]>
+    ensures { option_map (λ parts. parts.now) result ≡ Needed.list_parts (slice_get bindings.now list.0) }
+{
+    match bindings.get(list.index()) {
+        Some(of) => list_parts(of),
+        None => None,
+    }
+}
+
+// Returns what a binding is made over that is bound where it is first read.
+fn parts_of<'a>(bindings: &'a [Binding], binding: &'a Binding) -> Option<&'a [BindingId]>
+    ensures { option_map (λ parts. parts.now) result ≡ Needed.parts_of bindings.now (Is binding.now) }
+{
+    match binding {
+        Binding::Constructor { .. } | Binding::Extractor { .. } => list_parts(binding),
+        Binding::Iterator { source } => list_parts_at(bindings, *source),
         Binding::MatchTuple { source, .. } => Some(slice::from_ref(source)),
         Binding::MakeVariant { fields, .. } => Some(fields.as_slice()),
         Binding::MakeStruct { fields, .. } => some_parts(fields.as_slice()),
@@ -50,7 +84,6 @@ fn parts_of<'a>(binding: &'a Binding) -> Option<&'a [BindingId]>
         | Binding::ConstInt { .. }
         | Binding::ConstPrim { .. }
         | Binding::Argument { .. }
-        | Binding::Iterator { .. }
         | Binding::MatchVariant { .. }
         | Binding::ExtractStruct { .. }
         | Binding::MakeSome { .. }
@@ -60,12 +93,37 @@ fn parts_of<'a>(binding: &'a Binding) -> Option<&'a [BindingId]>
 
 // Returns that of the binding of this number.
 fn parts_at<'a>(bindings: &'a [Binding], binding: BindingId) -> Option<&'a [BindingId]>
-    ensures { option_map (λ parts. parts.now) result ≡ Needed.parts_of (slice_get bindings.now binding.0) }
+    ensures { option_map (λ parts. parts.now) result ≡ Needed.parts_of bindings.now (slice_get bindings.now binding.0) }
 {
     match bindings.get(binding.index()) {
-        Some(of) => parts_of(of),
+        Some(of) => parts_of(bindings, of),
         None => None,
     }
+}
+
+/// Returns the list of the item of this number.
+pub fn list_at(bindings: &[Binding], binding: BindingId) -> Option<BindingId>
+    ensures { result ≡ Needed.list_before (slice_get bindings.now binding.0) }
+{
+    match bindings.get(binding.index()) {
+        Some(of) => item_source(of),
+        None => None,
+    }
+}
+
+// Binds a binding, an item behind its list.
+fn push_itself(
+    bindings: &[Binding],
+    bound: &mut Scope,
+    binding: BindingId,
+    order: &mut Vec<BindingId>,
+) -> Result<(), AllocError>
+    ensures { OnOk result (Pushes (Needed.with_list (Needed.list_before (slice_get bindings.now binding.0)) binding) bound.old bound.new order.old.items order.new.items) }
+{
+    if let Some(list) = list_at(bindings, binding) {
+        push_one(bound, list, order)?;
+    }
+    push_one(bound, binding, order)
 }
 
 /// Whether a binding is among those that are bound.
@@ -96,7 +154,7 @@ fn push_needed(
         return Ok(());
     };
     push_each(bindings, bound, depth - 1, parts, order)?;
-    push_one(bound, binding, order)?;
+    push_itself(bindings, bound, binding, order)?;
     Ok(())
 }
 

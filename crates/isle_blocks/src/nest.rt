@@ -1,88 +1,29 @@
 ghost use Rattle.std.specs.Prelude.{◌≡◌, IfOk, OnOk, [], ◌∷◌, ◌++◌};
 ghost use Rattle.isle_core.specs.ArmPlaces.{bound_within};
-ghost use Rattle.isle_core.specs.Block as Blocks;
+ghost use Rattle.isle_core.specs.Bindable.{bound_by};
 ghost use Rattle.isle_core.specs.BlockViews as BlockViews;
+ghost use Rattle.isle_blocks.specs.Needed.{is_bound as is_bound_in};
 ghost use Rattle.isle_blocks.specs.Nest as Nest;
 ghost use Rattle.isle_blocks.specs.Pushed.{Pushes};
-ghost use Rattle.isle_blocks.specs.Tables.{shows_in, inners_in};
+ghost use Rattle.isle_blocks.specs.Tables.{shows_in, items_in, next_in};
 
 use crate::needed::{is_bound, parameters_at, push_needs, push_one};
+use crate::openings::opened;
+use crate::steps::{equated, matched, returned};
 use crate::tables::Tables;
-use isle_core::{
-    BindingId, Block, Constraint, ControlFlow, EvalStep, FlatRule, List, MatchArm, Pos,
-};
+use isle_core::{BindingId, Constraint, EvalStep, FlatRule};
 use isle_scope::Scope;
 use std::alloc::{AllocError, Global};
 use std::slice;
 
-// A step.
-#[tactic(auto, using(isle_core::proofs::SeesBlocks::sees_blocks))]
-fn step_of(order: Vec<BindingId>, check: ControlFlow) -> EvalStep
-    ensures { BlockViews.step result ≡ (order.items, BlockViews.control check) }
-{
-    EvalStep {
-        bind_order: List::new(order),
-        check,
-    }
-}
-
-// A block of one step.
-#[tactic(auto, using(isle_core::proofs::SeesBlocks::sees_blocks))]
-fn alone(alloc: Global, step: EvalStep) -> Result<Block, AllocError>
-    ensures { IfOk result (λ b. BlockViews.block b ≡ Nest.alone (BlockViews.step step)) }
-{
-    let steps = vec![in alloc; step]?;
-    Ok(Block {
-        steps: List::new(steps),
-    })
-}
-
-// A match of one arm, whose places are bound round what follows it.
-#[tactic(auto, using(isle_core::proofs::SeesBlocks::sees_blocks))]
-fn matched(
-    alloc: Global,
-    source: BindingId,
-    constraint: Constraint,
-    places: Vec<Option<BindingId>>,
-    inner: EvalStep,
-) -> Result<ControlFlow, AllocError>
-    ensures { IfOk result (λ c. BlockViews.control c ≡ Blocks.Match source (Blocks.Arm constraint places.items (Nest.alone (BlockViews.step inner)) Blocks.NoArm)) }
-{
-    let body = alone(alloc, inner)?;
-    let arm = MatchArm {
-        constraint,
-        bindings: List::new(places),
-        body,
-    };
-    let arms = vec![in alloc; arm]?;
-    Ok(ControlFlow::Match {
-        source,
-        arms: List::new(arms),
-    })
-}
-
-// An equality round what follows it.
-#[tactic(auto, using(isle_core::proofs::SeesBlocks::sees_blocks))]
-fn equated(
-    alloc: Global,
-    a: BindingId,
-    b: BindingId,
-    inner: EvalStep,
-) -> Result<ControlFlow, AllocError>
-    ensures { IfOk result (λ c. BlockViews.control c ≡ Blocks.Equal a b (Nest.alone (BlockViews.step inner))) }
-{
-    let body = alone(alloc, inner)?;
-    Ok(ControlFlow::Equal { a, b, body })
-}
-
-// Binds a call behind what it is made on, and its inner value where it has one.
+// Binds a call behind what it is made on, and what stands behind it.
 fn push_call(
     tables: &Tables<'_>,
     bound: &mut Scope,
     call: BindingId,
     order: &mut Vec<BindingId>,
 ) -> Result<(), AllocError>
-    ensures { OnOk result (Pushes (Nest.call_binds tables.now.bindings.now (inners_in tables.now) bound.old call) bound.old bound.new order.old.items order.new.items) }
+    ensures { OnOk result (Pushes (Nest.call_binds tables.now.bindings.now (next_in tables.now) bound.old call) bound.old bound.new order.old.items order.new.items) }
 {
     push_needs(
         tables.bindings,
@@ -91,8 +32,8 @@ fn push_call(
         order,
     )?;
     push_one(bound, call, order)?;
-    if let Some(inner) = tables.inners.get(&call.index()) {
-        push_one(bound, *inner, order)?;
+    if let Some(next) = tables.next(call) {
+        push_one(bound, next, order)?;
     }
     Ok(())
 }
@@ -104,7 +45,7 @@ fn push_calls(
     calls: &[BindingId],
     order: &mut Vec<BindingId>,
 ) -> Result<(), AllocError>
-    ensures { OnOk result (Pushes (Nest.binds tables.now.bindings.now (inners_in tables.now) bound.old calls.now) bound.old bound.new order.old.items order.new.items) }
+    ensures { OnOk result (Pushes (Nest.binds tables.now.bindings.now (next_in tables.now) bound.old calls.now) bound.old bound.new order.old.items order.new.items) }
 {
     for call in calls {
         push_call(tables, bound, *call, order)?;
@@ -112,13 +53,13 @@ fn push_calls(
     Ok(())
 }
 
-// Whether a call is bound, and its inner value where it has one.
+// Whether a call is bound, and what stands behind it.
 fn was_bound(tables: &Tables<'_>, bound: &Scope, call: BindingId) -> bool
-    ensures { result ≡ Nest.was_bound (inners_in tables.now) bound.now call }
+    ensures { result ≡ Nest.was_bound (next_in tables.now) bound.now call }
 {
-    match tables.inners.get(&call.index()) {
+    match tables.next(call) {
         None => is_bound(bound, call),
-        Some(inner) => is_bound(bound, call) && is_bound(bound, *inner),
+        Some(next) => is_bound(bound, call) && is_bound(bound, next),
     }
 }
 
@@ -129,7 +70,7 @@ fn push_left(
     call: BindingId,
     left: &mut Vec<BindingId>,
 ) -> Result<(), AllocError>
-    ensures { OnOk result (left.new.items ≡ left.old.items ++ Nest.left_one (Nest.was_bound (inners_in tables.now) bound.now call) call) }
+    ensures { OnOk result (left.new.items ≡ left.old.items ++ Nest.left_one (Nest.was_bound (next_in tables.now) bound.now call) call) }
 {
     if was_bound(tables, bound, call) {
         return Ok(());
@@ -145,7 +86,7 @@ fn left_calls(
     bound: &Scope,
     calls: &[BindingId],
 ) -> Result<Vec<BindingId>, AllocError>
-    ensures { IfOk result (λ left. left.items ≡ Nest.left_calls (inners_in tables.now) bound.now calls.now) }
+    ensures { IfOk result (λ left. left.items ≡ Nest.left_calls (next_in tables.now) bound.now calls.now) }
 {
     let mut left = Vec::new(alloc);
     for call in calls {
@@ -155,14 +96,14 @@ fn left_calls(
 }
 
 // Binds the calls of a rule that no test bound, and then what its result is read with.
-fn push_last(
+fn push_behind_lists(
     alloc: Global,
     tables: &Tables<'_>,
     bound: &mut Scope,
     rule: &FlatRule,
     order: &mut Vec<BindingId>,
 ) -> Result<(), AllocError>
-    ensures { OnOk result (Pushes (Nest.last_binds tables.now.bindings.now (inners_in tables.now) bound.old rule.now) bound.old bound.new order.old.items order.new.items) }
+    ensures { OnOk result (Pushes (Nest.behind_lists tables.now.bindings.now (next_in tables.now) bound.old rule.now) bound.old bound.new order.old.items order.new.items) }
 {
     let calls = left_calls(alloc, tables, bound, rule.ordered.as_slice())?;
     push_calls(tables, bound, calls.as_slice(), order)?;
@@ -170,26 +111,94 @@ fn push_last(
     Ok(())
 }
 
-// The control of a return.
-#[tactic(auto, using(isle_core::proofs::SeesBlocks::sees_blocks))]
-fn returned(pos: Pos, value: BindingId) -> ControlFlow
-    ensures { BlockViews.control result ≡ Blocks.Return pos value }
+// Puts the item of a list behind others, where the list isn't one of the calls that are bound in order.
+fn push_item(
+    tables: &Tables<'_>,
+    called: &Scope,
+    list: BindingId,
+    left: &mut Vec<BindingId>,
+) -> Result<(), AllocError>
+    ensures { OnOk result (left.new.items ≡ left.old.items ++ Nest.left_item (is_bound_in called.now list) (items_in tables.now list.0)) }
 {
-    ControlFlow::Return { pos, result: value }
+    if is_bound(called, list) {
+        return Ok(());
+    }
+    if let Some(item) = tables.items.get(&list.index()) {
+        left.push(*item)?;
+    }
+    Ok(())
 }
 
-// The calls and the result of a rule.
+// The items of such lists, in order.
+fn items_left(
+    alloc: Global,
+    tables: &Tables<'_>,
+    called: &Scope,
+    lists: &[BindingId],
+) -> Result<Vec<BindingId>, AllocError>
+    ensures { IfOk result (λ left. left.items ≡ Nest.items_left (items_in tables.now) called.now lists.now) }
+{
+    let mut left = Vec::new(alloc);
+    for list in lists {
+        push_item(tables, called, *list, &mut left)?;
+    }
+    Ok(left)
+}
+
+// The calls of a rule, as a set.
+fn called(alloc: Global, calls: &[BindingId]) -> Result<Scope, AllocError>
+    ensures { IfOk result (λ set. set ≡ bound_by [] calls.now) }
+{
+    let mut set = Scope::new(alloc);
+    for call in calls {
+        set.bind(call.index())?;
+    }
+    Ok(set)
+}
+
+// The items of a rule's lists that aren't among its calls, in a term that answers several times.
+fn left_items(
+    alloc: Global,
+    tables: &Tables<'_>,
+    rule: &FlatRule,
+) -> Result<Vec<BindingId>, AllocError>
+    ensures { IfOk result (λ left. left.items ≡ Nest.left_items tables.now.several (items_in tables.now) rule.now) }
+{
+    if !tables.several {
+        return Ok(Vec::new(alloc));
+    }
+    let calls = called(alloc, rule.ordered.as_slice())?;
+    items_left(alloc, tables, &calls, rule.iterators.as_slice())
+}
+
+// Binds the lists of a rule that no test needed, then its calls, and what its result is read with.
+fn push_last(
+    alloc: Global,
+    tables: &Tables<'_>,
+    bound: &mut Scope,
+    rule: &FlatRule,
+    order: &mut Vec<BindingId>,
+) -> Result<(), AllocError>
+    ensures { OnOk result (Pushes (Nest.last_binds tables.now.several tables.now.bindings.now (next_in tables.now) (items_in tables.now) bound.old rule.now) bound.old bound.new order.old.items order.new.items) }
+{
+    let items = left_items(alloc, tables, rule)?;
+    push_needs(tables.bindings, bound, items.as_slice(), order)?;
+    push_behind_lists(alloc, tables, bound, rule, order)?;
+    Ok(())
+}
+
+// The lists, the calls and the result of a rule.
 fn last_step(
     alloc: Global,
     tables: &Tables<'_>,
     bound: &mut Scope,
     rule: &FlatRule,
 ) -> Result<EvalStep, AllocError>
-    ensures { IfOk result (λ s. BlockViews.step s ≡ Nest.last_step tables.now.bindings.now (inners_in tables.now) rule.now bound.old) }
+    ensures { IfOk result (λ s. BlockViews.step s ≡ Nest.last_step tables.now.several tables.now.bindings.now (next_in tables.now) (items_in tables.now) rule.now bound.old) }
 {
     let mut order = Vec::new(alloc);
     push_last(alloc, tables, bound, rule, &mut order)?;
-    Ok(step_of(order, returned(rule.pos, rule.result)))
+    opened(alloc, tables, order, returned(rule.pos, rule.result))
 }
 
 // The equalities of a rule, each round those behind it, and the last one round the rule's last step.
@@ -200,7 +209,7 @@ fn equals_from(
     rule: &FlatRule,
     equals: &[(BindingId, BindingId)],
 ) -> Result<EvalStep, AllocError>
-    ensures { IfOk result (λ s. BlockViews.step s ≡ Nest.all_equated tables.now.bindings.now equals.now (Nest.last_step tables.now.bindings.now (inners_in tables.now) rule.now) bound.old) }
+    ensures { IfOk result (λ s. BlockViews.step s ≡ Nest.all_equated tables.now.several tables.now.bindings.now equals.now (Nest.last_step tables.now.several tables.now.bindings.now (next_in tables.now) (items_in tables.now) rule.now) bound.old) }
 {
     match equals {
         [] => last_step(alloc, tables, bound, rule),
@@ -209,7 +218,7 @@ fn equals_from(
             push_needs(tables.bindings, bound, &[*a, *b], &mut order)?;
             let inner = equals_from(alloc, tables, bound, rule, more)?;
             let check = equated(alloc, *a, *b, inner)?;
-            Ok(step_of(order, check))
+            opened(alloc, tables, order, check)
         }
     }
 }
@@ -242,8 +251,8 @@ fn matches_from(
     rule: &FlatRule,
     constraints: &[(BindingId, Constraint)],
 ) -> Result<EvalStep, AllocError>
-    ensures { IfOk result (λ s. BlockViews.step s ≡ Nest.all_matched tables.now.bindings.now (shows_in tables.now) constraints.now
-        (Nest.all_equated tables.now.bindings.now rule.now.equals (Nest.last_step tables.now.bindings.now (inners_in tables.now) rule.now)) bound.old) }
+    ensures { IfOk result (λ s. BlockViews.step s ≡ Nest.all_matched tables.now.several tables.now.bindings.now (shows_in tables.now) constraints.now
+        (Nest.all_equated tables.now.several tables.now.bindings.now rule.now.equals (Nest.last_step tables.now.several tables.now.bindings.now (next_in tables.now) (items_in tables.now) rule.now)) bound.old) }
 {
     match constraints {
         [] => equals_from(alloc, tables, bound, rule, rule.equals.as_slice()),
@@ -254,19 +263,19 @@ fn matches_from(
             bind_places(bound, places.as_slice())?;
             let inner = matches_from(alloc, tables, bound, rule, more)?;
             let check = matched(alloc, *source, *constraint, places, inner)?;
-            Ok(step_of(order, check))
+            opened(alloc, tables, order, check)
         }
     }
 }
 
-/// Makes the step of a rule: its tests, each round what follows, with what it shows bound, and inside them its calls and its
-/// result. What is needed to read a binding is bound where it is first read. The only error is want of memory.
+/// Makes the step of a rule: its tests, each round what follows, with what it shows bound, and inside them its lists, its calls and
+/// its result. What is needed to read a binding is bound where it is first read. The only error is want of memory.
 pub fn rule_step(
     alloc: Global,
     tables: &Tables<'_>,
     rule: &FlatRule,
 ) -> Result<EvalStep, AllocError>
-    ensures { IfOk result (λ s. BlockViews.step s ≡ Nest.rule_step tables.now.bindings.now (shows_in tables.now) (inners_in tables.now) rule.now) }
+    ensures { IfOk result (λ s. BlockViews.step s ≡ Nest.rule_step tables.now.several tables.now.bindings.now (shows_in tables.now) (next_in tables.now) (items_in tables.now) rule.now) }
 {
     let mut bound = Scope::new(alloc);
     matches_from(alloc, tables, &mut bound, rule, rule.constraints.as_slice())

@@ -2,19 +2,22 @@
 
 ghost use Rattle.std.specs.Prelude.{◌≡◌, IfOk};
 ghost use Rattle.isle_blocks.specs.Fields.{inner_place};
-ghost use Rattle.isle_blocks.specs.Tables.{shows_in};
+ghost use Rattle.isle_blocks.specs.Tables.{next_in, shows_in};
 
 use crate::fields::Fields;
 use isle_core::{Binding, BindingId, Constraint};
 use std::alloc::{AllocError, Global};
 use std::collections::BTreeMap;
 
-/// The bindings of a rule set, those of fields, and the inner values of calls by the numbers of the calls.
+/// The bindings of a rule set, those of fields, the inner values of calls by the numbers of the calls and the items of lists by the
+/// numbers of the lists, and whether the rules are those of a term that answers several times.
 #[derive(Clone, Copy)]
 pub struct Tables<'s> {
+    pub several: bool,
     pub bindings: &'s [Binding],
     pub fields: &'s Fields,
     pub inners: &'s BTreeMap<usize, BindingId>,
+    pub items: &'s BTreeMap<usize, BindingId>,
 }
 
 // The one place of an option.
@@ -31,6 +34,16 @@ fn inner_place(
 }
 
 impl Tables<'_> {
+    /// Returns what stands directly behind a call: its inner value, or its item.
+    pub fn next(&self, call: BindingId) -> Option<BindingId>
+        ensures { result ≡ next_in self.now call.0 }
+    {
+        match self.inners.get(&call.index()) {
+            Some(inner) => Some(*inner),
+            None => self.items.get(&call.index()).copied(),
+        }
+    }
+
     /// Returns the bindings of what a constraint shows: the fields up to the last one that has one, or an inner value. The only
     /// error is want of memory.
     pub fn places(

@@ -12,7 +12,7 @@ use Rattle.isle_core.specs.declared.types.ConstructorKind.TheVariants as constru
 use Rattle.isle_core.specs.declared.types.Term.{Term}
 use Rattle.isle_core.specs.declared.types.TermKind.{TermKind}
 use Rattle.isle_core.specs.declared.types.TermKind.TheVariants as kind
-use Rattle.isle_core.specs.Calling.{Calling, is_fallible, answers_often, calling, calling_of, calling_by, kind_of, pure_callee, instance_of, impure, impure_all, impure_bindings}
+use Rattle.isle_core.specs.Calling.{Calling, is_fallible, answers_often, calling, instance_of, impure, impure_all, impure_bindings}
 use Rattle.isle_core.specs.Expr as expr
 use Rattle.isle_core.specs.Expr.{Expr, Exprs, NoExpr, AnExpr, LetBindings, NoBinding, ABinding}
 use Rattle.isle_core.specs.ExprType.{Allowed, in_condition, IsTermKind, IsExprOf, AreExprsOf, AreBindingsOf, AreIfLetsOf}
@@ -21,13 +21,12 @@ use Rattle.isle_core.specs.Match.{with}
 use Rattle.isle_core.specs.NamesApart.{AreConstantsPlain}
 use Rattle.isle_core.specs.OccurringConstants.{TypedConstant, expr_constants, pattern_constants, args_constants, iflets_constants, rule_constants}
 use Rattle.isle_core.specs.Opening.{Opening, opening, answer_path, part_path}
-use Rattle.isle_core.specs.Path.{Path, Arg, Inner, Paths}
+use Rattle.isle_core.specs.Path.{Path, Arg, Chosen, Inner, Paths}
 use Rattle.isle_core.specs.Pattern as pattern
 use Rattle.isle_core.specs.Pattern.{Pattern, Patterns, NoPattern, APattern}
 use Rattle.isle_core.specs.PatternType.{part_types, IsPatternOf, ArePartsOf, AreEachOf, ArePatternsOf}
 use Rattle.isle_core.specs.RightSide.{path_or, term_path, call_path, path, paths, let_places}
 use Rattle.isle_core.specs.Rule.{Environment, IfLet, Rule}
-use Rattle.isle_core.specs.Terms.{impure_callee}
 use Rattle.isle_core.specs.Tests.{Is, Places, no_places, met_after, found_tests, tests, after, after_parts, after_each, called_tests, all_called_tests, bindings_called_tests, args_tests, args_after, iflets_tests, rule_tests}
 use Rattle.isle_core.specs.TypedVariables.{typed_variables, typed_within, all_typed, let_variables, iflets_typed, rule_typed, HaveOneType, IsNew}
 use Rattle.isle_core.proofs.Contained.{contained_cases, none_contained}
@@ -35,23 +34,6 @@ use Rattle.isle_core.proofs.RuleMatches.{IsTested}
 use Rattle.isle_checks.proofs.TestedTypes.{path_type, from_zero, first, next, IsTyped, AreKnown, PartsTyped, found_typed, parts_of, pattern_typed, args_typed}
 
 -- ---- terms of expressions
-
--- a term answers once or may answer nothing
-term_once : (env : Environment) (allowed : Allowed) (c : Term) (k : TermKind) → IsTermKind env allowed c k → answers_often (calling_by (kind_of k) (impure_callee env c k) (pure_callee env c k)) ≡ false
-term_once env allowed c (kind.Decl true false true recursive (constructor.External func) x) h = refl
-term_once env allowed c (kind.Decl true false false recursive (constructor.External func) x) h = refl
-term_once env allowed c (kind.Decl false false true recursive (constructor.External func) x) h = refl
-term_once env allowed c (kind.Decl false false false recursive (constructor.External func) x) h = refl
-term_once env allowed c (kind.Decl true false true recursive constructor.Internal x) h = refl
-term_once env allowed c (kind.Decl true false false recursive constructor.Internal x) h = refl
-term_once env allowed c (kind.Decl false false true recursive constructor.Internal x) h = refl
-term_once env allowed c (kind.Decl false false false recursive constructor.Internal x) h = refl
-term_once env allowed c (kind.Variant ty variant) h = refl
-term_once env allowed c (kind.Struct ty) h = refl
-term_once env allowed c k h = absurd h
-
-called_once : (env : Environment) (allowed : Allowed) (term : TermId) (c : Term) → slice_get env.terms term.0 ≡ Some c → IsTermKind env allowed c c.kind → answers_often (calling env term) ≡ false
-called_once env allowed term c there h = ap (λ o. answers_often (calling_of env o)) there ∙ term_once env allowed c c.kind h
 
 some_of : {A : Type 0} (o : Option A) (P : A → Type 0) → IsSomeAnd o P → (x : A) × (o ≡ Some x) × P x
 some_of None P h = absurd h
@@ -83,11 +65,12 @@ module _ (env : Environment) (plain : AreConstantsPlain env) (known : List Typed
       by (kind.Struct ty) h = ap Some h.0
 
   answer_at : (c : Calling) (p : Path) (ty : TypeId) → IsAt p ty → IsAt (answer_path c p) ty
-  answer_at c p ty h = by (is_fallible c)
+  answer_at c p ty h = by (answers_often c) (is_fallible c)
     where
-      by : (b : Bool) → IsAt (cond b (Inner p) p) ty
-      by true = h
-      by false = h
+      by : (often fallible : Bool) → IsAt (cond often (Chosen p) (cond fallible (Inner p) p)) ty
+      by true fallible = h
+      by false true = h
+      by false false = h
 
   place_at : (o : Option Path) (p : Path) (ty : TypeId) → o ≡ Some p → IsAt p ty → IsAt (path_or o) ty
   place_at o p ty e h = subst (λ x. IsAt (path_or x) ty) (sym e) h
@@ -128,7 +111,7 @@ module _ (env : Environment) (plain : AreConstantsPlain env) (known : List Typed
         let c = some_of (slice_get env.terms term.0) _ h.1 in
         let q = call_path env term (paths env es places 0) 0 in
         ⊎_elim (λ l. all_calls_typed vars places es c.0.arg_tys p d a c.2.2 l)
-        (λ l. found_typed env plain known tys (calling env term) q p d (is_fallible (calling env term)) refl (called_once env in_condition term c.0 c.1 c.2.0) c.0.ret_ty (term_at in_condition term c.0 (paths env es places 0) (instance_of (calling env term) 0) c.1 c.2.0) l)
+        (λ l. found_typed env plain known tys (calling env term) q p d c.0.ret_ty (term_at in_condition term c.0 (paths env es places 0) (instance_of (calling env term) 0) c.1 c.2.0) l)
         (Contains-append_cases (all_called_tests env es places) (found_tests (calling env term) q) (Is p d) k)
     calls_typed vars places (expr.Let of bs inner) ty p d a h k =
         ⊎_elim (λ l. bindings_calls_typed vars places bs p d a h.1 l) (λ l. calls_typed (let_variables vars bs) (let_places env bs places 0) inner ty p d (bindings_at vars places bs 0 a h.1) h.2 l)

@@ -30,6 +30,7 @@ use Rattle.isle_core.proofs.ConditionTests.{IsSupplied}
 use Rattle.isle_core.proofs.RuleMatches.{IsTested, rule_both}
 use Rattle.isle_core.specs.TypedVariables.{rule_typed, HaveOneType}
 use Rattle.isle_checks.specs.CheckList.{RuleError, unreachable_of, overlap_of, shadow_of, positions, is_multi, AreErrorsAt, AreErrorsBelow, AreErrorsOf, AreErrorsOfTerm, AreErrorsOfTerms, IsClean}
+use Rattle.isle_core.specs.Choice.{first_items}
 use Rattle.isle_checks.specs.Firsts.{IsFirst}
 use Rattle.isle_checks.specs.RuleChecks.{Overlaps, OverlapsAt}
 use Rattle.isle_checks.proofs.ListChecks.{of_two}
@@ -60,7 +61,7 @@ module _ (env : Environment) (m : Meaning) (args : List Value) (tys : List TypeI
       → IsTyped env plain known tys p c × (meets env m c (value_at env m args nothing_known p) ≡ true)
   meets_test r names h e p c k =
       let val = value_at env m args nothing_known in
-      let all = matched_holds val (rule_names env m args r) (all_hold env m val (rule_tests env r)) (rule_places env r) names e (rule_both env m args tys r variants h.tested typed h.served h.supplied) in
+      let all = matched_holds val (rule_names env m args r) (all_hold env m val (rule_tests env r)) (rule_places env r) names e (rule_both env m first_items args tys r variants h.tested typed h.served h.supplied) in
       (rule_tests_typed env plain known tys r p c h.tested h.variables h.among k, All-contains (λ t. holds env m val t ≡ true) (rule_tests env r) (Is p c) (AllPass-from_list_all (holds env m val) (rule_tests env r) all) k)
 
   matched_overlap : (q r : Rule) (names others : Names) → IsOf q → IsOf r → rule_names env m args q ≡ Some names → rule_names env m args r ≡ Some others → q.prio ≡ r.prio → Overlaps env q r

@@ -1,5 +1,5 @@
 -- The types of the paths that a rule tests, and what it may ask of them.
-use Rattle.std.proofs.Common.{◌≡◌, ℕ, ◌+◌, zero, suc, List, [], ◌∷◌, length, Bool, true, false, Option, Some, None, refl, sym, ap, ◌∙◌, subst, arith, ⊎_elim}
+use Rattle.std.proofs.Common.{◌≡◌, ℕ, ◌+◌, zero, suc, List, [], ◌∷◌, length, Bool, true, false, cond, Option, Some, None, refl, sym, ap, ◌∙◌, subst, arith, ⊎_elim}
 use Rattle.std.specs.Prelude.{Contains, IsSomeAnd, option_and_then, option_map, slice_get}
 use Rattle.std.proofs.lemmas.List.Elements.{Contains-append_left, Contains-append_right, Contains-append_cases}
 use Rattle.isle_core.specs.declared.TypeId.{TypeId}
@@ -15,14 +15,13 @@ use Rattle.isle_core.specs.declared.TermId.{TermId}
 use Rattle.isle_core.specs.declared.types.Term.{Term}
 use Rattle.isle_core.specs.Calling.{Calling, is_fallible, answers_often, extracting_of, extracting_kind}
 use Rattle.isle_core.specs.Opening.{Opening, opening, opening_by, answer_path, result_path, part_path}
-use Rattle.isle_rulesets.proofs.OpenedLaws.{extracts}
 use Rattle.isle_core.specs.Making.{Making, MakesVariant, MakesStruct, MakesNothing, making}
 use Rattle.isle_core.specs.OccurringConstants.{Constant, Truth, Number, Named, TypedConstant, pattern_constants, patterns_constants, args_constants}
 use Rattle.isle_core.specs.Path.{Path, Nowhere, Arg, ConstBool, ConstInt, ConstPrim, Extracted, Called, Chosen, MadeVariant, MadeStruct, VariantField, StructField, Wrapped, Inner, Part}
 use Rattle.isle_core.specs.Pattern as pattern
 use Rattle.isle_core.specs.Pattern.{Pattern, Patterns, NoPattern, APattern}
 use Rattle.isle_core.specs.PatternType.{IsNumericDef, OpensType, arguments_of, part_types, IsPatternOf, ArePartsOf, AreEachOf, ArePatternsOf}
-use Rattle.isle_core.specs.Tests.{Is, Places, met_tests, met_after, found_tests, opening_tests, tests, parts_tests, each_tests, after, args_tests}
+use Rattle.isle_core.specs.Tests.{Is, HasItem, Places, met_tests, met_after, found_tests, opening_tests, tests, parts_tests, each_tests, after, args_tests}
 use Rattle.isle_core.specs.Value as value
 use Rattle.isle_core.specs.Rule.{Environment}
 use Rattle.isle_core.proofs.Contained.{none_contained}
@@ -57,7 +56,7 @@ result_type env i (ConstBool ty b) = None
 result_type env i (ConstInt ty n) = None
 result_type env i (ConstPrim name) = None
 result_type env i (Called term ps instance) = None
-result_type env i (Chosen p) = None
+result_type env i (Chosen p) = result_type env i p
 result_type env i (MadeVariant ty variant ps) = None
 result_type env i (MadeStruct ty ps) = None
 result_type env i (VariantField variant j p) = None
@@ -65,7 +64,7 @@ result_type env i (StructField j p) = None
 result_type env i (Wrapped p) = None
 result_type env i (Part part p) = None
 
--- the type of an argument, a constant, a made value or a field, or of what a call gives
+-- the type of an argument, a constant, a made value or a field, or of what a call gives, also of an item of it
 abbrev pub path_type : Environment → List TypeId → Path → Option TypeId
 path_type env tys (Arg i) = slice_get tys i
 path_type env tys (VariantField variant i p) = option_and_then (λ ty. field_type env (MakesVariant ty variant) i) (path_type env tys p)
@@ -78,7 +77,7 @@ path_type env tys (ConstBool ty b) = Some ty
 path_type env tys (ConstInt ty n) = Some ty
 path_type env tys (ConstPrim name) = const_type env name
 path_type env tys (Called term ps instance) = option_map (λ (t : Term). t.ret_ty) (slice_get env.terms term.0)
-path_type env tys (Chosen p) = None
+path_type env tys (Chosen p) = path_type env tys p
 path_type env tys (MadeVariant ty variant ps) = Some ty
 path_type env tys (MadeStruct ty ps) = Some ty
 path_type env tys (Wrapped p) = None
@@ -150,36 +149,40 @@ module _ (env : Environment) (plain : AreConstantsPlain env) (known : List Typed
   abbrev pub PartsTyped : Opening → ℕ → Path → Option (List TypeId) → Type 0
   PartsTyped opened i at o = (j : ℕ) (ty : TypeId) → option_and_then (λ ts. slice_get ts j) o ≡ Some ty → path_type env tys (part_path opened (j + i) at) ≡ Some ty
 
-  pub found_typed : (c : Calling) (at p : Path) (d : Constraint) (b : Bool) → is_fallible c ≡ b → answers_often c ≡ false → (ty : TypeId) → path_type env tys at ≡ Some ty → Contains (found_tests c at) (Is p d) → IsTyped p d
-  found_typed c at p d true f o ty t k = this_typed at p ty constraint.Some d t on_some (only_one _ _ (subst (λ ts. Contains ts (Is p d)) (tests_some c at f o) k))
+  -- what is found is something of the type; that a list has an item is no constraint
+  pub found_typed : (c : Calling) (at p : Path) (d : Constraint) (ty : TypeId) → path_type env tys at ≡ Some ty → Contains (found_tests c at) (Is p d) → IsTyped p d
+  found_typed c at p d ty t k = by (answers_often c) (is_fallible c) k
     where
-      tests_some : (c : Calling) (at : Path) → is_fallible c ≡ true → answers_often c ≡ false → found_tests c at ≡ Is at constraint.Some ∷ []
-      tests_some c at f o = rw (o, f) refl
-  found_typed c at p d false f o ty t k = absurd (none_contained (Is p d) (subst (λ ts. Contains ts (Is p d)) (tests_none c at f o) k))
-    where
-      tests_none : (c : Calling) (at : Path) → is_fallible c ≡ false → answers_often c ≡ false → found_tests c at ≡ []
-      tests_none c at f o = rw (o, f) refl
+      no_item : (at p : Path) (d : Constraint) → HasItem at ≡ Is p d → ⊥
+      no_item at p d e = cc
+
+      by : (often fallible : Bool) → Contains (cond often (HasItem at ∷ []) (cond fallible (Is at constraint.Some ∷ []) [])) (Is p d) → IsTyped p d
+      by true fallible l = absurd (no_item at p d (only_one _ _ l))
+      by false true l = this_typed at p ty constraint.Some d t on_some (only_one _ _ l)
+      by false false l = absurd (none_contained (Is p d) l)
 
   -- the test of what is taken apart, and the types of its parts
   opened_typed : (mk : Making) (term : TermId) (t : Option Term) (at p : Path) (ty : TypeId) (d : Constraint) → OpensType ty mk t → slice_get env.terms term.0 ≡ t → path_type env tys at ≡ Some ty → Contains (opening_tests (opening_by term mk (extracting_of env t) t) at) (Is p d) → IsTyped p d
   opened_typed (MakesVariant of variant) term t at p ty d is e h k = this_typed at p of (constraint.Variant of variant) d (h ∙ ap Some (sym is)) (on_variant variant) (only_one _ _ k)
   opened_typed (MakesStruct of) term t at p ty d is e h k = this_typed at p of (constraint.Struct of) d (h ∙ ap Some (sym is)) on_struct (only_one _ _ k)
   opened_typed MakesNothing term None at p ty d is e h k = absurd is
-  opened_typed MakesNothing term (Some t) at p ty d is e h k = found_typed (extracting_kind env t.kind) (Extracted term at) p d (is_fallible (extracting_kind env t.kind)) refl (extracts env t.kind is.0).1 (first_type t.arg_tys t.ret_ty) (ap answer_type e) k
+  opened_typed MakesNothing term (Some t) at p ty d is e h k = found_typed (extracting_kind env t.kind) (Extracted term at) p d (first_type t.arg_tys t.ret_ty) (ap answer_type e) k
 
   answer_typed : (c : Calling) (term : TermId) (at : Path) → path_type env tys (answer_path c (Extracted term at)) ≡ answer_type (slice_get env.terms term.0)
-  answer_typed c term at = by (is_fallible c) refl
+  answer_typed c term at = by (answers_often c) (is_fallible c)
     where
-      by : (b : Bool) → is_fallible c ≡ b → path_type env tys (answer_path c (Extracted term at)) ≡ answer_type (slice_get env.terms term.0)
-      by true f = rw f refl
-      by false f = rw f refl
+      by : (often fallible : Bool) → path_type env tys (cond often (Chosen (Extracted term at)) (cond fallible (Inner (Extracted term at)) (Extracted term at))) ≡ answer_type (slice_get env.terms term.0)
+      by true fallible = refl
+      by false true = refl
+      by false false = refl
 
   part_of : (c : Calling) (term : TermId) (at : Path) (i : ℕ) → path_type env tys (Part i (answer_path c (Extracted term at))) ≡ option_and_then (λ ts. slice_get ts i) (arguments_of (slice_get env.terms term.0))
-  part_of c term at i = by (is_fallible c) refl
+  part_of c term at i = by (answers_often c) (is_fallible c)
     where
-      by : (b : Bool) → is_fallible c ≡ b → path_type env tys (Part i (answer_path c (Extracted term at))) ≡ option_and_then (λ ts. slice_get ts i) (arguments_of (slice_get env.terms term.0))
-      by true f = rw f refl
-      by false f = rw f refl
+      by : (often fallible : Bool) → path_type env tys (Part i (cond often (Chosen (Extracted term at)) (cond fallible (Inner (Extracted term at)) (Extracted term at)))) ≡ option_and_then (λ ts. slice_get ts i) (arguments_of (slice_get env.terms term.0))
+      by true fallible = refl
+      by false true = refl
+      by false false = refl
 
   results_typed : (ts : List TypeId) (ret : TypeId) (c : Calling) (term : TermId) (t : Term) (at : Path) (j : ℕ) (ty : TypeId) → slice_get env.terms term.0 ≡ Some t → t.arg_tys ≡ ts → slice_get ts j ≡ Some ty → path_type env tys (result_path (length ts) j (answer_path c (Extracted term at))) ≡ Some ty
   results_typed [] ret c term t at j ty e is h = cc

@@ -1,12 +1,11 @@
 -- Texts that are accepted have no errors.
-use Rattle.std.proofs.Common.{ℕ, List, [], sym, ap, ◌∙◌, subst, ◌≡◌, true, true≢false}
+use Rattle.std.proofs.Common.{ℕ, List, [], ◌≡◌, true, subst}
 use Rattle.isle_core.specs.declared.errors.Error.{Error}
 use Rattle.isle_core.specs.declared.errors.Errors.{Errors}
 use Rattle.isle_core.specs.declared.files.Files.{Files}
 use Rattle.isle_core.specs.Rule.{Environment}
 use Rattle.isle_ast.specs.Tree.{Def}
-use Rattle.isle_sema.specs.Language.{are_built}
-use Rattle.isle_sema.specs.Typing.{TypedBuilt}
+use Rattle.isle_sema.specs.Typing.{Typed}
 use Rattle.isle_sema.proofs.TypedOnce.{typed_once}
 use Rattle.isle_sema.proofs.ToldFaults.{untold}
 use Rattle.isle_checks.specs.CheckList.{IsCheckList, IsClean}
@@ -15,40 +14,36 @@ use Rattle.isle_recursion.specs.RuleErrors.{IsRecursionOf}
 use Rattle.isle_recursion.proofs.RuleErrors.{recursion_once}
 use Rattle.isle_codegen.specs.Checked.{IsChecked}
 use Rattle.isle_codegen.specs.Errors.{HaveErrors, HaveDefErrors, of_parsing, of_defs, of_types, of_rules, of_recursion, IsErrors, IsNameError}
-use Rattle.isle_codegen.proofs.Sources.{source_once, wrong_unspelt}
+use Rattle.isle_codegen.proofs.Sources.{wrong_unspelt}
 use Rattle.isle_codegen.proofs.LawfulNames.{none_unlawful}
 use Rattle.isle_names.specs.declared.name_error.NameError.{NameError}
 use Rattle.isle_names.specs.NameFault.{IsNameFault}
 use Rattle.isle_codegen.specs.Names.{are_file_names}
-use Rattle.isle_codegen.specs.Source.{AreAccepted, AreUnbuiltTexts}
+use Rattle.isle_codegen.specs.Source.{AreAccepted}
 
-none_of_defs : (defs : List Def) (env : Environment) (errors : List Error) → TypedBuilt defs env → IsClean env → IsRecursionOf env [] → HaveDefErrors defs errors → ⊥
-none_of_defs defs env errors typed clean marked (of_types h) = untold defs h.error typed.typed.sound h.told
+none_of_defs : (defs : List Def) (env : Environment) (errors : List Error) → Typed defs env → IsClean env → IsRecursionOf env [] → HaveDefErrors defs errors → ⊥
+none_of_defs defs env errors typed clean marked (of_types h) = untold defs h.error typed.sound h.told
 none_of_defs defs env errors typed clean marked (of_rules h) =
-    h.some (none_wrong env errors clean (subst (λ (e : Environment). IsCheckList e errors) (typed_once typed.typed h.typed.typed) h.list))
+    h.some (none_wrong env errors clean (subst (λ (e : Environment). IsCheckList e errors) (typed_once typed h.typed) h.list))
 none_of_defs defs env errors typed clean marked (of_recursion h) =
-    h.some (recursion_once env errors [] (subst (λ (e : Environment). IsRecursionOf e errors) (typed_once typed.typed h.typed.typed) h.list) marked)
+    h.some (recursion_once env errors [] (subst (λ (e : Environment). IsRecursionOf e errors) (typed_once typed h.typed) h.list) marked)
 
 none_have : (texts : List (List ℕ)) (errors : List Error) → AreAccepted texts → HaveErrors texts errors → ⊥
 none_have texts errors a (of_parsing pos wrong one) = wrong_unspelt 0 texts pos a.defs wrong a.source
 none_have texts errors a (of_defs defs source once h) =
-    none_of_defs defs a.env errors (subst (λ (ds : List Def). TypedBuilt ds a.env) (once a.defs a.source) a.compilable.typed) a.clean a.marked h
+    none_of_defs defs a.env errors (subst (λ (ds : List Def). Typed ds a.env) (once a.defs a.source) a.compilable.typed) a.clean a.marked h
 
 -- texts that are accepted have no errors
 pub accepted_none : (names texts : List (List ℕ)) (e : Errors) → AreAccepted texts → IsErrors e names texts → ⊥
 accepted_none names texts e a h = none_have texts e.errors a h.cause
 
--- texts that are accepted are all built
-pub accepted_built : (texts : List (List ℕ)) → AreAccepted texts → AreUnbuiltTexts texts → ⊥
-accepted_built texts a h = true≢false (sym a.compilable.typed.built ∙ ap are_built (sym (source_once 0 texts a.defs h.0 a.source h.1)) ∙ h.2.1)
-
 -- where texts are accepted, and the names of their files may stand in a comment, no name is one that may not be emitted
 pub accepted_named : (names texts : List (List ℕ)) (e : NameError) → AreAccepted texts → are_file_names names ≡ true → IsNameError names texts e → ⊥
 accepted_named names texts e a printed h =
-    let same = typed_once (subst (λ (ds : List Def). TypedBuilt ds a.env) (h.once a.defs a.source) a.compilable.typed).typed h.error.typed.typed in
+    let same = typed_once (subst (λ (ds : List Def). Typed ds a.env) (h.once a.defs a.source) a.compilable.typed) h.error.typed in
     none_unlawful names a.defs a.env e a.compilable printed (subst (λ (env : Environment). IsNameFault names env e) same h.error.first)
 
 -- files that pass the check have texts that are accepted
 pub checked_accepted : (files : Files) (env : Environment) → IsChecked files env → AreAccepted files.file_texts
 checked_accepted files env h =
-    record { defs = h.defs; env = env; source = h.source; compilable = record { typed = record { typed = h.typed.typed; built = h.built }; names = h.given.compilable.names; fns = h.given.compilable.fns; lawful = h.given.compilable.lawful }; clean = h.given.clean; marked = h.given.marked }
+    record { defs = h.defs; env = env; source = h.source; compilable = record { typed = h.typed.typed; names = h.given.compilable.names; fns = h.given.compilable.fns; lawful = h.given.compilable.lawful }; clean = h.given.clean; marked = h.given.marked }

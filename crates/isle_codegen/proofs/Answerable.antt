@@ -30,7 +30,7 @@ use Rattle.isle_core.specs.Pattern as pattern
 use Rattle.isle_core.specs.Pattern.{Pattern, Patterns, NoPattern, APattern}
 use Rattle.isle_core.specs.Rule.{Environment, IfLet, Rule}
 use Rattle.isle_core.specs.Terms.{sym_text, callee_by, impure_callee}
-use Rattle.isle_core.specs.Value.{Value, Answer, Plain, Nothing}
+use Rattle.isle_core.specs.Value.{Value, Answer, Plain, Nothing, Several}
 use Rattle.isle_core.proofs.Contained.{contained_cases, none_contained}
 use Rattle.isle_tree.specs.declared.tree.TraitFn.{TraitFn}
 use Rattle.isle_tree.specs.WellFormed.{fn_names}
@@ -42,49 +42,51 @@ use Rattle.isle_codegen.specs.Meant.{HasValue, AnswersInhabited}
 
 -- ---- what rules call
 
--- a term that answers at most once, called as a constructor
+-- a term that is called as a constructor
 record IsCallable (env : Environment) (o : CalledTerm) : Type 0 where
   term : Term
   found : slice_get env.terms o.term.0 ≡ Some term
   role : o.role ≡ Constructor
   pure : Bool
+  multi : Bool
   partial : Bool
   recursive : Bool
   by : ConstructorKind
   extractor : ExtractorKind
-  kind : term.kind ≡ term_kind.Decl pure false partial recursive by extractor
+  kind : term.kind ≡ term_kind.Decl pure multi partial recursive by extractor
   callee : Callee
   to : callee_by env term by ≡ Some callee
 
--- a term that is called as an extractor, by an external function that answers at most once
+-- a term that is called as an extractor, by an external function
 record IsExtractable (env : Environment) (o : CalledTerm) : Type 0 where
   term : Term
   found : slice_get env.terms o.term.0 ≡ Some term
   role : o.role ≡ Extractor
   pure : Bool
+  multi : Bool
   partial : Bool
   recursive : Bool
   by : ConstructorKind
   func : Sym
   infallible : Bool
-  kind : term.kind ≡ term_kind.Decl pure false partial recursive by (extractor.External func infallible)
+  kind : term.kind ≡ term_kind.Decl pure multi partial recursive by (extractor.External func infallible)
 
 -- what kind a built term has that no type makes
 record IsCalledKind (env : Environment) (t : Term) (k : TermKind) : Type 0 where
   pure : Bool
+  multi : Bool
   partial : Bool
   recursive : Bool
   by : ConstructorKind
   extractor : ExtractorKind
-  is : k ≡ term_kind.Decl pure false partial recursive by extractor
+  is : k ≡ term_kind.Decl pure multi partial recursive by extractor
   callee : Callee
   to : callee_by env t by ≡ Some callee
 
 called_kind : (env : Environment) (t : Term) (k : TermKind) → IsBuiltKind k → is_made_kind k ≡ false → IsCalledKind env t k
-called_kind env t (term_kind.Decl pure false partial recursive constructor.Internal x) h e = record { pure = pure; partial = partial; recursive = recursive; by = constructor.Internal; extractor = x; is = refl; callee = Internal (sym_text env t.name); to = refl }
-called_kind env t (term_kind.Decl pure false partial recursive (constructor.External func) x) h e = record { pure = pure; partial = partial; recursive = recursive; by = constructor.External func; extractor = x; is = refl; callee = External (sym_text env func); to = refl }
-called_kind env t (term_kind.Decl pure false partial recursive constructor.Absent x) h e = absurd h
-called_kind env t (term_kind.Decl pure true partial recursive by x) h e = absurd h
+called_kind env t (term_kind.Decl pure multi partial recursive constructor.Internal x) h e = record { pure = pure; multi = multi; partial = partial; recursive = recursive; by = constructor.Internal; extractor = x; is = refl; callee = Internal (sym_text env t.name); to = refl }
+called_kind env t (term_kind.Decl pure multi partial recursive (constructor.External func) x) h e = record { pure = pure; multi = multi; partial = partial; recursive = recursive; by = constructor.External func; extractor = x; is = refl; callee = External (sym_text env func); to = refl }
+called_kind env t (term_kind.Decl pure multi partial recursive constructor.Absent x) h e = absurd h
 called_kind env t (term_kind.Variant ty variant) h e = cc
 called_kind env t (term_kind.Struct ty) h e = cc
 
@@ -101,14 +103,13 @@ term_callable env term o h c =
     let t = some_of (slice_get env.terms term.0) _ h in
     let d = in_unless (is_made env term) (record { term = term; role = Constructor }) o c in
     let k = called_kind env t.0 t.0.kind t.2 (ap is_made_term (sym t.1) ∙ d.0) in
-    subst (IsCallable env) d.1 (record { term = t.0; found = t.1; role = refl; pure = k.pure; partial = k.partial; recursive = k.recursive; by = k.by; extractor = k.extractor; kind = k.is; callee = k.callee; to = k.to })
+    subst (IsCallable env) d.1 (record { term = t.0; found = t.1; role = refl; pure = k.pure; multi = k.multi; partial = k.partial; recursive = k.recursive; by = k.by; extractor = k.extractor; kind = k.is; callee = k.callee; to = k.to })
 
 -- a pure term is a built one
 pure_kind : (k : TermKind) → IsPureKind k → IsBuiltKind k
-pure_kind (term_kind.Decl true false partial recursive constructor.Internal x) h = tt
-pure_kind (term_kind.Decl true false partial recursive (constructor.External func) x) h = tt
-pure_kind (term_kind.Decl true false partial recursive constructor.Absent x) h = absurd h
-pure_kind (term_kind.Decl true true partial recursive by x) h = absurd h
+pure_kind (term_kind.Decl true multi partial recursive constructor.Internal x) h = tt
+pure_kind (term_kind.Decl true multi partial recursive (constructor.External func) x) h = tt
+pure_kind (term_kind.Decl true multi partial recursive constructor.Absent x) h = absurd h
 pure_kind (term_kind.Decl false multi partial recursive by x) h = absurd h
 pure_kind (term_kind.Variant ty variant) h = tt
 pure_kind (term_kind.Struct ty) h = tt
@@ -156,11 +157,10 @@ extractable_kind : (env : Environment) (term : TermId) (t : Term) → slice_get 
 extractable_kind env term t at unmade h = by t.kind refl unmade h
   where
     of : (k : TermKind) → t.kind ≡ k → IsExtractorKind k → IsExtractable env (record { term = term; role = Extractor })
-    of (term_kind.Decl pure false partial recursive by (extractor.External func infallible)) e x =
-        record { term = t; found = at; role = refl; pure = pure; partial = partial; recursive = recursive; by = by; func = func; infallible = infallible; kind = e }
-    of (term_kind.Decl pure false partial recursive by extractor.Absent) e x = absurd x
-    of (term_kind.Decl pure false partial recursive by extractor.Internal) e x = absurd x
-    of (term_kind.Decl pure true partial recursive by how) e x = absurd x
+    of (term_kind.Decl pure multi partial recursive by (extractor.External func infallible)) e x =
+        record { term = t; found = at; role = refl; pure = pure; multi = multi; partial = partial; recursive = recursive; by = by; func = func; infallible = infallible; kind = e }
+    of (term_kind.Decl pure multi partial recursive by extractor.Absent) e x = absurd x
+    of (term_kind.Decl pure multi partial recursive by extractor.Internal) e x = absurd x
     of (term_kind.Variant ty variant) e x = absurd x
     of (term_kind.Struct ty) e x = absurd x
 
@@ -222,24 +222,24 @@ rules_served env (r ∷ rules) b h o c = ⊎_elim (λ d. rule_served env r b.0 h
 -- ---- what is asked of it
 
 abbrev asked_of : (env : Environment) (o : CalledTerm) → IsCallable env o → Service
-asked_of env o x = record { callee = x.callee; pure = x.pure; kind = kind_by false x.partial; types = x.term.ret_ty ∷ [] }
+asked_of env o x = record { callee = x.callee; pure = x.pure; kind = kind_by x.multi x.partial; types = x.term.ret_ty ∷ [] }
 
 -- a call goes to the term's callee, by turns or by cases
-calls_to : (env : Environment) (t : Term) (pure partial recursive : Bool) (by : ConstructorKind) (x : ExtractorKind) (callee : Callee) → callee_by env t by ≡ Some callee → service_by Constructor (Some t) (calling_by (kind_by false partial) (impure_callee env t (term_kind.Decl pure false partial recursive by x)) (pure_callee env t (term_kind.Decl pure false partial recursive by x)))
-    ≡ Some (record { callee = callee; pure = pure; kind = kind_by false partial; types = t.ret_ty ∷ [] })
-calls_to env t false partial recursive by x callee to = ap (λ (c : Option Callee). service_by Constructor (Some t) (calling_by (kind_by false partial) c None)) to
-calls_to env t true partial recursive by x callee to = ap (λ (c : Option Callee). service_by Constructor (Some t) (calling_by (kind_by false partial) None c)) to
+calls_to : (env : Environment) (t : Term) (pure multi partial recursive : Bool) (by : ConstructorKind) (x : ExtractorKind) (callee : Callee) → callee_by env t by ≡ Some callee → service_by Constructor (Some t) (calling_by (kind_by multi partial) (impure_callee env t (term_kind.Decl pure multi partial recursive by x)) (pure_callee env t (term_kind.Decl pure multi partial recursive by x)))
+    ≡ Some (record { callee = callee; pure = pure; kind = kind_by multi partial; types = t.ret_ty ∷ [] })
+calls_to env t false multi partial recursive by x callee to = ap (λ (c : Option Callee). service_by Constructor (Some t) (calling_by (kind_by multi partial) c None)) to
+calls_to env t true multi partial recursive by x callee to = ap (λ (c : Option Callee). service_by Constructor (Some t) (calling_by (kind_by multi partial) None c)) to
 
 service_is : (env : Environment) (o : CalledTerm) (x : IsCallable env o) → service_of env o ≡ Some (asked_of env o x)
 service_is env o x =
     subst (λ (r : Role). service_by r (slice_get env.terms o.term.0) (called_as env o.term r) ≡ Some (asked_of env o x)) (sym x.role)
     (subst (λ (t : Option Term). service_by Constructor t (calling_of env t) ≡ Some (asked_of env o x)) (sym x.found)
     (subst (λ (k : TermKind). service_by Constructor (Some x.term) (calling_by (kind_of k) (impure_callee env x.term k) (pure_callee env x.term k)) ≡ Some (asked_of env o x)) (sym x.kind)
-    (calls_to env x.term x.pure x.partial x.recursive x.by x.extractor x.callee x.to)))
+    (calls_to env x.term x.pure x.multi x.partial x.recursive x.by x.extractor x.callee x.to)))
 
 -- the same of an extractor
 abbrev extraction_of : (env : Environment) (o : CalledTerm) → IsExtractable env o → Service
-extraction_of env o x = record { callee = External (sym_text env x.func); pure = true; kind = extractor_kind false x.infallible; types = x.term.arg_tys }
+extraction_of env o x = record { callee = External (sym_text env x.func); pure = true; kind = extractor_kind x.multi x.infallible; types = x.term.arg_tys }
 
 extraction_is : (env : Environment) (o : CalledTerm) (x : IsExtractable env o) → service_of env o ≡ Some (extraction_of env o x)
 extraction_is env o x =
@@ -254,13 +254,15 @@ values_of env (ty ∷ tys) h =
     let vs = values_of env tys h.1 in
     (h.0.0 ∷ vs.0, (h.0.1, vs.1))
 
-extraction_fits : (env : Environment) (infallible : Bool) (tys : List TypeId) → AllByRecursion (HasValue env) tys → (a : Answer) × Fits env (extractor_kind false infallible) tys a
-extraction_fits env false tys h = (Nothing, tt)
-extraction_fits env true tys h = let vs = values_of env tys h in (Plain vs.0, vs.1)
+extraction_fits : (env : Environment) (multi infallible : Bool) (tys : List TypeId) → AllByRecursion (HasValue env) tys → (a : Answer) × Fits env (extractor_kind multi infallible) tys a
+extraction_fits env true infallible tys h = (Several [], tt)
+extraction_fits env false false tys h = (Nothing, tt)
+extraction_fits env false true tys h = let vs = values_of env tys h in (Plain vs.0, vs.1)
 
-answer_fits : (env : Environment) (partial : Bool) (ty : TypeId) (v : Value) → HasType env v ty → (a : Answer) × Fits env (kind_by false partial) (ty ∷ []) a
-answer_fits env true ty v h = (Nothing, tt)
-answer_fits env false ty v h = (Plain (v ∷ []), (h, tt))
+answer_fits : (env : Environment) (multi partial : Bool) (ty : TypeId) (v : Value) → HasType env v ty → (a : Answer) × Fits env (kind_by multi partial) (ty ∷ []) a
+answer_fits env true partial ty v h = (Several [], tt)
+answer_fits env false true ty v h = (Nothing, tt)
+answer_fits env false false ty v h = (Plain (v ∷ []), (h, tt))
 
 -- ---- no two terms have one external function
 
@@ -330,8 +332,8 @@ named_once name (x ∷ ts) (suc i) (suc j) t u d a b same = ap suc (named_once n
 
 -- ---- of one callee the same is asked
 
-fn_is : (env : Environment) (t : Term) (pure partial recursive : Bool) (func : Sym) (x : ExtractorKind) → t.kind ≡ term_kind.Decl pure false partial recursive (constructor.External func) x → constructor_fn_of env t ≡ Some (constructor_fn env t func)
-fn_is env t pure partial recursive func x e = ap (λ (k : TermKind). option_map (constructor_fn env t) (func_of k)) e
+fn_is : (env : Environment) (t : Term) (pure multi partial recursive : Bool) (func : Sym) (x : ExtractorKind) → t.kind ≡ term_kind.Decl pure multi partial recursive (constructor.External func) x → constructor_fn_of env t ≡ Some (constructor_fn env t func)
+fn_is env t pure multi partial recursive func x e = ap (λ (k : TermKind). option_map (constructor_fn env t) (func_of k)) e
 
 external_name : (a b : List ℕ) → Some (External a) ≡ Some (External b) → a ≡ b
 external_name a b e = cc
@@ -349,10 +351,10 @@ names_of env = map (λ (t : Term). sym_text env t.name) env.terms
 one_term : (env : Environment) → HasFnNames env → IsDistinct bytes_eq (names_of env) → (o p : CalledTerm) (x : IsCallable env o) (y : IsCallable env p) → x.callee ≡ y.callee → o.term.0 ≡ p.term.0
 one_term env names apart o p x y same = by x.by y.by x.kind y.kind (x.to ∙ ap Some same ∙ sym y.to) x.to
   where
-    by : (a b : ConstructorKind) → x.term.kind ≡ term_kind.Decl x.pure false x.partial x.recursive a x.extractor → y.term.kind ≡ term_kind.Decl y.pure false y.partial y.recursive b y.extractor
+    by : (a b : ConstructorKind) → x.term.kind ≡ term_kind.Decl x.pure x.multi x.partial x.recursive a x.extractor → y.term.kind ≡ term_kind.Decl y.pure y.multi y.partial y.recursive b y.extractor
         → callee_by env x.term a ≡ callee_by env y.term b → callee_by env x.term a ≡ Some x.callee → o.term.0 ≡ p.term.0
     by (constructor.External f) (constructor.External g) k l e t =
-        one_place env (constructor_fn_of env) (of_constructors env) env.terms o.term.0 p.term.0 x.term y.term (constructor_fn env x.term f) (constructor_fn env y.term g) names.distinct x.found y.found (fn_is env x.term x.pure x.partial x.recursive f x.extractor k) (fn_is env y.term y.pure y.partial y.recursive g y.extractor l)
+        one_place env (constructor_fn_of env) (of_constructors env) env.terms o.term.0 p.term.0 x.term y.term (constructor_fn env x.term f) (constructor_fn env y.term g) names.distinct x.found y.found (fn_is env x.term x.pure x.multi x.partial x.recursive f x.extractor k) (fn_is env y.term y.pure y.multi y.partial y.recursive g y.extractor l)
         (external_name (sym_text env f) (sym_text env g) e)
     by constructor.Internal constructor.Internal k l e t = named_once (λ (u : Term). sym_text env u.name) env.terms o.term.0 p.term.0 x.term y.term apart x.found y.found (internal_name (sym_text env x.term.name) (sym_text env y.term.name) e)
     by (constructor.External f) constructor.Internal k l e t = cc
@@ -370,7 +372,7 @@ asked_alike env names apart o p x y s t a b same =
     the_service s t (sym a ∙ ap (service_of env) one ∙ b)
 
 -- so of extractors
-extraction_fn : (env : Environment) (o : CalledTerm) (x : IsExtractable env o) → extractor_fn_of env x.term ≡ Some (extractor_fn env x.term (x.func, extractor_kind false x.infallible))
+extraction_fn : (env : Environment) (o : CalledTerm) (x : IsExtractable env o) → extractor_fn_of env x.term ≡ Some (extractor_fn env x.term (x.func, extractor_kind x.multi x.infallible))
 extraction_fn env o x = ap (λ (k : TermKind). option_map (extractor_fn env x.term) (extracted_of k)) x.kind
 
 extracted_alike : (env : Environment) → HasFnNames env → (o p : CalledTerm) (x : IsExtractable env o) (y : IsExtractable env p) (s t : Service) → service_of env o ≡ Some s → service_of env p ≡ Some t → s.callee ≡ t.callee → s ≡ t
@@ -386,9 +388,9 @@ extracted_alike env names o p x y s t a b same =
 roles_apart : (env : Environment) → HasFnNames env → (o p : CalledTerm) (x : IsCallable env o) (y : IsExtractable env p) → x.callee ≡ External (sym_text env y.func) → ⊥
 roles_apart env names o p x y same = by x.by x.kind (x.to ∙ ap Some same)
   where
-    by : (c : ConstructorKind) → x.term.kind ≡ term_kind.Decl x.pure false x.partial x.recursive c x.extractor → callee_by env x.term c ≡ Some (External (sym_text env y.func)) → ⊥
+    by : (c : ConstructorKind) → x.term.kind ≡ term_kind.Decl x.pure x.multi x.partial x.recursive c x.extractor → callee_by env x.term c ≡ Some (External (sym_text env y.func)) → ⊥
     by (constructor.External func) e to =
-        extractor_apart env env.terms p.term.0 o.term.0 y.term x.term _ (constructor_fn env x.term func) names.distinct y.found x.found (extraction_fn env p y) (fn_is env x.term x.pure x.partial x.recursive func x.extractor e)
+        extractor_apart env env.terms p.term.0 o.term.0 y.term x.term _ (constructor_fn env x.term func) names.distinct y.found x.found (extraction_fn env p y) (fn_is env x.term x.pure x.multi x.partial x.recursive func x.extractor e)
         (sym (external_name (sym_text env func) (sym_text env y.func) to))
     by constructor.Internal e to = cc
     by constructor.Absent e to = cc
@@ -409,10 +411,10 @@ inhabited env o t role found is h =
 served_answer : (env : Environment) (o : CalledTerm) → AnswersInhabited env o → IsServed env o → IsAnswerable env o
 served_answer env o values (inl x) =
     let v = (inhabited env o x.term Constructor x.found x.role values).0 in
-    let a = answer_fits env x.partial x.term.ret_ty v.0 v.1 in
+    let a = answer_fits env x.multi x.partial x.term.ret_ty v.0 v.1 in
     record { service = asked_of env o x; is = service_is env o x; answer = a.0; fits = a.1 }
 served_answer env o values (inr x) =
-    let a = extraction_fits env x.infallible x.term.arg_tys (inhabited env o x.term Extractor x.found x.role values) in
+    let a = extraction_fits env x.multi x.infallible x.term.arg_tys (inhabited env o x.term Extractor x.found x.role values) in
     record { service = extraction_of env o x; is = extraction_is env o x; answer = a.0; fits = a.1 }
 
 served_alike : (env : Environment) → HasFnNames env → IsDistinct bytes_eq (names_of env) → (o p : CalledTerm) → IsServed env o → IsServed env p → (s t : Service) → service_of env o ≡ Some s → service_of env p ≡ Some t → s.callee ≡ t.callee → s ≡ t

@@ -9,13 +9,13 @@ use Rattle.isle_core.specs.declared.rule_sets.Binding.TheVariants as binding
 use Rattle.isle_core.specs.declared.rule_sets.RuleSet.{RuleSet}
 use Rattle.isle_core.specs.Having.{const_of}
 use Rattle.isle_core.specs.Meaning.{Meaning}
-use Rattle.isle_core.specs.Calling.{Calling, ByTurns, ByCases, NoCall, calling, extracting, is_fallible}
+use Rattle.isle_core.specs.Calling.{Calling, ByTurns, ByCases, NoCall, calling, extracting, answers_often, is_fallible}
 use Rattle.isle_core.specs.Making.{Making, MakesVariant, MakesStruct, MakesNothing, making}
 use Rattle.isle_core.specs.OccurringConstants.{TypedConstant, rules_constants}
 use Rattle.isle_core.specs.Opening.{Opening, AsVariant, AsStruct, ByExtractor, opening, answer_path, result_path, part_path}
 use Rattle.isle_core.specs.CalledTerms.{CalledTerm, Extractor, is_made, called}
 use Rattle.isle_core.specs.Lawful.{AnswersFit, RoleFits, IsLawful}
-use Rattle.isle_core.specs.Path.{Path, Called, Extracted, Inner, MadeVariant, MadeStruct, Paths, paths_of}
+use Rattle.isle_core.specs.Path.{Path, Called, Chosen, Extracted, Inner, MadeVariant, MadeStruct, Paths, paths_of}
 use Rattle.isle_core.specs.Rule.{Environment, Rule, rules_of}
 use Rattle.isle_core.specs.StandsFor.{StandsFor}
 use Rattle.isle_core.specs.RightSide.{term_path}
@@ -42,27 +42,29 @@ same_term a b ps qs j k e = cc
 abbrev IsOf : List CalledTerm → Path → Type 0
 IsOf terms p = (term : TermId) (qs : Paths) (k : ℕ) → p ≡ Called term qs k → Contains terms (constructed term)
 
--- a path and its inner value, which is no call
-inner_of : (b : Bool) (terms : List CalledTerm) (p : Path) → IsOf terms p → AllByRecursion (IsOf terms) (cond b (p ∷ Inner p ∷ []) (p ∷ []))
-inner_of true terms p h = (h, (λ term qs k e. cc, tt))
-inner_of false terms p h = (h, tt)
+-- a path and its item or its inner value, which is no call
+inner_of : (often fallible : Bool) (terms : List CalledTerm) (p : Path) → IsOf terms p → AllByRecursion (IsOf terms) (cond often (p ∷ Chosen p ∷ []) (cond fallible (p ∷ Inner p ∷ []) (p ∷ [])))
+inner_of true fallible terms p h = (h, (λ term qs k e. cc, tt))
+inner_of false true terms p h = (h, (λ term qs k e. cc, tt))
+inner_of false false terms p h = (h, tt)
 
 term_of : (env : Environment) (mk : Making) (terms : List CalledTerm) (term : TermId) (ps : Paths) (j : ℕ) → making env term ≡ mk → (is_made env term ≡ false → Contains terms (constructed term)) → AllByRecursion (IsOf terms) (with_inner (calling env term) (term_path mk term ps j))
 term_of env MakesNothing terms term ps j e h =
-    inner_of (is_fallible (calling env term)) terms (Called term ps j) (λ other qs k d. subst (λ x. Contains terms (constructed x)) (same_term term other ps qs j k d) (h (not_made (slice_get env.terms term.0) e)))
-term_of env (MakesVariant ty variant) terms term ps j e h = inner_of (is_fallible (calling env term)) terms (MadeVariant ty variant ps) (λ other qs k d. cc)
-term_of env (MakesStruct ty) terms term ps j e h = inner_of (is_fallible (calling env term)) terms (MadeStruct ty ps) (λ other qs k d. cc)
+    inner_of (answers_often (calling env term)) (is_fallible (calling env term)) terms (Called term ps j) (λ other qs k d. subst (λ x. Contains terms (constructed x)) (same_term term other ps qs j k d) (h (not_made (slice_get env.terms term.0) e)))
+term_of env (MakesVariant ty variant) terms term ps j e h = inner_of (answers_often (calling env term)) (is_fallible (calling env term)) terms (MadeVariant ty variant ps) (λ other qs k d. cc)
+term_of env (MakesStruct ty) terms term ps j e h = inner_of (answers_often (calling env term)) (is_fallible (calling env term)) terms (MadeStruct ty ps) (λ other qs k d. cc)
 
 -- what a term's pattern calls is no constructor's call
 opening_of : (terms : List CalledTerm) (opened : Opening) (p : Path) → AllByRecursion (IsOf terms) (opening_paths opened p)
 opening_of terms (AsVariant ty variant) p = tt
 opening_of terms (AsStruct ty) p = tt
-opening_of terms (ByExtractor term c count) p = inner_of (is_fallible c) terms (Extracted term p) (λ other qs k e. cc)
+opening_of terms (ByExtractor term c count) p = inner_of (answers_often c) (is_fallible c) terms (Extracted term p) (λ other qs k e. cc)
 
 -- nor is what it gives
-answer_of : (terms : List CalledTerm) (b : Bool) (term : TermId) (p : Path) → IsOf terms (cond b (Inner (Extracted term p)) (Extracted term p))
-answer_of terms true term p other qs k e = cc
-answer_of terms false term p other qs k e = cc
+answer_of : (terms : List CalledTerm) (often fallible : Bool) (term : TermId) (p : Path) → IsOf terms (cond often (Chosen (Extracted term p)) (cond fallible (Inner (Extracted term p)) (Extracted term p)))
+answer_of terms true fallible term p other qs k e = cc
+answer_of terms false true term p other qs k e = cc
+answer_of terms false false term p other qs k e = cc
 
 result_of : (terms : List CalledTerm) (count i : ℕ) (p : Path) → IsOf terms p → IsOf terms (result_path count i p)
 result_of terms zero i p h = λ other qs k e. cc
@@ -72,7 +74,7 @@ result_of terms (suc (suc count)) i p h = λ other qs k e. cc
 part_of : (terms : List CalledTerm) (opened : Opening) (i : ℕ) (p : Path) → IsOf terms (part_path opened i p)
 part_of terms (AsVariant ty variant) i p = λ other qs k e. cc
 part_of terms (AsStruct ty) i p = λ other qs k e. cc
-part_of terms (ByExtractor term c count) i p = result_of terms count i (answer_path c (Extracted term p)) (answer_of terms (is_fallible c) term p)
+part_of terms (ByExtractor term c count) i p = result_of terms count i (answer_path c (Extracted term p)) (answer_of terms (answers_often c) (is_fallible c) term p)
 
 -- what rules' parts make calls these
 each_of : (env : Environment) (terms : List CalledTerm) (constants : List TypedConstant) → HoldsOfEach (IsOf terms) env terms constants

@@ -1,6 +1,7 @@
 -- Functions that are emitted one after another.
 use Rattle.std.proofs.Common.{◌≡◌, ℕ, ◌+◌, ◌<◌, List, Bool, [], ◌∷◌, ◌++◌, length, take, get_or, Some, None, sym, ap, ◌∙◌, subst}
 use Rattle.std.specs.Prelude.{slice_get}
+use Rattle.std.specs.List.{AllByRecursion}
 use Rattle.std.proofs.lemmas.List.{take_more}
 use Rattle.std.proofs.lemmas.Option.{slice_get_within, slice_get-get_or}
 use Rattle.isle_core.specs.declared.TermId.{TermId}
@@ -9,11 +10,14 @@ use Rattle.isle_core.specs.declared.rule_sets.RuleSet.{RuleSet}
 use Rattle.isle_core.specs.declared.types.Term.{Term}
 use Rattle.isle_core.specs.Block.{Block}
 use Rattle.isle_core.specs.BlockLawful.{IsLawfulBlock}
+use Rattle.isle_core.specs.declared.rule_sets.FlatRule.{FlatRule}
+use Rattle.isle_core.specs.Path.{paths_of}
 use Rattle.isle_core.specs.ReturnPositions.{return_positions, ArePositionsOf}
 use Rattle.isle_core.specs.Rule.{Environment}
-use Rattle.isle_core.specs.Serializable.{IsSerializable}
 use Rattle.isle_core.specs.Setting.{setting}
 use Rattle.isle_core.specs.SingleArms.{HasSingleArms}
+use Rattle.isle_blocks.specs.CallsOnce.{HasCallsOnce}
+use Rattle.isle_blocks.specs.Several.{HasItsLists}
 use Rattle.isle_tree.specs.Program.{Function}
 use Rattle.isle_simulation.specs.TermFunction.{term_function}
 use Rattle.isle_simulation.proofs.Made.{function_made}
@@ -27,28 +31,38 @@ some_one a b e = cc
 pub at_place : (ts : List Term) (i : ℕ) (x t : Term) → x ≡ get_or ts i x → slice_get ts i ≡ Some t → slice_get ts i ≡ Some x
 at_place ts i x t is e = slice_get-get_or ts i x (slice_get_within ts i t e) ∙ ap Some (sym is)
 
+-- the term that is read where one may be emitted is that one
+pub term_is : (files : Files) (env : Environment) (id : TermId) (s : RuleSet) (t : Term) → (h : CanEmit files env (id, s)) → slice_get env.terms id.0 ≡ Some t → t ≡ h.term
+term_is files env id s t h there = some_one t h.term (sym there ∙ h.found)
+
+-- the ordered calls of its rules stand once
+pub calls_once : (files : Files) (env : Environment) (id : TermId) (s : RuleSet) → CanEmit files env (id, s) → AllByRecursion (HasCallsOnce env (paths_of s.bindings)) s.rules
+calls_once files env id s h = each s.rules h.lists
+  where
+    each : (fs : List FlatRule) → AllByRecursion (HasItsLists env (paths_of s.bindings)) fs → AllByRecursion (HasCallsOnce env (paths_of s.bindings)) fs
+    each [] k = tt
+    each (f ∷ fs) k = (record { once = k.0.once; late = k.0.late }, each fs k.1)
+
 -- the function of a block of the rule set is emitted for it
-pub is_emitted : (logging : Bool) (files : Files) (env : Environment) (id : TermId) (s : RuleSet) (t : Term) (b : Block) (f : Function) → CanEmit files env (id, s) → slice_get env.terms id.0 ≡ Some t
-    → ((u : Term) → IsSerializable env u s → IsLawfulBlock (setting env u s.bindings) b) → HasSingleArms b → MeansSet env s b → ArePositionsOf s.rules (return_positions b) → term_function logging files (setting env t s.bindings) b ≡ Some f → IsEmitted logging files env id s f
+pub is_emitted : (logging : Bool) (files : Files) (env : Environment) (id : TermId) (s : RuleSet) (t : Term) (b : Block) (f : Function) → (h : CanEmit files env (id, s)) → slice_get env.terms id.0 ≡ Some t
+    → IsLawfulBlock (setting env h.term s.bindings) b → HasSingleArms b → MeansSet env h.term s b → ArePositionsOf s.rules (return_positions b) → term_function logging files (setting env t s.bindings) b ≡ Some f → IsEmitted logging files env id s f
 is_emitted logging files env id s t b f h there lawful single means returns given = record {
   term = h.term;
   found = h.found;
   block = b;
-  lawful = lawful h.term h.ready;
+  lawful = lawful;
   single = single;
   means = means;
   returns = returns;
-  once = h.emittable.once;
-  given = ap (λ (u : Term). term_function logging files (setting env u s.bindings) b) (sym (some_one t h.term (sym there ∙ h.found))) ∙ given;
+  given = ap (λ (u : Term). term_function logging files (setting env u s.bindings) b) (sym (term_is files env id s t h there)) ∙ given;
 }
 
 -- and its function is there
-pub is_given : (logging : Bool) (files : Files) (env : Environment) (id : TermId) (s : RuleSet) (t : Term) (b : Block) → CanEmit files env (id, s) → slice_get env.terms id.0 ≡ Some t
-    → ((u : Term) → IsSerializable env u s → IsLawfulBlock (setting env u s.bindings) b) → HasSingleArms b → None ≡ term_function logging files (setting env t s.bindings) b → ⊥
+pub is_given : (logging : Bool) (files : Files) (env : Environment) (id : TermId) (s : RuleSet) (t : Term) (b : Block) → (h : CanEmit files env (id, s)) → slice_get env.terms id.0 ≡ Some t
+    → IsLawfulBlock (setting env h.term s.bindings) b → HasSingleArms b → None ≡ term_function logging files (setting env t s.bindings) b → ⊥
 is_given logging files env id s t b h there lawful single none =
-    let same = some_one h.term t (sym h.found ∙ there) in
-    let made = function_made logging files env h.term s.bindings b h.emittable.once (lawful h.term h.ready) single in
-    let bad : None ≡ Some (function_of logging files env h.term s.bindings b) = none ∙ ap (λ (u : Term). term_function logging files (setting env u s.bindings) b) (sym same) ∙ made in
+    let made = function_made logging files env h.term s.bindings b lawful single in
+    let bad : None ≡ Some (function_of logging files env h.term s.bindings b) = none ∙ ap (λ (u : Term). term_function logging files (setting env u s.bindings) b) (term_is files env id s t h there) ∙ made in
     cc
 
 both_emitted : (logging : Bool) (files : Files) (env : Environment) (ss ts : List (TermId × RuleSet)) (fs gs : List Function) → AreEmitted logging files env ss fs → AreEmitted logging files env ts gs → AreEmitted logging files env (ss ++ ts) (fs ++ gs)

@@ -14,7 +14,7 @@ use Rattle.isle_core.specs.Rule.{Environment, Rule, rules_of}
 use Rattle.isle_ast.specs.Tree.{Def}
 use Rattle.isle_checks.specs.CheckList.{IsClean}
 use Rattle.isle_rulesets.specs.Grouping.{AreRuleSets}
-use Rattle.isle_sema.specs.Typing.{TypedBuilt}
+use Rattle.isle_sema.specs.Typing.{Typed}
 use Rattle.isle_sema.proofs.TypedTerms.{typed_names, typed_types}
 use Rattle.isle_tree.specs.Program.{Function, Program}
 use Rattle.isle_tree.specs.WellFormed.{IsTraitFn, fn_names, declared_names, callables, IsFunction, IsTypeItem, IsWellFormed}
@@ -25,8 +25,7 @@ use Rattle.isle_simulation.specs.Emitted.{IsEmittable}
 use Rattle.isle_simulation.specs.TermFns.{callables_of, HasTermFns}
 use Rattle.isle_simulation.specs.TraitFns.{trait_fns_of, HasFnNames}
 use Rattle.isle_simulation.proofs.EmittedHeads.{callables_are}
-use Rattle.isle_simulation.proofs.TraitFnForms.{IsPlainTerm, fns_are}
-use Rattle.isle_codegen.proofs.PlainTerms.{typed_once, typed_extractor}
+use Rattle.isle_simulation.proofs.TraitFnForms.{HasNamedTypes, fns_are}
 use Rattle.isle_simulation.specs.OfTerm.{AreDeclared}
 use Rattle.isle_core.specs.BuiltRule.{IsBuiltRule, CallsBuiltTerms}
 use Rattle.isle_core.proofs.LawfulExists.{lawful_with}
@@ -58,7 +57,7 @@ are_declared logging files env (s ∷ sets) (f ∷ fs) h = (
   record {
     term = h.0.term;
     found = h.0.found;
-    of_term = of_its_term logging files env h.0.term s.1.bindings h.0.block f h.0.lawful h.0.single h.0.once h.0.given;
+    of_term = of_its_term logging files env h.0.term s.1.bindings h.0.block f h.0.lawful h.0.single h.0.given;
   },
   are_declared logging files env sets fs h.1,
 )
@@ -78,11 +77,11 @@ are_from_blocks logging files env (s ∷ sets) (f ∷ fs) stand h = (
     block = h.0.block;
     lawful = h.0.lawful;
     means = h.0.means;
-    shape = has_shape logging files env h.0.term s.1.bindings h.0.block f h.0.lawful h.0.single h.0.once h.0.given;
+    shape = has_shape logging files env h.0.term s.1.bindings h.0.block f h.0.lawful h.0.single h.0.given;
     statements = h.0.given;
-    lines = its_lines logging files env h.0.term s.1.bindings h.0.block f h.0.lawful h.0.single h.0.once h.0.given;
+    lines = its_lines logging files env h.0.term s.1.bindings h.0.block f h.0.lawful h.0.single h.0.given;
     returns = returns_of_rules env (paths_of s.1.bindings) (rules_of env s.0) s.1.rules 0 (return_positions h.0.block) stand.0.flat h.0.returns;
-    calls = λ callee c. bound_called env s.0 s.1 stand.0 callee (function_calls logging files env h.0.term s.1.bindings h.0.block f h.0.lawful h.0.single h.0.once h.0.given callee c);
+    calls = λ callee c. bound_called env s.0 s.1 stand.0 callee (function_calls logging files env h.0.term s.1.bindings h.0.block f h.0.lawful h.0.single h.0.given callee c);
   },
   are_from_blocks logging files env sets fs stand.1 h.1,
 )
@@ -97,26 +96,26 @@ are_well_formed : (logging : Bool) (files : Files) (env : Environment) (p : Prog
 are_well_formed logging files env p [] [] same c h = tt
 are_well_formed logging files env p (s ∷ sets) (f ∷ fs) same c h =
     let e : IsEmittable env h.0.term = subst (IsEmittable env) (some_same c.0.term h.0.term (sym c.0.found ∙ h.0.found)) c.0.emittable in (
-      emitted_well_formed logging files env h.0.term s.1.bindings h.0.block f h.0.lawful h.0.single h.0.once h.0.given e c.0.names c.0.fns c.0.term_fns p same,
+      emitted_well_formed logging files env h.0.term s.1.bindings h.0.block f h.0.lawful h.0.single h.0.given e c.0.names c.0.fns c.0.term_fns p same,
       are_well_formed logging files env p sets fs same c.1 h.1,
     )
 are_well_formed logging files env p [] (f ∷ fs) same c h = absurd h
 are_well_formed logging files env p (s ∷ sets) [] same c h = absurd h
 
--- the types of all terms have names of Rust, and each answers at most once, also by an external extractor
-plain_terms : (defs : List Def) (env : Environment) → TypedBuilt defs env → AreLawful (is_ruled env.rules) env.types → AllByRecursion (IsPlainTerm env) env.terms
-plain_terms defs env typed lawful = each env.terms (λ i t e. record { types = texts_are (is_ruled env.rules) env (t.ret_ty ∷ t.arg_tys) lawful (typed_types defs env i t typed.typed e); once = typed_once defs env i t typed e; extractor = typed_extractor defs env i t typed e })
+-- the types of all terms have names of Rust
+named_types : (defs : List Def) (env : Environment) → Typed defs env → AreLawful (is_ruled env.rules) env.types → AllByRecursion (HasNamedTypes env) env.terms
+named_types defs env typed lawful = each env.terms (λ i t e. texts_are (is_ruled env.rules) env (t.ret_ty ∷ t.arg_tys) lawful (typed_types defs env i t typed e))
   where
-    each : (ts : List Term) → ((i : ℕ) (t : Term) → slice_get ts i ≡ Some t → IsPlainTerm env t) → AllByRecursion (IsPlainTerm env) ts
+    each : (ts : List Term) → ((i : ℕ) (t : Term) → slice_get ts i ≡ Some t → HasNamedTypes env t) → AllByRecursion (HasNamedTypes env) ts
     each [] h = tt
     each (t ∷ ts) h = (h 0 t refl, each ts (λ i u e. h (suc i) u e))
 
-module _ (defs : List Def) (logging : Bool) (files : Files) (env : Environment) (typed : TypedBuilt defs env) (clean : IsClean env) (sets : List (TermId × RuleSet)) (stand : AreRuleSets env sets) (fs : List Function) (emitted : AreEmitted logging files env sets fs) where
+module _ (defs : List Def) (logging : Bool) (files : Files) (env : Environment) (typed : Typed defs env) (clean : IsClean env) (sets : List (TermId × RuleSet)) (stand : AreRuleSets env sets) (fs : List Function) (emitted : AreEmitted logging files env sets fs) where
   names_of : map (λ (f : Function). f.term) fs ≡ map (term_name env) (with_rules env)
   names_of = emitted_names logging files env sets fs emitted ∙ ap (map (term_name env)) stand.ids
 
   distinct : IsDistinct bytes_eq (map (λ (f : Function). f.term) fs)
-  distinct = subst (IsDistinct bytes_eq) (sym names_of) (distinct_names env (typed_names defs env typed.typed))
+  distinct = subst (IsDistinct bytes_eq) (sym names_of) (distinct_names env (typed_names defs env typed))
 
   -- the functions of a program that are these
   declared_in : (p : Program) → p.fns ≡ fs → AreDeclared files env (with_rules env) p.fns
@@ -126,8 +125,8 @@ module _ (defs : List Def) (logging : Bool) (files : Files) (env : Environment) 
   pub program_well_formed : (p : Program) → HasFnNames env → AreLawful (is_ruled env.rules) env.types → p.trait_fns ≡ trait_fns_of env → p.types ≡ type_items_of env → p.fns ≡ fs → AllByRecursion (CanEmit files env) sets → IsWellFormed p
   program_well_formed p names lawful a b e c =
       record {
-        trait_fns = subst (AllByRecursion IsTraitFn) (sym a) (fns_are env env.terms names.identifiers (plain_terms defs env typed lawful));
-        types = subst (AllByRecursion IsTypeItem) (sym b) (items_are (is_ruled env.rules) env.types lawful (typed_parts defs env typed.typed).types);
+        trait_fns = subst (AllByRecursion IsTraitFn) (sym a) (fns_are env env.terms names.identifiers (named_types defs env typed lawful));
+        types = subst (AllByRecursion IsTypeItem) (sym b) (items_are (is_ruled env.rules) env.types lawful (typed_parts defs env typed).types);
         fns = subst (AllByRecursion (IsFunction p)) (sym e) (are_well_formed logging files env p sets fs (callables_are files env p a (declared_in p e)) c emitted);
         distinct = subst (λ (xs : List Function). IsDistinct bytes_eq (map (λ (f : Function). f.term) xs)) (sym e) distinct;
         trait_names = subst (λ (xs : List TraitFn). IsDistinct bytes_eq (fn_names xs)) (sym a) names.distinct;
@@ -146,7 +145,7 @@ module _ (defs : List Def) (logging : Bool) (files : Files) (env : Environment) 
     term = t;
     found = there;
     arguments = values_of env t.arg_tys;
-    meanings = λ none values h history. lawful_with env id h (answerable env (rules_of env id) names (typed_names defs env typed.typed) (of_rules (IsBuiltRule env.terms) (typed_built defs env typed)) (of_rules (CallsBuiltTerms env.terms) (typed_terms defs env typed)) values) none history;
+    meanings = λ none values h history. lawful_with env id h (answerable env (rules_of env id) names (typed_names defs env typed) (of_rules (IsBuiltRule env.terms) (typed_built defs env typed)) (of_rules (CallsBuiltTerms env.terms) (typed_terms defs env typed)) values) none history;
   }
     where
       of_rules : (P : Rule → Type 0) → All P env.rules → AllByRecursion P (rules_of env id)
@@ -159,7 +158,7 @@ module _ (defs : List Def) (logging : Bool) (files : Files) (env : Environment) 
         names = ap (map (λ (f : Function). f.term)) e ∙ names_of;
         declared = declared_in p e;
         blocks = subst (λ (xs : List Function). AreFromBlocks logging files env (with_rules env) xs) (sym e) (subst (λ (ids : List TermId). AreFromBlocks logging files env ids fs) stand.ids (are_from_blocks logging files env sets fs (recursion_from_All (λ (s : TermId × RuleSet). StandsFor env s.1 (rules_of env s.0)) sets stand.stand) emitted));
-        mean = λ id c. means_rules defs logging files env p id typed clean (has_rust_names (is_ruled env.rules) env lawful (typed_parts defs env typed.typed)) names term_fns c (subst (λ (xs : List Function). HasFunction logging files env xs id) (sym e) (function_for id c));
+        mean = λ id c. means_rules defs logging files env p id typed clean (has_rust_names (is_ruled env.rules) env lawful (typed_parts defs env typed)) names term_fns c (subst (λ (xs : List Function). HasFunction logging files env xs id) (sym e) (function_for id c));
         meant = λ id c. meant_of names id (function_for id c).emitted.term (function_for id c).emitted.found;
-        values = inhabited_valued env (typed_parts defs env typed.typed).variants;
+        values = inhabited_valued env (typed_parts defs env typed).variants;
       }

@@ -6,12 +6,12 @@ use Rattle.isle_core.specs.declared.TermId.{TermId}
 use Rattle.isle_core.specs.declared.types.Term.{Term as CodeTerm}
 use Rattle.isle_core.specs.declared.types.TermKind.{TermKind}
 use Rattle.isle_core.specs.declared.types.TermKind.TheVariants as term_kind
-use Rattle.isle_core.specs.Calling.{calling, extracting, is_fallible}
+use Rattle.isle_core.specs.Calling.{calling, extracting, answers_often, is_fallible}
 use Rattle.isle_core.specs.CalledTerms.{CalledTerm, is_made_kind, is_made_term, is_made, called}
 use Rattle.isle_core.specs.Making.{Making, MakesVariant, MakesStruct, MakesNothing, making_kind, making_of, making}
 use Rattle.isle_core.specs.OccurringConstants.{TypedConstant, rules_constants}
 use Rattle.isle_core.specs.Opening.{Opening, AsVariant, AsStruct, ByExtractor, opening_by, opening, answer_path, result_path, part_path}
-use Rattle.isle_core.specs.Path.{Path, Extracted, Called, Inner, MadeVariant, MadeStruct, Paths}
+use Rattle.isle_core.specs.Path.{Path, Extracted, Called, Chosen, Inner, MadeVariant, MadeStruct, Paths}
 use Rattle.isle_core.specs.RightSide.{term_path}
 use Rattle.isle_core.specs.Rule.{Environment, Rule}
 use Rattle.isle_core.specs.RulePaths.{opening_paths, with_inner, rules_paths}
@@ -48,9 +48,10 @@ module _ (terms : List CalledTerm) (env : Environment) where
       by (MakesStruct ty) e = tt
       by MakesNothing e = among (not_made (slice_get env.terms term.0) e)
 
-  answer_from : (b : Bool) (term : TermId) (p : Path) → Contains terms (extracted term) → IsFrom terms (cond b (Inner (Extracted term p)) (Extracted term p))
-  answer_from true term p h = tt
-  answer_from false term p h = h
+  answer_from : (often fallible : Bool) (term : TermId) (p : Path) → Contains terms (extracted term) → IsFrom terms (cond often (Chosen (Extracted term p)) (cond fallible (Inner (Extracted term p)) (Extracted term p)))
+  answer_from true fallible term p h = tt
+  answer_from false true term p h = tt
+  answer_from false false term p h = h
 
   result_from : (count i : ℕ) (p : Path) → IsFrom terms p → IsFrom terms (result_path count i p)
   result_from zero i p h = tt
@@ -60,25 +61,22 @@ module _ (terms : List CalledTerm) (env : Environment) where
   part_from : (opened : Opening) (i : ℕ) (p : Path) → IsFromOpening terms opened → IsFrom terms (part_path opened i p)
   part_from (AsVariant ty variant) i p h = tt
   part_from (AsStruct ty) i p h = tt
-  part_from (ByExtractor term c count) i p h = result_from count i (answer_path c (Extracted term p)) (answer_from (is_fallible c) term p h)
+  part_from (ByExtractor term c count) i p h = result_from count i (answer_path c (Extracted term p)) (answer_from (answers_often c) (is_fallible c) term p h)
+
+  inner_from : (often fallible : Bool) (p : Path) → IsFrom terms p → AllByRecursion (IsFrom terms) (cond often (p ∷ Chosen p ∷ []) (cond fallible (p ∷ Inner p ∷ []) (p ∷ [])))
+  inner_from true fallible p h = (h, (tt, tt))
+  inner_from false true p h = (h, (tt, tt))
+  inner_from false false p h = (h, tt)
 
   opening_paths_from : (opened : Opening) (p : Path) → IsFromOpening terms opened → AllByRecursion (IsFrom terms) (opening_paths opened p)
   opening_paths_from (AsVariant ty variant) p h = tt
   opening_paths_from (AsStruct ty) p h = tt
-  opening_paths_from (ByExtractor term c count) p h = pick (is_fallible c)
-    where
-      pick : (x : Bool) → AllByRecursion (IsFrom terms) (cond x (Extracted term p ∷ Inner (Extracted term p) ∷ []) (Extracted term p ∷ []))
-      pick true = (h, (tt, tt))
-      pick false = (h, tt)
-
-  inner_from : (b : Bool) (p : Path) → IsFrom terms p → AllByRecursion (IsFrom terms) (cond b (p ∷ Inner p ∷ []) (p ∷ []))
-  inner_from true p h = (h, (tt, tt))
-  inner_from false p h = (h, tt)
+  opening_paths_from (ByExtractor term c count) p h = inner_from (answers_often c) (is_fallible c) (Extracted term p) h
 
   term_from : (mk : Making) (term : TermId) (ps : Paths) (k : ℕ) → AllByRecursion (IsFrom terms) (with_inner (calling env term) (term_path mk term ps k))
-  term_from MakesNothing term ps k = inner_from (is_fallible (calling env term)) (Called term ps k) tt
-  term_from (MakesVariant ty variant) term ps k = inner_from (is_fallible (calling env term)) (MadeVariant ty variant ps) tt
-  term_from (MakesStruct ty) term ps k = inner_from (is_fallible (calling env term)) (MadeStruct ty ps) tt
+  term_from MakesNothing term ps k = inner_from (answers_often (calling env term)) (is_fallible (calling env term)) (Called term ps k) tt
+  term_from (MakesVariant ty variant) term ps k = inner_from (answers_often (calling env term)) (is_fallible (calling env term)) (MadeVariant ty variant ps) tt
+  term_from (MakesStruct ty) term ps k = inner_from (answers_often (calling env term)) (is_fallible (calling env term)) (MadeStruct ty ps) tt
 
   -- what rules' parts make is an answer of one of these, if of any extractor
   each_from : (constants : List TypedConstant) → HoldsOfEach (IsFrom terms) env terms constants

@@ -12,7 +12,7 @@ use Rattle.isle_core.specs.Terms.{term_ids, has_rules, with_rules, sym_text, ter
 use Rattle.isle_core.specs.Rule.{Environment}
 use Rattle.isle_core.proofs.Contained.{head_contained, tail_contained, contained_cases, none_contained}
 use Rattle.isle_ast.specs.Tree.{Def}
-use Rattle.isle_sema.specs.Typing.{TypedBuilt}
+use Rattle.isle_sema.specs.Typing.{Typed}
 use Rattle.isle_sema.proofs.TypedTerms.{typed_there}
 use Rattle.isle_names.specs.declared.name_error.NameError.{NameError}
 use Rattle.isle_names.specs.Claims.{IsLawfulClaim}
@@ -49,13 +49,13 @@ id_there env id lt =
     (id.0, subst (λ n. id.0 < n) (sym long) lt, get_or-map-range_with_len make 0 (length env.terms) id.0 id.0 id lt (omega arith))
 
 -- a typed environment of such names may be compiled
-pub compilable : (names : List (List ℕ)) (defs : List Def) (env : Environment) → TypedBuilt defs env → AreLawfulNames names env → IsCompilable defs env
+pub compilable : (names : List (List ℕ)) (defs : List Def) (env : Environment) → Typed defs env → AreLawfulNames names env → IsCompilable defs env
 compilable names defs env typed h =
     let parts = parts_are_lawful names env h in
     record {
       typed = typed;
       names = all_from (λ (id : TermId). is_term_name (term_name env id)) (with_rules env) (λ id c.
-          let t = typed_there defs env id typed.typed c in
+          let t = typed_there defs env id typed c in
           let ruled : has_rules env id ≡ true = All-contains (λ (x : TermId). has_rules env x ≡ true) (with_rules env) id (filter_passes (has_rules env) (term_ids env)) c in
           subst (λ n. is_term_name n ≡ true) (sym (name_of_term env id t.0 t.1)) (parts.terms id.0 t.0 t.1 ruled));
       fns = parts.fns;

@@ -7,6 +7,8 @@ pub mod NamedConstants
 pub mod ExtractedPaths
 pub mod CalledTerms
 pub mod RulePositions
+pub mod ServedWorks
+pub mod ReadLists
 pub mod MeanRules
 pub mod TypedNames
 pub mod Emitting
@@ -15,9 +17,7 @@ pub mod InhabitedTypes
 pub mod EmittedProgram
 pub mod Placed
 pub mod LawfulNames
-pub mod PlainTerms
 pub mod Emissions
 pub mod Answerable
 pub mod RulesApart
 pub mod Accepted
-pub mod FormSteps

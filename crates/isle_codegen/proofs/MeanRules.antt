@@ -1,5 +1,5 @@
 -- The functions of an environment mean its rules.
-use Rattle.std.proofs.Common.{◌≡◌, ℕ, List, [], ◌∷◌, map, Bool, true, false, cond, Option, Some, None, refl, sym, ap, ◌∙◌, subst, ⊎_elim}
+use Rattle.std.proofs.Common.{◌≡◌, ℕ, List, [], ◌∷◌, map, Bool, true, false, cond, Option, Some, None, refl, sym, ap, ◌∙◌, subst, ⊎_elim, true≢false}
 use Rattle.std.specs.Prelude.{Contains, All, IsSomeAnd, filter, option_map, ◌==◌}
 use Rattle.std.proofs.lemmas.List.Elements.{All-from_recursion, recursion_from_All}
 use Rattle.std.proofs.lemmas.Slice.Eq.{bytes_eq-Decides}
@@ -9,6 +9,7 @@ use Rattle.isle_core.specs.declared.TermId.{TermId}
 use Rattle.isle_core.specs.declared.files.Files.{Files}
 use Rattle.isle_core.specs.declared.rule_sets.RuleSet.{RuleSet}
 use Rattle.isle_core.specs.declared.types.ReturnKind.{ReturnKind}
+use Rattle.isle_core.specs.declared.types.ReturnKind.TheVariants as return_kind
 use Rattle.isle_core.specs.declared.types.Term.{Term}
 use Rattle.isle_core.specs.Value.{Value, End, Ran}
 use Rattle.isle_core.specs.Meaning.{Meaning}
@@ -17,26 +18,29 @@ use Rattle.isle_core.specs.Nameless.{nameless_end, nameless_ran}
 use Rattle.isle_core.proofs.RuleMatches.{IsTested}
 use Rattle.isle_core.specs.Lawful.{IsLawful}
 use Rattle.isle_core.specs.HighestMatch.{outcome_of}
-use Rattle.isle_core.specs.Calling.{kind_of, AnswersOnce}
+use Rattle.isle_core.specs.Calling.{is_several, kind_of, AnswersOnce}
 use Rattle.isle_core.specs.Outcome.{Prescription, Prescribed}
 use Rattle.isle_core.specs.Path.{paths_of}
 use Rattle.isle_core.specs.BlockRun.{block_outcome}
 use Rattle.isle_core.specs.StandsFor.{StandsFor}
-use Rattle.isle_core.specs.Terms.{term_name, with_rules}
+use Rattle.isle_core.specs.SeveralRun.{several_outcome}
+use Rattle.isle_core.specs.Terms.{sym_text, term_name, with_rules}
 use Rattle.isle_core.specs.Rule.{Environment, Rule, rules_of}
 use Rattle.isle_core.specs.BuiltRule.{IsBuiltRule, CallsBuiltTerms}
 use Rattle.isle_core.specs.Scope.{IsScopedRule}
 use Rattle.isle_core.proofs.Contained.{head_contained, tail_contained, contained_cases, none_contained}
 use Rattle.isle_core.proofs.OutcomeOf.{outcome_prescribed, highest_is_one}
 use Rattle.isle_core.proofs.OutcomeOnce.{prescribed_once}
-use Rattle.isle_core.proofs.SetMeans.{set_means}
+use Rattle.isle_core.proofs.SetMeans.{AreServedRules, set_means}
 use Rattle.isle_printer.specs.Bytes.{same_bytes}
 use Rattle.isle_printer.proofs.Bytes.{same_bytes_refl, same_bytes_sound}
 use Rattle.isle_ast.specs.Tree.{Def}
-use Rattle.isle_sema.specs.Typing.{TypedBuilt}
+use Rattle.isle_sema.specs.Typing.{Typed}
+use Rattle.isle_sema.proofs.OftenRules.{typed_single}
 use Rattle.isle_sema.proofs.BuiltRules.{typed_built, typed_scoped, typed_terms, typed_tests}
 use Rattle.isle_checks.specs.CheckList.{IsClean}
 use Rattle.isle_codegen.proofs.RulesApart.{rules_apart}
+use Rattle.isle_codegen.proofs.ServedWorks.{several_prescribes}
 use Rattle.isle_tree.specs.Program.{Function, Program}
 use Rattle.isle_tree.specs.Run.{run, function_of}
 use Rattle.isle_codegen.specs.Emits.{IsEmitted, AreEmitted}
@@ -45,8 +49,8 @@ use Rattle.isle_simulation.specs.Ends.{end_of}
 use Rattle.isle_simulation.specs.RustNames.{HasRustNames}
 use Rattle.isle_simulation.specs.TermFns.{HasTermFns}
 use Rattle.isle_simulation.specs.TraitFns.{HasFnNames}
-use Rattle.isle_codegen.specs.Headline.{GivesAs, GivesOutcome, MeansRules}
-use Rattle.isle_simulation.proofs.GivenFunctions.{runs_as_block}
+use Rattle.isle_codegen.specs.Headline.{GivesAs, GivesOutcome, GivesFirst, GivesRules, MeansRules}
+use Rattle.isle_simulation.proofs.GivenFunctions.{runs_as_block, runs_as_several}
 use Rattle.isle_simulation.proofs.Simulation.{ends_as}
 use Rattle.isle_codegen.proofs.CalledTerms.{bindings_answered}
 use Rattle.isle_codegen.proofs.EmittedNames.{name_of_term, emitted_name}
@@ -141,52 +145,91 @@ keep_all P keep (r ∷ rs) h = pick_all P r (filter keep rs) (keep r) h.0 (keep_
 pub of_term : (P : Rule → Type 0) (env : Environment) (id : TermId) → All P env.rules → All P (rules_of env id)
 of_term P env id h = All-from_recursion P (rules_of env id) (keep_all P (λ (r : Rule). r.root_term.0 == id.0) env.rules (recursion_from_All P env.rules h))
 
-module _ (defs : List Def) (logging : Bool) (files : Files) (env : Environment) (p : Program) (id : TermId) (typed : TypedBuilt defs env) (clean : IsClean env) (names : HasRustNames env) (fns : HasFnNames env) (term_fns : HasTermFns env) (listed : Contains (with_rules env) id) (h : HasFunction logging files env p.fns id) where
+-- what doesn't answer several times answers at most once
+answers_once : (kind : ReturnKind) → is_several kind ≡ false → AnswersOnce kind
+answers_once return_kind.Plain h = tt
+answers_once return_kind.Option h = tt
+answers_once return_kind.Iterator h = absurd (true≢false h)
+
+module _ (defs : List Def) (logging : Bool) (files : Files) (env : Environment) (p : Program) (id : TermId) (typed : Typed defs env) (clean : IsClean env) (names : HasRustNames env) (fns : HasFnNames env) (term_fns : HasTermFns env) (listed : Contains (with_rules env) id) (h : HasFunction logging files env p.fns id) where
   abbrev the_term : Term
   the_term = h.emitted.term
 
   abbrev kind : ReturnKind
   kind = kind_of the_term.kind
 
-  -- what the block gives is what the rules give
-  same_outcome : (args : List Value) (m : Meaning) → HaveTypes env args the_term.arg_tys → IsLawful env id m
-      → block_outcome env m args (paths_of h.set.bindings) h.emitted.block kind ≡ outcome_of env m args (rules_of env id) kind []
-  same_outcome args m types lawful =
-      h.emitted.means m args kind
-      ∙ set_means env m args the_term.arg_tys (paths_of h.set.bindings) (rules_of env id) h.set.rules kind names.apart.variants types
-      (record {
-        built = all_of (IsBuiltRule env.terms) (typed_built defs env typed);
-        scoped = all_of IsScopedRule (typed_scoped defs env typed);
-        terms = all_of (CallsBuiltTerms env.terms) (typed_terms defs env typed);
-        typed = recursion_from_All (IsTested env the_term.arg_tys) (rules_of env id) (typed_tests defs env id the_term typed h.emitted.found);
-        served = record { answers = lawful.answers; named = lawful.named };
-      }) h.stands.flat
+  -- the rules are met by what a lawful meaning answers
+  served : (m : Meaning) → IsLawful env id m → AreServedRules env m the_term.arg_tys (rules_of env id)
+  served m lawful = record {
+    built = all_of (IsBuiltRule env.terms) (typed_built defs env typed);
+    scoped = all_of IsScopedRule (typed_scoped defs env typed);
+    terms = all_of (CallsBuiltTerms env.terms) (typed_terms defs env typed);
+    typed = recursion_from_All (IsTested env the_term.arg_tys) (rules_of env id) (typed_tests defs env id the_term typed h.emitted.found);
+    served = record { answers = lawful.answers; named = lawful.named };
+  }
     where
       all_of : (P : Rule → Type 0) → All P env.rules → AllByRecursion P (rules_of env id)
       all_of P k = recursion_from_All P (rules_of env id) (of_term P env id k)
 
-  runs : (args : List Value) (m : Meaning) → HaveTypes env args the_term.arg_tys → IsLawful env id m → AreSameRuns env (run p (term_name env id) args m) (ran_of the_term (outcome_of env m args (rules_of env id) kind []))
-  runs args m types lawful =
-      let named = name_of_term env id the_term h.emitted.found in
-      ap (λ (n : List ℕ). option_map (λ (q : Ran). nameless_ran (impure_ran env q)) (run p n args m)) named
-      ∙ runs_as_block logging files env the_term h.set.bindings h.emitted.block h.function h.emitted.lawful h.emitted.single h.emitted.once h.emitted.given names fns term_fns p args m
-      (ap (λ (n : List ℕ). function_of n p.fns) (sym named) ∙ h.found) types (bindings_answered env id h.set h.stands m lawful) lawful.declared
-      ∙ ap (λ (o : Prescription). option_map nameless_ran (ran_of the_term o)) (same_outcome args m types lawful)
+  its_name : term_name env id ≡ sym_text env the_term.name
+  its_name = name_of_term env id the_term h.emitted.found
 
-  gives_outcome : (args : List Value) (m : Meaning) → HaveTypes env args the_term.arg_tys → IsLawful env id m → GivesOutcome env p id the_term args m
-  gives_outcome args m types lawful =
-      let outcome = outcome_of env m args (rules_of env id) kind [] in
-      let apart = rules_apart defs env id the_term typed clean listed h.emitted.found h.emitted.once m args lawful types in
-      let prescribed : Prescribed env m args (rules_of env id) kind [] outcome = outcome_prescribed env m args (rules_of env id) kind [] (highest_is_one env m args (rules_of env id) apart) in
-      record {
-        outcome = outcome;
-        prescribed = prescribed;
-        only = λ other k. prescribed_once k prescribed;
-        given = gives_as env the_term outcome (run p (term_name env id) args m) h.emitted.once (runs args m types lawful);
-      }
+  -- the function is found by the term's name
+  by_name : function_of (sym_text env the_term.name) p.fns ≡ Some h.function
+  by_name = ap (λ (n : List ℕ). function_of n p.fns) (sym its_name) ∙ h.found
+
+  -- ---- a term that answers at most once
+
+  module _ (single : is_several kind ≡ false) (args : List Value) (m : Meaning) (types : HaveTypes env args the_term.arg_tys) (lawful : IsLawful env id m) where
+    abbrev once : AnswersOnce kind
+    once = answers_once kind single
+
+    -- what the block gives is what the rules give
+    same_outcome : block_outcome env m args (paths_of h.set.bindings) h.emitted.block kind ≡ outcome_of env m args (rules_of env id) kind []
+    same_outcome =
+        let met = served m lawful in
+        h.emitted.means.once single m args kind
+        ∙ set_means env m args the_term.arg_tys (paths_of h.set.bindings) (rules_of env id) h.set.rules kind names.apart.variants types
+        (record { built = met.built; scoped = met.scoped; terms = met.terms; typed = met.typed; served = met.served; single = typed_single defs env id the_term typed h.emitted.found once }) h.stands.flat
+
+    runs : AreSameRuns env (run p (term_name env id) args m) (ran_of the_term (outcome_of env m args (rules_of env id) kind []))
+    runs =
+        ap (λ (n : List ℕ). option_map (λ (q : Ran). nameless_ran (impure_ran env q)) (run p n args m)) its_name
+        ∙ runs_as_block logging files env the_term h.set.bindings h.emitted.block h.function h.emitted.lawful h.emitted.single h.emitted.given once names fns term_fns p args m
+        by_name types (bindings_answered env id h.set h.stands m lawful) lawful.declared
+        ∙ ap (λ (o : Prescription). option_map nameless_ran (ran_of the_term o)) same_outcome
+
+    gives_outcome : GivesOutcome env p id the_term args m
+    gives_outcome =
+        let outcome = outcome_of env m args (rules_of env id) kind [] in
+        let apart = rules_apart defs env id the_term typed clean listed h.emitted.found single m args lawful types in
+        let prescribed : Prescribed env m args (rules_of env id) kind [] outcome = outcome_prescribed env m args (rules_of env id) kind [] (highest_is_one env m args (rules_of env id) apart) in
+        record {
+          outcome = outcome;
+          prescribed = prescribed;
+          only = λ other k. prescribed_once k prescribed;
+          given = gives_as env the_term outcome (run p (term_name env id) args m) once runs;
+        }
+
+  -- ---- a term that answers several times
+
+  gives_first : is_several kind ≡ true → (args : List Value) (m : Meaning) → HaveTypes env args the_term.arg_tys → IsLawful env id m → GivesFirst env p id args m
+  gives_first several args m types lawful = record {
+    given = several_outcome env m args (paths_of h.set.bindings) h.emitted.block;
+    prescribed = several_prescribes env m args the_term.arg_tys h.set h.emitted.block (rules_of env id) (h.emitted.means.several several) h.stands (served m lawful) names.apart.variants types;
+    runs =
+        ap (λ (n : List ℕ). option_map (λ (q : Ran). nameless_ran (impure_ran env q)) (run p n args m)) its_name
+        ∙ runs_as_several logging files env the_term h.set.bindings h.emitted.block h.function h.emitted.lawful h.emitted.single h.emitted.given several h.emitted.lawful.items names fns term_fns p args m
+        by_name types (bindings_answered env id h.set h.stands m lawful) lawful.declared;
+  }
+
+  gives_rules : (often : ReturnKind) → kind ≡ often → (args : List Value) (m : Meaning) → HaveTypes env args the_term.arg_tys → IsLawful env id m → GivesRules often env p id the_term args m
+  gives_rules return_kind.Plain is args m types lawful = gives_outcome (ap is_several is) args m types lawful
+  gives_rules return_kind.Option is args m types lawful = gives_outcome (ap is_several is) args m types lawful
+  gives_rules return_kind.Iterator is args m types lawful = gives_first (ap is_several is) args m types lawful
 
   -- the function of the term means its rules
   pub means_rules : MeansRules env p id
   means_rules =
-      subst (λ (o : Option Term). IsSomeAnd o (λ (t : Term). (args : List Value) (m : Meaning) → HaveTypes env args t.arg_tys → IsLawful env id m → GivesOutcome env p id t args m)) (sym h.emitted.found)
-      (λ args m types lawful. gives_outcome args m types lawful)
+      subst (λ (o : Option Term). IsSomeAnd o (λ (t : Term). (args : List Value) (m : Meaning) → HaveTypes env args t.arg_tys → IsLawful env id m → GivesRules (kind_of t.kind) env p id t args m)) (sym h.emitted.found)
+      (gives_rules kind refl)

@@ -5,7 +5,7 @@ use Rattle.std.specs.List.{AllByRecursion}
 use Rattle.isle_core.specs.declared.Sym.{Sym}
 use Rattle.isle_core.specs.declared.TermId.{TermId}
 use Rattle.isle_core.specs.declared.TypeId.{TypeId}
-use Rattle.isle_core.specs.Calling.{calling, is_fallible}
+use Rattle.isle_core.specs.Calling.{calling, answers_often, is_fallible}
 use Rattle.isle_core.specs.CalledTerms.{CalledTerm, called}
 use Rattle.isle_core.specs.Having.{const_of}
 use Rattle.isle_core.specs.Lawful.{IsLawful}
@@ -13,7 +13,7 @@ use Rattle.isle_core.specs.Making.{Making, MakesVariant, MakesStruct, MakesNothi
 use Rattle.isle_core.specs.Meaning.{Meaning}
 use Rattle.isle_core.specs.OccurringConstants.{TypedConstant, Named, rules_constants}
 use Rattle.isle_core.specs.Opening.{Opening, AsVariant, AsStruct, ByExtractor, opening, answer_path, result_path, part_path}
-use Rattle.isle_core.specs.Path.{Path, Called, ConstPrim, Extracted, Inner, MadeVariant, MadeStruct, Paths}
+use Rattle.isle_core.specs.Path.{Path, Called, ConstPrim, Extracted, Inner, Chosen, MadeVariant, MadeStruct, Paths}
 use Rattle.isle_core.specs.RightSide.{term_path}
 use Rattle.isle_core.specs.Rule.{Environment, Rule, rules_of}
 use Rattle.isle_core.specs.RulePaths.{opening_paths, with_inner, rules_paths}
@@ -28,26 +28,28 @@ one_name a b e = cc
 abbrev IsNamed : List TypedConstant → Path → Type 0
 IsNamed cs p = (name : Sym) → p ≡ ConstPrim name → (ty : TypeId) × Contains cs (ty, Named name)
 
--- a path and its inner value, which are no constants
-inner_named : (b : Bool) (cs : List TypedConstant) (p : Path) → IsNamed cs p → AllByRecursion (IsNamed cs) (cond b (p ∷ Inner p ∷ []) (p ∷ []))
-inner_named true cs p h = (h, (λ name e. cc, tt))
-inner_named false cs p h = (h, tt)
+-- a path and its item or its inner value, which are no constants
+inner_named : (often fallible : Bool) (cs : List TypedConstant) (p : Path) → IsNamed cs p → AllByRecursion (IsNamed cs) (cond often (p ∷ Chosen p ∷ []) (cond fallible (p ∷ Inner p ∷ []) (p ∷ [])))
+inner_named true fallible cs p h = (h, (λ name e. cc, tt))
+inner_named false true cs p h = (h, (λ name e. cc, tt))
+inner_named false false cs p h = (h, tt)
 
 term_named : (env : Environment) (mk : Making) (cs : List TypedConstant) (term : TermId) (ps : Paths) (j : ℕ) → AllByRecursion (IsNamed cs) (with_inner (calling env term) (term_path mk term ps j))
-term_named env MakesNothing cs term ps j = inner_named (is_fallible (calling env term)) cs (Called term ps j) (λ name e. cc)
-term_named env (MakesVariant ty variant) cs term ps j = inner_named (is_fallible (calling env term)) cs (MadeVariant ty variant ps) (λ name e. cc)
-term_named env (MakesStruct ty) cs term ps j = inner_named (is_fallible (calling env term)) cs (MadeStruct ty ps) (λ name e. cc)
+term_named env MakesNothing cs term ps j = inner_named (answers_often (calling env term)) (is_fallible (calling env term)) cs (Called term ps j) (λ name e. cc)
+term_named env (MakesVariant ty variant) cs term ps j = inner_named (answers_often (calling env term)) (is_fallible (calling env term)) cs (MadeVariant ty variant ps) (λ name e. cc)
+term_named env (MakesStruct ty) cs term ps j = inner_named (answers_often (calling env term)) (is_fallible (calling env term)) cs (MadeStruct ty ps) (λ name e. cc)
 
 -- nor is what a term's pattern calls
 opening_named : (cs : List TypedConstant) (opened : Opening) (p : Path) → AllByRecursion (IsNamed cs) (opening_paths opened p)
 opening_named cs (AsVariant ty variant) p = tt
 opening_named cs (AsStruct ty) p = tt
-opening_named cs (ByExtractor term c count) p = inner_named (is_fallible c) cs (Extracted term p) (λ name e. cc)
+opening_named cs (ByExtractor term c count) p = inner_named (answers_often c) (is_fallible c) cs (Extracted term p) (λ name e. cc)
 
 -- and what it gives
-answer_named : (cs : List TypedConstant) (b : Bool) (term : TermId) (p : Path) → IsNamed cs (cond b (Inner (Extracted term p)) (Extracted term p))
-answer_named cs true term p name e = cc
-answer_named cs false term p name e = cc
+answer_named : (cs : List TypedConstant) (often fallible : Bool) (term : TermId) (p : Path) → IsNamed cs (cond often (Chosen (Extracted term p)) (cond fallible (Inner (Extracted term p)) (Extracted term p)))
+answer_named cs true fallible term p name e = cc
+answer_named cs false true term p name e = cc
+answer_named cs false false term p name e = cc
 
 result_named : (cs : List TypedConstant) (count i : ℕ) (p : Path) → IsNamed cs p → IsNamed cs (result_path count i p)
 result_named cs zero i p h = λ name e. cc
@@ -57,7 +59,7 @@ result_named cs (suc (suc count)) i p h = λ name e. cc
 part_named : (cs : List TypedConstant) (opened : Opening) (i : ℕ) (p : Path) → IsNamed cs (part_path opened i p)
 part_named cs (AsVariant ty variant) i p = λ name e. cc
 part_named cs (AsStruct ty) i p = λ name e. cc
-part_named cs (ByExtractor term c count) i p = result_named cs count i (answer_path c (Extracted term p)) (answer_named cs (is_fallible c) term p)
+part_named cs (ByExtractor term c count) i p = result_named cs count i (answer_path c (Extracted term p)) (answer_named cs (answers_often c) (is_fallible c) term p)
 
 -- what rules' parts make is named in these
 each_named : (env : Environment) (terms : List CalledTerm) (cs : List TypedConstant) → HoldsOfEach (IsNamed cs) env terms cs

@@ -13,7 +13,7 @@ use Rattle.isle_core.specs.declared.files.Files.{Files}
 use Rattle.isle_core.specs.Inputs.{AreRead}
 use Rattle.isle_core.specs.Rule.{Environment}
 use Rattle.isle_ast.specs.Tree.{Def}
-use Rattle.isle_sema.specs.Typing.{TypedBuilt, fault}
+use Rattle.isle_sema.specs.Typing.{Typed, fault}
 use Rattle.isle_types.specs.Gathered.{TellsTyping}
 use Rattle.isle_checks.specs.CheckList.{IsCheckList, IsClean}
 use Rattle.isle_checks.proofs.PlacedErrors.{errors_placed}
@@ -39,7 +39,6 @@ use Rattle.std.proofs.lemmas.Option.{same_Some}
 -- why texts give no text, where the definitions that they spell give none
 pub of_defs : (e : CompileError) (names texts : List (List ℕ)) (defs : List Def) → Source 0 texts defs → ((others : List Def) → Source 0 texts others → others ≡ defs) → IsUncompiled e (record { file_names = names; file_texts = texts }) defs
     → IsRefusal (of_texts e) names texts
-of_defs compile_error.NotYet names texts defs source once h = (defs, source, h)
 of_defs (compile_error.Errors errors) names texts defs source once h = record { told = h.told; cause = of_source defs source once h.cause }
 of_defs (compile_error.Name name) names texts defs source once h = record { defs = defs; source = source; once = once; error = h }
 of_defs compile_error.Memory names texts defs source once h = tt
@@ -53,17 +52,16 @@ parse_refusal (error.Errors e) files pos same h wrong =
       told = record { given = h.0; placed = subst (λ es. All (IsPlaced e.files) es) (sym h.1.one) (All-from_recursion (IsPlaced e.files) (told_error.ParseError h.1.words h.1.span ∷ []) (lies, tt)) };
       cause = of_parsing pos wrong h.1;
     }
-parse_refusal error.NotYet files pos same h wrong = absurd h
 parse_refusal (error.Io index why) files pos same h wrong = absurd h
 parse_refusal (error.Name name) files pos same h wrong = absurd h
 
 -- errors that are told with files in which the definitions stand
-told_errors : (e : CompileError) (files : Files) (defs : List Def) (env : Environment) (errors : List Error) → (e ≡ compile_error.Memory) ⊎ (e ≡ compile_error.Errors (record { errors = errors; files = files })) → TypedBuilt defs env → DefsArePlaced files defs
+told_errors : (e : CompileError) (files : Files) (defs : List Def) (env : Environment) (errors : List Error) → (e ≡ compile_error.Memory) ⊎ (e ≡ compile_error.Errors (record { errors = errors; files = files })) → Typed defs env → DefsArePlaced files defs
     → IsCheckList env errors → (errors ≡ [] → ⊥) → IsUncompiled e files defs
 told_errors e files defs env errors is typed placed list some = ⊎_elim
     (λ s. subst (λ x. IsUncompiled x files defs) (sym s) tt)
     (λ s. subst (λ x. IsUncompiled x files defs) (sym s) (record {
-      told = record { given = refl; placed = errors_placed files env errors (rules_placed files defs env typed.typed placed) list };
+      told = record { given = refl; placed = errors_placed files env errors (rules_placed files defs env typed placed) list };
       cause = of_rules (record { env = env; typed = typed; list = list; some = some });
     }))
     is
@@ -88,24 +86,24 @@ errors_lie : (files : Files) (ps : List Pos) → AllByRecursion (LiesIn files) p
 errors_lie files [] h = tt
 errors_lie files (p ∷ ps) h = (h.0, errors_lie files ps h.1)
 
-recursion_told : (e : CompileError) (files : Files) (defs : List Def) (env : Environment) (errors : List Error) → (e ≡ compile_error.Memory) ⊎ (e ≡ compile_error.Errors (record { errors = errors; files = files })) → TypedBuilt defs env → DefsArePlaced files defs
+recursion_told : (e : CompileError) (files : Files) (defs : List Def) (env : Environment) (errors : List Error) → (e ≡ compile_error.Memory) ⊎ (e ≡ compile_error.Errors (record { errors = errors; files = files })) → Typed defs env → DefsArePlaced files defs
     → IsClean env → IsRecursionOf env errors → (errors ≡ [] → ⊥) → IsUncompiled e files defs
 recursion_told e files defs env errors is typed placed clean list some = ⊎_elim
     (λ s. subst (λ x. IsUncompiled x files defs) (sym s) tt)
     (λ s. subst (λ x. IsUncompiled x files defs) (sym s) (record {
-      told = record { given = refl; placed = subst (All (IsPlaced files)) (sym list.2) (All-from_recursion (IsPlaced files) (map recursion_error list.0) (errors_lie files list.0 (recursion_placed files env.terms (with_rules env) list.0 env refl (terms_placed files defs env typed.typed placed) list.1))) };
+      told = record { given = refl; placed = subst (All (IsPlaced files)) (sym list.2) (All-from_recursion (IsPlaced files) (map recursion_error list.0) (errors_lie files list.0 (recursion_placed files env.terms (with_rules env) list.0 env refl (terms_placed files defs env typed placed) list.1))) };
       cause = of_recursion (record { env = env; typed = typed; clean = clean; list = list; some = some });
     }))
     is
 
 -- what the check of rules found
-pub rules_found : (e : CompileError) (files : Files) (defs : List Def) (env : Environment) (fail : CheckError) → IsFound files fail e → TypedBuilt defs env → DefsArePlaced files defs
+pub rules_found : (e : CompileError) (files : Files) (defs : List Def) (env : Environment) (fail : CheckError) → IsFound files fail e → Typed defs env → DefsArePlaced files defs
     → ((errors : List Error) → fail ≡ check.Rules errors → IsCheckList env errors) → ((errors : List Error) → fail ≡ check.Rules errors → errors ≡ [] → ⊥) → IsUncompiled e files defs
 rules_found e files defs env (check.Rules errors) found typed placed list some = told_errors e files defs env errors found typed placed (list errors refl) (some errors refl)
 rules_found e files defs env check.Memory found typed placed list some = subst (λ x. IsUncompiled x files defs) (sym found) tt
 
 -- what the check of terms that use themselves found
-pub recursion_found : (e : CompileError) (files : Files) (defs : List Def) (env : Environment) (fail : CheckError) → IsFound files fail e → TypedBuilt defs env → DefsArePlaced files defs → IsClean env
+pub recursion_found : (e : CompileError) (files : Files) (defs : List Def) (env : Environment) (fail : CheckError) → IsFound files fail e → Typed defs env → DefsArePlaced files defs → IsClean env
     → ((errors : List Error) → fail ≡ check.Rules errors → IsRecursionOf env errors) → ((errors : List Error) → fail ≡ check.Rules errors → errors ≡ [] → ⊥) → IsUncompiled e files defs
 recursion_found e files defs env (check.Rules errors) found typed placed clean list some = recursion_told e files defs env errors found typed placed clean (list errors refl) (some errors refl)
 recursion_found e files defs env check.Memory found typed placed clean list some = subst (λ x. IsUncompiled x files defs) (sym found) tt
@@ -125,7 +123,6 @@ typing_told e files defs error is placed told = ⊎_elim
 pub read_causes : {T : Type 0} (r : Result T FileError) (options : CodegenOptions) (files : Option Contents) (inputs names texts : List (List ℕ)) (before after : Counts) → names ≡ printed options inputs
     → AllTried inputs before after → IfSome files (λ fs. AreRead fs inputs texts) → IfErr r (λ e. IsRefusal e names texts) → IfErr r (λ e. HasCause e options files inputs before after)
 read_causes (Ok x) options files inputs names texts before after is tried read h = tt
-read_causes (Err error.NotYet) options files inputs names texts before after is tried read h = (tried, record { texts = texts; read = read; unbuilt = h })
 read_causes (Err error.Memory) options files inputs names texts before after is tried read h = tried.1
 read_causes (Err (error.Io index why)) options files inputs names texts before after is tried read h = absurd h
 read_causes (Err (error.Errors errors)) options files inputs names texts before after is tried read h = (tried, record { texts = texts; read = read; errors = subst (λ (ns : List (List ℕ)). IsErrors errors ns texts) is h })

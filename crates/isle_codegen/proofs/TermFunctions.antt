@@ -52,4 +52,4 @@ has_term_fns defs env typed names = record {
 
 -- so of an environment that may be compiled
 pub term_fns : {defs : List Def} {env : Environment} → IsCompilable defs env → HasTermFns env
-term_fns {defs} {env} h = has_term_fns defs env h.typed.typed h.names
+term_fns {defs} {env} h = has_term_fns defs env h.typed h.names

@@ -15,7 +15,7 @@ use Rattle.isle_codegen.specs.declared.compile_error.CompileError.TheVariants as
 use Rattle.isle_codegen.specs.declared.file_error.FileError.{FileError}
 use Rattle.isle_codegen.specs.declared.file_error.FileError.TheVariants as error
 use Rattle.isle_codegen.specs.Errors.{IsErrors, AreErrorsOfDefs, HasNameError, IsNameError}
-use Rattle.isle_codegen.specs.Source.{Source, AreUnbuilt, AreUnbuiltTexts}
+use Rattle.isle_codegen.specs.Source.{Source}
 use Rattle.isle_names.specs.declared.name_error.NameError.{NameError}
 use Rattle.isle_codegen.specs.Headline.{HasHeadline}
 
@@ -30,7 +30,6 @@ IsFound files check.Memory e = e ≡ compile_error.Memory
 
 -- why definitions over files give no text
 abbrev pub IsUncompiled : CompileError → FileTexts → List Def → Type 0
-IsUncompiled compile_error.NotYet files defs = AreUnbuilt defs
 IsUncompiled (compile_error.Errors errors) files defs = AreErrorsOfDefs errors files defs
 IsUncompiled (compile_error.Name name) files defs = HasNameError files.file_names defs name
 IsUncompiled compile_error.Memory files defs = Unit {0}
@@ -50,7 +49,6 @@ pub record IsCompiled (options : CodegenOptions) (files : Contents) (names : Lis
 
 -- why texts of files with these printed names give no text
 abbrev pub IsRefusal : FileError → List (List ℕ) → List (List ℕ) → Type 0
-IsRefusal error.NotYet names texts = AreUnbuiltTexts texts
 IsRefusal error.Memory names texts = Unit {0}
 IsRefusal (error.Errors errors) names texts = IsErrors errors names texts
 IsRefusal (error.Io index why) names texts = ⊥
@@ -58,16 +56,9 @@ IsRefusal (error.Name name) names texts = IsNameError names texts name
 
 -- why files that were read give no text, where their definitions give none
 abbrev pub of_texts : CompileError → FileError
-of_texts compile_error.NotYet = error.NotYet
 of_texts (compile_error.Errors errors) = error.Errors errors
 of_texts (compile_error.Name name) = error.Name name
 of_texts compile_error.Memory = error.Memory
-
--- all inputs were read, and their texts spell definitions that are not all built
-pub record IsNotBuilt (files : Option Contents) (names : List (List ℕ)) : Type 0 where
-  pub texts : List (List ℕ)
-  pub read : IfSome files (λ fs. AreRead fs names texts)
-  pub unbuilt : AreUnbuiltTexts texts
 
 -- all inputs were read, and of their names this is the first that may not be emitted
 pub record IsBadlyNamed (e : NameError) (options : CodegenOptions) (files : Option Contents) (names : List (List ℕ)) : Type 0 where
@@ -88,7 +79,6 @@ AllTried names before after = IsTried (length names) before after × (after.faul
 -- why files give no text; where the directory doesn't tell its files, some texts give none for it
 abbrev pub HasCause : FileError → CodegenOptions → Option Contents → List (List ℕ) → Counts → Counts → Type 0
 HasCause (error.Io index why) options files names before after = Fails (read.Io index why) files names before after
-HasCause error.NotYet options files names before after = AllTried names before after × IsNotBuilt files names
 HasCause (error.Errors errors) options files names before after = AllTried names before after × HasErrors errors options files names
 HasCause (error.Name name) options files names before after = AllTried names before after × IsBadlyNamed name options files names
 HasCause error.Memory options files names before after = after.faults ≡ before.faults

@@ -1,5 +1,6 @@
 -- When functions are emitted for rule sets.
-use Rattle.std.specs.Prelude.{◌≡◌, List, Bool, [], ◌∷◌, Some, slice_get}
+use Rattle.std.specs.Prelude.{◌≡◌, List, Bool, [], ◌∷◌, true, false, Some, slice_get}
+use Rattle.std.specs.List.{AllByRecursion}
 use Rattle.isle_core.specs.declared.types.ReturnKind.{ReturnKind}
 use Rattle.isle_core.specs.declared.TermId.{TermId}
 use Rattle.isle_core.specs.declared.files.Files.{Files}
@@ -7,7 +8,7 @@ use Rattle.isle_core.specs.declared.rule_sets.RuleSet.{RuleSet}
 use Rattle.isle_core.specs.declared.types.Term.{Term}
 use Rattle.isle_core.specs.Value.{Value}
 use Rattle.isle_core.specs.Meaning.{Meaning}
-use Rattle.isle_core.specs.Calling.{kind_of, AnswersOnce}
+use Rattle.isle_core.specs.Calling.{is_several, kind_of}
 use Rattle.isle_core.specs.Path.{paths_of}
 use Rattle.isle_core.specs.RuleSet.{set_outcome}
 use Rattle.isle_core.specs.Block.{Block}
@@ -19,6 +20,7 @@ use Rattle.isle_core.specs.ReturnPositions.{return_positions, ArePositionsOf}
 use Rattle.isle_core.specs.Serializable.{IsSerializable}
 use Rattle.isle_core.specs.Setting.{setting}
 use Rattle.isle_core.specs.SingleArms.{HasSingleArms}
+use Rattle.isle_blocks.specs.Several.{HasItsLists, AddsSeveral}
 use Rattle.isle_tree.specs.Program.{Function}
 use Rattle.isle_simulation.specs.TermFunction.{term_function}
 use Rattle.isle_simulation.specs.Emitted.{IsEmittable}
@@ -26,33 +28,38 @@ use Rattle.isle_simulation.specs.RustNames.{HasRustNames}
 use Rattle.isle_simulation.specs.TermFns.{HasTermFns}
 use Rattle.isle_simulation.specs.TraitFns.{HasFnNames}
 
--- the term is there and may be emitted, its declaration lies in the files, its rule set is ready for a block, functions of
--- the trait and of terms may be called by their names, and types and constants have names of Rust
+-- the term is there and may be emitted, its declaration lies in the files, its rule set is ready for a block and reads the items of its
+-- rules' own lists alone, functions of the trait and of terms may be called by their names, and types and constants have names of Rust
 pub record CanEmit (files : Files) (env : Environment) (s : TermId × RuleSet) : Type 0 where
   pub term : Term
   pub found : slice_get env.terms s.0.0 ≡ Some term
   pub placed : LiesIn files term.decl_pos
   pub emittable : IsEmittable env term
   pub ready : IsSerializable env term s.1
+  pub lists : AllByRecursion (HasItsLists env (paths_of s.1.bindings)) s.1.rules
   pub fns : HasFnNames env
   pub term_fns : HasTermFns env
   pub names : HasRustNames env
 
--- the block means the rule set
-abbrev pub MeansSet : Environment → RuleSet → Block → Type 0
-MeansSet env s b = (m : Meaning) (args : List Value) (kind : ReturnKind) → block_outcome env m args (paths_of s.bindings) b kind ≡ set_outcome env m args (paths_of s.bindings) s.rules kind
+-- the block gives what the rule set does
+abbrev pub GivesSet : Environment → RuleSet → Block → Type 0
+GivesSet env s b = (m : Meaning) (args : List Value) (kind : ReturnKind) → block_outcome env m args (paths_of s.bindings) b kind ≡ set_outcome env m args (paths_of s.bindings) s.rules kind
 
--- the function of the term, which answers at most once, from a block that is lawful for its rule set, has one arm in each
--- Match, returns at the positions of its rules and means the set
+-- the block means the rule set of the term: it gives what the set does, or adds what its rules do where the term answers several times
+pub record MeansSet (env : Environment) (t : Term) (s : RuleSet) (b : Block) : Type 0 where
+  pub once : is_several (kind_of t.kind) ≡ false → GivesSet env s b
+  pub several : is_several (kind_of t.kind) ≡ true → AddsSeveral env s b
+
+-- the function of the term, from a block that is lawful for its rule set, has one arm in each Match, returns at the positions of its
+-- rules and means the set
 pub record IsEmitted (logging : Bool) (files : Files) (env : Environment) (id : TermId) (s : RuleSet) (f : Function) : Type 0 where
   pub term : Term
   pub found : slice_get env.terms id.0 ≡ Some term
   pub block : Block
   pub lawful : IsLawfulBlock (setting env term s.bindings) block
   pub single : HasSingleArms block
-  pub means : MeansSet env s block
+  pub means : MeansSet env term s block
   pub returns : ArePositionsOf s.rules (return_positions block)
-  pub once : AnswersOnce (kind_of term.kind)
   pub given : term_function logging files (setting env term s.bindings) block ≡ Some f
 
 -- so of each term with its rule set, in order

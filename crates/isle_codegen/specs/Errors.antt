@@ -1,6 +1,6 @@
 -- The errors of definitions, and of the texts that spell them.
 use Rattle.std.specs.Prelude.{◌≡◌, ℕ, List, [], ◌∷◌, All, Some}
-use Rattle.isle_sema.specs.Typing.{TypedBuilt, fault}
+use Rattle.isle_sema.specs.Typing.{Typed, fault}
 use Rattle.isle_core.specs.declared.errors.Error.{Error}
 use Rattle.isle_core.specs.declared.errors.Error.TheVariants as error
 use Rattle.isle_core.specs.declared.position.Pos.{Pos}
@@ -19,10 +19,10 @@ use Rattle.isle_names.specs.NameFault.{IsNameFault}
 use Rattle.isle_codegen.specs.Source.{Source, GoesWrong}
 use Rattle.isle_recursion.specs.RuleErrors.{IsRecursionOf}
 
--- the definitions are built and give an environment, and these are the errors of its rules, of which there are some
+-- the definitions give an environment, and these are the errors of its rules, of which there are some
 pub record HasCheckErrors (defs : List Def) (errors : List Error) : Type 0 where
   pub env : Environment
-  pub typed : TypedBuilt defs env
+  pub typed : Typed defs env
   pub list : IsCheckList env errors
   pub some : errors ≡ [] → ⊥
 
@@ -30,20 +30,20 @@ pub record HasCheckErrors (defs : List Def) (errors : List Error) : Type 0 where
 abbrev pub HavePlaces : ErrorList → Type 0
 HavePlaces e = All (IsPlaced e.files) e.errors
 
--- the definitions are built and give an environment with whose rules nothing is wrong, and these are the errors of its terms that use themselves and are
+-- the definitions give an environment with whose rules nothing is wrong, and these are the errors of its terms that use themselves and are
 -- not marked so, of which there are some
 pub record HasRecursionErrors (defs : List Def) (errors : List Error) : Type 0 where
   pub env : Environment
-  pub typed : TypedBuilt defs env
+  pub typed : Typed defs env
   pub clean : IsClean env
   pub list : IsRecursionOf env errors
   pub some : errors ≡ [] → ⊥
 
--- the definitions are built and give an environment with whose rules nothing is wrong and whose terms that use themselves are marked so, and of its names
+-- the definitions give an environment with whose rules nothing is wrong and whose terms that use themselves are marked so, and of its names
 -- and those of the files this is the first that may not be emitted
 pub record HasNameError (names : List (List ℕ)) (defs : List Def) (e : NameError) : Type 0 where
   pub env : Environment
-  pub typed : TypedBuilt defs env
+  pub typed : Typed defs env
   pub clean : IsClean env
   pub marked : IsRecursionOf env []
   pub first : IsNameFault names env e
@@ -94,7 +94,6 @@ pub record IsErrors (e : ErrorList) (names texts : List (List ℕ)) : Type 0 whe
 abbrev pub TellsParseError : FileError → Files → Pos → Type 0
 TellsParseError file.Memory files pos = Unit {0}
 TellsParseError (file.Errors e) files pos = (e.files ≡ files) × IsParseError pos e.errors
-TellsParseError file.NotYet files pos = ⊥
 TellsParseError (file.Io index why) files pos = ⊥
 TellsParseError (file.Name name) files pos = ⊥
 

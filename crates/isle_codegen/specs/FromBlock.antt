@@ -31,7 +31,7 @@ pub record IsFromBlock (logging : Bool) (files : Files) (env : Environment) (id 
   pub stands : StandsFor env set (rules_of env id)
   pub block : Block
   pub lawful : IsLawfulBlock (setting env term set.bindings) block
-  pub means : MeansSet env set block
+  pub means : MeansSet env term set block
   pub shape : HasShape (setting env term set.bindings) f.body block
   pub statements : term_function logging files (setting env term set.bindings) block ≡ Some f
   pub lines : lines_of f.body ≡ log_lines logging files (setting env term set.bindings) block

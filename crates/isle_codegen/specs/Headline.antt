@@ -3,15 +3,19 @@ use Rattle.std.specs.Prelude.{◌≡◌, ℕ, List, Bool, [], map, Some, Contain
 use Rattle.isle_base.specs.declared.ids.TermId.{TermId}
 use Rattle.isle_base.specs.declared.ids.TypeId.{TypeId}
 use Rattle.isle_core.specs.declared.types.ReturnKind.{ReturnKind}
+use Rattle.isle_core.specs.declared.types.ReturnKind.TheVariants as return_kind
 use Rattle.isle_core.specs.declared.types.Term.{Term}
 use Rattle.isle_core.specs.declared.options.CodegenOptions.{CodegenOptions}
 use Rattle.isle_core.specs.declared.files.Files.{Files}
 use Rattle.isle_core.specs.Value.{Value, Ran}
 use Rattle.isle_core.specs.Meaning.{Meaning}
+use Rattle.isle_core.specs.Cut.{cut_run}
 use Rattle.isle_core.specs.HasType.{HaveTypes}
 use Rattle.isle_core.specs.Lawful.{IsLawful}
 use Rattle.isle_core.specs.Nameless.{nameless_made, nameless_end}
 use Rattle.isle_core.specs.Outcome.{Prescription, Prescribed, kind_of}
+use Rattle.isle_core.specs.Pairs.{PrescribesSeveral}
+use Rattle.isle_core.specs.Parts.{Given}
 use Rattle.isle_core.specs.Rule.{Environment, rules_of}
 use Rattle.isle_core.specs.Terms.{with_rules, term_name, impure_calls}
 use Rattle.isle_ast.specs.Tree.{Def}
@@ -21,6 +25,7 @@ use Rattle.isle_tree.specs.Program.{Function, Program}
 use Rattle.isle_target.specs.Reading.{SpellsOnly}
 use Rattle.isle_tree.specs.Run.{run}
 use Rattle.isle_codegen.specs.Emission.{IsFrame}
+use Rattle.isle_simulation.specs.Emitted.{AreSameRuns}
 use Rattle.isle_simulation.specs.Ends.{end_of}
 use Rattle.isle_simulation.specs.OfTerm.{AreDeclared}
 use Rattle.isle_codegen.specs.FromBlock.{AreFromBlocks}
@@ -39,10 +44,23 @@ pub record GivesOutcome (env : Environment) (p : Program) (id : TermId) (t : Ter
   pub only : (other : Prescription) → Prescribed env m args (rules_of env id) (kind_of t.kind) [] other → other ≡ outcome
   pub given : IsSomeAnd (run p (term_name env id) args m) (GivesAs env (kind_of t.kind) outcome)
 
+-- the run of the function of a term that answers several times gives the first of the results that its rules prescribe, as many as there is
+-- room for and at least one, and the calls of impure terms up to the last of them, or all where the room isn't used up
+pub record GivesFirst (env : Environment) (p : Program) (id : TermId) (args : List Value) (m : Meaning) : Type 0 where
+  pub given : Given
+  pub prescribed : PrescribesSeveral env m args (rules_of env id) given
+  pub runs : AreSameRuns env (run p (term_name env id) args m) (Some (cut_run m given))
+
+-- the run gives what the rules prescribe of a term that answers so often
+abbrev pub GivesRules : ReturnKind → Environment → Program → TermId → Term → List Value → Meaning → Type 0
+GivesRules return_kind.Plain env p id t args m = GivesOutcome env p id t args m
+GivesRules return_kind.Option env p id t args m = GivesOutcome env p id t args m
+GivesRules return_kind.Iterator env p id t args m = GivesFirst env p id args m
+
 -- it does so on all well-typed arguments and under every lawful meaning
 abbrev pub MeansRules : Environment → Program → TermId → Type 0
 MeansRules env p id = IsSomeAnd (slice_get env.terms id.0) (λ (t : Term).
-    (args : List Value) (m : Meaning) → HaveTypes env args t.arg_tys → IsLawful env id m → GivesOutcome env p id t args m)
+    (args : List Value) (m : Meaning) → HaveTypes env args t.arg_tys → IsLawful env id m → GivesRules (kind_of t.kind) env p id t args m)
 
 -- the functions of the program are the terms with rules, in order of ids, each as its term is declared, made from a block
 -- of its rules, and with their meaning, which says something: there are arguments and lawful meanings where types have values,

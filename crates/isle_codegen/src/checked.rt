@@ -3,7 +3,6 @@ ghost use Rattle.isle_core.specs.RuleViews.{environment};
 ghost use Rattle.isle_ast.specs.Tree.{Def as Defs};
 ghost use Rattle.isle_ast.specs.Views.{defs as seen};
 ghost use Rattle.isle_sema.specs.Typing.{TypedOnly, fault, IsUntyped};
-ghost use Rattle.isle_sema.specs.Language.{are_built};
 ghost use Rattle.isle_rulesets.specs.Grouping.{AreRuleSets};
 ghost use Rattle.isle_codegen.specs.Emission.{IsGiven, ArePlaced, DefsArePlaced};
 ghost use Rattle.isle_codegen.specs.Checked.{IsChecked};
@@ -12,7 +11,6 @@ ghost use Rattle.isle_codegen.specs.Causes.{IsRefusal, IsUncompiled, IsFound};
 
 use crate::compile_error::CompileError;
 use crate::file_error::{FileError, of_texts};
-use crate::forms::are_built_forms;
 use crate::source::parse_files;
 use isle_ast::Def;
 use isle_checks::{CheckError, overlap};
@@ -32,8 +30,8 @@ pub struct Checked {
 }
 
 /// Checks the definitions that the files' texts spell, in order, and returns their environment (`specs/Checked.antt`).
-/// There are as many names as texts. `NotYet`, `Errors` and `Name` come exactly where they do for these definitions (`check_defs`), and
-/// `Errors` also where a text spells none; beside these only want of memory.
+/// There are as many names as texts. `Errors` and `Name` come exactly where they do for these definitions (`check_defs`), and `Errors`
+/// also where a text spells none; beside these only want of memory.
 pub fn check_files(alloc: Global, files: &Files) -> Result<Checked, FileError>
     requires count { length files.now.file_texts ≡ length files.now.file_names }
     ensures ok { IfOk result (λ c. IsChecked files.now (environment c.typeenv c.termenv)) }
@@ -50,14 +48,12 @@ pub fn check_files(alloc: Global, files: &Files) -> Result<Checked, FileError>
     }
 }
 
-/// Checks definitions that stand in the files: their typing, then that all are of forms that are built, then their rules, then terms that use
-/// themselves, then names. The first check that finds anything refuses them. `Errors` tells the one fault of typing, or all errors of the one
-/// check; `Name` the first name of the files and the definitions that may not be emitted; `NotYet` comes exactly where they have no fault of
-/// typing, and are not all of forms that are built (`specs/Causes.antt`, `specs/Errors.antt`); beside these only want of memory.
+/// Checks definitions that stand in the files: their typing, then their rules, then terms that use themselves, then names. The first check
+/// that finds anything refuses them. `Errors` tells the one fault of typing, or all errors of the one check; `Name` the first name of the
+/// files and the definitions that may not be emitted (`specs/Causes.antt`, `specs/Errors.antt`); beside these only want of memory.
 pub fn check_defs(alloc: Global, files: &Files, defs: &[Def]) -> Result<Checked, CompileError>
     requires { DefsArePlaced files.now (seen defs.now) }
     ensures typed { IfOk result (λ c. TypedOnly (seen defs.now) (environment c.typeenv c.termenv)) }
-    ensures built { IfOk result (λ c. are_built (seen defs.now) ≡ true) }
     ensures given { IfOk result (λ c. IsGiven (environment c.typeenv c.termenv)) }
     ensures places { IfOk result (λ c. ArePlaced files.now (environment c.typeenv c.termenv)) }
     ensures names { IfOk result (λ c. are_file_names files.now.file_names ≡ true) }
@@ -68,9 +64,6 @@ pub fn check_defs(alloc: Global, files: &Files, defs: &[Def]) -> Result<Checked,
         Ok(envs) => envs,
         Err(fail) => return Err(untyped(alloc, files, fail)),
     };
-    if !are_built_forms(defs) {
-        return Err(CompileError::NotYet);
-    }
     let terms = match overlap::check(alloc, &termenv) {
         Ok(terms) => terms,
         Err(fail) => return Err(wrong(alloc, files, fail)),

@@ -10,8 +10,6 @@ use isle_names::NameError;
 pub enum FileError {
     /// The first input that was not read, by its place among the inputs.
     Io { index: usize, cause: IoCause },
-    /// Their definitions have no fault of typing, and are not all of forms that are built.
-    NotYet,
     /// What is wrong with the definitions of the inputs, in order, with the inputs.
     Errors(Errors),
     /// The first name that may not be emitted, of the inputs as printed, the types, the terms and the constants.
@@ -24,7 +22,6 @@ pub fn of_texts(fail: CompileError) -> FileError
     ensures { result ≡ of_texts fail }
 {
     match fail {
-        CompileError::NotYet => FileError::NotYet,
         CompileError::Errors(errors) => FileError::Errors(errors),
         CompileError::Name(name) => FileError::Name(name),
         CompileError::Memory => FileError::Memory,

@@ -6,7 +6,6 @@ mod compile_error;
 mod compiled;
 mod file_error;
 mod files;
-mod forms;
 mod parse_error;
 mod source;
 mod text;

@@ -1,5 +1,6 @@
 ghost use Rattle.std.specs.Prelude.{◌≡◌, map, IfOk};
 ghost use Rattle.std.specs.List.{AllByRecursion};
+ghost use Rattle.isle_core.specs.Calling.{kind_of, is_several as answers_several};
 ghost use Rattle.isle_core.specs.RuleViews.{environment};
 ghost use Rattle.isle_rulesets.specs.Grouping.{AreRuleSets};
 ghost use Rattle.isle_tree.specs.Views.{function, program};
@@ -11,12 +12,24 @@ ghost use Rattle.isle_core.specs.LineStarts.{starts_of};
 
 use isle_blocks::serialize;
 use isle_core::{
-    CodegenOptions, Files, LineStarts, List, OutOfMemory, RuleSet, TermEnv, TermId, TypeEnv,
+    CodegenOptions, Files, LineStarts, List, OutOfMemory, ReturnKind, RuleSet, TermEnv, TermId,
+    TermKind, TypeEnv,
 };
 use isle_emission::{ConstTypes, Context, term_function, trait_fns};
 use isle_items::type_items;
+use isle_operands::kind_of;
 use isle_tree::{Function, Program};
 use std::alloc::Global;
+
+// Whether a term of this kind answers several times.
+fn is_several(kind: &TermKind) -> bool
+    ensures { result ≡ answers_several (kind_of kind.now) }
+{
+    match kind_of(kind) {
+        ReturnKind::Iterator => true,
+        ReturnKind::Option | ReturnKind::Plain => false,
+    }
+}
 
 // The function of the term of this number, from the block of its rule set. The table is that of the files, and the constants
 // are those of the environment.
@@ -36,11 +49,12 @@ fn emit_one(
     requires can { CanEmit files.now (environment typeenv.now termenv.now) (term, rules.now) }
     ensures { IfOk result (λ f. IsEmitted logging files.now (environment typeenv.now termenv.now) term rules.now (function f)) }
 {
-    let block = serialize(alloc, rules, false)?;
+    let declared = &termenv.terms.as_slice()[term.index()];
+    let block = serialize(alloc, rules, is_several(&declared.kind))?;
     let context = Context {
         typeenv,
         termenv,
-        term: &termenv.terms.as_slice()[term.index()],
+        term: declared,
         bindings: rules.bindings.as_slice(),
     };
     match term_function(alloc, files, starts, consts, &context, &block, logging)? {

@@ -15,7 +15,7 @@ use Rattle.isle_core.specs.Path.{Path, Nowhere, Arg, ConstBool, ConstInt, ConstP
 use Rattle.isle_core.specs.Form.{Form, form, form_types}
 use Rattle.isle_core.specs.Making.{MakesVariant, MakesStruct}
 use Rattle.isle_core.specs.StandsFor.{EachOnce}
-use Rattle.isle_core.specs.PathType.{IsPathOf, IsTupleOf, IsOptionOf, ArePathsOf}
+use Rattle.isle_core.specs.PathType.{IsPathOf, IsTupleOf, IsOptionOf, IsListOf, ArePathsOf}
 use Rattle.isle_core.specs.Rule.{Environment}
 
 -- ---- the paths before a place
@@ -285,6 +285,10 @@ pub tuple_there : (env : Environment) (t : Term) (p : Path) (tys : List TypeId) 
 tuple_there env t Nowhere tys h = absurd h
 tuple_there env t p tys h = tt
 
+list_there : (env : Environment) (t : Term) (p : Path) (tys : List TypeId) → IsListOf env t p tys → IsThere p
+list_there env t Nowhere tys h = absurd h
+list_there env t p tys h = tt
+
 -- what a call is made over
 called_parts : (env : Environment) (t : Term) (o : Option Term) (ps : Paths) (P : Term → Type 0) → IsSomeAnd o (λ (c : Term). P c × ArePathsOf env t ps c.arg_tys) → AreThere ps
 called_parts env t None ps P h = absurd h
@@ -309,6 +313,7 @@ typed_parts env t (ConstPrim name) ty h = tt
 typed_parts env t (Called term ps instance) ty h = called_parts env t (slice_get env.terms term.0) ps (λ (c : Term). c.ret_ty ≡ ty) h.1
 typed_parts env t (Extracted term q) ty h = extracted_there env t (slice_get env.terms term.0) q (ty ∷ []) h.1
 typed_parts env t (Inner p) ty h = option_there env t p (ty ∷ []) h
+typed_parts env t (Chosen p) ty h = list_there env t p (ty ∷ []) h
 typed_parts env t (Part part q) ty h = tuple_there env t q h.0 h.1
 typed_parts env t (MadeVariant of variant ps) ty h = made_of_parts env t (form env (MakesVariant of variant)) ps h.1
 typed_parts env t (MadeStruct of ps) ty h = made_of_parts env t (form env (MakesStruct of)) ps h.1
@@ -322,8 +327,15 @@ option_parts env t (Called term ps instance) tys h = called_parts env t (slice_g
 option_parts env t (Extracted term q) tys h = extracted_there env t (slice_get env.terms term.0) q tys h.1
 option_parts env t p tys h = absurd h
 
+-- and so is that of a list
+pub list_parts : (env : Environment) (t : Term) (p : Path) (tys : List TypeId) → IsListOf env t p tys → HasParts p
+list_parts env t (Called term ps instance) tys h = called_parts env t (slice_get env.terms term.0) ps (λ (c : Term). c.ret_ty ∷ [] ≡ tys) h.1
+list_parts env t (Extracted term q) tys h = extracted_there env t (slice_get env.terms term.0) q tys h.1
+list_parts env t p tys h = absurd h
+
 -- and so is that of a tuple
 pub tuple_parts : (env : Environment) (t : Term) (p : Path) (tys : List TypeId) → IsTupleOf env t p tys → HasParts p
 tuple_parts env t (Extracted term q) tys h = extracted_there env t (slice_get env.terms term.0) q tys h.2
 tuple_parts env t (Inner p) tys h = option_there env t p tys h.1
+tuple_parts env t (Chosen p) tys h = list_there env t p tys h.1
 tuple_parts env t p tys h = absurd h

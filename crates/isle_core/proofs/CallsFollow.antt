@@ -15,17 +15,18 @@ use Rattle.isle_core.specs.Making.{Making, MakesVariant, MakesStruct, MakesNothi
 use Rattle.isle_core.specs.Form.{made_value}
 use Rattle.isle_core.specs.Meaning.{Meaning, turn, case}
 use Rattle.isle_core.specs.Answered.{Held, a_value, answer_held}
-use Rattle.isle_core.specs.Calling.{Calling, ByTurns, ByCases, NoCall, calling, may_be_nothing, is_fallible, instance_of, one_more, impure, impure_all, impure_bindings}
+use Rattle.isle_core.specs.Calling.{Calling, ByTurns, ByCases, NoCall, AnswersOnce, calling, is_several, may_be_nothing, is_fallible, instance_of, one_more, impure, impure_all, impure_bindings}
+use Rattle.isle_core.specs.Choice.{Choice}
 use Rattle.isle_core.specs.Expr as expr
 use Rattle.isle_core.specs.Expr.{Expr, Exprs, NoExpr, AnExpr, LetBindings, NoBinding, ABinding}
 use Rattle.isle_core.specs.Match.{Names, with}
 use Rattle.isle_core.specs.Eval.{Evaluated, Answered, Failed, EvaluatedAll, AllAnswered, OneFailed, Bound, AllBound, NotBound, named, then_all, before, then_one, then_bind, then_within, answered, called_with, made_or_called, evaluated, evaluated_all, bound}
 use Rattle.isle_core.specs.Outcome.{Failure}
-use Rattle.isle_core.specs.Path.{Path, ConstPrim, Called, Inner, MadeVariant, MadeStruct, Paths, APath}
+use Rattle.isle_core.specs.Path.{Path, ConstPrim, Called, Chosen, Inner, MadeVariant, MadeStruct, Paths, APath}
 use Rattle.isle_core.specs.OrderedCalls.{if_ordered, calls, calls_all, calls_bindings}
-use Rattle.isle_core.specs.RightSide.{path_or, term_path, answer_path, path, paths, let_places}
+use Rattle.isle_core.specs.RightSide.{path_or, term_path, answer_path, call_path, path, paths, let_places}
 use Rattle.isle_core.specs.Tests.{Places}
-use Rattle.isle_core.specs.ValueAt.{Known, held as held_value, held_of, made_held, inner_held, value_before, call_held, value_at, values_at}
+use Rattle.isle_core.specs.ValueAt.{Known, answered_too, held as held_value, held_of, made_held, inner_held, value_before, call_held, value_at, values_at}
 use Rattle.isle_core.specs.CallRun.{Went, Goes, Ends, then_go, take_turn, make_call, check_call, unless_nothing, run_call, run_calls}
 use Rattle.isle_core.specs.Rule.{Environment}
 use Rattle.isle_core.proofs.PatternTests.{StandsAt, Agree, with_agrees}
@@ -156,53 +157,53 @@ within_follows env m args n n1 n2 known places q (NotBound made) (Goes known' ma
 -- ---- a call
 
 -- what is known of a call that was answered, and of any other
-pub with_here : (known : Known) (k : ℕ) (a : Answer) → with known k a k ≡ Some a
+pub with_here : (known : ℕ → Option Answer) (k : ℕ) (a : Answer) → with known k a k ≡ Some a
 with_here known k a = ap (λ b. cond b (Some a) (known k)) (true_of (eqb k k) (eqb_refl k))
   where
     true_of : (b : Bool) → T b → b ≡ true
     true_of true t = refl
     true_of false t = absurd t
 
-pub with_else : (known : Known) (k j : ℕ) (a : Answer) → (k ≡ j → ⊥) → with known k a j ≡ known j
+pub with_else : (known : ℕ → Option Answer) (k j : ℕ) (a : Answer) → (k ≡ j → ⊥) → with known k a j ≡ known j
 with_else known k j a ne = ap (λ b. cond b (Some a) (known j)) (ne_eqb k j ne)
 
 -- an answer of the term's kind gives a value, or it is nothing
-answer_follows : (env : Environment) (m : Meaning) (args : List Value) (n n' : ℕ) (known known' : Known) (made : List Made) (p : Path) (kind : ReturnKind) (h : Held) → IsOfKind kind h → value_at env m args known' p ≡ h → Kept n known known' → Fresh n' known'
-    → Follows env m args n n' known (cond (may_be_nothing kind) (Inner p) p) (answered h made) (cond (may_be_nothing kind) (unless_nothing h known' made) (Goes known' made))
-answer_follows env m args n n' known known' made p return_kind.Plain h (v, e) is k f = rw e (record { held = is ∙ e; kept = k; fresh = f }, refl)
-answer_follows env m args n n' known known' made p return_kind.Option h (None, e) is k f = rw e refl
-answer_follows env m args n n' known known' made p return_kind.Option h (Some v, e) is k f = rw e (record { held = ap inner_held (is ∙ e); kept = k; fresh = f }, refl)
-answer_follows env m args n n' known known' made p return_kind.Iterator h i is k f = absurd i
+answer_follows : (env : Environment) (m : Meaning) (args : List Value) (n n' : ℕ) (known known' : Known) (made : List Made) (p : Path) (place : ℕ) (kind : ReturnKind) (h : Held) → AnswersOnce kind → IsOfKind kind h → value_at env m args known' p ≡ h → Kept n known known' → Fresh n' known'
+    → Follows env m args n n' known (cond (is_several kind) (Chosen p) (cond (may_be_nothing kind) (Inner p) p)) (answered place h made) (cond (may_be_nothing kind) (unless_nothing h known' made) (Goes known' made))
+answer_follows env m args n n' known known' made p place return_kind.Plain h once (v, e) is k f = rw e (record { held = is ∙ e; kept = k; fresh = f }, refl)
+answer_follows env m args n n' known known' made p place return_kind.Option h once (None, e) is k f = rw e refl
+answer_follows env m args n n' known known' made p place return_kind.Option h once (Some v, e) is k f = rw e (record { held = ap inner_held (is ∙ e); kept = k; fresh = f }, refl)
+answer_follows env m args n n' known known' made p place return_kind.Iterator h once i is k f = absurd once
 
-turn_follows : (env : Environment) (m : Meaning) (args : List Value) (n n' : ℕ) (known : Known) (made : List Made) (term : TermId) (ps : Paths) (callee : Callee) (kind : ReturnKind) (vs : List Value) → calling env term ≡ ByTurns callee kind → n' ≡ suc n → IsOfKind kind (answer_held (turn m callee made)) → Fresh n known
+turn_follows : (env : Environment) (m : Meaning) (args : List Value) (n n' : ℕ) (known : Known) (made : List Made) (term : TermId) (ps : Paths) (callee : Callee) (kind : ReturnKind) (vs : List Value) (place : ℕ) → calling env term ≡ ByTurns callee kind → n' ≡ suc n → AnswersOnce kind → IsOfKind kind (answer_held (turn m callee made)) → Fresh n known
     → values_at env m args known ps ≡ Some vs
-    → Follows env m args n n' known (answer_path (ByTurns callee kind) (Called term ps (suc n))) (called_with m (ByTurns callee kind) vs made) (run_call env m args (Called term ps (suc n)) known made)
-turn_follows env m args n n' known made term ps callee kind vs e next of_kind fr is =
+    → Follows env m args n n' known (answer_path (ByTurns callee kind) (Called term ps (suc n))) (called_with m place (ByTurns callee kind) vs made) (run_call env m args (Called term ps (suc n)) known made)
+turn_follows env m args n n' known made term ps callee kind vs place e next once of_kind fr is =
     let a = turn m callee made in
-    let known' = with known (suc n) a in
+    let known' = answered_too known (suc n) a in
     let made' = made ++ record { callee = callee; args = vs } ∷ [] in
     let p = Called term ps (suc n) in
-    let here : known' (suc n) ≡ Some a = with_here known (suc n) a in
+    let here : known'.answers (suc n) ≡ Some a = with_here known.answers (suc n) a in
     let made_now : run_call env m args p known made ≡ check_call env m args p known' made' =
     ap (λ c. then_go (make_call m c (suc n) (values_at env m args known ps) known made) (check_call env m args p)) e
-    ∙ ap (λ o. then_go (take_turn m callee (suc n) (known (suc n)) o known made) (check_call env m args p)) is
+    ∙ ap (λ o. then_go (take_turn m callee (suc n) (known.answers (suc n)) o known made) (check_call env m args p)) is
     ∙ ap (λ o. then_go (take_turn m callee (suc n) o (Some vs) known made) (check_call env m args p)) (fr.by (suc n) (omega arith)) in
     let checked : check_call env m args p known' made' ≡ cond (may_be_nothing kind) (unless_nothing (answer_held a) known' made') (Goes known' made') =
-    ap (λ c. cond (is_fallible c) (unless_nothing (call_held m c (known' (suc n)) (values_at env m args known' ps)) known' made') (Goes known' made')) e
+    ap (λ c. cond (is_fallible c) (unless_nothing (call_held m c (known'.answers (suc n)) (values_at env m args known' ps)) known' made') (Goes known' made')) e
     ∙ ap (λ o. cond (may_be_nothing kind) (unless_nothing (held_of o) known' made') (Goes known' made')) here in
-    let held : value_at env m args known' p ≡ answer_held a = ap (λ c. call_held m c (known' (suc n)) (values_at env m args known' ps)) e ∙ ap held_of here in
-    subst (λ f. Follows env m args n n' known (answer_path (ByTurns callee kind) p) (called_with m (ByTurns callee kind) vs made) f) (sym (made_now ∙ checked))
-    (answer_follows env m args n n' known known' made' p kind (answer_held a) of_kind held
-    (record { by = λ j low. with_else known (suc n) j a (λ (q : suc n ≡ j). let bad : ⊥ = omega arith in bad) })
-    (record { by = λ j lt. with_else known (suc n) j a (λ (q : suc n ≡ j). let bad : ⊥ = omega arith in bad) ∙ fr.by j (omega arith) }))
+    let held : value_at env m args known' p ≡ answer_held a = ap (λ c. call_held m c (known'.answers (suc n)) (values_at env m args known' ps)) e ∙ ap held_of here in
+    subst (λ f. Follows env m args n n' known (answer_path (ByTurns callee kind) p) (called_with m place (ByTurns callee kind) vs made) f) (sym (made_now ∙ checked))
+    (answer_follows env m args n n' known known' made' p place kind (answer_held a) once of_kind held
+    (record { by = λ j low. with_else known.answers (suc n) j a (λ (q : suc n ≡ j). let bad : ⊥ = omega arith in bad); choice = refl })
+    (record { by = λ j lt. with_else known.answers (suc n) j a (λ (q : suc n ≡ j). let bad : ⊥ = omega arith in bad) ∙ fr.by j (omega arith) }))
 
 -- a pure call makes no call: where it may be nothing, it is checked
-case_run : (env : Environment) (m : Meaning) (args : List Value) (term : TermId) (ps : Paths) (callee : Callee) (kind : ReturnKind) (cs : List Path) (known : Known) (made : List Made) → calling env term ≡ ByCases callee kind
-    → run_calls env m args (cs ++ if_ordered (ByCases callee kind) (Called term ps 0)) known made
+case_run : (env : Environment) (m : Meaning) (args : List Value) (term : TermId) (ps : Paths) (callee : Callee) (kind : ReturnKind) (cs : List Path) (known : Known) (made : List Made) → AnswersOnce kind → calling env term ≡ ByCases callee kind
+    → run_calls env m args (cs ++ if_ordered env (ByCases callee kind) (Called term ps 0)) known made
     ≡ then_go (run_calls env m args cs known made) (λ known' made'. cond (may_be_nothing kind) (unless_nothing (value_at env m args known' (Called term ps 0)) known' made') (Goes known' made'))
-case_run env m args term ps callee return_kind.Plain cs known made e = ap (λ qs. run_calls env m args qs known made) (append-nil cs) ∙ sym (goes_end (run_calls env m args cs known made))
-case_run env m args term ps callee return_kind.Iterator cs known made e = ap (λ qs. run_calls env m args qs known made) (append-nil cs) ∙ sym (goes_end (run_calls env m args cs known made))
-case_run env m args term ps callee return_kind.Option cs known made e = run_last env m args cs (Called term ps 0) known made ∙ same_went (run_calls env m args cs known made)
+case_run env m args term ps callee return_kind.Plain cs known made once e = ap (λ qs. run_calls env m args qs known made) (append-nil cs) ∙ sym (goes_end (run_calls env m args cs known made))
+case_run env m args term ps callee return_kind.Iterator cs known made once e = absurd once
+case_run env m args term ps callee return_kind.Option cs known made once e = run_last env m args cs (Called term ps 0) known made ∙ same_went (run_calls env m args cs known made)
   where
     same_went : (f : Went) → then_go f (run_call env m args (Called term ps 0)) ≡ then_go f (λ known' made'. unless_nothing (value_at env m args known' (Called term ps 0)) known' made')
     same_went (Goes known' made') =
@@ -211,36 +212,36 @@ case_run env m args term ps callee return_kind.Option cs known made e = run_last
     same_went (Ends o) = refl
 
 -- a pure call's answer to its arguments
-case_follows : (env : Environment) (m : Meaning) (args : List Value) (n : ℕ) (known : Known) (made : List Made) (term : TermId) (ps : Paths) (callee : Callee) (kind : ReturnKind) (vs : List Value) → calling env term ≡ ByCases callee kind → IsOfKind kind (answer_held (case m callee vs)) → Fresh n known
+case_follows : (env : Environment) (m : Meaning) (args : List Value) (n : ℕ) (known : Known) (made : List Made) (term : TermId) (ps : Paths) (callee : Callee) (kind : ReturnKind) (vs : List Value) (place : ℕ) → calling env term ≡ ByCases callee kind → AnswersOnce kind → IsOfKind kind (answer_held (case m callee vs)) → Fresh n known
     → values_at env m args known ps ≡ Some vs
-    → Follows env m args n n known (answer_path (ByCases callee kind) (Called term ps 0)) (called_with m (ByCases callee kind) vs made) (cond (may_be_nothing kind) (unless_nothing (value_at env m args known (Called term ps 0)) known made) (Goes known made))
-case_follows env m args n known made term ps callee kind vs e of_kind fr is =
+    → Follows env m args n n known (answer_path (ByCases callee kind) (Called term ps 0)) (called_with m place (ByCases callee kind) vs made) (cond (may_be_nothing kind) (unless_nothing (value_at env m args known (Called term ps 0)) known made) (Goes known made))
+case_follows env m args n known made term ps callee kind vs place e once of_kind fr is =
     let p = Called term ps 0 in
     let c = ByCases callee kind in
-    let held : value_at env m args known p ≡ answer_held (case m callee vs) = ap (λ x. call_held m x (known 0) (values_at env m args known ps)) e ∙ ap (call_held m c (known 0)) is in
-    subst (λ h. Follows env m args n n known (answer_path c p) (called_with m c vs made) (cond (may_be_nothing kind) (unless_nothing h known made) (Goes known made))) (sym held)
-    (answer_follows env m args n n known known made p kind (answer_held (case m callee vs)) of_kind held (kept_self n known) fr)
+    let held : value_at env m args known p ≡ answer_held (case m callee vs) = ap (λ x. call_held m x (known.answers 0) (values_at env m args known ps)) e ∙ ap (call_held m c (known.answers 0)) is in
+    subst (λ h. Follows env m args n n known (answer_path c p) (called_with m place c vs made) (cond (may_be_nothing kind) (unless_nothing h known made) (Goes known made))) (sym held)
+    (answer_follows env m args n n known known made p place kind (answer_held (case m callee vs)) once of_kind held (kept_self n known) fr)
 
 -- the calls of the arguments, then that of the term
-term_follows : (c : Calling) (env : Environment) (m : Meaning) (args : List Value) (n k : ℕ) (known : Known) (made : List Made) (term : TermId) (ps : Paths) (cs : List Path) (r : EvaluatedAll) → calling env term ≡ c → IsAnswered m c → FollowsAll env m args n (n + k) known ps r (run_calls env m args cs known made)
-    → Follows env m args n (n + one_more c k) known (answer_path c (Called term ps (instance_of c (n + k)))) (then_one r (called_with m c)) (run_calls env m args (cs ++ if_ordered c (Called term ps (instance_of c (n + k)))) known made)
-term_follows (ByTurns callee kind) env m args n k known made term ps cs r e t h =
+term_follows : (c : Calling) (env : Environment) (m : Meaning) (args : List Value) (n k : ℕ) (known : Known) (made : List Made) (term : TermId) (ps : Paths) (cs : List Path) (r : EvaluatedAll) (place : ℕ) → calling env term ≡ c → IsAnswered AnswersOnce m c → FollowsAll env m args n (n + k) known ps r (run_calls env m args cs known made)
+    → Follows env m args n (n + one_more c k) known (answer_path c (Called term ps (instance_of c (n + k)))) (then_one r (called_with m place c)) (run_calls env m args (cs ++ if_ordered env c (Called term ps (instance_of c (n + k)))) known made)
+term_follows (ByTurns callee kind) env m args n k known made term ps cs r place e t h =
     let c = ByTurns callee kind in
     let p = Called term ps (suc (n + k)) in
     let le : n ≤ n + k = omega arith in
     let last : n + suc k ≡ suc (n + k) = omega arith in
-    subst (λ f. Follows env m args n (n + suc k) known (answer_path c p) (then_one r (called_with m c)) f) (sym (run_last env m args cs p known made))
-    (args_follow env m args n (n + k) (n + suc k) known ps (answer_path c p) r (run_calls env m args cs known made) (called_with m c) (run_call env m args p) le h
-    (λ vs known' made' a. turn_follows env m args (n + k) (n + suc k) known' made' term ps callee kind vs e last (t made') a.fresh a.held))
-term_follows (ByCases callee kind) env m args n k known made term ps cs r e t h =
+    subst (λ f. Follows env m args n (n + suc k) known (answer_path c p) (then_one r (called_with m place c)) f) (sym (run_last env m args cs p known made))
+    (args_follow env m args n (n + k) (n + suc k) known ps (answer_path c p) r (run_calls env m args cs known made) (called_with m place c) (run_call env m args p) le h
+    (λ vs known' made' a. turn_follows env m args (n + k) (n + suc k) known' made' term ps callee kind vs place e last t.0 (t.1 made') a.fresh a.held))
+term_follows (ByCases callee kind) env m args n k known made term ps cs r place e t h =
     let c = ByCases callee kind in
     let p = Called term ps 0 in
     let le : n ≤ n + k = omega arith in
-    subst (λ f. Follows env m args n (n + k) known (answer_path c p) (then_one r (called_with m c)) f) (sym (case_run env m args term ps callee kind cs known made e))
-    (args_follow env m args n (n + k) (n + k) known ps (answer_path c p) r (run_calls env m args cs known made) (called_with m c)
+    subst (λ f. Follows env m args n (n + k) known (answer_path c p) (then_one r (called_with m place c)) f) (sym (case_run env m args term ps callee kind cs known made t.0 e))
+    (args_follow env m args n (n + k) (n + k) known ps (answer_path c p) r (run_calls env m args cs known made) (called_with m place c)
     (λ known' made'. cond (may_be_nothing kind) (unless_nothing (value_at env m args known' p) known' made') (Goes known' made')) le h
-    (λ vs known' made' a. case_follows env m args (n + k) known' made' term ps callee kind vs e (t vs) a.fresh a.held))
-term_follows NoCall env m args n k known made term ps cs r e t h = absurd t
+    (λ vs known' made' a. case_follows env m args (n + k) known' made' term ps callee kind vs place e t.0 (t.1 vs) a.fresh a.held))
+term_follows NoCall env m args n k known made term ps cs r place e t h = absurd t
 
 made_now : (mk : Making) (env : Environment) (m : Meaning) (args : List Value) (n n' : ℕ) (known : Known) (p : Path) (ps : Paths) (r : EvaluatedAll) (f : Went) → ((known' : Known) → value_at env m args known' p ≡ made_held env mk (values_at env m args known' ps)) → FollowsAll env m args n n' known ps r f
     → Follows env m args n n' known p (then_one r (λ vs made. Answered (made_value env mk vs) made)) f
@@ -252,7 +253,7 @@ made_now mk env m args n n' known p ps (OneFailed made) (Goes known' made') is h
 -- what is made of the arguments; no call follows theirs
 made_follows : (mk : Making) (c : Calling) (env : Environment) (m : Meaning) (args : List Value) (n k : ℕ) (known : Known) (made : List Made) (p : Path) (ps : Paths) (cs : List Path) (r : EvaluatedAll) → c ≡ NoCall
     → ((known' : Known) → value_at env m args known' p ≡ made_held env mk (values_at env m args known' ps)) → FollowsAll env m args n (n + k) known ps r (run_calls env m args cs known made)
-    → Follows env m args n (n + one_more c k) known (answer_path c p) (then_one r (λ vs made'. Answered (made_value env mk vs) made')) (run_calls env m args (cs ++ if_ordered c p) known made)
+    → Follows env m args n (n + one_more c k) known (answer_path c p) (then_one r (λ vs made'. Answered (made_value env mk vs) made')) (run_calls env m args (cs ++ if_ordered env c p) known made)
 made_follows mk (ByTurns callee kind) env m args n k known made p ps cs r e is h = cc
 made_follows mk (ByCases callee kind) env m args n k known made p ps cs r e is h = cc
 made_follows mk NoCall env m args n k known made p ps cs r e is h =
@@ -260,13 +261,13 @@ made_follows mk NoCall env m args n k known made p ps cs r e is h =
     (made_now mk env m args n (n + k) known p ps r (run_calls env m args cs known made) is h)
 
 -- the calls of the arguments, then what the term makes, or its call
-making_follows : (mk : Making) (c : Calling) (env : Environment) (m : Meaning) (args : List Value) (n k : ℕ) (known : Known) (made : List Made) (term : TermId) (ps : Paths) (cs : List Path) (r : EvaluatedAll) → calling env term ≡ c → IsTermAnswered m mk c
+making_follows : (mk : Making) (c : Calling) (env : Environment) (m : Meaning) (args : List Value) (n k : ℕ) (known : Known) (made : List Made) (term : TermId) (ps : Paths) (cs : List Path) (r : EvaluatedAll) (place : ℕ) → calling env term ≡ c → IsTermAnswered AnswersOnce m mk c
     → FollowsAll env m args n (n + k) known ps r (run_calls env m args cs known made)
-    → Follows env m args n (n + one_more c k) known (answer_path c (term_path mk term ps (instance_of c (n + k)))) (then_one r (made_or_called env m mk c))
-    (run_calls env m args (cs ++ if_ordered c (term_path mk term ps (instance_of c (n + k)))) known made)
-making_follows (MakesVariant ty variant) c env m args n k known made term ps cs r e t h = made_follows (MakesVariant ty variant) c env m args n k known made (MadeVariant ty variant ps) ps cs r t (λ known'. refl) h
-making_follows (MakesStruct ty) c env m args n k known made term ps cs r e t h = made_follows (MakesStruct ty) c env m args n k known made (MadeStruct ty ps) ps cs r t (λ known'. refl) h
-making_follows MakesNothing c env m args n k known made term ps cs r e t h = term_follows c env m args n k known made term ps cs r e t h
+    → Follows env m args n (n + one_more c k) known (answer_path c (term_path mk term ps (instance_of c (n + k)))) (then_one r (made_or_called env m place mk c))
+    (run_calls env m args (cs ++ if_ordered env c (term_path mk term ps (instance_of c (n + k)))) known made)
+making_follows (MakesVariant ty variant) c env m args n k known made term ps cs r place e t h = made_follows (MakesVariant ty variant) c env m args n k known made (MadeVariant ty variant ps) ps cs r t (λ known'. refl) h
+making_follows (MakesStruct ty) c env m args n k known made term ps cs r place e t h = made_follows (MakesStruct ty) c env m args n k known made (MadeStruct ty ps) ps cs r t (λ known'. refl) h
+making_follows MakesNothing c env m args n k known made term ps cs r place e t h = term_follows c env m args n k known made term ps cs r place e t h
 
 -- ---- expressions
 
@@ -282,54 +283,54 @@ var_follows env m args n n' known made o None le fr i h = absurd i
 
 mutual
   -- the calls of an expression do what its evaluation does
-  pub expr_follows : (e : Expr) (env : Environment) (m : Meaning) (args : List Value) (n : ℕ) (known : Known) (names : Names) (places : Places) (made : List Made) → HasAnsweredCalls env m places n e → Agree (value_at env m args known) names places → PlacesUpTo n places → Fresh n known
-      → Follows env m args n (n + impure env e) known (path env e places n) (evaluated env m e names made) (run_calls env m args (calls env e places n) known made)
-  expr_follows (expr.Var ty x) env m args n known names places made t a b fr = var_follows env m args n (n + 0) known made (names x.0) (places x.0) (omega arith) fr t (a.by x.0)
-  expr_follows (expr.ConstBool c) env m args n known names places made t a b fr = (record { held = refl; kept = kept_self n known; fresh = fresh_more n (n + 0) known (omega arith) fr }, refl)
-  expr_follows (expr.ConstInt ty k) env m args n known names places made t a b fr = (record { held = refl; kept = kept_self n known; fresh = fresh_more n (n + 0) known (omega arith) fr }, refl)
-  expr_follows (expr.Term ty term es) env m args n known names places made t a b fr =
-      making_follows (making env term) (calling env term) env m args n (impure_all env es) known made term (paths env es places n) (calls_all env es places n) (evaluated_all env m es names made) refl t.0 (exprs_follow es env m args n known names places made t.1 a b fr)
-  expr_follows (expr.ConstPrim ty name) env m args n known names places made t a b fr = const_follows env m args n (n + 0) known made (ConstPrim name) (const_of m (sym_text env name)) (omega arith) fr t (λ known'. refl)
-  expr_follows (expr.Let ty bs inner) env m args n known names places made t a b fr =
+  pub expr_follows : (e : Expr) (choice : Choice) (others : Places) (j : ℕ) (env : Environment) (m : Meaning) (args : List Value) (n : ℕ) (known : Known) (names : Names) (places : Places) (made : List Made) → HasAnsweredCalls AnswersOnce env m places n e → Agree (value_at env m args known) names places → PlacesUpTo n places → Fresh n known
+      → Follows env m args n (n + impure env e) known (path env e places n) (evaluated env m choice e names others j made) (run_calls env m args (calls env e places n) known made)
+  expr_follows (expr.Var ty x) choice others j env m args n known names places made t a b fr = var_follows env m args n (n + 0) known made (names x.0) (places x.0) (omega arith) fr t (a.by x.0)
+  expr_follows (expr.ConstBool c) choice others j env m args n known names places made t a b fr = (record { held = refl; kept = kept_self n known; fresh = fresh_more n (n + 0) known (omega arith) fr }, refl)
+  expr_follows (expr.ConstInt ty k) choice others j env m args n known names places made t a b fr = (record { held = refl; kept = kept_self n known; fresh = fresh_more n (n + 0) known (omega arith) fr }, refl)
+  expr_follows (expr.Term ty term es) choice others j env m args n known names places made t a b fr =
+      making_follows (making env term) (calling env term) env m args n (impure_all env es) known made term (paths env es places n) (calls_all env es places n) (evaluated_all env m choice es names others j made) (choice (call_path env term (paths env es others j) (j + impure_all env es))) refl t.0 (exprs_follow es choice others j env m args n known names places made t.1 a b fr)
+  expr_follows (expr.ConstPrim ty name) choice others j env m args n known names places made t a b fr = const_follows env m args n (n + 0) known made (ConstPrim name) (const_of m (sym_text env name)) (omega arith) fr t (λ known'. refl)
+  expr_follows (expr.Let ty bs inner) choice others j env m args n known names places made t a b fr =
       let n1 = n + impure_bindings env bs in
       let mid = let_places env bs places n in
       let p = path env inner mid n1 in
       let le : n ≤ n + impure_bindings env bs = omega arith in
       let assoc : n + impure_bindings env bs + impure env inner ≡ n + (impure_bindings env bs + impure env inner) = omega arith in
-      subst (λ f. Follows env m args n (n + (impure_bindings env bs + impure env inner)) known p (evaluated env m (expr.Let ty bs inner) names made) f) (sym (run_append env m args (calls_bindings env bs places n) (calls env inner mid n1) known made))
-      (within_follows env m args n n1 (n + (impure_bindings env bs + impure env inner)) known mid p (bound env m bs names made) (run_calls env m args (calls_bindings env bs places n) known made) (evaluated env m inner) (run_calls env m args (calls env inner mid n1)) le
-      (bindings_follow bs env m args n known names places made t.0 a b fr)
-      (λ names' known' made' h. subst (λ k. Follows env m args n1 k known' p (evaluated env m inner names' made') (run_calls env m args (calls env inner mid n1) known' made')) assoc
-      (expr_follows inner env m args n1 known' names' mid made' t.1 h.agree (let_up_to bs env places n b) h.fresh)))
+      subst (λ f. Follows env m args n (n + (impure_bindings env bs + impure env inner)) known p (evaluated env m choice (expr.Let ty bs inner) names others j made) f) (sym (run_append env m args (calls_bindings env bs places n) (calls env inner mid n1) known made))
+      (within_follows env m args n n1 (n + (impure_bindings env bs + impure env inner)) known mid p (bound env m choice bs names others j made) (run_calls env m args (calls_bindings env bs places n) known made) (λ all made'. evaluated env m choice inner all (let_places env bs others j) (j + impure_bindings env bs) made') (run_calls env m args (calls env inner mid n1)) le
+      (bindings_follow bs choice others j env m args n known names places made t.0 a b fr)
+      (λ names' known' made' h. subst (λ q. Follows env m args n1 q known' p (evaluated env m choice inner names' (let_places env bs others j) (j + impure_bindings env bs) made') (run_calls env m args (calls env inner mid n1) known' made')) assoc
+      (expr_follows inner choice (let_places env bs others j) (j + impure_bindings env bs) env m args n1 known' names' mid made' t.1 h.agree (let_up_to bs env places n b) h.fresh)))
 
   -- so of expressions in order
-  pub exprs_follow : (es : Exprs) (env : Environment) (m : Meaning) (args : List Value) (n : ℕ) (known : Known) (names : Names) (places : Places) (made : List Made) → AreAnsweredCalls env m places n es → Agree (value_at env m args known) names places → PlacesUpTo n places → Fresh n known
-      → FollowsAll env m args n (n + impure_all env es) known (paths env es places n) (evaluated_all env m es names made) (run_calls env m args (calls_all env es places n) known made)
-  exprs_follow NoExpr env m args n known names places made t a b fr = (record { held = refl; kept = kept_self n known; fresh = fresh_more n (n + 0) known (omega arith) fr }, refl)
-  exprs_follow (AnExpr e es) env m args n known names places made t a b fr =
+  pub exprs_follow : (es : Exprs) (choice : Choice) (others : Places) (j : ℕ) (env : Environment) (m : Meaning) (args : List Value) (n : ℕ) (known : Known) (names : Names) (places : Places) (made : List Made) → AreAnsweredCalls AnswersOnce env m places n es → Agree (value_at env m args known) names places → PlacesUpTo n places → Fresh n known
+      → FollowsAll env m args n (n + impure_all env es) known (paths env es places n) (evaluated_all env m choice es names others j made) (run_calls env m args (calls_all env es places n) known made)
+  exprs_follow NoExpr choice others j env m args n known names places made t a b fr = (record { held = refl; kept = kept_self n known; fresh = fresh_more n (n + 0) known (omega arith) fr }, refl)
+  exprs_follow (AnExpr e es) choice others j env m args n known names places made t a b fr =
       let n1 = n + impure env e in
       let p = path env e places n in
       let le : n ≤ n + impure env e = omega arith in
       let assoc : n + impure env e + impure_all env es ≡ n + (impure env e + impure_all env es) = omega arith in
-      subst (λ f. FollowsAll env m args n (n + (impure env e + impure_all env es)) known (APath p (paths env es places n1)) (evaluated_all env m (AnExpr e es) names made) f) (sym (run_append env m args (calls env e places n) (calls_all env es places n1) known made))
-      (first_follows env m args n n1 (n + (impure env e + impure_all env es)) known p (paths env es places n1) (evaluated env m e names made) (run_calls env m args (calls env e places n) known made) (λ v made'. evaluated_all env m es names made') (run_calls env m args (calls_all env es places n1)) le
+      subst (λ f. FollowsAll env m args n (n + (impure env e + impure_all env es)) known (APath p (paths env es places n1)) (evaluated_all env m choice (AnExpr e es) names others j made) f) (sym (run_append env m args (calls env e places n) (calls_all env es places n1) known made))
+      (first_follows env m args n n1 (n + (impure env e + impure_all env es)) known p (paths env es places n1) (evaluated env m choice e names others j made) (run_calls env m args (calls env e places n) known made) (λ v made'. evaluated_all env m choice es names others (j + impure env e) made') (run_calls env m args (calls_all env es places n1)) le
       (path_up_to e env places n b)
-      (expr_follows e env m args n known names places made t.0 a b fr)
-      (λ v known' made' h. subst (λ k. FollowsAll env m args n1 k known' (paths env es places n1) (evaluated_all env m es names made') (run_calls env m args (calls_all env es places n1) known' made')) assoc
-      (exprs_follow es env m args n1 known' names places made' t.1 (agree_still env m args n known known' names places b h.kept a) (places_more places n n1 le b) h.fresh)))
+      (expr_follows e choice others j env m args n known names places made t.0 a b fr)
+      (λ v known' made' h. subst (λ q. FollowsAll env m args n1 q known' (paths env es places n1) (evaluated_all env m choice es names others (j + impure env e) made') (run_calls env m args (calls_all env es places n1) known' made')) assoc
+      (exprs_follow es choice others (j + impure env e) env m args n1 known' names places made' t.1 (agree_still env m args n known known' names places b h.kept a) (places_more places n n1 le b) h.fresh)))
 
   -- so of the values of a `let`
-  pub bindings_follow : (bs : LetBindings) (env : Environment) (m : Meaning) (args : List Value) (n : ℕ) (known : Known) (names : Names) (places : Places) (made : List Made) → HaveAnsweredBindings env m places n bs → Agree (value_at env m args known) names places → PlacesUpTo n places → Fresh n known
-      → FollowsBound env m args n (n + impure_bindings env bs) known (let_places env bs places n) (bound env m bs names made) (run_calls env m args (calls_bindings env bs places n) known made)
-  bindings_follow NoBinding env m args n known names places made t a b fr = (record { agree = a; kept = kept_self n known; fresh = fresh_more n (n + 0) known (omega arith) fr }, refl)
-  bindings_follow (ABinding x ty e more) env m args n known names places made t a b fr =
+  pub bindings_follow : (bs : LetBindings) (choice : Choice) (others : Places) (j : ℕ) (env : Environment) (m : Meaning) (args : List Value) (n : ℕ) (known : Known) (names : Names) (places : Places) (made : List Made) → HaveAnsweredBindings AnswersOnce env m places n bs → Agree (value_at env m args known) names places → PlacesUpTo n places → Fresh n known
+      → FollowsBound env m args n (n + impure_bindings env bs) known (let_places env bs places n) (bound env m choice bs names others j made) (run_calls env m args (calls_bindings env bs places n) known made)
+  bindings_follow NoBinding choice others j env m args n known names places made t a b fr = (record { agree = a; kept = kept_self n known; fresh = fresh_more n (n + 0) known (omega arith) fr }, refl)
+  bindings_follow (ABinding x ty e more) choice others j env m args n known names places made t a b fr =
       let n1 = n + impure env e in
       let p = path env e places n in
       let mid = with places x.0 p in
       let le : n ≤ n + impure env e = omega arith in
       let assoc : n + impure env e + impure_bindings env more ≡ n + (impure env e + impure_bindings env more) = omega arith in
-      subst (λ f. FollowsBound env m args n (n + (impure env e + impure_bindings env more)) known (let_places env more mid n1) (bound env m (ABinding x ty e more) names made) f) (sym (run_append env m args (calls env e places n) (calls_bindings env more mid n1) known made))
-      (bind_follows env m args n n1 (n + (impure env e + impure_bindings env more)) known p (let_places env more mid n1) (evaluated env m e names made) (run_calls env m args (calls env e places n) known made) (λ v made'. bound env m more (with names x.0 v) made') (run_calls env m args (calls_bindings env more mid n1)) le
-      (expr_follows e env m args n known names places made t.0 a b fr)
-      (λ v known' made' h. subst (λ k. FollowsBound env m args n1 k known' (let_places env more mid n1) (bound env m more (with names x.0 v) made') (run_calls env m args (calls_bindings env more mid n1) known' made')) assoc
-      (bindings_follow more env m args n1 known' (with names x.0 v) mid made' t.1 (with_agrees (value_at env m args known') names places x.0 v p h.held (agree_still env m args n known known' names places b h.kept a)) (with_up_to n1 x.0 p places (path_up_to e env places n b) (places_more places n n1 le b)) h.fresh)))
+      subst (λ f. FollowsBound env m args n (n + (impure env e + impure_bindings env more)) known (let_places env more mid n1) (bound env m choice (ABinding x ty e more) names others j made) f) (sym (run_append env m args (calls env e places n) (calls_bindings env more mid n1) known made))
+      (bind_follows env m args n n1 (n + (impure env e + impure_bindings env more)) known p (let_places env more mid n1) (evaluated env m choice e names others j made) (run_calls env m args (calls env e places n) known made) (λ v made'. bound env m choice more (with names x.0 v) (with others x.0 (path env e others j)) (j + impure env e) made') (run_calls env m args (calls_bindings env more mid n1)) le
+      (expr_follows e choice others j env m args n known names places made t.0 a b fr)
+      (λ v known' made' h. subst (λ q. FollowsBound env m args n1 q known' (let_places env more mid n1) (bound env m choice more (with names x.0 v) (with others x.0 (path env e others j)) (j + impure env e) made') (run_calls env m args (calls_bindings env more mid n1) known' made')) assoc
+      (bindings_follow more choice (with others x.0 (path env e others j)) (j + impure env e) env m args n1 known' (with names x.0 v) mid made' t.1 (with_agrees (value_at env m args known') names places x.0 v p h.held (agree_still env m args n known known' names places b h.kept a)) (with_up_to n1 x.0 p places (path_up_to e env places n b) (places_more places n n1 le b)) h.fresh)))

@@ -7,13 +7,13 @@ use Rattle.isle_base.specs.declared.ids.Sym.{Sym}
 use Rattle.isle_base.specs.declared.ids.TermId.{TermId}
 use Rattle.isle_base.specs.declared.ids.TypeId.{TypeId}
 use Rattle.isle_core.specs.CalledTerms.{Constructor, CalledTerm, is_made, unless_made, called_by, called_by_all, called_by_bindings}
-use Rattle.isle_core.specs.Calling.{calling, is_fallible, instance_of, impure, impure_all, impure_bindings}
+use Rattle.isle_core.specs.Calling.{calling, answers_often, is_fallible, instance_of, impure, impure_all, impure_bindings}
 use Rattle.isle_core.specs.Expr as expr
 use Rattle.isle_core.specs.Expr.{Expr, Exprs, NoExpr, AnExpr, LetBindings, NoBinding, ABinding}
 use Rattle.isle_core.specs.Making.{making}
 use Rattle.isle_core.specs.Match.{with}
 use Rattle.isle_core.specs.OccurringConstants.{TypedConstant, Named, expr_constants, exprs_constants, bindings_constants}
-use Rattle.isle_core.specs.Path.{Path, Nowhere, ConstBool, ConstInt, ConstPrim, Inner, Paths}
+use Rattle.isle_core.specs.Path.{Path, Nowhere, ConstBool, ConstInt, ConstPrim, Chosen, Inner, Paths}
 use Rattle.isle_core.specs.RightSide.{bool_type, path_or, term_path, call_path, path, paths, let_places}
 use Rattle.isle_core.specs.RulePaths.{with_inner, expr_paths, exprs_paths, bindings_paths}
 use Rattle.isle_core.specs.Rule.{Environment}
@@ -54,7 +54,7 @@ pub picked : (P : Path → Type 0) (b : Bool) (p : Path) (o : Option Path) → P
 picked P true p o h k = h
 picked P false p o h k = k
 
-with_placed : (P : Path → Type 0) (places : Places) (x : ℕ) (p : Path) → P p → ArePlacedSo P places → ArePlacedSo P (with places x p)
+pub with_placed : (P : Path → Type 0) (places : Places) (x : ℕ) (p : Path) → P p → ArePlacedSo P places → ArePlacedSo P (with places x p)
 with_placed P places x p h a = record { by = λ y. picked P (eqb x y) p (places y) h (a.by y) }
 
 module _ (P : Path → Type 0) (env : Environment) where
@@ -62,9 +62,10 @@ module _ (P : Path → Type 0) (env : Environment) where
   place_so None n h = n
   place_so (Some p) n h = h
 
-  answer_so : (b : Bool) (p : Path) → AllByRecursion P (cond b (p ∷ Inner p ∷ []) (p ∷ [])) → P (cond b (Inner p) p)
-  answer_so true p h = h.1.0
-  answer_so false p h = h.0
+  answer_so : (a b : Bool) (p : Path) → AllByRecursion P (cond a (p ∷ Chosen p ∷ []) (cond b (p ∷ Inner p ∷ []) (p ∷ []))) → P (cond a (Chosen p) (cond b (Inner p) p))
+  answer_so true b p h = h.1.0
+  answer_so false true p h = h.1.0
+  answer_so false false p h = h.0
 
   -- an expression's path is one of its paths
   pub path_so : (e : Expr) (places : Places) (n : ℕ) → AllByRecursion P (expr_paths env e places n) → P (path env e places n)
@@ -74,7 +75,7 @@ module _ (P : Path → Type 0) (env : Environment) where
   path_so (expr.ConstPrim ty name) places n h = h.0
   path_so (expr.Term ty term es) places n h =
       let p = call_path env term (paths env es places n) (n + impure_all env es) in
-      answer_so (is_fallible (calling env term)) p (all_behind P (exprs_paths env es places n) (with_inner (calling env term) p) h)
+      answer_so (answers_often (calling env term)) (is_fallible (calling env term)) p (all_behind P (exprs_paths env es places n) (with_inner (calling env term) p) h)
   path_so (expr.Let ty bs inner) places n h =
       path_so inner (let_places env bs places n) (n + impure_bindings env bs) (all_behind P (bindings_paths env bs places n) (expr_paths env inner (let_places env bs places n) (n + impure_bindings env bs)) h)
 

@@ -8,11 +8,10 @@ use Rattle.isle_core.specs.Value.{Value, Answer, Made}
 use Rattle.isle_core.specs.Meaning.{Meaning, turn}
 use Rattle.isle_core.specs.Answered.{Held, Absent, One, Optional, Listed, answer_held}
 use Rattle.isle_core.specs.Calling.{Calling, ByTurns, ByCases, NoCall, calling, may_be_nothing, is_fallible}
-use Rattle.isle_core.specs.Match.{with}
 use Rattle.isle_core.specs.Outcome.{Failure}
 use Rattle.isle_core.specs.Path.{Path, Called, Paths}
 use Rattle.isle_core.specs.StandsFor.{AreFirsts, no_more, again, first}
-use Rattle.isle_core.specs.ValueAt.{Known, held_of, case_held, call_held, values_at}
+use Rattle.isle_core.specs.ValueAt.{Known, answered_too, held_of, case_held, call_held, values_at}
 use Rattle.isle_core.specs.CallRun.{Went, Goes, Ends, then_go, take_turn, make_call, unless_nothing, run_call, run_calls}
 use Rattle.isle_core.specs.Rule.{Environment}
 use Rattle.isle_core.proofs.Contained.{contained_cases, none_contained}
@@ -50,17 +49,17 @@ ready_append env m args (p ∷ ps) qs known made h k = (h.0, ready_behind env m 
 
 -- the answers known stay
 grows_on : {a b c : Known} → Grows a b → Grows b c → Grows a c
-grows_on g h = record { by = λ k x e. h.by k x (g.by k x e) }
+grows_on g h = record { by = λ k x e. h.by k x (g.by k x e); choice = h.choice ∙ g.choice }
 
 grows_self : (a : Known) → Grows a a
-grows_self a = record { by = λ k x e. e }
+grows_self a = record { by = λ k x e. e; choice = refl }
 
 none_some : (o : Option Answer) (a : Answer) → o ≡ None → o ≡ Some a → ⊥
 none_some None a e h = cc
 none_some (Some b) a e h = cc
 
-with_new : (known : Known) (n : ℕ) (a : Answer) → known n ≡ None → Grows known (with known n a)
-with_new known n a e = record { by = λ k x is. with_else known n k a (λ (q : n ≡ k). none_some (known n) x e (ap known q ∙ is)) ∙ is }
+with_new : (known : Known) (n : ℕ) (a : Answer) → known.answers n ≡ None → Grows known (answered_too known n a)
+with_new known n a e = record { by = λ k x is. with_else known.answers n k a (λ (q : n ≡ k). none_some (known.answers n) x e (ap known.answers q ∙ is)) ∙ is; choice = refl }
 
 -- a call goes on with nothing changed, under these answers and under more
 record Stays (env : Environment) (m : Meaning) (args : List Value) (known : Known) (p : Path) : Type 0 where
@@ -94,27 +93,27 @@ if_passes b h w known made P e f = ⊎_elim
 
 -- what running a call does, by how its term is called
 called_run : (env : Environment) (m : Meaning) (args : List Value) (term : TermId) (ps : Paths) (k : ℕ) (c : Calling) (known : Known) (made : List Made) → calling env term ≡ c
-    → run_call env m args (Called term ps k) known made ≡ then_go (make_call m c k (values_at env m args known ps) known made) (λ known' made'. checked (is_fallible c) (call_held m c (known' k) (values_at env m args known' ps)) known' made')
+    → run_call env m args (Called term ps k) known made ≡ then_go (make_call m c k (values_at env m args known ps) known made) (λ known' made'. checked (is_fallible c) (call_held m c (known'.answers k) (values_at env m args known' ps)) known' made')
 called_run env m args term ps k c known made e =
-    ap (λ x. then_go (make_call m x k (values_at env m args known ps) known made) (λ known' made'. checked (is_fallible x) (call_held m x (known' k) (values_at env m args known' ps)) known' made')) e
+    ap (λ x. then_go (make_call m x k (values_at env m args known ps) known made) (λ known' made'. checked (is_fallible x) (call_held m x (known'.answers k) (values_at env m args known' ps)) known' made')) e
 
 -- a turn that is known
-known_run : (env : Environment) (m : Meaning) (args : List Value) (term : TermId) (ps : Paths) (k : ℕ) (callee : Callee) (kind : ReturnKind) (a : Answer) (known : Known) (made : List Made) → calling env term ≡ ByTurns callee kind → known k ≡ Some a
+known_run : (env : Environment) (m : Meaning) (args : List Value) (term : TermId) (ps : Paths) (k : ℕ) (callee : Callee) (kind : ReturnKind) (a : Answer) (known : Known) (made : List Made) → calling env term ≡ ByTurns callee kind → known.answers k ≡ Some a
     → run_call env m args (Called term ps k) known made ≡ checked (may_be_nothing kind) (answer_held a) known made
 known_run env m args term ps k callee kind a known made e is =
     called_run env m args term ps k (ByTurns callee kind) known made e
-    ∙ ap (λ o. then_go (take_turn m callee k o (values_at env m args known ps) known made) (λ known' made'. checked (may_be_nothing kind) (held_of (known' k)) known' made')) is
+    ∙ ap (λ o. then_go (take_turn m callee k o (values_at env m args known ps) known made) (λ known' made'. checked (may_be_nothing kind) (held_of (known'.answers k)) known' made')) is
     ∙ ap (λ o. checked (may_be_nothing kind) (held_of o) known made) is
 
 -- one that is taken
-new_run : (env : Environment) (m : Meaning) (args : List Value) (term : TermId) (ps : Paths) (k : ℕ) (callee : Callee) (kind : ReturnKind) (vs : List Value) (known : Known) (made : List Made) → calling env term ≡ ByTurns callee kind → known k ≡ None → values_at env m args known ps ≡ Some vs
-    → run_call env m args (Called term ps k) known made ≡ checked (may_be_nothing kind) (answer_held (turn m callee made)) (with known k (turn m callee made)) (made ++ record { callee = callee; args = vs } ∷ [])
+new_run : (env : Environment) (m : Meaning) (args : List Value) (term : TermId) (ps : Paths) (k : ℕ) (callee : Callee) (kind : ReturnKind) (vs : List Value) (known : Known) (made : List Made) → calling env term ≡ ByTurns callee kind → known.answers k ≡ None → values_at env m args known ps ≡ Some vs
+    → run_call env m args (Called term ps k) known made ≡ checked (may_be_nothing kind) (answer_held (turn m callee made)) (answered_too known k (turn m callee made)) (made ++ record { callee = callee; args = vs } ∷ [])
 new_run env m args term ps k callee kind vs known made e none is =
-    let go : Known → List Made → Went = λ known' made'. checked (may_be_nothing kind) (held_of (known' k)) known' made' in
+    let go : Known → List Made → Went = λ known' made'. checked (may_be_nothing kind) (held_of (known'.answers k)) known' made' in
     called_run env m args term ps k (ByTurns callee kind) known made e
     ∙ ap (λ o. then_go (take_turn m callee k o (values_at env m args known ps) known made) go) none
     ∙ ap (λ o. then_go (take_turn m callee k None o known made) go) is
-    ∙ ap (λ o. checked (may_be_nothing kind) (held_of o) (with known k (turn m callee made)) (made ++ record { callee = callee; args = vs } ∷ [])) (with_here known k (turn m callee made))
+    ∙ ap (λ o. checked (may_be_nothing kind) (held_of o) (answered_too known k (turn m callee made)) (made ++ record { callee = callee; args = vs } ∷ [])) (with_here known.answers k (turn m callee made))
 
 -- a pure one
 case_run : (env : Environment) (m : Meaning) (args : List Value) (term : TermId) (ps : Paths) (k : ℕ) (callee : Callee) (kind : ReturnKind) (o : Option (List Value)) (known : Known) (made : List Made) → calling env term ≡ ByCases callee kind → values_at env m args known ps ≡ o
@@ -122,21 +121,21 @@ case_run : (env : Environment) (m : Meaning) (args : List Value) (term : TermId)
 case_run env m args term ps k callee kind o known made e is =
     called_run env m args term ps k (ByCases callee kind) known made e ∙ ap (λ x. checked (may_be_nothing kind) (case_held m (ByCases callee kind) x) known made) is
 
-turn_behind : (env : Environment) (m : Meaning) (args : List Value) (term : TermId) (ps : Paths) (k : ℕ) (callee : Callee) (kind : ReturnKind) (o : Option Answer) (vs : Option (List Value)) (known : Known) (made : List Made) → calling env term ≡ ByTurns callee kind → known k ≡ o → values_at env m args known ps ≡ vs → AreThere vs
+turn_behind : (env : Environment) (m : Meaning) (args : List Value) (term : TermId) (ps : Paths) (k : ℕ) (callee : Callee) (kind : ReturnKind) (o : Option Answer) (vs : Option (List Value)) (known : Known) (made : List Made) → calling env term ≡ ByTurns callee kind → known.answers k ≡ o → values_at env m args known ps ≡ vs → AreThere vs
     → IfGoes (run_call env m args (Called term ps k) known made) (Behind env m args (Called term ps k) known)
 turn_behind env m args term ps k callee kind (Some a) vs known made e is at t =
     if_passes (may_be_nothing kind) (answer_held a) (run_call env m args (Called term ps k) known made) known made (Behind env m args (Called term ps k) known) (known_run env m args term ps k callee kind a known made e is)
     (λ pass. (grows_self known, record { by = λ later more g. known_run env m args term ps k callee kind a later more e (g.by k a is) ∙ pass later more }))
 turn_behind env m args term ps k callee kind None (Some vs) known made e is at t =
     let a = turn m callee made in
-    let known' = with known k a in
+    let known' = answered_too known k a in
     if_passes (may_be_nothing kind) (answer_held a) (run_call env m args (Called term ps k) known made) known' (made ++ record { callee = callee; args = vs } ∷ []) (Behind env m args (Called term ps k) known) (new_run env m args term ps k callee kind vs known made e is at)
-    (λ pass. (with_new known k a is, record { by = λ later more g. known_run env m args term ps k callee kind a later more e (g.by k a (with_here known k a)) ∙ pass later more }))
+    (λ pass. (with_new known k a is, record { by = λ later more g. known_run env m args term ps k callee kind a later more e (g.by k a (with_here known.answers k a)) ∙ pass later more }))
 turn_behind env m args term ps k callee kind None None known made e is at t = absurd t
 
 called_behind : (env : Environment) (m : Meaning) (args : List Value) (term : TermId) (ps : Paths) (k : ℕ) (c : Calling) (known : Known) (made : List Made) → calling env term ≡ c → AreThere (values_at env m args known ps)
     → IfGoes (run_call env m args (Called term ps k) known made) (Behind env m args (Called term ps k) known)
-called_behind env m args term ps k (ByTurns callee kind) known made e t = turn_behind env m args term ps k callee kind (known k) (values_at env m args known ps) known made e refl refl t
+called_behind env m args term ps k (ByTurns callee kind) known made e t = turn_behind env m args term ps k callee kind (known.answers k) (values_at env m args known ps) known made e refl refl t
 called_behind env m args term ps k (ByCases callee kind) known made e t =
     let vs = values_at env m args known ps in
     if_passes (may_be_nothing kind) (case_held m (ByCases callee kind) vs) (run_call env m args (Called term ps k) known made) known made (Behind env m args (Called term ps k) known) (case_run env m args term ps k callee kind vs known made e refl)

@@ -1,11 +1,12 @@
 -- What stands at a path stays there while later calls are answered.
-use Rattle.std.proofs.Common.{◌≡◌, ℕ, List, [], Option, Some, None, refl, ap}
+use Rattle.std.proofs.Common.{◌≡◌, ℕ, List, [], Option, Some, None, refl, ap, ◌∙◌}
 use Rattle.isle_core.specs.Value.{Value, Answer}
 use Rattle.isle_core.specs.Meaning.{Meaning}
 use Rattle.isle_core.specs.Calling.{Calling, ByTurns, ByCases, NoCall, calling, extracting}
+use Rattle.isle_core.specs.Choice.{Choice}
 use Rattle.isle_core.specs.Making.{Making, MakesVariant, MakesStruct}
-use Rattle.isle_core.specs.Path.{Path, Arg, ConstBool, ConstInt, ConstPrim, Extracted, Called, MadeVariant, MadeStruct, VariantField, StructField, Wrapped, Inner, Part, Paths, NoPath, APath}
-use Rattle.isle_core.specs.ValueAt.{Held, AValue, ATuple, Absent, One, Optional, Listed, Known, held_of, inner_held, value_before, case_held, extracted_held, call_held, wrapped_held, part_held, made_held, field_held, value_at, values_at}
+use Rattle.isle_core.specs.Path.{Path, Arg, ConstBool, ConstInt, ConstPrim, Extracted, Called, Chosen, MadeVariant, MadeStruct, VariantField, StructField, Wrapped, Inner, Part, Paths, NoPath, APath}
+use Rattle.isle_core.specs.ValueAt.{Held, AValue, ATuple, Absent, One, Optional, Listed, Known, held_of, chosen_held, inner_held, value_before, case_held, extracted_held, call_held, wrapped_held, part_held, made_held, field_held, value_at, values_at}
 use Rattle.isle_core.specs.Rule.{Environment}
 
 -- something stands there
@@ -20,9 +21,10 @@ abbrev pub AreThere : Option (List Value) → Type 0
 AreThere None = ⊥
 AreThere (Some vs) = Unit {0}
 
--- the answers that are known stay
+-- the answers that are known stay, and the items that are chosen
 pub record Grows (known later : Known) : Type 0 where
-  pub by : (k : ℕ) (a : Answer) → known k ≡ Some a → later k ≡ Some a
+  pub by : (k : ℕ) (a : Answer) → known.answers k ≡ Some a → later.answers k ≡ Some a
+  pub choice : later.choice ≡ known.choice
 
 answer_stays : (o p : Option Answer) → ((a : Answer) → o ≡ Some a → p ≡ Some a) → IsThere (held_of o) → held_of p ≡ held_of o
 answer_stays None p h t = absurd t
@@ -80,6 +82,12 @@ part_stays i Absent g s t = absurd t
 part_stays i (Optional o) g s t = absurd t
 part_stays i (Listed is) g s t = absurd t
 
+chosen_stays : (i j : ℕ) (h g : Held) → j ≡ i → (IsThere h → g ≡ h) → IsThere (chosen_held i h) → chosen_held j g ≡ chosen_held i h
+chosen_stays i j (Listed is) g e s t = ap (λ k. chosen_held k g) e ∙ ap (chosen_held i) (s tt)
+chosen_stays i j Absent g e s t = absurd t
+chosen_stays i j (One x) g e s t = absurd t
+chosen_stays i j (Optional o) g e s t = absurd t
+
 mutual
   -- what stands at a path
   pub held_stays : (p : Path) (env : Environment) (m : Meaning) (args : List Value) (known later : Known) → Grows known later → IsThere (value_at env m args known p) → value_at env m args later p ≡ value_at env m args known p
@@ -93,11 +101,13 @@ mutual
   held_stays (VariantField variant i p) env m args known later g t = field_stays i (value_at env m args known p) (value_at env m args later p) (λ s. held_stays p env m args known later g s) t
   held_stays (StructField i p) env m args known later g t = field_stays i (value_at env m args known p) (value_at env m args later p) (λ s. held_stays p env m args known later g s) t
   held_stays (Called term ps k) env m args known later g t =
-      call_stays m (calling env term) (known k) (later k) (values_at env m args known ps) (values_at env m args later ps) (g.by k) (λ s. values_stay ps env m args known later g s) t
+      call_stays m (calling env term) (known.answers k) (later.answers k) (values_at env m args known ps) (values_at env m args later ps) (g.by k) (λ s. values_stay ps env m args known later g s) t
   held_stays (Inner p) env m args known later g t = inner_stays (value_at env m args known p) (value_at env m args later p) (λ s. held_stays p env m args known later g s) t
   held_stays (Extracted term p) env m args known later g t = extracted_stays m (extracting env term) (value_at env m args known p) (value_at env m args later p) (λ s. held_stays p env m args known later g s) t
   held_stays (Wrapped p) env m args known later g t = wrapped_stays (value_at env m args known p) (value_at env m args later p) (λ s. held_stays p env m args known later g s) t
   held_stays (Part i p) env m args known later g t = part_stays i (value_at env m args known p) (value_at env m args later p) (λ s. held_stays p env m args known later g s) t
+  held_stays (Chosen p) env m args known later g t =
+      chosen_stays (known.choice p) (later.choice p) (value_at env m args known p) (value_at env m args later p) (ap (λ (c : Choice). c p) g.choice) (λ s. held_stays p env m args known later g s) t
   held_stays p env m args known later g t = absurd t
 
   -- and at paths in order

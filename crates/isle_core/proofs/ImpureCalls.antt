@@ -1,5 +1,5 @@
 -- The calls that rules prescribe go to impure terms.
-use Rattle.std.proofs.Common.{◌≡◌, ℕ, zero, suc, List, [], ◌∷◌, ◌++◌, Bool, true, false, Option, Some, None, refl, sym, ap, ◌∙◌, subst}
+use Rattle.std.proofs.Common.{◌≡◌, ℕ, zero, suc, ◌+◌, List, [], ◌∷◌, ◌++◌, Bool, true, false, Option, Some, None, refl, sym, ap, ◌∙◌, subst}
 use Rattle.std.specs.Prelude.{◌||◌, filter, slice_get}
 use Rattle.std.specs.List.{AllByRecursion, list_any}
 use Rattle.std.specs.Str.{bytes_eq}
@@ -10,15 +10,18 @@ use Rattle.isle_core.specs.declared.values.Callee.{Callee}
 use Rattle.isle_core.specs.declared.values.Callee.TheVariants.{External, Internal}
 use Rattle.isle_core.specs.declared.types.ReturnKind.{ReturnKind}
 use Rattle.isle_core.specs.Value.{Value, Made}
-use Rattle.isle_core.specs.Answered.{AValue, ATuple, Held, Absent, One, Optional, Listed, answer_held}
+use Rattle.isle_core.specs.Answered.{Item, AValue, ATuple, Held, Absent, One, Optional, Listed, answer_held}
 use Rattle.isle_core.specs.Meaning.{Meaning, turn, case}
-use Rattle.isle_core.specs.Calling.{Calling, ByTurns, ByCases, NoCall, calling, calling_of, calling_by, pure_callee, kind_of}
+use Rattle.isle_core.specs.Calling.{Calling, ByTurns, ByCases, NoCall, calling, calling_of, calling_by, pure_callee, kind_of, impure, impure_all, impure_bindings}
+use Rattle.isle_core.specs.Choice.{Choice, first_items}
 use Rattle.isle_core.specs.Match.{Names, with}
 use Rattle.isle_core.specs.Expr as expr
 use Rattle.isle_core.specs.Expr.{Expr, Exprs, NoExpr, AnExpr, LetBindings, NoBinding, ABinding}
-use Rattle.isle_core.specs.Eval.{Evaluated, Answered, Failed, EvaluatedAll, AllAnswered, OneFailed, Bound, AllBound, NotBound, named, answered, then_all, before, then_one, then_bind, then_within, called_with, made_or_called, evaluated, evaluated_all, bound}
+use Rattle.isle_core.specs.Eval.{Evaluated, Answered, Failed, EvaluatedAll, AllAnswered, OneFailed, Bound, AllBound, NotBound, named, answered_item, answered, then_all, before, then_one, then_bind, then_within, called_with, made_or_called, evaluated, evaluated_all, bound}
 use Rattle.isle_core.specs.HighestMatch.{highest_match, given_by, outcome_of}
-use Rattle.isle_core.specs.Outcome.{prescription_of}
+use Rattle.isle_core.specs.Outcome.{prescription_of, rule_value}
+use Rattle.isle_core.specs.RightSide.{call_path, path, paths, let_places}
+use Rattle.isle_core.specs.Tests.{Places, rule_places}
 use Rattle.isle_core.specs.Having.{const_of}
 use Rattle.isle_core.specs.Making.{Making, MakesVariant, MakesStruct, MakesNothing, making}
 use Rattle.isle_core.specs.Terms.{sym_text, goes_to, impure_callee, is_impure}
@@ -87,27 +90,30 @@ unfolding calls_in
 named_impure env None made h = h
 named_impure env (Some v) made h = h
 
-answered_impure : (env : Environment) (h : Held) (made : List Made) → AreImpure env made → AreImpure env (calls_in (answered h made))
+item_impure : (env : Environment) (i : Option Item) (made : List Made) → AreImpure env made → AreImpure env (calls_in (answered_item i made))
 unfolding calls_in
-answered_impure env (One (AValue v)) made k = k
-answered_impure env (One (ATuple vs)) made k = k
-answered_impure env (Optional (Some (AValue v))) made k = k
-answered_impure env (Optional (Some (ATuple vs))) made k = k
-answered_impure env (Optional None) made k = k
-answered_impure env Absent made k = k
-answered_impure env (Listed is) made k = k
+item_impure env (Some (AValue v)) made k = k
+item_impure env (Some (ATuple vs)) made k = k
+item_impure env None made k = k
 
-called_impure : (env : Environment) (m : Meaning) (c : Calling) (vs : List Value) (made : List Made) → ((callee : Callee) (kind : ReturnKind) → c ≡ ByTurns callee kind → is_impure env callee ≡ true) → AreImpure env made → AreImpure env (calls_in (called_with m c vs made))
+answered_impure : (env : Environment) (place : ℕ) (h : Held) (made : List Made) → AreImpure env made → AreImpure env (calls_in (answered place h made))
 unfolding calls_in
-called_impure env m (ByTurns callee kind) vs made h k = answered_impure env (answer_held (turn m callee made)) (made ++ record { callee = callee; args = vs } ∷ []) (one_more env made (record { callee = callee; args = vs }) k (h callee kind refl))
-called_impure env m (ByCases callee kind) vs made h k = answered_impure env (answer_held (case m callee vs)) made k
-called_impure env m NoCall vs made h k = k
+answered_impure env place (One i) made k = item_impure env (Some i) made k
+answered_impure env place (Optional o) made k = item_impure env o made k
+answered_impure env place Absent made k = k
+answered_impure env place (Listed is) made k = item_impure env (slice_get is place) made k
 
-made_impure : (env : Environment) (m : Meaning) (mk : Making) (c : Calling) (vs : List Value) (made : List Made) → ((callee : Callee) (kind : ReturnKind) → c ≡ ByTurns callee kind → is_impure env callee ≡ true) → AreImpure env made → AreImpure env (calls_in (made_or_called env m mk c vs made))
+called_impure : (env : Environment) (m : Meaning) (place : ℕ) (c : Calling) (vs : List Value) (made : List Made) → ((callee : Callee) (kind : ReturnKind) → c ≡ ByTurns callee kind → is_impure env callee ≡ true) → AreImpure env made → AreImpure env (calls_in (called_with m place c vs made))
 unfolding calls_in
-made_impure env m (MakesVariant ty variant) c vs made h k = k
-made_impure env m (MakesStruct ty) c vs made h k = k
-made_impure env m MakesNothing c vs made h k = called_impure env m c vs made h k
+called_impure env m place (ByTurns callee kind) vs made h k = answered_impure env place (answer_held (turn m callee made)) (made ++ record { callee = callee; args = vs } ∷ []) (one_more env made (record { callee = callee; args = vs }) k (h callee kind refl))
+called_impure env m place (ByCases callee kind) vs made h k = answered_impure env place (answer_held (case m callee vs)) made k
+called_impure env m place NoCall vs made h k = k
+
+made_impure : (env : Environment) (m : Meaning) (place : ℕ) (mk : Making) (c : Calling) (vs : List Value) (made : List Made) → ((callee : Callee) (kind : ReturnKind) → c ≡ ByTurns callee kind → is_impure env callee ≡ true) → AreImpure env made → AreImpure env (calls_in (made_or_called env m place mk c vs made))
+unfolding calls_in
+made_impure env m place (MakesVariant ty variant) c vs made h k = k
+made_impure env m place (MakesStruct ty) c vs made h k = k
+made_impure env m place MakesNothing c vs made h k = called_impure env m place c vs made h k
 
 then_impure : (env : Environment) (r : EvaluatedAll) (go : List Value → List Made → Evaluated) → AreImpure env (calls_in_all r) → ((vs : List Value) (made : List Made) → AreImpure env made → AreImpure env (calls_in (go vs made))) → AreImpure env (calls_in (then_one r go))
 unfolding calls_in calls_in_all
@@ -137,27 +143,35 @@ within_impure env (NotBound made) go h k = h
 mutual
   unfolding calls_in calls_in_all calls_in_bound
 
-  expr_impure : (e : Expr) (env : Environment) (m : Meaning) (names : Names) (made : List Made) → AreImpure env made → AreImpure env (calls_in (evaluated env m e names made))
-  expr_impure (expr.Var ty x) env m names made h = named_impure env (names x.0) made h
-  expr_impure (expr.ConstBool b) env m names made h = h
-  expr_impure (expr.ConstInt ty n) env m names made h = h
-  expr_impure (expr.ConstPrim ty name) env m names made h = named_impure env (const_of m (sym_text env name)) made h
-  expr_impure (expr.Let ty bs inner) env m names made h =
-      within_impure env (bound env m bs names made) (evaluated env m inner) (bindings_impure bs env m names made h) (λ names' calls k. expr_impure inner env m names' calls k)
-  expr_impure (expr.Term ty term es) env m names made h =
-      then_impure env (evaluated_all env m es names made) (made_or_called env m (making env term) (calling env term)) (exprs_impure es env m names made h)
-      (λ vs calls k. made_impure env m (making env term) (calling env term) vs calls (turned_impure env term) k)
+  expr_impure : (e : Expr) (env : Environment) (m : Meaning) (choice : Choice) (names : Names) (places : Places) (n : ℕ) (made : List Made) → AreImpure env made → AreImpure env (calls_in (evaluated env m choice e names places n made))
+  expr_impure (expr.Var ty x) env m choice names places n made h = named_impure env (names x.0) made h
+  expr_impure (expr.ConstBool b) env m choice names places n made h = h
+  expr_impure (expr.ConstInt ty k) env m choice names places n made h = h
+  expr_impure (expr.ConstPrim ty name) env m choice names places n made h = named_impure env (const_of m (sym_text env name)) made h
+  expr_impure (expr.Let ty bs inner) env m choice names places n made h =
+      let mid = let_places env bs places n in
+      let after = n + impure_bindings env bs in
+      within_impure env (bound env m choice bs names places n made) (λ all calls. evaluated env m choice inner all mid after calls) (bindings_impure bs env m choice names places n made h)
+      (λ all calls k. expr_impure inner env m choice all mid after calls k)
+  expr_impure (expr.Term ty term es) env m choice names places n made h =
+      let place = choice (call_path env term (paths env es places n) (n + impure_all env es)) in
+      then_impure env (evaluated_all env m choice es names places n made) (made_or_called env m place (making env term) (calling env term)) (exprs_impure es env m choice names places n made h)
+      (λ vs calls k. made_impure env m place (making env term) (calling env term) vs calls (turned_impure env term) k)
 
-  exprs_impure : (es : Exprs) (env : Environment) (m : Meaning) (names : Names) (made : List Made) → AreImpure env made → AreImpure env (calls_in_all (evaluated_all env m es names made))
-  exprs_impure NoExpr env m names made h = h
-  exprs_impure (AnExpr e es) env m names made h =
-      all_impure env (evaluated env m e names made) (λ v calls. before v (evaluated_all env m es names calls)) (expr_impure e env m names made h)
-      (λ v calls k. before_impure env v (evaluated_all env m es names calls) (exprs_impure es env m names calls k))
+  exprs_impure : (es : Exprs) (env : Environment) (m : Meaning) (choice : Choice) (names : Names) (places : Places) (n : ℕ) (made : List Made) → AreImpure env made → AreImpure env (calls_in_all (evaluated_all env m choice es names places n made))
+  exprs_impure NoExpr env m choice names places n made h = h
+  exprs_impure (AnExpr e es) env m choice names places n made h =
+      let after = n + impure env e in
+      all_impure env (evaluated env m choice e names places n made) (λ v calls. before v (evaluated_all env m choice es names places after calls)) (expr_impure e env m choice names places n made h)
+      (λ v calls k. before_impure env v (evaluated_all env m choice es names places after calls) (exprs_impure es env m choice names places after calls k))
 
-  bindings_impure : (bs : LetBindings) (env : Environment) (m : Meaning) (names : Names) (made : List Made) → AreImpure env made → AreImpure env (calls_in_bound (bound env m bs names made))
-  bindings_impure NoBinding env m names made h = h
-  bindings_impure (ABinding x ty e more) env m names made h =
-      bind_impure env (evaluated env m e names made) (λ v calls. bound env m more (with names x.0 v) calls) (expr_impure e env m names made h) (λ v calls k. bindings_impure more env m (with names x.0 v) calls k)
+  bindings_impure : (bs : LetBindings) (env : Environment) (m : Meaning) (choice : Choice) (names : Names) (places : Places) (n : ℕ) (made : List Made) → AreImpure env made → AreImpure env (calls_in_bound (bound env m choice bs names places n made))
+  bindings_impure NoBinding env m choice names places n made h = h
+  bindings_impure (ABinding x ty e more) env m choice names places n made h =
+      let mid = with places x.0 (path env e places n) in
+      let after = n + impure env e in
+      bind_impure env (evaluated env m choice e names places n made) (λ v calls. bound env m choice more (with names x.0 v) mid after calls) (expr_impure e env m choice names places n made h)
+      (λ v calls k. bindings_impure more env m choice (with names x.0 v) mid after calls k)
 
 prescribed_impure : (env : Environment) (r : Evaluated) → AreImpure env (calls_in r) → AreImpure env (prescription_of r).calls
 unfolding calls_in
@@ -166,7 +180,7 @@ prescribed_impure env (Failed made) h = h
 
 given_impure : (env : Environment) (m : Meaning) (kind : ReturnKind) (o : Option (Rule × Names)) (made : List Made) → AreImpure env made → AreImpure env (given_by env m kind o made).calls
 given_impure env m kind None made h = h
-given_impure env m kind (Some o) made h = prescribed_impure env (evaluated env m o.0.rhs o.1 made) (expr_impure o.0.rhs env m o.1 made h)
+given_impure env m kind (Some o) made h = prescribed_impure env (rule_value env m o.0 o.1 made) (expr_impure o.0.rhs env m first_items o.1 (rule_places env o.0) 0 made h)
 
 -- the calls of an outcome, where those made before are
 pub outcome_impure : (env : Environment) (m : Meaning) (args : List Value) (rules : List Rule) (kind : ReturnKind) (made : List Made) → AreImpure env made → AreImpure env (outcome_of env m args rules kind made).calls

@@ -2,7 +2,8 @@
 use Rattle.std.proofs.Common.{◌≡◌, ℕ, zero, suc, ◌+◌, ◌<◌, ◌≤◌, List, [], ◌∷◌, Bool, true, false, cond, eqb, Option, Some, None, refl, ap, ◌∙◌, arith}
 use Rattle.isle_core.specs.Value.{Value}
 use Rattle.isle_core.specs.Meaning.{Meaning}
-use Rattle.isle_core.specs.Calling.{Calling, ByTurns, ByCases, NoCall, calling, extracting, is_fallible, instance_of, one_more, impure, impure_all, impure_bindings}
+use Rattle.isle_core.specs.Calling.{Calling, ByTurns, ByCases, NoCall, calling, extracting, answers_often, is_fallible, instance_of, one_more, impure, impure_all, impure_bindings}
+use Rattle.isle_core.specs.Choice.{Choice}
 use Rattle.isle_core.specs.Making.{Making, MakesVariant, MakesStruct, MakesNothing, making}
 use Rattle.isle_base.specs.declared.ids.TermId.{TermId}
 use Rattle.isle_core.specs.Pattern as pattern
@@ -11,10 +12,10 @@ use Rattle.isle_core.specs.Expr as expr
 use Rattle.isle_core.specs.Expr.{Expr, Exprs, NoExpr, AnExpr, LetBindings, NoBinding, ABinding}
 use Rattle.isle_core.specs.Match.{Names, with}
 use Rattle.isle_core.specs.Opening.{Opening, AsVariant, AsStruct, ByExtractor, opening, result_path, part_path}
-use Rattle.isle_core.specs.Path.{Path, Arg, Called, Inner, MadeVariant, MadeStruct, VariantField, StructField, Extracted, Wrapped, Part, Paths, NoPath, APath}
+use Rattle.isle_core.specs.Path.{Path, Arg, Called, Chosen, Inner, MadeVariant, MadeStruct, VariantField, StructField, Extracted, Wrapped, Part, Paths, NoPath, APath}
 use Rattle.isle_core.specs.RightSide.{path_or, term_path, call_path, answer_path, path, paths, let_places}
 use Rattle.isle_core.specs.Tests.{Places, no_places, met_after, after, after_parts, after_each, args_after}
-use Rattle.isle_core.specs.ValueAt.{Known, nothing_known, made_held, field_held, inner_held, extracted_held, wrapped_held, part_held, value_before, call_held, value_at, values_at}
+use Rattle.isle_core.specs.ValueAt.{Known, none_made, chosen_held, made_held, field_held, inner_held, extracted_held, wrapped_held, part_held, value_before, call_held, value_at, values_at}
 use Rattle.isle_core.specs.Rule.{Environment}
 use Rattle.isle_core.proofs.PatternTests.{StandsAt, Agree}
 
@@ -32,6 +33,7 @@ abbrev mutual
   IsUpTo n (Extracted term p) = IsUpTo n p
   IsUpTo n (Wrapped p) = IsUpTo n p
   IsUpTo n (Part i p) = IsUpTo n p
+  IsUpTo n (Chosen p) = IsUpTo n p
   IsUpTo n p = Unit {0}
 
   -- so of paths in order
@@ -51,6 +53,7 @@ mutual
   up_to_more (Extracted term p) n n' le b = up_to_more p n n' le b
   up_to_more (Wrapped p) n n' le b = up_to_more p n n' le b
   up_to_more (Part i p) n n' le b = up_to_more p n n' le b
+  up_to_more (Chosen p) n n' le b = up_to_more p n n' le b
   up_to_more p n n' le b = tt
 
   -- so of paths in order
@@ -58,25 +61,26 @@ mutual
   all_up_to_more NoPath n n' le b = tt
   all_up_to_more (APath p ps) n n' le b = (up_to_more p n n' le b.0, all_up_to_more ps n n' le b.1)
 
--- the first n calls have the answers that they had
+-- the first n calls have the answers that they had, and the same items are chosen
 pub record Kept (n : ℕ) (known known' : Known) : Type 0 where
-  pub by : (k : ℕ) → k ≤ n → known' k ≡ known k
+  pub by : (k : ℕ) → k ≤ n → known'.answers k ≡ known.answers k
+  pub choice : known'.choice ≡ known.choice
 
 -- of later calls nothing is known
 pub record Fresh (n : ℕ) (known : Known) : Type 0 where
-  pub by : (k : ℕ) → n < k → known k ≡ None
+  pub by : (k : ℕ) → n < k → known.answers k ≡ None
 
 -- before all calls nothing is known
-pub nothing_fresh : (n : ℕ) → Fresh n nothing_known
-nothing_fresh n = record { by = λ k lt. refl }
+pub nothing_fresh : (n : ℕ) (choice : Choice) → Fresh n (none_made choice)
+nothing_fresh n choice = record { by = λ k lt. refl }
 
 -- what is kept stays kept
 pub kept_on : (n n1 : ℕ) (a b c : Known) → n ≤ n1 → Kept n a b → Kept n1 b c → Kept n a c
-kept_on n n1 a b c le k l = record { by = λ j low. l.by j (omega arith) ∙ k.by j low }
+kept_on n n1 a b c le k l = record { by = λ j low. l.by j (omega arith) ∙ k.by j low; choice = l.choice ∙ k.choice }
 
 -- nothing changes of itself
 pub kept_self : (n : ℕ) (a : Known) → Kept n a a
-kept_self n a = record { by = λ j low. refl }
+kept_self n a = record { by = λ j low. refl; choice = refl }
 
 -- of still later calls nothing is known either
 pub fresh_more : (n n' : ℕ) (known : Known) → n ≤ n' → Fresh n known → Fresh n' known
@@ -86,7 +90,7 @@ mutual
   -- a path of the first n calls has the value that it had
   pub stable : (p : Path) (env : Environment) (m : Meaning) (args : List Value) (n : ℕ) (known known' : Known) → IsUpTo n p → Kept n known known' → value_at env m args known' p ≡ value_at env m args known p
   stable (Called term ps j) env m args n known known' b k =
-      ap (λ o. call_held m (calling env term) o (values_at env m args known' ps)) (k.by j b.0) ∙ ap (call_held m (calling env term) (known j)) (all_stable ps env m args n known known' b.1 k)
+      ap (λ o. call_held m (calling env term) o (values_at env m args known' ps)) (k.by j b.0) ∙ ap (call_held m (calling env term) (known.answers j)) (all_stable ps env m args n known known' b.1 k)
   stable (Inner p) env m args n known known' b k = ap inner_held (stable p env m args n known known' b k)
   stable (MadeVariant ty variant ps) env m args n known known' b k = ap (made_held env (MakesVariant ty variant)) (all_stable ps env m args n known known' b k)
   stable (MadeStruct ty ps) env m args n known known' b k = ap (made_held env (MakesStruct ty)) (all_stable ps env m args n known known' b k)
@@ -95,6 +99,8 @@ mutual
   stable (Extracted term p) env m args n known known' b k = ap (extracted_held m (extracting env term)) (stable p env m args n known known' b k)
   stable (Wrapped p) env m args n known known' b k = ap wrapped_held (stable p env m args n known known' b k)
   stable (Part i p) env m args n known known' b k = ap (part_held i) (stable p env m args n known known' b k)
+  stable (Chosen p) env m args n known known' b k =
+      ap (λ (c : Choice). chosen_held (c p) (value_at env m args known' p)) k.choice ∙ ap (chosen_held (known.choice p)) (stable p env m args n known known' b k)
   stable p env m args n known known' b k = refl
 
   -- so of paths in order
@@ -139,11 +145,12 @@ met_up_to None n x p places h b = with_up_to n x p places h b
 met_up_to (Some q) n x p places h b = b
 
 answer_up_to : (c : Calling) (n : ℕ) (p : Path) → IsUpTo n p → IsUpTo n (answer_path c p)
-answer_up_to c n p b = pick (is_fallible c)
+answer_up_to c n p b = pick (answers_often c) (is_fallible c)
   where
-    pick : (x : Bool) → IsUpTo n (cond x (Inner p) p)
-    pick true = b
-    pick false = b
+    pick : (x y : Bool) → IsUpTo n (cond x (Chosen p) (cond y (Inner p) p))
+    pick true y = b
+    pick false true = b
+    pick false false = b
 
 result_up_to : (count n i : ℕ) (p : Path) → IsUpTo n p → IsUpTo n (result_path count i p)
 result_up_to zero n i p h = h
@@ -198,17 +205,17 @@ made_up_to (MakesVariant ty variant) n term ps k le b = b
 made_up_to (MakesStruct ty) n term ps k le b = b
 made_up_to MakesNothing n term ps k le b = (le, b)
 
-instance_up_to : (c : Calling) (n : ℕ) → instance_of c n ≤ one_more c n
+pub instance_up_to : (c : Calling) (n : ℕ) → instance_of c n ≤ one_more c n
 instance_up_to (ByTurns callee kind) n = omega arith
 instance_up_to (ByCases callee kind) n = omega arith
 instance_up_to NoCall n = omega arith
 
-one_more_up : (c : Calling) (n k : ℕ) → one_more c (n + k) ≡ n + one_more c k
+pub one_more_up : (c : Calling) (n k : ℕ) → one_more c (n + k) ≡ n + one_more c k
 one_more_up (ByTurns callee kind) n k = omega arith
 one_more_up (ByCases callee kind) n k = refl
 one_more_up NoCall n k = refl
 
-less_one : (c : Calling) (n : ℕ) → n ≤ one_more c n
+pub less_one : (c : Calling) (n : ℕ) → n ≤ one_more c n
 less_one (ByTurns callee kind) n = omega arith
 less_one (ByCases callee kind) n = omega arith
 less_one NoCall n = omega arith

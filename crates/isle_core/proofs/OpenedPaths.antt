@@ -2,9 +2,9 @@
 use Rattle.std.proofs.Common.{ℕ, zero, suc, List, [], ◌∷◌, ◌++◌, Bool, true, false, cond, eqb, Option, Some, None}
 use Rattle.std.specs.List.{AllByRecursion}
 use Rattle.isle_base.specs.declared.ids.TermId.{TermId}
-use Rattle.isle_core.specs.Calling.{Calling, is_fallible}
+use Rattle.isle_core.specs.Calling.{Calling, answers_often, is_fallible}
 use Rattle.isle_core.specs.Opening.{Opening, AsVariant, AsStruct, ByExtractor, opening, answer_path, result_path, part_path}
-use Rattle.isle_core.specs.Path.{Path, Arg, VariantField, StructField, Extracted, Inner, Part}
+use Rattle.isle_core.specs.Path.{Path, Arg, VariantField, StructField, Extracted, Chosen, Inner, Part}
 use Rattle.isle_core.specs.Pattern.{Pattern, Patterns, NoPattern, APattern, Var, ConstBool, ConstInt, ConstPrim, Wildcard, Term, BindPattern, And}
 use Rattle.isle_core.specs.RulePaths.{opening_paths, pattern_paths, parts_paths, each_paths, args_paths}
 use Rattle.isle_core.specs.Tests.{Places, met_after, after, after_parts, after_each, args_after}
@@ -22,6 +22,7 @@ IsOpened (VariantField variant i p) = Unit {0}
 IsOpened (StructField i p) = Unit {0}
 IsOpened (Extracted term p) = Unit {0}
 IsOpened (Inner p) = IsExtracted p
+IsOpened (Chosen p) = IsExtracted p
 IsOpened (Part i p) = Unit {0}
 IsOpened p = ⊥
 
@@ -35,11 +36,12 @@ abbrev pub AreOpened : Places → Type 0
 AreOpened places = (x : ℕ) → IsOpenedPlace (places x)
 
 answer_opened : (c : Calling) (term : TermId) (p : Path) → IsOpened (answer_path c (Extracted term p))
-answer_opened c term p = pick (is_fallible c)
+answer_opened c term p = pick (answers_often c) (is_fallible c)
   where
-    pick : (x : Bool) → IsOpened (cond x (Inner (Extracted term p)) (Extracted term p))
-    pick true = tt
-    pick false = tt
+    pick : (x y : Bool) → IsOpened (cond x (Chosen (Extracted term p)) (cond y (Inner (Extracted term p)) (Extracted term p)))
+    pick true y = tt
+    pick false true = tt
+    pick false false = tt
 
 result_opened : (count i : ℕ) (p : Path) → IsOpened p → IsOpened (result_path count i p)
 result_opened zero i p h = tt
@@ -87,11 +89,12 @@ all_append (x ∷ xs) ys h k = (h.0, all_append xs ys h.1 k)
 opening_opens : (opened : Opening) (p : Path) → AllByRecursion IsOpened (opening_paths opened p)
 opening_opens (AsVariant ty variant) p = tt
 opening_opens (AsStruct ty) p = tt
-opening_opens (ByExtractor term c count) p = pick (is_fallible c)
+opening_opens (ByExtractor term c count) p = pick (answers_often c) (is_fallible c)
   where
-    pick : (x : Bool) → AllByRecursion IsOpened (cond x (Extracted term p ∷ Inner (Extracted term p) ∷ []) (Extracted term p ∷ []))
-    pick true = (tt, (tt, tt))
-    pick false = (tt, tt)
+    pick : (x y : Bool) → AllByRecursion IsOpened (cond x (Extracted term p ∷ Chosen (Extracted term p) ∷ []) (cond y (Extracted term p ∷ Inner (Extracted term p) ∷ []) (Extracted term p ∷ [])))
+    pick true y = (tt, (tt, tt))
+    pick false true = (tt, (tt, tt))
+    pick false false = (tt, tt)
 
 mutual
   pattern_opens : (q : Pattern) (env : Environment) (p : Path) → AllByRecursion IsOpened (pattern_paths env q p)

@@ -6,8 +6,7 @@ use Rattle.isle_core.specs.declared.types.ReturnKind.{ReturnKind}
 use Rattle.isle_core.specs.Value.{Value, Made}
 use Rattle.isle_core.specs.Meaning.{Meaning}
 use Rattle.isle_core.specs.Match.{Names}
-use Rattle.isle_core.specs.Eval.{evaluated}
-use Rattle.isle_core.specs.Outcome.{Prescription, Prescribed, no_rule, one_rule, IsHighest, rule_names, prescription_of}
+use Rattle.isle_core.specs.Outcome.{Prescription, Prescribed, no_rule, one_rule, IsHighest, rule_names, prescription_of, rule_value}
 use Rattle.isle_core.specs.Rule.{Environment, Rule}
 
 -- two priorities that lie below each other
@@ -36,4 +35,4 @@ prescribed_once (one_rule r names h) (no_rule k) = absurd (none_some names (sym 
 prescribed_once {env = env} {m = m} {args = args} {made = made} (one_rule r names h) (one_rule q others k) =
     let e : q ≡ r = same_rule h k in
     let n : names ≡ others = some_names names others (sym h.matched ∙ ap (rule_names env m args) (sym e) ∙ k.matched) in
-    ap (λ (x : Rule). prescription_of (evaluated env m x.rhs names made)) (sym e) ∙ ap (λ (x : Names). prescription_of (evaluated env m q.rhs x made)) n
+    ap (λ (x : Rule). prescription_of (rule_value env m x names made)) (sym e) ∙ ap (λ (x : Names). prescription_of (rule_value env m q x made)) n

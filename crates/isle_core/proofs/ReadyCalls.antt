@@ -1,10 +1,13 @@
 -- The calls of an expression have their arguments where they are reached.
-use Rattle.std.proofs.Common.{◌≡◌, ℕ, ◌+◌, ◌≤◌, List, [], ◌∷◌, Bool, true, false, cond, Option, Some, sym, subst, arith}
+use Rattle.std.proofs.Common.{◌≡◌, ℕ, ◌+◌, ◌≤◌, List, [], ◌∷◌, Bool, true, false, ◌&&◌, cond, Option, Some, sym, subst, arith}
+use Rattle.std.specs.Prelude.{◌||◌}
 use Rattle.isle_base.specs.declared.ids.TermId.{TermId}
 use Rattle.isle_core.specs.Value.{Value, Made}
 use Rattle.isle_core.specs.Making.{Making, MakesVariant, MakesStruct, MakesNothing, making}
 use Rattle.isle_core.specs.Meaning.{Meaning}
-use Rattle.isle_core.specs.Calling.{calling, is_ordered, instance_of, impure, impure_all, impure_bindings}
+use Rattle.isle_core.specs.Calling.{AnswersOnce, calling, answers_often, is_ordered, instance_of, impure, impure_all, impure_bindings}
+use Rattle.isle_core.specs.HoldsImpure.{holds_impure}
+use Rattle.isle_core.specs.Choice.{first_items}
 use Rattle.isle_core.specs.Expr as expr
 use Rattle.isle_core.specs.Expr.{Expr, Exprs, NoExpr, AnExpr, LetBindings, NoBinding, ABinding}
 use Rattle.isle_core.specs.Match.{Names, with}
@@ -60,7 +63,7 @@ ordered_ready false env m args p known made h = tt
 
 mutual
   -- the calls of an expression may be run
-  pub expr_ready : (e : Expr) (env : Environment) (m : Meaning) (args : List Value) (n : ℕ) (known : Known) (names : Names) (places : Places) (made : List Made) → HasAnsweredCalls env m places n e → Agree (value_at env m args known) names places → PlacesUpTo n places → Fresh n known
+  pub expr_ready : (e : Expr) (env : Environment) (m : Meaning) (args : List Value) (n : ℕ) (known : Known) (names : Names) (places : Places) (made : List Made) → HasAnsweredCalls AnswersOnce env m places n e → Agree (value_at env m args known) names places → PlacesUpTo n places → Fresh n known
       → AreReady env m args (calls env e places n) known made
   expr_ready (expr.Var ty x) env m args n known names places made t a b fr = tt
   expr_ready (expr.ConstBool c) env m args n known names places made t a b fr = tt
@@ -71,18 +74,18 @@ mutual
       let k = n + impure_all env es in
       let c = calling env term in
       let p = call_path env term ps k in
-      ready_append env m args (calls_all env es places n) (if_ordered c p) known made (exprs_ready es env m args n known names places made t.1 a b fr)
-      (behind_all env m args n k known ps (evaluated_all env m es names made) (run_calls env m args (calls_all env es places n) known made) (AreReady env m args (if_ordered c p)) (exprs_follow es env m args n known names places made t.1 a b fr)
-      (λ vs known' made' h. ordered_ready (is_ordered c) env m args p known' made' (term_ready (making env term) env m args term ps (instance_of c k) vs known' h.held)))
+      ready_append env m args (calls_all env es places n) (if_ordered env c p) known made (exprs_ready es env m args n known names places made t.1 a b fr)
+      (behind_all env m args n k known ps (evaluated_all env m first_items es names places n made) (run_calls env m args (calls_all env es places n) known made) (AreReady env m args (if_ordered env c p)) (exprs_follow es first_items places n env m args n known names places made t.1 a b fr)
+      (λ vs known' made' h. ordered_ready (is_ordered c || (answers_often c && holds_impure env p)) env m args p known' made' (term_ready (making env term) env m args term ps (instance_of c k) vs known' h.held)))
   expr_ready (expr.Let ty bs inner) env m args n known names places made t a b fr =
       let n1 = n + impure_bindings env bs in
       let mid = let_places env bs places n in
       ready_append env m args (calls_bindings env bs places n) (calls env inner mid n1) known made (bindings_ready bs env m args n known names places made t.0 a b fr)
-      (behind_bound env m args n n1 known mid (bound env m bs names made) (run_calls env m args (calls_bindings env bs places n) known made) (AreReady env m args (calls env inner mid n1)) (bindings_follow bs env m args n known names places made t.0 a b fr)
+      (behind_bound env m args n n1 known mid (bound env m first_items bs names places n made) (run_calls env m args (calls_bindings env bs places n) known made) (AreReady env m args (calls env inner mid n1)) (bindings_follow bs first_items places n env m args n known names places made t.0 a b fr)
       (λ names' known' made' h. expr_ready inner env m args n1 known' names' mid made' t.1 h.agree (let_up_to bs env places n b) h.fresh))
 
   -- so of expressions in order
-  exprs_ready : (es : Exprs) (env : Environment) (m : Meaning) (args : List Value) (n : ℕ) (known : Known) (names : Names) (places : Places) (made : List Made) → AreAnsweredCalls env m places n es → Agree (value_at env m args known) names places → PlacesUpTo n places → Fresh n known
+  exprs_ready : (es : Exprs) (env : Environment) (m : Meaning) (args : List Value) (n : ℕ) (known : Known) (names : Names) (places : Places) (made : List Made) → AreAnsweredCalls AnswersOnce env m places n es → Agree (value_at env m args known) names places → PlacesUpTo n places → Fresh n known
       → AreReady env m args (calls_all env es places n) known made
   exprs_ready NoExpr env m args n known names places made t a b fr = tt
   exprs_ready (AnExpr e es) env m args n known names places made t a b fr =
@@ -90,11 +93,11 @@ mutual
       let p = path env e places n in
       let le : n ≤ n + impure env e = omega arith in
       ready_append env m args (calls env e places n) (calls_all env es places n1) known made (expr_ready e env m args n known names places made t.0 a b fr)
-      (behind_one env m args n n1 known p (evaluated env m e names made) (run_calls env m args (calls env e places n) known made) (AreReady env m args (calls_all env es places n1)) (expr_follows e env m args n known names places made t.0 a b fr)
+      (behind_one env m args n n1 known p (evaluated env m first_items e names places n made) (run_calls env m args (calls env e places n) known made) (AreReady env m args (calls_all env es places n1)) (expr_follows e first_items places n env m args n known names places made t.0 a b fr)
       (λ v known' made' h. exprs_ready es env m args n1 known' names places made' t.1 (agree_still env m args n known known' names places b h.kept a) (places_more places n n1 le b) h.fresh))
 
   -- so of the values of a `let`
-  bindings_ready : (bs : LetBindings) (env : Environment) (m : Meaning) (args : List Value) (n : ℕ) (known : Known) (names : Names) (places : Places) (made : List Made) → HaveAnsweredBindings env m places n bs → Agree (value_at env m args known) names places → PlacesUpTo n places → Fresh n known
+  bindings_ready : (bs : LetBindings) (env : Environment) (m : Meaning) (args : List Value) (n : ℕ) (known : Known) (names : Names) (places : Places) (made : List Made) → HaveAnsweredBindings AnswersOnce env m places n bs → Agree (value_at env m args known) names places → PlacesUpTo n places → Fresh n known
       → AreReady env m args (calls_bindings env bs places n) known made
   bindings_ready NoBinding env m args n known names places made t a b fr = tt
   bindings_ready (ABinding x ty e more) env m args n known names places made t a b fr =
@@ -103,5 +106,5 @@ mutual
       let mid = with places x.0 p in
       let le : n ≤ n + impure env e = omega arith in
       ready_append env m args (calls env e places n) (calls_bindings env more mid n1) known made (expr_ready e env m args n known names places made t.0 a b fr)
-      (behind_one env m args n n1 known p (evaluated env m e names made) (run_calls env m args (calls env e places n) known made) (AreReady env m args (calls_bindings env more mid n1)) (expr_follows e env m args n known names places made t.0 a b fr)
+      (behind_one env m args n n1 known p (evaluated env m first_items e names places n made) (run_calls env m args (calls env e places n) known made) (AreReady env m args (calls_bindings env more mid n1)) (expr_follows e first_items places n env m args n known names places made t.0 a b fr)
       (λ v known' made' h. bindings_ready more env m args n1 known' (with names x.0 v) mid made' t.1 (with_agrees (value_at env m args known') names places x.0 v p h.held (agree_still env m args n known known' names places b h.kept a)) (with_up_to n1 x.0 p places (path_up_to e env places n b) (places_more places n n1 le b)) h.fresh))

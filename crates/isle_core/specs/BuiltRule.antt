@@ -12,12 +12,11 @@ use Rattle.isle_core.specs.Expr as expr
 use Rattle.isle_core.specs.Expr.{Expr, Exprs, NoExpr, AnExpr, LetBindings, NoBinding, ABinding}
 use Rattle.isle_core.specs.Rule.{IfLet, Rule}
 
--- an external extractor that answers at most once
+-- an external extractor
 abbrev pub IsExtractorKind : TermKind → Type 0
-IsExtractorKind (kind.Decl pure false partial recursive by (extractor.External func infallible)) = Unit {0}
-IsExtractorKind (kind.Decl pure false partial recursive by extractor.Absent) = ⊥
-IsExtractorKind (kind.Decl pure false partial recursive by extractor.Internal) = ⊥
-IsExtractorKind (kind.Decl pure true partial recursive by how) = ⊥
+IsExtractorKind (kind.Decl pure multi partial recursive by (extractor.External func infallible)) = Unit {0}
+IsExtractorKind (kind.Decl pure multi partial recursive by extractor.Absent) = ⊥
+IsExtractorKind (kind.Decl pure multi partial recursive by extractor.Internal) = ⊥
 IsExtractorKind (kind.Variant ty variant) = ⊥
 IsExtractorKind (kind.Struct ty) = ⊥
 
@@ -71,23 +70,21 @@ abbrev mutual
 
 -- ---- the terms of expressions
 
--- a made term, or one that has a constructor and answers at most once
+-- a made term, or one that has a constructor
 abbrev pub IsBuiltKind : TermKind → Type 0
-IsBuiltKind (kind.Decl pure false partial recursive constructor.Internal extractor) = Unit {0}
-IsBuiltKind (kind.Decl pure false partial recursive (constructor.External func) extractor) = Unit {0}
+IsBuiltKind (kind.Decl pure multi partial recursive constructor.Internal extractor) = Unit {0}
+IsBuiltKind (kind.Decl pure multi partial recursive (constructor.External func) extractor) = Unit {0}
 IsBuiltKind (kind.Variant ty variant) = Unit {0}
 IsBuiltKind (kind.Struct ty) = Unit {0}
-IsBuiltKind (kind.Decl pure false partial recursive constructor.Absent extractor) = ⊥
-IsBuiltKind (kind.Decl pure true partial recursive by extractor) = ⊥
+IsBuiltKind (kind.Decl pure multi partial recursive constructor.Absent extractor) = ⊥
 
--- a made term, or a pure one that has a constructor and answers at most once
+-- a made term, or a pure one that has a constructor
 abbrev pub IsPureKind : TermKind → Type 0
-IsPureKind (kind.Decl true false partial recursive constructor.Internal extractor) = Unit {0}
-IsPureKind (kind.Decl true false partial recursive (constructor.External func) extractor) = Unit {0}
+IsPureKind (kind.Decl true multi partial recursive constructor.Internal extractor) = Unit {0}
+IsPureKind (kind.Decl true multi partial recursive (constructor.External func) extractor) = Unit {0}
 IsPureKind (kind.Variant ty variant) = Unit {0}
 IsPureKind (kind.Struct ty) = Unit {0}
-IsPureKind (kind.Decl true false partial recursive constructor.Absent extractor) = ⊥
-IsPureKind (kind.Decl true true partial recursive by extractor) = ⊥
+IsPureKind (kind.Decl true multi partial recursive constructor.Absent extractor) = ⊥
 IsPureKind (kind.Decl false multi partial recursive by extractor) = ⊥
 
 -- each term of an expression is of such a kind; calls of others are not built

@@ -5,10 +5,9 @@ use Rattle.isle_core.specs.Value.{Value, Answer, Made}
 use Rattle.isle_core.specs.Meaning.{Meaning, turn}
 use Rattle.isle_core.specs.Calling.{Calling, ByTurns, ByCases, NoCall, calling, is_fallible}
 use Rattle.isle_core.specs.Answered.{AValue, ATuple, Held, Absent, One, Optional, Listed}
-use Rattle.isle_core.specs.Match.{with}
 use Rattle.isle_core.specs.Outcome.{Result, Value', Failure, Prescription}
 use Rattle.isle_core.specs.Path.{Path, Nowhere, Arg, ConstBool, ConstInt, ConstPrim, Extracted, Called, Chosen, MadeVariant, MadeStruct, VariantField, StructField, Wrapped, Inner, Part}
-use Rattle.isle_core.specs.ValueAt.{Known, value_at, values_at}
+use Rattle.isle_core.specs.ValueAt.{Known, answered_too, value_at, values_at}
 use Rattle.isle_core.specs.Rule.{Environment}
 
 -- a run goes on, with the answers known and the calls made, or it ends
@@ -36,12 +35,12 @@ returns env m args p known made = Ends (record { result = result_of (value_at en
 -- an impure call takes its turn; one that is known was made
 abbrev pub take_turn : Meaning → Callee → ℕ → Option Answer → Option (List Value) → Known → List Made → Went
 take_turn m callee instance (Some a) vs known made = Goes known made
-take_turn m callee instance None (Some vs) known made = Goes (with known instance (turn m callee made)) (made ++ record { callee = callee; args = vs } ∷ [])
+take_turn m callee instance None (Some vs) known made = Goes (answered_too known instance (turn m callee made)) (made ++ record { callee = callee; args = vs } ∷ [])
 take_turn m callee instance None None known made = Goes known made
 
 -- a call with these arguments: a pure one has its answer anyway
 abbrev pub make_call : Meaning → Calling → ℕ → Option (List Value) → Known → List Made → Went
-make_call m (ByTurns callee kind) instance vs known made = take_turn m callee instance (known instance) vs known made
+make_call m (ByTurns callee kind) instance vs known made = take_turn m callee instance (known.answers instance) vs known made
 make_call m (ByCases callee kind) instance vs known made = Goes known made
 make_call m NoCall instance vs known made = Goes known made
 

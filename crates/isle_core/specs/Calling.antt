@@ -45,6 +45,16 @@ pub data Calling : Type 0 where
   ByCases : Callee → (kind : ReturnKind) → Calling
   NoCall : Calling
 
+-- a call that is answered so often
+abbrev pub HasKind : (ReturnKind → Type 0) → Calling → Type 0
+HasKind K (ByTurns callee kind) = K kind
+HasKind K (ByCases callee kind) = K kind
+HasKind K NoCall = Unit {0}
+
+-- a call that is answered at most once
+abbrev pub IsOnce : Calling → Type 0
+IsOnce c = HasKind AnswersOnce c
+
 -- what a call of a pure term goes to
 abbrev pub pure_callee : Environment → Term → TermKind → Option Callee
 pure_callee env t (term_kind.Variant ty variant) = None
@@ -99,6 +109,12 @@ abbrev pub is_several : ReturnKind → Bool
 is_several return_kind.Plain = false
 is_several return_kind.Option = false
 is_several return_kind.Iterator = true
+
+-- whether a function of this kind may stop without a result at a call that answers nothing: with nothing, or with what it has added
+abbrev pub may_stop : ReturnKind → Bool
+may_stop return_kind.Plain = false
+may_stop return_kind.Option = true
+may_stop return_kind.Iterator = true
 
 -- whether a call is answered several times
 abbrev pub answers_often : Calling → Bool

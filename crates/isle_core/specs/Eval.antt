@@ -1,17 +1,20 @@
 -- Evaluating expressions: a value or a failure, and the impure calls made.
-use Rattle.std.specs.Prelude.{List, [], ◌∷◌, ◌++◌, Option, Some, None, option_and_then}
+use Rattle.std.specs.Prelude.{ℕ, ◌+◌, List, [], ◌∷◌, ◌++◌, Option, Some, None, option_and_then, slice_get}
 use Rattle.isle_core.specs.Value.{Value, Truth, Made}
 use Rattle.isle_core.specs.Constants.{int_value}
 use Rattle.isle_core.specs.Meaning.{Meaning, turn, case}
-use Rattle.isle_core.specs.Answered.{AValue, ATuple, Held, Absent, One, Optional, Listed, answer_held}
-use Rattle.isle_core.specs.Calling.{Calling, ByTurns, ByCases, NoCall, calling}
+use Rattle.isle_core.specs.Answered.{Item, AValue, ATuple, Held, Absent, One, Optional, Listed, answer_held}
+use Rattle.isle_core.specs.Calling.{Calling, ByTurns, ByCases, NoCall, calling, impure, impure_all, impure_bindings}
+use Rattle.isle_core.specs.Choice.{Choice}
 use Rattle.isle_core.specs.Expr.{Expr, Exprs, NoExpr, AnExpr, LetBindings, NoBinding, ABinding, Term, Var, ConstBool, ConstInt, ConstPrim, Let}
 use Rattle.isle_core.specs.Having.{const_of}
 use Rattle.isle_core.specs.Terms.{sym_text}
 use Rattle.isle_core.specs.Making.{Making, MakesVariant, MakesStruct, MakesNothing, making}
 use Rattle.isle_core.specs.Form.{made_value}
 use Rattle.isle_core.specs.Match.{Names, with, matches}
+use Rattle.isle_core.specs.RightSide.{Places, call_path, path, paths, let_places}
 use Rattle.isle_core.specs.Rule.{Environment, IfLet}
+use Rattle.isle_core.specs.Tests.{after}
 
 -- a value or a failure, and all impure calls so far
 pub data Evaluated : Type 0 where
@@ -43,28 +46,30 @@ abbrev pub then_one : EvaluatedAll → (List Value → List Made → Evaluated) 
 then_one (AllAnswered vs made) go = go vs made
 then_one (OneFailed made) go = Failed made
 
--- what a call's answer gives: a value, or that of an option; nothing is a failure. No constructor answers a tuple, and what
--- follows each item of a list is not built
-abbrev pub answered : Held → List Made → Evaluated
-answered (One (AValue v)) made = Answered v made
-answered (One (ATuple vs)) made = Failed made
-answered (Optional (Some (AValue v))) made = Answered v made
-answered (Optional (Some (ATuple vs))) made = Failed made
-answered (Optional None) made = Failed made
-answered Absent made = Failed made
-answered (Listed is) made = Failed made
+-- what an item gives; no constructor answers a tuple
+abbrev pub answered_item : Option Item → List Made → Evaluated
+answered_item (Some (AValue v)) made = Answered v made
+answered_item (Some (ATuple vs)) made = Failed made
+answered_item None made = Failed made
+
+-- what a call's answer gives: a value, that of an option, or that of the item at this place in a list; nothing is a failure
+abbrev pub answered : ℕ → Held → List Made → Evaluated
+answered place (One i) made = answered_item (Some i) made
+answered place (Optional o) made = answered_item o made
+answered place Absent made = Failed made
+answered place (Listed is) made = answered_item (slice_get is place) made
 
 -- a call with these arguments: an impure one takes its turn and is made
-abbrev pub called_with : Meaning → Calling → List Value → List Made → Evaluated
-called_with m (ByTurns callee kind) vs made = answered (answer_held (turn m callee made)) (made ++ record { callee = callee; args = vs } ∷ [])
-called_with m (ByCases callee kind) vs made = answered (answer_held (case m callee vs)) made
-called_with m NoCall vs made = Failed made
+abbrev pub called_with : Meaning → ℕ → Calling → List Value → List Made → Evaluated
+called_with m place (ByTurns callee kind) vs made = answered place (answer_held (turn m callee made)) (made ++ record { callee = callee; args = vs } ∷ [])
+called_with m place (ByCases callee kind) vs made = answered place (answer_held (case m callee vs)) made
+called_with m place NoCall vs made = Failed made
 
 -- a term with these arguments: a made one makes its value, any other one is called
-abbrev pub made_or_called : Environment → Meaning → Making → Calling → List Value → List Made → Evaluated
-made_or_called env m (MakesVariant ty variant) c vs made = Answered (made_value env (MakesVariant ty variant) vs) made
-made_or_called env m (MakesStruct ty) c vs made = Answered (made_value env (MakesStruct ty) vs) made
-made_or_called env m MakesNothing c vs made = called_with m c vs made
+abbrev pub made_or_called : Environment → Meaning → ℕ → Making → Calling → List Value → List Made → Evaluated
+made_or_called env m place (MakesVariant ty variant) c vs made = Answered (made_value env (MakesVariant ty variant) vs) made
+made_or_called env m place (MakesStruct ty) c vs made = Answered (made_value env (MakesStruct ty) vs) made
+made_or_called env m place MakesNothing c vs made = called_with m place c vs made
 
 -- the names with those of a `let`, or a failure of one of its values, and all impure calls so far
 pub data Bound : Type 0 where
@@ -81,25 +86,29 @@ abbrev pub then_within : Bound → (Names → List Made → Evaluated) → Evalu
 then_within (AllBound names made) go = go names made
 then_within (NotBound made) go = Failed made
 
--- the evaluation of an expression, after the calls made before: arguments first, and each value of a `let` in order
+-- the evaluation of an expression, after the calls made before: arguments first, and each value of a `let` in order. Its variables stand at these
+-- places, and so many impure calls stand before it, which tells the paths of its calls and so the items that are chosen
 abbrev mutual
-  pub evaluated : Environment → Meaning → Expr → Names → List Made → Evaluated
-  evaluated env m (ConstBool b) names made = Answered (Truth b) made
-  evaluated env m (ConstInt ty n) names made = Answered (int_value env ty n) made
-  evaluated env m (Var ty x) names made = named (names x.0) made
-  evaluated env m (Term ty term es) names made = then_one (evaluated_all env m es names made) (made_or_called env m (making env term) (calling env term))
-  evaluated env m (ConstPrim ty name) names made = named (const_of m (sym_text env name)) made
-  evaluated env m (Let ty bindings inner) names made = then_within (bound env m bindings names made) (evaluated env m inner)
+  pub evaluated : Environment → Meaning → Choice → Expr → Names → Places → ℕ → List Made → Evaluated
+  evaluated env m choice (ConstBool b) names places n made = Answered (Truth b) made
+  evaluated env m choice (ConstInt ty k) names places n made = Answered (int_value env ty k) made
+  evaluated env m choice (Var ty x) names places n made = named (names x.0) made
+  evaluated env m choice (Term ty term es) names places n made =
+      then_one (evaluated_all env m choice es names places n made) (made_or_called env m (choice (call_path env term (paths env es places n) (n + impure_all env es))) (making env term) (calling env term))
+  evaluated env m choice (ConstPrim ty name) names places n made = named (const_of m (sym_text env name)) made
+  evaluated env m choice (Let ty bindings inner) names places n made =
+      then_within (bound env m choice bindings names places n made) (λ all calls. evaluated env m choice inner all (let_places env bindings places n) (n + impure_bindings env bindings) calls)
 
   -- from left to right
-  pub evaluated_all : Environment → Meaning → Exprs → Names → List Made → EvaluatedAll
-  evaluated_all env m NoExpr names made = AllAnswered [] made
-  evaluated_all env m (AnExpr e es) names made = then_all (evaluated env m e names made) (λ v calls. before v (evaluated_all env m es names calls))
+  pub evaluated_all : Environment → Meaning → Choice → Exprs → Names → Places → ℕ → List Made → EvaluatedAll
+  evaluated_all env m choice NoExpr names places n made = AllAnswered [] made
+  evaluated_all env m choice (AnExpr e es) names places n made = then_all (evaluated env m choice e names places n made) (λ v calls. before v (evaluated_all env m choice es names places (n + impure env e) calls))
 
   -- each variable has the value of its expression, used or not
-  pub bound : Environment → Meaning → LetBindings → Names → List Made → Bound
-  bound env m NoBinding names made = AllBound names made
-  bound env m (ABinding x ty e more) names made = then_bind (evaluated env m e names made) (λ v calls. bound env m more (with names x.0 v) calls)
+  pub bound : Environment → Meaning → Choice → LetBindings → Names → Places → ℕ → List Made → Bound
+  bound env m choice NoBinding names places n made = AllBound names made
+  bound env m choice (ABinding x ty e more) names places n made =
+      then_bind (evaluated env m choice e names places n made) (λ v calls. bound env m choice more (with names x.0 v) (with places x.0 (path env e places n)) (n + impure env e) calls)
 
 -- the value, where there is one
 abbrev pub value_of : Evaluated → Option Value
@@ -107,10 +116,10 @@ value_of (Answered v made) = Some v
 value_of (Failed made) = None
 
 -- the names behind a condition that holds; a failure is no match
-abbrev pub iflet_names : Environment → Meaning → IfLet → Names → Option Names
-iflet_names env m c names = option_and_then (λ v. matches env m c.lhs v names) (value_of (evaluated env m c.rhs names []))
+abbrev pub iflet_names : Environment → Meaning → Choice → IfLet → Places → Names → Option Names
+iflet_names env m choice c places names = option_and_then (λ v. matches env m choice c.lhs (path env c.rhs places 0) v names) (value_of (evaluated env m choice c.rhs names places 0 []))
 
 -- the names behind conditions that hold, in order
-abbrev pub iflets_names : Environment → Meaning → List IfLet → Names → Option Names
-iflets_names env m [] names = Some names
-iflets_names env m (c ∷ cs) names = option_and_then (iflets_names env m cs) (iflet_names env m c names)
+abbrev pub iflets_names : Environment → Meaning → Choice → List IfLet → Places → Names → Option Names
+iflets_names env m choice [] places names = Some names
+iflets_names env m choice (c ∷ cs) places names = option_and_then (iflets_names env m choice cs (after env c.lhs (path env c.rhs places 0) places)) (iflet_names env m choice c places names)

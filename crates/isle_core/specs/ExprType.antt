@@ -36,15 +36,14 @@ in_right_side nothing = record { nothing = nothing; impure = true }
 abbrev pub IsMadeOf : Environment → Term → TypeId → Making → Type 0
 IsMadeOf env t ty made = (ty ≡ t.ret_ty) × (option_map (form_types env) (form env made) ≡ Some t.arg_tys)
 
--- a term of this kind makes a value of a type, or has a constructor and is not `multi`; it may answer nothing, or be impure, only where
+-- a term of this kind makes a value of a type, or has a constructor; it may answer nothing, or be impure, only where
 -- that is allowed
 abbrev pub IsTermKind : Environment → (allowed : Allowed) → Term → TermKind → Type 0
-IsTermKind env allowed t (kind.Decl pure false partial recursive (constructor.External func) extractor) = (IsTrue partial → IsTrue allowed.nothing) × (IsTrue (not pure) → IsTrue allowed.impure)
-IsTermKind env allowed t (kind.Decl pure false partial recursive constructor.Internal extractor) = (IsTrue partial → IsTrue allowed.nothing) × (IsTrue (not pure) → IsTrue allowed.impure)
+IsTermKind env allowed t (kind.Decl pure multi partial recursive (constructor.External func) extractor) = (IsTrue partial → IsTrue allowed.nothing) × (IsTrue (not pure) → IsTrue allowed.impure)
+IsTermKind env allowed t (kind.Decl pure multi partial recursive constructor.Internal extractor) = (IsTrue partial → IsTrue allowed.nothing) × (IsTrue (not pure) → IsTrue allowed.impure)
 IsTermKind env allowed t (kind.Variant ty variant) = IsMadeOf env t ty (MakesVariant ty variant)
 IsTermKind env allowed t (kind.Struct ty) = IsMadeOf env t ty (MakesStruct ty)
-IsTermKind env allowed t (kind.Decl pure false partial recursive constructor.Absent extractor) = ⊥
-IsTermKind env allowed t (kind.Decl pure true partial recursive by extractor) = ⊥
+IsTermKind env allowed t (kind.Decl pure multi partial recursive constructor.Absent extractor) = ⊥
 
 -- ---- expressions
 

@@ -5,8 +5,7 @@ use Rattle.isle_core.specs.declared.types.ReturnKind.{ReturnKind}
 use Rattle.isle_core.specs.Value.{Value, Made}
 use Rattle.isle_core.specs.Meaning.{Meaning}
 use Rattle.isle_core.specs.Match.{Names}
-use Rattle.isle_core.specs.Eval.{evaluated}
-use Rattle.isle_core.specs.Outcome.{Prescription, prescription_of, rule_names, unmatched}
+use Rattle.isle_core.specs.Outcome.{Prescription, prescription_of, rule_names, rule_value, unmatched}
 use Rattle.isle_core.specs.Rule.{Environment, Rule}
 
 -- a rule that matches, or a higher one behind it
@@ -27,7 +26,7 @@ highest_match env m args (r ∷ rs) = or_later r (rule_names env m args r) (high
 -- what the highest rule gives after the calls made before, or that none matches
 abbrev pub given_by : Environment → Meaning → ReturnKind → Option (Rule × Names) → List Made → Prescription
 given_by env m kind None made = record { result = unmatched kind; calls = made }
-given_by env m kind (Some o) made = prescription_of (evaluated env m o.0.rhs o.1 made)
+given_by env m kind (Some o) made = prescription_of (rule_value env m o.0 o.1 made)
 
 -- what the rules of a term give after the calls made before
 abbrev pub outcome_of : Environment → Meaning → List Value → List Rule → ReturnKind → List Made → Prescription

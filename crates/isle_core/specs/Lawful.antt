@@ -1,5 +1,6 @@
 -- When a meaning is lawful for a term.
 use Rattle.std.specs.Prelude.{◌≡◌, List, [], ◌∷◌, All, Contains, Option, Some, None, IsSomeAnd, map, slice_get}
+use Rattle.std.specs.List.{AllByRecursion}
 use Rattle.isle_base.specs.declared.ids.Sym.{Sym}
 use Rattle.isle_base.specs.declared.ids.TermId.{TermId}
 use Rattle.isle_base.specs.declared.ids.TypeId.{TypeId}
@@ -21,7 +22,7 @@ use Rattle.isle_core.specs.Rule.{Environment, rules_of}
 
 -- ---- answers
 
--- an answer of this kind, with results of these types; a `multi` term has no lawful answer yet
+-- an answer of this kind, with results of these types, in each item where there are several
 abbrev pub Fits : Environment → ReturnKind → List TypeId → Answer → Type 0
 Fits env return_kind.Plain tys (Plain vs) = HaveTypes env vs tys
 Fits env return_kind.Plain tys (Found vs) = ⊥
@@ -34,7 +35,7 @@ Fits env return_kind.Option tys (Several items) = ⊥
 Fits env return_kind.Iterator tys (Plain vs) = ⊥
 Fits env return_kind.Iterator tys (Found vs) = ⊥
 Fits env return_kind.Iterator tys Nothing = ⊥
-Fits env return_kind.Iterator tys (Several items) = ⊥
+Fits env return_kind.Iterator tys (Several items) = AllByRecursion (λ vs. HaveTypes env vs tys) items
 
 -- the turns and the rest
 abbrev pub all_turns : TurnAnswers → List Answer

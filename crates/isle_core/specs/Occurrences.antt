@@ -1,5 +1,5 @@
 -- The impure calls that a block binds, by the numbers of their occurrences.
-use Rattle.std.specs.Prelude.{ℕ, List, [], ◌∷◌, ◌++◌, Contains}
+use Rattle.std.specs.Prelude.{ℕ, List, [], ◌∷◌, ◌++◌, Bool, Contains, if◌then◌else◌}
 use Rattle.isle_base.specs.declared.ids.BindingId.{BindingId}
 use Rattle.isle_core.specs.Calling.{Calling, ByTurns, ByCases, NoCall, calling}
 use Rattle.isle_core.specs.Path.{Path, Nowhere, Arg, ConstBool, ConstInt, ConstPrim, Extracted, Called, Chosen, MadeVariant, MadeStruct, VariantField, StructField, Wrapped, Inner, Part, at}
@@ -36,23 +36,24 @@ abbrev pub occurrences : Environment → List Path → List BindingId → List �
 occurrences env ps [] = []
 occurrences env ps (b ∷ bs) = occurrence_at env (at ps b) ++ occurrences env ps bs
 
--- the impure calls that may have been bound where a block goes on, after these: those of the ways through it that return nothing
+-- the impure calls that may have been bound where a block goes on, after these: those of the ways through it that go on, which in a block of a
+-- term that answers several times is every way
 abbrev mutual
-  pub after_block : Environment → List Path → List ℕ → Block → List ℕ
-  after_block env ps made Stop = made
-  after_block env ps made (Step binds c more) = after_block env ps (after_control env ps (made ++ occurrences env ps binds) c) more
+  pub after_block : (several : Bool) → Environment → List Path → List ℕ → Block → List ℕ
+  after_block several env ps made Stop = made
+  after_block several env ps made (Step binds c more) = after_block several env ps (after_control several env ps (made ++ occurrences env ps binds) c) more
 
   -- a Match may take no arm, an Equal may not enter its body, a Loop may have no turn
-  pub after_control : Environment → List Path → List ℕ → Control → List ℕ
-  after_control env ps made (Match source arms) = made ++ after_arms env ps made arms
-  after_control env ps made (Equal a b body) = made ++ after_block env ps made body
-  after_control env ps made (Loop result body) = made ++ after_block env ps made body
-  after_control env ps made (Return pos result) = []
+  pub after_control : (several : Bool) → Environment → List Path → List ℕ → Control → List ℕ
+  after_control several env ps made (Match source arms) = made ++ after_arms several env ps made arms
+  after_control several env ps made (Equal a b body) = made ++ after_block several env ps made body
+  after_control several env ps made (Loop result body) = made ++ after_block several env ps made body
+  after_control several env ps made (Return pos result) = if several then made else []
 
   -- of any of the arms
-  pub after_arms : Environment → List Path → List ℕ → Arms → List ℕ
-  after_arms env ps made NoArm = []
-  after_arms env ps made (Arm c places body arms) = after_block env ps made body ++ after_arms env ps made arms
+  pub after_arms : (several : Bool) → Environment → List Path → List ℕ → Arms → List ℕ
+  after_arms several env ps made NoArm = []
+  after_arms several env ps made (Arm c places body arms) = after_block several env ps made body ++ after_arms several env ps made arms
 
 -- impure calls that may be bound after these: no occurrence is bound twice
 pub record AreNew (made more : List ℕ) : Type 0 where

@@ -4,9 +4,9 @@ use Rattle.isle_base.specs.declared.ids.TermId.{TermId}
 use Rattle.isle_base.specs.declared.ids.TypeId.{TypeId}
 use Rattle.isle_base.specs.declared.ids.VariantId.{VariantId}
 use Rattle.isle_core.specs.declared.types.Term.{Term}
-use Rattle.isle_core.specs.Calling.{Calling, is_fallible, extracting}
+use Rattle.isle_core.specs.Calling.{Calling, answers_often, is_fallible, extracting}
 use Rattle.isle_core.specs.Making.{Making, MakesVariant, MakesStruct, MakesNothing, making}
-use Rattle.isle_core.specs.Path.{Path, Extracted, VariantField, StructField, Inner, Part}
+use Rattle.isle_core.specs.Path.{Path, Extracted, Chosen, VariantField, StructField, Inner, Part}
 use Rattle.isle_core.specs.Rule.{Environment}
 
 -- as a variant, as a struct, or by an extractor that gives so many results
@@ -30,9 +30,9 @@ opening_by term MakesNothing c t = ByExtractor term c (result_count t)
 abbrev pub opening : Environment → TermId → Opening
 opening env term = opening_by term (making env term) (extracting env term) (slice_get env.terms term.0)
 
--- the path of a call's value: the inner value of what may be nothing
+-- the path of a call's value: the chosen item of a list, or the inner value of what may be nothing
 abbrev pub answer_path : Calling → Path → Path
-answer_path c p = if is_fallible c then Inner p else p
+answer_path c p = if answers_often c then Chosen p else if is_fallible c then Inner p else p
 
 -- the path of a result: of one it is the answer's, of several a part of it
 abbrev pub result_path : (count : ℕ) → ℕ → Path → Path

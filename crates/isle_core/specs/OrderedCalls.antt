@@ -1,8 +1,10 @@
--- The calls of a right side whose order counts: the impure and the fallible ones, in the order of evaluation.
-use Rattle.std.specs.Prelude.{ℕ, ◌+◌, List, [], ◌∷◌, ◌++◌, if◌then◌else◌}
+-- The calls of a right side whose order counts: the impure and the fallible ones, and those that answer several times and hold an impure call,
+-- in the order of evaluation.
+use Rattle.std.specs.Prelude.{ℕ, ◌+◌, List, [], ◌∷◌, ◌++◌, ◌||◌, ◌&&◌, if◌then◌else◌}
 use Rattle.isle_core.specs.Expr as expr
 use Rattle.isle_core.specs.Expr.{Expr, Exprs, NoExpr, AnExpr, LetBindings, NoBinding, ABinding}
-use Rattle.isle_core.specs.Calling.{Calling, calling, is_ordered, impure, impure_all, impure_bindings}
+use Rattle.isle_core.specs.HoldsImpure.{holds_impure}
+use Rattle.isle_core.specs.Calling.{Calling, calling, answers_often, is_ordered, impure, impure_all, impure_bindings}
 use Rattle.isle_core.specs.Match.{with}
 use Rattle.isle_core.specs.Path.{Path}
 use Rattle.isle_core.specs.RightSide.{call_path, path, paths, let_places}
@@ -10,13 +12,13 @@ use Rattle.isle_core.specs.Rule.{Environment, Rule}
 use Rattle.isle_core.specs.Tests.{Places, rule_places}
 
 -- a call whose place counts
-abbrev pub if_ordered : Calling → Path → List Path
-if_ordered c p = if is_ordered c then p ∷ [] else []
+abbrev pub if_ordered : Environment → Calling → Path → List Path
+if_ordered env c p = if is_ordered c || (answers_often c && holds_impure env p) then p ∷ [] else []
 
 -- those of an expression, after n impure calls
 abbrev mutual
   pub calls : Environment → Expr → Places → ℕ → List Path
-  calls env (expr.Term ty term es) places n = calls_all env es places n ++ if_ordered (calling env term) (call_path env term (paths env es places n) (n + impure_all env es))
+  calls env (expr.Term ty term es) places n = calls_all env es places n ++ if_ordered env (calling env term) (call_path env term (paths env es places n) (n + impure_all env es))
   calls env (expr.ConstBool b) places n = []
   calls env (expr.ConstInt ty k) places n = []
   calls env (expr.Var ty x) places n = []

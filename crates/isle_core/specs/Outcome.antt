@@ -5,9 +5,11 @@ use Rattle.isle_core.specs.declared.types.ReturnKind.TheVariants as return_kind
 use Rattle.isle_core.specs.Value.{Value, Made}
 use Rattle.isle_core.specs.Meaning.{Meaning}
 pub use Rattle.isle_core.specs.Calling.{kind_of}
+use Rattle.isle_core.specs.Choice.{Choice, first_items}
 use Rattle.isle_core.specs.Match.{Names, no_names, matches_all}
 use Rattle.isle_core.specs.Eval.{Evaluated, Answered, Failed, evaluated, iflets_names}
 use Rattle.isle_core.specs.Rule.{Environment, Rule}
+use Rattle.isle_core.specs.Tests.{no_places, args_after, rule_places}
 
 -- a value, a failure, or that no rule of a term that must answer matches
 pub data Result : Type 0 where
@@ -20,9 +22,17 @@ pub record Prescription : Type 0 where
   pub result : Result
   pub calls : List Made
 
--- the names of a rule that matches: its patterns match the arguments and its conditions hold
+-- the names of a rule that matches with these items chosen: its patterns match the arguments and its conditions hold
+abbrev pub chosen_names : Environment → Meaning → Choice → List Value → Rule → Option Names
+chosen_names env m choice args r = option_and_then (iflets_names env m choice r.iflets (args_after env r.args 0 no_places)) (matches_all env m choice r.args 0 args no_names)
+
+-- those of a rule that calls nothing which answers several times
 abbrev pub rule_names : Environment → Meaning → List Value → Rule → Option Names
-rule_names env m args r = option_and_then (iflets_names env m r.iflets) (matches_all env m r.args args no_names)
+rule_names env m args r = chosen_names env m first_items args r
+
+-- what the right side of such a rule gives, after the calls made before
+abbrev pub rule_value : Environment → Meaning → Rule → Names → List Made → Evaluated
+rule_value env m r names made = evaluated env m first_items r.rhs names (rule_places env r) 0 made
 
 -- no rule matches
 abbrev pub NoneMatches : Environment → Meaning → List Value → List Rule → Type 0
@@ -48,4 +58,4 @@ prescription_of (Failed calls) = record { result = Failure; calls = calls }
 -- what the rules of a term without `multi` prescribe, after the calls made before: no rule matches, or the one highest that does answers or fails
 pub data Prescribed (env : Environment) (m : Meaning) (args : List Value) (rules : List Rule) (kind : ReturnKind) (made : List Made) : Prescription → Type 0 where
   no_rule : NoneMatches env m args rules → Prescribed env m args rules kind made (record { result = unmatched kind; calls = made })
-  one_rule : (r : Rule) (names : Names) → IsHighest env m args rules r names → Prescribed env m args rules kind made (prescription_of (evaluated env m r.rhs names made))
+  one_rule : (r : Rule) (names : Names) → IsHighest env m args rules r names → Prescribed env m args rules kind made (prescription_of (rule_value env m r names made))

@@ -20,7 +20,7 @@ AreTuple [] = Unit {0}
 AreTuple (ty ∷ []) = ⊥
 AreTuple (ty ∷ more ∷ tys) = Unit {0}
 
--- a path of which a value of the type stands where the binding of the path is bound or may be read. Chosen items and options that are made are not built
+-- a path of which a value of the type stands where the binding of the path is bound or may be read. Options that are made are not built
 abbrev mutual
   pub IsPathOf : Environment → Term → Path → TypeId → Type 0
   IsPathOf env t (Arg i) ty = slice_get t.arg_tys i ≡ Some ty
@@ -31,7 +31,7 @@ abbrev mutual
   IsPathOf env t (Inner p) ty = IsOptionOf env t p (ty ∷ [])
   IsPathOf env t Nowhere ty = ⊥
   IsPathOf env t (Extracted term q) ty = IsExtraction return_kind.Plain (extracting env term) × IsSomeAnd (slice_get env.terms term.0) (λ (c : Term). (c.arg_tys ≡ ty ∷ []) × IsPathOf env t q c.ret_ty)
-  IsPathOf env t (Chosen q) ty = ⊥
+  IsPathOf env t (Chosen q) ty = IsListOf env t q (ty ∷ [])
   IsPathOf env t (MadeVariant of variant ps) ty = (of ≡ ty) × IsSomeAnd (form env (MakesVariant of variant)) (λ f. ArePathsOf env t ps (form_types env f))
   IsPathOf env t (MadeStruct of ps) ty = (of ≡ ty) × IsSomeAnd (form env (MakesStruct of)) (λ f. ArePathsOf env t ps (form_types env f))
   IsPathOf env t (VariantField variant field q) ty = (of : TypeId) × IsPathOf env t q of × IsSomeAnd (form env (MakesVariant of variant)) (λ f. slice_get (form_types env f) field ≡ Some ty)
@@ -49,7 +49,7 @@ abbrev mutual
   IsTupleOf env t (ConstInt of n) tys = ⊥
   IsTupleOf env t (ConstPrim name) tys = ⊥
   IsTupleOf env t (Called term ps instance) tys = ⊥
-  IsTupleOf env t (Chosen q) tys = ⊥
+  IsTupleOf env t (Chosen q) tys = AreTuple tys × IsListOf env t q tys
   IsTupleOf env t (MadeVariant of variant ps) tys = ⊥
   IsTupleOf env t (MadeStruct of ps) tys = ⊥
   IsTupleOf env t (VariantField variant field q) tys = ⊥
@@ -74,6 +74,24 @@ abbrev mutual
   IsOptionOf env t (Wrapped q) tys = ⊥
   IsOptionOf env t (Inner q) tys = ⊥
   IsOptionOf env t (Part part q) tys = ⊥
+
+  -- a path that holds a list: of values where there is one type, else of tuples
+  pub IsListOf : Environment → Term → Path → List TypeId → Type 0
+  IsListOf env t (Called term ps instance) tys = IsCall return_kind.Iterator (calling env term) × IsSomeAnd (slice_get env.terms term.0) (λ (c : Term). (c.ret_ty ∷ [] ≡ tys) × ArePathsOf env t ps c.arg_tys)
+  IsListOf env t (Extracted term q) tys = IsExtraction return_kind.Iterator (extracting env term) × IsSomeAnd (slice_get env.terms term.0) (λ (c : Term). (c.arg_tys ≡ tys) × IsPathOf env t q c.ret_ty)
+  IsListOf env t Nowhere tys = ⊥
+  IsListOf env t (Arg i) tys = ⊥
+  IsListOf env t (ConstBool of b) tys = ⊥
+  IsListOf env t (ConstInt of n) tys = ⊥
+  IsListOf env t (ConstPrim name) tys = ⊥
+  IsListOf env t (Chosen q) tys = ⊥
+  IsListOf env t (MadeVariant of variant ps) tys = ⊥
+  IsListOf env t (MadeStruct of ps) tys = ⊥
+  IsListOf env t (VariantField variant field q) tys = ⊥
+  IsListOf env t (StructField field q) tys = ⊥
+  IsListOf env t (Wrapped q) tys = ⊥
+  IsListOf env t (Inner q) tys = ⊥
+  IsListOf env t (Part part q) tys = ⊥
 
   -- as many paths as types, each of its type
   pub ArePathsOf : Environment → Term → Paths → List TypeId → Type 0

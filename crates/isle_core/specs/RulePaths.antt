@@ -2,19 +2,19 @@
 use Rattle.std.specs.Prelude.{ℕ, suc, ◌+◌, List, [], ◌∷◌, ◌++◌, if◌then◌else◌}
 use Rattle.isle_core.specs.Expr as expr
 use Rattle.isle_core.specs.Expr.{Expr, Exprs, NoExpr, AnExpr, LetBindings, NoBinding, ABinding}
-use Rattle.isle_core.specs.Calling.{Calling, calling, is_fallible, impure, impure_all, impure_bindings}
+use Rattle.isle_core.specs.Calling.{Calling, calling, answers_often, is_fallible, impure, impure_all, impure_bindings}
 use Rattle.isle_core.specs.Match.{with}
 use Rattle.isle_core.specs.Opening.{Opening, AsVariant, AsStruct, ByExtractor, opening, part_path}
-use Rattle.isle_core.specs.Path.{Path, Arg, ConstBool, ConstInt, ConstPrim, Extracted, Inner}
+use Rattle.isle_core.specs.Path.{Path, Arg, ConstBool, ConstInt, ConstPrim, Extracted, Chosen, Inner}
 use Rattle.isle_core.specs.Pattern as pattern
 use Rattle.isle_core.specs.Pattern.{Pattern, Patterns, NoPattern, APattern}
 use Rattle.isle_core.specs.RightSide.{bool_type, path_or, call_path, path, paths, let_places}
 use Rattle.isle_core.specs.Rule.{Environment, IfLet, Rule}
 use Rattle.isle_core.specs.Tests.{Places, no_places, after, args_after, rule_places}
 
--- a call, and its inner value where it may be nothing
+-- a call, and its chosen item or its inner value where it answers several times or may be nothing
 abbrev pub with_inner : Calling → Path → List Path
-with_inner c p = if is_fallible c then p ∷ Inner p ∷ [] else p ∷ []
+with_inner c p = if answers_often c then p ∷ Chosen p ∷ [] else if is_fallible c then p ∷ Inner p ∷ [] else p ∷ []
 
 -- the paths of an expression and of all within it
 abbrev mutual

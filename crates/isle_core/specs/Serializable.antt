@@ -1,5 +1,5 @@
 -- Which rule sets have lawful blocks.
-use Rattle.std.specs.Prelude.{◌≡◌, ◌↔◌, ◌⊎◌, ℕ, List, [], ◌∷◌, true, Some, IsTrue, Contains, map, slice_get}
+use Rattle.std.specs.Prelude.{◌≡◌, ◌↔◌, ◌⊎◌, ℕ, List, [], ◌∷◌, ◌++◌, true, false, Some, IsTrue, Contains, map, slice_get}
 use Rattle.std.specs.List.{AllByRecursion}
 use Rattle.isle_base.specs.declared.ids.BindingId.{BindingId}
 use Rattle.isle_base.specs.declared.ids.TermId.{TermId}
@@ -9,13 +9,14 @@ use Rattle.isle_core.specs.declared.rule_sets.FlatRule.{FlatRule}
 use Rattle.isle_core.specs.declared.rule_sets.RuleSet.{RuleSet}
 use Rattle.isle_core.specs.declared.types.Term.{Term}
 use Rattle.isle_core.specs.declared.types.ReturnKind.{ReturnKind}
-use Rattle.isle_core.specs.Calling.{Calling, ByTurns, ByCases, NoCall, calling, kind_of, may_be_nothing}
+use Rattle.isle_core.specs.Calling.{Calling, ByTurns, ByCases, NoCall, calling, is_several, kind_of, may_be_nothing, may_stop}
+use Rattle.isle_core.specs.HoldsImpure.{holds_impure}
 use Rattle.isle_core.specs.Path.{Path, Nowhere, Arg, ConstBool, ConstInt, ConstPrim, Extracted, Called, Chosen, MadeVariant, MadeStruct, VariantField, StructField, Wrapped, Inner, Part, Paths, NoPath, APath, at, paths_of}
 use Rattle.isle_core.specs.StandsFor.{EachOnce}
 use Rattle.isle_core.specs.ConstraintType.{IsConstraintOf}
 use Rattle.isle_core.specs.ExternalCall.{IsCall}
 use Rattle.isle_core.specs.Occurrences.{occurrences}
-use Rattle.isle_core.specs.PathType.{IsPathOf, IsOptionOf, ArePathsOf}
+use Rattle.isle_core.specs.PathType.{IsPathOf, IsListOf, IsOptionOf, ArePathsOf}
 use Rattle.isle_core.specs.RuleSet.{is_test}
 use Rattle.isle_core.specs.Tests.{Test, Is}
 use Rattle.isle_core.specs.declared.rule_sets.Constraint.TheVariants as constraint
@@ -48,8 +49,8 @@ StandsCalled (ByCases callee kind) itself arguments = arguments
 StandsCalled NoCall itself arguments = ⊥
 
 -- a path may be read behind these tests and these calls: a field behind the test that shows it, an impure call behind itself, a pure call
--- where its arguments may be read, an extractor's answer where what it takes apart may be, a part where its tuple may be, and a made value
--- where its parts may be
+-- where its arguments may be read, an extractor's answer where what it takes apart may be, an item where its list may be, but behind the list's
+-- own call where that holds an impure one, a part where its tuple may be, and a made value where its parts may be
 abbrev mutual
   pub StandsOn : Environment → (tests : List Test) → (done : List Path) → Path → Type 0
   StandsOn env tests done (Called term ps instance) = StandsCalled (calling env term) (Contains done (Called term ps instance)) (AllStandOn env tests done ps)
@@ -64,7 +65,7 @@ abbrev mutual
   StandsOn env tests done (ConstInt of n) = Unit {0}
   StandsOn env tests done (ConstPrim name) = Unit {0}
   StandsOn env tests done (Extracted term q) = StandsOn env tests done q
-  StandsOn env tests done (Chosen q) = Unit {0}
+  StandsOn env tests done (Chosen q) = StandsOn env tests done q × (IsTrue (holds_impure env q) → Contains done q)
   StandsOn env tests done (Wrapped q) = Unit {0}
   StandsOn env tests done (Part part q) = StandsOn env tests done q
 
@@ -110,8 +111,8 @@ pub record AreComparable (env : Environment) (t : Term) (ps : List Path) (tests 
 
 -- ---- calls
 
--- a call of a term on values of its types, which stand on earlier calls; it has an inner value exactly where it
--- may be nothing, which is only so in a term that may answer nothing
+-- a call of a term on values of its types, which stand on earlier calls; it has an inner value exactly where it may be nothing, which is only so in
+-- a term that may stop, and an item exactly where it answers several times, which is only so in a term that does so, too
 pub record IsSerializableCall (env : Environment) (t : Term) (tests : List Test) (ps done : List Path) (p : Path) : Type 0 where
   pub term : TermId
   pub parameters : Paths
@@ -124,12 +125,24 @@ pub record IsSerializableCall (env : Environment) (t : Term) (tests : List Test)
   pub kind : ReturnKind
   pub external : IsCall kind (calling env term)
   pub inner : IsTrue (may_be_nothing kind) ↔ Contains ps (Inner p)
-  pub fits : IsTrue (may_be_nothing kind) → may_be_nothing (kind_of t.kind) ≡ true
+  pub fits : IsTrue (may_be_nothing kind) → may_stop (kind_of t.kind) ≡ true
+  pub item : IsTrue (is_several kind) ↔ Contains ps (Chosen p)
+  pub often : IsTrue (is_several kind) → is_several (kind_of t.kind) ≡ true
 
 -- calls in order, behind those that were made
 abbrev pub AreSerializableCalls : Environment → Term → (tests : List Test) → (ps done : List Path) → List Path → Type 0
 AreSerializableCalls env t tests ps done [] = Unit {0}
 AreSerializableCalls env t tests ps done (p ∷ more) = IsSerializableCall env t tests ps done p × AreSerializableCalls env t tests ps (p ∷ done) more
+
+-- ---- lists
+
+-- a list of a term that answers several times, which has an item; it may be read behind the tests, or is one of the rule's ordered calls
+pub record IsSerializableList (env : Environment) (t : Term) (tests : List Test) (ps ordered : List Path) (b : BindingId) : Type 0 where
+  pub tys : List TypeId
+  pub list : IsListOf env t (at ps b) tys
+  pub item : Contains ps (Chosen (at ps b))
+  pub often : is_several (kind_of t.kind) ≡ true
+  pub stands : ((holds_impure env (at ps b) ≡ false) × StandsOn env tests [] (at ps b)) ⊎ Contains ordered (at ps b)
 
 -- ---- rules
 
@@ -137,15 +150,21 @@ AreSerializableCalls env t tests ps done (p ∷ more) = IsSerializableCall env t
 abbrev pub constraint_tests : List Path → FlatRule → List Test
 constraint_tests ps f = map (is_test ps) f.constraints
 
--- the tests of a rule fit the types of what they test, which may be read where they stand; its calls are ready, each with its own
--- occurrence, and its result is of the term's type and stands on them
+-- the tests of a rule fit the types of what they test, which may be read where they stand; its calls are ready, so are its lists, none of which
+-- stands twice, and its result is of the term's type and stands on them
 pub record IsSerializableRule (env : Environment) (t : Term) (ps : List Path) (f : FlatRule) : Type 0 where
   pub constraints : AreTestable env t ps [] f.constraints
   pub equals : AllByRecursion (AreComparable env t ps (constraint_tests ps f)) f.equals
+  pub lists : AllByRecursion (IsSerializableList env t (constraint_tests ps f) ps (map (at ps) f.ordered)) f.iterators
+  pub lists_once : EachOnce (map (at ps) f.iterators)
   pub calls : AreSerializableCalls env t (constraint_tests ps f) ps [] (map (at ps) f.ordered)
-  pub once : EachOnce (occurrences env ps f.ordered)
   pub result : IsPathOf env t (at ps f.result) t.ret_ty
   pub stands : StandsOn env (constraint_tests ps f) (map (at ps) f.ordered) (at ps f.result)
+
+-- the impure calls of rules, by the numbers of their occurrences
+abbrev pub occurrences_of : Environment → List Path → List FlatRule → List ℕ
+occurrences_of env ps [] = []
+occurrences_of env ps (f ∷ fs) = occurrences env ps f.ordered ++ occurrences_of env ps fs
 
 -- a field of a path
 abbrev pub IsFieldPath : Path → Type 0
@@ -165,8 +184,11 @@ IsFieldPath (Wrapped q) = ⊥
 IsFieldPath (Inner q) = ⊥
 IsFieldPath (Part part q) = ⊥
 
--- no path stands twice, each field has a type, and each rule of the set is ready
+-- no path stands twice, each field has a type, each rule of the set is ready, each impure call has its own occurrence, and items stand only where
+-- the term answers several times
 pub record IsSerializable (env : Environment) (t : Term) (s : RuleSet) : Type 0 where
   pub once : EachOnce (paths_of s.bindings)
   pub fields : (p : Path) → Contains (paths_of s.bindings) p → IsFieldPath p → (ty : TypeId) × IsPathOf env t p ty
   pub rules : AllByRecursion (IsSerializableRule env t (paths_of s.bindings)) s.rules
+  pub apart : EachOnce (occurrences_of env (paths_of s.bindings) s.rules)
+  pub items : (p : Path) → Contains (paths_of s.bindings) (Chosen p) → is_several (kind_of t.kind) ≡ true

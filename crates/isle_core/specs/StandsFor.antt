@@ -5,7 +5,7 @@ use Rattle.isle_core.specs.declared.rule_sets.RuleSet.{RuleSet}
 use Rattle.isle_core.specs.Path.{Path, at, paths_of}
 use Rattle.isle_core.specs.Iterators.{rule_iterators}
 use Rattle.isle_core.specs.OrderedCalls.{rule_calls}
-use Rattle.isle_core.specs.Tests.{Test, Is, Equal, Never, is_constraint, rule_tests, rule_result}
+use Rattle.isle_core.specs.Tests.{Test, Is, Equal, HasItem, is_constraint, rule_tests, rule_result}
 use Rattle.isle_core.specs.Calling.{impure}
 use Rattle.isle_core.specs.RulePaths.{rules_paths}
 use Rattle.isle_core.specs.RuleSet.{is_test, flat_tests}
@@ -16,11 +16,11 @@ abbrev pub EachOnce : {A : Type 0} → List A → Type 0
 EachOnce [] = Unit {0}
 EachOnce (x ∷ xs) = (Contains xs x → ⊥) × EachOnce xs
 
--- a path equated with itself
+-- a path equated with itself, or that a list has an item, which loops see to
 abbrev pub IsTrivial : Test → Type 0
 IsTrivial (Is p c) = ⊥
 IsTrivial (Equal p q) = p ≡ q
-IsTrivial Never = ⊥
+IsTrivial (HasItem p) = Unit {0}
 
 -- the firsts of items behind those seen: each where it stands first
 pub data AreFirsts {A : Type 0} : List A → List A → List A → Type 0 where

@@ -14,18 +14,18 @@ pub use Rattle.isle_core.specs.RightSide.{Places, no_places}
 use Rattle.isle_core.specs.RightSide.{call_path, path, paths, let_places}
 use Rattle.isle_core.specs.Rule.{Environment, IfLet, Rule}
 
--- a constraint on a path, or that two paths hold equal values; a form that is not built puts a test that never holds, and
--- no rule set has it
+-- a constraint on a path, that two paths hold equal values, or that the list at a path has the chosen item; what stands in a loop over the
+-- list needs no such test, so no rule set has it
 pub data Test : Type 0 where
   Is : Path → Constraint → Test
   Equal : Path → Path → Test
-  Never : Test
+  HasItem : Path → Test
 
 -- whether a test is a constraint
 abbrev pub is_constraint : Test → Bool
 is_constraint (Is p c) = true
 is_constraint (Equal p q) = false
-is_constraint Never = false
+is_constraint (HasItem p) = false
 
 -- a variable met again equates its path with this one
 abbrev pub met_tests : Option Path → Path → List Test
@@ -37,9 +37,9 @@ abbrev pub met_after : Option Path → ℕ → Path → Places → Places
 met_after None x p places = with places x p
 met_after (Some q) x p places = places
 
--- what may be nothing is something; what follows each of several answers is not built
+-- what may be nothing is something, and what answers several times has the chosen item
 abbrev pub found_tests : Calling → Path → List Test
-found_tests c p = if answers_often c then Never ∷ [] else if is_fallible c then Is p constraint.Some ∷ [] else []
+found_tests c p = if answers_often c then HasItem p ∷ [] else if is_fallible c then Is p constraint.Some ∷ [] else []
 
 -- what is asked of a path before a term's pattern takes it apart
 abbrev pub opening_tests : Opening → Path → List Test

@@ -10,20 +10,31 @@ use Rattle.isle_core.specs.Meaning.{Meaning, case}
 use Rattle.isle_core.specs.Calling.{Calling, ByTurns, ByCases, NoCall, calling, extracting}
 pub use Rattle.isle_core.specs.Answered.{Item, AValue, ATuple, Held, Absent, One, Optional, Listed, a_value, an_option, answer_held}
 use Rattle.isle_core.specs.Having.{const_of}
+use Rattle.isle_core.specs.Match.{with}
 use Rattle.isle_core.specs.Terms.{sym_text}
 use Rattle.isle_core.specs.Making.{Making, MakesVariant, MakesStruct}
 use Rattle.isle_core.specs.Form.{made_value, is_made_by, parts}
 use Rattle.isle_core.specs.Path.{Path, Nowhere, Arg, ConstBool, ConstInt, ConstPrim, Extracted, Called, Chosen, MadeVariant, MadeStruct, VariantField, StructField, Wrapped, Inner, Part, Paths, NoPath, APath}
-use Rattle.isle_core.specs.Tests.{Test, Is, Equal, Never}
+use Rattle.isle_core.specs.Tests.{Test, Is, Equal, HasItem}
+use Rattle.isle_core.specs.Choice.{Choice, first_items}
 use Rattle.isle_core.specs.Rule.{Environment}
 
--- what the impure calls that were made have answered, by occurrence
-abbrev pub Known : Type 0
-Known = ℕ → Option Answer
+-- what the impure calls that were made have answered, by occurrence, and which items of lists are chosen
+pub record Known : Type 0 where
+  pub answers : ℕ → Option Answer
+  pub choice : Choice
 
 -- no impure call was made
+abbrev pub none_made : Choice → Known
+none_made choice = record { answers = λ instance. None; choice = choice }
+
+-- nor is an item chosen
 abbrev pub nothing_known : Known
-nothing_known instance = None
+nothing_known = none_made first_items
+
+-- the answers known with one more
+abbrev pub answered_too : Known → ℕ → Answer → Known
+answered_too known instance a = record { answers = with known.answers instance a; choice = known.choice }
 
 -- a value, where there is one
 abbrev pub held : Option Value → Held
@@ -97,18 +108,30 @@ field_held i Absent = Absent
 field_held i (Optional o) = Absent
 field_held i (Listed is) = Absent
 
--- what stands at a path, under the arguments and the answers known so far. Chosen items are not built: nothing stands there
+-- the item of this place in a list
+abbrev pub item_at : Option Item → Held
+item_at None = Absent
+item_at (Some i) = One i
+
+-- the item of this place in what a place holds
+abbrev pub chosen_held : ℕ → Held → Held
+chosen_held place (Listed is) = item_at (slice_get is place)
+chosen_held place Absent = Absent
+chosen_held place (One i) = Absent
+chosen_held place (Optional o) = Absent
+
+-- what stands at a path, under the arguments, the answers known so far and the items chosen
 abbrev mutual
   pub value_at : Environment → Meaning → List Value → Known → Path → Held
   value_at env m args known (Arg i) = held (slice_get args i)
   value_at env m args known (ConstBool ty b) = a_value (Truth b)
   value_at env m args known (ConstInt ty n) = a_value (int_value env ty n)
-  value_at env m args known (Called term ps instance) = call_held m (calling env term) (known instance) (values_at env m args known ps)
+  value_at env m args known (Called term ps instance) = call_held m (calling env term) (known.answers instance) (values_at env m args known ps)
   value_at env m args known (Inner p) = inner_held (value_at env m args known p)
   value_at env m args known Nowhere = Absent
   value_at env m args known (ConstPrim name) = held (const_of m (sym_text env name))
   value_at env m args known (Extracted term p) = extracted_held m (extracting env term) (value_at env m args known p)
-  value_at env m args known (Chosen p) = Absent
+  value_at env m args known (Chosen p) = chosen_held (known.choice p) (value_at env m args known p)
   value_at env m args known (MadeVariant ty variant ps) = made_held env (MakesVariant ty variant) (values_at env m args known ps)
   value_at env m args known (MadeStruct ty ps) = made_held env (MakesStruct ty) (values_at env m args known ps)
   value_at env m args known (VariantField variant field p) = field_held field (value_at env m args known p)
@@ -206,11 +229,18 @@ equal_held (Listed is) Absent = false
 equal_held (Listed is) (One j) = false
 equal_held (Listed is) (Optional p) = false
 
+-- a place holds an item
+abbrev pub is_item : Held → Bool
+is_item (One i) = true
+is_item Absent = false
+is_item (Optional o) = false
+is_item (Listed is) = false
+
 -- a test holds where the paths have these values
 abbrev pub holds : Environment → Meaning → (Path → Held) → Test → Bool
 holds env m at (Is p c) = meets env m c (at p)
 holds env m at (Equal p q) = equal_held (at p) (at q)
-holds env m at Never = false
+holds env m at (HasItem p) = is_item (at (Chosen p))
 
 -- all tests hold
 abbrev pub all_hold : Environment → Meaning → (Path → Held) → List Test → Bool

@@ -1,15 +1,18 @@
 -- What holds of an emitted function.
-use Rattle.std.proofs.Common.{◌≡◌, ◌<◌, ℕ, zero, suc, [], ◌∷◌, length, get_or, slice_get, List, Bool, Option, Some, None, subst, sym, arith}
+use Rattle.std.proofs.Common.{◌≡◌, ◌<◌, ℕ, zero, suc, [], ◌∷◌, length, get_or, slice_get, List, Bool, Option, Some, None, refl, subst, sym, ap, arith}
 use Rattle.std.specs.Prelude.{IsSomeAnd}
+use Rattle.isle_core.specs.declared.types.ReturnKind.{ReturnKind}
+use Rattle.isle_core.specs.declared.types.ReturnKind.TheVariants as kind
 use Rattle.isle_core.specs.declared.types.Term.{Term}
+use Rattle.isle_core.specs.Calling.{AnswersOnce, is_several, kind_of}
 use Rattle.isle_core.specs.Setting.{Setting, setting}
 use Rattle.isle_tree.specs.Program.{Function}
 use Rattle.isle_tree.specs.WellFormed.{IsFunction}
 use Rattle.isle_emission.specs.Origin.{Origin, InSetting}
 use Rattle.isle_emission.specs.MayEmit.{MayEmit, MayEmitTerm}
-use Rattle.isle_emission.specs.EmittedTerm.{IsGiven, HasLogLines, IsWellFormedIn, HasBlockShape, RunsAsItsBlock}
+use Rattle.isle_emission.specs.EmittedTerm.{IsGiven, HasLogLines, IsWellFormedIn, HasBlockShape, RunsAs, RunsAsItsBlock}
 use Rattle.isle_simulation.specs.TermFunction.{term_function}
-use Rattle.isle_simulation.proofs.GivenFunctions.{emitted_well_formed, has_shape, runs_as_block, its_lines}
+use Rattle.isle_simulation.proofs.GivenFunctions.{emitted_well_formed, has_shape, runs_as_block, runs_as_several, its_lines}
 use Rattle.isle_simulation.proofs.Made.{function_made}
 
 -- what is so of an item is so of the item of its number
@@ -39,22 +42,32 @@ pub is_well_formed : (logging : Bool) (o : Origin) (f : Function) → MayEmitTer
 is_well_formed logging o f h e p fns = one (slice_get o.env.terms o.id.0) h e
   where
     one : (t : Option Term) → IsSomeAnd t (λ u. MayEmit o.files (setting o.env u o.bindings) o.block) → IsSomeAnd t (λ u. term_function logging o.files (setting o.env u o.bindings) o.block ≡ Some f) → IsFunction p f
-    one (Some t) may is = emitted_well_formed logging o.files o.env t o.bindings o.block f may.lawful may.single may.emittable.once is may.emittable may.names may.fns may.term_fns p fns
+    one (Some t) may is = emitted_well_formed logging o.files o.env t o.bindings o.block f may.lawful may.single is may.emittable may.names may.fns may.term_fns p fns
     one None may is = absurd may
 
 pub is_shaped : (logging : Bool) (o : Origin) (f : Function) → MayEmitTerm o → IsGiven logging o f → HasBlockShape o f
-is_shaped logging o f h e = both (slice_get o.env.terms o.id.0) _ _ _ (λ t may is. has_shape logging o.files o.env t o.bindings o.block f may.lawful may.single may.emittable.once is) h e
+is_shaped logging o f h e = both (slice_get o.env.terms o.id.0) _ _ _ (λ t may is. has_shape logging o.files o.env t o.bindings o.block f may.lawful may.single is) h e
+
+-- it runs as the block of its kind of term
+runs_so : (logging : Bool) (o : Origin) (f : Function) (t : Term) → MayEmit o.files (setting o.env t o.bindings) o.block → term_function logging o.files (setting o.env t o.bindings) o.block ≡ Some f
+    → RunsAs (is_several (kind_of t.kind)) (setting o.env t o.bindings) o.block f
+runs_so logging o f t may is = of (kind_of t.kind) refl
+  where
+    of : (k : ReturnKind) → kind_of t.kind ≡ k → RunsAs (is_several k) (setting o.env t o.bindings) o.block f
+    of kind.Plain e = runs_as_block logging o.files o.env t o.bindings o.block f may.lawful may.single is (subst AnswersOnce (sym e) tt) may.names may.fns may.term_fns
+    of kind.Option e = runs_as_block logging o.files o.env t o.bindings o.block f may.lawful may.single is (subst AnswersOnce (sym e) tt) may.names may.fns may.term_fns
+    of kind.Iterator e = let several = ap is_several e in runs_as_several logging o.files o.env t o.bindings o.block f may.lawful may.single is several may.lawful.items may.names may.fns may.term_fns
 
 pub is_run : (logging : Bool) (o : Origin) (f : Function) → MayEmitTerm o → IsGiven logging o f → RunsAsItsBlock o f
-is_run logging o f h e = both (slice_get o.env.terms o.id.0) _ _ _ (λ t may is. runs_as_block logging o.files o.env t o.bindings o.block f may.lawful may.single may.emittable.once is may.names may.fns may.term_fns) h e
+is_run logging o f h e = both (slice_get o.env.terms o.id.0) _ _ _ (runs_so logging o f) h e
 
 pub is_logged : (logging : Bool) (o : Origin) (f : Function) → MayEmitTerm o → IsGiven logging o f → HasLogLines logging o f
-is_logged logging o f h e = both (slice_get o.env.terms o.id.0) _ _ _ (λ t may is. its_lines logging o.files o.env t o.bindings o.block f may.lawful may.single may.emittable.once is) h e
+is_logged logging o f h e = both (slice_get o.env.terms o.id.0) _ _ _ (λ t may is. its_lines logging o.files o.env t o.bindings o.block f may.lawful may.single is) h e
 
 -- and it is there
 pub is_made : (logging : Bool) (o : Origin) → MayEmitTerm o → InSetting o (λ (s : Setting). None ≡ term_function logging o.files s o.block) → ⊥
 is_made logging o h e = one (slice_get o.env.terms o.id.0) h e
   where
     one : (t : Option Term) → IsSomeAnd t (λ u. MayEmit o.files (setting o.env u o.bindings) o.block) → IsSomeAnd t (λ u. None ≡ term_function logging o.files (setting o.env u o.bindings) o.block) → ⊥
-    one (Some t) may none = let made = function_made logging o.files o.env t o.bindings o.block may.emittable.once may.lawful may.single in cc
+    one (Some t) may none = let made = function_made logging o.files o.env t o.bindings o.block may.lawful may.single in cc
     one None may none = may

@@ -1,9 +1,9 @@
 -- Statements before a body, as statements are pushed; and the locals that lets bind.
-use Rattle.std.proofs.Common.{◌≡◌, ◌∙◌, ℕ, option_map, List, [], ◌∷◌, ◌++◌, Option, Some, None, map, refl, ap}
+use Rattle.std.proofs.Common.{◌≡◌, ◌∙◌, ℕ, option_map, List, [], ◌∷◌, ◌++◌, false, Option, Some, None, map, refl, ap}
 use Rattle.isle_tree.specs.declared.tree.Stmt.{Stmt as CodeStmt}
 use Rattle.isle_tree.specs.declared.tree.Stmt.TheVariants as code
-use Rattle.isle_tree.specs.Program.{Stmt, Log, Body, Done}
-use Rattle.isle_tree.proofs.Sees.{stmt-log}
+use Rattle.isle_tree.specs.Program.{Stmt, Log, Overflow, Body, Done}
+use Rattle.isle_tree.proofs.Sees.{stmt-log, stmt-overflow}
 use Rattle.isle_simulation.specs.LogLines.{LogLine}
 use Rattle.isle_simulation.specs.Telling.{line_before}
 use Rattle.isle_tree.specs.Views.{stmt, body_of}
@@ -24,6 +24,11 @@ onto_line old new term place l end pushed is =
     before : (o : Option Body) → stmt_before (Some (Log term place)) o ≡ option_map (line_before (term, place)) o
     before None = refl
     before (Some b) = refl
+
+-- a stop is pushed
+pub onto_overflow : (old new : List CodeStmt) (end : Option Body) → new ≡ old ++ code.Overflow false ∷ [] → body_onto (map stmt new) end ≡ body_onto (map stmt old) (stmt_before (Some (Overflow false)) end)
+onto_overflow old new end pushed =
+    ap (λ ys. body_onto (map stmt ys) end) pushed ∙ onto_pushed old (code.Overflow false) end ∙ ap (λ y. body_onto (map stmt old) (stmt_before (Some y) end)) (stmt-overflow false)
 
 pub onto_done : (ss : List Stmt) → body_onto ss (Some Done) ≡ Some (body_of ss)
 onto_done [] = refl

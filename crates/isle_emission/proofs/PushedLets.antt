@@ -5,12 +5,9 @@ use Rattle.isle_core.specs.declared.BindingId.{BindingId}
 use Rattle.isle_core.specs.Bindable.{bound_by}
 use Rattle.isle_core.specs.Setting.{Setting}
 use Rattle.isle_tree.specs.declared.tree.Stmt.{Stmt as CodeStmt}
-use Rattle.isle_tree.specs.declared.tree.Stmt.TheVariants as code
-use Rattle.isle_tree.specs.declared.tree.TExpr.{TExpr}
-use Rattle.isle_tree.specs.Program.{Let, Body}
+use Rattle.isle_tree.specs.Program.{Stmt, Body}
 use Rattle.isle_tree.specs.Views.{stmt}
-use Rattle.isle_tree.proofs.Sees.{stmt-let}
-use Rattle.isle_simulation.specs.Statements.{bound_expr, stmt_before, let_of, lets}
+use Rattle.isle_simulation.specs.Statements.{bound_expr, binds_list, stmt_before, let_of, lets}
 use Rattle.isle_emission.specs.BodyOnto.{body_onto}
 use Rattle.isle_emission.specs.PushedLets.{PushesLets}
 use Rattle.isle_emission.proofs.Onto.{onto_pushed, onto_none}
@@ -19,19 +16,19 @@ use Rattle.isle_emission.proofs.Onto.{onto_pushed, onto_none}
 
 lets_append : (s : Setting) (bound : List ℕ) (xs ys : List BindingId) (end : Option Body) → lets s bound (xs ++ ys) end ≡ lets s bound xs (lets s (bound_by bound xs) ys end)
 lets_append s bound [] ys end = refl
-lets_append s bound (x ∷ xs) ys end = ap (stmt_before (let_of x.0 (bound_expr s bound x))) (lets_append s (bound ++ x.0 ∷ []) xs ys end)
+lets_append s bound (x ∷ xs) ys end = ap (stmt_before (let_of (binds_list s x) x.0 (bound_expr s bound x))) (lets_append s (bound ++ x.0 ∷ []) xs ys end)
 
 bound_append : (bound : List ℕ) (xs ys : List BindingId) → bound_by bound (xs ++ ys) ≡ bound_by (bound_by bound xs) ys
 bound_append bound [] ys = refl
 bound_append bound (x ∷ xs) ys = bound_append (bound ++ x.0 ∷ []) xs ys
 
-none_before : (o : Option Body) → o ≡ None → (n : ℕ) (e : Option TExpr) → stmt_before (let_of n e) o ≡ None
-none_before o is n None = refl
-none_before o is n (Some e) = ap (stmt_before (Some (Let n e))) is
+none_before : (o : Option Body) → o ≡ None → (made : Option Stmt) → stmt_before made o ≡ None
+none_before o is None = refl
+none_before o is (Some x) = ap (stmt_before (Some x)) is
 
 lets_none : (s : Setting) (bound : List ℕ) (xs : List BindingId) → lets s bound xs None ≡ None
 lets_none s bound [] = refl
-lets_none s bound (x ∷ xs) = none_before (lets s (bound ++ x.0 ∷ []) xs None) (lets_none s (bound ++ x.0 ∷ []) xs) x.0 (bound_expr s bound x)
+lets_none s bound (x ∷ xs) = none_before (lets s (bound ++ x.0 ∷ []) xs None) (lets_none s (bound ++ x.0 ∷ []) xs) (let_of (binds_list s x) x.0 (bound_expr s bound x))
 
 pub grown : (first old new : List ℕ) → (more : List ℕ) × (old ≡ first ++ more) → (more : List ℕ) × (new ≡ old ++ more) → (more : List ℕ) × (new ≡ first ++ more)
 grown first old new h k = (h.0 ++ k.0, k.1 ∙ ap (λ ls. ls ++ k.0) h.1 ∙ append_assoc first h.0 k.0)
@@ -73,22 +70,18 @@ so_named {s = s} {made = made} {old = old} {new = new} {before = before} {after 
 
 -- ---- one
 
-pub pushed_one : (s : Setting) (b : BindingId) (e : TExpr) (n k : ℕ) (old new : List ℕ) (before after : List CodeStmt)
-    → n ≡ b.0 → k ≡ b.0 → Some e ≡ bound_expr s old b → after ≡ before ++ code.Let n e ∷ [] → new ≡ old ++ k ∷ [] → PushesLets s (b ∷ []) true old new before after
-pushed_one s b e n k old new before after same other is pushed bound = record {
-  lets = λ end.
-      ap (λ xs. body_onto (map stmt xs) end) pushed
-      ∙ onto_pushed before (code.Let n e) end
-      ∙ ap (λ made. body_onto (map stmt before) (stmt_before (Some made) end)) (stmt-let n e ∙ ap (λ j. Let j e) same)
-      ∙ ap (λ o. body_onto (map stmt before) (stmt_before (let_of b.0 o) end)) is;
-  bound = λ m. bound ∙ ap (λ j. old ++ j ∷ []) other;
+pub pushed_one : (s : Setting) (b : BindingId) (made : CodeStmt) (k : ℕ) (old new : List ℕ) (before after : List CodeStmt)
+    → k ≡ b.0 → Some (stmt made) ≡ let_of (binds_list s b) b.0 (bound_expr s old b) → after ≡ before ++ made ∷ [] → new ≡ old ++ k ∷ [] → PushesLets s (b ∷ []) true old new before after
+pushed_one s b made k old new before after same is pushed bound = record {
+  lets = λ end. ap (λ xs. body_onto (map stmt xs) end) pushed ∙ onto_pushed before made end ∙ ap (λ o. body_onto (map stmt before) (stmt_before o end)) is;
+  bound = λ m. bound ∙ ap (λ j. old ++ j ∷ []) same;
   grows = (k ∷ [], bound);
 }
 
 -- a binding of which nothing is made
-pub pushed_none : (s : Setting) (b : BindingId) (old : List ℕ) (out : List CodeStmt) → None ≡ bound_expr s old b → PushesLets s (b ∷ []) false old old out out
+pub pushed_none : (s : Setting) (b : BindingId) (old : List ℕ) (out : List CodeStmt) → None ≡ let_of (binds_list s b) b.0 (bound_expr s old b) → PushesLets s (b ∷ []) false old old out out
 pushed_none s b old out none = record {
-  lets = λ end. sym (onto_none (map stmt out)) ∙ ap (λ o. body_onto (map stmt out) (stmt_before (let_of b.0 o) end)) none;
+  lets = λ end. sym (onto_none (map stmt out)) ∙ ap (λ o. body_onto (map stmt out) (stmt_before o end)) none;
   bound = λ e. absurd cc;
   grows = ([], sym (append-nil old));
 }

@@ -10,7 +10,7 @@ use Rattle.isle_core.specs.Bindable.{bound_by}
 use Rattle.isle_core.specs.Block as block
 use Rattle.isle_core.specs.Block.{Block, Control, Step}
 use Rattle.isle_core.specs.BlockViews.{SeenStep, SeenArm, block_of, arms_of, step, arm}
-use Rattle.isle_core.specs.Setting.{Setting}
+use Rattle.isle_core.specs.Setting.{Setting, gives_several}
 use Rattle.isle_tree.specs.declared.tree.Operand.{Operand}
 use Rattle.isle_tree.specs.declared.tree.Read.{Read}
 use Rattle.isle_tree.specs.declared.tree.TPat.{TPat}
@@ -18,10 +18,10 @@ use Rattle.isle_tree.specs.declared.tree.Stmt.{Stmt as CodeStmt}
 use Rattle.isle_tree.specs.declared.tree.Stmt.TheVariants as code
 use Rattle.isle_tree.specs.Program.{Stmt, Body, Done}
 use Rattle.isle_tree.specs.Views.{stmt}
-use Rattle.isle_tree.proofs.Sees.{stmt-if_eq, stmt-if_let}
+use Rattle.isle_tree.proofs.Sees.{stmt-if_eq, stmt-if_let, stmt-loop}
 use Rattle.isle_simulation.specs.Completed.{step_binds, completed_control}
 use Rattle.isle_simulation.specs.Telling.{Telling, told_before}
-use Rattle.isle_simulation.specs.Statements.{stmt_before, lets, if_eq, if_let, arm_stmt}
+use Rattle.isle_simulation.specs.Statements.{stmt_before, stop_before, lets, if_eq, if_let, loop_of, arm_stmt}
 use Rattle.isle_emission.specs.BodyOnto.{body_onto, lets_onto}
 use Rattle.isle_emission.specs.MadeBodies.{made_body, made_control, made_arms, PushesStep}
 use Rattle.isle_emission.specs.PushedLets.{PushesLets}
@@ -46,29 +46,43 @@ told_same (Some line) s bound (block.Equal a b body) after = refl
 told_same (Some line) s bound (block.Loop result body) after = refl
 told_same (Some line) s bound (block.Return place result) after = refl
 
+-- and is stopped behind as before
+stop_same : (several : Bool) (s : Setting) (bound : List ℕ) (c : Control) (after : Option Body) → stop_before several (completed_control s bound c) after ≡ stop_before several c after
+stop_same false s bound c after = refl
+stop_same true s bound (block.Match source arms) after = refl
+stop_same true s bound (block.Equal a b body) after = refl
+stop_same true s bound (block.Loop result body) after = refl
+stop_same true s bound (block.Return place result) after = refl
+
 -- what a step makes after its lets, where its bindings are bound
 abbrev after_lets : Telling → Setting → (out : List CodeStmt) (bound mid : List ℕ) → SeenStep → (made : Option Stmt) (more : Block) → Option Body → Option Body
-after_lets telling s out bound mid seen made more end = body_onto (map stmt out) (lets s bound (step_binds s bound seen.0 seen.1) (told_before telling seen.1 (stmt_before made (made_body telling s mid more end))))
+after_lets telling s out bound mid seen made more end = body_onto (map stmt out) (lets s bound (step_binds s bound seen.0 seen.1) (told_before telling seen.1 (stmt_before made (stop_before (gives_several s) seen.1 (made_body telling s mid more end)))))
 
 so_bound : (telling : Telling) (s : Setting) (out : List CodeStmt) (bound mid : List ℕ) (seen : SeenStep) (made : Option Stmt) (more : Block) (end : Option Body)
     → mid ≡ bound_by bound (step_binds s bound seen.0 seen.1) → made ≡ made_control telling s mid seen.1 → after_lets telling s out bound mid seen made more end ≡ body_onto (map stmt out) (made_body telling s bound (Step seen.0 seen.1 more) end)
 so_bound telling s out bound mid seen made more end at_mid is =
+    let binds = step_binds s bound seen.0 seen.1 in
+    let within = bound_by bound binds in
     ap (λ x. after_lets telling s out bound mid seen x more end) is
     ∙ ap (λ ls. after_lets telling s out bound ls seen (made_control telling s ls seen.1) more end) at_mid
-    ∙ ap (λ y. body_onto (map stmt out) (lets s bound (step_binds s bound seen.0 seen.1) y)) (sym (told_same telling s (bound_by bound (step_binds s bound seen.0 seen.1)) seen.1 _))
+    ∙ ap (λ y. body_onto (map stmt out) (lets s bound binds (told_before telling seen.1 (stmt_before (made_control telling s within seen.1) y)))) (sym (stop_same (gives_several s) s within seen.1 (made_body telling s within more end)))
+    ∙ ap (λ y. body_onto (map stmt out) (lets s bound binds y)) (sym (told_same telling s within seen.1 _))
 
-pub step_made : (telling : Telling) (s : Setting) (x : CodeStep) (seen : SeenStep) (bound mid new : List ℕ) (out lets_out told_out pushed : List CodeStmt) (made : CodeStmt)
+pub step_made : (telling : Telling) (s : Setting) (x : CodeStep) (seen : SeenStep) (bound mid new : List ℕ) (out lets_out told_out pushed after : List CodeStmt) (made : CodeStmt)
     → step x ≡ seen → PushesLets s (step_binds s bound seen.0 seen.1) true bound mid out lets_out → Some (stmt made) ≡ made_control telling s mid seen.1
     → new ≡ mid → ((end : Option Body) → body_onto (map stmt told_out) end ≡ body_onto (map stmt lets_out) (told_before telling seen.1 end)) → pushed ≡ told_out ++ made ∷ []
-    → PushesStep telling s x true bound new out pushed
-step_made telling s x seen bound mid new out lets_out told_out pushed made seen_x p seen_s at_new told is_pushed = record {
+    → ((end : Option Body) → body_onto (map stmt after) end ≡ body_onto (map stmt pushed) (stop_before (gives_several s) seen.1 end))
+    → PushesStep telling s x true bound new out after
+step_made telling s x seen bound mid new out lets_out told_out pushed after made seen_x p seen_s at_new told is_pushed stopped = record {
   stmts = λ xs end.
       let more = block_of (map step xs) in
-      ap (λ ls. body_onto (map stmt pushed) (made_body telling s ls more end)) at_new
-      ∙ ap (λ ys. body_onto (map stmt ys) (made_body telling s mid more end)) is_pushed
-      ∙ onto_pushed told_out made (made_body telling s mid more end)
-      ∙ told (stmt_before (Some (stmt made)) (made_body telling s mid more end))
-      ∙ p.lets (told_before telling seen.1 (stmt_before (Some (stmt made)) (made_body telling s mid more end)))
+      let stop = stop_before (gives_several s) seen.1 (made_body telling s mid more end) in
+      ap (λ ls. body_onto (map stmt after) (made_body telling s ls more end)) at_new
+      ∙ stopped (made_body telling s mid more end)
+      ∙ ap (λ ys. body_onto (map stmt ys) stop) is_pushed
+      ∙ onto_pushed told_out made stop
+      ∙ told (stmt_before (Some (stmt made)) stop)
+      ∙ p.lets (told_before telling seen.1 (stmt_before (Some (stmt made)) stop))
       ∙ so_bound telling s out bound mid seen (Some (stmt made)) more end (p.bound refl) seen_s
       ∙ first_step telling s x xs seen bound out end seen_x;
   grows = (p.grows.0, at_new ∙ p.grows.1);
@@ -102,7 +116,7 @@ pub step_unmade : (telling : Telling) (s : Setting) (x : CodeStep) (seen : SeenS
 step_unmade telling s x seen bound mid out lets_out seen_x p = record {
   stmts = λ xs end.
       let after = bound_by bound (step_binds s bound seen.0 seen.1) in
-      p.lets (told_before telling (completed_control s after seen.1) (stmt_before (made_control telling s after seen.1) (made_body telling s after (block_of (map step xs)) end)))
+      p.lets (told_before telling (completed_control s after seen.1) (stmt_before (made_control telling s after seen.1) (stop_before (gives_several s) (completed_control s after seen.1) (made_body telling s after (block_of (map step xs)) end))))
       ∙ first_step telling s x xs seen bound out end seen_x;
   grows = p.grows;
 }
@@ -119,12 +133,15 @@ steps_step telling s xs i x made known bound new out after end lt item is p =
 
 -- ---- tests
 
--- a test, as what is inside it is seen
+-- a test or a loop, as what is inside it is seen
 pub inside_eq : (a b : Operand) (ss : List CodeStmt) → Some (stmt (code.IfEq a b ss)) ≡ if_eq (Some a) (Some b) (body_onto (map stmt ss) (Some Done))
 inside_eq a b ss = ap Some (stmt-if_eq a b ss) ∙ ap (if_eq (Some a) (Some b)) (sym (onto_done (map stmt ss)))
 
 pub inside_let : (p : TPat) (r : Read) (ss : List CodeStmt) → Some (stmt (code.IfLet p r ss)) ≡ if_let (Some p) (Some r) (body_onto (map stmt ss) (Some Done))
 inside_let p r ss = ap Some (stmt-if_let p r ss) ∙ ap (if_let (Some p) (Some r)) (sym (onto_done (map stmt ss)))
+
+pub inside_loop : (list item : ℕ) (ss : List CodeStmt) → Some (stmt (code.Loop list item ss)) ≡ loop_of (Some list) item (body_onto (map stmt ss) (Some Done))
+inside_loop list item ss = ap Some (stmt-loop list item ss) ∙ ap (loop_of (Some list) item) (sym (onto_done (map stmt ss)))
 
 -- no arm, or several
 pub not_one : (telling : Telling) (s : Setting) (bound : List ℕ) (source : BindingId) (xs : List CodeArm) → eqb (length xs) 1 ≡ false → None ≡ made_arms telling s bound source (arms_of (map arm xs))

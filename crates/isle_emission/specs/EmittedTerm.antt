@@ -1,10 +1,11 @@
 -- What the function is that is emitted for a term.
-use Rattle.std.specs.Prelude.{◌≡◌, Bool, Some}
-use Rattle.isle_core.specs.Setting.{Setting}
+use Rattle.std.specs.Prelude.{◌≡◌, Bool, true, false, Some}
+use Rattle.isle_core.specs.Block.{Block}
+use Rattle.isle_core.specs.Setting.{Setting, gives_several}
 use Rattle.isle_tree.specs.Program.{Function, Program}
 use Rattle.isle_tree.specs.WellFormed.{callables, IsFunction}
 use Rattle.isle_emission.specs.Origin.{Origin, InSetting}
-use Rattle.isle_simulation.specs.Emitted.{RunsAsBlock}
+use Rattle.isle_simulation.specs.Emitted.{RunsAsBlock, RunsAsSeveral}
 use Rattle.isle_simulation.specs.Shape.{HasShape}
 use Rattle.isle_simulation.specs.LogLines.{lines_of}
 use Rattle.isle_simulation.specs.TermFunction.{log_lines, term_function}
@@ -27,6 +28,11 @@ IsWellFormedIn o f = (p : Program) → callables p ≡ callables_of o.env → Is
 abbrev pub HasBlockShape : Origin → Function → Type 0
 HasBlockShape o f = InSetting o (λ (s : Setting). HasShape s f.body o.block)
 
--- it runs as the block does
+-- a function runs as the block of a term that answers several times, or at most once
+abbrev pub RunsAs : (several : Bool) → Setting → Block → Function → Type 0
+RunsAs true s b f = RunsAsSeveral s.env s.term s.bindings b f
+RunsAs false s b f = RunsAsBlock s.env s.term s.bindings b f
+
+-- it runs as its block does
 abbrev pub RunsAsItsBlock : Origin → Function → Type 0
-RunsAsItsBlock o f = InSetting o (λ (s : Setting). RunsAsBlock s.env s.term s.bindings o.block f)
+RunsAsItsBlock o f = InSetting o (λ (s : Setting). RunsAs (gives_several s) s o.block f)

@@ -1,5 +1,6 @@
 pub mod Binds
 pub mod MadeValues
+pub mod Calls
 pub mod BodyOnto
 pub mod PushedLets
 pub mod Tellings

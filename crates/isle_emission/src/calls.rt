@@ -1,17 +1,19 @@
 //! Calls.
 
-ghost use Rattle.std.specs.Prelude.{◌≡◌, IfOk, Some as Is, slice_get};
+ghost use Rattle.std.specs.Prelude.{◌≡◌, IfOk, Some as Is, option_map, slice_get};
 ghost use Rattle.isle_core.specs.Calling.{calling, calling_of, extracting, extracting_of};
 ghost use Rattle.isle_core.specs.Terms as Terms;
+ghost use Rattle.isle_emission.specs.Calls.{call_expr};
 ghost use Rattle.isle_operands.specs.Contexts.{env_of};
 ghost use Rattle.isle_operands.specs.Typed.{setting_in};
 ghost use Rattle.isle_operands.specs.Views.{items_of};
 ghost use Rattle.isle_simulation.specs.Statements as Statements;
 
+use crate::called::Called;
 use isle_core::{BindingId, Callee, ConstructorKind, ExtractorKind, List, Term, TermId, TermKind};
 use isle_operands::{Context, Typed, is_by_ref, is_declared, one_result, reads, sym_name};
 use isle_scope::Scope;
-use isle_tree::{Read, TCall, TExpr};
+use isle_tree::{Read, TCall};
 use std::alloc::{AllocError, Global};
 
 // Returns what a call of a term that is made so goes to: its external function, or the function of the text that its
@@ -70,10 +72,10 @@ fn extractor_of(
 }
 
 // Makes a call of what is called on what is read, behind a `&` or not.
-fn call_on(borrow: bool, callee: Option<Callee>, args: Option<Vec<Read>>) -> Option<TExpr>
-    ensures { result ≡ Statements.call_on borrow callee (items_of args) }
+fn call_on(borrow: bool, callee: Option<Callee>, args: Option<Vec<Read>>) -> Option<Called>
+    ensures { option_map call_expr result ≡ Statements.call_on borrow callee (items_of args) }
 {
-    Some(TExpr::Call {
+    Some(Called {
         borrow,
         call: TCall {
             callee: callee?,
@@ -89,8 +91,8 @@ pub fn call_of(
     bound: &Scope,
     term: TermId,
     parameters: &[BindingId],
-) -> Result<Option<TExpr>, AllocError>
-    ensures { IfOk result (λ e. e ≡ Statements.call_of (setting_in typed.now) bound.now (slice_get (setting_in typed.now).env.terms term.0) (Statements.callee_of (calling (setting_in typed.now).env term)) parameters.now) }
+) -> Result<Option<Called>, AllocError>
+    ensures { IfOk result (λ call. option_map call_expr call ≡ Statements.call_of (setting_in typed.now) bound.now (slice_get (setting_in typed.now).env.terms term.0) (Statements.callee_of (calling (setting_in typed.now).env term)) parameters.now) }
 {
     let Some(called) = typed.context.termenv.terms.as_slice().get(term.index()) else {
         return Ok(None);
@@ -109,8 +111,8 @@ pub fn extraction_of(
     bound: &Scope,
     term: TermId,
     parameter: BindingId,
-) -> Result<Option<TExpr>, AllocError>
-    ensures { IfOk result (λ e. e ≡ Statements.extraction_of (setting_in typed.now) bound.now (slice_get (setting_in typed.now).env.terms term.0) (Statements.callee_of (extracting (setting_in typed.now).env term)) parameter) }
+) -> Result<Option<Called>, AllocError>
+    ensures { IfOk result (λ call. option_map call_expr call ≡ Statements.extraction_of (setting_in typed.now) bound.now (slice_get (setting_in typed.now).env.terms term.0) (Statements.callee_of (extracting (setting_in typed.now).env term)) parameter) }
 {
     let Some(called) = typed.context.termenv.terms.as_slice().get(term.index()) else {
         return Ok(None);

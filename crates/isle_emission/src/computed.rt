@@ -8,6 +8,7 @@ ghost use Rattle.isle_simulation.specs.Operands.{in_place, operand_of as operand
 ghost use Rattle.isle_simulation.specs.References.{is_reference_in};
 ghost use Rattle.isle_simulation.specs.Statements as Statements;
 
+use crate::called::called_expr;
 use crate::calls::{call_of, extraction_of};
 use crate::made::made_in;
 use isle_core::{Binding, BindingId, TupleIndex};
@@ -95,9 +96,9 @@ fn expr_of(
             term,
             parameters,
             ..
-        } => call_of(alloc, typed, bound, *term, parameters.as_slice()),
+        } => Ok(called_expr(call_of(alloc, typed, bound, *term, parameters.as_slice())?)),
         Binding::Extractor { term, parameter } => {
-            extraction_of(alloc, typed, bound, *term, *parameter)
+            Ok(called_expr(extraction_of(alloc, typed, bound, *term, *parameter)?))
         }
         Binding::MatchSome { source } => inner_in(alloc, typed, bound, *source),
         Binding::MatchTuple { source, field } => part_in(alloc, typed, bound, *source, *field),

@@ -9,7 +9,7 @@ ghost use Rattle.isle_emission.specs.PushedLets.{PushesLets};
 ghost use Rattle.isle_operands.specs.Typed.{setting_in};
 ghost use Rattle.isle_simulation.specs.Completed as Completed;
 
-use crate::computed::bound_expr;
+use crate::bound::bound_stmt;
 use isle_core::{Binding, BindingId, ControlFlow};
 use isle_operands::{Context, Typed, is_bound};
 use isle_scope::Scope;
@@ -18,7 +18,6 @@ use std::alloc::{AllocError, Global};
 use std::slice;
 
 // Binds a binding in its local, behind what is there, and returns whether there is something that its local computes.
-#[tactic(auto, using(isle_tree::proofs::Sees::sees))]
 fn push_let(
     alloc: Global,
     typed: &Typed<'_>,
@@ -28,10 +27,10 @@ fn push_let(
 ) -> Result<bool, AllocError>
     ensures { IfOk result (λ made. PushesLets (setting_in typed.now) (binding ∷ []) made bound.old bound.new out.old.items out.new.items) }
 {
-    let Some(computed) = bound_expr(alloc, typed, bound, binding)? else {
+    let Some(made) = bound_stmt(alloc, typed, bound, binding)? else {
         return Ok(false);
     };
-    out.push(Stmt::Let(binding.index(), computed))?;
+    out.push(made)?;
     bound.bind(binding.index())?;
     Ok(true)
 }

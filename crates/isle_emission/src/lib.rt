@@ -1,15 +1,19 @@
 //! From blocks to functions of a target program.
 #![tactic(auto)]
 
+mod bound;
+mod called;
 mod calls;
 mod computed;
 mod emit;
 mod externals;
+mod filling;
 mod lets;
 mod made;
 mod patterns;
 mod root;
 mod statements;
+mod stops;
 mod telling;
 mod told;
 

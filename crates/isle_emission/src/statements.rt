@@ -2,7 +2,7 @@
 
 ghost use Rattle.std.specs.Prelude.{◌≡◌, ◌++◌, [], ◌∷◌, List as ListOf, ℕ, true, false, Some as Is, Option, map, option_map, IfOk, OnOk};
 ghost use Rattle.isle_core.specs.ArmPlaces.{bound_within};
-ghost use Rattle.isle_core.specs.Block.{Equal};
+ghost use Rattle.isle_core.specs.Block.{Equal, Loop};
 ghost use Rattle.isle_core.specs.BlockViews as BlockViews;
 ghost use Rattle.isle_core.specs.declared.rule_sets.Constraint.TheVariants.{Some as ItIsSome};
 ghost use Rattle.isle_core.specs.Calling as Calling;
@@ -21,17 +21,18 @@ ghost use Rattle.isle_simulation.specs.Statements as Statements;
 
 use crate::lets::push_lets;
 use crate::patterns::pattern_of;
+use crate::stops::push_stop;
 use crate::telling::Telling;
 use crate::told::push_told;
 use isle_core::{
     BindingId, Block, Constraint, ControlFlow, EvalStep, List, MatchArm, OutOfMemory, ReturnKind,
 };
-use isle_operands::{Context, Typed, kind_of, operand_of, read_in, tested};
+use isle_operands::{Context, Typed, kind_of, looped_local, operand_of, read_in, tested};
 use isle_scope::Scope;
 use isle_tree::{Operand, Read, Stmt, TExpr, TPat};
 use std::alloc::{AllocError, Global};
 
-// Makes a return: of a term that may answer nothing an option.
+// Makes a return: of a term that may answer nothing an option; one of several results is appended to the others.
 fn return_of(kind: ReturnKind, read: Option<Read>) -> Option<Stmt>
     ensures { option_map stmt result ≡ Statements.return_of kind read }
 {
@@ -39,7 +40,7 @@ fn return_of(kind: ReturnKind, read: Option<Read>) -> Option<Stmt>
     match kind {
         ReturnKind::Plain => Some(Stmt::Return(TExpr::Read(read))),
         ReturnKind::Option => Some(Stmt::Return(TExpr::Some(read))),
-        ReturnKind::Iterator => None,
+        ReturnKind::Iterator => Some(Stmt::Extend(read)),
     }
 }
 
@@ -203,6 +204,25 @@ fn bind_places(bound: &mut Scope, places: &[Option<BindingId>]) -> Result<(), Al
     Ok(())
 }
 
+// Makes the loop over the list of this local, within which these statements stand.
+#[tactic(auto, using(isle_tree::proofs::Sees::sees))]
+fn loop_within(list: usize, item: usize, inside: Vec<Stmt>) -> Stmt
+    ensures { Is (stmt result) ≡ Statements.loop_of (Is list) item (onto (Is (map stmt inside.items)) (Is Done)) }
+{
+    Stmt::Loop {
+        list,
+        item,
+        body: List::new(inside),
+    }
+}
+
+// Does so where there are both.
+fn looped_stmt(list: Option<usize>, item: usize, inside: Option<Vec<Stmt>>) -> Option<Stmt>
+    ensures { option_map stmt result ≡ Statements.loop_of list item (onto (stmts_of inside) (Is Done)) }
+{
+    Some(loop_within(list?, item, inside?))
+}
+
 /// Makes the statements of a block, where its forms are built. What is bound is the same behind them.
 #[cycle(statements)]
 #[tactic(auto, using(isle_core::proofs::SeesBlocks::sees_blocks))]
@@ -243,6 +263,7 @@ fn push_step(
     };
     push_told(alloc, &typed.context, telling, &step.check, out)?;
     out.push(made)?;
+    push_stop(&typed.context, &step.check, out)?;
     Ok(true)
 }
 
@@ -286,7 +307,9 @@ fn control_stmt(
             arms_stmt(alloc, typed, telling, bound, *source, arms.as_slice())
         }
         ControlFlow::Equal { a, b, body } => equal_stmt(alloc, typed, telling, bound, *a, *b, body),
-        ControlFlow::Loop { .. } => Ok(None),
+        ControlFlow::Loop { result, body } => loop_stmt(
+            alloc, typed, telling, bound, *result, body,
+        ),
         ControlFlow::Return { result, .. } => Ok(return_stmt(alloc, typed, bound, *result)?),
     }
 }
@@ -309,7 +332,24 @@ fn equal_stmt(
     Ok(tested_stmt(equal_test(alloc, typed, bound, a, b)?, inside))
 }
 
-// Makes the statements of an arm, within which its places are bound.
+// Makes the loop over a list, within which a block stands and its item is bound.
+#[cycle(statements)]
+fn loop_stmt(
+    alloc: Global,
+    typed: &Typed<'_>,
+    telling: Option<&Telling<'_>>,
+    bound: &mut Scope,
+    item: BindingId,
+    body: &Block,
+) -> Result<Option<Stmt>, OutOfMemory>
+    ensures stmt { IfOk result (λ s. option_map stmt s ≡ made_control (telling_in (setting_in typed.now) telling.entry) (setting_in typed.now) bound.old (Loop item (BlockViews.block body.now))) }
+    ensures bound { OnOk result (bound.new ≡ bound.old) }
+{
+    let inside = arm_stmts(alloc, typed, telling, bound, &[Some(item)], body)?;
+    Ok(looped_stmt(looped_local(&typed.context, item), item.index(), inside))
+}
+
+// Makes the statements of an arm or a loop, within which these places are bound.
 #[cycle(statements)]
 fn arm_stmts(
     alloc: Global,

@@ -10,7 +10,7 @@ use Rattle.isle_simulation.specs.References.{type_at}
 abbrev pub types_in : Setting → List (Option TypeId)
 types_in s = map (type_at s.env s.term) (paths_in s)
 
--- whether a binding is of a value that is made here, or is a part of a tuple: neither is a reference
+-- whether a binding is of a value that is made here, is a part of a tuple or an item of a list: none is a reference
 abbrev pub is_owned : Option Binding → Bool
 is_owned (Some (binding.MakeVariant ty variant fields)) = true
 is_owned (Some (binding.MakeStruct ty fields)) = true
@@ -20,7 +20,7 @@ is_owned (Some (binding.ConstPrim val)) = false
 is_owned (Some (binding.Argument index)) = false
 is_owned (Some (binding.Extractor term parameter)) = false
 is_owned (Some (binding.Constructor term parameters instance)) = false
-is_owned (Some (binding.Iterator source)) = false
+is_owned (Some (binding.Iterator source)) = true
 is_owned (Some (binding.MatchVariant source variant field)) = false
 is_owned (Some (binding.ExtractStruct source field)) = false
 is_owned (Some (binding.MakeSome inner)) = false

@@ -4,6 +4,7 @@
 mod constants;
 mod context;
 mod forms;
+mod lists;
 mod operands;
 mod references;
 mod signature;
@@ -13,6 +14,7 @@ mod types;
 pub use constants::ConstTypes;
 pub use context::{Context, kind_of};
 pub use forms::{Form, field_at, field_count, struct_form, variant_form};
+pub use lists::{binds_list, looped_local};
 pub use operands::{in_place, is_bound, operand_of, tested};
 pub use references::{is_declared, is_reference, read_in, reads};
 pub use signature::{is_by_ref, params, sym_name, ty_name, ty_names};

@@ -29,13 +29,14 @@ pub fn is_declared(typed: &Typed<'_>, ty: Option<TypeId>) -> bool
     }
 }
 
-// Returns whether a binding is of a value that is made here, or is a part of a tuple.
+// Returns whether a binding is of a value that is made here, is a part of a tuple or an item of a list.
 fn is_owned(context: &Context<'_>, binding: BindingId) -> bool
     ensures { result ≡ BindingTypes.is_owned (slice_get (bindings_in context.now) binding.0) }
 {
     match context.bindings.get(binding.index()) {
         Some(Binding::MakeVariant { .. })
         | Some(Binding::MakeStruct { .. })
+        | Some(Binding::Iterator { .. })
         | Some(Binding::MatchTuple { .. }) => true,
         Some(Binding::ConstBool { .. })
         | Some(Binding::ConstInt { .. })
@@ -43,7 +44,6 @@ fn is_owned(context: &Context<'_>, binding: BindingId) -> bool
         | Some(Binding::Argument { .. })
         | Some(Binding::Extractor { .. })
         | Some(Binding::Constructor { .. })
-        | Some(Binding::Iterator { .. })
         | Some(Binding::MatchVariant { .. })
         | Some(Binding::ExtractStruct { .. })
         | Some(Binding::MakeSome { .. })

@@ -99,12 +99,12 @@ fn extractor_of(extractors: &[Option<TermId>], binding: &Binding) -> Option<Term
     match binding {
         Binding::Extractor { term, .. } => Some(*term),
         Binding::MatchSome { source } => answered_by(extractors, *source),
+        Binding::Iterator { source } => answered_by(extractors, *source),
         Binding::ConstBool { .. }
         | Binding::ConstInt { .. }
         | Binding::ConstPrim { .. }
         | Binding::Argument { .. }
         | Binding::Constructor { .. }
-        | Binding::Iterator { .. }
         | Binding::MakeVariant { .. }
         | Binding::MakeStruct { .. }
         | Binding::MatchVariant { .. }
@@ -157,11 +157,12 @@ fn binding_type(
             struct_field(context, type_of(types, *source), *field)
         }
         Binding::MatchSome { source } => type_of(types, *source),
+        Binding::Iterator { source } => type_of(types, *source),
         Binding::Extractor { term, .. } => extracted_type(context, *term),
         Binding::MatchTuple { source, field } => {
             part_type(context, answered_by(extractors, *source), *field)
         }
-        Binding::Iterator { .. } | Binding::MakeSome { .. } => None,
+        Binding::MakeSome { .. } => None,
     }
 }
 

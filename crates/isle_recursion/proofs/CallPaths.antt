@@ -7,13 +7,13 @@ use Rattle.isle_core.specs.declared.types.Term.{Term as CodeTerm}
 use Rattle.isle_core.specs.declared.types.TermKind.{TermKind}
 use Rattle.isle_core.specs.declared.types.TermKind.TheVariants as term_kind
 use Rattle.isle_core.specs.CalledTerms.{Role, Extractor, Constructor, CalledTerm, is_made_kind, is_made_term, is_made, unless_made, extracted_by, extracted_by_all, called_by, called_by_all, called_by_bindings, extracted_in, called_in_iflets, called_in, called}
-use Rattle.isle_core.specs.Calling.{calling, extracting, is_fallible, instance_of, impure, impure_all, impure_bindings}
+use Rattle.isle_core.specs.Calling.{calling, extracting, answers_often, is_fallible, instance_of, impure, impure_all, impure_bindings}
 use Rattle.isle_core.specs.Expr as expr
 use Rattle.isle_core.specs.Expr.{Expr, Exprs, NoExpr, AnExpr, LetBindings, NoBinding, ABinding}
 use Rattle.isle_core.specs.Making.{MakesNothing, making_kind, making_of}
 use Rattle.isle_core.specs.Match.{with}
 use Rattle.isle_core.specs.Opening.{Opening, opening_by, opening, part_path}
-use Rattle.isle_core.specs.Path.{Path, Arg, Called, Extracted, Inner, Paths}
+use Rattle.isle_core.specs.Path.{Path, Arg, Called, Chosen, Extracted, Inner, Paths}
 use Rattle.isle_core.specs.Pattern as pattern
 use Rattle.isle_core.specs.Pattern.{Pattern, Patterns, NoPattern, APattern}
 use Rattle.isle_core.specs.RightSide.{Places, no_places, path, paths, let_places, term_path, call_path}
@@ -76,22 +76,23 @@ module _ (env : Environment) (o : CalledTerm) where
       by true e k = absurd (none_contained o k)
       by false e k = ⊎_elim (λ is. (sym is, e)) (λ d. absurd (none_contained o d)) (contained_cases (record { term = term; role = role }) [] o k)
 
-  answer_call : (b : Bool) (p : Path) → IsCallOf o p → is_made env o.term ≡ false → HasCall env o (cond b (p ∷ Inner p ∷ []) (p ∷ []))
-  answer_call true p h e = record { answer = p; among = head_contained p (Inner p ∷ []); calls = h; unmade = e }
-  answer_call false p h e = record { answer = p; among = head_contained p []; calls = h; unmade = e }
+  answer_call : (often fallible : Bool) (p : Path) → IsCallOf o p → is_made env o.term ≡ false → HasCall env o (cond often (p ∷ Chosen p ∷ []) (cond fallible (p ∷ Inner p ∷ []) (p ∷ [])))
+  answer_call true fallible p h e = record { answer = p; among = head_contained p (Chosen p ∷ []); calls = h; unmade = e }
+  answer_call false true p h e = record { answer = p; among = head_contained p (Inner p ∷ []); calls = h; unmade = e }
+  answer_call false false p h e = record { answer = p; among = head_contained p []; calls = h; unmade = e }
 
   constructor_call : (term : TermId) (ps : Paths) (n : ℕ) → Contains (unless_made env Constructor term) o → HasCall env o (with_inner (calling env term) (call_path env term ps n))
   constructor_call term ps n c =
       let one = called_one Constructor term c in
       let k = instance_of (calling env term) n in
       subst (λ mk. HasCall env o (with_inner (calling env term) (term_path mk term ps k))) (sym (makes_nothing (slice_get env.terms term.0) one.1))
-      (answer_call (is_fallible (calling env term)) (Called term ps k) one.0 (subst (λ (x : CalledTerm). is_made env x.term ≡ false) (sym one.0) one.1))
+      (answer_call (answers_often (calling env term)) (is_fallible (calling env term)) (Called term ps k) one.0 (subst (λ (x : CalledTerm). is_made env x.term ≡ false) (sym one.0) one.1))
 
   extractor_call : (term : TermId) (p : Path) → Contains (unless_made env Extractor term) o → HasCall env o (opening_paths (opening env term) p)
   extractor_call term p c =
       let one = called_one Extractor term c in
       subst (λ mk. HasCall env o (opening_paths (opening_by term mk (extracting env term) (slice_get env.terms term.0)) p)) (sym (makes_nothing (slice_get env.terms term.0) one.1))
-      (answer_call (is_fallible (extracting env term)) (Extracted term p) one.0 (subst (λ (x : CalledTerm). is_made env x.term ≡ false) (sym one.0) one.1))
+      (answer_call (answers_often (extracting env term)) (is_fallible (extracting env term)) (Extracted term p) one.0 (subst (λ (x : CalledTerm). is_made env x.term ≡ false) (sym one.0) one.1))
 
   -- ---- expressions
 

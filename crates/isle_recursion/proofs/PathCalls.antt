@@ -8,12 +8,12 @@ use Rattle.isle_core.specs.declared.types.Term.{Term as CodeTerm}
 use Rattle.isle_core.specs.declared.types.TermKind.{TermKind}
 use Rattle.isle_core.specs.declared.types.TermKind.TheVariants as term_kind
 use Rattle.isle_core.specs.CalledTerms.{Extractor, CalledTerm, is_made_kind, is_made_term, is_made, unless_made, extracted_by, extracted_by_all, called_by, extracted_in, called_in_iflets, called_in, called}
-use Rattle.isle_core.specs.Calling.{calling, extracting, is_fallible, impure}
+use Rattle.isle_core.specs.Calling.{calling, extracting, answers_often, is_fallible, impure}
 use Rattle.isle_core.specs.Expr.{Expr}
 use Rattle.isle_core.specs.Making.{Making, MakesVariant, MakesStruct, MakesNothing, making_kind, making_of, making}
 use Rattle.isle_core.specs.OccurringConstants.{TypedConstant, expr_constants}
 use Rattle.isle_core.specs.Opening.{Opening, AsVariant, AsStruct, ByExtractor, opening_by, opening, answer_path, result_path, part_path}
-use Rattle.isle_core.specs.Path.{Path, Arg, Called, Extracted, Inner, MadeVariant, MadeStruct, Paths}
+use Rattle.isle_core.specs.Path.{Path, Arg, Called, Chosen, Extracted, Inner, MadeVariant, MadeStruct, Paths}
 use Rattle.isle_core.specs.Pattern.{Pattern, Patterns, NoPattern, APattern, Var, ConstBool, ConstInt, ConstPrim, Wildcard, Term, BindPattern, And}
 use Rattle.isle_core.specs.RightSide.{Places, no_places, path, term_path}
 use Rattle.isle_core.specs.Rule.{Environment, IfLet, Rule}
@@ -58,14 +58,15 @@ module _ (env : Environment) (terms : List CalledTerm) where
 
   -- ---- one call
 
-  answer_among : (b : Bool) (p : Path) → IsAmong terms p → AllByRecursion (IsAmong terms) (cond b (p ∷ Inner p ∷ []) (p ∷ []))
-  answer_among true p h = (h, (tt, tt))
-  answer_among false p h = (h, tt)
+  answer_among : (often fallible : Bool) (p : Path) → IsAmong terms p → AllByRecursion (IsAmong terms) (cond often (p ∷ Chosen p ∷ []) (cond fallible (p ∷ Inner p ∷ []) (p ∷ [])))
+  answer_among true fallible p h = (h, (tt, tt))
+  answer_among false true p h = (h, (tt, tt))
+  answer_among false false p h = (h, tt)
 
   constructor_among : (mk : Making) (term : TermId) (ps : Paths) (k : ℕ) → making env term ≡ mk → (is_made env term ≡ false → Contains terms (constructed term)) → AllByRecursion (IsAmong terms) (with_inner (calling env term) (term_path mk term ps k))
-  constructor_among MakesNothing term ps k e h = answer_among (is_fallible (calling env term)) (Called term ps k) (h (not_made (slice_get env.terms term.0) e))
-  constructor_among (MakesVariant ty variant) term ps k e h = answer_among (is_fallible (calling env term)) (MadeVariant ty variant ps) tt
-  constructor_among (MakesStruct ty) term ps k e h = answer_among (is_fallible (calling env term)) (MadeStruct ty ps) tt
+  constructor_among MakesNothing term ps k e h = answer_among (answers_often (calling env term)) (is_fallible (calling env term)) (Called term ps k) (h (not_made (slice_get env.terms term.0) e))
+  constructor_among (MakesVariant ty variant) term ps k e h = answer_among (answers_often (calling env term)) (is_fallible (calling env term)) (MadeVariant ty variant ps) tt
+  constructor_among (MakesStruct ty) term ps k e h = answer_among (answers_often (calling env term)) (is_fallible (calling env term)) (MadeStruct ty ps) tt
 
   parts_among : (constants : List TypedConstant) → HoldsOfParts (IsAmong terms) env terms constants
   parts_among constants = record {
@@ -87,11 +88,12 @@ module _ (env : Environment) (terms : List CalledTerm) where
   opening_paths_among : (opened : Opening) (p : Path) → IsAmongOpening terms opened → AllByRecursion (IsAmong terms) (opening_paths opened p)
   opening_paths_among (AsVariant ty variant) p h = tt
   opening_paths_among (AsStruct ty) p h = tt
-  opening_paths_among (ByExtractor term c count) p h = answer_among (is_fallible c) (Extracted term p) h
+  opening_paths_among (ByExtractor term c count) p h = answer_among (answers_often c) (is_fallible c) (Extracted term p) h
 
-  inner_among : (b : Bool) (p : Path) → IsAmong terms p → IsAmong terms (cond b (Inner p) p)
-  inner_among true p h = tt
-  inner_among false p h = h
+  inner_among : (often fallible : Bool) (p : Path) → IsAmong terms p → IsAmong terms (cond often (Chosen p) (cond fallible (Inner p) p))
+  inner_among true fallible p h = tt
+  inner_among false true p h = tt
+  inner_among false false p h = h
 
   result_among : (count i : ℕ) (p : Path) → IsAmong terms p → IsAmong terms (result_path count i p)
   result_among zero i p h = tt
@@ -101,7 +103,7 @@ module _ (env : Environment) (terms : List CalledTerm) where
   part_among : (opened : Opening) (i : ℕ) (p : Path) → IsAmongOpening terms opened → IsAmong terms (part_path opened i p)
   part_among (AsVariant ty variant) i p h = tt
   part_among (AsStruct ty) i p h = tt
-  part_among (ByExtractor term c count) i p h = result_among count i (answer_path c (Extracted term p)) (inner_among (is_fallible c) (Extracted term p) h)
+  part_among (ByExtractor term c count) i p h = result_among count i (answer_path c (Extracted term p)) (inner_among (answers_often c) (is_fallible c) (Extracted term p) h)
 
   -- ---- patterns
 

@@ -1,9 +1,9 @@
 -- The conditions of a rule are numbered one after another, and what is gathered has their tests.
-use Rattle.std.proofs.Common.{◌≡◌, ⊎_elim, ◌⊎◌, ℕ, zero, suc, ◌<◌, ◌≤◌, ◌+◌, List, [], ◌∷◌, ◌++◌, length, map, take, drop, get_or, Option, Some, None, Result, Ok, Err, refl, sym, ap, ◌∙◌, subst, arith, append_assoc, append-nil}
-use Rattle.std.specs.Prelude.{Contains, All, IsSome, OnOk, slice_get}
+use Rattle.std.proofs.Common.{◌≡◌, ⊎_elim, ◌⊎◌, ℕ, zero, suc, ◌<◌, ◌≤◌, ◌+◌, List, [], ◌∷◌, ◌++◌, length, map, take, drop, get_or, Bool, Option, Some, None, Result, Ok, Err, refl, sym, ap, ◌∙◌, subst, arith, append_assoc, append-nil}
+use Rattle.std.specs.Prelude.{Contains, All, IsSome, OnOk, slice_get, filter}
 use Rattle.std.specs.List.{AllByRecursion}
 use Rattle.std.proofs.lemmas.List.{map_more, map-append, take_all, drop_more}
-use Rattle.std.proofs.lemmas.List.Elements.{recursion_from_All, Contains-append_left, Contains-append_right, Contains-append_cases}
+use Rattle.std.proofs.lemmas.List.Elements.{filter-append, recursion_from_All, Contains-append_left, Contains-append_right, Contains-append_cases}
 use Rattle.isle_core.specs.declared.BindingId.{BindingId}
 use Rattle.isle_core.specs.declared.rules.IfLet.{IfLet as CodeIfLet}
 use Rattle.isle_core.specs.declared.types.Term.{Term}
@@ -16,7 +16,7 @@ use Rattle.isle_core.specs.RightSide.{path}
 use Rattle.isle_core.specs.RulePaths.{pattern_paths, args_paths, expr_paths, iflets_paths}
 use Rattle.isle_core.specs.RuleViews.{iflet}
 use Rattle.isle_core.specs.Scope.{variables, all_variables, let_scope, iflets_scope, IsInScope, AreInScope, AreLetsInScope, AreIfLetsInScope, IsScopedRule}
-use Rattle.isle_core.specs.Tests.{Test, Places, no_places, called_tests, tests, after, args_tests, args_after, iflets_tests, iflets_after, rule_tests, rule_places}
+use Rattle.isle_core.specs.Tests.{Test, is_constraint, Places, no_places, called_tests, tests, after, args_tests, args_after, iflets_tests, iflets_after, rule_tests, rule_places}
 use Rattle.isle_core.specs.Rule.{Environment, IfLet, Rule}
 use Rattle.isle_core.proofs.AnsweredTerms.{IsPlaced}
 use Rattle.isle_core.proofs.PlacedVariables.{rule_placed}
@@ -24,16 +24,19 @@ use Rattle.isle_scope.specs.Table.{held}
 use Rattle.isle_rulesets.specs.declared.pattern_tests.PatternTests.{PatternTests}
 use Rattle.isle_rulesets.specs.Conditions.{is_something, found_at, FindsAll, condition_paths, TakesCondition, with_iflets, NumbersRule}
 use Rattle.isle_rulesets.specs.Keys.{IsThere}
-use Rattle.isle_rulesets.specs.Numbering.{Numbered, Extends, Joins}
-use Rattle.isle_rulesets.specs.PatternTests.{path_at, HasTests, Reads, NumbersPatterns}
+use Rattle.isle_rulesets.specs.Late.{HasNoTurns}
+use Rattle.isle_rulesets.specs.Met.{expr_lists, pattern_lists, args_lists, condition_lists, iflets_lists}
+use Rattle.isle_rulesets.specs.Numbering.{Numbered, Extends, Joins, MeetsLists}
+use Rattle.isle_rulesets.specs.PatternTests.{is_equality, path_at, HasTests, Reads, NumbersPatterns}
 use Rattle.isle_rulesets.specs.RightSides.{Variables, names, StandsAt, Stand, AreThere, NumbersExpr, Given}
-use Rattle.isle_rulesets.proofs.ConditionCalls.{none_impure, path_same, all_same, calls_asked}
+use Rattle.isle_rulesets.proofs.ConditionCalls.{none_impure, path_same, all_same, lists_same, SkipsItems, path_turn, calls_asked}
 use Rattle.isle_rulesets.proofs.ExprPlaces.{after_push, built_with, rule_lone}
 use Rattle.isle_rulesets.proofs.FlatTests.{at_there}
 use Rattle.isle_rulesets.proofs.LetLaws.{held_named}
 use Rattle.isle_rulesets.proofs.PatternTestLaws.{TakesIn, joins_then, reads_then, env_of}
 use Rattle.isle_rulesets.proofs.PlacedPaths.{extends_self, extends_more}
 use Rattle.isle_rulesets.proofs.RightSideLaws.{stand_there, there_stand, places_of}
+use Rattle.isle_rulesets.proofs.TurnLaws.{after_turn, first_turn}
 use Rattle.isle_rulesets.proofs.VariablePlaces.{AreLone, place_lone}
 
 -- ---- the calls of a condition
@@ -59,8 +62,8 @@ finds_all d e bs i le h = subst (FindsAll d e) (take_all i bs le) h
 -- its expression and its pattern
 condition_taken : (terms : List Term) (old mid new : Numbered) (d found e : PatternTests) (none calls : List BindingId) (c : IfLet) (value : BindingId) → IsBuiltIfLet terms c → none ≡ [] → Given terms d.variables old mid none calls c.rhs value → FindsAll d found calls → TakesIn terms mid new found e c.lhs value
     → (env : Environment) → env.terms ≡ terms → TakesCondition env old new d e c
-condition_taken terms old mid new d found e none calls c value built start given finds takes env same places stand =
-    reads_then old mid new d found e (expr_paths env c.rhs places 0) (pattern_paths env c.lhs p) (λ others. others) (after env c.lhs p) (λ others. called_tests env c.rhs places) (tests env c.lhs p) asked
+condition_taken terms old mid new d found e none calls c value built start given finds takes env same places stand untimed =
+    reads_then old mid new d found e (expr_paths env c.rhs places 0) (pattern_paths env c.lhs p) (expr_lists env c.rhs places 0) (pattern_lists env c.lhs p) (λ others. others) (after env c.lhs p) (λ others. called_tests env c.rhs places) (tests env c.lhs p) asked
     (takes env same p (subst (λ q. slice_get (paths_of mid.bindings) value.0 ≡ Some q) (path_same env terms same c.rhs places old.calls 0 built.calls) n.found))
   where
     p : Path
@@ -78,18 +81,26 @@ condition_taken terms old mid new d found e none calls c value built start given
         more : (k : ℕ) → k + 0 ≡ k
         more k = omega arith
 
-    found_are : (qs : List Path) → Extends (paths_of mid.bindings) qs → found_at qs calls ≡ called_tests env c.rhs places
-    found_are qs x = ap (map is_something) (n.grows.ordered qs x) ∙ calls_asked env terms same c.rhs places old.calls built.calls
+    lists_here : expr_lists env c.rhs places old.calls ≡ expr_lists env c.rhs places 0
+    lists_here = lists_same env terms same c.rhs places old.calls 0 built.calls
 
-    asked : Reads old mid d found (expr_paths env c.rhs places 0) (λ others. others) (λ others. called_tests env c.rhs places)
+    found_are : (keep : Test → Bool) (qs : List Path) → SkipsItems keep → Extends (paths_of mid.bindings) qs → filter keep (found_at qs calls) ≡ filter keep (called_tests env c.rhs places)
+    found_are keep qs skips x = ap (λ ps. filter keep (map is_something ps)) (n.grows.ordered qs x) ∙ calls_asked env terms same keep c.rhs places old.calls skips untimed built.calls
+
+    asked_alike : (keep : Test → Bool) (qs : List Path) (ts : List Test) → SkipsItems keep → Extends (paths_of mid.bindings) qs → filter keep (ts ++ found_at qs calls) ≡ filter keep (ts ++ called_tests env c.rhs places)
+    asked_alike keep qs ts skips x = filter-append keep ts (found_at qs calls) ∙ ap (λ us. filter keep ts ++ us) (found_are keep qs skips x) ∙ sym (filter-append keep ts (called_tests env c.rhs places))
+
+    asked : Reads old mid d found (expr_paths env c.rhs places 0) (expr_lists env c.rhs places 0) (λ others. others) (λ others. called_tests env c.rhs places)
     asked = record {
       joins = record {
         extends = n.grows.extends;
         only = λ q k. subst (λ ps. Contains (paths_of old.bindings) q ⊎ Contains ps q) here (n.grows.only q k);
         all = λ q k. n.grows.all q (subst (λ ps. Contains ps q) (sym here) k);
         calls = n.grows.calls ∙ uncounted;
+        lists = subst (MeetsLists old mid) lists_here n.grows.lists;
       };
-      gathers = λ qs x others ts h. subst (λ us. HasTests qs others (ts ++ us) found) (found_are qs x) (finds qs others ts h);
+      gathers = λ qs x others ts h. let k = finds qs others ts h in
+          record { knows = k.knows; constraints = k.constraints ∙ asked_alike is_constraint qs ts (λ p. refl) x; equals = k.equals ∙ asked_alike is_equality qs ts (λ p. refl) x };
     }
 
 -- so where the pattern is read last
@@ -158,6 +169,19 @@ paths_push env (d ∷ cs) c places =
     let rest = after env d.lhs (path env d.rhs places 0) places in
     ap (λ ps. condition_paths env d places ++ ps) (paths_push env cs c rest) ∙ sym (append_assoc (condition_paths env d places) (iflets_paths env cs rest) (condition_paths env c (iflets_after env cs rest)))
 
+lists_push : (env : Environment) (cs : List IfLet) (c : IfLet) (places : Places) → iflets_lists env (cs ++ c ∷ []) places ≡ iflets_lists env cs places ++ condition_lists env c (iflets_after env cs places)
+lists_push env [] c places = append-nil (condition_lists env c places)
+lists_push env (d ∷ cs) c places =
+    let rest = after env d.lhs (path env d.rhs places 0) places in
+    ap (λ ls. condition_lists env d places ++ ls) (lists_push env cs c rest) ∙ sym (append_assoc (condition_lists env d places) (iflets_lists env cs rest) (condition_lists env c (iflets_after env cs rest)))
+
+-- the variables in front of each condition hold no impure call
+iflets_turn : (env : Environment) (cs : List IfLet) (places : Places) → AllByRecursion (IsBuiltIfLet env.terms) cs → HasNoTurns places → HasNoTurns (iflets_after env cs places)
+iflets_turn env [] places b w = w
+iflets_turn env (c ∷ cs) places b w =
+    let p = path env c.rhs places 0 in
+    iflets_turn env cs (after env c.lhs p places) b.1 (after_turn c.lhs env p places (path_turn env env.terms refl c.rhs places 0 w b.0.calls) w)
+
 var_stands : (ps : List Path) (o : Option BindingId) (q : Option Path) → path_at ps o ≡ q → ((p : Path) → q ≡ Some p → p ≡ Nowhere → ⊥) → StandsAt ps o q
 var_stands ps None None e h = tt
 var_stands ps (Some b) (Some p) e h = at_there ps b.0 p (h p refl) (some_same (at ps b) p e)
@@ -171,10 +195,11 @@ var_stands ps (Some b) None e h = cc
 known_stand : (env : Environment) (new : Numbered) (places : Places) (ts : List Test) (d : PatternTests) → HasTests (paths_of new.bindings) places ts d → AreLone env places → Stand (paths_of new.bindings) d.variables places
 known_stand env new places ts d h w = record { by = λ x. var_stands (paths_of new.bindings) (held d.variables x) (places x) (h.knows.by x) (λ p e. (w x p e).0) }
 
-rule_next : (env : Environment) (old now new : Numbered) (d e : PatternTests) (r : Rule) (cs : List IfLet) (c : IfLet) → AreLone env (rule_places env (with_iflets r (cs ++ c ∷ []))) → NumbersRule env old now (with_iflets r cs) d → TakesCondition env now new d e c
+rule_next : (env : Environment) (old now new : Numbered) (d e : PatternTests) (r : Rule) (cs : List IfLet) (c : IfLet) → AreLone env (rule_places env (with_iflets r (cs ++ c ∷ []))) → HasNoTurns (rule_places env (with_iflets r cs)) → NumbersRule env old now (with_iflets r cs) d → TakesCondition env now new d e c
     → NumbersRule env old new (with_iflets r (cs ++ c ∷ [])) e
-rule_next env old now new d e r cs c w n t = record {
-  joins = subst (Joins old new) all_paths (joins_then old now new (args_paths env r.args 0 ++ iflets_paths env cs start) (condition_paths env c places) n.joins k.joins);
+rule_next env old now new d e r cs c w untimed n t = record {
+  joins = subst (λ ps. Joins old new ps (args_lists env r.args 0 ++ iflets_lists env (cs ++ c ∷ []) start)) all_paths (subst (Joins old new ((args_paths env r.args 0 ++ iflets_paths env cs start) ++ condition_paths env c places)) all_lists
+      (joins_then old now new (args_paths env r.args 0 ++ iflets_paths env cs start) (condition_paths env c places) (args_lists env r.args 0 ++ iflets_lists env cs start) (condition_lists env c places) n.joins k.joins));
   tests = λ ps x. has ps x;
   stand = known_stand env new (rule_places env (with_iflets r (cs ++ c ∷ []))) (rule_tests env (with_iflets r (cs ++ c ∷ []))) e (has (paths_of new.bindings) (extends_self (paths_of new.bindings))) w;
 }
@@ -188,11 +213,14 @@ rule_next env old now new d e r cs c w n t = record {
     own : List Test
     own = called_tests env c.rhs places ++ tests env c.lhs (path env c.rhs places 0) places
 
-    k : Reads now new d e (condition_paths env c places) (after env c.lhs (path env c.rhs places 0)) (λ others. called_tests env c.rhs places ++ tests env c.lhs (path env c.rhs places 0) others)
-    k = t places n.stand
+    k : Reads now new d e (condition_paths env c places) (condition_lists env c places) (after env c.lhs (path env c.rhs places 0)) (λ others. called_tests env c.rhs places ++ tests env c.lhs (path env c.rhs places 0) others)
+    k = t places n.stand untimed
 
     all_paths : (args_paths env r.args 0 ++ iflets_paths env cs start) ++ condition_paths env c places ≡ args_paths env r.args 0 ++ iflets_paths env (cs ++ c ∷ []) start
     all_paths = append_assoc (args_paths env r.args 0) (iflets_paths env cs start) (condition_paths env c places) ∙ ap (λ ps. args_paths env r.args 0 ++ ps) (sym (paths_push env cs c start))
+
+    all_lists : (args_lists env r.args 0 ++ iflets_lists env cs start) ++ condition_lists env c places ≡ args_lists env r.args 0 ++ iflets_lists env (cs ++ c ∷ []) start
+    all_lists = append_assoc (args_lists env r.args 0) (iflets_lists env cs start) (condition_lists env c places) ∙ ap (λ ls. args_lists env r.args 0 ++ ls) (sym (lists_push env cs c start))
 
     all_tests : (args_tests env r.args 0 no_places ++ iflets_tests env cs start) ++ own ≡ rule_tests env (with_iflets r (cs ++ c ∷ []))
     all_tests = append_assoc (args_tests env r.args 0 no_places) (iflets_tests env cs start) own ∙ ap (λ ts. args_tests env r.args 0 no_places ++ ts) (sym (tests_push env cs c start))
@@ -263,7 +291,7 @@ module _ (terms : List Term) (old : Numbered) (r : Rule) (cs : List CodeIfLet) (
   -- behind the arguments
   pub behind_first : (mid : Numbered) (d : PatternTests) → ((env : Environment) → env.terms ≡ terms → NumbersPatterns env old mid r.args d) → SoFar terms old r cs mid d 0
   behind_first mid d numbered env same = record {
-    joins = subst (Joins old mid) (sym (append-nil (args_paths env r.args 0))) h.joins;
+    joins = subst (λ ps. Joins old mid ps (args_lists env r.args 0 ++ [])) (sym (append-nil (args_paths env r.args 0))) (subst (Joins old mid (args_paths env r.args 0)) (sym (append-nil (args_lists env r.args 0))) h.joins);
     tests = λ ps x. has ps x;
     stand = known_stand env mid start (args_tests env r.args 0 no_places ++ []) d (has (paths_of mid.bindings) (extends_self (paths_of mid.bindings))) (place_lone env r.args (recursion_from_All (IsBuiltPattern env.terms) r.args (subst (λ ts. All (IsBuiltPattern ts) r.args) (sym same) built.args)));
   }
@@ -282,8 +310,9 @@ module _ (terms : List Term) (old : Numbered) (r : Rule) (cs : List CodeIfLet) (
   behind_next now new d e i x lt is h t env same =
       let front = map iflet (take i cs) in
       let lone = rule_lone env (with_iflets r (map iflet (take (i + 1) cs))) (subst (λ ts. IsBuiltRule ts (with_iflets r (map iflet (take (i + 1) cs)))) (sym same) (front_built (i + 1))) (front_known (i + 1)) in
+      let untimed = iflets_turn env front (args_after env r.args 0 no_places) (recursion_from_All (IsBuiltIfLet env.terms) front (subst (λ ts. All (IsBuiltIfLet ts) front) (sym same) (front_built i).iflets)) (first_turn env r.args) in
       subst (λ ys. NumbersRule env old new (with_iflets r ys) e) (sym (one_more cs i x lt is))
-      (rule_next env old now new d e r front (iflet x) (subst (λ ys. AreLone env (rule_places env (with_iflets r ys))) (one_more cs i x lt is) lone) (h env same) (t env same))
+      (rule_next env old now new d e r front (iflet x) (subst (λ ys. AreLone env (rule_places env (with_iflets r ys))) (one_more cs i x lt is) lone) untimed (h env same) (t env same))
 
   -- behind the last one
   pub behind_all : (now : Numbered) (d : PatternTests) (i : ℕ) → length cs ≤ i → SoFar terms old r cs now d i → NumbersRuleIn terms old now (with_iflets r (map iflet cs)) d

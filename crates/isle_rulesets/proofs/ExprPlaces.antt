@@ -1,16 +1,15 @@
 -- What a built expression gives calls no term that answers several times, and stands somewhere where its variables do; so do the
 -- values and the variables of conditions.
 use Rattle.std.proofs.Common.{◌≡◌, ⊎_elim, ℕ, ◌+◌, List, [], ◌∷◌, ◌++◌, Bool, true, false, cond, eqb, Option, Some, None, refl, sym, ap, ◌∙◌, subst}
-use Rattle.std.specs.Prelude.{Contains, IsSomeAnd, slice_get}
+use Rattle.std.specs.Prelude.{Contains}
 use Rattle.std.specs.List.{AllByRecursion}
 use Rattle.std.proofs.lemmas.List.Elements.{All-from_recursion, recursion_from_All, Contains-append_cases}
 use Rattle.isle_core.specs.declared.TermId.{TermId}
 use Rattle.isle_core.specs.declared.types.Term.{Term}
-use Rattle.isle_core.specs.declared.types.TermKind.{TermKind}
 use Rattle.isle_core.specs.declared.types.TermKind.TheVariants as kind
 use Rattle.isle_core.specs.declared.types.ConstructorKind.TheVariants as constructor
-use Rattle.isle_core.specs.BuiltRule.{IsBuiltPattern, IsBuiltIfLet, IsBuiltRule, IsBuiltKind, HasBuiltTerms, BindingsHaveBuiltTerms}
-use Rattle.isle_core.specs.Calling.{calling, calling_of, calling_by, kind_of, pure_callee, answers_often, is_fallible, impure, impure_bindings}
+use Rattle.isle_core.specs.BuiltRule.{IsBuiltPattern, IsBuiltIfLet, IsBuiltRule, HasBuiltTerms, BindingsHaveBuiltTerms}
+use Rattle.isle_core.specs.Calling.{calling, answers_often, is_fallible, impure, impure_bindings}
 use Rattle.isle_core.specs.Expr as expr
 use Rattle.isle_core.specs.Expr.{Expr, LetBindings, NoBinding, ABinding}
 use Rattle.isle_core.specs.Iterators.{calls_multi}
@@ -19,7 +18,6 @@ use Rattle.isle_core.specs.Match.{with}
 use Rattle.isle_core.specs.Path.{Path, Paths, Nowhere}
 use Rattle.isle_core.specs.RightSide.{path_or, term_path, answer_path, path, paths, let_places}
 use Rattle.isle_core.specs.Scope.{variables, all_variables, let_scope, iflets_scope, IsInScope, AreLetsInScope, AreIfLetsInScope}
-use Rattle.isle_core.specs.Terms.{impure_callee}
 use Rattle.isle_core.specs.Tests.{Places, no_places, after, args_after, iflets_after, rule_places}
 use Rattle.isle_core.specs.Rule.{Environment, IfLet, Rule}
 use Rattle.isle_core.proofs.AnsweredTerms.{IsPlaced}
@@ -29,28 +27,6 @@ use Rattle.isle_rulesets.specs.Conditions.{with_iflets}
 use Rattle.isle_rulesets.proofs.ConditionCalls.{terms_built}
 use Rattle.isle_rulesets.proofs.LetLaws.{itself}
 use Rattle.isle_rulesets.proofs.VariablePlaces.{IsLone, AreLone, met_lone, after_lone, place_lone}
-
--- a built kind answers at most once
-once_by : (env : Environment) (t : Term) (k : TermKind) → IsBuiltKind k → answers_often (calling_by (kind_of k) (impure_callee env t k) (pure_callee env t k)) ≡ false
-once_by env t (kind.Decl false false true recursive constructor.Internal extractor) h = refl
-once_by env t (kind.Decl false false false recursive constructor.Internal extractor) h = refl
-once_by env t (kind.Decl false false true recursive (constructor.External func) extractor) h = refl
-once_by env t (kind.Decl false false false recursive (constructor.External func) extractor) h = refl
-once_by env t (kind.Decl true false true recursive constructor.Internal extractor) h = refl
-once_by env t (kind.Decl true false false recursive constructor.Internal extractor) h = refl
-once_by env t (kind.Decl true false true recursive (constructor.External func) extractor) h = refl
-once_by env t (kind.Decl true false false recursive (constructor.External func) extractor) h = refl
-once_by env t (kind.Decl pure false partial recursive constructor.Absent extractor) h = absurd h
-once_by env t (kind.Decl pure true partial recursive by extractor) h = absurd h
-once_by env t (kind.Variant ty variant) h = refl
-once_by env t (kind.Struct ty) h = refl
-
-once_of : (env : Environment) (o : Option Term) → IsSomeAnd o (λ (t : Term). IsBuiltKind t.kind) → answers_often (calling_of env o) ≡ false
-once_of env None h = absurd h
-once_of env (Some t) h = once_by env t t.kind h
-
-pub called_once : (env : Environment) (terms : List Term) (term : TermId) → env.terms ≡ terms → IsSomeAnd (slice_get terms term.0) (λ (t : Term). IsBuiltKind t.kind) → answers_often (calling env term) ≡ false
-called_once env terms term same h = once_of env (slice_get env.terms term.0) (subst (λ ts. IsSomeAnd (slice_get ts term.0) (λ (t : Term). IsBuiltKind t.kind)) (sym same) h)
 
 -- ---- values that call no such term
 
@@ -74,11 +50,12 @@ pub with_plain : (env : Environment) (places : Places) (x : ℕ) (q : Path) → 
 with_plain env places x q w h y p e = some_plain env (eqb x y) q (places y) p h (w y p) e
 
 -- the value of a term is none
-answer_none : (env : Environment) (mk : Making) (term : TermId) (ps : Paths) (n : ℕ) (fallible : Bool) → is_fallible (calling env term) ≡ fallible → answers_often (calling env term) ≡ false → calls_multi env (answer_path (calling env term) (term_path mk term ps n)) ≡ false
-answer_none env mk term ps n true e h = rw e refl
-answer_none env (MakesVariant ty variant) term ps n false e h = rw e refl
-answer_none env (MakesStruct ty) term ps n false e h = rw e refl
-answer_none env MakesNothing term ps n false e h = rw e h
+answer_none : (env : Environment) (mk : Making) (term : TermId) (ps : Paths) (n : ℕ) (often fallible : Bool) → answers_often (calling env term) ≡ often → is_fallible (calling env term) ≡ fallible → calls_multi env (answer_path (calling env term) (term_path mk term ps n)) ≡ false
+answer_none env mk term ps n true fallible o e = rw o refl
+answer_none env mk term ps n false true o e = rw (o, e) refl
+answer_none env (MakesVariant ty variant) term ps n false false o e = rw (o, e) refl
+answer_none env (MakesStruct ty) term ps n false false o e = rw (o, e) refl
+answer_none env MakesNothing term ps n false false o e = rw (o, e) o
 
 -- nor is that of an expression
 mutual
@@ -87,7 +64,7 @@ mutual
   value_none (expr.ConstBool v) env terms places n same w i = refl
   value_none (expr.ConstInt ty v) env terms places n same w i = refl
   value_none (expr.ConstPrim ty name) env terms places n same w i = refl
-  value_none (expr.Term ty term es) env terms places n same w i = answer_none env (making env term) term (paths env es places n) _ (is_fallible (calling env term)) refl (called_once env terms term same i.0)
+  value_none (expr.Term ty term es) env terms places n same w i = answer_none env (making env term) term (paths env es places n) _ (answers_often (calling env term)) (is_fallible (calling env term)) refl refl
   value_none (expr.Let ty bs inner) env terms places n same w i = value_none inner env terms (let_places env bs places n) (n + impure_bindings env bs) same (lets_plain bs env terms places n same w i.0) i.1
 
   pub lets_plain : (bs : LetBindings) (env : Environment) (terms : List Term) (places : Places) (n : ℕ) → env.terms ≡ terms → ArePlain env places → BindingsHaveBuiltTerms terms bs → ArePlain env (let_places env bs places n)
@@ -124,9 +101,10 @@ term_somewhere (MakesVariant ty variant) term ps n e = cc
 term_somewhere (MakesStruct ty) term ps n e = cc
 term_somewhere MakesNothing term ps n e = cc
 
-answer_somewhere : (env : Environment) (mk : Making) (term : TermId) (ps : Paths) (n : ℕ) (fallible : Bool) → is_fallible (calling env term) ≡ fallible → answer_path (calling env term) (term_path mk term ps n) ≡ Nowhere → ⊥
-answer_somewhere env mk term ps n true e = rw e (λ f. cc)
-answer_somewhere env mk term ps n false e = rw e (term_somewhere mk term ps n)
+answer_somewhere : (env : Environment) (mk : Making) (term : TermId) (ps : Paths) (n : ℕ) (often fallible : Bool) → answers_often (calling env term) ≡ often → is_fallible (calling env term) ≡ fallible → answer_path (calling env term) (term_path mk term ps n) ≡ Nowhere → ⊥
+answer_somewhere env mk term ps n true fallible o e = rw o (λ f. cc)
+answer_somewhere env mk term ps n false true o e = rw (o, e) (λ f. cc)
+answer_somewhere env mk term ps n false false o e = rw (o, e) (term_somewhere mk term ps n)
 
 mutual
   pub value_lone : (e : Expr) (env : Environment) (terms : List Term) (scope : List ℕ) (places : Places) (n : ℕ) → env.terms ≡ terms → AreLone env places → ArePlaced scope places → IsInScope scope e → HasBuiltTerms terms e → IsLone env (path env e places n)
@@ -135,7 +113,7 @@ mutual
   value_lone (expr.ConstInt ty v) env terms scope places n same w a s i = (λ f. cc, refl)
   value_lone (expr.ConstPrim ty name) env terms scope places n same w a s i = (λ f. cc, refl)
   value_lone (expr.Term ty term es) env terms scope places n same w a s i =
-      (answer_somewhere env (making env term) term (paths env es places n) _ (is_fallible (calling env term)) refl, answer_none env (making env term) term (paths env es places n) _ (is_fallible (calling env term)) refl (called_once env terms term same i.0))
+      (answer_somewhere env (making env term) term (paths env es places n) _ (answers_often (calling env term)) (is_fallible (calling env term)) refl refl, answer_none env (making env term) term (paths env es places n) _ (answers_often (calling env term)) (is_fallible (calling env term)) refl refl)
   value_lone (expr.Let ty bs inner) env terms scope places n same w a s i =
       let inside = lets_lone bs env terms scope places n same w a s.0 i.0 in
       value_lone inner env terms (let_scope scope bs) (let_places env bs places n) (n + impure_bindings env bs) same inside.0 inside.1 s.1 i.1

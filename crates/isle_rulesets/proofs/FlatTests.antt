@@ -6,7 +6,7 @@ use Rattle.std.proofs.lemmas.List.Elements.{All-contains, All-from_recursion, Co
 use Rattle.isle_core.specs.declared.BindingId.{BindingId}
 use Rattle.isle_core.specs.declared.rule_sets.Constraint.{Constraint}
 use Rattle.isle_core.specs.Path.{Path, Nowhere, at}
-use Rattle.isle_core.specs.Tests.{Test, Is, Equal, Never, is_constraint}
+use Rattle.isle_core.specs.Tests.{Test, Is, Equal, HasItem, is_constraint}
 use Rattle.isle_core.specs.RuleSet.{is_test, equal_test}
 use Rattle.isle_core.specs.StandsFor.{EachOnce, AreFirsts, IsTrivial}
 use Rattle.isle_core.proofs.Contained.{none_contained}
@@ -36,7 +36,7 @@ equal_parts p q r s e = (cc, cc)
 one_kind : (t : Test) → is_constraint t ≡ true → is_equality t ≡ true → ⊥
 one_kind (Is p c) e f = cc
 one_kind (Equal p q) e f = cc
-one_kind Never e f = cc
+one_kind (HasItem p) e f = cc
 
 -- an equality with two numbers, or with one
 two_or_one : (e : BindingId × BindingId) → (are_two e ≡ true) ⊎ (e.0 ≡ e.1)
@@ -95,7 +95,7 @@ module _ (ps : List Path) (once : EachOnce ps) (ts : List Test) (stand : (t : Te
           ap (λ n. (n, x.1)) (there_once ps x.0 y.0 once a.0 b.0 k.0) ∙ ap (λ n. (y.0, n)) (there_once ps x.1 y.1 once a.1 b.1 k.1)
 
   module _ (cs fcs : List (BindingId × Constraint)) (es fes : List (BindingId × BindingId)) (same_cs : map (is_test ps) cs ≡ filter is_constraint ts) (same_es : map (equal_test ps) es ≡ filter is_equality ts) (first_cs : AreFirsts [] cs fcs) (first_es : AreFirsts [] (filter are_two es) fes) where
-    -- a rule's test is one of the flat rule, or equates a path with itself
+    -- a rule's test is one of the flat rule, or equates a path with itself, or is of an item
     pub tests_kept : (t : Test) → Contains ts t → Contains (map (is_test ps) fcs ++ map (equal_test ps) fes) t ⊎ IsTrivial t
     tests_kept (Is p c) k = inl (Contains-append_left (map (is_test ps) fcs) (map (equal_test ps) fes) (Is p c) (firsts_keep (filter is_constraint ts) (map (is_test ps) fcs) (Is p c) (constraints_first cs fcs same_cs first_cs) (filter_keeps is_constraint ts (Is p c) refl k)))
     tests_kept (Equal p q) k =
@@ -103,7 +103,7 @@ module _ (ps : List Path) (once : EachOnce ps) (ts : List Test) (stand : (t : Te
         ⊎_elim
         (λ two. inl (Contains-append_right (map (is_test ps) fcs) (map (equal_test ps) fes) (Equal p q) (subst (Contains (map (equal_test ps) fes)) h.2 (map_contains (equal_test ps) fes h.0 (firsts_keep (filter are_two es) fes h.0 first_es (filter_keeps are_two es h.0 two h.1))))))
         (λ one. let k = equal_parts (at ps h.0.0) (at ps h.0.1) p q h.2 in inr (sym k.0 ∙ ap (at ps) one ∙ k.1)) (two_or_one h.0)
-    tests_kept Never k = absurd (stand Never k)
+    tests_kept (HasItem p) k = inr tt
 
     -- a flat rule's test is one of the rule, and equates no path with itself
     pub tests_from : (t : Test) → Contains (map (is_test ps) fcs ++ map (equal_test ps) fes) t → Contains ts t × (IsTrivial t → ⊥)
@@ -113,7 +113,7 @@ module _ (ps : List Path) (once : EachOnce ps) (ts : List Test) (stand : (t : Te
         constraint_apart : (t : Test) → is_constraint t ≡ true → IsTrivial t → ⊥
         constraint_apart (Is p c) e h = absurd h
         constraint_apart (Equal p q) e h = cc
-        constraint_apart Never e h = absurd h
+        constraint_apart (HasItem p) e h = cc
 
         equal_from : (e : BindingId × BindingId) × Contains fes e × (equal_test ps e ≡ t) → Contains ts t × (IsTrivial t → ⊥)
         equal_from k =

@@ -10,7 +10,7 @@ use Rattle.isle_core.specs.declared.TermId.{TermId}
 use Rattle.isle_core.specs.declared.TupleIndex.{TupleIndex}
 use Rattle.isle_core.specs.declared.TypeId.{TypeId}
 use Rattle.isle_core.specs.declared.VariantId.{VariantId}
-use Rattle.isle_core.specs.Path.{Path, Paths, Extracted, Called, MadeVariant, MadeStruct, VariantField, StructField, Inner, Part, at, at_all}
+use Rattle.isle_core.specs.Path.{Path, Paths, Extracted, Called, Chosen, MadeVariant, MadeStruct, VariantField, StructField, Inner, Part, at, at_all}
 use Rattle.isle_core.specs.StandsFor.{EachOnce}
 use Rattle.isle_rulesets.specs.declared.keys.Key.{Key}
 use Rattle.isle_rulesets.specs.declared.keys.Key.TheVariants as key
@@ -109,6 +109,7 @@ key_equal (key.MatchVariant a v i) (key.MatchVariant b w j) e = match_same a b v
 key_equal (key.ExtractStruct a i) (key.ExtractStruct b j) e = extract_same a b i j e
 key_equal (key.MakeVariant s v xs) (key.MakeVariant t w ys) e = variant_key_same s t v w xs ys e
 key_equal (key.MakeStruct s xs) (key.MakeStruct t ys) e = struct_key_same s t xs ys e
+key_equal (key.Iterator a) (key.Iterator b) e = ap key.Iterator (number_same a b e)
 key_equal (key.MatchSome a) (key.MatchSome b) e = ap key.MatchSome (number_same a b e)
 key_equal (key.MatchTuple a i) (key.MatchTuple b j) e = tuple_same a b i j e
 key_equal k q e = cc
@@ -173,6 +174,12 @@ constructor_path_same ps s t xs ys once h k e =
     term : (qs rs : Paths) → Called s qs 0 ≡ Called t rs 0 → s ≡ t
     term qs rs f = cc
 
+item_path_same : (ps : List Path) (a b : BindingId) → EachOnce ps → IsThere ps a → IsThere ps b → Chosen (at ps a) ≡ Chosen (at ps b) → key.Iterator a ≡ key.Iterator b
+item_path_same ps a b once h k e = ap key.Iterator (there_once ps a b once h k (inner (at ps a) (at ps b) e))
+  where
+    inner : (p q : Path) → Chosen p ≡ Chosen q → p ≡ q
+    inner p q f = cc
+
 some_path_same : (ps : List Path) (a b : BindingId) → EachOnce ps → IsThere ps a → IsThere ps b → Inner (at ps a) ≡ Inner (at ps b) → key.MatchSome a ≡ key.MatchSome b
 some_path_same ps a b once h k e = ap key.MatchSome (there_once ps a b once h k (inner (at ps a) (at ps b) e))
   where
@@ -228,6 +235,7 @@ path_same ps (key.MatchVariant a v i) (key.MatchVariant b w j) once h g e = matc
 path_same ps (key.ExtractStruct a i) (key.ExtractStruct b j) once h g e = extract_path_same ps a b i j once h g e
 path_same ps (key.MakeVariant s v xs) (key.MakeVariant t w ys) once h g e = variant_path_same ps s t v w xs ys once h g e
 path_same ps (key.MakeStruct s xs) (key.MakeStruct t ys) once h g e = struct_path_same ps s t xs ys once h g e
+path_same ps (key.Iterator a) (key.Iterator b) once h g e = item_path_same ps a b once h g e
 path_same ps (key.MatchSome a) (key.MatchSome b) once h g e = some_path_same ps a b once h g e
 path_same ps (key.MatchTuple a i) (key.MatchTuple b j) once h g e = tuple_path_same ps a b i j once h g e
 path_same ps k q once h g e = cc
@@ -245,6 +253,7 @@ parts_kept ps qs (key.MatchVariant a v i) x h = there_kept ps qs a x h
 parts_kept ps qs (key.ExtractStruct a i) x h = there_kept ps qs a x h
 parts_kept ps qs (key.MakeVariant s v xs) x h = all_there_kept ps qs xs x h
 parts_kept ps qs (key.MakeStruct s xs) x h = all_there_kept ps qs xs x h
+parts_kept ps qs (key.Iterator a) x h = there_kept ps qs a x h
 parts_kept ps qs (key.MatchSome a) x h = there_kept ps qs a x h
 parts_kept ps qs (key.MatchTuple a i) x h = there_kept ps qs a x h
 
@@ -260,6 +269,7 @@ path_kept ps qs (key.MatchVariant a v i) x h = ap (VariantField v i.0) (at_same 
 path_kept ps qs (key.ExtractStruct a i) x h = ap (StructField i.0) (at_same ps qs a x h)
 path_kept ps qs (key.MakeVariant s v xs) x h = ap (MadeVariant s v) (all_at_same ps qs xs x h)
 path_kept ps qs (key.MakeStruct s xs) x h = ap (MadeStruct s) (all_at_same ps qs xs x h)
+path_kept ps qs (key.Iterator a) x h = ap Chosen (at_same ps qs a x h)
 path_kept ps qs (key.MatchSome a) x h = ap Inner (at_same ps qs a x h)
 path_kept ps qs (key.MatchTuple a i) x h = ap (Part i.0) (at_same ps qs a x h)
 
@@ -275,5 +285,6 @@ not_called ps n (key.MatchVariant a v i) h = h
 not_called ps n (key.ExtractStruct a i) h = h
 not_called ps n (key.MakeVariant s v xs) h = h
 not_called ps n (key.MakeStruct s xs) h = h
+not_called ps n (key.Iterator a) h = h
 not_called ps n (key.MatchSome a) h = h
 not_called ps n (key.MatchTuple a i) h = h

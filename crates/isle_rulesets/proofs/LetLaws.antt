@@ -19,7 +19,6 @@ use Rattle.isle_core.specs.BuiltRule.{HasBuiltTerms, BindingsHaveBuiltTerms}
 use Rattle.isle_core.specs.Calling.{impure, impure_bindings}
 use Rattle.isle_core.specs.Match.{with}
 use Rattle.isle_core.specs.Path.{Path, paths_of}
-use Rattle.isle_core.specs.OrderedCalls.{calls, calls_bindings}
 use Rattle.isle_core.specs.RightSide.{path, let_places}
 use Rattle.isle_core.specs.RulePaths.{expr_paths, bindings_paths}
 use Rattle.isle_core.specs.Rule.{Environment}
@@ -27,6 +26,7 @@ use Rattle.isle_core.specs.Scope.{let_scope, IsInScope, AreLetsInScope}
 use Rattle.isle_core.specs.Tests.{Places}
 use Rattle.isle_core.proofs.Contained.{contained_cases, none_contained, head_contained, tail_contained}
 use Rattle.isle_scope.specs.Table.{newest, held}
+use Rattle.isle_rulesets.specs.Met.{expr_calls, bindings_calls, expr_lists, bindings_lists}
 use Rattle.isle_rulesets.specs.Numbering.{Numbered}
 use Rattle.isle_rulesets.specs.RightSides.{Variables, names, bound, StandsAt, Stand, AreThere, Grows, NumbersExpr, NumbersLets, Given, Binds}
 use Rattle.isle_rulesets.proofs.PatternTestLaws.{env_of}
@@ -117,13 +117,21 @@ places_push env (b ∷ bs) c places n =
     let rest = let_places env (bindings_of bs) mid (n + impure env b.2) in
     places_push env bs c mid (n + impure env b.2) ∙ ap (λ k. with rest c.0.0 (path env c.2 rest k)) (behind n (impure env b.2) (impure_bindings env (bindings_of bs)))
 
-calls_push : (env : Environment) (bs : List SeenBinding) (c : SeenBinding) (places : Places) (n : ℕ) → calls_bindings env (bindings_of (bs ++ c ∷ [])) places n ≡ calls_bindings env (bindings_of bs) places n ++ calls env c.2 (let_places env (bindings_of bs) places n) (n + impure_bindings env (bindings_of bs))
-calls_push env [] c places n = append-nil (calls env c.2 places n) ∙ ap (calls env c.2 places) (none_more n)
+calls_push : (env : Environment) (bs : List SeenBinding) (c : SeenBinding) (places : Places) (n : ℕ) → bindings_calls env (bindings_of (bs ++ c ∷ [])) places n ≡ bindings_calls env (bindings_of bs) places n ++ expr_calls env c.2 (let_places env (bindings_of bs) places n) (n + impure_bindings env (bindings_of bs))
+calls_push env [] c places n = append-nil (expr_calls env c.2 places n) ∙ ap (expr_calls env c.2 places) (none_more n)
 calls_push env (b ∷ bs) c places n =
     let mid = with places b.0.0 (path env b.2 places n) in
     let rest = let_places env (bindings_of bs) mid (n + impure env b.2) in
-    ap (λ cs. calls env b.2 places n ++ cs) (calls_push env bs c mid (n + impure env b.2) ∙ ap (λ k. calls_bindings env (bindings_of bs) mid (n + impure env b.2) ++ calls env c.2 rest k) (behind n (impure env b.2) (impure_bindings env (bindings_of bs))))
-    ∙ sym (append_assoc (calls env b.2 places n) (calls_bindings env (bindings_of bs) mid (n + impure env b.2)) (calls env c.2 rest (n + impure_bindings env (bindings_of (b ∷ bs)))))
+    ap (λ cs. expr_calls env b.2 places n ++ cs) (calls_push env bs c mid (n + impure env b.2) ∙ ap (λ k. bindings_calls env (bindings_of bs) mid (n + impure env b.2) ++ expr_calls env c.2 rest k) (behind n (impure env b.2) (impure_bindings env (bindings_of bs))))
+    ∙ sym (append_assoc (expr_calls env b.2 places n) (bindings_calls env (bindings_of bs) mid (n + impure env b.2)) (expr_calls env c.2 rest (n + impure_bindings env (bindings_of (b ∷ bs)))))
+
+lists_push : (env : Environment) (bs : List SeenBinding) (c : SeenBinding) (places : Places) (n : ℕ) → bindings_lists env (bindings_of (bs ++ c ∷ [])) places n ≡ bindings_lists env (bindings_of bs) places n ++ expr_lists env c.2 (let_places env (bindings_of bs) places n) (n + impure_bindings env (bindings_of bs))
+lists_push env [] c places n = append-nil (expr_lists env c.2 places n) ∙ ap (expr_lists env c.2 places) (none_more n)
+lists_push env (b ∷ bs) c places n =
+    let mid = with places b.0.0 (path env b.2 places n) in
+    let rest = let_places env (bindings_of bs) mid (n + impure env b.2) in
+    ap (λ cs. expr_lists env b.2 places n ++ cs) (lists_push env bs c mid (n + impure env b.2) ∙ ap (λ k. bindings_lists env (bindings_of bs) mid (n + impure env b.2) ++ expr_lists env c.2 rest k) (behind n (impure env b.2) (impure_bindings env (bindings_of bs))))
+    ∙ sym (append_assoc (expr_lists env b.2 places n) (bindings_lists env (bindings_of bs) mid (n + impure env b.2)) (expr_lists env c.2 rest (n + impure_bindings env (bindings_of (b ∷ bs)))))
 
 paths_push : (env : Environment) (bs : List SeenBinding) (c : SeenBinding) (places : Places) (n : ℕ) → bindings_paths env (bindings_of (bs ++ c ∷ [])) places n ≡ bindings_paths env (bindings_of bs) places n ++ expr_paths env c.2 (let_places env (bindings_of bs) places n) (n + impure_bindings env (bindings_of bs))
 paths_push env [] c places n = append-nil (expr_paths env c.2 places n) ∙ ap (expr_paths env c.2 places) (none_more n)
@@ -140,9 +148,9 @@ scope_push scope (b ∷ bs) c = scope_push (scope ++ b.0.0 ∷ []) bs c
 lets_push : (env : Environment) (places : Places) (then : Variables) (old mid new : Numbered) (before middle after : List BindingId) (bs : List SeenBinding) (c : SeenBinding) (b : BindingId) → NumbersLets env places then old mid before middle (bindings_of bs)
     → NumbersExpr env (let_places env (bindings_of bs) places old.calls) mid new middle after c.2 b → NumbersLets env places (then ++ (c.0.0, b) ∷ []) old new before after (bindings_of (bs ++ c ∷ []))
 lets_push env places then old mid new before middle after bs c b g h = record {
-  grows = rw (paths_push env bs c places old.calls, calls_push env bs c places old.calls, impure_push env bs c)
-      (grows_then old mid new before middle after (bindings_paths env (bindings_of bs) places old.calls) (expr_paths env c.2 at n) (calls_bindings env (bindings_of bs) places old.calls) (calls env c.2 at n) (impure_bindings env (bindings_of bs)) (impure env c.2) g.grows
-      (subst (λ m. Grows mid new middle after (expr_paths env c.2 at m) (calls env c.2 at m) (impure env c.2)) g.grows.calls h.grows));
+  grows = rw (paths_push env bs c places old.calls, calls_push env bs c places old.calls, lists_push env bs c places old.calls, impure_push env bs c)
+      (grows_then old mid new before middle after (bindings_paths env (bindings_of bs) places old.calls) (expr_paths env c.2 at n) (bindings_calls env (bindings_of bs) places old.calls) (expr_calls env c.2 at n) (bindings_lists env (bindings_of bs) places old.calls) (expr_lists env c.2 at n) (impure_bindings env (bindings_of bs)) (impure env c.2) g.grows
+      (subst (λ m. Grows mid new middle after (expr_paths env c.2 at m) (expr_calls env c.2 at m) (expr_lists env c.2 at m) (impure env c.2)) g.grows.calls h.grows));
   stand = subst (Stand (paths_of new.bindings) (then ++ (c.0.0, b) ∷ [])) (sym (places_push env bs c places old.calls))
       (with_stands (paths_of new.bindings) then at c.0.0 b (path env c.2 at n) (subst (λ m. slice_get (paths_of new.bindings) b.0 ≡ Some (path env c.2 at m)) g.grows.calls h.found) (stand_kept (paths_of mid.bindings) (paths_of new.bindings) then at h.grows.extends g.stand));
 }
@@ -205,10 +213,10 @@ pub let_given : (terms : List Term) (variables then : Variables) (old mid new : 
 let_given terms variables then old mid new before middle after e inner ty bs b is g h env places t s =
     let at = let_places env bs places old.calls in
     let n = g.numbers env places t s in
-    let k = subst (λ m. NumbersExpr env at (record { bindings = mid.bindings; calls = m }) new middle after inner b) n.grows.calls (h env at t n.stand) in
+    let k = subst (λ m. NumbersExpr env at (record { bindings = mid.bindings; calls = m; lists = mid.lists }) new middle after inner b) n.grows.calls (h env at t n.stand) in
     subst (λ d. NumbersExpr env places old new before after d b) (sym is)
     (record {
-      grows = grows_then old mid new before middle after (bindings_paths env bs places old.calls) (expr_paths env inner at (old.calls + impure_bindings env bs)) (calls_bindings env bs places old.calls) (calls env inner at (old.calls + impure_bindings env bs)) (impure_bindings env bs) (impure env inner) n.grows
-          (subst (λ m. Grows mid new middle after (expr_paths env inner at m) (calls env inner at m) (impure env inner)) n.grows.calls (h env at t n.stand).grows);
+      grows = grows_then old mid new before middle after (bindings_paths env bs places old.calls) (expr_paths env inner at (old.calls + impure_bindings env bs)) (bindings_calls env bs places old.calls) (expr_calls env inner at (old.calls + impure_bindings env bs)) (bindings_lists env bs places old.calls) (expr_lists env inner at (old.calls + impure_bindings env bs)) (impure_bindings env bs) (impure env inner) n.grows
+          (subst (λ m. Grows mid new middle after (expr_paths env inner at m) (expr_calls env inner at m) (expr_lists env inner at m) (impure env inner)) n.grows.calls (h env at t n.stand).grows);
       found = k.found;
     })

@@ -1,6 +1,7 @@
 pub mod PlacedPaths
 pub mod KeyLaws
 pub mod NumberingLaws
+pub mod LateLaws
 pub mod PatternTestLaws
 pub mod OpenedLaws
 pub mod FirstLaws
@@ -8,11 +9,14 @@ pub mod VariablePlaces
 pub mod CallLaws
 pub mod RightSideLaws
 pub mod LetLaws
+pub mod TurnLaws
 pub mod ConditionCalls
 pub mod ExprPlaces
 pub mod RuleTests
 pub mod FlatTests
-pub mod NoIterators
+pub mod ToldPaths
+pub mod MetCalls
+pub mod MetLists
 pub mod ConditionLaws
 pub mod RuleSetLaws
 pub mod GroupingLaws

@@ -94,6 +94,7 @@ map_others count old new k (key.MatchVariant a v i) b false none u e is = u.0 (k
 map_others count old new k (key.ExtractStruct a i) b false none u e is = u.0 (key.ExtractStruct a i) ∙ rw e refl
 map_others count old new k (key.MakeVariant s v xs) b false none u e is = u.0 (key.MakeVariant s v xs) ∙ rw e refl
 map_others count old new k (key.MakeStruct s xs) b false none u e is = u.0 (key.MakeStruct s xs) ∙ rw e refl
+map_others count old new k (key.Iterator a) b false none u e is = u.0 (key.Iterator a) ∙ rw e refl
 map_others count old new k (key.MatchSome a) b false none u e is = u.0 (key.MatchSome a) ∙ rw e refl
 map_others count old new k (key.MatchTuple a i) b false none u e is = u.0 (key.MatchTuple a i) ∙ rw e refl
 
@@ -112,6 +113,7 @@ map_at count old new (key.MatchVariant a v i) b none u = u.1
 map_at count old new (key.ExtractStruct a i) b none u = u.1
 map_at count old new (key.MakeVariant s v xs) b none u = u.1
 map_at count old new (key.MakeStruct s xs) b none u = u.1
+map_at count old new (key.Iterator a) b none u = u.1
 map_at count old new (key.MatchSome a) b none u = u.1
 map_at count old new (key.MatchTuple a i) b none u = u.1
 
@@ -138,6 +140,7 @@ argument_others count numbers (key.MatchVariant a v i) false e = refl
 argument_others count numbers (key.ExtractStruct a i) false e = refl
 argument_others count numbers (key.MakeVariant s v xs) false e = refl
 argument_others count numbers (key.MakeStruct s xs) false e = refl
+argument_others count numbers (key.Iterator a) false e = refl
 argument_others count numbers (key.MatchSome a) false e = refl
 argument_others count numbers (key.MatchTuple a i) false e = refl
 
@@ -158,12 +161,13 @@ argument_puts count numbers number (key.MatchVariant a v i) is = absurd cc
 argument_puts count numbers number (key.ExtractStruct a i) is = absurd cc
 argument_puts count numbers number (key.MakeVariant s v xs) is = absurd cc
 argument_puts count numbers number (key.MakeStruct s xs) is = absurd cc
+argument_puts count numbers number (key.Iterator a) is = absurd cc
 argument_puts count numbers number (key.MatchSome a) is = absurd cc
 argument_puts count numbers number (key.MatchTuple a i) is = absurd cc
 
 -- what a numbering is behind a new key
 pub numbered_more : (old : Numbered) (items : List Binding) (numbers new : Key → Option BindingId) (k : Key) (n : ℕ) → AreNumbered old numbers → HasParts (paths_of old.bindings) k → numbers k ≡ None → n ≡ length old.bindings → items ≡ old.bindings ++ key_binding k ∷ []
-    → Puts numbers new k (record { 0 = n }) → AreNumbered (record { bindings = items; calls = old.calls }) new × Numbers old (record { bindings = items; calls = old.calls }) (key_path (paths_of old.bindings) k) (record { 0 = n })
+    → Puts numbers new k (record { 0 = n }) → AreNumbered (record { bindings = items; calls = old.calls; lists = old.lists }) new × Numbers old (record { bindings = items; calls = old.calls; lists = old.lists }) (key_path (paths_of old.bindings) k) (record { 0 = n })
 numbered_more old items numbers new k n a parts none l is u = (
   record {
     parts = λ q b e. (there q b e).0;
@@ -177,6 +181,7 @@ numbered_more old items numbers new k n a parts none l is u = (
     extends = more;
     only = λ q c. ⊎_elim (λ h. inl h) (λ h. inr (sym h)) (Contains-push_cases ps (key_path ps k) q (subst (λ qs. Contains qs q) paths c));
     calls = refl;
+    lists = refl;
   },
 )
   where
@@ -213,7 +218,7 @@ numbered_more old items numbers new k n a parts none l is u = (
 -- and behind the next argument
 pub argument_more : (old : Numbered) (items : List Binding) (numbers : BTreeMap Key BindingId) (k : Key) (count n m : ℕ) → AreNumbered old (known count numbers) → HasParts (paths_of old.bindings) k → known count numbers k ≡ None → n ≡ length old.bindings
     → items ≡ old.bindings ++ key_binding k ∷ [] → m ≡ length items → is_next count n k ≡ true
-    → AreNumbered (record { bindings = items; calls = old.calls }) (known m numbers) × Numbers old (record { bindings = items; calls = old.calls }) (key_path (paths_of old.bindings) k) (record { 0 = n })
+    → AreNumbered (record { bindings = items; calls = old.calls; lists = old.lists }) (known m numbers) × Numbers old (record { bindings = items; calls = old.calls; lists = old.lists }) (key_path (paths_of old.bindings) k) (record { 0 = n })
 argument_more old items numbers k count n m a parts none l is more next =
     let longer = one_longer old.bindings items (key_binding k) is in
     let after : m ≡ suc n = omega arith in
@@ -231,18 +236,19 @@ known_stays count numbers new (key.MatchVariant a v i) u = ap (lookup (is_at (ke
 known_stays count numbers new (key.ExtractStruct a i) u = ap (lookup (is_at (key_cmp (key.ExtractStruct a i)))) u
 known_stays count numbers new (key.MakeVariant s v xs) u = ap (lookup (is_at (key_cmp (key.MakeVariant s v xs)))) u
 known_stays count numbers new (key.MakeStruct s xs) u = ap (lookup (is_at (key_cmp (key.MakeStruct s xs)))) u
+known_stays count numbers new (key.Iterator a) u = ap (lookup (is_at (key_cmp (key.Iterator a)))) u
 known_stays count numbers new (key.MatchSome a) u = ap (lookup (is_at (key_cmp (key.MatchSome a)))) u
 known_stays count numbers new (key.MatchTuple a i) u = ap (lookup (is_at (key_cmp (key.MatchTuple a i)))) u
 
-without_last : {A : Type 0} (xs : List A) (y : A) → take (length xs) (xs ++ y ∷ []) ≡ xs
+pub without_last : {A : Type 0} (xs : List A) (y : A) → take (length xs) (xs ++ y ∷ []) ≡ xs
 without_last [] y = refl
 without_last (x ∷ xs) y = ap (λ ys. x ∷ ys) (without_last xs y)
 
 -- what a numbering is where the last binding was taken away again
 pub numbered_back : (old : Numbered) (more items : List Binding) (count : ℕ) (numbers new : BTreeMap Key BindingId) (b : Binding) (n : ℕ) → AreNumbered old (known count numbers) → IsUnchanged numbers new → n ≡ length old.bindings → more ≡ old.bindings ++ b ∷ []
-    → items ≡ take n more → AreNumbered (record { bindings = items; calls = old.calls }) (known count new)
+    → items ≡ take n more → AreNumbered (record { bindings = items; calls = old.calls; lists = old.lists }) (known count new)
 numbered_back old more items count numbers new b n a u l longer is =
-    subst (λ bs. AreNumbered (record { bindings = bs; calls = old.calls }) (known count new)) (sym (is ∙ ap (λ m. take m more) l ∙ ap (take (length old.bindings)) longer ∙ without_last old.bindings b)) (record {
+    subst (λ bs. AreNumbered (record { bindings = bs; calls = old.calls; lists = old.lists }) (known count new)) (sym (is ∙ ap (λ m. take m more) l ∙ ap (take (length old.bindings)) longer ∙ without_last old.bindings b)) (record {
       parts = λ k c e. a.parts k c (sym (stays k) ∙ e);
       found = λ k c e. a.found k c (sym (stays k) ∙ e);
       kinds = λ c p e. ⊎_elim (λ (o : IsKeyed (paths_of old.bindings) (known count numbers) c p). inl (o.0, o.1, stays o.0 ∙ o.2)) (λ d. inr d) (a.kinds c p e);

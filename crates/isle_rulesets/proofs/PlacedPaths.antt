@@ -1,15 +1,15 @@
 -- Paths at places, behind which others may join.
-use Rattle.std.proofs.Common.{◌≡◌, ◌⊎◌, inl, inr, ⊎_elim, ℕ, zero, suc, List, [], ◌∷◌, ◌++◌, length, get_or, Some, refl, sym, ap, ◌∙◌, subst}
+use Rattle.std.proofs.Common.{◌≡◌, ◌⊎◌, inl, inr, ⊎_elim, ℕ, zero, suc, List, [], ◌∷◌, ◌++◌, length, map, get_or, Some, refl, sym, ap, ◌∙◌, subst, append_assoc, append-nil}
 use Rattle.std.specs.Prelude.{slice_get, Contains}
 use Rattle.std.specs.List.{AllByRecursion}
 use Rattle.std.proofs.lemmas.List.Elements.{Contains-append_cases}
 use Rattle.std.proofs.lemmas.Option.{slice_get-get_or, get_or_from_slice_get, slice_get_within}
 use Rattle.isle_core.specs.declared.BindingId.{BindingId}
-use Rattle.isle_core.specs.Path.{Path, Paths, APath, Nowhere, at, at_all}
+use Rattle.isle_core.specs.Path.{Path, Paths, APath, Nowhere, at, at_all, paths_of}
 use Rattle.isle_core.specs.StandsFor.{EachOnce}
 use Rattle.isle_core.proofs.Contained.{head_contained, tail_contained}
 use Rattle.isle_rulesets.specs.Keys.{IsThere}
-use Rattle.isle_rulesets.specs.Numbering.{Extends}
+use Rattle.isle_rulesets.specs.Numbering.{Numbered, Extends, MeetsLists}
 
 -- ---- one item more
 
@@ -110,3 +110,17 @@ all_there_once ps (a ∷ ms) [] once h k e = cc
 all_there_once ps (a ∷ ms) (b ∷ bs) once h k e =
     let first = there_once ps a b once h.0 k.0 (first_same (at ps a) (at ps b) (at_all ps ms) (at_all ps bs) e) in
     ap (λ x. x ∷ ms) first ∙ ap (λ xs. b ∷ xs) (all_there_once ps ms bs once h.1 k.1 (rest_same (at ps a) (at ps b) (at_all ps ms) (at_all ps bs) e))
+
+-- ---- lists that are met
+
+-- none where nothing is done
+pub meets_none : (n : Numbered) → MeetsLists n n []
+meets_none n qs x = sym (append-nil (map (at qs) n.lists))
+
+-- nor where they stay
+pub meets_same : (old new : Numbered) → new.lists ≡ old.lists → MeetsLists old new []
+meets_same old new e qs x = ap (map (at qs)) e ∙ sym (append-nil (map (at qs) old.lists))
+
+-- those of both, one after the other
+pub meets_then : (a b c : Numbered) (ls ms : List Path) → Extends (paths_of b.bindings) (paths_of c.bindings) → MeetsLists a b ls → MeetsLists b c ms → MeetsLists a c (ls ++ ms)
+meets_then a b c ls ms more g h qs x = h qs x ∙ ap (λ ps. ps ++ ms) (g qs (extends_more (paths_of b.bindings) (paths_of c.bindings) qs more x)) ∙ append_assoc (map (at qs) a.lists) ls ms

@@ -1,5 +1,5 @@
 -- The right side of a rule is numbered, call by call.
-use Rattle.std.proofs.Common.{◌≡◌, inl, inr, ⊎_elim, ℕ, zero, suc, ◌<◌, ◌≤◌, ◌+◌, ℤ, List, [], ◌∷◌, ◌++◌, length, map, take, get_or, if◌then◌else◌, Bool, true, false, Option, Some, None, Result, Ok, Err, refl, sym, ap, ◌∙◌, subst, arith, append_assoc, append-nil}
+use Rattle.std.proofs.Common.{◌≡◌, ◌⊎◌, inl, inr, ⊎_elim, ℕ, zero, suc, ◌<◌, ◌≤◌, ◌+◌, ℤ, List, [], ◌∷◌, ◌++◌, length, map, take, get_or, if◌then◌else◌, Bool, true, false, Option, Some, None, Result, Ok, Err, refl, sym, ap, ◌∙◌, subst, arith, append_assoc, append-nil}
 use Rattle.std.specs.Prelude.{Contains, IsSomeAnd, IfOk, OnOk, slice_get}
 use Rattle.std.specs.List.{AllByRecursion}
 use Rattle.std.proofs.lemmas.List.{map_more, map-append, length-map, get_or-map, take_all}
@@ -10,6 +10,8 @@ use Rattle.isle_core.specs.declared.TermId.{TermId}
 use Rattle.isle_core.specs.declared.Sym.{Sym}
 use Rattle.isle_core.specs.declared.TypeId.{TypeId}
 use Rattle.isle_core.specs.declared.VarId.{VarId}
+use Rattle.isle_core.specs.declared.types.ReturnKind.{ReturnKind}
+use Rattle.isle_core.specs.declared.types.ReturnKind.TheVariants as return_kind
 use Rattle.isle_core.specs.declared.types.Term.{Term}
 use Rattle.isle_core.specs.declared.types.TermKind.{TermKind}
 use Rattle.isle_core.specs.declared.types.TermKind.TheVariants as kind
@@ -19,15 +21,14 @@ use Rattle.isle_core.specs.declared.values.Callee.TheVariants.{External, Interna
 use Rattle.isle_core.specs.Terms.{sym_text, impure_callee}
 use Rattle.isle_core.specs.declared.rules.Expr.{Expr as CodeExpr}
 use Rattle.isle_core.specs.Expr as expr
-use Rattle.isle_core.specs.Expr.{Expr, Exprs, NoExpr, AnExpr}
+use Rattle.isle_core.specs.Expr.{Expr, Exprs, NoExpr}
 use Rattle.isle_core.specs.RuleViews.{expr as seen, exprs_of}
 use Rattle.isle_core.specs.BuiltRule.{IsBuiltKind, HasBuiltTerms, AllHaveBuiltTerms}
 use Rattle.isle_core.specs.Making.{MakesNothing, making_kind, making_of as making_at, making_in, making}
-use Rattle.isle_core.specs.Calling.{Calling, ByTurns, ByCases, NoCall, kind_of, may_be_nothing, pure_callee, calling_by, calling_of, calling, is_fallible, is_ordered, instance_of, one_more, impure, impure_all}
+use Rattle.isle_core.specs.Calling.{Calling, ByTurns, ByCases, NoCall, kind_of, pure_callee, calling_by, calling_of, calling, instance_of, one_more, impure, impure_all}
 use Rattle.isle_core.specs.Path as path
 use Rattle.isle_core.specs.Path.{Path, Paths, NoPath, APath, at, at_all, paths_of}
-use Rattle.isle_core.specs.OrderedCalls.{calls as calls_of, calls_all, if_ordered}
-use Rattle.isle_core.specs.RightSide.{path as path_of, paths, path_or, bool_type, term_path, call_path}
+use Rattle.isle_core.specs.RightSide.{path as path_of, paths, path_or, bool_type, term_path, call_path, answer_path}
 use Rattle.isle_core.specs.RulePaths.{expr_paths, exprs_paths, with_inner}
 use Rattle.isle_core.specs.Tests.{Places}
 use Rattle.isle_core.specs.Rule.{Environment}
@@ -38,15 +39,16 @@ use Rattle.isle_rulesets.specs.declared.made.Made.{Made}
 use Rattle.isle_rulesets.specs.declared.made.Made.TheVariants as made
 use Rattle.isle_rulesets.specs.Keys.{key_path, IsThere, HasParts}
 use Rattle.isle_rulesets.specs.Made.{making_of, whole_key}
-use Rattle.isle_rulesets.specs.Numbering.{Numbered, Extends, Numbers, next_call, same_call, Calls}
+use Rattle.isle_rulesets.specs.Met.{call_met, list_met, expr_calls, exprs_calls, expr_lists, exprs_lists}
+use Rattle.isle_rulesets.specs.Numbering.{Numbered, Extends, Numbers, next_call, same_call, value_by, with_value, listed_by, Calls}
 use Rattle.isle_rulesets.specs.PatternTests.{path_at}
-use Rattle.isle_rulesets.specs.RightSides.{is_pure, Variables, StandsAt, Stand, AreThere, Grows, NumbersExpr, NumbersTerm, AllAt, NumbersExprs, Given, AllGiven}
-use Rattle.isle_rulesets.proofs.PlacedPaths.{extends_self, extends_more, at_get, at_kept, contains_there, contains_kept, there_kept, all_there_kept}
+use Rattle.isle_rulesets.specs.RightSides.{is_pure, pure_counts, Variables, StandsAt, Stand, AreThere, Grows, NumbersExpr, NumbersTerm, AllAt, NumbersExprs, Given, AllGiven}
+use Rattle.isle_rulesets.proofs.PlacedPaths.{meets_none, meets_same, meets_then, extends_self, extends_more, at_get, at_kept, contains_there, contains_kept, there_kept, all_there_kept}
 use Rattle.isle_rulesets.proofs.PatternTestLaws.{env_of}
 
 -- ---- one step after another
 
-pub grows_self : (n : Numbered) (bs : List BindingId) → Grows n n bs bs [] [] 0
+pub grows_self : (n : Numbered) (bs : List BindingId) → Grows n n bs bs [] [] [] 0
 grows_self n bs = record {
   extends = extends_self (paths_of n.bindings);
   only = λ p c. inl c;
@@ -54,16 +56,18 @@ grows_self n bs = record {
   ordered = λ qs x. sym (append-nil (map (at qs) bs));
   there = λ h. h;
   calls = omega arith;
+  lists = meets_none n;
 }
 
-pub grows_then : (a b c : Numbered) (xs ys zs : List BindingId) (ps qs cs ds : List Path) (k l : ℕ) → Grows a b xs ys ps cs k → Grows b c ys zs qs ds l → Grows a c xs zs (ps ++ qs) (cs ++ ds) (k + l)
-grows_then a b c xs ys zs ps qs cs ds k l g h = record {
+pub grows_then : (a b c : Numbered) (xs ys zs : List BindingId) (ps qs cs ds ls ms : List Path) (k l : ℕ) → Grows a b xs ys ps cs ls k → Grows b c ys zs qs ds ms l → Grows a c xs zs (ps ++ qs) (cs ++ ds) (ls ++ ms) (k + l)
+grows_then a b c xs ys zs ps qs cs ds ls ms k l g h = record {
   extends = extends_more (paths_of a.bindings) (paths_of b.bindings) (paths_of c.bindings) g.extends h.extends;
   only = λ p d. ⊎_elim (λ e. ⊎_elim (λ f. inl f) (λ f. inr (Contains-append_left ps qs p f)) (g.only p e)) (λ e. inr (Contains-append_right ps qs p e)) (h.only p d);
   all = λ p d. ⊎_elim (λ e. contains_kept (paths_of b.bindings) (paths_of c.bindings) p h.extends (g.all p e)) (λ e. h.all p e) (Contains-append_cases ps qs p d);
   ordered = λ rs x. h.ordered rs x ∙ ap (λ ms. ms ++ ds) (g.ordered rs (extends_more (paths_of b.bindings) (paths_of c.bindings) rs h.extends x)) ∙ append_assoc (map (at rs) xs) cs ds;
   there = λ k. h.there (g.there k);
   calls = h.calls ∙ ap (λ n. n + l) g.calls ∙ assoc;
+  lists = meets_then a b c ls ms h.extends g.lists h.lists;
 }
   where
     assoc : (a.calls + k) + l ≡ a.calls + (k + l)
@@ -71,7 +75,7 @@ grows_then a b c xs ys zs ps qs cs ds k l g h = record {
 
 -- ---- constants and variables
 
-gives_key : (old new : Numbered) (bs : List BindingId) (p : Path) (b : BindingId) → Numbers old new p b → Grows old new bs bs (p ∷ []) [] 0
+gives_key : (old new : Numbered) (bs : List BindingId) (p : Path) (b : BindingId) → Numbers old new p b → Grows old new bs bs (p ∷ []) [] [] 0
 gives_key old new bs p b h = record {
   extends = h.extends;
   only = λ q c. ⊎_elim (λ d. inl d) (λ e. inr (subst (Contains (p ∷ [])) (sym e) (head_contained p []))) (h.only q c);
@@ -79,6 +83,7 @@ gives_key old new bs p b h = record {
   ordered = λ qs x. sym (append-nil (map (at qs) bs));
   there = λ k. all_there_kept (paths_of old.bindings) (paths_of new.bindings) bs h.extends k;
   calls = h.calls ∙ zero_more;
+  lists = meets_same old new h.lists;
 }
   where
     zero_more : old.calls ≡ old.calls + 0
@@ -106,7 +111,7 @@ var_there ps (Some c) None b e h = absurd h
 
 pub given_var : (terms : List Term) (variables : Variables) (n : Numbered) (bs : List BindingId) (e : Expr) (ty : TypeId) (x : VarId) (b : BindingId) → e ≡ expr.Var ty x → held variables x.0 ≡ Some b → Given terms variables n n bs bs e b
 given_var terms variables n bs e ty x b is got env places t s = subst (λ d. NumbersExpr env places n n bs bs d b) (sym is) (record {
-  grows = gives_key n n bs p b (record { found = there; extends = extends_self (paths_of n.bindings); only = λ q c. inl c; calls = refl });
+  grows = gives_key n n bs p b (record { found = there; extends = extends_self (paths_of n.bindings); only = λ q c. inl c; calls = refl; lists = refl });
   found = there;
 })
   where
@@ -141,8 +146,8 @@ call_behind : (env : Environment) (places : Places) (old mid new : Numbered) (be
 call_behind env places old mid new before middle after ty term es bs b g h =
     let k = subst (λ p. NumbersTerm mid new middle after (calling env term) p b) same h in
     record {
-      grows = subst (λ n. Grows old new before after (expr_paths env (expr.Term ty term es) places old.calls) (calls_of env (expr.Term ty term es) places old.calls) n) (one_behind (calling env term) (impure_all env es))
-          (grows_then old mid new before middle after (exprs_paths env es places old.calls) (with_inner (calling env term) p) (calls_all env es places old.calls) (if_ordered (calling env term) p) (impure_all env es) (one_more (calling env term) 0) g.grows k.grows);
+      grows = subst (λ n. Grows old new before after (expr_paths env (expr.Term ty term es) places old.calls) (expr_calls env (expr.Term ty term es) places old.calls) (expr_lists env (expr.Term ty term es) places old.calls) n) (one_behind (calling env term) (impure_all env es))
+          (grows_then old mid new before middle after (exprs_paths env es places old.calls) (with_inner (calling env term) p) (exprs_calls env es places old.calls) (call_met (calling env term) p) (exprs_lists env es places old.calls) (list_met (calling env term) p) (impure_all env es) (one_more (calling env term) 0) g.grows k.grows);
       found = k.found;
     }
   where
@@ -169,10 +174,10 @@ pub data IsCalled (k : TermKind) (c : Calling) : Type 0 where
   by_cases : (callee : Callee) → is_pure k ≡ true → c ≡ ByCases callee (kind_of k) → IsCalled k c
 
 called_kind : (env : Environment) (t : Term) (k : TermKind) → IsBuiltKind k → making_kind k ≡ MakesNothing → IsCalled k (calling_by (kind_of k) (impure_callee env t k) (pure_callee env t k))
-called_kind env t (kind.Decl false false partial recursive constructor.Internal extractor) h m = by_turns (Internal (sym_text env t.name)) refl refl
-called_kind env t (kind.Decl false false partial recursive (constructor.External func) extractor) h m = by_turns (External (sym_text env func)) refl refl
-called_kind env t (kind.Decl true false partial recursive constructor.Internal extractor) h m = by_cases (Internal (sym_text env t.name)) refl refl
-called_kind env t (kind.Decl true false partial recursive (constructor.External func) extractor) h m = by_cases (External (sym_text env func)) refl refl
+called_kind env t (kind.Decl false multi partial recursive constructor.Internal extractor) h m = by_turns (Internal (sym_text env t.name)) refl refl
+called_kind env t (kind.Decl false multi partial recursive (constructor.External func) extractor) h m = by_turns (External (sym_text env func)) refl refl
+called_kind env t (kind.Decl true multi partial recursive constructor.Internal extractor) h m = by_cases (Internal (sym_text env t.name)) refl refl
+called_kind env t (kind.Decl true multi partial recursive (constructor.External func) extractor) h m = by_cases (External (sym_text env func)) refl refl
 called_kind env t (kind.Variant ty variant) h m = absurd cc
 called_kind env t (kind.Struct ty) h m = absurd cc
 called_kind env t k h m = absurd h
@@ -195,7 +200,7 @@ no_call_of env None m e = refl
 no_call_of env (Some t) m e = no_call_by env t t.kind m e
 
 -- a term that makes something is not called
-no_call : (env : Environment) (terms : List Term) (term : TermId) (m : Made) → env.terms ≡ terms → making_in terms term ≡ making_of m → calling env term ≡ NoCall
+pub no_call : (env : Environment) (terms : List Term) (term : TermId) (m : Made) → env.terms ≡ terms → making_in terms term ≡ making_of m → calling env term ≡ NoCall
 no_call env terms term m same e = no_call_of env (slice_get env.terms term.0) m (ap (λ ts. making_in ts term) same ∙ e)
 
 -- the key of what is made has the path of the term
@@ -234,28 +239,48 @@ all_there_push : (ps : List Path) (bs : List BindingId) (b : BindingId) → AllB
 all_there_push ps [] b h k = (k, tt)
 all_there_push ps (c ∷ bs) b h k = (h.0, all_there_push ps bs b h.1 k)
 
--- it joins those before where its place counts
-call_numbers : (old new : Numbered) (before after : List BindingId) (c : Calling) (p : Path) (n : ℕ) (call value : BindingId) → Calls old new p (is_fallible c) n call value → n ≡ old.calls + one_more c 0 → after ≡ before ++ (if is_ordered c then call ∷ [] else [])
-    → NumbersTerm old new before after c p value
-call_numbers old new before after c p n call value k count more = record {
+-- by how often the call answers
+abbrev kind_answers : Calling → ReturnKind → Type 0
+kind_answers c kind = (p : Path) → (with_inner c p ≡ with_value kind p) × (answer_path c p ≡ value_by kind p) × (list_met c p ≡ listed_by kind p)
+
+turn_answers : (callee : Callee) (kind : ReturnKind) → kind_answers (ByTurns callee kind) kind
+turn_answers callee return_kind.Plain p = (refl, refl, refl)
+turn_answers callee return_kind.Option p = (refl, refl, refl)
+turn_answers callee return_kind.Iterator p = (refl, refl, refl)
+
+case_answers : (callee : Callee) (kind : ReturnKind) → kind_answers (ByCases callee kind) kind
+case_answers callee return_kind.Plain p = (refl, refl, refl)
+case_answers callee return_kind.Option p = (refl, refl, refl)
+case_answers callee return_kind.Iterator p = (refl, refl, refl)
+
+value_of_kind : (kind : ReturnKind) (p q : Path) → Contains (with_value kind p) q → (q ≡ p) ⊎ (q ≡ value_by kind p)
+value_of_kind return_kind.Plain p q d = ⊎_elim (λ e. inl (sym e)) (λ n. absurd (none_contained q n)) (contained_cases p [] q d)
+value_of_kind return_kind.Option p q d = ⊎_elim (λ e. inl (sym e)) (λ f. ⊎_elim (λ e. inr (sym e)) (λ n. absurd (none_contained q n)) (contained_cases (path.Inner p) [] q f)) (contained_cases p (path.Inner p ∷ []) q d)
+value_of_kind return_kind.Iterator p q d = ⊎_elim (λ e. inl (sym e)) (λ f. ⊎_elim (λ e. inr (sym e)) (λ n. absurd (none_contained q n)) (contained_cases (path.Chosen p) [] q f)) (contained_cases p (path.Chosen p ∷ []) q d)
+
+-- the numbers of lists that were met
+listed_at : (kind : ReturnKind) (qs : List Path) (call : BindingId) (p : Path) → at qs call ≡ p → map (at qs) (listed_by kind call) ≡ listed_by kind p
+listed_at return_kind.Plain qs call p e = refl
+listed_at return_kind.Option qs call p e = refl
+listed_at return_kind.Iterator qs call p e = ap (λ q. q ∷ []) e
+
+-- a call joins those before where its place counts
+call_numbers : (old new : Numbered) (before after : List BindingId) (c : Calling) (kind : ReturnKind) (p : Path) (n : ℕ) (call value : BindingId) (counts : Bool) → kind_answers c kind → Calls old new p kind n call value → n ≡ old.calls + one_more c 0
+    → call_met c p ≡ (if counts then p ∷ [] else []) → after ≡ before ++ (if counts then call ∷ [] else []) → NumbersTerm old new before after c p value
+call_numbers old new before after c kind p n call value counts how k count met more = record {
   grows = record {
     extends = k.extends;
-    only = k.only;
-    all = λ q d. all (is_fallible c) k q d;
-    ordered = λ qs x. joined qs x (is_ordered c) more;
-    there = λ h. behind_it (is_ordered c) more h;
+    only = λ q d. subst (λ ps. Contains (paths_of old.bindings) q ⊎ Contains ps q) (sym (how p).0) (k.only q d);
+    all = λ q d. ⊎_elim (λ e. subst (Contains (paths_of new.bindings)) (sym e) (contains_there (paths_of new.bindings) call.0 p k.found)) (λ e. subst (Contains (paths_of new.bindings)) (sym e) (contains_there (paths_of new.bindings) value.0 (value_by kind p) k.value))
+        (value_of_kind kind p q (subst (λ ps. Contains ps q) (how p).0 d));
+    ordered = λ qs x. joined qs x counts more ∙ ap (λ cs. map (at qs) before ++ cs) (sym met);
+    there = λ h. behind_it counts more h;
     calls = k.calls ∙ count;
+    lists = λ qs x. ap (map (at qs)) k.lists ∙ map-append (at qs) old.lists (listed_by kind call) ∙ ap (λ ls. map (at qs) old.lists ++ ls) (listed_at kind qs call p (at_kept (paths_of new.bindings) qs call p x k.found) ∙ sym (how p).2);
   };
-  found = k.value;
+  found = k.value ∙ ap Some (sym (how p).1);
 }
   where
-    all : (b : Bool) → Calls old new p b n call value → (q : Path) → Contains (if b then p ∷ path.Inner p ∷ [] else p ∷ []) q → Contains (paths_of new.bindings) q
-    all true h q d =
-        ⊎_elim (λ e. subst (Contains (paths_of new.bindings)) e (contains_there (paths_of new.bindings) call.0 p h.found))
-        (λ f. ⊎_elim (λ e. subst (Contains (paths_of new.bindings)) e (contains_there (paths_of new.bindings) value.0 (path.Inner p) h.value)) (λ n. absurd (none_contained q n)) (contained_cases (path.Inner p) [] q f))
-        (contained_cases p (path.Inner p ∷ []) q d)
-    all false h q d = ⊎_elim (λ e. subst (Contains (paths_of new.bindings)) e (contains_there (paths_of new.bindings) call.0 p h.found)) (λ n. absurd (none_contained q n)) (contained_cases p [] q d)
-
     joined : (qs : List Path) → Extends (paths_of new.bindings) qs → (b : Bool) → after ≡ before ++ (if b then call ∷ [] else []) → map (at qs) after ≡ map (at qs) before ++ (if b then p ∷ [] else [])
     joined qs x true e = ap (map (at qs)) e ∙ map-append (at qs) before (call ∷ []) ∙ ap (λ q. map (at qs) before ++ q ∷ []) (at_kept (paths_of new.bindings) qs call p x k.found)
     joined qs x false e = ap (map (at qs)) e ∙ map-append (at qs) before []
@@ -284,32 +309,40 @@ none_more : (n : ℕ) → n ≡ n + 0
 none_more n = omega arith
 
 -- an impure call
-pub impure_given : {E : Type 0} (r : Result BindingId E) (old new : Numbered) (before after : List BindingId) (terms : List Term) (term : TermId) (t : Term) (partial : Bool) (bs : List BindingId) (call value : BindingId)
-    → IsSomeAnd (slice_get terms term.0) (λ (x : Term). IsBuiltKind x.kind) → making_in terms term ≡ MakesNothing → t ≡ get_or terms term.0 t → is_pure t.kind ≡ false → partial ≡ may_be_nothing (kind_of t.kind)
-    → Calls old new (next_call old term bs) partial (suc old.calls) call value → IfOk r (λ b. b ≡ value) → OnOk r (after ≡ before ++ call ∷ []) → IfOk r (TermGiven terms term bs old new before after)
-impure_given (Err x) old new before after terms term t partial bs call value h none here pure of k is more = tt
-impure_given (Ok b) old new before after terms term t partial bs call value h none here pure of k is more = λ env same. pick env same (called_in terms term t h none here env same)
+pub impure_given : {E : Type 0} (r : Result BindingId E) (old new : Numbered) (before after : List BindingId) (terms : List Term) (term : TermId) (t : Term) (often : ReturnKind) (bs : List BindingId) (call value : BindingId)
+    → IsSomeAnd (slice_get terms term.0) (λ (x : Term). IsBuiltKind x.kind) → making_in terms term ≡ MakesNothing → t ≡ get_or terms term.0 t → is_pure t.kind ≡ false → often ≡ kind_of t.kind
+    → Calls old new (next_call old term bs) often (suc old.calls) call value → IfOk r (λ b. b ≡ value) → OnOk r (after ≡ before ++ call ∷ []) → IfOk r (TermGiven terms term bs old new before after)
+impure_given (Err x) old new before after terms term t often bs call value h none here pure of k is more = tt
+impure_given (Ok b) old new before after terms term t often bs call value h none here pure of k is more = λ env same. pick env same (called_in terms term t h none here env same)
   where
     pick : (env : Environment) → env.terms ≡ terms → IsCalled t.kind (calling env term) → NumbersTerm old new before after (calling env term) (call_path env term (at_all (paths_of old.bindings) bs) old.calls) b
     pick env same (by_turns callee impure called) =
         let c = ByTurns callee (kind_of t.kind) in
         as_called terms term bs c old new before after b value env same none called is
-        (call_numbers old new before after c (next_call old term bs) (suc old.calls) call value (subst (λ f. Calls old new (next_call old term bs) f (suc old.calls) call value) of k) (one_more_is old.calls) more)
+        (call_numbers old new before after c (kind_of t.kind) (next_call old term bs) (suc old.calls) call value true (turn_answers callee (kind_of t.kind)) (subst (λ f. Calls old new (next_call old term bs) f (suc old.calls) call value) of k) (one_more_is old.calls) refl more)
     pick env same (by_cases callee is_so called) = absurd (not_both (is_pure t.kind) is_so pure)
 
+pure_met : (callee : Callee) (kind : ReturnKind) (p : Path) → call_met (ByCases callee kind) p ≡ (if pure_counts kind p then p ∷ [] else [])
+pure_met callee return_kind.Plain p = refl
+pure_met callee return_kind.Option p = refl
+pure_met callee return_kind.Iterator p = refl
+
 -- a pure one
-pub pure_given : {E : Type 0} (r : Result BindingId E) (old new : Numbered) (before after : List BindingId) (terms : List Term) (term : TermId) (t : Term) (partial : Bool) (bs : List BindingId) (call value : BindingId)
-    → IsSomeAnd (slice_get terms term.0) (λ (x : Term). IsBuiltKind x.kind) → making_in terms term ≡ MakesNothing → t ≡ get_or terms term.0 t → is_pure t.kind ≡ true → partial ≡ may_be_nothing (kind_of t.kind)
-    → Calls old new (same_call old term bs) partial old.calls call value → IfOk r (λ b. b ≡ value) → OnOk r (after ≡ before ++ (if partial then call ∷ [] else [])) → IfOk r (TermGiven terms term bs old new before after)
-pure_given (Err x) old new before after terms term t partial bs call value h none here pure of k is more = tt
-pure_given (Ok b) old new before after terms term t partial bs call value h none here pure of k is more = λ env same. pick env same (called_in terms term t h none here env same)
+pub pure_given : {E : Type 0} (r : Result BindingId E) (old new : Numbered) (before after : List BindingId) (terms : List Term) (term : TermId) (t : Term) (often : ReturnKind) (counts : Bool) (bs : List BindingId) (call value : BindingId)
+    → IsSomeAnd (slice_get terms term.0) (λ (x : Term). IsBuiltKind x.kind) → making_in terms term ≡ MakesNothing → t ≡ get_or terms term.0 t → is_pure t.kind ≡ true → often ≡ kind_of t.kind
+    → Calls old new (same_call old term bs) often old.calls call value → counts ≡ pure_counts often (at (paths_of new.bindings) call) → IfOk r (λ b. b ≡ value) → OnOk r (after ≡ before ++ (if counts then call ∷ [] else [])) → IfOk r (TermGiven terms term bs old new before after)
+pure_given (Err x) old new before after terms term t often counts bs call value h none here pure of k so is more = tt
+pure_given (Ok b) old new before after terms term t often counts bs call value h none here pure of k so is more = λ env same. pick env same (called_in terms term t h none here env same)
   where
     pick : (env : Environment) → env.terms ≡ terms → IsCalled t.kind (calling env term) → NumbersTerm old new before after (calling env term) (call_path env term (at_all (paths_of old.bindings) bs) old.calls) b
     pick env same (by_turns callee impure called) = absurd (not_both (is_pure t.kind) pure impure)
     pick env same (by_cases callee is_so called) =
         let c = ByCases callee (kind_of t.kind) in
+        let p = same_call old term bs in
+        let told : counts ≡ pure_counts (kind_of t.kind) p = so ∙ ap (pure_counts often) (at_get (paths_of new.bindings) call.0 p k.found) ∙ ap (λ q. pure_counts q p) of in
         as_called terms term bs c old new before after b value env same none called is
-        (call_numbers old new before after c (same_call old term bs) old.calls call value (subst (λ f. Calls old new (same_call old term bs) f old.calls call value) of k) (none_more old.calls) (subst (λ f. after ≡ before ++ (if f then call ∷ [] else [])) of more))
+        (call_numbers old new before after c (kind_of t.kind) p old.calls call value counts (case_answers callee (kind_of t.kind)) (subst (λ f. Calls old new p f old.calls call value) of k) (none_more old.calls)
+        (pure_met callee (kind_of t.kind) p ∙ ap (λ (x : Bool). if x then p ∷ [] else []) (sym told)) more)
 
 -- a call behind its arguments, where it was added
 pub given_call : {E : Type 0} (r : Result BindingId E) (terms : List Term) (variables : Variables) (old mid new : Numbered) (before middle after : List BindingId) (e : Expr) (ty : TypeId) (term : TermId) (es : Exprs) (bs : List BindingId) → e ≡ expr.Term ty term es
@@ -331,14 +364,23 @@ impure_push env (x ∷ es) e = ap (λ n. impure env x + n) (impure_push env es e
 pub behind : (n k l : ℕ) → (n + k) + l ≡ n + (k + l)
 behind n k l = omega arith
 
-calls_push : (env : Environment) (places : Places) (es : List Expr) (e : Expr) (n : ℕ) → calls_all env (exprs_of (es ++ e ∷ [])) places n ≡ calls_all env (exprs_of es) places n ++ calls_of env e places (n + impure_all env (exprs_of es))
-calls_push env places [] e n = append-nil (calls_of env e places n) ∙ ap (calls_of env e places) (none n)
+calls_push : (env : Environment) (places : Places) (es : List Expr) (e : Expr) (n : ℕ) → exprs_calls env (exprs_of (es ++ e ∷ [])) places n ≡ exprs_calls env (exprs_of es) places n ++ expr_calls env e places (n + impure_all env (exprs_of es))
+calls_push env places [] e n = append-nil (expr_calls env e places n) ∙ ap (expr_calls env e places) (none n)
   where
     none : (k : ℕ) → k ≡ k + 0
     none k = omega arith
 calls_push env places (x ∷ es) e n =
-    ap (λ cs. calls_of env x places n ++ cs) (calls_push env places es e (n + impure env x) ∙ ap (λ k. calls_all env (exprs_of es) places (n + impure env x) ++ calls_of env e places k) (behind n (impure env x) (impure_all env (exprs_of es))))
-    ∙ sym (append_assoc (calls_of env x places n) (calls_all env (exprs_of es) places (n + impure env x)) (calls_of env e places (n + impure_all env (exprs_of (x ∷ es)))))
+    ap (λ cs. expr_calls env x places n ++ cs) (calls_push env places es e (n + impure env x) ∙ ap (λ k. exprs_calls env (exprs_of es) places (n + impure env x) ++ expr_calls env e places k) (behind n (impure env x) (impure_all env (exprs_of es))))
+    ∙ sym (append_assoc (expr_calls env x places n) (exprs_calls env (exprs_of es) places (n + impure env x)) (expr_calls env e places (n + impure_all env (exprs_of (x ∷ es)))))
+
+lists_push : (env : Environment) (places : Places) (es : List Expr) (e : Expr) (n : ℕ) → exprs_lists env (exprs_of (es ++ e ∷ [])) places n ≡ exprs_lists env (exprs_of es) places n ++ expr_lists env e places (n + impure_all env (exprs_of es))
+lists_push env places [] e n = append-nil (expr_lists env e places n) ∙ ap (expr_lists env e places) (none n)
+  where
+    none : (k : ℕ) → k ≡ k + 0
+    none k = omega arith
+lists_push env places (x ∷ es) e n =
+    ap (λ ls. expr_lists env x places n ++ ls) (lists_push env places es e (n + impure env x) ∙ ap (λ k. exprs_lists env (exprs_of es) places (n + impure env x) ++ expr_lists env e places k) (behind n (impure env x) (impure_all env (exprs_of es))))
+    ∙ sym (append_assoc (expr_lists env x places n) (exprs_lists env (exprs_of es) places (n + impure env x)) (expr_lists env e places (n + impure_all env (exprs_of (x ∷ es)))))
 
 paths_push : (env : Environment) (places : Places) (es : List Expr) (e : Expr) (n : ℕ) → exprs_paths env (exprs_of (es ++ e ∷ [])) places n ≡ exprs_paths env (exprs_of es) places n ++ expr_paths env e places (n + impure_all env (exprs_of es))
 paths_push env places [] e n = append-nil (expr_paths env e places n) ∙ ap (expr_paths env e places) (none n)
@@ -372,9 +414,9 @@ gives_none env places n bs = record { grows = grows_self n bs; found = tt }
 gives_push : (env : Environment) (places : Places) (old mid new : Numbered) (before middle after : List BindingId) (es : List Expr) (e : Expr) (bs : List BindingId) (b : BindingId) → NumbersExprs env places old mid before middle (exprs_of es) bs → NumbersExpr env places mid new middle after e b
     → NumbersExprs env places old new before after (exprs_of (es ++ e ∷ [])) (bs ++ b ∷ [])
 gives_push env places old mid new before middle after es e bs b g h = record {
-  grows = rw (paths_push env places es e old.calls, calls_push env places es e old.calls, impure_push env es e)
-      (grows_then old mid new before middle after (exprs_paths env (exprs_of es) places old.calls) (expr_paths env e places n) (calls_all env (exprs_of es) places old.calls) (calls_of env e places n) (impure_all env (exprs_of es)) (impure env e) g.grows
-      (subst (λ m. Grows mid new middle after (expr_paths env e places m) (calls_of env e places m) (impure env e)) g.grows.calls h.grows));
+  grows = rw (paths_push env places es e old.calls, calls_push env places es e old.calls, lists_push env places es e old.calls, impure_push env es e)
+      (grows_then old mid new before middle after (exprs_paths env (exprs_of es) places old.calls) (expr_paths env e places n) (exprs_calls env (exprs_of es) places old.calls) (expr_calls env e places n) (exprs_lists env (exprs_of es) places old.calls) (expr_lists env e places n) (impure_all env (exprs_of es)) (impure env e) g.grows
+      (subst (λ m. Grows mid new middle after (expr_paths env e places m) (expr_calls env e places m) (expr_lists env e places m) (impure env e)) g.grows.calls h.grows));
   found = all_push env places (paths_of new.bindings) bs es b e old.calls (all_kept (paths_of mid.bindings) (paths_of new.bindings) bs (paths env (exprs_of es) places old.calls) h.grows.extends g.found)
       (subst (λ m. slice_get (paths_of new.bindings) b.0 ≡ Some (path_of env e places m)) g.grows.calls h.found);
 }

@@ -7,6 +7,7 @@ use Rattle.std.proofs.lemmas.List.Elements.{All-contains, All-from_recursion, re
 use Rattle.isle_core.specs.BuiltRule.{IsBuiltPattern, AreBuiltPatterns, IsBuiltIfLet, IsBuiltRule, HasBuiltTerms, AllHaveBuiltTerms, BindingsHaveBuiltTerms}
 use Rattle.isle_core.specs.declared.types.Term.{Term}
 use Rattle.isle_core.specs.Calling.{Calling, calling, instance_of, is_fallible, answers_often}
+use Rattle.isle_core.specs.declared.rule_sets.Constraint.TheVariants as constraint
 use Rattle.isle_core.specs.Expr as expr
 use Rattle.isle_core.specs.Expr.{Expr, Exprs, NoExpr, AnExpr, LetBindings, NoBinding, ABinding}
 use Rattle.isle_core.specs.Making.{making}
@@ -16,13 +17,13 @@ use Rattle.isle_core.specs.Opening.{Opening, AsVariant, AsStruct, ByExtractor, o
 use Rattle.isle_core.specs.Pattern as pattern
 use Rattle.isle_core.specs.Pattern.{Pattern, Patterns, NoPattern, APattern, Var, ConstBool, ConstInt, ConstPrim, Wildcard, BindPattern, And}
 use Rattle.isle_core.specs.Path.{Path, Nowhere, Arg, Extracted}
-use Rattle.isle_core.specs.Tests.{Test, Is, Equal, Never, Places, no_places, met_tests, met_after, found_tests, opening_tests, tests, parts_tests, each_tests, after, args_tests, args_after, called_tests, all_called_tests, bindings_called_tests, iflets_tests, rule_tests}
+use Rattle.isle_core.specs.Tests.{Test, Is, Equal, HasItem, Places, no_places, met_tests, met_after, found_tests, opening_tests, tests, parts_tests, each_tests, after, args_tests, args_after, called_tests, all_called_tests, bindings_called_tests, iflets_tests, rule_tests}
 use Rattle.isle_core.specs.Scope.{IsScopedRule}
 use Rattle.isle_core.specs.Rule.{Environment, IfLet, Rule}
 use Rattle.isle_core.proofs.Contained.{head_contained, tail_contained, contained_cases, none_contained}
-use Rattle.isle_rulesets.proofs.VariablePlaces.{IsLone, AreLone, IsLoneOpening, opening_lone, call_lone, part_lone, after_lone, arg_lone, none_lone, place_lone}
+use Rattle.isle_rulesets.proofs.VariablePlaces.{IsLone, AreLone, IsLoneOpening, opening_lone, part_lone, after_lone, arg_lone, none_lone, place_lone}
 use Rattle.isle_rulesets.proofs.ConditionCalls.{terms_built}
-use Rattle.isle_rulesets.proofs.ExprPlaces.{called_once, term_somewhere, all_both, AreReached, rule_reached}
+use Rattle.isle_rulesets.proofs.ExprPlaces.{term_somewhere, all_both, AreReached, rule_reached}
 
 -- ---- tests of what stands somewhere
 
@@ -34,20 +35,24 @@ IsSomewhere p = p ≡ Nowhere → ⊥
 abbrev pub Stands : Test → Type 0
 Stands (Is q c) = IsSomewhere q
 Stands (Equal r q) = IsSomewhere r × IsSomewhere q
-Stands Never = ⊥
+Stands (HasItem q) = Unit {0}
 
 met_stand : (o : Option Path) (p : Path) → ((r : Path) → o ≡ Some r → IsSomewhere r) → IsSomewhere p → AllByRecursion Stands (met_tests o p)
 met_stand None p w a = tt
 met_stand (Some r) p w a = ((w r refl, a), tt)
 
-found_stand : (c : Calling) (p : Path) (b : Bool) → is_fallible c ≡ b → answers_often c ≡ false → IsSomewhere p → AllByRecursion Stands (found_tests c p)
-found_stand c p true f o a = rw (o, f) (a, tt)
-found_stand c p false f o a = rw (o, f) tt
+found_stand : (c : Calling) (p : Path) → IsSomewhere p → AllByRecursion Stands (found_tests c p)
+found_stand c p a = pick (answers_often c) (is_fallible c)
+  where
+    pick : (often fallible : Bool) → AllByRecursion Stands (cond often (HasItem p ∷ []) (cond fallible (Is p constraint.Some ∷ []) []))
+    pick true fallible = (tt, tt)
+    pick false true = (a, tt)
+    pick false false = tt
 
 opening_stand : (env : Environment) (opened : Opening) (p : Path) → IsLoneOpening env opened → IsSomewhere p → AllByRecursion Stands (opening_tests opened p)
 opening_stand env (AsVariant ty variant) p o a = (a, tt)
 opening_stand env (AsStruct ty) p o a = (a, tt)
-opening_stand env (ByExtractor term c count) p o a = found_stand c (Extracted term p) (is_fallible c) refl o.1 (call_lone env term c p o.0 o.1).0
+opening_stand env (ByExtractor term c count) p o a = found_stand c (Extracted term p) (λ f. cc)
 
 mutual
   tests_stand : (q : Pattern) (env : Environment) (p : Path) (places : Places) → IsBuiltPattern env.terms q → IsLone env p → AreLone env places → AllByRecursion Stands (tests env q p places)
@@ -93,7 +98,7 @@ mutual
   called_stand (expr.Term ty term es) env terms places same i =
       let p = call_path env term (paths env es places 0) 0 in
       all_both Stands (all_called_tests env es places) (found_tests (calling env term) p) (all_called_stand es env terms places same i.1)
-      (found_stand (calling env term) p (is_fallible (calling env term)) refl (called_once env terms term same i.0) (term_somewhere (making env term) term (paths env es places 0) (instance_of (calling env term) 0)))
+      (found_stand (calling env term) p (term_somewhere (making env term) term (paths env es places 0) (instance_of (calling env term) 0)))
   called_stand (expr.Let ty bs inner) env terms places same i =
       all_both Stands (bindings_called_tests env bs places) (called_tests env inner (let_places env bs places 0)) (bindings_called_stand bs env terms places same i.0) (called_stand inner env terms (let_places env bs places 0) same i.1)
 

@@ -13,7 +13,6 @@ use Rattle.isle_core.specs.Path.{Path, Nowhere, Arg, Extracted}
 use Rattle.isle_core.specs.Pattern.{Pattern, Patterns, NoPattern, APattern, Var, ConstBool, ConstInt, ConstPrim, Term, Wildcard, BindPattern, And}
 use Rattle.isle_core.specs.Tests.{Places, no_places, met_after, after, after_parts, after_each, args_after}
 use Rattle.isle_core.specs.Rule.{Environment}
-use Rattle.isle_rulesets.proofs.OpenedLaws.{extracts}
 
 -- it stands somewhere, and calls no such term
 abbrev pub IsLone : Environment → Path → Type 0
@@ -25,17 +24,17 @@ AreLone env places = (x : ℕ) (p : Path) → places x ≡ Some p → IsLone env
 
 -- ---- parts
 
--- a term's own extractor, which answers at most once, or what is made
+-- a term's own extractor, or what is made
 abbrev pub IsLoneOpening : Environment → Opening → Type 0
 IsLoneOpening env (AsVariant ty variant) = Unit {0}
 IsLoneOpening env (AsStruct ty) = Unit {0}
-IsLoneOpening env (ByExtractor term c count) = (c ≡ extracting env term) × (answers_often c ≡ false)
+IsLoneOpening env (ByExtractor term c count) = c ≡ extracting env term
 
 lone_by : (env : Environment) (term : TermId) (mk : Making) (t : Option CodeTerm) → IsOpening mk t → slice_get env.terms term.0 ≡ t → IsLoneOpening env (opening_by term mk (extracting_of env t) t)
 lone_by env term (MakesVariant ty variant) t o e = tt
 lone_by env term (MakesStruct ty) t o e = tt
 lone_by env term MakesNothing None o e = absurd o
-lone_by env term MakesNothing (Some t) o e = (sym (ap (extracting_of env) e), (extracts env t.kind o).1)
+lone_by env term MakesNothing (Some t) o e = sym (ap (extracting_of env) e)
 
 pub opening_lone : (env : Environment) (term : TermId) → IsOpening (making env term) (slice_get env.terms term.0) → IsLoneOpening env (opening env term)
 opening_lone env term o = lone_by env term (making env term) (slice_get env.terms term.0) o refl
@@ -43,9 +42,10 @@ opening_lone env term o = lone_by env term (making env term) (slice_get env.term
 pub call_lone : (env : Environment) (term : TermId) (c : Calling) (p : Path) → c ≡ extracting env term → answers_often c ≡ false → IsLone env (Extracted term p)
 call_lone env term c p e o = (λ f. cc, sym (ap answers_often e) ∙ o)
 
-answer_lone : (env : Environment) (term : TermId) (c : Calling) (p : Path) (b : Bool) → is_fallible c ≡ b → c ≡ extracting env term → answers_often c ≡ false → IsLone env (answer_path c (Extracted term p))
-answer_lone env term c p true f e o = rw f (λ g. cc, refl)
-answer_lone env term c p false f e o = rw f (call_lone env term c p e o)
+answer_lone : (env : Environment) (term : TermId) (c : Calling) (p : Path) (often fallible : Bool) → answers_often c ≡ often → is_fallible c ≡ fallible → c ≡ extracting env term → IsLone env (answer_path c (Extracted term p))
+answer_lone env term c p true fallible o f e = rw o (λ g. cc, refl)
+answer_lone env term c p false true o f e = rw (o, f) (λ g. cc, refl)
+answer_lone env term c p false false o f e = rw (o, f) (call_lone env term c p e o)
 
 result_lone : (env : Environment) (count i : ℕ) (p : Path) → IsLone env p → IsLone env (result_path count i p)
 result_lone env zero i p h = (λ f. cc, refl)
@@ -56,7 +56,7 @@ result_lone env (suc (suc count)) i p h = (λ f. cc, refl)
 pub part_lone : (env : Environment) (opened : Opening) (i : ℕ) (p : Path) → IsLoneOpening env opened → IsLone env (part_path opened i p)
 part_lone env (AsVariant ty variant) i p o = (λ f. cc, refl)
 part_lone env (AsStruct ty) i p o = (λ f. cc, refl)
-part_lone env (ByExtractor term c count) i p o = result_lone env count i (answer_path c (Extracted term p)) (answer_lone env term c p (is_fallible c) refl o.0 o.1)
+part_lone env (ByExtractor term c count) i p o = result_lone env count i (answer_path c (Extracted term p)) (answer_lone env term c p (answers_often c) (is_fallible c) refl refl o)
 
 -- ---- variables
 

@@ -27,6 +27,7 @@ key_binding (key.MatchVariant source variant field) = binding.MatchVariant sourc
 key_binding (key.ExtractStruct source field) = binding.ExtractStruct source field
 key_binding (key.MakeVariant ty variant fields) = binding.MakeVariant ty variant fields
 key_binding (key.MakeStruct ty fields) = binding.MakeStruct ty fields
+key_binding (key.Iterator source) = binding.Iterator source
 key_binding (key.MatchSome source) = binding.MatchSome source
 key_binding (key.MatchTuple source field) = binding.MatchTuple source field
 
@@ -50,5 +51,6 @@ HasParts ps (key.MatchVariant source variant field) = IsThere ps source
 HasParts ps (key.ExtractStruct source field) = IsThere ps source
 HasParts ps (key.MakeVariant ty variant fields) = AllByRecursion (IsThere ps) fields
 HasParts ps (key.MakeStruct ty fields) = AllByRecursion (IsThere ps) fields
+HasParts ps (key.Iterator source) = IsThere ps source
 HasParts ps (key.MatchSome source) = IsThere ps source
 HasParts ps (key.MatchTuple source field) = IsThere ps source

@@ -1,5 +1,7 @@
 pub mod Parts
 pub mod Keys
+pub mod Late
+pub mod Met
 pub mod Made
 pub mod Numbering
 pub mod PatternTests

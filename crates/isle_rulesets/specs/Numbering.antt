@@ -1,30 +1,39 @@
 -- Bindings numbered in order, each path once.
-use Rattle.std.specs.Prelude.{◌≡◌, ◌⊎◌, ◌<◌, ◌≤◌, ℕ, suc, List, [], ◌∷◌, length, Bool, false, Option, Some, ◌==◌, ◌&&◌, nat_lt, if◌then◌else◌, slice_get, Contains}
+use Rattle.std.specs.Prelude.{◌≡◌, ◌⊎◌, ◌<◌, ◌≤◌, ℕ, suc, List, [], ◌∷◌, ◌++◌, length, map, Bool, false, Option, Some, ◌==◌, ◌&&◌, nat_lt, if◌then◌else◌, slice_get, Contains}
 use Rattle.std.specs.BTreeMap.{BTreeMap, get}
 use Rattle.isle_core.specs.declared.BindingId.{BindingId}
 use Rattle.isle_core.specs.declared.TermId.{TermId}
 use Rattle.isle_core.specs.declared.rule_sets.Binding.{Binding}
-use Rattle.isle_core.specs.Path.{Path, Nowhere, Arg, ConstBool, ConstInt, ConstPrim, Extracted, Called, Chosen, MadeVariant, MadeStruct, VariantField, StructField, Wrapped, Inner, Part, at_all, paths_of}
+use Rattle.isle_core.specs.declared.types.ReturnKind.{ReturnKind}
+use Rattle.isle_core.specs.declared.types.ReturnKind.TheVariants as return_kind
+use Rattle.isle_core.specs.Path.{Path, Nowhere, Arg, ConstBool, ConstInt, ConstPrim, Extracted, Called, Chosen, MadeVariant, MadeStruct, VariantField, StructField, Wrapped, Inner, Part, at, at_all, paths_of}
 use Rattle.isle_core.specs.StandsFor.{EachOnce}
 use Rattle.isle_rulesets.specs.declared.keys.Key.{Key}
 use Rattle.isle_rulesets.specs.declared.keys.Key.TheVariants as key
 use Rattle.isle_rulesets.specs.Keys.{key_cmp, key_path, HasParts}
-
--- bindings, and how many of them are impure calls
-pub record Numbered : Type 0 where
-  pub bindings : List Binding
-  pub calls : ℕ
+use Rattle.isle_rulesets.specs.Late.{has_turn}
 
 -- each path stands where it stood
 pub record Extends (ps qs : List Path) : Type 0 where
   pub kept : (b : ℕ) (p : Path) → slice_get ps b ≡ Some p → slice_get qs b ≡ Some p
 
--- these paths are numbered, and nothing else was added
-pub record Joins (old new : Numbered) (ps : List Path) : Type 0 where
+-- bindings, how many of them are impure calls, and the lists that the rule at hand met
+pub record Numbered : Type 0 where
+  pub bindings : List Binding
+  pub calls : ℕ
+  pub lists : List BindingId
+
+-- the lists of the second stand at these paths, behind those of the first
+abbrev pub MeetsLists : (old new : Numbered) → List Path → Type 0
+MeetsLists old new ls = (qs : List Path) → Extends (paths_of new.bindings) qs → map (at qs) new.lists ≡ map (at qs) old.lists ++ ls
+
+-- these paths are numbered, and nothing else was added; these lists were met
+pub record Joins (old new : Numbered) (ps ls : List Path) : Type 0 where
   pub extends : Extends (paths_of old.bindings) (paths_of new.bindings)
   pub only : (p : Path) → Contains (paths_of new.bindings) p → Contains (paths_of old.bindings) p ⊎ Contains ps p
   pub all : (p : Path) → Contains ps p → Contains (paths_of new.bindings) p
   pub calls : new.calls ≡ old.calls
+  pub lists : MeetsLists old new ls
 
 -- the path has this number, and nothing else was added
 pub record Numbers (old new : Numbered) (p : Path) (b : BindingId) : Type 0 where
@@ -32,6 +41,7 @@ pub record Numbers (old new : Numbered) (p : Path) (b : BindingId) : Type 0 wher
   pub extends : Extends (paths_of old.bindings) (paths_of new.bindings)
   pub only : (q : Path) → Contains (paths_of new.bindings) q → Contains (paths_of old.bindings) q ⊎ (q ≡ p)
   pub calls : new.calls ≡ old.calls
+  pub lists : new.lists ≡ old.lists
 
 -- the next impure call of a term on numbers
 abbrev pub next_call : Numbered → TermId → List BindingId → Path
@@ -41,13 +51,32 @@ next_call old term parameters = Called term (at_all (paths_of old.bindings) para
 abbrev pub same_call : Numbered → TermId → List BindingId → Path
 same_call old term parameters = Called term (at_all (paths_of old.bindings) parameters) 0
 
--- the call has a number and its value one, its inner value where it may be nothing, nothing else was added, and so many calls were counted
-pub record Calls (old new : Numbered) (p : Path) (partial : Bool) (count : ℕ) (call result : BindingId) : Type 0 where
+-- what stands at a call's value: its inner value where it may be nothing, an item of it where it answers several times
+abbrev pub value_by : ReturnKind → Path → Path
+value_by return_kind.Plain p = p
+value_by return_kind.Option p = Inner p
+value_by return_kind.Iterator p = Chosen p
+
+-- a call and its value
+abbrev pub with_value : ReturnKind → Path → List Path
+with_value return_kind.Plain p = p ∷ []
+with_value return_kind.Option p = p ∷ Inner p ∷ []
+with_value return_kind.Iterator p = p ∷ Chosen p ∷ []
+
+-- a call that answers several times
+abbrev pub listed_by : {A : Type 0} → ReturnKind → A → List A
+listed_by return_kind.Plain x = []
+listed_by return_kind.Option x = []
+listed_by return_kind.Iterator x = x ∷ []
+
+-- the call has a number and its value one, nothing else was added, so many calls were counted, and a list was met
+pub record Calls (old new : Numbered) (p : Path) (kind : ReturnKind) (count : ℕ) (call result : BindingId) : Type 0 where
   pub found : slice_get (paths_of new.bindings) call.0 ≡ Some p
-  pub value : slice_get (paths_of new.bindings) result.0 ≡ Some (if partial then Inner p else p)
+  pub value : slice_get (paths_of new.bindings) result.0 ≡ Some (value_by kind p)
   pub extends : Extends (paths_of old.bindings) (paths_of new.bindings)
-  pub only : (q : Path) → Contains (paths_of new.bindings) q → Contains (paths_of old.bindings) q ⊎ Contains (if partial then p ∷ Inner p ∷ [] else p ∷ []) q
+  pub only : (q : Path) → Contains (paths_of new.bindings) q → Contains (paths_of old.bindings) q ⊎ Contains (with_value kind p) q
   pub calls : new.calls ≡ count
+  pub lists : new.lists ≡ old.lists ++ listed_by kind call
 
 -- the number of a key: an argument below the count has its index, and any other key what the map has
 abbrev pub known : ℕ → BTreeMap Key BindingId → Key → Option BindingId
@@ -61,6 +90,7 @@ known count numbers (key.MatchVariant source variant field) = get key_cmp number
 known count numbers (key.ExtractStruct source field) = get key_cmp numbers (key.ExtractStruct source field)
 known count numbers (key.MakeVariant ty variant fields) = get key_cmp numbers (key.MakeVariant ty variant fields)
 known count numbers (key.MakeStruct ty fields) = get key_cmp numbers (key.MakeStruct ty fields)
+known count numbers (key.Iterator source) = get key_cmp numbers (key.Iterator source)
 known count numbers (key.MatchSome source) = get key_cmp numbers (key.MatchSome source)
 known count numbers (key.MatchTuple source field) = get key_cmp numbers (key.MatchTuple source field)
 
@@ -76,6 +106,7 @@ is_next count number (key.MatchVariant source variant field) = false
 is_next count number (key.ExtractStruct source field) = false
 is_next count number (key.MakeVariant ty variant fields) = false
 is_next count number (key.MakeStruct ty fields) = false
+is_next count number (key.Iterator source) = false
 is_next count number (key.MatchSome source) = false
 is_next count number (key.MatchTuple source field) = false
 
@@ -109,3 +140,8 @@ pub record AreNumbered (n : Numbered) (numbers : Key → Option BindingId) : Typ
   pub kinds : (b : ℕ) (p : Path) → slice_get (paths_of n.bindings) b ≡ Some p → IsKeyed (paths_of n.bindings) numbers b p ⊎ IsCallUpTo n.calls p
   pub once : EachOnce (paths_of n.bindings)
   pub counted : n.calls ≤ length n.bindings
+
+-- and the flags say which paths have an impure call within them
+pub record KeepsNumbers (n : Numbered) (numbers : Key → Option BindingId) (late : List Bool) : Type 0 where
+  pub numbered : AreNumbered n numbers
+  pub told : late ≡ map has_turn (paths_of n.bindings)

@@ -1,16 +1,19 @@
 -- What a value was taken apart into, by numbers.
-use Rattle.std.specs.Prelude.{◌≡◌, ℕ, List, [], ◌∷◌, Bool, true, Some, slice_get, if◌then◌else◌}
+use Rattle.std.specs.Prelude.{◌≡◌, ℕ, List, [], ◌∷◌, ◌++◌, Bool, Some, slice_get}
 use Rattle.isle_core.specs.declared.BindingId.{BindingId}
 use Rattle.isle_core.specs.declared.TermId.{TermId}
 use Rattle.isle_core.specs.declared.rule_sets.Constraint.TheVariants as constraint
 use Rattle.isle_core.specs.declared.types.ExtractorKind.{ExtractorKind}
 use Rattle.isle_core.specs.declared.types.ExtractorKind.TheVariants as extractor
+use Rattle.isle_core.specs.declared.types.ReturnKind.{ReturnKind}
+use Rattle.isle_core.specs.declared.types.ReturnKind.TheVariants as return_kind
 use Rattle.isle_core.specs.declared.types.TermKind.{TermKind}
 use Rattle.isle_core.specs.declared.types.TermKind.TheVariants as kind
+use Rattle.isle_core.specs.Calling.{extractor_kind}
 use Rattle.isle_core.specs.Opening.{opening, part_path}
-use Rattle.isle_core.specs.Path.{Path, VariantField, StructField, Inner, Part, at, paths_of}
+use Rattle.isle_core.specs.Path.{Path, Chosen, VariantField, StructField, Inner, Part, at, paths_of}
 use Rattle.isle_core.specs.RulePaths.{opening_paths}
-use Rattle.isle_core.specs.Tests.{Is, opening_tests}
+use Rattle.isle_core.specs.Tests.{Places, Test, Is, HasItem, opening_tests}
 use Rattle.isle_core.specs.Rule.{Environment}
 use Rattle.isle_rulesets.specs.declared.made.Made.{Made}
 use Rattle.isle_rulesets.specs.declared.made.Made.TheVariants as made
@@ -18,20 +21,21 @@ use Rattle.isle_rulesets.specs.declared.opening.Opened.{Opened}
 use Rattle.isle_rulesets.specs.declared.opening.Opened.TheVariants as opened
 use Rattle.isle_rulesets.specs.declared.pattern_tests.PatternTests.{PatternTests}
 use Rattle.isle_rulesets.specs.Keys.{IsThere}
-use Rattle.isle_rulesets.specs.Numbering.{Numbered, Extends}
-use Rattle.isle_rulesets.specs.PatternTests.{Reads}
+use Rattle.isle_rulesets.specs.Met.{opening_lists}
+use Rattle.isle_rulesets.specs.Numbering.{Numbered, Extends, value_by, listed_by}
+use Rattle.isle_rulesets.specs.PatternTests.{HasTests, Reads}
 
--- an extractor that always answers
-abbrev pub infallible_by : ExtractorKind → Bool
-infallible_by extractor.Absent = true
-infallible_by extractor.Internal = true
-infallible_by (extractor.External func infallible) = infallible
+-- how often an extractor answers
+abbrev pub kind_by : (multi : Bool) → ExtractorKind → ReturnKind
+kind_by multi extractor.Absent = return_kind.Plain
+kind_by multi extractor.Internal = return_kind.Plain
+kind_by multi (extractor.External func infallible) = extractor_kind multi infallible
 
 -- so that of a term of this kind
-abbrev pub infallible : TermKind → Bool
-infallible (kind.Variant ty variant) = true
-infallible (kind.Struct ty) = true
-infallible (kind.Decl pure multi partial recursive by how) = infallible_by how
+abbrev pub extracts_by : TermKind → ReturnKind
+extracts_by (kind.Variant ty variant) = return_kind.Plain
+extracts_by (kind.Struct ty) = return_kind.Plain
+extracts_by (kind.Decl pure multi partial recursive by how) = kind_by multi how
 
 -- a field of what is made
 abbrev pub made_part : Made → ℕ → Path → Path
@@ -50,14 +54,30 @@ IsOpenedThere ps (opened.Made m source) = IsThere ps source
 IsOpenedThere ps (opened.Result answer) = IsThere ps answer
 IsOpenedThere ps (opened.Results answer) = IsThere ps answer
 
--- the answer has this number, and is tested and its inner value is numbered where it may be nothing
-pub record Answers (old new : Numbered) (d e : PatternTests) (always : Bool) (p : Path) (b : BindingId) : Type 0 where
-  pub reads : Reads old new d e (if always then [] else Inner p ∷ []) (λ places. places) (λ places. if always then [] else Is p constraint.Some ∷ [])
-  pub found : slice_get (paths_of new.bindings) b.0 ≡ Some (if always then p else Inner p)
+-- the value of an answer beside it
+abbrev pub value_beside : ReturnKind → Path → List Path
+value_beside return_kind.Plain p = []
+value_beside return_kind.Option p = Inner p ∷ []
+value_beside return_kind.Iterator p = Chosen p ∷ []
+
+-- what is tested of an answer: that it is something, where it may be nothing; of a list, that it has an item
+abbrev pub tested_by : ReturnKind → Path → List Test
+tested_by return_kind.Plain p = []
+tested_by return_kind.Option p = Is p constraint.Some ∷ []
+tested_by return_kind.Iterator p = HasItem p ∷ []
+
+-- an answer at a number is tested so, wherever bindings have paths
+abbrev pub Asks : PatternTests → PatternTests → ReturnKind → BindingId → Type 0
+Asks d e kind call = (ps : List Path) (places : Places) (ts : List Test) → HasTests ps places ts d → HasTests ps places (ts ++ tested_by kind (at ps call)) e
+
+-- the answer's value has this number, and the answer is tested and met where it is a list
+pub record Answers (old new : Numbered) (d e : PatternTests) (kind : ReturnKind) (p : Path) (b : BindingId) : Type 0 where
+  pub reads : Reads old new d e (value_beside kind p) (listed_by kind p) (λ places. places) (λ places. tested_by kind p)
+  pub found : slice_get (paths_of new.bindings) b.0 ≡ Some (value_by kind p)
 
 -- a term's pattern takes a path apart: what it calls is numbered, what it tests was gathered, and the parts are its parts
 pub record OpensAt (env : Environment) (old new : Numbered) (d e : PatternTests) (term : TermId) (p : Path) (o : Opened) : Type 0 where
-  pub reads : Reads old new d e (opening_paths (opening env term) p) (λ places. places) (λ places. opening_tests (opening env term) p)
+  pub reads : Reads old new d e (opening_paths (opening env term) p) (opening_lists (opening env term) p) (λ places. places) (λ places. opening_tests (opening env term) p)
   pub parts : (ps : List Path) → Extends (paths_of new.bindings) ps → (i : ℕ) → opened_part ps o i ≡ part_path (opening env term) i p
 
 -- so of the path of a number

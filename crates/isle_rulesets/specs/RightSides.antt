@@ -1,16 +1,17 @@
 -- How the right side of a rule is numbered.
-use Rattle.std.specs.Prelude.{◌≡◌, ◌⊎◌, ℕ, ◌+◌, List, [], ◌∷◌, ◌++◌, Bool, false, Option, Some, None, map, slice_get, Contains}
+use Rattle.std.specs.Prelude.{◌≡◌, ◌⊎◌, ℕ, ◌+◌, List, [], ◌∷◌, ◌++◌, Bool, true, false, Option, Some, None, map, slice_get, Contains}
 use Rattle.std.specs.List.{AllByRecursion}
 use Rattle.isle_core.specs.declared.BindingId.{BindingId}
 use Rattle.isle_core.specs.declared.types.Term.{Term}
 use Rattle.isle_core.specs.declared.types.TermKind.{TermKind}
 use Rattle.isle_core.specs.declared.types.TermKind.TheVariants as kind
+use Rattle.isle_core.specs.declared.types.ReturnKind.{ReturnKind}
+use Rattle.isle_core.specs.declared.types.ReturnKind.TheVariants as return_kind
 use Rattle.isle_core.specs.declared.rules.LetBinding.{LetBinding}
 use Rattle.isle_core.specs.Expr.{Expr, Exprs, LetBindings}
 use Rattle.isle_core.specs.RuleViews.{SeenBinding, expr}
 use Rattle.isle_core.specs.Path.{Path, Paths, NoPath, APath, at, paths_of}
 use Rattle.isle_core.specs.Calling.{Calling, one_more, impure, impure_all, impure_bindings}
-use Rattle.isle_core.specs.OrderedCalls.{calls, calls_all, calls_bindings, if_ordered}
 use Rattle.isle_core.specs.RightSide.{path, paths, answer_path, let_places}
 use Rattle.isle_core.specs.RulePaths.{expr_paths, exprs_paths, bindings_paths, with_inner}
 use Rattle.isle_core.specs.Scope.{let_scope}
@@ -18,13 +19,21 @@ use Rattle.isle_core.specs.Tests.{Places}
 use Rattle.isle_core.specs.Rule.{Environment}
 use Rattle.isle_scope.specs.Table.{held}
 use Rattle.isle_rulesets.specs.Keys.{IsThere}
-use Rattle.isle_rulesets.specs.Numbering.{Numbered, Extends}
+use Rattle.isle_rulesets.specs.Late.{has_turn}
+use Rattle.isle_rulesets.specs.Met.{call_met, list_met, expr_calls, exprs_calls, bindings_calls, expr_lists, exprs_lists, bindings_lists}
+use Rattle.isle_rulesets.specs.Numbering.{Numbered, Extends, MeetsLists}
 
 -- whether a term of this kind is pure
 abbrev pub is_pure : TermKind → Bool
 is_pure (kind.Variant ty variant) = false
 is_pure (kind.Struct ty) = false
 is_pure (kind.Decl pure multi partial recursive constructor extractor) = pure
+
+-- the place of a pure call counts: of one that may be nothing, and of a list that has an impure call within it
+abbrev pub pure_counts : ReturnKind → Path → Bool
+pure_counts return_kind.Plain p = false
+pure_counts return_kind.Option p = true
+pure_counts return_kind.Iterator p = has_turn p
 
 -- variables with their numbers, in the order in which they were bound
 abbrev pub Variables : Type 0
@@ -53,24 +62,25 @@ pub record Stand (ps : List Path) (variables : Variables) (places : Places) : Ty
 pub record AreThere (ps : List Path) (variables : Variables) : Type 0 where
   pub by : (x : ℕ) (b : BindingId) → held variables x ≡ Some b → IsThere ps b
 
--- these paths are numbered and nothing else was, these calls, of which so many count, stand in order behind those before, and
--- a path stands at the number of each
-pub record Grows (old new : Numbered) (before after : List BindingId) (ps cs : List Path) (more : ℕ) : Type 0 where
+-- these paths are numbered and nothing else was, these calls, of which so many count, stand in order behind those before, a
+-- path stands at the number of each, and these lists were met
+pub record Grows (old new : Numbered) (before after : List BindingId) (ps cs ls : List Path) (more : ℕ) : Type 0 where
   pub extends : Extends (paths_of old.bindings) (paths_of new.bindings)
   pub only : (p : Path) → Contains (paths_of new.bindings) p → Contains (paths_of old.bindings) p ⊎ Contains ps p
   pub all : (p : Path) → Contains ps p → Contains (paths_of new.bindings) p
   pub ordered : (qs : List Path) → Extends (paths_of new.bindings) qs → map (at qs) after ≡ map (at qs) before ++ cs
   pub there : AllByRecursion (IsThere (paths_of old.bindings)) before → AllByRecursion (IsThere (paths_of new.bindings)) after
   pub calls : new.calls ≡ old.calls + more
+  pub lists : MeetsLists old new ls
 
 -- what a term makes of numbers, or its call on them, was numbered, and its value has this number
 pub record NumbersTerm (old new : Numbered) (before after : List BindingId) (c : Calling) (p : Path) (b : BindingId) : Type 0 where
-  pub grows : Grows old new before after (with_inner c p) (if_ordered c p) (one_more c 0)
+  pub grows : Grows old new before after (with_inner c p) (call_met c p) (list_met c p) (one_more c 0)
   pub found : slice_get (paths_of new.bindings) b.0 ≡ Some (answer_path c p)
 
 -- an expression was numbered, and its value has this number
 pub record NumbersExpr (env : Environment) (places : Places) (old new : Numbered) (before after : List BindingId) (e : Expr) (b : BindingId) : Type 0 where
-  pub grows : Grows old new before after (expr_paths env e places old.calls) (calls env e places old.calls) (impure env e)
+  pub grows : Grows old new before after (expr_paths env e places old.calls) (expr_calls env e places old.calls) (expr_lists env e places old.calls) (impure env e)
   pub found : slice_get (paths_of new.bindings) b.0 ≡ Some (path env e places old.calls)
 
 -- paths stand at numbers, in order
@@ -82,12 +92,12 @@ AllAt ps (b ∷ bs) NoPath = ⊥
 
 -- expressions were numbered in order, and their values have these numbers
 pub record NumbersExprs (env : Environment) (places : Places) (old new : Numbered) (before after : List BindingId) (es : Exprs) (bs : List BindingId) : Type 0 where
-  pub grows : Grows old new before after (exprs_paths env es places old.calls) (calls_all env es places old.calls) (impure_all env es)
+  pub grows : Grows old new before after (exprs_paths env es places old.calls) (exprs_calls env es places old.calls) (exprs_lists env es places old.calls) (impure_all env es)
   pub found : AllAt (paths_of new.bindings) bs (paths env es places old.calls)
 
 -- the values of a `let` were numbered in order, and behind them the variables have these numbers
 pub record NumbersLets (env : Environment) (places : Places) (variables : Variables) (old new : Numbered) (before after : List BindingId) (bs : LetBindings) : Type 0 where
-  pub grows : Grows old new before after (bindings_paths env bs places old.calls) (calls_bindings env bs places old.calls) (impure_bindings env bs)
+  pub grows : Grows old new before after (bindings_paths env bs places old.calls) (bindings_calls env bs places old.calls) (bindings_lists env bs places old.calls) (impure_bindings env bs)
   pub stand : Stand (paths_of new.bindings) variables (let_places env bs places old.calls)
 
 -- ---- for each environment of these terms, and wherever the variables stand

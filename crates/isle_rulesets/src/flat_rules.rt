@@ -25,6 +25,7 @@ fn flat_rule(
     requires terms { CallsBuiltTerms terms.now (seen rule.now) }
     ensures { IfOk result (λ f. (env : Environment) → env.terms ≡ terms.now → Adds env numbering.old numbering.new (seen rule.now) f) }
 {
+    numbering.begin_rule();
     let mut pattern_tests = number_patterns(alloc, terms, numbering, rule)?;
     let mut calls = Vec::new(alloc);
     let result = number_expr(
@@ -37,12 +38,13 @@ fn flat_rule(
     )?;
     let constraints = first_constraints(alloc, pattern_tests.constraints.as_slice())?;
     let ordered = first_calls(alloc, calls.as_slice())?;
+    let lists = first_calls(alloc, numbering.lists())?;
     let equals = first_equals(alloc, pattern_tests.equals.as_slice())?;
     Ok(FlatRule {
         pos: rule.pos,
         constraints: List::new(constraints),
         equals: List::new(equals),
-        iterators: List::new(Vec::new(alloc)),
+        iterators: List::new(lists),
         prio: rule.prio,
         ordered: List::new(ordered),
         result,

@@ -38,6 +38,9 @@ pub enum Key {
         ty: TypeId,
         fields: Parts,
     },
+    Iterator {
+        source: BindingId,
+    },
     MatchSome {
         source: BindingId,
     },
@@ -81,6 +84,7 @@ impl Drop for Key {
                 ty: _ty,
                 fields: _fields,
             } => {}
+            Key::Iterator { source: _source } => {}
             Key::MatchSome { source: _source } => {}
             Key::MatchTuple {
                 source: _source,
@@ -138,6 +142,7 @@ impl Key {
                 ty: *ty,
                 fields: fields.copied(alloc)?,
             },
+            Key::Iterator { source } => Binding::Iterator { source: *source },
             Key::MatchSome { source } => Binding::MatchSome { source: *source },
             Key::MatchTuple { source, field } => Binding::MatchTuple {
                 source: *source,

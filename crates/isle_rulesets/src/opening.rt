@@ -1,18 +1,21 @@
-ghost use Rattle.std.specs.Prelude.{◌≡◌, Some, IfOk, IsSomeAnd, slice_get};
+ghost use Rattle.std.specs.Prelude.{◌≡◌, Some, IfOk, OnOk, IsSomeAnd, slice_get};
 ghost use Rattle.isle_core.specs.declared.types.Term.{Term as CodeTerm};
 ghost use Rattle.isle_core.specs.Path.{Path, paths_of};
+ghost use Rattle.isle_core.specs.Calling.{extractor_kind};
 ghost use Rattle.isle_core.specs.Rule.{Environment};
 ghost use Rattle.isle_core.specs.Making.{MakesNothing, making_in};
 ghost use Rattle.isle_core.specs.BuiltRule.{IsExtractorKind, IsOpening};
 ghost use Rattle.isle_rulesets.specs.Keys.{IsThere};
 ghost use Rattle.isle_rulesets.specs.Numbering.{Numbers};
-ghost use Rattle.isle_rulesets.specs.Opened.{infallible, opened_part, IsOpenedThere, Answers, Opens};
+ghost use Rattle.isle_rulesets.specs.Opened.{extracts_by, Asks, opened_part, IsOpenedThere, Answers, Opens};
 
 use crate::keys::Key;
 use crate::made::{Made, made_by};
 use crate::numbering::Numbering;
 use crate::pattern_tests::{PatternTests, constrain};
-use isle_core::{BindingId, Constraint, ExtractorKind, Term, TermId, TermKind, TupleIndex};
+use isle_core::{
+    BindingId, Constraint, ExtractorKind, ReturnKind, Term, TermId, TermKind, TupleIndex,
+};
 use std::alloc::{AllocError, Global};
 
 /// What a value was taken apart into: the fields of what is made, or an extractor's result or results.
@@ -23,35 +26,61 @@ pub enum Opened {
     Results(BindingId),
 }
 
-// Whether the extractor of the term always answers.
-fn is_infallible(kind: &TermKind) -> bool
-    ensures { result ≡ infallible kind.now }
+// How often an external extractor answers.
+fn extractor_kind(multi: bool, infallible: bool) -> ReturnKind
+    ensures { result ≡ extractor_kind multi infallible }
+{
+    match (multi, infallible) {
+        (true, true) | (true, false) => ReturnKind::Iterator,
+        (false, true) => ReturnKind::Plain,
+        (false, false) => ReturnKind::Option,
+    }
+}
+
+// How often the extractor of the term answers.
+fn how_often(kind: &TermKind) -> ReturnKind
+    ensures { result ≡ extracts_by kind.now }
 {
     match kind {
-        TermKind::Variant { .. } | TermKind::Struct { .. } => true,
-        TermKind::Decl { extractor, .. } => match extractor {
-            ExtractorKind::Absent | ExtractorKind::Internal => true,
-            ExtractorKind::External { infallible, .. } => *infallible,
+        TermKind::Variant { .. } | TermKind::Struct { .. } => ReturnKind::Plain,
+        TermKind::Decl {
+            multi,
+            extractor,
+            ..
+        } => match extractor {
+            ExtractorKind::Absent | ExtractorKind::Internal => ReturnKind::Plain,
+            ExtractorKind::External { infallible, .. } => extractor_kind(*multi, *infallible),
         },
     }
 }
 
-// The number of an extractor's answer, which is tested where it may be nothing.
+// Tests that an answer is something, where it may be nothing; that a list has an item is seen to by the loop over it.
+fn test_answer(
+    tests: &mut PatternTests,
+    call: BindingId,
+    kind: ReturnKind,
+) -> Result<(), AllocError>
+    ensures { OnOk result (Asks tests.old tests.new kind call) }
+{
+    match kind {
+        ReturnKind::Plain | ReturnKind::Iterator => Ok(()),
+        ReturnKind::Option => constrain(tests, call, Constraint::Some),
+    }
+}
+
+// The number of the value of an extractor's answer, which is tested.
 fn answer(
     alloc: Global,
     numbering: &mut Numbering,
     tests: &mut PatternTests,
     call: BindingId,
-    infallible: bool,
+    kind: ReturnKind,
 ) -> Result<BindingId, AllocError>
     requires { IsThere (paths_of numbering.old.bindings) call }
-    ensures { IfOk result (λ b. (p : Path) → slice_get (paths_of numbering.old.bindings) call.0 ≡ Some p → Answers numbering.old numbering.new tests.old tests.new infallible p b) }
+    ensures { IfOk result (λ b. (p : Path) → slice_get (paths_of numbering.old.bindings) call.0 ≡ Some p → Answers numbering.old numbering.new tests.old tests.new kind p b) }
 {
-    if infallible {
-        return Ok(call);
-    }
-    constrain(tests, call, Constraint::Some)?;
-    numbering.intern(alloc, Key::MatchSome { source: call })
+    test_answer(tests, call, kind)?;
+    numbering.answered(alloc, call, kind)
 }
 
 // What an extractor gives on the path of a number.
@@ -72,7 +101,7 @@ fn extract(
     let found = &terms[term.index()];
     let parameter = source;
     let call = numbering.intern(alloc, Key::Extractor { term, parameter })?;
-    let answer = answer(alloc, numbering, tests, call, is_infallible(&found.kind))?;
+    let answer = answer(alloc, numbering, tests, call, how_often(&found.kind))?;
     Ok(if found.arg_tys.as_slice().len() == 1 {
         Opened::Result(answer)
     } else {

@@ -28,6 +28,13 @@ impl Parts {
         Parts { numbers }
     }
 
+    /// Returns the numbers.
+    pub fn as_slice(&self) -> &[BindingId]
+        ensures { result.now ≡ self.now }
+    {
+        self.numbers.as_slice()
+    }
+
     /// Copies the numbers. The only error is want of memory.
     pub fn copied(&self, alloc: Global) -> Result<List<BindingId>, AllocError>
         ensures { IfOk result (λ numbers. numbers ≡ self.now) }

@@ -4,35 +4,40 @@ ghost use Rattle.isle_core.specs.declared.types.Term.{Term as CodeTerm};
 ghost use Rattle.isle_core.specs.RuleViews.{expr as seen, exprs_of, bindings_of};
 ghost use Rattle.isle_core.specs.BuiltRule.{IsBuiltKind, HasBuiltTerms, AllHaveBuiltTerms, BindingsHaveBuiltTerms};
 ghost use Rattle.isle_core.specs.Making.{MakesNothing, making_in};
-ghost use Rattle.isle_core.specs.Calling.{may_be_nothing, kind_of, calling};
-ghost use Rattle.isle_core.specs.Path.{at_all, paths_of};
+ghost use Rattle.isle_core.specs.Calling.{kind_of, calling};
+ghost use Rattle.isle_core.specs.Path.{at, at_all, paths_of};
 ghost use Rattle.isle_core.specs.RightSide.{call_path};
 ghost use Rattle.isle_core.specs.Rule.{Environment};
 ghost use Rattle.isle_core.specs.Scope.{let_scope, IsInScope, AreInScope, AreLetsInScope};
 ghost use Rattle.isle_scope.specs.Table.{held};
 ghost use Rattle.isle_rulesets.specs.Keys.{IsThere};
-ghost use Rattle.isle_rulesets.specs.RightSides.{is_pure, names, bound, AreThere, NumbersTerm, Given, AllGiven, Binds};
+ghost use Rattle.isle_rulesets.specs.RightSides.{is_pure, pure_counts, names, bound, AreThere, NumbersTerm, Given, AllGiven, Binds};
 
 use crate::keys::Key;
 use crate::made::made_by;
 use crate::numbering::{Call, Numbering};
 use crate::parts::Parts;
-use isle_core::{BindingId, Expr, LetBinding, List, Term, TermId, TermKind, VarId};
+use isle_core::{BindingId, Expr, LetBinding, List, ReturnKind, Term, TermId, TermKind, VarId};
 use isle_scope::Table;
 use std::alloc::{AllocError, Global};
 
-// Whether the single answer of the term may be nothing.
-fn is_partial(kind: &TermKind) -> bool
-    ensures { result ≡ may_be_nothing (kind_of kind.now) }
+// How often the term answers.
+fn how_often(kind: &TermKind) -> ReturnKind
+    ensures { result ≡ kind_of kind.now }
 {
     match kind {
-        TermKind::Variant { .. } | TermKind::Struct { .. } => false,
-        TermKind::Decl { multi: true, .. } => false,
+        TermKind::Variant { .. } | TermKind::Struct { .. } => ReturnKind::Plain,
+        TermKind::Decl { multi: true, .. } => ReturnKind::Iterator,
         TermKind::Decl {
             multi: false,
-            partial,
+            partial: true,
             ..
-        } => *partial,
+        } => ReturnKind::Option,
+        TermKind::Decl {
+            multi: false,
+            partial: false,
+            ..
+        } => ReturnKind::Plain,
     }
 }
 
@@ -72,8 +77,19 @@ fn ordered_call(
     Ok(call.value)
 }
 
+// Whether the place of a pure call counts: of one that may be nothing, and of a list that holds an impure call.
+fn counts(numbering: &Numbering, kind: ReturnKind, call: BindingId) -> bool
+    ensures { result ≡ pure_counts kind (at (paths_of numbering.now.bindings) call) }
+{
+    match kind {
+        ReturnKind::Plain => false,
+        ReturnKind::Option => true,
+        ReturnKind::Iterator => numbering.has_turn(call),
+    }
+}
+
 // The number of the value of a call on numbered arguments. An impure one is new, and equal pure ones are one: of these only
-// those that may be nothing join the calls before.
+// those whose place counts join the calls before.
 fn number_call(
     alloc: Global,
     terms: &[Term],
@@ -89,12 +105,12 @@ fn number_call(
         → NumbersTerm numbering.old numbering.new ordered.old.items ordered.new.items (calling env term) (call_path env term (at_all (paths_of numbering.old.bindings) parameters.items) numbering.old.calls) b) }
 {
     let kind = &terms[term.index()].kind;
-    let is_partial = is_partial(kind);
+    let often = how_often(kind);
     if is_pure(kind) {
-        let call = numbering.pure_call(alloc, term, Parts::new(parameters), is_partial)?;
-        return ordered_call(ordered, call, is_partial);
+        let call = numbering.pure_call(alloc, term, Parts::new(parameters), often)?;
+        return ordered_call(ordered, call, counts(numbering, often, call.number));
     }
-    let call = numbering.call(alloc, term, List::new(parameters), is_partial)?;
+    let call = numbering.call(alloc, term, List::new(parameters), often)?;
     ordered_call(ordered, call, true)
 }
 

@@ -1,5 +1,5 @@
 -- Where a term can be run there are lines, or memory ran out.
-use Rattle.std.proofs.Common.{◌≡◌, ℕ, List, Bool, ◌++◌, map, true, false, Some, refl, sym, ap, ◌∙◌, subst}
+use Rattle.std.proofs.Common.{◌≡◌, ℕ, List, ◌++◌, map, true, false, Some, refl, sym, ap, ◌∙◌, subst}
 use Rattle.std.specs.Prelude.{Result, Ok, Err, IfErr, IsOkUnless}
 use Rattle.isle_core.specs.declared.files.Files.{Files}
 use Rattle.isle_core.specs.declared.options.CodegenOptions.{CodegenOptions}
@@ -26,10 +26,9 @@ use Rattle.isle_interpreter.specs.Named.{AreNamed}
 use Rattle.isle_interpreter.specs.declared.run_error.RunError.TheVariants as error
 use Rattle.isle_interpreter.proofs.OneRefusal.{not_refused}
 use Rattle.isle_simulation.specs.TypeTexts.{parameter, type_text}
-use Rattle.isle_run_inputs.specs.Built.{are_built}
 use Rattle.isle_run_inputs.specs.AnswersAt.{answers_at, constants_at, cases_at, turns_at}
 use Rattle.isle_codegen.specs.Checked.{IsChecked}
-use Rattle.isle_codegen.proofs.Accepted.{accepted_none, accepted_built, accepted_named, checked_accepted}
+use Rattle.isle_codegen.proofs.Accepted.{accepted_none, accepted_named, checked_accepted}
 use Rattle.isle_run.specs.declared.refusal.Refusal.{Refusal}
 use Rattle.isle_run.specs.declared.refusal.Refusal.TheVariants as refused
 use Rattle.isle_run.specs.Conforming.{Conforms}
@@ -117,12 +116,9 @@ module _ (options : CodegenOptions) (files : Files) (term : List ℕ) (ws : Writ
   run_not_refused _ (no_lines.arg_count m h) = not_refused p term args answers the_function.function _ may (count_of p term args m answers h)
   run_not_refused _ (no_lines.arg_type m i h) = not_refused p term args answers the_function.function _ may (type_of p term args m answers i h)
   run_not_refused _ (no_lines.fault at takes h) = fault_unspelt text at c.forms h c.spelt
-  run_not_refused _ (no_lines.unbuilt forms takes spelt bad) =
-      let same : true ≡ false = sym c.built ∙ ap are_built (forms_same text c.forms forms c.spelt spelt) ∙ bad in
-      absurd cc
-  run_not_refused _ (no_lines.wrong forms i spelt built h) =
+  run_not_refused _ (no_lines.wrong forms i spelt h) =
       not_refused p term args answers the_function.function _ may (subst (λ fs. IsRefused p term args (answers_at c.env fs) (error.BadAnswers i)) (forms_same text forms c.forms spelt c.spelt) h)
-  run_not_refused _ (no_lines.left_out forms spelt built runs h) =
+  run_not_refused _ (no_lines.left_out forms spelt runs h) =
       let left : leave_out (record { program = p; env = c.env; term = term; args = args }) answers ≡ true = subst (λ fs. leave_out (record { program = p; env = c.env; term = term; args = args }) (answers_at c.env fs) ≡ true) (forms_same text forms c.forms spelt c.spelt) h in
       let same : true ≡ false = sym left ∙ wanted.kept in
       absurd cc
@@ -135,7 +131,6 @@ source_not_refused options files term ws text e c s =
 
 -- where it can be run, only memory is wanting
 pub only_memory : (options : CodegenOptions) (files : Files) (term : List ℕ) (ws : Writtens) (text : List ℕ) (e : Refusal) → CanRun files term ws text → HasNoLines options files term ws text e → e ≡ refused.Memory
-only_memory options files term ws text _ c (no_lines.not_built h) = absurd (accepted_built files.file_texts (checked_accepted files c.env c.checked) h)
 only_memory options files term ws text _ c (no_lines.faulty errors h) = absurd (accepted_none files.file_names files.file_texts errors (checked_accepted files c.env c.checked) h)
 only_memory options files term ws text _ c (no_lines.badly_named e h) = absurd (accepted_named files.file_names files.file_texts e (checked_accepted files c.env c.checked) c.checked.names h)
 only_memory options files term ws text _ c (no_lines.refused e s) = absurd (source_not_refused options files term ws text e c s)

@@ -1,5 +1,5 @@
 -- What a run gives are the lines of a trial.
-use Rattle.std.proofs.Common.{◌≡◌, ℕ, List, [], ◌∷◌, map, length, true, false, Option, Some, refl, sym, ap, subst, ◌∙◌}
+use Rattle.std.proofs.Common.{◌≡◌, ℕ, List, [], ◌∷◌, map, length, false, Option, Some, refl, sym, ap, subst, ◌∙◌}
 use Rattle.std.specs.Prelude.{slice_get}
 use Rattle.std.specs.Option.{option_map_or}
 use Rattle.std.proofs.lemmas.List.{length-map}
@@ -21,7 +21,7 @@ use Rattle.isle_tree.specs.Run.{run}
 use Rattle.isle_simulation.specs.TypeTexts.{parameter}
 use Rattle.isle_run_inputs.specs.Requested.{requested_term, requested_types, arg_types}
 use Rattle.isle_run_inputs.specs.AnswersAt.{answers_at}
-use Rattle.isle_run_inputs.specs.ValuesAt.{misfit, values_at}
+use Rattle.isle_run_inputs.specs.ValuesAt.{values_at}
 use Rattle.isle_run_inputs.proofs.HaveTypes.{Matched, have_types}
 use Rattle.isle_outcomes.specs.Lines.{run_lines}
 use Rattle.isle_interpreter.specs.Refusals.{MayRun}
@@ -34,11 +34,7 @@ use Rattle.isle_run.specs.Ran.{IsUnder, IsOutcome}
 use Rattle.isle_run.specs.Trial.{args_given, shown_run, AreLines, IsTrial}
 use Rattle.isle_run.proofs.FoundTerms.{Found, both_found, declared_name}
 use Rattle.isle_run.proofs.Means.{means}
-
--- a misfit is of no type
-misfit_unnamed : (types : List TypeItem) (name : List ℕ) → IsNamed types name misfit → ⊥
-misfit_unnamed types [] h = let never : false ≡ true = h.0 in cc
-misfit_unnamed types (b ∷ bs) h = let never : false ≡ true = h.0 in cc
+use Rattle.isle_run.proofs.Unfit.{misfit_unnamed}
 
 -- each value is of the type of its name
 matched : (types : List TypeItem) (names : List (List ℕ)) (vs : List Value) → AreNamed types names vs → Matched (IsNamed types) names vs
@@ -99,6 +95,5 @@ is_trial options files env p term ws args text r lines checked conforms given h 
       forms = h.forms;
       spelt = h.spelt;
       once = h.once;
-      built = under.built;
       are_lines = subst (AreLines options files env term (args_given env term ws) (answers_at env h.forms)) (sym shown) (are_lines options files env p term ws under.fits.function r (answers_at env h.forms) under.given conforms under.fits.may under.runs);
     }

@@ -4,6 +4,7 @@ pub mod Means
 pub mod ImpureCalls
 pub mod RunRefusals
 pub mod Refusing
+pub mod Unfit
 pub mod GivesLines
 pub mod ImpureSteps
 pub mod RequestedTerms

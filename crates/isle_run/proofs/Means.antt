@@ -1,6 +1,7 @@
--- The lines of a run are those of the outcome that the rules prescribe.
+-- The lines of a run are those of what the rules prescribe.
 use Rattle.std.proofs.Common.{◌≡◌, ℕ, List, map, false, Option, Some, None, refl, sym, ap, subst, ◌∙◌}
 use Rattle.std.specs.Prelude.{Contains, IsSomeAnd, option_map, slice_get}
+use Rattle.std.proofs.lemmas.Option.{same_Some}
 use Rattle.isle_core.specs.declared.TermId.{TermId}
 use Rattle.isle_core.specs.declared.files.Files.{Files}
 use Rattle.isle_core.specs.declared.options.CodegenOptions.{CodegenOptions}
@@ -10,29 +11,29 @@ use Rattle.isle_core.specs.Meaning.{Meaning}
 use Rattle.isle_core.specs.Having.{const_of, HasAnswers}
 use Rattle.isle_core.specs.HasType.{HaveTypes}
 use Rattle.isle_core.specs.Lawful.{IsLawful}
-use Rattle.isle_core.specs.Nameless.{nameless_end, nameless_made}
+use Rattle.isle_core.specs.Cut.{cut_run}
+use Rattle.isle_core.specs.Nameless.{nameless_end, nameless_made, nameless_ran}
 use Rattle.isle_core.specs.NamesApart.{ValuesConstants}
 use Rattle.isle_core.specs.Calling.{kind_of}
-use Rattle.isle_core.specs.Outcome.{Result, Value', Failure, Unmatched, Prescription}
 use Rattle.isle_core.specs.declared.types.ReturnKind.{ReturnKind}
 use Rattle.isle_core.specs.declared.types.ReturnKind.TheVariants as return_kind
 use Rattle.isle_core.specs.Rule.{Environment}
 use Rattle.isle_core.specs.Terms.{impure_calls, term_name, with_rules}
 use Rattle.isle_tree.specs.Program.{Program, Function}
-use Rattle.isle_tree.specs.Run.{run, function_of, function_run}
+use Rattle.isle_tree.specs.Run.{run, room, function_of, function_run}
 use Rattle.isle_tree.specs.WellFormed.{GivesSeveral}
 use Rattle.isle_outcomes.specs.Lines.{run_lines}
 use Rattle.isle_naming.specs.Names.{body_names}
 use Rattle.isle_interpreter.specs.Refusals.{MayRun}
 use Rattle.isle_interpreter.proofs.Agree.{same_run}
 use Rattle.isle_interpreter.proofs.Runs.{found_function}
-use Rattle.isle_simulation.specs.Emitted.{ran_with}
+use Rattle.isle_simulation.specs.Emitted.{ran_with, impure_ran}
 use Rattle.isle_simulation.specs.Ends.{end_of}
-use Rattle.isle_codegen.specs.Headline.{GivesOutcome, GivesAs}
+use Rattle.isle_codegen.specs.Headline.{GivesOutcome, GivesFirst, GivesRules, GivesAs}
 use Rattle.isle_run.specs.Attempt.{Attempt}
 use Rattle.isle_run.specs.Conforming.{Conforms}
 use Rattle.isle_run.specs.LeftOut.{leave_out}
-use Rattle.isle_run.specs.Trial.{AreOutcome, shown_run}
+use Rattle.isle_run.specs.Trial.{AreOutcome, AreFirst, ArePrescribed, shown_run}
 use Rattle.isle_run.proofs.LeftOut.{none_left_out}
 use Rattle.isle_run.proofs.NamelessLines.{lines_same}
 
@@ -58,6 +59,24 @@ same_lines env id t args m p r e h =
       shown = shown_by (impure_calls env r.calls) h.outcome.calls r.end (end_of (kind_of t.kind) h.outcome.result) given.end given.calls;
     }
 
+-- a run that gives the first results that are prescribed shows them
+first_lines : (env : Environment) (id : TermId) (args : List Value) (m : Meaning) (p : Program) (r : Ran) → run p (term_name env id) args m ≡ Some r → GivesFirst env p id args m → AreFirst env id args m (run_lines (shown_run env r))
+first_lines env id args m p r e h =
+    let cut : Ran = cut_run m h.given in
+    let alike : nameless_ran (impure_ran env r) ≡ nameless_ran cut = same_Some _ _ (ap (option_map (λ (x : Ran). nameless_ran (impure_ran env x))) (sym e) ∙ h.runs) in
+    record {
+      given = h.given;
+      prescribed = h.prescribed;
+      shown = lines_same r.end cut.end (impure_calls env r.calls) cut.calls (ap (λ (x : Ran). x.end) alike) (ap (λ (x : Ran). x.calls) alike);
+    }
+
+-- a run that gives what the rules prescribe of a term which answers so often
+prescribed_lines : (kind : ReturnKind) (env : Environment) (id : TermId) (t : Term) (args : List Value) (m : Meaning) (p : Program) (r : Ran) → run p (term_name env id) args m ≡ Some r → GivesRules kind env p id t args m
+    → ArePrescribed kind env id t args m (run_lines (shown_run env r))
+prescribed_lines return_kind.Plain env id t args m p r e h = same_lines env id t args m p r e h
+prescribed_lines return_kind.Option env id t args m p r e h = same_lines env id t args m p r e h
+prescribed_lines return_kind.Iterator env id t args m p r e h = first_lines env id args m p r e h
+
 -- a name in the function that the answers leave out has no value under a meaning that values constants alone
 no_value : (a : Attempt) (answers m : Meaning) (f : Function) → leave_out a answers ≡ false → function_of a.term a.program.fns ≡ Some f → ValuesConstants a.env m → (name : List ℕ) → Contains (body_names f.body) name → const_of answers name ≡ None → const_of m name ≡ None
 no_value a answers m f kept found values name there none = by (const_of m name) refl
@@ -66,33 +85,19 @@ no_value a answers m f kept found values name there none = by (const_of m name) 
     by None e = e
     by (Some v) e = let c = values name v e in absurd (none_left_out a answers f c.0 name kept found c.1 there none)
 
--- several results have no end yet
-no_end : (x : Result) → end_of return_kind.Iterator x ≡ None
-no_end (Value' v) = refl
-no_end Failure = refl
-no_end Unmatched = refl
-
--- what is prescribed is one result
-gives_once : (env : Environment) (kind : ReturnKind) (o : Prescription) (r : Option Ran) → IsSomeAnd r (GivesAs env kind o) → GivesSeveral kind → ⊥
-gives_once env return_kind.Plain o r h several = several
-gives_once env return_kind.Option o r h several = several
-gives_once env return_kind.Iterator o None h several = h
-gives_once env return_kind.Iterator o (Some r) h several = let bad : None ≡ Some (nameless_end r.end) = ap (option_map nameless_end) (sym (no_end o.result)) ∙ h.end in cc
-
 -- so it is under every lawful meaning that has the answers
 pub means : (options : CodegenOptions) (files : Files) (env : Environment) (p : Program) (term : List ℕ) (args : List Value) (answers : Meaning) (f : Function) (r : Ran) (id : TermId) (t : Term)
     → leave_out (record { program = p; env = env; term = term; args = args }) answers ≡ false → Conforms options files env p → MayRun p term args answers f → run p term args answers ≡ Some r
     → Contains (with_rules env) id → term_name env id ≡ term → slice_get env.terms id.0 ≡ Some t → f.kind ≡ kind_of t.kind → HaveTypes env args t.arg_tys
-    → (m : Meaning) → IsLawful env id m → HasAnswers m answers → AreOutcome env id t args m (run_lines (shown_run env r))
-means options files env p term args answers f r id t kept conforms may runs among named there kind types m lawful has =
-    let rules = some_and (λ (t : Term). (args : List Value) (m : Meaning) → HaveTypes env args t.arg_tys → IsLawful env id m → GivesOutcome env p id t args m) (slice_get env.terms id.0) t there (conforms.functions.mean id among) in
-    let outcome = rules args m types lawful in
+    → (m : Meaning) → IsLawful env id m → HasAnswers m answers → (GivesSeveral (kind_of t.kind) → room m ≡ room answers) → ArePrescribed (kind_of t.kind) env id t args m (run_lines (shown_run env r))
+means options files env p term args answers f r id t kept conforms may runs among named there kind types m lawful has rooms =
+    let rules = some_and (λ (t : Term). (args : List Value) (m : Meaning) → HaveTypes env args t.arg_tys → IsLawful env id m → GivesRules (kind_of t.kind) env p id t args m) (slice_get env.terms id.0) t there (conforms.functions.mean id among) in
     let same : run p (term_name env id) args m ≡ Some r =
     ap (λ n. run p n args m) named
     ∙ ap (function_run p m args) may.found
     ∙ same_run m answers has p f args (found_function p term p.fns f conforms.well_formed.fns may.found).fits
-    (λ several. absurd (gives_once env (kind_of t.kind) outcome.outcome (run p (term_name env id) args m) outcome.given (subst GivesSeveral kind several)))
+    (λ several. rooms (subst GivesSeveral kind several))
     may.answered (no_value (record { program = p; env = env; term = term; args = args }) answers m f kept may.found lawful.declared)
     ∙ sym (ap (function_run p answers args) may.found)
     ∙ runs in
-    same_lines env id t args m p r same outcome
+    prescribed_lines (kind_of t.kind) env id t args m p r same (rules args m types lawful)

@@ -2,6 +2,7 @@
 use Rattle.std.proofs.Common.{◌≡◌, ℕ, suc, ◌+◌, List, [], ◌∷◌, map, Bool, true, false, cond, Option, Some, None, refl, sym, ap, ◌∙◌, subst, arith}
 use Rattle.std.specs.Prelude.{ℤ, ◌&&◌, not, find, IsSomeAnd, is_some, option_map, slice_get, codes, if◌then◌else◌}
 use Rattle.std.specs.Fmt.{decimal}
+use Rattle.std.specs.List.{AllByRecursion}
 use Rattle.std.specs.Str.{bytes_eq}
 use Rattle.std.proofs.lemmas.Slice.Eq.{bytes_eq-Decides}
 use Rattle.isle_core.specs.declared.Sym.{Sym}
@@ -35,7 +36,7 @@ use Rattle.isle_items.specs.TypeItems.{text_at, fields_shape, variant_item, type
 use Rattle.isle_items.specs.LawfulNames.{IsLawfulType, emitted_name, AreLawful}
 use Rattle.isle_items.proofs.ListLaws.{all_at}
 use Rattle.isle_places.specs.DeclaredTypes as asked
-use Rattle.isle_places.specs.DeclaredTypes.{Asked, These, Anything, Nowhere, is_foreign, is_declared, field_types, of_fields, body_variant, variant_by, variant_asked, struct_by, struct_asked, foreign_asked, takes_opaque}
+use Rattle.isle_places.specs.DeclaredTypes.{Asked, These, Anything, Nowhere, is_foreign, is_declared, field_types, of_fields, variant_by, variant_asked, struct_by, struct_asked, foreign_asked, takes_opaque}
 use Rattle.isle_interpreter.proofs.ValueKeys.{named_again}
 use Rattle.isle_interpreter.specs.Entries.{is_typed}
 use Rattle.isle_interpreter.specs.Named.{IsNamed, AreAsked, AreNamed, AnswerFits}
@@ -291,6 +292,11 @@ module _ (env : Environment) (has_rules : Bool) (lawful : AreLawful has_rules en
   are_named [] (v ∷ vs) h = absurd h
   are_named (ty ∷ tys) [] h = absurd h
 
+  -- so in each item
+  each_named : (tys : List TypeId) (given : List (List Value)) → AllByRecursion (λ (vs : List Value). HaveTypes env vs tys) given → AllByRecursion (AreNamed items (map (type_text env) tys)) given
+  each_named tys [] h = tt
+  each_named tys (vs ∷ given) h = (are_named tys vs h.0, each_named tys given h.1)
+
   -- an answer of this kind with values of types
   pub answer_named : (tys : List TypeId) (of : ReturnKind) (params : List (List ℕ)) (a : Answer) → Fits env of tys a → AnswerFits items (record { params = params; results = map (type_text env) tys; kind = of }) a
   answer_named tys kind.Plain params (Plain vs) h = (refl, are_named tys vs h)
@@ -304,4 +310,4 @@ module _ (env : Environment) (has_rules : Bool) (lawful : AreLawful has_rules en
   answer_named tys kind.Iterator params (Plain vs) h = absurd h
   answer_named tys kind.Iterator params (Found vs) h = absurd h
   answer_named tys kind.Iterator params Nothing h = absurd h
-  answer_named tys kind.Iterator params (Several given) h = absurd h
+  answer_named tys kind.Iterator params (Several given) h = (refl, each_named tys given h)

@@ -13,7 +13,7 @@ use Rattle.isle_run.specs.declared.refusal.Refusal.TheVariants as refusal
 
 -- a refusal of a run, and none of an input
 abbrev pub IsOfRun : Refusal → Type 0
-IsOfRun refusal.NotYet = Unit {0}
+IsOfRun refusal.NotYet = ⊥
 IsOfRun (refusal.Unread index why) = ⊥
 IsOfRun (refusal.Errors errors) = Unit {0}
 IsOfRun (refusal.Name name) = Unit {0}
@@ -40,13 +40,11 @@ run_of a text _ (no_lines.no_term m h) = tt
 run_of a text _ (no_lines.arg_count m h) = tt
 run_of a text _ (no_lines.arg_type m i h) = tt
 run_of a text _ (no_lines.fault at takes h) = tt
-run_of a text _ (no_lines.unbuilt forms takes spelt bad) = tt
-run_of a text _ (no_lines.wrong forms i spelt built h) = tt
-run_of a text _ (no_lines.left_out forms spelt built runs h) = tt
+run_of a text _ (no_lines.wrong forms i spelt h) = tt
+run_of a text _ (no_lines.left_out forms spelt runs h) = tt
 
 -- so of what gives no lines
 pub lines_of : (options : CodegenOptions) (files : Files) (term : List ℕ) (ws : Writtens) (text : List ℕ) (e : Refusal) → HasNoLines options files term ws text e → IsOfRun e
-lines_of options files term ws text _ (no_lines.not_built h) = tt
 lines_of options files term ws text _ (no_lines.faulty errors h) = tt
 lines_of options files term ws text _ (no_lines.badly_named e h) = tt
 lines_of options files term ws text _ (no_lines.refused e s) = run_of _ text e s.refused
@@ -57,12 +55,10 @@ run_places a text _ (no_lines.no_term m h) = tt
 run_places a text _ (no_lines.arg_count m h) = tt
 run_places a text _ (no_lines.arg_type m i h) = tt
 run_places a text _ (no_lines.fault at takes h) = tt
-run_places a text _ (no_lines.unbuilt forms takes spelt bad) = tt
-run_places a text _ (no_lines.wrong forms i spelt built h) = tt
-run_places a text _ (no_lines.left_out forms spelt built runs h) = tt
+run_places a text _ (no_lines.wrong forms i spelt h) = tt
+run_places a text _ (no_lines.left_out forms spelt runs h) = tt
 
 has_places : (options : CodegenOptions) (files : Files) (term : List ℕ) (ws : Writtens) (text : List ℕ) (e : Refusal) → HasNoLines options files term ws text e → HasPlaces e
-has_places options files term ws text _ (no_lines.not_built h) = tt
 has_places options files term ws text _ (no_lines.faulty errors h) = h.told.placed
 has_places options files term ws text _ (no_lines.badly_named e h) = tt
 has_places options files term ws text _ (no_lines.refused e s) = run_places _ text e s.refused

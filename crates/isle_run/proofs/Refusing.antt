@@ -30,7 +30,6 @@ by_refusal options files env p term ws args text e checked conforms given (inr r
 
 -- the source isn't checked
 pub by_source : (options : CodegenOptions) (files : Files) (term : List ℕ) (ws : Writtens) (text : List ℕ) (e : FileError) → IsRefusal e files.file_names files.file_texts → HasNoLines options files term ws text (of_source e)
-by_source options files term ws text file.NotYet h = no_lines.not_built h
 by_source options files term ws text (file.Errors errors) h = no_lines.faulty errors h
 by_source options files term ws text (file.Io index why) h = absurd h
 by_source options files term ws text (file.Name name) h = no_lines.badly_named name h

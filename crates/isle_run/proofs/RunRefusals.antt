@@ -3,7 +3,6 @@ use Rattle.std.proofs.Common.{◌≡◌, ◌⊎◌, inl, inr, ℕ, List, [], len
 use Rattle.isle_core.specs.Meaning.{Meaning}
 use Rattle.isle_answers.specs.Form.{Form}
 use Rattle.isle_answers.specs.Spelling.{SpellsForms}
-use Rattle.isle_run_inputs.specs.Built.{are_built}
 use Rattle.isle_run_inputs.specs.AnswersAt.{answers_at}
 use Rattle.isle_run_inputs.specs.Places.{place_at}
 use Rattle.isle_core.specs.Value.{Ran}
@@ -33,26 +32,25 @@ refuses_early a text m e (inl memory) = inl (ap (λ r. placed r 0 []) memory)
 refuses_early a text m e (inr h) = inr (early a text m e h.0 (h.1 m))
 
 -- under the answers of forms
-pub refuses : (a : Attempt) (text : List ℕ) (forms : List Form) (end : ℕ) (e : RunError) → SpellsForms text forms → are_built forms ≡ true → end ≡ length text
+pub refuses : (a : Attempt) (text : List ℕ) (forms : List Form) (end : ℕ) (e : RunError) → SpellsForms text forms → end ≡ length text
     → (e ≡ error.Memory) ⊎ IsRefused a.program a.term a.args (answers_at a.env forms) e → (placed e end forms ≡ refusal.Memory) ⊎ IsRunRefused a text (placed e end forms)
-refuses a text forms end e spelt built ends (inl memory) = inl (ap (λ r. placed r end forms) memory)
-refuses a text forms end error.NoTerm spelt built ends (inr h) = inr (no_term (answers_at a.env forms) h)
-refuses a text forms end error.ArgCount spelt built ends (inr h) = inr (arg_count (answers_at a.env forms) h)
-refuses a text forms end (error.ArgType i) spelt built ends (inr h) = inr (arg_type (answers_at a.env forms) i h)
-refuses a text forms end (error.BadAnswers i) spelt built ends (inr h) =
-    inr (subst (λ n. IsRunRefused a text (refusal.BadAnswers (place_at n forms i))) (sym ends) (wrong forms i spelt built h))
-refuses a text forms end error.Memory spelt built ends (inr h) = inl refl
+refuses a text forms end e spelt ends (inl memory) = inl (ap (λ r. placed r end forms) memory)
+refuses a text forms end error.NoTerm spelt ends (inr h) = inr (no_term (answers_at a.env forms) h)
+refuses a text forms end error.ArgCount spelt ends (inr h) = inr (arg_count (answers_at a.env forms) h)
+refuses a text forms end (error.ArgType i) spelt ends (inr h) = inr (arg_type (answers_at a.env forms) i h)
+refuses a text forms end (error.BadAnswers i) spelt ends (inr h) =
+    inr (subst (λ n. IsRunRefused a text (refusal.BadAnswers (place_at n forms i))) (sym ends) (wrong forms i spelt h))
+refuses a text forms end error.Memory spelt ends (inr h) = inl refl
 
 -- a constant that is left out
-pub refuses_left : (a : Attempt) (text : List ℕ) (forms : List Form) (end : ℕ) (m : Meaning) (left : Bool) → SpellsForms text forms → are_built forms ≡ true → end ≡ length text → m ≡ answers_at a.env forms → Runs a.program a.term a.args m → left ≡ leave_out a m → left ≡ true
+pub refuses_left : (a : Attempt) (text : List ℕ) (forms : List Form) (end : ℕ) (m : Meaning) (left : Bool) → SpellsForms text forms → end ≡ length text → m ≡ answers_at a.env forms → Runs a.program a.term a.args m → left ≡ leave_out a m → left ≡ true
     → IsRunRefused a text (refusal.BadAnswers end)
-refuses_left a text forms end m left spelt built ends same runs is out =
-    subst (λ n. IsRunRefused a text (refusal.BadAnswers n)) (sym ends) (left_out forms spelt built (subst (Runs a.program a.term a.args) same runs) (ap (leave_out a) (sym same) ∙ sym is ∙ out))
+refuses_left a text forms end m left spelt ends same runs is out =
+    subst (λ n. IsRunRefused a text (refusal.BadAnswers n)) (sym ends) (left_out forms spelt (subst (Runs a.program a.term a.args) same runs) (ap (leave_out a) (sym same) ∙ sym is ∙ out))
 
 -- a run under forms that leave none out
-pub under_forms : (a : Attempt) (forms : List Form) (m : Meaning) (left : Bool) (r : Ran) → are_built forms ≡ true → m ≡ answers_at a.env forms → Runs a.program a.term a.args m → left ≡ leave_out a m → left ≡ false → run a.program a.term a.args m ≡ Some r → IsUnder a forms r
-under_forms a forms m left r built same fits is kept runs = record {
-  built = built;
+pub under_forms : (a : Attempt) (forms : List Form) (m : Meaning) (left : Bool) (r : Ran) → m ≡ answers_at a.env forms → Runs a.program a.term a.args m → left ≡ leave_out a m → left ≡ false → run a.program a.term a.args m ≡ Some r → IsUnder a forms r
+under_forms a forms m left r same fits is kept runs = record {
   fits = subst (Runs a.program a.term a.args) same fits;
   given = ap (leave_out a) (sym same) ∙ sym is ∙ kept;
   runs = ap (run a.program a.term a.args) (sym same) ∙ runs;

@@ -1,27 +1,31 @@
 -- The lines that a run of a compiled term gives.
-use Rattle.std.specs.Prelude.{◌≡◌, ℕ, List, [], true, Option, Some, IsSomeAnd, option_map, slice_get}
+use Rattle.std.specs.Prelude.{◌≡◌, ℕ, List, [], Option, Some, IsSomeAnd, option_map, slice_get}
 use Rattle.isle_core.specs.Terms.{impure_calls}
 use Rattle.isle_core.specs.declared.TermId.{TermId}
 use Rattle.isle_core.specs.declared.options.CodegenOptions.{CodegenOptions}
 use Rattle.isle_core.specs.declared.files.Files.{Files}
 use Rattle.isle_core.specs.declared.types.ReturnKind.{ReturnKind}
+use Rattle.isle_core.specs.declared.types.ReturnKind.TheVariants as return_kind
 use Rattle.isle_core.specs.declared.types.Term.{Term}
 use Rattle.isle_core.specs.Value.{Value, Ran}
 use Rattle.isle_core.specs.Meaning.{Meaning}
+use Rattle.isle_core.specs.Cut.{cut_run}
 use Rattle.isle_core.specs.Having.{HasAnswers}
 use Rattle.isle_core.specs.HasType.{HaveTypes}
 use Rattle.isle_core.specs.Lawful.{IsLawful}
 use Rattle.isle_core.specs.Outcome.{Prescription, Prescribed, kind_of}
+use Rattle.isle_core.specs.Pairs.{PrescribesSeveral}
+use Rattle.isle_core.specs.Parts.{Given}
 use Rattle.isle_core.specs.Rule.{Environment, rules_of}
 use Rattle.isle_values.specs.Written.{Writtens}
 use Rattle.isle_answers.specs.Form.{Form}
 use Rattle.isle_answers.specs.Spelling.{SpellsForms}
 use Rattle.isle_run_inputs.specs.ValuesAt.{values_at}
 use Rattle.isle_run_inputs.specs.Requested.{requested_term, requested_types}
-use Rattle.isle_run_inputs.specs.Built.{are_built}
 use Rattle.isle_run_inputs.specs.AnswersAt.{answers_at}
 use Rattle.isle_tree.specs.Program.{Program}
-use Rattle.isle_tree.specs.Run.{run}
+use Rattle.isle_tree.specs.Run.{run, room}
+use Rattle.isle_tree.specs.WellFormed.{GivesSeveral}
 use Rattle.isle_interpreter.specs.Judged.{Runs}
 use Rattle.isle_outcomes.specs.Lines.{run_lines}
 use Rattle.isle_simulation.specs.Ends.{end_of}
@@ -48,16 +52,29 @@ pub record AreOutcome (env : Environment) (id : TermId) (t : Term) (args : List 
   pub only : (other : Prescription) → Prescribed env m args (rules_of env id) (kind_of t.kind) [] other → other ≡ outcome
   pub shown : IsSomeAnd (shown_outcome (kind_of t.kind) outcome) (λ r. lines ≡ run_lines r)
 
--- the lines of a run of the term at these arguments, under answers: under every lawful meaning that has the answers they
--- are those of the rules' outcome; and in any case the term, the arguments and the answers fit the function of a program
--- that conforms to the source, and the lines are those of its run
+-- the lines are those of results that the rules of a term prescribe which answers several times: of the first ones, as many as there is room for
+-- and at least one, and of the calls made up to the last of them, or of all where the room isn't used up
+pub record AreFirst (env : Environment) (id : TermId) (args : List Value) (m : Meaning) (lines : List ℕ) : Type 0 where
+  pub given : Given
+  pub prescribed : PrescribesSeveral env m args (rules_of env id) given
+  pub shown : lines ≡ run_lines (cut_run m given)
+
+-- the lines are what the rules prescribe of a term that answers so often
+abbrev pub ArePrescribed : ReturnKind → Environment → TermId → Term → List Value → Meaning → List ℕ → Type 0
+ArePrescribed return_kind.Plain env id t args m lines = AreOutcome env id t args m lines
+ArePrescribed return_kind.Option env id t args m lines = AreOutcome env id t args m lines
+ArePrescribed return_kind.Iterator env id t args m lines = AreFirst env id args m lines
+
+-- the lines of a run of the term at these arguments, under answers: under every lawful meaning that has the answers, and the same room for several
+-- results, they are what the rules prescribe; and in any case the term, the arguments and the answers fit the function of a program that conforms to
+-- the source, and the lines are those of its run
 pub record AreLines (options : CodegenOptions) (files : Files) (env : Environment) (term : List ℕ) (args : List Value) (answers : Meaning) (lines : List ℕ) : Type 0 where
   pub id : TermId
   pub requested : requested_term env term ≡ Some id
   pub declared : Term
   pub found : slice_get env.terms id.0 ≡ Some declared
   pub typed : HaveTypes env args declared.arg_tys
-  pub means : (m : Meaning) → IsLawful env id m → HasAnswers m answers → AreOutcome env id declared args m lines
+  pub means : (m : Meaning) → IsLawful env id m → HasAnswers m answers → (GivesSeveral (kind_of declared.kind) → room m ≡ room answers) → ArePrescribed (kind_of declared.kind) env id declared args m lines
   pub program : Program
   pub conforms : Conforms options files env program
   pub fits : Runs program term args answers
@@ -72,5 +89,4 @@ pub record IsTrial (options : CodegenOptions) (files : Files) (term : List ℕ) 
   pub forms : List Form
   pub spelt : SpellsForms text forms
   pub once : (others : List Form) → SpellsForms text others → others ≡ forms
-  pub built : are_built forms ≡ true
   pub are_lines : AreLines options files env term (args_given env term ws) (answers_at env forms) lines

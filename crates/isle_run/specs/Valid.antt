@@ -32,7 +32,6 @@ use Rattle.isle_interpreter.specs.Entries.{has_constant, FitsPlaces}
 use Rattle.isle_places.specs.Places.{StandsAt}
 use Rattle.isle_run_inputs.specs.Requested.{requested_term, constant_type}
 use Rattle.isle_run_inputs.specs.Asked.{Asked, constructor_types, extractor_types}
-use Rattle.isle_run_inputs.specs.Built.{are_built}
 use Rattle.isle_run_inputs.specs.AnswersAt.{constants_at, cases_at, turns_at, answers_at}
 use Rattle.isle_codegen.specs.CalledBy.{IsCalledBy}
 use Rattle.isle_codegen.specs.Checked.{IsChecked}
@@ -126,8 +125,8 @@ pub record AreWanted (a : Attempt) (m : Meaning) : Type 0 where
   pub given : (f : Function) → function_of a.term a.program.fns ≡ Some f → (name ty : List ℕ) → StandsAt a.program f name ty → occurs a.program name ≡ false → HasNoValue name m.consts → ⊥
   pub kept : leave_out a m ≡ false
 
--- the source was checked, the term has rules, the values are of its types, and the text spells forms that are built and
--- right, one for each callee of the term's rules, and for the constants of each program that conforms to the source
+-- the source was checked, the term has rules, the values are of its types, and the text spells forms that are right, one
+-- for each callee of the term's rules, and for the constants of each program that conforms to the source
 pub record CanRun (files : Files) (term : List ℕ) (ws : Writtens) (text : List ℕ) : Type 0 where
   pub env : Environment
   pub checked : IsChecked files env
@@ -138,7 +137,6 @@ pub record CanRun (files : Files) (term : List ℕ) (ws : Writtens) (text : List
   pub typed : HaveTypes env (args_given env term ws) declared.arg_tys
   pub forms : List Form
   pub spelt : SpellsForms text forms
-  pub built : are_built forms ≡ true
   pub constants : AreRightConstants env [] (constants_at env forms)
   pub wanted : (options : CodegenOptions) (p : Program) → Conforms options files env p → AreWanted (record { program = p; env = env; term = term; args = args_given env term ws }) (answers_at env forms)
   pub extracted : AllCasesRight env [] (cases_at env forms)

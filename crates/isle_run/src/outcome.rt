@@ -17,7 +17,7 @@ use crate::refusal::Refusal;
 use isle_answers::{AnswersFail, Form, forms};
 use isle_core::{Outcome, TermEnv, TypeEnv, Value};
 use isle_interpreter::{RunError, run_term, takes};
-use isle_run_inputs::{answers_at, are_built, place_at};
+use isle_run_inputs::{answers_at, place_at};
 use isle_tree::Program;
 use std::alloc::Global;
 
@@ -73,9 +73,6 @@ fn under_forms(
     ensures err { IfErr result (λ e. (text : List ℕ) → SpellsForms text (forms_seen forms.now) → end ≡ length text
         → (e ≡ Memory) ⊎ IsRunRefused (attempt compiled.now term.now args.now) text e) }
 {
-    if !are_built(forms) {
-        return Err(refused(alloc, compiled, term, args, Refusal::NotYet));
-    }
     let answers = answers_at(alloc, compiled.typeenv, compiled.termenv, forms)?;
     let outcome = match run_term(alloc, compiled.program, term, args, &answers) {
         Ok(outcome) => outcome,

@@ -6,7 +6,7 @@ use std::alloc::{AllocError, AllocFailed};
 /// Why a line of words is not answered.
 #[derive(Debug, Drop)]
 pub enum Refusal {
-    /// The line, a form of a source, or one of the answers is not built.
+    /// The line is not built.
     NotYet,
     /// The first input that was not read, by its place among the inputs, and the cause.
     Unread(usize, IoCause),

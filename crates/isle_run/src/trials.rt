@@ -22,7 +22,6 @@ fn of_source(fail: FileError) -> Refusal
     ensures { result ≡ of_source fail }
 {
     match fail {
-        FileError::NotYet => Refusal::NotYet,
         FileError::Errors(errors) => Refusal::Errors(errors),
         FileError::Name(name) => Refusal::Name(name),
         FileError::Memory | FileError::Io { .. } => Refusal::Memory,

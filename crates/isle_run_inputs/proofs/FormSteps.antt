@@ -20,7 +20,7 @@ use Rattle.isle_run_inputs.specs.AnswersAt.{answer_at, turns_by, case_at, cases_
 pushed : {X Y : Type 0} (f : X → Y) (old new : List X) (x : X) (rest : List Y) → new ≡ old ++ x ∷ [] → map f old ++ f x ∷ rest ≡ map f new ++ rest
 pushed f old new x rest e = sym (append_assoc (map f old) (f x ∷ []) rest) ∙ ap (λ ys. ys ++ rest) (sym (ap (map f) e ∙ map-append f old (x ∷ [])))
 
-seen_first : {X Y Z : Type 0} (f : Y → Z) (g : X → Y) (xs : List X) → map (λ x. f (g x)) xs ≡ map f (map g xs)
+pub seen_first : {X Y Z : Type 0} (f : Y → Z) (g : X → Y) (xs : List X) → map (λ x. f (g x)) xs ≡ map f (map g xs)
 seen_first f g [] = refl
 seen_first f g (x ∷ xs) = ap (λ ys. f (g x) ∷ ys) (seen_first f g xs)
 

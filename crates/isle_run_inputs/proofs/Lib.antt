@@ -4,7 +4,6 @@ mod VariantPart
 mod FindFields
 mod AtTypes
 mod InFields
-mod AllSeen
 mod FindTypes
 mod FindConstants
 mod AskedTerms

@@ -12,6 +12,7 @@ use Rattle.isle_values.specs.Written.{Written}
 use Rattle.isle_run_inputs.specs.ValuesAt.{misfit, value_at_any, values_at}
 use Rattle.isle_run_inputs.specs.Requested.{answer_type, constant_type}
 use Rattle.isle_run_inputs.specs.Asked.{Asked, asked_as}
+use Rattle.isle_run_inputs.specs.Returns.{held_at, max_returns_at}
 
 -- the type where there is only one
 abbrev pub one_type : List TypeId → Option TypeId
@@ -30,16 +31,16 @@ abbrev pub result_at : Environment → List TypeId → ResultForm → List value
 result_at env tys (One v) = value_at_any env (one_type tys) v ∷ []
 result_at env tys (Tuple vs) = tuple_at env tys vs
 
--- an answer at these types
+-- an answer at these types; of several items each is at them
 abbrev pub answer_at : Environment → List TypeId → AnswerForm → Answer
 answer_at env tys (Plain r) = value.Plain (result_at env tys r)
 answer_at env tys (Found r) = value.Found (result_at env tys r)
 answer_at env tys Nothing = value.Nothing
-answer_at env tys (Several rs) = value.Several []
+answer_at env tys (Several rs) = value.Several (map (result_at env tys) rs)
 
--- an answer that fits no function, and so is refused where it stands: it is one of several items, and no function gives those
+-- an answer that fits no function, and so is refused where it stands: a value of no type
 abbrev pub unfit : Answer
-unfit = value.Several []
+unfit = value.Plain (misfit ∷ [])
 
 -- turns of a callee whose calls are answered with a value of this type; where it is that of no impure term, they fit no function, so that
 -- the form is refused whatever it says
@@ -47,7 +48,7 @@ abbrev pub turns_by : Environment → Option TypeId → Callee → List AnswerFo
 turns_by env None callee turns rest = record { callee = callee; turns = []; rest = unfit }
 turns_by env (Some ty) callee turns rest = record { callee = callee; turns = map (answer_at env (ty ∷ [])) turns; rest = answer_at env (ty ∷ []) rest }
 
--- the turns of forms that are built
+-- the turns of forms
 abbrev pub turns_at : Environment → List Form → List TurnAnswers
 turns_at env [] = []
 turns_at env (Turns callee turns rest at ∷ forms) = turns_by env (answer_type env callee) callee turns rest ∷ turns_at env forms
@@ -66,7 +67,7 @@ abbrev pub cases_by : Environment → Option Asked → Callee → List CaseForm 
 cases_by env None callee cases rest = record { callee = callee; cases = []; rest = unfit }
 cases_by env (Some a) callee cases rest = record { callee = callee; cases = map (case_at env a) cases; rest = answer_at env a.results rest }
 
--- the cases of forms that are built
+-- the cases of forms
 abbrev pub cases_at : Environment → List Form → List PureAnswers
 cases_at env [] = []
 cases_at env (Answers callee cases rest at ∷ forms) = cases_by env (asked_as env callee) callee cases rest ∷ cases_at env forms
@@ -84,6 +85,6 @@ constants_at env (Max count at ∷ forms) = constants_at env forms
 constants_at env (Answers callee cases rest at ∷ forms) = constants_at env forms
 constants_at env (Turns callee turns rest at ∷ forms) = constants_at env forms
 
--- the answers of forms that are built: nothing is held at entry, and a hundred results are the limit
+-- the answers of forms
 abbrev pub answers_at : Environment → List Form → Meaning
-answers_at env forms = record { consts = constants_at env forms; pure = cases_at env forms; turns = turns_at env forms; held = 0; max_returns = 100 }
+answers_at env forms = record { consts = constants_at env forms; pure = cases_at env forms; turns = turns_at env forms; held = held_at forms; max_returns = max_returns_at forms }

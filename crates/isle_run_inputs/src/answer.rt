@@ -61,7 +61,25 @@ fn result_at(
     }
 }
 
-/// Returns an answer at these types: one value where there is one, else a tuple.
+// The results of each item at those types, in order.
+fn items_at(
+    alloc: Global,
+    makers: &Makers<'_>,
+    tys: &[TypeId],
+    forms: &[ResultForm],
+) -> Result<Vec<List<Value>>, AllocError>
+    ensures { IfOk result (λ found. (env : Environment) → env.types ≡ makers.now
+        → map values found.items ≡ map (result_at env tys.now) (map result_seen forms.now)) }
+{
+    let mut found = Vec::new(alloc);
+    for form in forms {
+        let results = result_at(alloc, makers, tys, form)?;
+        found.push(List::new(results))?;
+    }
+    Ok(found)
+}
+
+/// Returns an answer at these types: one value where there is one, else a tuple; a list has such results in each item.
 pub fn answer_at(
     alloc: Global,
     makers: &Makers<'_>,
@@ -80,13 +98,18 @@ pub fn answer_at(
             Ok(Answer::Some(List::new(found)))
         }
         AnswerForm::Nothing => Ok(Answer::Nothing),
-        AnswerForm::List(_) => Ok(Answer::List(List::new(Vec::new(alloc)))),
+        AnswerForm::List(items) => {
+            let items = items_at(alloc, makers, tys, items.as_slice())?;
+            Ok(Answer::List(List::new(items)))
+        }
     }
 }
 
 /// Returns an answer that fits no function.
-pub fn unfit(alloc: Global) -> Answer
-    ensures { answer result ≡ unfit }
+pub fn unfit(alloc: Global) -> Result<Answer, AllocError>
+    ensures { IfOk result (λ a. answer a ≡ unfit) }
 {
-    Answer::List(List::new(Vec::new(alloc)))
+    let value = misfit(alloc);
+    let values = vec![in alloc; value]?;
+    Ok(Answer::Plain(List::new(values)))
 }

@@ -9,13 +9,14 @@ ghost use Rattle.isle_run_inputs.specs.AnswersAt.{answers_at};
 use crate::cases::cases_at;
 use crate::constants::constants_at;
 use crate::makers::Makers;
+use crate::returns::{held_at, max_returns_at};
 use crate::turns::turns_at;
 use isle_answers::Form;
 use isle_core::{Answers, List, OutOfMemory, TermEnv, TypeEnv};
 use std::alloc::Global;
 
 /// Returns the answers that forms give, their values at the types of constants and of what callees take and answer; a
-/// value of another type is one of no type. Only constants, cases and turns are built: the other forms give none.
+/// value of another type is one of no type. They tell how long the list of results is at entry, too, and its limit.
 pub fn answers_at(
     alloc: Global,
     typeenv: &TypeEnv,
@@ -33,7 +34,7 @@ pub fn answers_at(
         consts: List::new(consts),
         pure: List::new(pure),
         turns: List::new(turns),
-        held: 0,
-        max_returns: 100,
+        held: held_at(forms),
+        max_returns: max_returns_at(forms),
     })
 }

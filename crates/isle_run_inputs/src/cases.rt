@@ -69,7 +69,7 @@ fn cases_by(
         return Ok(PureAnswers {
             callee,
             cases: List::new(Vec::new(alloc)),
-            rest: unfit(alloc),
+            rest: unfit(alloc)?,
         });
     };
     let cases = all_cases(alloc, makers, asked, cases)?;

@@ -53,7 +53,7 @@ fn turns_by(
         return Ok(TurnAnswers {
             callee,
             turns: List::new(Vec::new(alloc)),
-            rest: unfit(alloc),
+            rest: unfit(alloc)?,
         });
     };
     let tys = slice::from_ref(&ty);

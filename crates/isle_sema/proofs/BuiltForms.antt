@@ -2,8 +2,9 @@
 use Rattle.std.proofs.Common.{◌≡◌, Bool, true, false, sym, ◌∙◌}
 use Rattle.isle_declarations.specs.Signatures.{Signature}
 
-pub both : {b : Bool} → b ≡ true → b ≡ false → ⊥
-both e f = let bad : true ≡ false = sym e ∙ f in cc
+-- no truth is both
+pub no_both : {b : Bool} → b ≡ true → b ≡ false → ⊥
+no_both e f = let bad : true ≡ false = sym e ∙ f in cc
 
 -- a declaration that is not `multi`
 abbrev pub IsPlain : Signature → Type 0

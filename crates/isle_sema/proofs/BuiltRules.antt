@@ -30,7 +30,7 @@ use Rattle.isle_core.specs.TypedVariables.{typed_variables, rule_typed, HaveOneT
 use Rattle.isle_core.specs.TypedParts.{field_types}
 use Rattle.isle_ast.specs.Tree.{Def}
 use Rattle.isle_types.proofs.SoundTypes.{form_sound}
-use Rattle.isle_sema.specs.Typing.{Typed, TypedBuilt}
+use Rattle.isle_sema.specs.Typing.{Typed}
 use Rattle.isle_sema.proofs.TypedParts.{given_in}
 use Rattle.isle_sema.proofs.TypedRules.{typed_rules, typed_of}
 use Rattle.isle_sema.proofs.TypedSides.{built_expr, scoped_rule, built_terms, pure_terms}
@@ -139,10 +139,10 @@ built_iflets env few vars (c ∷ cs) h = (
 )
 
 -- the rules are built
-pub typed_built : (defs : List Def) (env : Environment) → TypedBuilt defs env → All (IsBuiltRule env.terms) env.rules
+pub typed_built : (defs : List Def) (env : Environment) → Typed defs env → All (IsBuiltRule env.terms) env.rules
 typed_built defs env h k d lt =
     let t = typed_rules defs env h k d lt in
-    let few = few_parts defs env h.typed in
+    let few = few_parts defs env h in
     record {
       args = All-from_recursion (IsBuiltPattern env.terms) _ (built_patterns env few t.term.arg_tys _ t.typed.args);
       iflets = All-from_recursion (IsBuiltIfLet env.terms) _ (built_iflets env few _ _ t.typed.iflets);
@@ -150,21 +150,21 @@ typed_built defs env h k d lt =
     }
 
 -- each variable of a condition and of a right side is in scope
-pub typed_scoped : (defs : List Def) (env : Environment) → TypedBuilt defs env → All IsScopedRule env.rules
+pub typed_scoped : (defs : List Def) (env : Environment) → Typed defs env → All IsScopedRule env.rules
 typed_scoped defs env h k d lt =
     let t = typed_rules defs env h k d lt in
     scoped_rule env (in_right_side (may_be_nothing (kind_of t.term.kind))) t.term.ret_ty _ t.typed.iflets t.typed.rhs
 
 -- each term of a right side is built
-pub typed_terms : (defs : List Def) (env : Environment) → TypedBuilt defs env → All (CallsBuiltTerms env.terms) env.rules
+pub typed_terms : (defs : List Def) (env : Environment) → Typed defs env → All (CallsBuiltTerms env.terms) env.rules
 typed_terms defs env h k d lt = let t = typed_rules defs env h k d lt in built_terms env (in_right_side (may_be_nothing (kind_of t.term.kind))) _ t.term.ret_ty _ t.typed.rhs
 
 -- ---- the rules of a term
 
 -- they have patterns and conditions of its types
-pub typed_tests : (defs : List Def) (env : Environment) (id : TermId) (t : Term) → TypedBuilt defs env → slice_get env.terms id.0 ≡ Some t → All (IsTested env t.arg_tys) (rules_of env id)
+pub typed_tests : (defs : List Def) (env : Environment) (id : TermId) (t : Term) → Typed defs env → slice_get env.terms id.0 ≡ Some t → All (IsTested env t.arg_tys) (rules_of env id)
 typed_tests defs env id t h at k d lt = let r = typed_of defs env id t h at k d lt in record { args = r.args; iflets = r.iflets }
 
 -- each of their variables has one type
-pub typed_variables_once : (defs : List Def) (env : Environment) (id : TermId) (t : Term) → TypedBuilt defs env → slice_get env.terms id.0 ≡ Some t → All (λ (r : Rule). HaveOneType (rule_typed r)) (rules_of env id)
+pub typed_variables_once : (defs : List Def) (env : Environment) (id : TermId) (t : Term) → Typed defs env → slice_get env.terms id.0 ≡ Some t → All (λ (r : Rule). HaveOneType (rule_typed r)) (rules_of env id)
 typed_variables_once defs env id t h at k d lt = (typed_of defs env id t h at k d lt).variables

@@ -26,7 +26,7 @@ use Rattle.isle_terms.specs.TypeNames.{type_named}
 use Rattle.isle_terms.specs.Whole.{whole_of, termed}
 use Rattle.isle_sema.proofs.NamesApart.{terms_apart, made_apart, declared_unmade}
 use Rattle.isle_sema.proofs.TermFaults.{terms_kept, converters_kept}
-use Rattle.isle_sema.proofs.TypedParts.{IsTypedIn}
+use Rattle.isle_sema.proofs.TypedParts.{IsGivenIn}
 
 -- ---- declared terms among all
 
@@ -141,8 +141,8 @@ conversion_fits defs of ty s kept apart h = by (converter_between defs (converte
         })
 
 -- so in an environment that definitions give
-pub conversion_is : (defs : List Def) (env : Environment) (of ty : TypeId) (s : Signature) → IsTypedIn defs env → conversion (whole_of defs) (Some of) (Some ty) ≡ Some s → IsConversion defs of ty s
+pub conversion_is : (defs : List Def) (env : Environment) (of ty : TypeId) (s : Signature) → IsGivenIn defs env → conversion (whole_of defs) (Some of) (Some ty) ≡ Some s → IsConversion defs of ty s
 conversion_is defs env of ty s g h =
-    let kept = terms_kept defs [] defs g.given.terms_kept in
-    let apart = terms_apart defs (distinct_names (terms_of (signatures defs)) kept.apart) (made_apart defs g.given.types_kept) (declared_unmade defs (signatures defs) kept.unmade) in
-    conversion_fits defs of ty s (converters_kept defs [] defs g.given.terms_kept) apart h
+    let kept = terms_kept defs [] defs g.terms_kept in
+    let apart = terms_apart defs (distinct_names (terms_of (signatures defs)) kept.apart) (made_apart defs g.types_kept) (declared_unmade defs (signatures defs) kept.unmade) in
+    conversion_fits defs of ty s (converters_kept defs [] defs g.terms_kept) apart h

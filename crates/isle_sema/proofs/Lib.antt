@@ -14,6 +14,7 @@ pub mod TypedOnce
 pub mod LaterFaults
 pub mod Givings
 pub mod TypedConstants
+pub mod AnsweringTerms
 pub mod TypedTerms
 pub mod NamesApart
 pub mod MadeForms
@@ -58,10 +59,16 @@ pub mod TestablePatterns
 pub mod SerializableCalls
 pub mod OccurringCalls
 pub mod ConditionPaths
-pub mod FalliblePaths
+pub mod AnswerPaths
+pub mod OftenTerms
 pub mod PassedConditions
 pub mod TypedFields
-pub mod SerializableRules
+pub mod ListPaths
 pub mod ToldFaults
 pub mod TreeUses
 pub mod SingleRules
+pub mod SingleCalls
+pub mod OftenRules
+pub mod ItemPaths
+pub mod SerializableRules
+pub mod ListsRead

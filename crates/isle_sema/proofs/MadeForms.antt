@@ -53,7 +53,7 @@ use Rattle.isle_terms.specs.Whole.{Whole, termed, constant_type}
 use Rattle.isle_terms.proofs.MadeTerms.{first_there, term_made, made_of, term_is, types_are, all_at}
 use Rattle.isle_sema.proofs.NamesApart.{types_apart, place_is}
 use Rattle.isle_sema.proofs.RuleRoots.{signature_at}
-use Rattle.isle_sema.proofs.TypedParts.{IsTypedIn}
+use Rattle.isle_sema.proofs.TypedParts.{IsGivenIn}
 
 -- ---- types of fields
 
@@ -224,18 +224,18 @@ of_making ret ty origin.Declared made same = absurd cc
 -- ---- the laws
 
 -- a made term makes its result's type, and its arguments are the fields
-pub made_form : (defs : List Def) (env : Environment) (name : List ℕ) (s : Signature) (number : TermId) (ty : TypeId) → IsTypedIn defs env → type_fault defs ≡ None → termed (whole_of defs) name ≡ Some s → term_named (terms defs) name ≡ Some number → is_made s.origin ≡ true
+pub made_form : (defs : List Def) (env : Environment) (name : List ℕ) (s : Signature) (number : TermId) (ty : TypeId) → IsGivenIn defs env → type_fault defs ≡ None → termed (whole_of defs) name ≡ Some s → term_named (terms defs) name ≡ Some number → is_made s.origin ≡ true
     → type_named defs s.ret ≡ Some ty → IsOfMaking ty (making env number) × (tys : List TypeId) × (option_map (form_types env) (form env (making env number)) ≡ Some tys) × (map (type_named defs) s.args ≡ map Some tys)
 made_form defs env name s number ty g none is numbered made ret =
     let at = signature_at (whole_of defs) name s number is numbered in
-    let m = term_made (whole_of defs) (terms defs) env.terms number.0 s g.given.terms at in
+    let m = term_made (whole_of defs) (terms defs) env.terms number.0 s g.terms at in
     let t = m.term in
     let k = term_is (whole_of defs) s t m.made in
     let makes : making env number ≡ making_from t.ret_ty s.origin = ap making_of m.there ∙ ap (λ (u : Term). making_kind u.kind) (sym k.is) ∙ kind_makes (whole_of defs) s t.ret_ty s.origin in
     let same : t.ret_ty ≡ ty = same_Some t.ret_ty ty (sym k.ret ∙ ret) in (
       subst (IsOfMaking ty) (sym makes) (of_making t.ret_ty ty s.origin made same),
       t.arg_tys,
-      ap (λ (mk : Making). option_map (form_types env) (form env mk)) makes ∙ made_typed defs env number.0 s t g.given.types none at made m.made,
+      ap (λ (mk : Making). option_map (form_types env) (form env mk)) makes ∙ made_typed defs env number.0 s t g.types none at made m.made,
       types_are defs s.args t.arg_tys k.args,
     )
 
@@ -250,14 +250,14 @@ kind_is w env allowed s t origin.Struct made h = (refl, h)
 kind_is w env allowed s t origin.Declared made h = absurd cc
 
 -- so does a made term of the environment
-pub made_term : (defs : List Def) (env : Environment) (i : ℕ) (t : Term) → IsTypedIn defs env → type_fault defs ≡ None → slice_get env.terms i ≡ Some t → is_made_kind t.kind ≡ true → (allowed : Allowed) → IsTermKind env allowed t t.kind
+pub made_term : (defs : List Def) (env : Environment) (i : ℕ) (t : Term) → IsGivenIn defs env → type_fault defs ≡ None → slice_get env.terms i ≡ Some t → is_made_kind t.kind ≡ true → (allowed : Allowed) → IsTermKind env allowed t t.kind
 made_term defs env i t g none at made allowed =
     let w = whole_of defs in
-    let m = made_of w (terms defs) env.terms i t g.given.terms at in
+    let m = made_of w (terms defs) env.terms i t g.terms at in
     let s = m.signature in
     let kind : kind_from w s t.ret_ty s.origin ≡ t.kind = ap (λ (u : Term). u.kind) (term_is w s t m.made).is in
     let by_type = made_origin w s t.ret_ty s.origin t.kind kind made in
-    subst (IsTermKind env allowed t) kind (kind_is w env allowed s t s.origin by_type (made_typed defs env i s t g.given.types none m.there by_type m.made))
+    subst (IsTermKind env allowed t) kind (kind_is w env allowed s t s.origin by_type (made_typed defs env i s t g.types none m.there by_type m.made))
 
 -- ---- constants
 

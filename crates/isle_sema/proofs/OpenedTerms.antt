@@ -27,10 +27,9 @@ use Rattle.isle_sema.proofs.MadeForms.{made_form}
 use Rattle.isle_sema.proofs.NamedExtractors.{is_named, holds_at, template_there}
 use Rattle.isle_templates.specs.Substituted.{template_of}
 use Rattle.isle_templates.specs.WrittenType.{Opens, opened_types}
-use Rattle.isle_terms.proofs.MadeTerms.{term_made, term_is, types_are, all_at}
+use Rattle.isle_terms.proofs.MadeTerms.{term_made, term_is, types_are}
 use Rattle.isle_sema.proofs.RuleRoots.{signature_at}
-use Rattle.isle_sema.proofs.TypedParts.{IsTypedIn}
-use Rattle.isle_sema.proofs.TypedTerms.{IsPlainTerm, plain_terms}
+use Rattle.isle_sema.proofs.TypedParts.{IsGivenIn}
 
 -- what is known of a term that takes values of the type apart, by its template where it has one: the types of its parts
 pub record IsOpened (defs : List Def) (env : Environment) (s : Signature) (ty : TypeId) (number : TermId) : Type 0 where
@@ -72,19 +71,18 @@ outer_at w name x treed found none =
     by (ByFunction func infallible) h e = tt
     by (ByTemplate t) h e = no_tree (template_pass w name t).tree h e
 
-extracts_by : (pure partial recursive : Bool) (by : ConstructorKind) (syms : List (List ℕ)) (how : Extracting) → IsOuter how → IsExtractorKind (kind.Decl pure false partial recursive by (extractor_by syms how))
-extracts_by pure partial recursive by syms (ByFunction func infallible) outer = tt
-extracts_by pure partial recursive by syms (ByTemplate t) outer = absurd outer
+extracts_by : (pure multi partial recursive : Bool) (by : ConstructorKind) (syms : List (List ℕ)) (how : Extracting) → IsOuter how → IsExtractorKind (kind.Decl pure multi partial recursive by (extractor_by syms how))
+extracts_by pure multi partial recursive by syms (ByFunction func infallible) outer = tt
+extracts_by pure multi partial recursive by syms (ByTemplate t) outer = absurd outer
 
-extracts : (pure multi partial recursive : Bool) (by : ConstructorKind) (syms : List (List ℕ)) (o : Option ExtractorDef) → multi ≡ false → is_some o ≡ true → ((x : ExtractorDef) → o ≡ Some x → IsOuter x.by) → IsExtractorKind (kind.Decl pure multi partial recursive by (extractor_from syms o))
-extracts pure false partial recursive by syms None m some outer = absurd cc
-extracts pure false partial recursive by syms (Some x) m some outer = extracts_by pure partial recursive by syms x.by (outer x refl)
-extracts pure true partial recursive by syms o m some outer = absurd cc
+extracts : (pure multi partial recursive : Bool) (by : ConstructorKind) (syms : List (List ℕ)) (o : Option ExtractorDef) → is_some o ≡ true → ((x : ExtractorDef) → o ≡ Some x → IsOuter x.by) → IsExtractorKind (kind.Decl pure multi partial recursive by (extractor_from syms o))
+extracts pure multi partial recursive by syms None some outer = absurd cc
+extracts pure multi partial recursive by syms (Some x) some outer = extracts_by pure multi partial recursive by syms x.by (outer x refl)
 
-kind_extracts : (w : Whole) (s : Signature) (ret : TypeId) (from : Origin) → is_made from ≡ false → s.multi ≡ false → is_some (extractor_named (extractors w.defs) s.term) ≡ true → ((x : ExtractorDef) → extractor_named (extractors w.defs) s.term ≡ Some x → IsOuter x.by) → IsExtractorKind (kind_from w s ret from)
-kind_extracts w s ret origin.Declared other m some outer = extracts s.pure s.multi s.partial s.recursive (constructor_named w s.term) w.types.syms (extractor_named (extractors w.defs) s.term) m some outer
-kind_extracts w s ret (origin.Variant number) other m some outer = absurd cc
-kind_extracts w s ret origin.Struct other m some outer = absurd cc
+kind_extracts : (w : Whole) (s : Signature) (ret : TypeId) (from : Origin) → is_made from ≡ false → is_some (extractor_named (extractors w.defs) s.term) ≡ true → ((x : ExtractorDef) → extractor_named (extractors w.defs) s.term ≡ Some x → IsOuter x.by) → IsExtractorKind (kind_from w s ret from)
+kind_extracts w s ret origin.Declared other some outer = extracts s.pure s.multi s.partial s.recursive (constructor_named w s.term) w.types.syms (extractor_named (extractors w.defs) s.term) some outer
+kind_extracts w s ret (origin.Variant number) other some outer = absurd cc
+kind_extracts w s ret origin.Struct other some outer = absurd cc
 
 kind_unmade : (w : Whole) (s : Signature) (ret : TypeId) (from : Origin) → is_made from ≡ false → making_kind (kind_from w s ret from) ≡ MakesNothing
 kind_unmade w s ret origin.Declared other = refl
@@ -104,26 +102,25 @@ record IsOpenedOuter (defs : List Def) (env : Environment) (s : Signature) (ty :
   parts : part_types env (making env number) (slice_get env.terms number.0) ≡ Some types
   args : map (type_named defs) s.args ≡ map Some types
 
-outer_term : (defs : List Def) (env : Environment) (name : List ℕ) (s : Signature) (number : TermId) (ty : TypeId) → IsTypedIn defs env → termed (whole_of defs) name ≡ Some s → term_named (terms defs) name ≡ Some number
+outer_term : (defs : List Def) (env : Environment) (name : List ℕ) (s : Signature) (number : TermId) (ty : TypeId) → IsGivenIn defs env → termed (whole_of defs) name ≡ Some s → term_named (terms defs) name ≡ Some number
     → has_extractor (whole_of defs) s ≡ true → type_named defs s.ret ≡ Some ty → template_of (templates (whole_of defs)) number ≡ None → IsOpenedOuter defs env s ty number
 outer_term defs env name s number ty g is numbered has ret none = by (is_made s.origin) refl
   where
     by : (made : Bool) → is_made s.origin ≡ made → IsOpenedOuter defs env s ty number
     by true made =
         let found = slice_get env.terms number.0 in
-        let m = made_form defs env name s number ty g g.given.types_kept is numbered made ret in
+        let m = made_form defs env name s number ty g g.types_kept is numbered made ret in
         record { types = m.1; opens = opens_made ty (making env number) found m.0; parts = made_parts env ty (making env number) found m.0 ∙ m.2; args = m.3 }
     by false other =
         let w = whole_of defs in
         let at = signature_at w name s number is numbered in
-        let m = term_made w (terms defs) env.terms number.0 s g.given.terms at in
+        let m = term_made w (terms defs) env.terms number.0 s g.terms at in
         let t = m.term in
         let k = term_is w s t m.made in
-        let plain = all_at IsPlainTerm (terms defs) number.0 s (plain_terms defs g.built) at other in
         let kind : kind_from w s t.ret_ty s.origin ≡ t.kind = ap (λ (u : Term). u.kind) k.is in
         let makes : making env number ≡ MakesNothing = ap making_of m.there ∙ ap making_kind (sym kind) ∙ kind_unmade w s t.ret_ty s.origin other in
-        let outer : (x : ExtractorDef) → extractor_named (extractors defs) s.term ≡ Some x → IsOuter x.by = λ x e. outer_at w s.term x g.given.treed e (sym (ap (option_and_then (λ (y : ExtractorDef). template_tree w s.term y.by)) e) ∙ sym (template_there w number s at) ∙ none) in
-        let how : IsExtractorKind t.kind = subst IsExtractorKind kind (kind_extracts w s t.ret_ty s.origin other plain (or_second (is_made s.origin) (is_some (extractor_named (extractors defs) s.term)) other has) outer) in
+        let outer : (x : ExtractorDef) → extractor_named (extractors defs) s.term ≡ Some x → IsOuter x.by = λ x e. outer_at w s.term x g.treed e (sym (ap (option_and_then (λ (y : ExtractorDef). template_tree w s.term y.by)) e) ∙ sym (template_there w number s at) ∙ none) in
+        let how : IsExtractorKind t.kind = subst IsExtractorKind kind (kind_extracts w s t.ret_ty s.origin other (or_second (is_made s.origin) (is_some (extractor_named (extractors defs) s.term)) other has) outer) in
         let opens : OpensType ty MakesNothing (Some t) = (how, same_Some t.ret_ty ty (sym k.ret ∙ ret)) in
         record {
           types = t.arg_tys;
@@ -133,7 +130,7 @@ outer_term defs env name s number ty g is numbered has ret none = by (is_made s.
         }
 
 -- a term that is made or has an extractor takes values of its result's type apart, into its arguments
-pub opened_term : (defs : List Def) (env : Environment) (name : List ℕ) (s : Signature) (number : TermId) (ty : TypeId) → IsTypedIn defs env → termed (whole_of defs) name ≡ Some s → term_named (terms defs) name ≡ Some number
+pub opened_term : (defs : List Def) (env : Environment) (name : List ℕ) (s : Signature) (number : TermId) (ty : TypeId) → IsGivenIn defs env → termed (whole_of defs) name ≡ Some s → term_named (terms defs) name ≡ Some number
     → has_extractor (whole_of defs) s ≡ true → type_named defs s.ret ≡ Some ty → IsOpened defs env s ty number
 opened_term defs env name s number ty g is numbered has ret = by (template_of (templates (whole_of defs)) number) refl
   where
@@ -148,7 +145,7 @@ opened_term defs env name s number ty g is numbered has ret = by (template_of (t
         }
     by (Some q) some =
         let w = whole_of defs in
-        let m = term_made w (terms defs) env.terms number.0 s g.given.terms (signature_at w name s number is numbered) in
+        let m = term_made w (terms defs) env.terms number.0 s g.terms (signature_at w name s number is numbered) in
         let k = term_is w s m.term m.made in
         let gives : m.term.ret_ty ≡ ty = same_Some m.term.ret_ty ty (sym k.ret ∙ ret) in
         record {

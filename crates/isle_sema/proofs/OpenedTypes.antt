@@ -19,15 +19,17 @@ use Rattle.isle_core.specs.PatternType.{OpensType, part_types}
 use Rattle.isle_core.specs.Rule.{Environment}
 use Rattle.isle_core.specs.Terms.{sym_text}
 
--- a call of an external extractor that always finds something, or that may find nothing
+-- a call of an external extractor that always finds something, that may find nothing, or that finds several things
 pub data IsFinding : Calling → Type 0 where
   finds : (name : List ℕ) → IsFinding (ByCases (External name) return_kind.Plain)
   may_find : (name : List ℕ) → IsFinding (ByCases (External name) return_kind.Option)
+  lists : (name : List ℕ) → IsFinding (ByCases (External name) return_kind.Iterator)
 
 -- an extractor is called so
 finding_kind : (env : Environment) (k : TermKind) → IsExtractorKind k → IsFinding (extracting_kind env k)
 finding_kind env (kind.Decl pure false partial recursive by (extractor.External func true)) h = finds (sym_text env func)
 finding_kind env (kind.Decl pure false partial recursive by (extractor.External func false)) h = may_find (sym_text env func)
+finding_kind env (kind.Decl pure true partial recursive by (extractor.External func infallible)) h = lists (sym_text env func)
 finding_kind env k h = absurd h
 
 -- an extractor that takes values of the type apart into results of these types

@@ -12,7 +12,7 @@ use Rattle.isle_sema.specs.Fault.{OfExtractors, fault_in}
 use Rattle.isle_sema.specs.TemplatesChecked.{extractors_fault}
 use Rattle.isle_sema.specs.TemplateUses.{template_uses}
 use Rattle.isle_sema.specs.Templates.{templates, are_treed}
-use Rattle.isle_sema.proofs.BuiltForms.{both}
+use Rattle.isle_sema.proofs.BuiltForms.{no_both}
 use Rattle.isle_sema.proofs.DeclaredWell.{AreDeclaredWell}
 use Rattle.isle_sema.proofs.ExtractorFaults.{extractors_fault_is}
 use Rattle.isle_sema.proofs.ExtractorLaws.{AreKeptIn, kept_in}
@@ -49,4 +49,4 @@ are_sound defs d h = record { sound = none; treed = treed; free = λ term. ap (�
 
 -- so templates are found with those that they use replaced
 pub none_missing : (defs : List Def) → AreSound defs → AreWholeFound (templates (whole_of defs)) None → ⊥
-none_missing defs s walk = both walk.1 (s.free walk.0)
+none_missing defs s walk = no_both walk.1 (s.free walk.0)

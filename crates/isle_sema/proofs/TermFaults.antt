@@ -86,12 +86,13 @@ behind : (all before : List Def) (d : Def) (ds : List Def) → signature_of d �
 behind all before d ds a b c h = same_tests (undeclared before d a) (not_external before d b) (not_extracting before d c) h
 
 -- the tests of a declaration
-decl_kept : (a b c d : Bool)
-    → cond a (Some row.DeclarationRepeats) (cond b (Some row.TypeMissing) (cond c (Some row.ManyArguments) (cond d (Some row.MultiAndPartial) None))) ≡ None → (a ≡ false) × (b ≡ false) × (c ≡ false)
+pub decl_kept : (a b c d : Bool)
+    → cond a (Some row.DeclarationRepeats) (cond b (Some row.TypeMissing) (cond c (Some row.ManyArguments) (cond d (Some row.MultiAndPartial) None))) ≡ None → (a ≡ false) × (b ≡ false) × (c ≡ false) × (d ≡ false)
 decl_kept true b c d h = absurd cc
 decl_kept false true c d h = absurd cc
 decl_kept false false true d h = absurd cc
-decl_kept false false false d h = (refl, refl, refl)
+decl_kept false false false true h = absurd cc
+decl_kept false false false false h = (refl, refl, refl, refl)
 
 -- one that names a term, which is declared and has none of its kind before
 named_kept : (a b c : Bool) → cond a (Some row.TermUndeclared) (cond (b || c) (Some row.SecondOfTerm) None) ≡ None → (a ≡ false) × (b ≡ false) × (c ≡ false)

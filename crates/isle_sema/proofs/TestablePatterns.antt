@@ -14,21 +14,24 @@ use Rattle.isle_core.specs.declared.types.Term.{Term}
 use Rattle.isle_core.specs.Calling.{Calling, answers_often, is_fallible, extracting}
 use Rattle.isle_core.specs.ExternalCall.{IsExtraction}
 use Rattle.isle_core.specs.Form.{form, form_types}
+use Rattle.isle_core.specs.HoldsImpure.{holds_impure}
 use Rattle.isle_core.specs.Making.{MakesVariant, MakesStruct, making}
 use Rattle.isle_core.specs.Opening.{Opening, AsVariant, AsStruct, ByExtractor, opening, answer_path, result_path, part_path}
-use Rattle.isle_core.specs.Path.{Path, Arg, Inner, Extracted}
+use Rattle.isle_core.specs.Path.{Path, Arg, Chosen, Inner, Extracted}
 use Rattle.isle_core.specs.PathType.{IsPathOf}
 use Rattle.isle_core.specs.Pattern as pattern
 use Rattle.isle_core.specs.Pattern.{Pattern, Patterns, NoPattern, APattern, Var, ConstBool, ConstInt, ConstPrim, Wildcard, BindPattern, And}
 use Rattle.isle_core.specs.PatternType.{part_types, IsPatternOf, ArePartsOf, AreEachOf, ArePatternsOf}
 use Rattle.isle_core.specs.Rule.{Environment}
 use Rattle.isle_core.specs.Serializable.{StandsOn, IsTest}
-use Rattle.isle_core.specs.Tests.{Test, Is, Equal, Never, is_constraint, Places, met_tests, met_after, found_tests, opening_tests, tests, parts_tests, each_tests, after, after_parts, after_each, args_tests, args_after}
+use Rattle.isle_core.specs.Tests.{Test, Is, Equal, HasItem, is_constraint, Places, met_tests, met_after, found_tests, opening_tests, tests, parts_tests, each_tests, after, after_parts, after_each, args_tests, args_after}
 use Rattle.isle_core.proofs.Contained.{head_contained, tail_contained, contained_cases, none_contained}
+use Rattle.isle_core.proofs.EarlyPlaces.{part_early}
 use Rattle.isle_core.proofs.KeptPlaces.{after_keeps, each_keep, parts_keep, args_keep}
 use Rattle.isle_core.specs.TypedVariables.{typed_variables, typed_within, all_typed, HaveOneType}
+use Rattle.isle_sema.proofs.BuiltForms.{no_both}
 use Rattle.isle_sema.proofs.StandingPaths.{AreAlso, stands_still}
-use Rattle.isle_sema.proofs.OpenedTypes.{IsFinding, finds, may_find, OpensInto, opens_into}
+use Rattle.isle_sema.proofs.OpenedTypes.{IsFinding, finds, may_find, lists, OpensInto, opens_into}
 
 -- ---- types of paths in order
 
@@ -70,11 +73,11 @@ parts_there env None qs h = absurd h
 parts_there env (Some tys) qs h = (tys, refl, h)
 
 -- an extractor that is called on what stands at the path gives results of these types, so often
-abbrev Gives : Environment → Term → TermId → Path → List TypeId → ReturnKind → Type 0
+abbrev pub Gives : Environment → Term → TermId → Path → List TypeId → ReturnKind → Type 0
 Gives env t term p tys kind = IsExtraction kind (extracting env term) × IsSomeAnd (slice_get env.terms term.0) (λ (x : Term). (x.arg_tys ≡ tys) × IsPathOf env t p x.ret_ty)
 
 -- so where it takes values of the path's type apart
-extractor_gives : (env : Environment) (t : Term) (term : TermId) (c : Calling) (count : ℕ) (p : Path) (ty : TypeId) (tys : List TypeId) (kind : ReturnKind) → OpensInto env ty (ByExtractor term c count) tys → IsPathOf env t p ty → IsExtraction kind c → Gives env t term p tys kind
+pub extractor_gives : (env : Environment) (t : Term) (term : TermId) (c : Calling) (count : ℕ) (p : Path) (ty : TypeId) (tys : List TypeId) (kind : ReturnKind) → OpensInto env ty (ByExtractor term c count) tys → IsPathOf env t p ty → IsExtraction kind c → Gives env t term p tys kind
 extractor_gives env t term c count p ty tys kind into h ext =
     let on : IsPathOf env t p into.called.ret_ty = subst (IsPathOf env t p) (sym into.taken) h in
     (subst (IsExtraction kind) (sym into.is) ext, subst (λ o. IsSomeAnd o (λ (x : Term). (x.arg_tys ≡ tys) × IsPathOf env t p x.ret_ty)) (sym into.found) (into.gives, on))
@@ -83,11 +86,13 @@ extractor_gives env t term c count p ty tys kind into h ext =
 result_typed : {c : Calling} (env : Environment) (t : Term) (term : TermId) (p : Path) (tys : List TypeId) (k : ℕ) (part : TypeId) → IsFinding c → ((kind : ReturnKind) → IsExtraction kind c → Gives env t term p tys kind) → slice_get tys k ≡ Some part
     → IsPathOf env t (result_path (length tys) k (answer_path c (Extracted term p))) part
 result_typed env t term p [] k part f g at = absurd cc
-result_typed env t term p (ty ∷ []) zero part (finds name) g at = subst (IsPathOf env t (Extracted term p)) (same_Some ty part at) (g return_kind.Plain (refl, tt, tt))
-result_typed env t term p (ty ∷ []) zero part (may_find name) g at = subst (IsPathOf env t (Inner (Extracted term p))) (same_Some ty part at) (g return_kind.Option (refl, tt, tt))
+result_typed env t term p (ty ∷ []) zero part (finds name) g at = subst (IsPathOf env t (Extracted term p)) (same_Some ty part at) (g return_kind.Plain (refl, tt))
+result_typed env t term p (ty ∷ []) zero part (may_find name) g at = subst (IsPathOf env t (Inner (Extracted term p))) (same_Some ty part at) (g return_kind.Option (refl, tt))
+result_typed env t term p (ty ∷ []) zero part (lists name) g at = subst (IsPathOf env t (Chosen (Extracted term p))) (same_Some ty part at) (g return_kind.Iterator (refl, tt))
 result_typed env t term p (ty ∷ []) (suc k) part f g at = absurd cc
-result_typed env t term p (ty ∷ more ∷ tys) k part (finds name) g at = let given = g return_kind.Plain (refl, tt, tt) in (ty ∷ more ∷ tys, (tt, given.0, given.1), at)
-result_typed env t term p (ty ∷ more ∷ tys) k part (may_find name) g at = (ty ∷ more ∷ tys, (tt, g return_kind.Option (refl, tt, tt)), at)
+result_typed env t term p (ty ∷ more ∷ tys) k part (finds name) g at = let given = g return_kind.Plain (refl, tt) in (ty ∷ more ∷ tys, (tt, given.0, given.1), at)
+result_typed env t term p (ty ∷ more ∷ tys) k part (may_find name) g at = (ty ∷ more ∷ tys, (tt, g return_kind.Option (refl, tt)), at)
+result_typed env t term p (ty ∷ more ∷ tys) k part (lists name) g at = (ty ∷ more ∷ tys, (tt, g return_kind.Iterator (refl, tt)), at)
 
 -- what a term takes values of a type apart into has its types
 part_typed : (env : Environment) (t : Term) (opened : Opening) (p : Path) (ty : TypeId) (tys : List TypeId) → OpensInto env ty opened tys → IsPathOf env t p ty → (k : ℕ) (part : TypeId) → slice_get tys k ≡ Some part → IsPathOf env t (part_path opened k p) part
@@ -107,10 +112,11 @@ parts_are env t opened p ty tys into h = from_start env t (λ k. part_path opene
 abbrev pub HasConstraints : (all ts : List Test) → Type 0
 HasConstraints all ts = (y : Test) → is_constraint y ≡ true → Contains ts y → Contains all y
 
--- what an extractor finds stands behind the test that it is something
-found_stands : {c : Calling} (env : Environment) (term : TermId) (tests : List Test) (done : List Path) (p : Path) → IsFinding c → StandsOn env tests done p → HasConstraints tests (found_tests c (Extracted term p)) → StandsOn env tests done (answer_path c (Extracted term p))
-found_stands env term tests done p (finds name) s among = s
-found_stands env term tests done p (may_find name) s among = among (Is (Extracted term p) constraint.Some) refl (head_contained (Is (Extracted term p) constraint.Some) [])
+-- what an extractor finds stands behind the test that it is something, where no impure call is held
+found_stands : {c : Calling} (env : Environment) (term : TermId) (tests : List Test) (done : List Path) (p : Path) → IsFinding c → StandsOn env tests done p → holds_impure env p ≡ false → HasConstraints tests (found_tests c (Extracted term p)) → StandsOn env tests done (answer_path c (Extracted term p))
+found_stands env term tests done p (finds name) s early among = s
+found_stands env term tests done p (lists name) s early among = (s, λ e. absurd (no_both e early))
+found_stands env term tests done p (may_find name) s early among = among (Is (Extracted term p) constraint.Some) refl (head_contained (Is (Extracted term p) constraint.Some) [])
 
 -- a result stands where the answer does
 result_stands : (env : Environment) (count i : ℕ) (tests : List Test) (done : List Path) (p : Path) → StandsOn env tests done p → StandsOn env tests done (result_path count i p)
@@ -119,10 +125,10 @@ result_stands env (suc zero) i tests done p h = h
 result_stands env (suc (suc count)) i tests done p h = h
 
 -- a part stands behind the tests of what takes it apart
-part_stands : (env : Environment) (ty : TypeId) (opened : Opening) (tys : List TypeId) (tests : List Test) (done : List Path) (p : Path) (i : ℕ) → OpensInto env ty opened tys → StandsOn env tests done p → HasConstraints tests (opening_tests opened p) → StandsOn env tests done (part_path opened i p)
-part_stands env ty (AsVariant of variant) tys tests done p i into s among = (of, among (Is p (constraint.Variant of variant)) refl (head_contained (Is p (constraint.Variant of variant)) []))
-part_stands env ty (AsStruct of) tys tests done p i into s among = (of, among (Is p (constraint.Struct of)) refl (head_contained (Is p (constraint.Struct of)) []))
-part_stands env ty (ByExtractor term c count) tys tests done p i into s among = result_stands env count i tests done (answer_path c (Extracted term p)) (found_stands env term tests done p into.finding s among)
+pub part_stands : (env : Environment) (ty : TypeId) (opened : Opening) (tys : List TypeId) (tests : List Test) (done : List Path) (p : Path) (i : ℕ) → OpensInto env ty opened tys → StandsOn env tests done p → holds_impure env p ≡ false → HasConstraints tests (opening_tests opened p) → StandsOn env tests done (part_path opened i p)
+part_stands env ty (AsVariant of variant) tys tests done p i into s early among = (of, among (Is p (constraint.Variant of variant)) refl (head_contained (Is p (constraint.Variant of variant)) []))
+part_stands env ty (AsStruct of) tys tests done p i into s early among = (of, among (Is p (constraint.Struct of)) refl (head_contained (Is p (constraint.Struct of)) []))
+part_stands env ty (ByExtractor term c count) tys tests done p i into s early among = result_stands env count i tests done (answer_path c (Extracted term p)) (found_stands env term tests done p into.finding s early among)
 
 -- ---- constraints
 
@@ -136,14 +142,14 @@ abbrev pub AreTestableAt : Environment → Term → (before : List Test) → Lis
 AreTestableAt env t before [] = Unit {0}
 AreTestableAt env t before (Is p c ∷ ts) = IsTestableAt env t before p c × AreTestableAt env t (Is p c ∷ before) ts
 AreTestableAt env t before (Equal p q ∷ ts) = AreTestableAt env t before ts
-AreTestableAt env t before (Never ∷ ts) = AreTestableAt env t before ts
+AreTestableAt env t before (HasItem q ∷ ts) = AreTestableAt env t before ts
 
 -- so of the constraints alone
 pub constraints_testable : (env : Environment) (t : Term) (before ts : List Test) → AreTestableAt env t before ts → AreTestableAt env t before (filter is_constraint ts)
 constraints_testable env t before [] h = tt
 constraints_testable env t before (Is p c ∷ ts) h = (h.0, constraints_testable env t (Is p c ∷ before) ts h.1)
 constraints_testable env t before (Equal p q ∷ ts) h = constraints_testable env t before ts h
-constraints_testable env t before (Never ∷ ts) h = constraints_testable env t before ts h
+constraints_testable env t before (HasItem q ∷ ts) h = constraints_testable env t before ts h
 
 module _ (env : Environment) (t : Term) where
   -- tests behind tests
@@ -155,7 +161,7 @@ module _ (env : Environment) (t : Term) where
         (λ y e d. ⊎_elim (λ (s : Is p c ≡ y). subst (Contains later) s (a (Is p c) (head_contained (Is p c) before))) (k y e) (contained_cases (Is p c) xs y d))),
   )
   testable_more before (Equal p q ∷ xs) ys h go = testable_more before xs ys h (λ later a k. go later a (λ y e d. ⊎_elim (λ (s : Equal p q ≡ y). let bad : false ≡ true = ap is_constraint s ∙ e in absurd cc) (k y e) (contained_cases (Equal p q) xs y d)))
-  testable_more before (Never ∷ xs) ys h go = testable_more before xs ys h (λ later a k. go later a (λ y e d. ⊎_elim (λ (s : Never ≡ y). let bad : false ≡ true = ap is_constraint s ∙ e in absurd cc) (k y e) (contained_cases Never xs y d)))
+  testable_more before (HasItem q ∷ xs) ys h go = testable_more before xs ys h (λ later a k. go later a (λ y e d. ⊎_elim (λ (s : HasItem q ≡ y). let bad : false ≡ true = ap is_constraint s ∙ e in absurd cc) (k y e) (contained_cases (HasItem q) xs y d)))
 
   -- a variable puts no constraint
   met_testable : (o : Option Path) (p : Path) (before : List Test) → AreTestableAt env t before (met_tests o p)
@@ -165,7 +171,8 @@ module _ (env : Environment) (t : Term) where
   -- so is the constraint on what an extractor finds
   found_testable : {c : Calling} (term : TermId) (p : Path) (tys : List TypeId) (before : List Test) → IsFinding c → ((kind : ReturnKind) → IsExtraction kind c → Gives env t term p tys kind) → StandsOn env before [] p → AreTestableAt env t before (found_tests c (Extracted term p))
   found_testable term p tys before (finds name) g s = tt
-  found_testable term p tys before (may_find name) g s = (record { test = (tys, g return_kind.Option (refl, tt, tt)); stands = s }, tt)
+  found_testable term p tys before (lists name) g s = tt
+  found_testable term p tys before (may_find name) g s = (record { test = (tys, g return_kind.Option (refl, tt)); stands = s }, tt)
 
   -- the constraints of what takes a path of a type apart
   opening_testable : (opened : Opening) (p : Path) (ty : TypeId) (tys : List TypeId) (before : List Test) → OpensInto env ty opened tys → IsPathOf env t p ty → StandsOn env before [] p → AreTestableAt env t before (opening_tests opened p)
@@ -175,47 +182,47 @@ module _ (env : Environment) (t : Term) where
 
   mutual
     -- the constraints of a typed pattern on a path of its type
-    pub pattern_testable : (q : Pattern) (p : Path) (ty : TypeId) (places : Places) (before : List Test) → IsPatternOf env ty q → IsPathOf env t p ty → StandsOn env before [] p → AreTestableAt env t before (tests env q p places)
-    pattern_testable (Var of x) p ty places before h typed s = met_testable (places x.0) p before
-    pattern_testable (ConstBool b) p ty places before h typed s = (record { test = record { ty = ty; path = typed; constraint = h.1 }; stands = s }, tt)
-    pattern_testable (ConstInt of n) p ty places before h typed s = (record { test = record { ty = ty; path = typed; constraint = h }; stands = s }, tt)
-    pattern_testable (ConstPrim of name) p ty places before h typed s = (record { test = record { ty = ty; path = typed; constraint = h.1 }; stands = s }, tt)
-    pattern_testable (Wildcard of) p ty places before h typed s = tt
-    pattern_testable (pattern.Term of term qs) p ty places before h typed s =
+    pub pattern_testable : (q : Pattern) (p : Path) (ty : TypeId) (places : Places) (before : List Test) → IsPatternOf env ty q → IsPathOf env t p ty → StandsOn env before [] p → holds_impure env p ≡ false → AreTestableAt env t before (tests env q p places)
+    pattern_testable (Var of x) p ty places before h typed s early = met_testable (places x.0) p before
+    pattern_testable (ConstBool b) p ty places before h typed s early = (record { test = record { ty = ty; path = typed; constraint = h.1 }; stands = s }, tt)
+    pattern_testable (ConstInt of n) p ty places before h typed s early = (record { test = record { ty = ty; path = typed; constraint = h }; stands = s }, tt)
+    pattern_testable (ConstPrim of name) p ty places before h typed s early = (record { test = record { ty = ty; path = typed; constraint = h.1 }; stands = s }, tt)
+    pattern_testable (Wildcard of) p ty places before h typed s early = tt
+    pattern_testable (pattern.Term of term qs) p ty places before h typed s early =
         let opened = opening env term in
         let k = parts_there env (part_types env (making env term) (slice_get env.terms term.0)) qs h.2 in
         let into = opens_into env ty term k.0 h.1 k.1 in
         testable_more before (opening_tests opened p) (parts_tests env opened qs 0 p places) (opening_testable opened p ty k.0 before into typed s)
-        (λ later a c. parts_testable qs opened p 0 k.0 places later k.2 (parts_are env t opened p ty k.0 into typed) (λ j. part_stands env ty opened k.0 later [] p j into (stands_still env p before later [] a s) c))
-    pattern_testable (BindPattern of x q) p ty places before h typed s =
+        (λ later a c. parts_testable qs opened p 0 k.0 places later k.2 (parts_are env t opened p ty k.0 into typed) (λ j. part_stands env ty opened k.0 later [] p j into (stands_still env p before later [] a s) early c) early)
+    pattern_testable (BindPattern of x q) p ty places before h typed s early =
         let mid = met_after (places x.0) x.0 p places in
-        testable_more before (met_tests (places x.0) p) (tests env q p mid) (met_testable (places x.0) p before) (λ later a c. pattern_testable q p ty mid later h.1 typed (stands_still env p before later [] a s))
-    pattern_testable (And of qs) p ty places before h typed s = each_testable qs p ty places before h.1 typed s
+        testable_more before (met_tests (places x.0) p) (tests env q p mid) (met_testable (places x.0) p before) (λ later a c. pattern_testable q p ty mid later h.1 typed (stands_still env p before later [] a s) early)
+    pattern_testable (And of qs) p ty places before h typed s early = each_testable qs p ty places before h.1 typed s early
 
     -- those of parts, each on its path
-    parts_testable : (qs : Patterns) (opened : Opening) (p : Path) (i : ℕ) (tys : List TypeId) (places : Places) (before : List Test) → ArePartsOf env (Some tys) qs → AreTyped env t (λ k. part_path opened k p) i tys → ((k : ℕ) → StandsOn env before [] (part_path opened k p))
+    parts_testable : (qs : Patterns) (opened : Opening) (p : Path) (i : ℕ) (tys : List TypeId) (places : Places) (before : List Test) → ArePartsOf env (Some tys) qs → AreTyped env t (λ k. part_path opened k p) i tys → ((k : ℕ) → StandsOn env before [] (part_path opened k p)) → holds_impure env p ≡ false
         → AreTestableAt env t before (parts_tests env opened qs i p places)
-    parts_testable NoPattern opened p i tys places before h typed stand = tt
-    parts_testable (APattern q qs) opened p i (ty ∷ tys) places before h typed stand =
+    parts_testable NoPattern opened p i tys places before h typed stand early = tt
+    parts_testable (APattern q qs) opened p i (ty ∷ tys) places before h typed stand early =
         let r = part_path opened i p in
         let mid = after env q r places in
-        testable_more before (tests env q r places) (parts_tests env opened qs (suc i) p mid) (pattern_testable q r ty places before h.0 typed.0 (stand i))
-        (λ later a c. parts_testable qs opened p (suc i) tys mid later h.1 typed.1 (λ k. stands_still env (part_path opened k p) before later [] a (stand k)))
-    parts_testable (APattern q qs) opened p i [] places before h typed stand = absurd h
+        testable_more before (tests env q r places) (parts_tests env opened qs (suc i) p mid) (pattern_testable q r ty places before h.0 typed.0 (stand i) (part_early env opened i p early))
+        (λ later a c. parts_testable qs opened p (suc i) tys mid later h.1 typed.1 (λ k. stands_still env (part_path opened k p) before later [] a (stand k)) early)
+    parts_testable (APattern q qs) opened p i [] places before h typed stand early = absurd h
 
     -- those of several patterns on one path
-    each_testable : (qs : Patterns) (p : Path) (ty : TypeId) (places : Places) (before : List Test) → AreEachOf env ty qs → IsPathOf env t p ty → StandsOn env before [] p → AreTestableAt env t before (each_tests env qs p places)
-    each_testable NoPattern p ty places before h typed s = tt
-    each_testable (APattern q qs) p ty places before h typed s =
+    each_testable : (qs : Patterns) (p : Path) (ty : TypeId) (places : Places) (before : List Test) → AreEachOf env ty qs → IsPathOf env t p ty → StandsOn env before [] p → holds_impure env p ≡ false → AreTestableAt env t before (each_tests env qs p places)
+    each_testable NoPattern p ty places before h typed s early = tt
+    each_testable (APattern q qs) p ty places before h typed s early =
         let mid = after env q p places in
-        testable_more before (tests env q p places) (each_tests env qs p mid) (pattern_testable q p ty places before h.0 typed s) (λ later a c. each_testable qs p ty mid later h.1 typed (stands_still env p before later [] a s))
+        testable_more before (tests env q p places) (each_tests env qs p mid) (pattern_testable q p ty places before h.0 typed s early) (λ later a c. each_testable qs p ty mid later h.1 typed (stands_still env p before later [] a s) early)
 
   -- those of patterns on arguments
   pub args_testable : (qs : List Pattern) (i : ℕ) (tys : List TypeId) (places : Places) (before : List Test) → ArePatternsOf env tys qs → AreTyped env t Arg i tys → AreTestableAt env t before (args_tests env qs i places)
   args_testable [] i tys places before h typed = tt
   args_testable (q ∷ qs) i (ty ∷ tys) places before h typed =
       let mid = after env q (Arg i) places in
-      testable_more before (tests env q (Arg i) places) (args_tests env qs (suc i) mid) (pattern_testable q (Arg i) ty places before h.0 typed.0 tt) (λ later a c. args_testable qs (suc i) tys mid later h.1 typed.1)
+      testable_more before (tests env q (Arg i) places) (args_tests env qs (suc i) mid) (pattern_testable q (Arg i) ty places before h.0 typed.0 tt refl) (λ later a c. args_testable qs (suc i) tys mid later h.1 typed.1)
   args_testable (q ∷ qs) i [] places before h typed = absurd h
 
 -- ---- variables
@@ -261,8 +268,8 @@ is_no_equality p a b c k = ⊎_elim (λ (e : Is p c ≡ Equal a b). absurd cc) (
 pub found_no_equality : (c : Calling) (p a b : Path) → Contains (found_tests c p) (Equal a b) → ⊥
 found_no_equality c p a b k = pick (answers_often c) (is_fallible c) k
   where
-    pick : (x y : Bool) → Contains (cond x (Never ∷ []) (cond y (Is p constraint.Some ∷ []) [])) (Equal a b) → ⊥
-    pick true y k = ⊎_elim (λ (e : Never ≡ Equal a b). absurd cc) (λ d. none_contained (Equal a b) d) (contained_cases Never [] (Equal a b) k)
+    pick : (x y : Bool) → Contains (cond x (HasItem p ∷ []) (cond y (Is p constraint.Some ∷ []) [])) (Equal a b) → ⊥
+    pick true y k = ⊎_elim (λ (e : HasItem p ≡ Equal a b). absurd cc) (λ d. none_contained (Equal a b) d) (contained_cases (HasItem p) [] (Equal a b) k)
     pick false true k = is_no_equality p a b constraint.Some k
     pick false false k = none_contained (Equal a b) k
 
@@ -333,55 +340,55 @@ module _ (env : Environment) (t : Term) (all : List Test) (vars : List (TypeId �
 
   mutual
     -- a typed pattern on a path of its type
-    pub pattern_passed : (q : Pattern) (p : Path) (ty : TypeId) (places : Places) → IsPatternOf env ty q → IsPathOf env t p ty → IsStanding env all p → AreHeld env t all vars places → HasConstraints all (tests env q p places) → ((v : TypeId × ℕ) → Contains (typed_variables q) v → Contains vars v)
+    pub pattern_passed : (q : Pattern) (p : Path) (ty : TypeId) (places : Places) → IsPatternOf env ty q → IsPathOf env t p ty → IsStanding env all p → holds_impure env p ≡ false → AreHeld env t all vars places → HasConstraints all (tests env q p places) → ((v : TypeId × ℕ) → Contains (typed_variables q) v → Contains vars v)
         → IsPassed env t all vars (tests env q p places) (typed_variables q) (after env q p places)
-    pattern_passed (Var of x) p ty places h typed s held among within = met_passed of ty x.0 p places (places x.0) refl h (within (of, x.0) (head_contained {A = TypeId × ℕ} (of, x.0) [])) typed s held
-    pattern_passed (ConstBool b) p ty places h typed s held among within = constraint_passed p (constraint.ConstBool b) places held
-    pattern_passed (ConstInt of n) p ty places h typed s held among within = constraint_passed p (constraint.ConstInt n of) places held
-    pattern_passed (ConstPrim of name) p ty places h typed s held among within = constraint_passed p (constraint.ConstPrim name) places held
-    pattern_passed (Wildcard of) p ty places h typed s held among within = none_passed places held
-    pattern_passed (pattern.Term of term qs) p ty places h typed s held among within =
+    pattern_passed (Var of x) p ty places h typed s early held among within = met_passed of ty x.0 p places (places x.0) refl h (within (of, x.0) (head_contained {A = TypeId × ℕ} (of, x.0) [])) typed s held
+    pattern_passed (ConstBool b) p ty places h typed s early held among within = constraint_passed p (constraint.ConstBool b) places held
+    pattern_passed (ConstInt of n) p ty places h typed s early held among within = constraint_passed p (constraint.ConstInt n of) places held
+    pattern_passed (ConstPrim of name) p ty places h typed s early held among within = constraint_passed p (constraint.ConstPrim name) places held
+    pattern_passed (Wildcard of) p ty places h typed s early held among within = none_passed places held
+    pattern_passed (pattern.Term of term qs) p ty places h typed s early held among within =
         let opened = opening env term in
         let k = parts_there env (part_types env (making env term) (slice_get env.terms term.0)) qs h.2 in
         let into = opens_into env ty term k.0 h.1 k.1 in
         let first = opening_tests opened p in
         let rest = parts_tests env opened qs 0 p places in
         both_passed first rest [] (typed_within qs) places (after_parts env opened qs 0 p places) (opening_passed opened p places held)
-        (parts_passed qs opened p 0 k.0 places k.2 (parts_are env t opened p ty k.0 into typed) (λ j done. part_stands env ty opened k.0 all done p j into (s done) (λ y e c. among y e (Contains-append_left first rest y c))) held
+        (parts_passed qs opened p 0 k.0 places k.2 (parts_are env t opened p ty k.0 into typed) (λ j done. part_stands env ty opened k.0 all done p j into (s done) early (λ y e c. among y e (Contains-append_left first rest y c))) early held
         (λ y e c. among y e (Contains-append_right first rest y c)) within) (λ y r e. parts_keep qs env opened 0 p places y r e)
-    pattern_passed (BindPattern of x q) p ty places h typed s held among within =
+    pattern_passed (BindPattern of x q) p ty places h typed s early held among within =
         let mid = met_after (places x.0) x.0 p places in
         let first = met_tests (places x.0) p in
         let m = met_passed of ty x.0 p places (places x.0) refl h.0 (within (of, x.0) (head_contained {A = TypeId × ℕ} (of, x.0) (typed_variables q))) typed s held in
         both_passed first (tests env q p mid) ((of, x.0) ∷ []) (typed_variables q) mid (after env q p mid) m
-        (pattern_passed q p ty mid h.1 typed s m.held (λ y e c. among y e (Contains-append_right first (tests env q p mid) y c)) (λ v c. within v (tail_contained {A = TypeId × ℕ} (of, x.0) (typed_variables q) v c))) (λ y r e. after_keeps q env p mid y r e)
-    pattern_passed (And of qs) p ty places h typed s held among within = each_passed qs p ty places h.1 typed s held among within
+        (pattern_passed q p ty mid h.1 typed s early m.held (λ y e c. among y e (Contains-append_right first (tests env q p mid) y c)) (λ v c. within v (tail_contained {A = TypeId × ℕ} (of, x.0) (typed_variables q) v c))) (λ y r e. after_keeps q env p mid y r e)
+    pattern_passed (And of qs) p ty places h typed s early held among within = each_passed qs p ty places h.1 typed s early held among within
 
     -- parts, each on its path
-    parts_passed : (qs : Patterns) (opened : Opening) (p : Path) (i : ℕ) (tys : List TypeId) (places : Places) → ArePartsOf env (Some tys) qs → AreTyped env t (λ k. part_path opened k p) i tys → ((k : ℕ) → IsStanding env all (part_path opened k p)) → AreHeld env t all vars places
+    parts_passed : (qs : Patterns) (opened : Opening) (p : Path) (i : ℕ) (tys : List TypeId) (places : Places) → ArePartsOf env (Some tys) qs → AreTyped env t (λ k. part_path opened k p) i tys → ((k : ℕ) → IsStanding env all (part_path opened k p)) → holds_impure env p ≡ false → AreHeld env t all vars places
         → HasConstraints all (parts_tests env opened qs i p places) → ((v : TypeId × ℕ) → Contains (typed_within qs) v → Contains vars v) → IsPassed env t all vars (parts_tests env opened qs i p places) (typed_within qs) (after_parts env opened qs i p places)
-    parts_passed NoPattern opened p i tys places h typed stand held among within = none_passed places held
-    parts_passed (APattern q qs) opened p i (ty ∷ tys) places h typed stand held among within =
+    parts_passed NoPattern opened p i tys places h typed stand early held among within = none_passed places held
+    parts_passed (APattern q qs) opened p i (ty ∷ tys) places h typed stand early held among within =
         let r = part_path opened i p in
         let mid = after env q r places in
         let first = tests env q r places in
         let rest = parts_tests env opened qs (suc i) p mid in
-        let k = pattern_passed q r ty places h.0 typed.0 (stand i) held (λ y e c. among y e (Contains-append_left first rest y c)) (λ v c. within v (Contains-append_left (typed_variables q) (typed_within qs) v c)) in
+        let k = pattern_passed q r ty places h.0 typed.0 (stand i) (part_early env opened i p early) held (λ y e c. among y e (Contains-append_left first rest y c)) (λ v c. within v (Contains-append_left (typed_variables q) (typed_within qs) v c)) in
         both_passed first rest (typed_variables q) (typed_within qs) mid (after_parts env opened qs (suc i) p mid) k
-        (parts_passed qs opened p (suc i) tys mid h.1 typed.1 stand k.held (λ y e c. among y e (Contains-append_right first rest y c)) (λ v c. within v (Contains-append_right (typed_variables q) (typed_within qs) v c))) (λ y s e. parts_keep qs env opened (suc i) p mid y s e)
-    parts_passed (APattern q qs) opened p i [] places h typed stand held among within = absurd h
+        (parts_passed qs opened p (suc i) tys mid h.1 typed.1 stand early k.held (λ y e c. among y e (Contains-append_right first rest y c)) (λ v c. within v (Contains-append_right (typed_variables q) (typed_within qs) v c))) (λ y s e. parts_keep qs env opened (suc i) p mid y s e)
+    parts_passed (APattern q qs) opened p i [] places h typed stand early held among within = absurd h
 
     -- several patterns on one path
-    each_passed : (qs : Patterns) (p : Path) (ty : TypeId) (places : Places) → AreEachOf env ty qs → IsPathOf env t p ty → IsStanding env all p → AreHeld env t all vars places → HasConstraints all (each_tests env qs p places) → ((v : TypeId × ℕ) → Contains (typed_within qs) v → Contains vars v)
+    each_passed : (qs : Patterns) (p : Path) (ty : TypeId) (places : Places) → AreEachOf env ty qs → IsPathOf env t p ty → IsStanding env all p → holds_impure env p ≡ false → AreHeld env t all vars places → HasConstraints all (each_tests env qs p places) → ((v : TypeId × ℕ) → Contains (typed_within qs) v → Contains vars v)
         → IsPassed env t all vars (each_tests env qs p places) (typed_within qs) (after_each env qs p places)
-    each_passed NoPattern p ty places h typed s held among within = none_passed places held
-    each_passed (APattern q qs) p ty places h typed s held among within =
+    each_passed NoPattern p ty places h typed s early held among within = none_passed places held
+    each_passed (APattern q qs) p ty places h typed s early held among within =
         let mid = after env q p places in
         let first = tests env q p places in
         let rest = each_tests env qs p mid in
-        let k = pattern_passed q p ty places h.0 typed s held (λ y e c. among y e (Contains-append_left first rest y c)) (λ v c. within v (Contains-append_left (typed_variables q) (typed_within qs) v c)) in
+        let k = pattern_passed q p ty places h.0 typed s early held (λ y e c. among y e (Contains-append_left first rest y c)) (λ v c. within v (Contains-append_left (typed_variables q) (typed_within qs) v c)) in
         both_passed first rest (typed_variables q) (typed_within qs) mid (after_each env qs p mid) k
-        (each_passed qs p ty mid h.1 typed s k.held (λ y e c. among y e (Contains-append_right first rest y c)) (λ v c. within v (Contains-append_right (typed_variables q) (typed_within qs) v c))) (λ y r e. each_keep qs env p mid y r e)
+        (each_passed qs p ty mid h.1 typed s early k.held (λ y e c. among y e (Contains-append_right first rest y c)) (λ v c. within v (Contains-append_right (typed_variables q) (typed_within qs) v c))) (λ y r e. each_keep qs env p mid y r e)
 
   -- patterns on arguments
   pub args_passed : (qs : List Pattern) (i : ℕ) (tys : List TypeId) (places : Places) → ArePatternsOf env tys qs → AreTyped env t Arg i tys → AreHeld env t all vars places → HasConstraints all (args_tests env qs i places) → ((v : TypeId × ℕ) → Contains (all_typed qs) v → Contains vars v)
@@ -391,7 +398,7 @@ module _ (env : Environment) (t : Term) (all : List Test) (vars : List (TypeId �
       let mid = after env q (Arg i) places in
       let first = tests env q (Arg i) places in
       let rest = args_tests env qs (suc i) mid in
-      let k = pattern_passed q (Arg i) ty places h.0 typed.0 (λ done. tt) held (λ y e c. among y e (Contains-append_left first rest y c)) (λ v c. within v (Contains-append_left (typed_variables q) (all_typed qs) v c)) in
+      let k = pattern_passed q (Arg i) ty places h.0 typed.0 (λ done. tt) refl held (λ y e c. among y e (Contains-append_left first rest y c)) (λ v c. within v (Contains-append_left (typed_variables q) (all_typed qs) v c)) in
       both_passed first rest (typed_variables q) (all_typed qs) mid (args_after env qs (suc i) mid) k
       (args_passed qs (suc i) tys mid h.1 typed.1 k.held (λ y e c. among y e (Contains-append_right first rest y c)) (λ v c. within v (Contains-append_right (typed_variables q) (all_typed qs) v c))) (λ y r e. args_keep env qs (suc i) mid y r e)
   args_passed (q ∷ qs) i [] places h typed held among within = absurd h

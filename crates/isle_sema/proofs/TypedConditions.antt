@@ -29,7 +29,7 @@ use Rattle.isle_variables.proofs.LocalLaws.{pattern_variable}
 use Rattle.isle_sema.proofs.OwnTypes.{own_typed}
 use Rattle.isle_variables.proofs.ScopeLaws.{IsNumbered, none_numbered, behind_numbered}
 use Rattle.isle_sema.proofs.TypedExprs.{IsOver}
-use Rattle.isle_sema.proofs.TypedParts.{IsTypedIn}
+use Rattle.isle_sema.proofs.TypedParts.{IsGivenIn}
 use Rattle.isle_sema.proofs.TypedPatterns.{KnowsTerms, AreTakenWell, taken_parts, pattern_typed, stands_in, variable_stands}
 use Rattle.isle_sema.proofs.VariableTypes.{pattern_grows, patterns_grow, StandIn, both_stand, stand_on, pattern_stand, patterns_stand, below_next}
 
@@ -61,7 +61,7 @@ condition_stage w expected scope vars next p q s h =
     }
 
 -- what an expression over them stands over
-pub stage_over : (defs : List Def) (env : Environment) (scope : Scope) (vars : List (TypeId × ℕ)) (next : ℕ) → IsTypedIn defs env → IsStage scope vars → scope.next ≤ next → IsOver defs env (of_patterns scope) vars next
+pub stage_over : (defs : List Def) (env : Environment) (scope : Scope) (vars : List (TypeId × ℕ)) (next : ℕ) → IsGivenIn defs env → IsStage scope vars → scope.next ≤ next → IsOver defs env (of_patterns scope) vars next
 stage_over defs env scope vars next g s le = record {
   given = g;
   bound = λ name l ty found typed. s.known name (ty, record { 0 = l.number }) (pattern_variable scope name l ty found typed);
@@ -87,7 +87,7 @@ pub record AreTypedConditions (env : Environment) (given : List (Option CorePatt
   pub typed : AreWrittenIfLetsOf env given vars cs
   pub stage : IsStage scope (iflets_typed vars cs)
 
-pub conditions_typed : (defs : List Def) (env : Environment) (scope : Scope) (vars : List (TypeId × ℕ)) (cs : List IfLet) (xs : List CoreIfLet) → IsTypedIn defs env → KnowsTerms defs env → IsStage scope vars → (conditions_pass (whole_of defs) scope cs).trees ≡ Some xs
+pub conditions_typed : (defs : List Def) (env : Environment) (scope : Scope) (vars : List (TypeId × ℕ)) (cs : List IfLet) (xs : List CoreIfLet) → IsGivenIn defs env → KnowsTerms defs env → IsStage scope vars → (conditions_pass (whole_of defs) scope cs).trees ≡ Some xs
     → AreKept (whole_of defs) in_condition (conditions_pass (whole_of defs) scope cs).sites → AreTakenWell (whole_of defs) (conditions_pass (whole_of defs) scope cs).sites → AreTypedConditions env (templates (whole_of defs)) (conditions_pass (whole_of defs) scope cs).scope vars xs
 conditions_typed defs env scope vars [] xs g knows s h kept well = subst (AreTypedConditions env (templates (whole_of defs)) scope vars) (same_Some [] xs h) (record { typed = tt; stage = s })
 conditions_typed defs env scope vars (c ∷ cs) xs g knows s h kept well =
@@ -108,7 +108,7 @@ conditions_typed defs env scope vars (c ∷ cs) xs g knows s h kept well =
     let rhs = own_typed defs env in_condition (of_patterns scope) vars next c.rhs f.first.rhs (stage_over defs env scope vars next g s le) m.rhs_is (kept_parts w in_condition right.sites left.sites k.0).0 in
     let at : (pattern_pass w (Some ty) scope c.lhs).tree ≡ Some f.first.lhs = ap (λ o. (pattern_pass w o scope c.lhs).tree) (sym expected) ∙ m.lhs_is in
     let taken = subst (λ o. AreTakenWell w (pattern_pass w o scope c.lhs).sites) expected (taken_parts w right.sites left.sites t.0).1 in
-    let lhs = pattern_typed defs env ty scope c.lhs f.first.lhs knows g.given.types at taken in
+    let lhs = pattern_typed defs env ty scope c.lhs f.first.lhs knows g.types at taken in
     let stage = condition_stage w own scope vars right.next c.lhs f.first.lhs s m.lhs_is in
     let others = conditions_typed defs env one.scope (vars ++ typed_variables f.first.lhs) cs f.others g knows stage f.found k.1 t.1 in
     subst (AreTypedConditions env (templates w) rest.scope vars) (sym f.all) (record { typed = (record { ty = ty; rhs = rhs; lhs = lhs }, others.typed); stage = others.stage })

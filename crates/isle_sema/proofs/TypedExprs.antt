@@ -49,12 +49,11 @@ use Rattle.isle_sema.proofs.KeptParts.{AreKept, kept_parts}
 use Rattle.isle_variables.proofs.LocalLaws.{one_named}
 use Rattle.isle_variables.proofs.ScopeLaws.{local_is}
 use Rattle.isle_sema.proofs.MadeForms.{made_term, constant_typed}
-use Rattle.isle_terms.proofs.MadeTerms.{term_made, term_is, types_are, all_at}
+use Rattle.isle_terms.proofs.MadeTerms.{term_made, term_is, types_are}
 use Rattle.isle_sema.proofs.RuleRoots.{mapped, signature_at}
 use Rattle.isle_sema.proofs.TypedConstants.{integer_typed, truth_typed}
-use Rattle.isle_sema.proofs.TypedParts.{IsTypedIn}
+use Rattle.isle_sema.proofs.TypedParts.{IsGivenIn}
 use Rattle.isle_sema.proofs.TypedPatterns.{same_type}
-use Rattle.isle_sema.proofs.TypedTerms.{IsPlainTerm, plain_terms}
 
 -- ---- the kind of a term that is called
 
@@ -67,25 +66,24 @@ allowed_where false false h is = is
 abbrev Fits : Allowed → (pure partial : Bool) → Type 0
 Fits allowed pure partial = (IsTrue partial → IsTrue allowed.nothing) × (IsTrue (not pure) → IsTrue allowed.impure)
 
--- a plain term that has an external constructor or a rule
-declared_kind : (env : Environment) (t : Term) (allowed : Allowed) (pure multi recursive partial has : Bool) (syms : List (List ℕ)) (func : Option (List ℕ)) (how : ExtractorKind) → multi ≡ false → is_some func || has ≡ true → Fits allowed pure partial
+-- a term that has an external constructor or a rule
+declared_kind : (env : Environment) (t : Term) (allowed : Allowed) (pure multi recursive partial has : Bool) (syms : List (List ℕ)) (func : Option (List ℕ)) (how : ExtractorKind) → is_some func || has ≡ true → Fits allowed pure partial
     → IsTermKind env allowed t (kind.Decl pure multi partial recursive (constructor_of syms func has) how)
-declared_kind env t allowed pure true recursive partial has syms func how m some h = absurd cc
-declared_kind env t allowed pure false recursive partial has syms (Some func) how m some h = h
-declared_kind env t allowed pure false recursive partial true syms None how m some h = h
-declared_kind env t allowed pure false recursive partial false syms None how m some h = absurd cc
+declared_kind env t allowed pure multi recursive partial has syms (Some func) how some h = h
+declared_kind env t allowed pure multi recursive partial true syms None how some h = h
+declared_kind env t allowed pure multi recursive partial false syms None how some h = absurd cc
 
 -- a term that has a constructor is made, or has an external one or a rule
-kind_typed : (defs : List Def) (env : Environment) (allowed : Allowed) (i : ℕ) (s : Signature) (t : Term) (from : Origin) → IsTypedIn defs env → slice_get env.terms i ≡ Some t → IsPlainTerm s → s.origin ≡ from → kind_from (whole_of defs) s t.ret_ty s.origin ≡ t.kind
+kind_typed : (defs : List Def) (env : Environment) (allowed : Allowed) (i : ℕ) (s : Signature) (t : Term) (from : Origin) → IsGivenIn defs env → slice_get env.terms i ≡ Some t → s.origin ≡ from → kind_from (whole_of defs) s t.ret_ty s.origin ≡ t.kind
     → has_constructor (whole_of defs) s ≡ true → not allowed.nothing && s.partial ≡ false → not allowed.impure && not s.pure ≡ false → IsTermKind env allowed t t.kind
-kind_typed defs env allowed i s t origin.Declared g at plain is same has partial impure =
+kind_typed defs env allowed i s t origin.Declared g at is same has partial impure =
     let func = func_named (externs defs) s.term in
     let ruled = has_rule (rule_defs defs) s.term in
     let either : is_some func || ruled ≡ true = ap (λ o. is_made o || is_some func || ruled) (sym is) ∙ has in
     subst (IsTermKind env allowed t) (ap (kind_from (whole_of defs) s t.ret_ty) (sym is) ∙ same)
-    (declared_kind env t allowed s.pure s.multi s.recursive s.partial ruled (type_env_of defs).syms func (extracting_named (whole_of defs) s.term) (plain (ap is_made is)) either (allowed_where allowed.nothing s.partial partial, allowed_where allowed.impure (not s.pure) impure))
-kind_typed defs env allowed i s t (origin.Variant number) g at plain is same has partial impure = made_term defs env i t g g.given.types_kept at (ap is_made_kind (sym (ap (kind_from (whole_of defs) s t.ret_ty) (sym is) ∙ same))) allowed
-kind_typed defs env allowed i s t origin.Struct g at plain is same has partial impure = made_term defs env i t g g.given.types_kept at (ap is_made_kind (sym (ap (kind_from (whole_of defs) s t.ret_ty) (sym is) ∙ same))) allowed
+    (declared_kind env t allowed s.pure s.multi s.recursive s.partial ruled (type_env_of defs).syms func (extracting_named (whole_of defs) s.term) either (allowed_where allowed.nothing s.partial partial, allowed_where allowed.impure (not s.pure) impure))
+kind_typed defs env allowed i s t (origin.Variant number) g at is same has partial impure = made_term defs env i t g g.types_kept at (ap is_made_kind (sym (ap (kind_from (whole_of defs) s t.ret_ty) (sym is) ∙ same))) allowed
+kind_typed defs env allowed i s t origin.Struct g at is same has partial impure = made_term defs env i t g g.types_kept at (ap is_made_kind (sym (ap (kind_from (whole_of defs) s t.ret_ty) (sym is) ∙ same))) allowed
 
 -- ---- a call
 
@@ -131,7 +129,7 @@ call_is (Some ty) (Some term) (Some es) x h = record { of = ty; number = term; a
 -- what stands over a right side: the environment that definitions give, and variables in scope which are these, and whose numbers are
 -- below the next one
 pub record IsOver (defs : List Def) (env : Environment) (locals : List Local) (vars : List (TypeId × ℕ)) (next : ℕ) : Type 0 where
-  pub given : IsTypedIn defs env
+  pub given : IsGivenIn defs env
   pub bound : (name : List ℕ) (l : Local) (ty : TypeId) → local_named locals name ≡ Some l → l.ty ≡ Some ty → Contains vars (ty, l.number)
   pub below : (ty : TypeId) (x : ℕ) → Contains vars (ty, x) → x < next
 
@@ -145,18 +143,17 @@ ArgsTyped defs env allowed locals vars next es = (tys : List TypeId) (xs : CoreE
     → AreExprsOf env allowed vars tys xs
 
 -- a call of a term of this signature, on arguments of its types
-called_typed : (defs : List Def) (env : Environment) (allowed : Allowed) (vars : List (TypeId × ℕ)) (ty of : TypeId) (name : List ℕ) (s : Signature) (number : TermId) (args : CoreExprs) → IsTypedIn defs env → termed (whole_of defs) name ≡ Some s → term_named (terms defs) name ≡ Some number
+called_typed : (defs : List Def) (env : Environment) (allowed : Allowed) (vars : List (TypeId × ℕ)) (ty of : TypeId) (name : List ℕ) (s : Signature) (number : TermId) (args : CoreExprs) → IsGivenIn defs env → termed (whole_of defs) name ≡ Some s → term_named (terms defs) name ≡ Some number
     → has_constructor (whole_of defs) s ≡ true → not allowed.nothing && s.partial ≡ false → not allowed.impure && not s.pure ≡ false → type_named defs s.ret ≡ Some of → of ≡ ty
     → ((tys : List TypeId) → map (type_named defs) s.args ≡ map Some tys → AreExprsOf env allowed vars tys args) → IsExprOf env allowed vars ty (core_expr.Term of number args)
 called_typed defs env allowed vars ty of name s number args g is numbered has partial impure ret gives typed =
     let w = whole_of defs in
     let at = signature_at w name s number is numbered in
-    let m = term_made w (terms defs) env.terms number.0 s g.given.terms at in
+    let m = term_made w (terms defs) env.terms number.0 s g.terms at in
     let t = term_is w s m.term m.made in
     let same : m.term.ret_ty ≡ ty = same_Some m.term.ret_ty of (sym t.ret ∙ ret) ∙ gives in
     let takes = typed m.term.arg_tys (types_are defs s.args m.term.arg_tys t.args) in
-    let plain = all_at IsPlainTerm (terms defs) number.0 s (plain_terms defs g.built) at in
-    let made = kind_typed defs env allowed number.0 s m.term s.origin g m.there plain refl (ap (λ (u : Term). u.kind) t.is) has partial impure in
+    let made = kind_typed defs env allowed number.0 s m.term s.origin g m.there refl (ap (λ (u : Term). u.kind) t.is) has partial impure in
     (gives, subst (λ (o : Option Term). IsSomeAnd o (λ (u : Term). IsTermKind env allowed u u.kind × (u.ret_ty ≡ ty) × AreExprsOf env allowed vars u.arg_tys args)) (sym m.there) (made, same, takes))
 
 call_typed : (defs : List Def) (env : Environment) (allowed : Allowed) (locals : List Local) (vars : List (TypeId × ℕ)) (next : ℕ) (ty : TypeId) (name : List ℕ) (es : Exprs) (x : CoreExpr) (o : Option Signature) → IsOver defs env locals vars next → termed (whole_of defs) name ≡ o
@@ -177,7 +174,7 @@ call_typed defs env allowed locals vars next ty name es x (Some s) over is kept 
 -- ---- converters
 
 -- the call of a converter, on what is of the other type
-converter_typed : (defs : List Def) (env : Environment) (allowed : Allowed) (vars : List (TypeId × ℕ)) (ty of : TypeId) (s : Signature) (e : Option CoreExpr) (x : CoreExpr) → IsTypedIn defs env → conversion (whole_of defs) (Some of) (Some ty) ≡ Some s
+converter_typed : (defs : List Def) (env : Environment) (allowed : Allowed) (vars : List (TypeId × ℕ)) (ty of : TypeId) (s : Signature) (e : Option CoreExpr) (x : CoreExpr) → IsGivenIn defs env → conversion (whole_of defs) (Some of) (Some ty) ≡ Some s
     → AreKept (whole_of defs) allowed (CalledAt (Some ty) (Some s) 1 ∷ []) → ((y : CoreExpr) → e ≡ Some y → IsExprOf env allowed vars of y) → expr_within (whole_of defs) (Some s) e ≡ Some x → IsExprOf env allowed vars ty x
 converter_typed defs env allowed vars ty of s e x g is kept typed h =
     let w = whole_of defs in
@@ -195,7 +192,7 @@ converter_typed defs env allowed vars ty of s e x g is kept typed h =
     one_typed y (t ∷ u ∷ tys) e k = absurd cc
 
 -- what is of the type that is expected, or of another one within a converter
-within_typed : (defs : List Def) (env : Environment) (allowed : Allowed) (vars : List (TypeId × ℕ)) (ty : TypeId) (of : Option TypeId) (by : Option Signature) (e : Option CoreExpr) (x : CoreExpr) (first : Option TypeId → Site) (rest : List Site) → IsTypedIn defs env
+within_typed : (defs : List Def) (env : Environment) (allowed : Allowed) (vars : List (TypeId × ℕ)) (ty : TypeId) (of : Option TypeId) (by : Option Signature) (e : Option CoreExpr) (x : CoreExpr) (first : Option TypeId → Site) (rest : List Site) → IsGivenIn defs env
     → conversion (whole_of defs) of (Some ty) ≡ by → ((t : TypeId) (y : CoreExpr) → e ≡ Some y → AreKept (whole_of defs) allowed (first (Some t) ∷ rest) → IsExprOf env allowed vars t y) → expr_within (whole_of defs) by e ≡ Some x
     → AreKept (whole_of defs) allowed (called_by by (Some ty) ++ first (within by of (Some ty)) ∷ rest) → IsExprOf env allowed vars ty x
 within_typed defs env allowed vars ty of None e x first rest g is typed h kept = typed ty x h kept
@@ -205,14 +202,14 @@ within_typed defs env allowed vars ty (Some of) (Some s) e x first rest g is typ
     converter_typed defs env allowed vars ty of s e x g is k.0 (λ y f. typed of y f k.1) h
 
 -- trees in order
-record AreBefore (o : Option CoreExpr) (os : Option CoreExprs) (xs : CoreExprs) : Type 0 where
-  first : CoreExpr
-  others : CoreExprs
-  here : o ≡ Some first
-  found : os ≡ Some others
-  all : core_expr.AnExpr first others ≡ xs
+pub record AreBefore (o : Option CoreExpr) (os : Option CoreExprs) (xs : CoreExprs) : Type 0 where
+  pub first : CoreExpr
+  pub others : CoreExprs
+  pub here : o ≡ Some first
+  pub found : os ≡ Some others
+  pub all : core_expr.AnExpr first others ≡ xs
 
-before_is : (o : Option CoreExpr) (os : Option CoreExprs) (xs : CoreExprs) → expr_before o os ≡ Some xs → AreBefore o os xs
+pub before_is : (o : Option CoreExpr) (os : Option CoreExprs) (xs : CoreExprs) → expr_before o os ≡ Some xs → AreBefore o os xs
 before_is None os xs h = absurd cc
 before_is (Some x) None xs h = absurd cc
 before_is (Some x) (Some others) xs h = record { first = x; others = others; here = refl; found = refl; all = same_Some (core_expr.AnExpr x others) xs h }
@@ -281,16 +278,16 @@ let_is (Some bs) None x h = absurd cc
 let_is (Some bs) (Some e) x h = record { bindings = bs; inner = e; bindings_are = refl; inner_is = refl; is = same_Some (core_expr.Let (expr_type e) bs e) x h }
 
 -- and what the trees of its variables are made of
-record AreLetTrees (number : ℕ) (ty : Option TypeId) (e : Option CoreExpr) (rest : Option LetBindings) (bs : LetBindings) : Type 0 where
-  of : TypeId
-  value : CoreExpr
-  others : LetBindings
-  of_is : ty ≡ Some of
-  value_is : e ≡ Some value
-  others_are : rest ≡ Some others
-  are : ABinding (record { 0 = number }) of value others ≡ bs
+pub record AreLetTrees (number : ℕ) (ty : Option TypeId) (e : Option CoreExpr) (rest : Option LetBindings) (bs : LetBindings) : Type 0 where
+  pub of : TypeId
+  pub value : CoreExpr
+  pub others : LetBindings
+  pub of_is : ty ≡ Some of
+  pub value_is : e ≡ Some value
+  pub others_are : rest ≡ Some others
+  pub are : ABinding (record { 0 = number }) of value others ≡ bs
 
-lets_are : (number : ℕ) (ty : Option TypeId) (e : Option CoreExpr) (rest : Option LetBindings) (bs : LetBindings) → binding_before (binding_tree number ty e) rest ≡ Some bs → AreLetTrees number ty e rest bs
+pub lets_are : (number : ℕ) (ty : Option TypeId) (e : Option CoreExpr) (rest : Option LetBindings) (bs : LetBindings) → binding_before (binding_tree number ty e) rest ≡ Some bs → AreLetTrees number ty e rest bs
 lets_are number None e rest bs h = absurd cc
 lets_are number (Some of) None rest bs h = absurd cc
 lets_are number (Some of) (Some value) None bs h = absurd cc
@@ -348,15 +345,15 @@ variable_typed defs env allowed locals vars next ty name x over h kept =
     subst (IsExprOf env allowed vars ty) m.is (is, subst (λ (t : TypeId). Contains vars (t, m.from.1.0)) is there)
 
 -- so a constant
-named_typed : (defs : List Def) (env : Environment) (allowed : Allowed) (vars : List (TypeId × ℕ)) (ty : TypeId) (name : List ℕ) (x : CoreExpr) → IsTypedIn defs env → constant_tree (type_env_of defs) (constant_type (whole_of defs) name) name ≡ Some x
+named_typed : (defs : List Def) (env : Environment) (allowed : Allowed) (vars : List (TypeId × ℕ)) (ty : TypeId) (name : List ℕ) (x : CoreExpr) → IsGivenIn defs env → constant_tree (type_env_of defs) (constant_type (whole_of defs) name) name ≡ Some x
     → AreKept (whole_of defs) allowed (ConstantAt false (Some ty) (constant_type (whole_of defs) name) ∷ []) → IsExprOf env allowed vars ty x
 named_typed defs env allowed vars ty name x g h kept =
     let w = whole_of defs in
     let m = mapped (λ (t : TypeId). core_expr.ConstPrim t (sym_of (type_env_of defs).syms name)) (constant_type w name) x h in
     let typed = (or_parts (is_mistyped w (ConstantAt false (Some ty) (constant_type w name))) false kept.typed).0 in
     let is : m.from ≡ ty = same_type m.from ty (ap (λ o. differ o (Some ty)) (sym m.there) ∙ typed) in
-    let known = constant_typed defs env name m.from g.given.types m.there in
-    let at : const_type env (sym_of (type_env_of defs).syms name) ≡ Some ty = ap (λ (ts : TypeEnv). const_type env (sym_of ts.syms name)) (sym g.given.types) ∙ known ∙ ap Some is in
+    let known = constant_typed defs env name m.from g.types m.there in
+    let at : const_type env (sym_of (type_env_of defs).syms name) ≡ Some ty = ap (λ (ts : TypeEnv). const_type env (sym_of ts.syms name)) (sym g.types) ∙ known ∙ ap Some is in
     subst (IsExprOf env allowed vars ty) m.is (is, at)
 
 mutual
@@ -365,10 +362,10 @@ mutual
       → AreKept (whole_of defs) allowed (expr_pass (whole_of defs) locals next (Some ty) e).sites → IsExprOf env allowed vars ty x
   expr_typed defs env allowed locals vars next ty (tree.Number n) x over h kept =
       let m = mapped (λ (v : TypeId × ℤ). core_expr.ConstInt v.0 v.1) (typed_integer (type_env_of defs) (Some ty) n) x h in
-      number_typed env allowed vars ty (type_env_of defs) n x over.given.given.types m.from m.there m.is
+      number_typed env allowed vars ty (type_env_of defs) n x over.given.types m.from m.there m.is
   expr_typed defs env allowed locals vars next ty (tree.Fact b) x over h kept =
       let takes = not-false (takes_truths (type_env_of defs) (Some ty)) (or_parts (is_misplaced (whole_of defs) (TruthAt (Some ty))) false kept.placed).0 in
-      subst (IsExprOf env allowed vars ty) (same_Some (core_expr.ConstBool b) x h) (truth_typed defs env b ty over.given.given.types (ap (λ (ts : TypeEnv). takes_truths ts (Some ty)) over.given.given.types ∙ takes))
+      subst (IsExprOf env allowed vars ty) (same_Some (core_expr.ConstBool b) x h) (truth_typed defs env b ty over.given.types (ap (λ (ts : TypeEnv). takes_truths ts (Some ty)) over.given.types ∙ takes))
   expr_typed defs env allowed locals vars next ty (tree.Name name) x over h kept =
       let found = local_named locals name in
       within_typed defs env allowed vars ty (known_type found) (conversion (whole_of defs) (known_type found) (Some ty)) (local_tree found) x (λ o. UsedAt o (local_type found)) [] over.given refl

@@ -6,7 +6,7 @@ use Rattle.std.proofs.lemmas.List.Elements.{Contains-append_cases}
 use Rattle.isle_core.specs.declared.TermId.{TermId}
 use Rattle.isle_core.specs.declared.TypeId.{TypeId}
 use Rattle.isle_core.specs.declared.types.Term.{Term}
-use Rattle.isle_core.specs.Calling.{calling, kind_of, may_be_nothing, is_fallible, instance_of, impure, impure_all, impure_bindings}
+use Rattle.isle_core.specs.Calling.{calling, kind_of, may_be_nothing, answers_often, is_fallible, instance_of, impure, impure_all, impure_bindings}
 use Rattle.isle_core.specs.Expr as expr
 use Rattle.isle_core.specs.Expr.{Expr, Exprs, NoExpr, AnExpr, LetBindings, NoBinding, ABinding}
 use Rattle.isle_core.specs.ExprType.{Allowed, in_condition, in_right_side, IsExprOf, AreExprsOf, AreBindingsOf, AreIfLetsOf}
@@ -14,7 +14,7 @@ use Rattle.isle_core.specs.Making.{Making, MakesVariant, MakesStruct, MakesNothi
 use Rattle.isle_core.specs.Match.{with}
 use Rattle.isle_core.specs.Opening.{Opening, AsVariant, AsStruct, ByExtractor, opening, part_path}
 use Rattle.isle_core.specs.Path as path_form
-use Rattle.isle_core.specs.Path.{Path, Arg, Inner, Extracted, Paths}
+use Rattle.isle_core.specs.Path.{Path, Arg, Chosen, Inner, Extracted, Paths}
 use Rattle.isle_core.specs.PathType.{IsPathOf}
 use Rattle.isle_core.specs.Pattern as pattern
 use Rattle.isle_core.specs.Pattern.{Pattern, Patterns, NoPattern, APattern, Var, ConstBool, ConstInt, ConstPrim, Wildcard, BindPattern, And}
@@ -50,16 +50,17 @@ one_field env t q ps h k p c f = ⊎_elim (λ (e : q ≡ p). subst (λ r. (ty : 
 pub both_fields : (env : Environment) (t : Term) (xs ys : List Path) → AreFieldsTyped env t xs → AreFieldsTyped env t ys → AreFieldsTyped env t (xs ++ ys)
 both_fields env t xs ys h k p c f = ⊎_elim (λ d. h p d f) (λ d. k p d f) (Contains-append_cases xs ys p c)
 
--- what is no field, and its inner value
-pub inner_fields : (env : Environment) (t : Term) (b : Bool) (p : Path) → (IsFieldPath p → ⊥) → AreFieldsTyped env t (cond b (p ∷ Inner p ∷ []) (p ∷ []))
-inner_fields env t true p h = one_field env t p (Inner p ∷ []) (λ f. absurd (h f)) (one_field env t (Inner p) [] (λ f. absurd f) (no_fields env t))
-inner_fields env t false p h = one_field env t p [] (λ f. absurd (h f)) (no_fields env t)
+-- what is no field, and its item or its inner value
+pub inner_fields : (env : Environment) (t : Term) (often fallible : Bool) (p : Path) → (IsFieldPath p → ⊥) → AreFieldsTyped env t (cond often (p ∷ Chosen p ∷ []) (cond fallible (p ∷ Inner p ∷ []) (p ∷ [])))
+inner_fields env t true fallible p h = one_field env t p (Chosen p ∷ []) (λ f. absurd (h f)) (one_field env t (Chosen p) [] (λ f. absurd f) (no_fields env t))
+inner_fields env t false true p h = one_field env t p (Inner p ∷ []) (λ f. absurd (h f)) (one_field env t (Inner p) [] (λ f. absurd f) (no_fields env t))
+inner_fields env t false false p h = one_field env t p [] (λ f. absurd (h f)) (no_fields env t)
 
 -- what is called to take a path apart is no field
 opening_fields : (env : Environment) (t : Term) (opened : Opening) (p : Path) → AreFieldsTyped env t (opening_paths opened p)
 opening_fields env t (AsVariant of variant) p = no_fields env t
 opening_fields env t (AsStruct of) p = no_fields env t
-opening_fields env t (ByExtractor term c count) p = inner_fields env t (is_fallible c) (Extracted term p) (λ f. f)
+opening_fields env t (ByExtractor term c count) p = inner_fields env t (answers_often c) (is_fallible c) (Extracted term p) (λ f. f)
 
 module _ (env : Environment) (t : Term) where
   mutual
@@ -118,7 +119,7 @@ module _ (env : Environment) (t : Term) where
           let c = some_of (slice_get env.terms term.0) _ h.1 in
           let ps = all_paths env es places n in
           both_fields env t (exprs_paths env es places n) (with_inner (calling env term) (call_path env term ps (n + impure_all env es))) (exprs_fields vars places placed es n c.0.arg_tys c.2.2)
-          (inner_fields env t (is_fallible (calling env term)) (call_path env term ps (n + impure_all env es)) (term_no_field (making env term) term ps (instance_of (calling env term) (n + impure_all env es))))
+          (inner_fields env t (answers_often (calling env term)) (is_fallible (calling env term)) (call_path env term ps (n + impure_all env es)) (term_no_field (making env term) term ps (instance_of (calling env term) (n + impure_all env es))))
       expr_fields vars places placed (expr.Let of bindings inner) n ty h =
           let mid = let_places env bindings places n in
           let m = n + impure_bindings env bindings in
@@ -140,7 +141,7 @@ module _ (env : Environment) (t : Term) where
           (bindings_fields ((of, x.0) ∷ vars) mid (let_typed env t allowed tests vars places placed (ABinding x of e NoBinding) n (h.0, h.1, tt)) bs (n + impure env e) h.2)
 
   -- those of conditions, whose expressions have types where they stand
-  iflets_fields : (tests : List Test) (cs : List IfLet) (sofar : List (TypeId × ℕ)) (places : Places) → AreIfLetsOf env sofar cs → HasTypedConditions env t sofar cs places → AreFieldsTyped env t (iflets_paths env cs places)
+  iflets_fields : (tests : List Test) (cs : List IfLet) (sofar : List (TypeId × ℕ)) (places : Places) → AreIfLetsOf env sofar cs → HasTypedConditions env t tests sofar cs places → AreFieldsTyped env t (iflets_paths env cs places)
   iflets_fields tests [] sofar places h typed = no_fields env t
   iflets_fields tests (c ∷ cs) sofar places h typed =
       let q = path env c.rhs places 0 in
@@ -149,7 +150,7 @@ module _ (env : Environment) (t : Term) where
       both_fields env t (own ++ pattern_paths env c.lhs q) (iflets_paths env cs mid)
       (both_fields env t own (pattern_paths env c.lhs q) (expr_fields in_condition tests sofar places typed.0 c.rhs 0 h.0.ty h.0.rhs)
       (pattern_fields env t c.lhs q h.0.ty h.0.lhs (path_typed env t in_condition tests sofar places typed.0 c.rhs 0 h.0.ty h.0.rhs)))
-      (iflets_fields tests cs (sofar ++ typed_variables c.lhs) mid h.1 typed.1)
+      (iflets_fields tests cs (sofar ++ typed_variables c.lhs) mid h.1 typed.3)
 
   -- those of rules of a term
   pub rules_fields : (rs : List Rule) (n : ℕ) → AllByRecursion (IsRuleOf env t) rs → AreFieldsTyped env t (rules_paths env rs n)
@@ -163,6 +164,6 @@ module _ (env : Environment) (t : Term) where
       let placed = rule_placed env t r h.0.args h.0.iflets h.0.variables tests (λ y e c. c) in
       both_fields env t (rule_paths env r n) (rules_paths env rs (n + impure env r.rhs))
       (both_fields env t (args_paths env r.args 0) (conditions ++ expr_paths env r.rhs places n) (args_fields env t r.args 0 t.arg_tys h.0.args (args_are env t))
-      (both_fields env t conditions (expr_paths env r.rhs places n) (iflets_fields tests r.iflets (all_typed r.args) bound h.0.iflets (conditions_typed env t r h.0.args h.0.iflets h.0.variables))
+      (both_fields env t conditions (expr_paths env r.rhs places n) (iflets_fields tests r.iflets (all_typed r.args) bound h.0.iflets (conditions_typed env t r h.0.args h.0.iflets h.0.variables tests (λ y e c. c)))
       (expr_fields (in_right_side (may_be_nothing (kind_of t.kind))) tests vars places (typed_places env t tests vars places placed) r.rhs n t.ret_ty h.0.rhs)))
       (rules_fields rs (n + impure env r.rhs) h.1)

@@ -11,7 +11,6 @@ use Rattle.isle_declarations.specs.Signatures.{rule_defs}
 use Rattle.isle_declarations.specs.Terms.{terms}
 use Rattle.isle_types.specs.TypeEnvironment.{type_env_of}
 use Rattle.isle_types.specs.Fault.{type_fault}
-use Rattle.isle_sema.specs.Language.{are_built}
 use Rattle.isle_sema.specs.Templates.{are_treed}
 use Rattle.isle_sema.specs.RulePass.{rules_pass}
 use Rattle.isle_sema.specs.Fault.{OfTypes, OfTerms, OfExtractors, OfRules, or_later, fault_in}
@@ -19,7 +18,7 @@ use Rattle.isle_terms.specs.Converters.{converters, converters_pass}
 use Rattle.isle_terms.specs.Whole.{Whole, whole_of}
 use Rattle.isle_terms.specs.TermPass.{terms_pass}
 use Rattle.isle_sema.specs.Environment.{env_over, env_with}
-use Rattle.isle_sema.specs.Typing.{Typed, TypedBuilt}
+use Rattle.isle_sema.specs.Typing.{Typed}
 use Rattle.isle_sema.proofs.Firsts.{stages_none}
 
 -- what typed definitions keep, and what their environment has
@@ -33,11 +32,6 @@ pub record IsGivenIn (defs : List Def) (env : Environment) : Type 0 where
   pub terms : terms_pass (whole_of defs) (terms defs) ≡ Some env.terms
   pub converters : converters_pass (whole_of defs) (converters defs) ≡ Some env.converters
   pub rules : rules_pass (whole_of defs) 0 (rule_defs defs) ≡ Some env.rules
-
--- so of definitions that are built
-pub record IsTypedIn (defs : List Def) (env : Environment) : Type 0 where
-  pub given : IsGivenIn defs env
-  pub built : are_built defs ≡ true
 
 -- what an environment is made of
 record AreParts (w : Whole) (ts : Option (List Term)) (env : Environment) : Type 0 where
@@ -81,9 +75,6 @@ given_in {defs = defs} {env = env} t =
       converters = e.converters;
       rules = e.rules;
     }
-
-pub typed_in : {defs : List Def} {env : Environment} → TypedBuilt defs env → IsTypedIn defs env
-typed_in t = record { given = given_in t.typed; built = t.built }
 
 -- typed definitions have no fault of types and constants
 pub typed_types_sound : {defs : List Def} {env : Environment} → Typed defs env → type_fault defs ≡ None

@@ -7,26 +7,13 @@ use Rattle.std.proofs.lemmas.List.{length-map}
 use Rattle.std.proofs.lemmas.List.Elements.{All-from_recursion, recursion_from_All}
 use Rattle.std.proofs.lemmas.Option.{same_Some}
 use Rattle.isle_core.specs.declared.TermId.{TermId}
-use Rattle.isle_core.specs.declared.TypeId.{TypeId}
-use Rattle.isle_core.specs.declared.position.Pos.{Pos}
 use Rattle.isle_core.specs.declared.types.Term.{Term}
-use Rattle.isle_core.specs.declared.types.ConstructorKind.{ConstructorKind}
-use Rattle.isle_core.specs.declared.types.TermKind.{TermKind}
-use Rattle.isle_core.specs.declared.types.TermKind.TheVariants as kind
-use Rattle.isle_core.specs.declared.types.ExtractorKind.{ExtractorKind}
-use Rattle.isle_core.specs.Calling.{kind_of, may_be_nothing}
 use Rattle.isle_core.specs.Rule.{Rule, Environment, rules_of}
-use Rattle.isle_ast.specs.Tree as tree
 use Rattle.isle_ast.specs.Tree.{Pattern, Def}
 use Rattle.isle_ast.specs.Views.{patterns_of as seen_patterns}
-use Rattle.isle_ast.specs.declared.tree.AstBody.{AstBody}
-use Rattle.isle_ast.specs.declared.tree.AstBody.TheVariants.{Primitive, Enum, Struct}
-use Rattle.isle_ast.specs.declared.tree.AstVariant.{AstVariant}
 use Rattle.isle_declarations.specs.Heads.{terms_of}
 use Rattle.isle_declarations.specs.Signatures.{Signature, RuleDef, rule_defs, term_named}
-use Rattle.isle_declarations.specs.Terms.{variant_signatures, body_signatures, terms, is_made}
-use Rattle.isle_declarations.specs.declared.terms.Origin.{Origin}
-use Rattle.isle_declarations.specs.declared.terms.Origin.TheVariants as origin
+use Rattle.isle_declarations.specs.Terms.{terms}
 use Rattle.isle_declarations.proofs.LookUps.{at_place, named_at}
 use Rattle.isle_declarations.proofs.SymbolLaws.{index_below}
 use Rattle.isle_types.specs.TypeRows.{on}
@@ -39,27 +26,26 @@ use Rattle.isle_sema.specs.ExprPass.{ExprPass, expr_pass}
 use Rattle.isle_sema.specs.RulePass.{patterns_of, right_side_of, conditions_of, left_of, rule_pass, rules_pass}
 use Rattle.isle_sema.specs.RuleRows.{is_untaken, is_mistaken, is_misplaced, is_undeclared, is_met_otherwise, is_unknown, is_mistyped}
 use Rattle.isle_terms.specs.Whole.{whole_of}
-use Rattle.isle_terms.specs.TermPass.{constructor_named, extracting_named, kind_from}
 use Rattle.isle_sema.specs.Judging.{is_partial_call}
 use Rattle.isle_sema.specs.Taken.{row_of}
-use Rattle.isle_sema.specs.Typing.{TypedBuilt}
+use Rattle.isle_sema.specs.Typing.{Typed}
 use Rattle.isle_core.specs.ExprType.{in_condition, in_right_side, IsExprOf}
 use Rattle.isle_core.specs.TypedVariables.{all_typed, rule_typed}
 use Rattle.isle_templates.specs.TypedRule.{IsRuleOf, IsTypedRule}
-use Rattle.isle_sema.proofs.BuiltForms.{IsPlain}
+use Rattle.isle_sema.proofs.AnsweringTerms.{term_answers}
 use Rattle.isle_sema.proofs.Firsts.{any_parts}
 use Rattle.isle_sema.proofs.Judgements.{row_fails}
 use Rattle.isle_sema.proofs.KeptParts.{AreKept, kept_parts}
-use Rattle.isle_terms.proofs.MadeTerms.{first_there, term_made, term_is, types_are, all_at}
+use Rattle.isle_terms.proofs.MadeTerms.{first_there, term_made, term_is, types_are}
 use Rattle.isle_sema.proofs.RuleLaws.{is_broken, none_fault, none_is}
 use Rattle.isle_sema.proofs.RuleRoots.{place_of, signature_at, rule_made}
 use Rattle.isle_sema.proofs.TypedConditions.{patterns_stage, stage_over, conditions_typed}
 use Rattle.isle_sema.proofs.TypedExprs.{expr_typed}
-use Rattle.isle_sema.proofs.TypedParts.{IsTypedIn, typed_in}
+use Rattle.isle_sema.proofs.TypedParts.{IsGivenIn, given_in}
 use Rattle.isle_sema.proofs.TypedPatterns.{AreTakenWell, taken_parts, patterns_typed}
 use Rattle.isle_sema.proofs.VariableTypes.{have_one_type}
 use Rattle.isle_sema.proofs.TypedTemplates.{knows, templates_typed, templates_short}
-use Rattle.isle_sema.proofs.TypedTerms.{IsPlainTerm, plain_terms, is_there}
+use Rattle.isle_sema.proofs.TypedTerms.{is_there}
 use Rattle.isle_sema.specs.Templates.{templates}
 use Rattle.isle_templates.specs.WrittenRule.{IsWrittenRuleOf}
 use Rattle.isle_templates.proofs.ElaboratedTypes.{rule_elaborated}
@@ -67,7 +53,7 @@ use Rattle.isle_templates.proofs.ElaboratedTypes.{rule_elaborated}
 -- ---- what a rule's term is
 
 -- a term that has a number is there
-signature_there : (w : Whole) (name : List ℕ) (term : TermId) → term_named (terms w.defs) name ≡ Some term → (s : Signature) × (termed w name ≡ Some s)
+pub signature_there : (w : Whole) (name : List ℕ) (term : TermId) → term_named (terms w.defs) name ≡ Some term → (s : Signature) × (termed w name ≡ Some s)
 signature_there w name term h =
     let sigs = terms w.defs in
     let at = place_of sigs name term h in
@@ -76,49 +62,13 @@ signature_there w name term h =
     let s = is_there sigs term.0 (omega (arith, lt, long)) in
     (s.0, named_at sigs name ∙ ap (at_place sigs) at ∙ s.1)
 
--- a made term answers
-abbrev Answers : Signature → Type 0
-Answers s = is_made s.origin ≡ true → s.partial ≡ false
-
-variants_answer : (ty : List ℕ) (pos : Pos) (i : ℕ) (vs : List AstVariant) (rest : List Signature) → AllByRecursion Answers rest → AllByRecursion Answers (variant_signatures ty pos i vs ++ rest)
-variants_answer ty pos i [] rest h = h
-variants_answer ty pos i (v ∷ vs) rest h = (λ e. refl, variants_answer ty pos (i + 1) vs rest h)
-
-body_answers : (ty : List ℕ) (body : AstBody) (pos : Pos) (rest : List Signature) → AllByRecursion Answers rest → AllByRecursion Answers (body_signatures ty body pos ++ rest)
-body_answers ty (Primitive rust) pos rest h = h
-body_answers ty (Enum variants) pos rest h = variants_answer ty pos 0 variants rest h
-body_answers ty (Struct fields) pos rest h = (λ e. refl, h)
-
-made_answer : (ds : List Def) → AllByRecursion Answers (terms ds)
-made_answer [] = tt
-made_answer (tree.Decl term pure multi partial recursive args ret pos ∷ ds) = (λ e. absurd cc, made_answer ds)
-made_answer (tree.TypeDecl name is_extern is_nodebug body pos ∷ ds) = body_answers name body pos (terms ds) (made_answer ds)
-made_answer (tree.ExternConstructor term func pos ∷ ds) = made_answer ds
-made_answer (tree.Rule name prio term args iflets rhs pos ∷ ds) = made_answer ds
-made_answer (tree.ExternConst name ty pos ∷ ds) = made_answer ds
-made_answer (tree.ExternExtractor term func infallible pos ∷ ds) = made_answer ds
-made_answer (tree.Extractor term params template pos ∷ ds) = made_answer ds
-made_answer (tree.Converter from to term pos ∷ ds) = made_answer ds
-made_answer (tree.Passed head items pos ∷ ds) = made_answer ds
-
--- a term without `multi` may answer nothing where it is partial
-may_answer : (pure multi partial recursive : Bool) (by : ConstructorKind) (extractor : ExtractorKind) → multi ≡ false → may_be_nothing (kind_of (kind.Decl pure multi partial recursive by extractor)) ≡ partial
-may_answer pure false true recursive by extractor h = refl
-may_answer pure false false recursive by extractor h = refl
-may_answer pure true partial recursive by extractor h = absurd cc
-
-kind_answers : (w : Whole) (s : Signature) (ret : TypeId) (from : Origin) (k : TermKind) → (is_made from ≡ false → IsPlain s) → (is_made from ≡ true → s.partial ≡ false) → kind_from w s ret from ≡ k → may_be_nothing (kind_of k) ≡ s.partial
-kind_answers w s ret origin.Declared k plain answers is = ap (λ (x : TermKind). may_be_nothing (kind_of x)) (sym is) ∙ may_answer s.pure s.multi s.partial s.recursive (constructor_named w s.term) (extracting_named w s.term) (plain refl)
-kind_answers w s ret (origin.Variant number) k plain answers is = ap (λ (x : TermKind). may_be_nothing (kind_of x)) (sym is) ∙ sym (answers refl)
-kind_answers w s ret origin.Struct k plain answers is = ap (λ (x : TermKind). may_be_nothing (kind_of x)) (sym is) ∙ sym (answers refl)
-
 -- ---- a rule that breaks no row
 
 pub counted : (ps : List Pattern) → count_of (seen_patterns ps) ≡ length ps
 counted [] = refl
 counted (p ∷ ps) = ap suc (counted ps)
 
-rule_is_typed : (defs : List Def) (env : Environment) (i : ℕ) (r : RuleDef) (x : Rule) → IsTypedIn defs env → row_of (whole_of defs) r ≡ None → rule_pass (whole_of defs) i r ≡ Some x → IsTypedRule env x
+rule_is_typed : (defs : List Def) (env : Environment) (i : ℕ) (r : RuleDef) (x : Rule) → IsGivenIn defs env → row_of (whole_of defs) r ≡ None → rule_pass (whole_of defs) i r ≡ Some x → IsTypedRule env x
 rule_is_typed defs env i r x g row h =
     let w = whole_of defs in
     let m = rule_made w i r x h in
@@ -126,7 +76,7 @@ rule_is_typed defs env i r x g row h =
     let d = signature_there w r.term x.root_term m.root in
     let s = d.0 in
     let at = signature_at w r.term s x.root_term d.1 m.root in
-    let t = term_made w (terms defs) env.terms x.root_term.0 s g.given.terms at in
+    let t = term_made w (terms defs) env.terms x.root_term.0 s g.terms at in
     let is = term_is w s t.term t.made in
     let tys = types_are defs s.args t.term.arg_tys is.args in
     let f = row_fails w r row in
@@ -145,9 +95,7 @@ rule_is_typed defs env i r x g row h =
     let arity : not (length r.args == length s.args) ≡ false = ap (λ (o : Option Signature). on o (λ (y : Signature). not (length r.args == length y.args))) (sym d.1) ∙ a.0 in
     let count : count_of (seen_patterns r.args) ≡ length t.term.arg_tys =
     counted r.args ∙ eqb-true (length r.args) (length s.args) (not-false (length r.args == length s.args) arity) ∙ sym (length-map s.args (type_named defs)) ∙ ap length tys ∙ length-map t.term.arg_tys Some in
-    let plain = all_at IsPlainTerm (terms defs) x.root_term.0 s (plain_terms defs g.built) at in
-    let answers = all_at Answers (terms defs) x.root_term.0 s (made_answer defs) at in
-    let allowed : may_be_nothing (kind_of t.term.kind) ≡ s.partial = kind_answers w s t.term.ret_ty s.origin t.term.kind plain answers (ap (λ (y : Term). y.kind) is.is) in
+    let allowed = (term_answers defs env x.root_term.0 s t.term g at t.made).nothing in
     let calls : not s.partial && list_any is_partial_call rs ≡ false = ap (λ (o : Option Signature). on o (λ (y : Signature). not y.partial && list_any is_partial_call rs)) (sym d.1) ∙ f.partial in
     let well : AreTakenWell w (left_of w r) = record {
       taken = (any_parts (is_untaken w) (left_of w r) rs a.1).0;
@@ -163,7 +111,7 @@ rule_is_typed defs env i r x g row h =
     let conditions = conditions_typed defs env (patterns_of w r).scope (all_typed y.args) r.iflets y.iflets g k (patterns_stage w (arg_types w (termed w r.term)) (seen_patterns r.args) y.args m.args) m.iflets (kept_parts w in_condition ps cs before).1 halves.1 in
     let over = stage_over defs env scope (rule_typed y) scope.next g conditions.stage (omega arith) in
     let written : IsWrittenRuleOf env (templates w) t.term y = record {
-      args = patterns_typed defs env t.term.arg_tys no_variables (seen_patterns r.args) y.args k g.given.types count (ap (λ (z : PatternsPass). z.trees) patterns ∙ m.args) (subst (λ (z : PatternsPass). AreTakenWell w z.sites) (sym patterns) halves.0);
+      args = patterns_typed defs env t.term.arg_tys no_variables (seen_patterns r.args) y.args k g.types count (ap (λ (z : PatternsPass). z.trees) patterns ∙ m.args) (subst (λ (z : PatternsPass). AreTakenWell w z.sites) (sym patterns) halves.0);
       variables = have_one_type scope (rule_typed y) conditions.stage.numbered conditions.stage.stand;
       iflets = conditions.typed;
       rhs = subst (λ b. IsExprOf env (in_right_side b) (rule_typed y) t.term.ret_ty y.rhs) (sym allowed)
@@ -175,7 +123,7 @@ rule_is_typed defs env i r x g row h =
       typed = subst (IsRuleOf env t.term) m.is (rule_elaborated env (templates w) (templates_typed defs env g) (λ term lt. templates_short defs env g term lt) t.term y written);
     }
 
-rules_typed : (defs : List Def) (env : Environment) (i : ℕ) (rules : List RuleDef) (xs : List Rule) → IsTypedIn defs env → list_any (is_broken (whole_of defs)) rules ≡ false
+rules_typed : (defs : List Def) (env : Environment) (i : ℕ) (rules : List RuleDef) (xs : List Rule) → IsGivenIn defs env → list_any (is_broken (whole_of defs)) rules ≡ false
     → rules_pass (whole_of defs) i rules ≡ Some xs → AllByRecursion (IsTypedRule env) xs
 rules_typed defs env i [] xs g rows h = subst (AllByRecursion (IsTypedRule env)) (same_Some [] xs h) tt
 rules_typed defs env i (r ∷ rules) xs g rows h =
@@ -186,10 +134,10 @@ rules_typed defs env i (r ∷ rules) xs g rows h =
     (rule_is_typed defs env i r f.first g (none_is (row_of w r) k.0) f.here, rules_typed defs env (i + 1) rules f.others g k.1 f.found)
 
 -- the rules of an environment are typed
-pub typed_rules : (defs : List Def) (env : Environment) → TypedBuilt defs env → All (IsTypedRule env) env.rules
+pub typed_rules : (defs : List Def) (env : Environment) → Typed defs env → All (IsTypedRule env) env.rules
 typed_rules defs env t =
-    let g = typed_in t in
-    All-from_recursion (IsTypedRule env) env.rules (rules_typed defs env 0 (rule_defs defs) env.rules g (none_fault (whole_of defs) [] defs g.given.rules_kept) g.given.rules)
+    let g = given_in t in
+    All-from_recursion (IsTypedRule env) env.rules (rules_typed defs env 0 (rule_defs defs) env.rules g (none_fault (whole_of defs) [] defs g.rules_kept) g.rules)
 
 -- ---- the rules of a term
 
@@ -208,5 +156,5 @@ of_terms env id t [] at h = tt
 of_terms env id t (r ∷ rs) at h = among env id t r (filter (λ (r : Rule). r.root_term.0 == id.0) rs) (r.root_term.0 == id.0) at refl h.0 (of_terms env id t rs at h.1)
 
 -- the rules of a term have its types
-pub typed_of : (defs : List Def) (env : Environment) (id : TermId) (t : Term) → TypedBuilt defs env → slice_get env.terms id.0 ≡ Some t → All (IsRuleOf env t) (rules_of env id)
+pub typed_of : (defs : List Def) (env : Environment) (id : TermId) (t : Term) → Typed defs env → slice_get env.terms id.0 ≡ Some t → All (IsRuleOf env t) (rules_of env id)
 typed_of defs env id t h at = All-from_recursion (IsRuleOf env t) (rules_of env id) (of_terms env id t env.rules at (recursion_from_All (IsTypedRule env) env.rules (typed_rules defs env h)))

@@ -137,21 +137,19 @@ scoped_rule env allowed ty r h e =
 -- ---- terms of kinds
 
 built_kind : (env : Environment) (allowed : Allowed) (t : Term) (k : TermKind) → IsTermKind env allowed t k → IsBuiltKind k
-built_kind env allowed t (kind.Decl pure false partial recursive (constructor.External func) by) h = tt
-built_kind env allowed t (kind.Decl pure false partial recursive constructor.Internal by) h = tt
-built_kind env allowed t (kind.Decl pure false partial recursive constructor.Absent by) h = absurd h
-built_kind env allowed t (kind.Decl pure true partial recursive of by) h = absurd h
+built_kind env allowed t (kind.Decl pure multi partial recursive (constructor.External func) by) h = tt
+built_kind env allowed t (kind.Decl pure multi partial recursive constructor.Internal by) h = tt
+built_kind env allowed t (kind.Decl pure multi partial recursive constructor.Absent by) h = absurd h
 built_kind env allowed t (kind.Variant ty variant) h = tt
 built_kind env allowed t (kind.Struct ty) h = tt
 
 -- the terms of conditions are pure
 pure_kind : (env : Environment) (t : Term) (k : TermKind) → IsTermKind env in_condition t k → IsPureKind k
-pure_kind env t (kind.Decl true false partial recursive (constructor.External func) by) h = tt
-pure_kind env t (kind.Decl true false partial recursive constructor.Internal by) h = tt
-pure_kind env t (kind.Decl false false partial recursive (constructor.External func) by) h = let bad : false ≡ true = h.1 refl in absurd cc
-pure_kind env t (kind.Decl false false partial recursive constructor.Internal by) h = let bad : false ≡ true = h.1 refl in absurd cc
-pure_kind env t (kind.Decl pure false partial recursive constructor.Absent by) h = absurd h
-pure_kind env t (kind.Decl pure true partial recursive of by) h = absurd h
+pure_kind env t (kind.Decl true multi partial recursive (constructor.External func) by) h = tt
+pure_kind env t (kind.Decl true multi partial recursive constructor.Internal by) h = tt
+pure_kind env t (kind.Decl false multi partial recursive (constructor.External func) by) h = let bad : false ≡ true = h.1 refl in absurd cc
+pure_kind env t (kind.Decl false multi partial recursive constructor.Internal by) h = let bad : false ≡ true = h.1 refl in absurd cc
+pure_kind env t (kind.Decl pure multi partial recursive constructor.Absent by) h = absurd h
 pure_kind env t (kind.Variant ty variant) h = tt
 pure_kind env t (kind.Struct ty) h = tt
 

@@ -36,7 +36,7 @@ use Rattle.isle_sema.proofs.OpenedTerms.{opened_term}
 use Rattle.isle_sema.proofs.ParameterScopes.{listed, params_listed, listed_at, listed_found, name_at}
 use Rattle.isle_sema.proofs.TemplateScopes.{pattern_stays, named_stands}
 use Rattle.isle_sema.proofs.TermFaults.{terms_kept}
-use Rattle.isle_sema.proofs.TypedParts.{IsGivenIn, IsTypedIn}
+use Rattle.isle_sema.proofs.TypedParts.{IsGivenIn}
 use Rattle.isle_sema.proofs.TypedPatterns.{KnowsTerms, AreTakenWell, pattern_typed}
 use Rattle.isle_sema.proofs.UsesSeen.{uses_same}
 use Rattle.isle_sema.proofs.VariableTypes.{pattern_stand}
@@ -54,11 +54,11 @@ use Rattle.isle_walks.specs.Walks.{next_of, reaches, on_closed_walk, walks}
 use Rattle.isle_walks.proofs.ClosedWalks.{no_long_walk}
 
 -- what terms that take values apart, converters and constants are in an environment
-pub knows : (defs : List Def) (env : Environment) → IsTypedIn defs env → KnowsTerms defs env
+pub knows : (defs : List Def) (env : Environment) → IsGivenIn defs env → KnowsTerms defs env
 knows defs env g = record {
   opened = λ name s number ty is at has ret. opened_term defs env name s number ty g is at has ret;
   converts = λ of ty s h. conversion_is defs env of ty s g h;
-  constant = λ name ty h. ap (λ (ts : TypeEnv). const_type env (sym_of ts.syms name)) (sym g.given.types) ∙ constant_typed defs env name ty g.given.types h;
+  constant = λ name ty h. ap (λ (ts : TypeEnv). const_type env (sym_of ts.syms name)) (sym g.types) ∙ constant_typed defs env name ty g.types h;
 }
 
 -- ---- the term of a template
@@ -111,9 +111,9 @@ record AreParams (s : Signature) (params : List (List ℕ)) : Type 0 where
   apart : IsDistinct bytes_eq params
   many : length params ≡ length s.args
 
-params_are : (defs : List Def) (env : Environment) (s : Signature) (q : CorePattern) (f : IsFrom defs s q) → IsTypedIn defs env → termed (whole_of defs) s.term ≡ Some s → AreParams s f.template.params
+params_are : (defs : List Def) (env : Environment) (s : Signature) (q : CorePattern) (f : IsFrom defs s q) → IsGivenIn defs env → termed (whole_of defs) s.term ≡ Some s → AreParams s f.template.params
 params_are defs env s q f g alone =
-    let kept = terms_kept defs [] defs g.given.terms_kept in
+    let kept = terms_kept defs [] defs g.terms_kept in
     let w = whole_of defs in
     let misfit : template_misfit w (record { term = s.term; by = ByTemplate f.template; pos = f.by.pos }) ≡ false =
     ap (λ (how : Extracting). template_misfit w (record { term = s.term; by = how; pos = f.by.pos })) (sym f.how) ∙ ap (λ (name : List ℕ). template_misfit w (record { term = name; by = f.by.by; pos = f.by.pos })) (sym f.named)
@@ -126,17 +126,17 @@ params_are defs env s q f g alone =
     as_many None is u e = absurd cc
     as_many (Some d) is u e =
         let named : d.term ≡ s.term = named_is (signatures defs) s.term d is in
-        let own = term_alone (terms defs) d (names_apart defs env g.given) (declared_there defs s.term d is) in
+        let own = term_alone (terms defs) d (names_apart defs env g) (declared_there defs s.term d is) in
         let same : d ≡ s = same_Some d s (sym own ∙ ap (termed (whole_of defs)) named ∙ alone) in
         eqb-true (length f.template.params) (length d.args) (not-false (length f.template.params == length d.args) e) ∙ ap (λ (y : Signature). length y.args) same
 
 -- ---- a template of its term
 
 -- its extractor breaks no row
-built_from : (defs : List Def) (env : Environment) (s : Signature) (q : CorePattern) (f : IsFrom defs s q) → IsTypedIn defs env → IsWellBuilt (whole_of defs) s.term (ByTemplate f.template)
+built_from : (defs : List Def) (env : Environment) (s : Signature) (q : CorePattern) (f : IsFrom defs s q) → IsGivenIn defs env → IsWellBuilt (whole_of defs) s.term (ByTemplate f.template)
 built_from defs env s q f g =
     let w = whole_of defs in
-    let k = kept_in w [] defs g.given.extractors_kept in
+    let k = kept_in w [] defs g.extractors_kept in
     subst (λ (how : Extracting). IsWellBuilt w s.term how) f.how (subst (λ (name : List ℕ). IsWellBuilt w name f.by.by) f.named (well_built w f.by (fails_at _ (extractors defs) f.by k.built f.among)))
 
 index_contained : (names : List (List ℕ)) (name : List ℕ) → is_some (index_of names name) ≡ true → Contains names name
@@ -155,7 +155,7 @@ index_contained (n ∷ names) name h = by (bytes_eq n name) refl (λ k. index_co
 param_stands : (params : List (List ℕ)) (names : List (List ℕ)) (i : ℕ) (name : List ℕ) → list_any (λ (param : List ℕ). not (is_some (index_of names param))) params ≡ false → slice_get params i ≡ Some name → Contains names name
 param_stands params names i name h at = index_contained names name (not-false (is_some (index_of names name)) (fails_at (λ (param : List ℕ). not (is_some (index_of names param))) params name h (contained_at params i name at)))
 
-template_sound : (defs : List Def) (env : Environment) (i : ℕ) (t : Term) (s : Signature) (q : CorePattern) (f : IsFrom defs s q) → IsTypedIn defs env → termed (whole_of defs) s.term ≡ Some s → type_named defs s.ret ≡ Some t.ret_ty → map (type_named defs) s.args ≡ map Some t.arg_tys
+template_sound : (defs : List Def) (env : Environment) (i : ℕ) (t : Term) (s : Signature) (q : CorePattern) (f : IsFrom defs s q) → IsGivenIn defs env → termed (whole_of defs) s.term ≡ Some s → type_named defs s.ret ≡ Some t.ret_ty → map (type_named defs) s.args ≡ map Some t.arg_tys
     → IsWrittenTemplate env (templates (whole_of defs)) t q
 template_sound defs env i t s q f g alone ret tys =
     let w = whole_of defs in
@@ -171,7 +171,7 @@ template_sound defs env i t s q f g alone ret tys =
     let long : length f.template.params ≡ length t.arg_tys = p.many ∙ sym (length-map s.args (type_named defs)) ∙ ap length tys ∙ length-map t.arg_tys Some in
     let stand = pattern_stand w (ret_type w (termed w s.term)) scope f.template.pattern q f.tree in
     record {
-      whole = pattern_typed defs env t.ret_ty scope f.template.pattern q (knows defs env g) g.given.types tree well;
+      whole = pattern_typed defs env t.ret_ty scope f.template.pattern q (knows defs env g) g.types tree well;
       params = λ ty n c.
           let a = stand.by ty n c in
           let there : Contains (listed 0 f.template.params (map Some t.arg_tys)) a.local = subst (λ (ls : List Local). Contains ls a.local) (ap (λ (x : Scope). x.variables) stays ∙ vars) a.there in
@@ -189,14 +189,14 @@ template_sound defs env i t s q f g alone ret tys =
     }
 
 -- each template of typed definitions is one of its term
-pub templates_typed : (defs : List Def) (env : Environment) → IsTypedIn defs env → AreWrittenTemplates env (templates (whole_of defs))
+pub templates_typed : (defs : List Def) (env : Environment) → IsGivenIn defs env → AreWrittenTemplates env (templates (whole_of defs))
 templates_typed defs env g term t q there is =
     let w = whole_of defs in
-    let m = made_of w (terms defs) env.terms term.0 t g.given.terms there in
+    let m = made_of w (terms defs) env.terms term.0 t g.terms there in
     let s = m.signature in
     let k = term_is w s t m.made in
     let f = from defs s q (sym (template_there w term s m.there) ∙ is) in
-    template_sound defs env term.0 t s q f g (alone_at defs env term.0 s g.given m.there) k.ret (types_are defs s.args t.arg_tys k.args)
+    template_sound defs env term.0 t s q f g (alone_at defs env term.0 s g m.there) k.ret (types_are defs s.args t.arg_tys k.args)
 
 -- ---- no template reaches itself
 
@@ -206,7 +206,7 @@ unused graph i to zero h = refl
 unused graph i to (suc steps) h = ap (list_any (λ (next : ℕ). (next == to) || reaches graph steps next to)) h
 
 -- no term of typed definitions reaches itself
-pub templates_apart : (defs : List Def) (env : Environment) → IsTypedIn defs env → (i : ℕ) → on_closed_walk (uses (templates (whole_of defs))) i ≡ false
+pub templates_apart : (defs : List Def) (env : Environment) → IsGivenIn defs env → (i : ℕ) → on_closed_walk (uses (templates (whole_of defs))) i ≡ false
 templates_apart defs env g i = by (slice_get (terms defs) i) refl
   where
     w : Whole
@@ -222,16 +222,16 @@ templates_apart defs env g i = by (slice_get (terms defs) i) refl
     some s None at is = none (template_there w term s at ∙ is)
     some s (Some q) at is =
         let f = from defs s q is in
-        let k = (kept_in w [] defs g.given.extractors_kept).walks f.by f.among f.template f.how in
-        ap (λ graph. on_closed_walk graph i) (sym (uses_same w g.given.treed))
-        ∙ ap (λ (o : Option TermId). on o (λ (n : TermId). on_closed_walk (template_uses w) n.0)) (sym (number_at defs env i s g.given at) ∙ ap (term_named (terms defs)) (sym f.named)) ∙ k
+        let k = (kept_in w [] defs g.extractors_kept).walks f.by f.among f.template f.how in
+        ap (λ graph. on_closed_walk graph i) (sym (uses_same w g.treed))
+        ∙ ap (λ (o : Option TermId). on o (λ (n : TermId). on_closed_walk (template_uses w) n.0)) (sym (number_at defs env i s g at) ∙ ap (term_named (terms defs)) (sym f.named)) ∙ k
 
     by : (o : Option Signature) → slice_get (terms defs) i ≡ o → on_closed_walk (uses (templates w)) i ≡ false
     by None at = none (ap (option_and_then (λ (t : Option CorePattern). t)) (slice_get-map (template_for w) (terms defs) i ∙ ap (option_map (template_for w)) at))
     by (Some s) at = some s (template_for w s) at refl
 
 -- so no walk through templates has as many steps as there are terms
-pub templates_short : (defs : List Def) (env : Environment) → IsTypedIn defs env → (term : ℕ) → term < length (templates (whole_of defs)) → walks (uses (templates (whole_of defs))) (length (templates (whole_of defs))) term ≡ false
+pub templates_short : (defs : List Def) (env : Environment) → IsGivenIn defs env → (term : ℕ) → term < length (templates (whole_of defs)) → walks (uses (templates (whole_of defs))) (length (templates (whole_of defs))) term ≡ false
 templates_short defs env g term lt =
     let ts = templates (whole_of defs) in
     let long : length (uses ts) ≡ length ts = length-map ts (used_by ts) in

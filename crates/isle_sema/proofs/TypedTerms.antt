@@ -1,6 +1,6 @@
 -- What the terms of an environment are to its definitions.
 use Rattle.std.proofs.Common.{◌≡◌, ℕ, zero, suc, ◌+◌, ◌<◌, ◌≤◌, Bool, true, false, List, [], ◌∷◌, ◌++◌, length, map, Option, Some, None, refl, sym, ap, ◌∙◌, subst, arith}
-use Rattle.std.specs.Prelude.{not, Contains, filter_map, is_some, option_map, slice_get, nat_le}
+use Rattle.std.specs.Prelude.{◌&&◌, not, Contains, filter_map, is_some, option_map, slice_get, nat_le}
 use Rattle.std.specs.List.{AllByRecursion, IsDistinct, list_all, list_any, range_with_len}
 use Rattle.std.specs.Str.{bytes_eq}
 use Rattle.std.proofs.lemmas.Bool.{and_parts, or_parts, not-false, not-true}
@@ -47,6 +47,7 @@ use Rattle.isle_terms.specs.TermPass.{types_named, constructor_named, extracting
 use Rattle.isle_sema.specs.Language.{is_built_def}
 use Rattle.isle_terms.specs.TypeNames.{type_named}
 use Rattle.isle_sema.specs.Typing.{Typed, TypedBuilt}
+use Rattle.isle_sema.proofs.AnsweringTerms.{IsAnswering, all_answer}
 use Rattle.isle_sema.proofs.BuiltForms.{IsPlain}
 use Rattle.isle_terms.proofs.MadeTerms.{first_there, made_of, term_is, types_are, all_at}
 use Rattle.isle_sema.proofs.NamesApart.{made_apart, terms_apart, declared_unmade}
@@ -61,24 +62,21 @@ variants_all P ty pos i [] rest own h = h
 variants_all P ty pos i (v ∷ vs) rest own h = (own _ refl refl, variants_all P ty pos (i + 1) vs rest own h)
 
 -- what holds of made terms of this place holds of those that a type makes
-pub body_all : (P : Signature → Type 0) (ty : List ℕ) (body : AstBody) (pos : Pos) (rest : List Signature) → ((s : Signature) → is_made s.origin ≡ true → s.pos ≡ pos → P s) → AllByRecursion P rest → AllByRecursion P (body_signatures ty body pos ++ rest)
+body_all : (P : Signature → Type 0) (ty : List ℕ) (body : AstBody) (pos : Pos) (rest : List Signature) → ((s : Signature) → is_made s.origin ≡ true → s.pos ≡ pos → P s) → AllByRecursion P rest → AllByRecursion P (body_signatures ty body pos ++ rest)
 body_all P ty (Primitive rust) pos rest own h = h
 body_all P ty (Enum variants) pos rest own h = variants_all P ty pos 0 variants rest own h
 body_all P ty (Struct fields) pos rest own h = (own _ refl refl, h)
 
 -- ---- its kind
 
-pub plain_kind : (pure multi partial recursive : Bool) (by : ConstructorKind) (how : ExtractorKind) → multi ≡ false → kind.Decl pure false partial recursive by how ≡ kind.Decl pure multi partial recursive by how
-plain_kind pure multi partial recursive by how m = ap (λ b. kind.Decl pure b partial recursive by how) (sym m)
-
 -- a term that no type makes is not `multi`
-abbrev pub IsPlainTerm : Signature → Type 0
+abbrev IsPlainTerm : Signature → Type 0
 IsPlainTerm s = is_made s.origin ≡ false → IsPlain s
 
 made_plain : (s : Signature) (pos : Pos) → is_made s.origin ≡ true → s.pos ≡ pos → IsPlainTerm s
 made_plain s pos made at other = let bad : true ≡ false = sym made ∙ other in absurd cc
 
-pub plain_terms : (ds : List Def) → list_all is_built_def ds ≡ true → AllByRecursion IsPlainTerm (terms ds)
+plain_terms : (ds : List Def) → list_all is_built_def ds ≡ true → AllByRecursion IsPlainTerm (terms ds)
 plain_terms [] h = tt
 plain_terms (tree.Decl term pure multi partial recursive args ret pos ∷ ds) h =
     let k = and_parts (not multi) (list_all is_built_def ds) h in
@@ -91,6 +89,40 @@ plain_terms (tree.ExternExtractor term func infallible pos ∷ ds) h = plain_ter
 plain_terms (tree.Extractor term params template pos ∷ ds) h = plain_terms ds h
 plain_terms (tree.Converter from to term pos ∷ ds) h = plain_terms ds h
 plain_terms (tree.Passed head items pos ∷ ds) h = plain_terms ds h
+
+-- a term of this kind is declared, and not both `multi` and `partial`
+pub record IsDeclaredKind (k : TermKind) : Type 0 where
+  pub pure : Bool
+  pub multi : Bool
+  pub partial : Bool
+  pub recursive : Bool
+  pub by : ConstructorKind
+  pub how : ExtractorKind
+  pub is : kind.Decl pure multi partial recursive by how ≡ k
+  pub apart : multi && partial ≡ false
+
+kind_declared : (w : Whole) (s : Signature) (ret : TypeId) (from : Origin) (k : TermKind) → IsAnswering s → kind_from w s ret from ≡ k → is_made_kind k ≡ false → IsDeclaredKind k
+kind_declared w s ret origin.Declared k h is other = record {
+  pure = s.pure;
+  multi = s.multi;
+  partial = s.partial;
+  recursive = s.recursive;
+  by = constructor_named w s.term;
+  how = extracting_named w s.term;
+  is = is;
+  apart = h.apart;
+}
+kind_declared w s ret (origin.Variant n) k h is other = let bad : true ≡ false = ap is_made_kind is ∙ other in absurd cc
+kind_declared w s ret origin.Struct k h is other = let bad : true ≡ false = ap is_made_kind is ∙ other in absurd cc
+
+-- so is a term that no type makes
+pub declared_kind : (defs : List Def) (env : Environment) (i : ℕ) (t : Term) → Typed defs env → slice_get env.terms i ≡ Some t → is_made_kind t.kind ≡ false → IsDeclaredKind t.kind
+declared_kind defs env i t h at other =
+    let g = given_in h in
+    let m = made_of (whole_of defs) (terms defs) env.terms i t g.terms at in
+    let s = m.signature in
+    let is = term_is (whole_of defs) s t m.made in
+    kind_declared (whole_of defs) s t.ret_ty s.origin t.kind (all_at IsAnswering (terms defs) i s (all_answer defs [] defs g.terms_kept) m.there) (ap (λ (u : Term). u.kind) is.is) other
 
 -- a term of this kind is declared, and not `multi`
 pub record IsPlainKind (k : TermKind) : Type 0 where
@@ -105,18 +137,11 @@ kind_plain : (w : Whole) (s : Signature) (ret : TypeId) (from : Origin) (k : Ter
 kind_plain w s ret origin.Declared k plain is other =
     let by = constructor_named w s.term in
     let how = extracting_named w s.term in
-    record {
-      pure = s.pure;
-      partial = s.partial;
-      recursive = s.recursive;
-      by = by;
-      how = how;
-      is = plain_kind s.pure s.multi s.partial s.recursive by how (plain refl) ∙ is;
-    }
+    record { pure = s.pure; partial = s.partial; recursive = s.recursive; by = by; how = how; is = ap (λ b. kind.Decl s.pure b s.partial s.recursive by how) (sym (plain refl)) ∙ is }
 kind_plain w s ret (origin.Variant n) k plain is other = let bad : true ≡ false = ap is_made_kind is ∙ other in absurd cc
 kind_plain w s ret origin.Struct k plain is other = let bad : true ≡ false = ap is_made_kind is ∙ other in absurd cc
 
--- a term that no type makes is not `multi`
+-- in definitions without `multi` a term that no type makes is
 pub typed_kind : (defs : List Def) (env : Environment) (i : ℕ) (t : Term) → TypedBuilt defs env → slice_get env.terms i ≡ Some t → is_made_kind t.kind ≡ false → IsPlainKind t.kind
 typed_kind defs env i t h at other =
     let g = given_in h.typed in

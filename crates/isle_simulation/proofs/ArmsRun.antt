@@ -27,14 +27,14 @@ use Rattle.isle_core.specs.HasType.{tuple_fields, typed_fields, HasType, HaveTyp
 use Rattle.isle_core.specs.Making.{Making, MakesVariant, MakesStruct}
 use Rattle.isle_core.specs.Nameless.{nameless, nameless_fields}
 use Rattle.isle_core.specs.Path.{Path, VariantField, StructField, Inner, at}
-use Rattle.isle_core.specs.PathType.{IsPathOf, IsTupleOf, IsOptionOf}
+use Rattle.isle_core.specs.PathType.{IsPathOf, IsTupleOf, IsOptionOf, IsListOf}
 use Rattle.isle_core.specs.PatternType.{IsOfMaking}
 use Rattle.isle_core.specs.Rule.{Environment}
 use Rattle.isle_core.specs.Setting.{Setting, paths_in}
 use Rattle.isle_core.specs.Terms.{sym_text}
 use Rattle.isle_core.specs.Value.{Value, Truth, Int, Opaque, Variant, Struct, FieldValues}
 use Rattle.isle_core.specs.ValueAt.{Held, One, Optional, Known, a_value, held, inner_held, field_held, value_at, is_found, meets}
-use Rattle.isle_core.proofs.BindingPaths.{HasParts, path_at, typed_parts, option_parts, tuple_parts}
+use Rattle.isle_core.proofs.BindingPaths.{HasParts, path_at, typed_parts, option_parts, list_parts, tuple_parts}
 use Rattle.isle_printer.specs.Bytes.{same_bytes}
 use Rattle.isle_printer.proofs.Bytes.{same_bytes_refl, same_bytes_sound}
 use Rattle.isle_tree.specs.declared.tree.TBind.{TBind}
@@ -159,6 +159,7 @@ record IsFieldOf (s : Setting) (u : Around) (known : Known) (source b : BindingI
   typed : (ty : TypeId) → IsPathOf s.env s.term (over (at (paths_in s) source)) ty → (of : TypeId) × IsPathOf s.env s.term (at (paths_in s) source) of × IsSomeAnd (form s.env (mk of)) (λ f. slice_get (form_types s.env f) j ≡ Some ty)
   no_tuple : (tys : List TypeId) → IsTupleOf s.env s.term (over (at (paths_in s) source)) tys → ⊥
   no_option : (tys : List TypeId) → IsOptionOf s.env s.term (over (at (paths_in s) source)) tys → ⊥
+  no_list : (tys : List TypeId) → IsListOf s.env s.term (over (at (paths_in s) source)) tys → ⊥
   is : value_at s.env u.meaning u.args known (over (at (paths_in s) source)) ≡ field_held j (value_at s.env u.meaning u.args known (at (paths_in s) source))
 
 field_stands : (s : Setting) (u : Around) (known : Known) (source b : BindingId) (mk : TypeId → Making) (over : Path → Path) (j : ℕ) (ty : TypeId) (f : Form) (field : List ℕ × TypeId) (v r : Value) → IsFieldOf s u known source b mk over j
@@ -168,6 +169,7 @@ field_stands s u known source b mk over j ty f field v r x of e at_j held_v w sa
   value = λ ty' k. one ty' k (x.path (typed_parts s.env s.term (at (paths_in s) b) ty' k));
   tuple = λ tys k. absurd (x.no_tuple tys (subst (λ p. IsTupleOf s.env s.term p tys) (x.path (tuple_parts s.env s.term (at (paths_in s) b) tys k)) k));
   option = λ tys k. absurd (x.no_option tys (subst (λ p. IsOptionOf s.env s.term p tys) (x.path (option_parts s.env s.term (at (paths_in s) b) tys k)) k));
+  list = λ tys k. absurd (x.no_list tys (subst (λ p. IsListOf s.env s.term p tys) (x.path (list_parts s.env s.term (at (paths_in s) b) tys k)) k));
 }
   where
     type_is : (ty' : TypeId) (o : Option Form) → o ≡ Some f → IsSomeAnd o (λ g. slice_get (form_types s.env g) j ≡ Some ty') → field.1 ≡ ty'
@@ -304,10 +306,10 @@ pub record ArmFits (s : Setting) (u : Around) (bound : List ℕ) (known : Known)
   pub fits : FitsBy s u bound known locals places pat h (meets s.env u.meaning c g)
 
 variant_field : (s : Setting) (u : Around) (known : Known) (source : BindingId) (variant : VariantId) (j : ℕ) (b : BindingId) → slice_get s.bindings b.0 ≡ Some (binding.MatchVariant source variant (record { 0 = j })) → IsFieldOf s u known source b (λ of. MakesVariant of variant) (VariantField variant j) j
-variant_field s u known source variant j b e = record { path = λ h. path_at s.bindings b (binding.MatchVariant source variant (record { 0 = j })) e h; typed = λ ty k. k; no_tuple = λ tys k. k; no_option = λ tys k. k; is = refl }
+variant_field s u known source variant j b e = record { path = λ h. path_at s.bindings b (binding.MatchVariant source variant (record { 0 = j })) e h; typed = λ ty k. k; no_tuple = λ tys k. k; no_option = λ tys k. k; no_list = λ tys k. k; is = refl }
 
 struct_field : (s : Setting) (u : Around) (known : Known) (source : BindingId) (j : ℕ) (b : BindingId) → slice_get s.bindings b.0 ≡ Some (binding.ExtractStruct source (record { 0 = j })) → IsFieldOf s u known source b MakesStruct (StructField j) j
-struct_field s u known source j b e = record { path = λ h. path_at s.bindings b (binding.ExtractStruct source (record { 0 = j })) e h; typed = λ ty k. k; no_tuple = λ tys k. k; no_option = λ tys k. k; is = refl }
+struct_field s u known source j b e = record { path = λ h. path_at s.bindings b (binding.ExtractStruct source (record { 0 = j })) e h; typed = λ ty k. k; no_tuple = λ tys k. k; no_option = λ tys k. k; no_list = λ tys k. k; is = refl }
 
 pub arm_fits : (s : Setting) (u : Around) (bound : List ℕ) (known : Known) (locals : Env) (source : BindingId) (ty : TypeId) (c : Constraint) (places : List (Option BindingId)) (h : Held) → Grounds s u → Agree s u bound known locals
     → IsPathOf s.env s.term (at (paths_in s) source) ty → IsConstraintOf s.env c ty → ArePlacesOf s source c places → IsForm c → (x : IsValueAt s.env h (value_at s.env u.meaning u.args known (at (paths_in s) source)) ty)
@@ -351,6 +353,7 @@ inner_stands s u known source b tys vs rs e of held_v same typed = record {
   value = λ ty k. let p = from (typed_parts s.env s.term (at (paths_in s) b) ty k) in (within p).value ty (subst (λ q. IsPathOf s.env s.term q ty) p k);
   tuple = λ tys' k. let p = from (tuple_parts s.env s.term (at (paths_in s) b) tys' k) in (within p).tuple tys' (subst (λ q. IsTupleOf s.env s.term q tys') p k);
   option = λ tys' k. let p = from (option_parts s.env s.term (at (paths_in s) b) tys' k) in (within p).option tys' (subst (λ q. IsOptionOf s.env s.term q tys') p k);
+  list = λ tys' k. let p = from (list_parts s.env s.term (at (paths_in s) b) tys' k) in (within p).list tys' (subst (λ q. IsListOf s.env s.term q tys') p k);
 }
   where
     from : HasParts (at (paths_in s) b) → at (paths_in s) b ≡ Inner (at (paths_in s) source)

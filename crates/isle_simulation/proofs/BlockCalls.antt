@@ -1,5 +1,5 @@
 -- The statements of a lawful block call what its bindings call.
-use Rattle.std.proofs.Common.{◌≡◌, ⊎_elim, ◌⊎◌, inl, inr, ℕ, List, [], ◌∷◌, ◌++◌, Bool, true, false, Option, Some, None, refl, ap, ◌∙◌, subst}
+use Rattle.std.proofs.Common.{◌≡◌, ⊎_elim, ◌⊎◌, inl, inr, ℕ, List, [], ◌∷◌, ◌++◌, Bool, true, false, Option, Some, None, refl, ap, ◌∙◌, subst, sym}
 use Rattle.std.specs.Prelude.{Contains, slice_get}
 use Rattle.std.proofs.lemmas.List.Elements.{Contains-append_cases}
 use Rattle.isle_core.specs.declared.BindingId.{BindingId}
@@ -24,21 +24,23 @@ use Rattle.isle_core.specs.Form.{Form, form}
 use Rattle.isle_core.specs.Making.{MakesVariant, MakesStruct}
 use Rattle.isle_core.specs.Path.{at}
 use Rattle.isle_core.specs.Rule.{Environment}
-use Rattle.isle_core.specs.Setting.{Setting, setting, paths_in}
+use Rattle.isle_core.specs.Setting.{Setting, setting, paths_in, gives_several}
 use Rattle.isle_core.specs.SingleArms.{HasSingleArms, IsSingle}
 use Rattle.isle_core.proofs.Contained.{contained_cases, none_contained}
 use Rattle.isle_tree.specs.Calls.{expr_calls, own_calls, stmt_calls, body_calls}
 use Rattle.isle_tree.specs.Program.{Body, Done, Then}
 use Rattle.isle_tree.specs.declared.tree.Read.{Read}
 use Rattle.isle_simulation.specs.Completed.{completed}
-use Rattle.isle_simulation.specs.Statements.{callee_of as callee_made_of, made_named}
+use Rattle.isle_simulation.specs.Statements.{callee_of as callee_made_of, made_named, binds_list, local_stmt}
 use Rattle.isle_simulation.specs.TermFunction.{mark_of, tail_body, tail_of, ends_in_return, log_lines}
 use Rattle.isle_simulation.proofs.CompletedReady.{completed_ready}
 use Rattle.isle_simulation.proofs.CompletedRuns.{completed_single}
 use Rattle.isle_simulation.proofs.Made.{callee_made, extractor_made}
 use Rattle.isle_simulation.proofs.Ready.{IsReadyBind, AreReadyBinds, IsReadyFrom, IsReadyControl}
-use Rattle.isle_simulation.proofs.Written.{arm_stmt, block_body, bound_expr, callee_of, call_expr, extraction_expr, control_stmt, lets, made_expr, returned, written_read, written_body, logged_function}
+use Rattle.isle_simulation.proofs.Written.{arm_stmt, block_body, bound_expr, callee_of, call_expr, extraction_expr, control_stmt, lets, made_expr, result_stmt, stop_before, written_read, written_body, logged_function}
 use Rattle.isle_simulation.proofs.LoggedLaws.{IsOwn, logged_of}
+use Rattle.isle_tree.specs.declared.tree.TExpr.{TExpr}
+use Rattle.isle_simulation.proofs.LocalStmts.{local_by}
 
 -- the callee is that of a call of a constructor among the bindings
 pub record IsConstructorCall (env : Environment) (bs : List Binding) (callee : Callee) : Type 0 where
@@ -105,18 +107,29 @@ bound_call s bound b (Some (binding.MakeVariant ty variant fields)) callee e is 
 bound_call s bound b (Some (binding.MakeStruct ty fields)) callee e is c = not_called callee (subst (λ xs. Contains xs callee) (made_calls s bound (form s.env (MakesStruct ty)) fields) c)
 bound_call s bound b o callee e is c = absurd is
 
+local_calls : (often : Bool) (n : ℕ) (e : TExpr) → stmt_calls (local_stmt often n e) ≡ expr_calls e
+local_calls often n e = local_by (λ st. stmt_calls st ≡ expr_calls e) often n e refl (λ borrow call is. ap expr_calls (sym is))
+
 lets_calls : (s : Setting) (bound : List ℕ) (binds : List BindingId) (more : Body) (callee : Callee) → AreReadyBinds s bound binds → Contains (body_calls (lets s bound binds more)) callee → IsBoundCall s.env s.bindings callee ⊎ Contains (body_calls more) callee
 lets_calls s bound [] more callee h c = inr c
 lets_calls s bound (b ∷ binds) more callee h c =
     ⊎_elim
     (λ k. inl (bound_call s bound b (slice_get s.bindings b.0) callee refl h.0 k))
     (λ k. lets_calls s (bound ++ b.0 ∷ []) binds more callee h.1 k)
-    (Contains-append_cases (expr_calls (bound_expr s bound b (slice_get s.bindings b.0))) (body_calls (lets s (bound ++ b.0 ∷ []) binds more)) callee c)
+    (Contains-append_cases (expr_calls (bound_expr s bound b (slice_get s.bindings b.0))) (body_calls (lets s (bound ++ b.0 ∷ []) binds more)) callee
+    (subst (λ cs. Contains (cs ++ body_calls (lets s (bound ++ b.0 ∷ []) binds more)) callee) (local_calls (binds_list s b) b.0 (bound_expr s bound b (slice_get s.bindings b.0))) c))
 
-returned_calls : (kind : ReturnKind) (callee : Callee) (r : Read) → Contains (expr_calls (returned kind r)) callee → ⊥
-returned_calls return_kind.Plain callee r c = none_contained callee c
-returned_calls return_kind.Option callee r c = none_contained callee c
-returned_calls return_kind.Iterator callee r c = none_contained callee c
+result_calls : (kind : ReturnKind) (callee : Callee) (r : Read) → Contains (stmt_calls (result_stmt kind r)) callee → ⊥
+result_calls return_kind.Plain callee r c = none_contained callee c
+result_calls return_kind.Option callee r c = none_contained callee c
+result_calls return_kind.Iterator callee r c = none_contained callee c
+
+stop_calls : (several : Bool) (c : Control) (after : Body) → body_calls (stop_before several c after) ≡ body_calls after
+stop_calls true (block.Return place result) after = refl
+stop_calls true (block.Match source arms) after = refl
+stop_calls true (block.Equal a b body) after = refl
+stop_calls true (block.Loop result body) after = refl
+stop_calls false c after = refl
 
 arm_calls : (s : Setting) (bound : List ℕ) (source : BindingId) (c : Constraint) (places : List (Option BindingId)) (inside : Body) → stmt_calls (arm_stmt s bound source c places inside) ≡ body_calls inside
 arm_calls s bound source (constraint.ConstBool val) places inside = refl
@@ -135,9 +148,9 @@ mutual
       (λ d. inl d)
       (λ d. ⊎_elim
       (λ x. inl (control_calls k s (bound_by bound binds) _ callee h.2 o.0 x))
-      (λ x. block_calls more s (bound_by bound binds) _ end callee h.3 o.1 x)
-      (Contains-append_cases (stmt_calls (control_stmt s (bound_by bound binds) k)) (body_calls (block_body s (bound_by bound binds) more end)) callee d))
-      (lets_calls s bound binds (Then (control_stmt s (bound_by bound binds) k) (block_body s (bound_by bound binds) more end)) callee h.0 c)
+      (λ x. block_calls more s (bound_by bound binds) _ end callee h.3 o.1 (subst (λ cs. Contains cs callee) (stop_calls (gives_several s) k (block_body s (bound_by bound binds) more end)) x))
+      (Contains-append_cases (stmt_calls (control_stmt s (bound_by bound binds) k)) (body_calls (stop_before (gives_several s) k (block_body s (bound_by bound binds) more end))) callee d))
+      (lets_calls s bound binds (Then (control_stmt s (bound_by bound binds) k) (stop_before (gives_several s) k (block_body s (bound_by bound binds) more end))) callee h.0 c)
 
   control_calls : (k : Control) (s : Setting) (bound made : List ℕ) (callee : Callee) → IsReadyControl s bound made k → IsSingle k → Contains (stmt_calls (control_stmt s bound k)) callee → IsBoundCall s.env s.bindings callee
   control_calls (block.Match source (block.Arm d places body block.NoArm)) s bound made callee h o c =
@@ -145,8 +158,8 @@ mutual
   control_calls (block.Match source (block.Arm d places body (block.Arm e others inside arms))) s bound made callee h o c = absurd o
   control_calls (block.Match source block.NoArm) s bound made callee h o c = absurd o
   control_calls (block.Equal x y body) s bound made callee h o c = ⊎_elim (λ z. z) (λ z. not_called callee z) (block_calls body s bound made Done callee h.1 o c)
-  control_calls (block.Loop result body) s bound made callee h o c = absurd h
-  control_calls (block.Return pos result) s bound made callee h o c = absurd (returned_calls (kind_of s.term.kind) callee (written_read s bound false result) c)
+  control_calls (block.Loop result body) s bound made callee h o c = ⊎_elim (λ z. z) (λ z. not_called callee z) (block_calls body s (bound ++ result.0 ∷ []) made Done callee h.1 o c)
+  control_calls (block.Return pos result) s bound made callee h o c = absurd (result_calls (kind_of s.term.kind) callee (written_read s bound false result) c)
 
 mark_calls : (mark : Option (Option (List ℕ × List ℕ))) (callee : Callee) → Contains (body_calls (tail_body mark)) callee → ⊥
 mark_calls None callee c = none_contained callee c

@@ -1,6 +1,6 @@
 -- The statements of a block fit the kind of their function.
-use Rattle.std.proofs.Common.{◌≡◌, ℕ, List, [], ◌∷◌, ◌++◌, Bool, true, false, Option, Some, None, slice_get, refl}
-use Rattle.isle_core.specs.Calling.{kind_of, may_be_nothing, AnswersOnce}
+use Rattle.std.proofs.Common.{◌≡◌, ℕ, List, [], ◌∷◌, ◌++◌, Bool, true, false, Option, Some, None, slice_get, refl, ◌⊎◌, cond, inl, inr, ⊎_elim, sym, subst}
+use Rattle.isle_core.specs.Calling.{kind_of, may_be_nothing, AnswersOnce, is_several}
 use Rattle.isle_core.specs.declared.BindingId.{BindingId}
 use Rattle.isle_core.specs.declared.Sym.{Sym}
 use Rattle.isle_core.specs.declared.types.ReturnKind.{ReturnKind}
@@ -18,21 +18,43 @@ use Rattle.isle_core.specs.Form.{Form, form}
 use Rattle.isle_core.specs.Making.{MakesVariant, MakesStruct}
 use Rattle.isle_core.specs.Path.{at}
 use Rattle.isle_core.specs.Rule.{Environment}
-use Rattle.isle_core.specs.Setting.{Setting, paths_in}
+use Rattle.isle_core.specs.Setting.{Setting, paths_in, gives_several}
 use Rattle.isle_core.specs.SingleArms.{HasSingleArms, IsSingle}
 use Rattle.isle_tree.specs.declared.tree.Read.{Read}
-use Rattle.isle_tree.specs.Program.{Stmt, Let, Body, Done, Then}
-use Rattle.isle_tree.specs.WellFormed.{FitsLet, IsReturned, FitsStmt, FitsBody, FitsEnding, FitsFunction}
+use Rattle.isle_tree.specs.Program.{Stmt, Body, Done, Then}
+use Rattle.isle_tree.specs.WellFormed.{FitsLet, FitsStmt, FitsBody, FitsEnding, FitsFunction}
 use Rattle.isle_simulation.specs.Completed.{completed, step_binds}
-use Rattle.isle_simulation.specs.Statements.{made_named}
+use Rattle.isle_simulation.specs.Statements.{made_named, binds_list}
 use Rattle.isle_simulation.specs.TermFunction.{ends_in_return, mark_of, tail_body, tail_of}
 use Rattle.isle_simulation.proofs.Ready.{IsReadyBind, AreReadyBinds, IsReadyFrom, IsReadyControl}
-use Rattle.isle_simulation.proofs.Written.{arm_stmt, block_body, bound_expr, call_expr, extraction_expr, control_stmt, lets, made_expr, returned, written_read}
+use Rattle.isle_simulation.proofs.Written.{arm_stmt, block_body, bound_expr, call_expr, extraction_expr, control_stmt, lets, made_expr, written_read, result_stmt, stop_before, bound_stmt}
+use Rattle.isle_simulation.proofs.LocalStmts.{local_by}
 
-returned_fits : (kind : ReturnKind) (r : Read) → IsReturned (returned kind r)
-returned_fits return_kind.Plain r = tt
-returned_fits return_kind.Option r = tt
-returned_fits return_kind.Iterator r = tt
+result_fits : (kind : ReturnKind) (r : Read) → FitsStmt kind false (result_stmt kind r)
+result_fits return_kind.Plain r = tt
+result_fits return_kind.Option r = tt
+result_fits return_kind.Iterator r = tt
+
+-- so the last of a function that answers once
+last_fits : (kind : ReturnKind) → AnswersOnce kind → (r : Read) → FitsEnding kind (Then (result_stmt kind r) Done)
+last_fits return_kind.Plain once r = tt
+last_fits return_kind.Option once r = tt
+last_fits return_kind.Iterator once r = absurd once
+
+-- a stop stands where several results are given
+stop_fits : (kind : ReturnKind) (c : Control) (after : Body) → FitsBody kind false after → FitsBody kind false (stop_before (is_several kind) c after)
+stop_fits return_kind.Plain c after h = h
+stop_fits return_kind.Option c after h = h
+stop_fits return_kind.Iterator (block.Return pos result) after h = ((tt, refl), h)
+stop_fits return_kind.Iterator (block.Match source arms) after h = h
+stop_fits return_kind.Iterator (block.Equal a b body) after h = h
+stop_fits return_kind.Iterator (block.Loop result body) after h = h
+
+-- and in no other function
+no_stop : (kind : ReturnKind) → AnswersOnce kind → (c : Control) (after : Body) → stop_before (is_several kind) c after ≡ after
+no_stop return_kind.Plain once c after = refl
+no_stop return_kind.Option once c after = refl
+no_stop return_kind.Iterator once c after = absurd once
 
 option_kind : (kind : ReturnKind) → may_be_nothing kind ≡ true → kind ≡ return_kind.Option
 option_kind return_kind.Plain e = cc
@@ -72,9 +94,13 @@ bound_fits s bound b (Some (binding.MakeVariant ty variant fields)) is = made_fi
 bound_fits s bound b (Some (binding.MakeStruct ty fields)) is = made_fits s (kind_of s.term.kind) bound (form s.env (MakesStruct ty)) fields
 bound_fits s bound b o is = absurd is
 
+stmt_fits : (s : Setting) (bound : List ℕ) (b : BindingId) → IsReadyBind s bound (at (paths_in s) b) (slice_get s.bindings b.0) → FitsStmt (kind_of s.term.kind) false (bound_stmt s bound b)
+stmt_fits s bound b is =
+    local_by (FitsStmt (kind_of s.term.kind) false) (binds_list s b) b.0 (bound_expr s bound b (slice_get s.bindings b.0)) (bound_fits s bound b (slice_get s.bindings b.0) is) (λ borrow call e. tt)
+
 lets_fit : (s : Setting) (bound : List ℕ) (binds : List BindingId) (more : Body) → AreReadyBinds s bound binds → FitsBody (kind_of s.term.kind) false more → FitsBody (kind_of s.term.kind) false (lets s bound binds more)
 lets_fit s bound [] more k h = h
-lets_fit s bound (b ∷ binds) more k h = (bound_fits s bound b (slice_get s.bindings b.0) k.0, lets_fit s (bound ++ b.0 ∷ []) binds more k.1 h)
+lets_fit s bound (b ∷ binds) more k h = (stmt_fits s bound b k.0, lets_fit s (bound ++ b.0 ∷ []) binds more k.1 h)
 
 arm_fits : (s : Setting) (bound : List ℕ) (source : BindingId) (c : Constraint) (places : List (Option BindingId)) (inside : Body) → FitsBody (kind_of s.term.kind) false inside → FitsStmt (kind_of s.term.kind) false (arm_stmt s bound source c places inside)
 arm_fits s bound source (constraint.ConstBool val) places inside h = h
@@ -88,16 +114,16 @@ mutual
   block_fits : (b : Block) (s : Setting) (bound made : List ℕ) → IsReadyFrom s bound made b → HasSingleArms b → FitsBody (kind_of s.term.kind) false (block_body s bound b Done)
   block_fits Stop s bound made k o = tt
   block_fits (Step binds c more) s bound made k o =
-      lets_fit s bound binds (Then (control_stmt s (bound_by bound binds) c) (block_body s (bound_by bound binds) more Done)) k.0
-      (control_fits c s (bound_by bound binds) _ k.2 o.0, block_fits more s (bound_by bound binds) _ k.3 o.1)
+      lets_fit s bound binds (Then (control_stmt s (bound_by bound binds) c) (stop_before (gives_several s) c (block_body s (bound_by bound binds) more Done))) k.0
+      (control_fits c s (bound_by bound binds) _ k.2 o.0, stop_fits (kind_of s.term.kind) c _ (block_fits more s (bound_by bound binds) _ k.3 o.1))
 
   control_fits : (c : Control) (s : Setting) (bound made : List ℕ) → IsReadyControl s bound made c → IsSingle c → FitsStmt (kind_of s.term.kind) false (control_stmt s bound c)
   control_fits (block.Match source (block.Arm c places body block.NoArm)) s bound made k o = arm_fits s bound source c places (block_body s (bound_within bound places) body Done) (block_fits body s (bound_within bound places) made k.1.2.2 o)
   control_fits (block.Match source (block.Arm c places body (block.Arm d others inside arms))) s bound made k o = absurd o
   control_fits (block.Match source block.NoArm) s bound made k o = absurd o
   control_fits (block.Equal x y body) s bound made k o = block_fits body s bound made k.1 o
-  control_fits (block.Loop result body) s bound made k o = absurd k
-  control_fits (block.Return pos result) s bound made k o = returned_fits (kind_of s.term.kind) (written_read s bound false result)
+  control_fits (block.Loop result body) s bound made k o = block_fits body s (bound ++ result.0 ∷ []) made k.1 o
+  control_fits (block.Return pos result) s bound made k o = result_fits (kind_of s.term.kind) (written_read s bound false result)
 
 -- ---- a whole function
 
@@ -109,29 +135,33 @@ fits_more kind st (Then u ss) h k = (h, k)
 lets_before : (s : Setting) (bound : List ℕ) (binds : List BindingId) (more : Body) → AreReadyBinds s bound binds → FitsEnding (kind_of s.term.kind) more → FitsEnding (kind_of s.term.kind) (lets s bound binds more)
 lets_before s bound [] more k h = h
 lets_before s bound (b ∷ binds) more k h =
-    fits_more (kind_of s.term.kind) (Let b.0 (bound_expr s bound b (slice_get s.bindings b.0))) (lets s (bound ++ b.0 ∷ []) binds more)
-    (bound_fits s bound b (slice_get s.bindings b.0) k.0) (lets_before s (bound ++ b.0 ∷ []) binds more k.1 h)
+    fits_more (kind_of s.term.kind) (bound_stmt s bound b) (lets s (bound ++ b.0 ∷ []) binds more)
+    (stmt_fits s bound b k.0) (lets_before s (bound ++ b.0 ∷ []) binds more k.1 h)
 
 -- a block before an end that fits
-block_before : (b : Block) (s : Setting) (bound made : List ℕ) (end : Body) → IsReadyFrom s bound made b → HasSingleArms b → FitsEnding (kind_of s.term.kind) end → FitsEnding (kind_of s.term.kind) (block_body s bound b end)
-block_before Stop s bound made end k o h = h
-block_before (Step binds c more) s bound made end k o h =
-    lets_before s bound binds (Then (control_stmt s (bound_by bound binds) c) (block_body s (bound_by bound binds) more end)) k.0
-    (fits_more (kind_of s.term.kind) (control_stmt s (bound_by bound binds) c) (block_body s (bound_by bound binds) more end)
-    (control_fits c s (bound_by bound binds) _ k.2 o.0) (block_before more s (bound_by bound binds) _ end k.3 o.1 h))
+block_before : (b : Block) (s : Setting) → AnswersOnce (kind_of s.term.kind) → (bound made : List ℕ) (end : Body) → IsReadyFrom s bound made b → HasSingleArms b → FitsEnding (kind_of s.term.kind) end → FitsEnding (kind_of s.term.kind) (block_body s bound b end)
+block_before Stop s once bound made end k o h = h
+block_before (Step binds c more) s once bound made end k o h =
+    let after = block_body s (bound_by bound binds) more end in
+    lets_before s bound binds (Then (control_stmt s (bound_by bound binds) c) (stop_before (gives_several s) c after)) k.0
+    (subst (λ x. FitsEnding (kind_of s.term.kind) (Then (control_stmt s (bound_by bound binds) c) x)) (sym (no_stop (kind_of s.term.kind) once c after))
+    (fits_more (kind_of s.term.kind) (control_stmt s (bound_by bound binds) c) after (control_fits c s (bound_by bound binds) _ k.2 o.0) (block_before more s once (bound_by bound binds) _ end k.3 o.1 h)))
 
 -- a block whose last step is a Return
-return_last : (b : Block) (s : Setting) (bound made : List ℕ) → IsReadyFrom s bound made b → HasSingleArms b → ends_in_return b ≡ true → FitsEnding (kind_of s.term.kind) (block_body s bound b Done)
-return_last Stop s bound made k o e = cc
-return_last (Step binds (block.Return pos result) Stop) s bound made k o e =
-    lets_before s bound binds (Then (control_stmt s (bound_by bound binds) (block.Return pos result)) Done) k.0 (returned_fits (kind_of s.term.kind) (written_read s (bound_by bound binds) false result))
-return_last (Step binds (block.Match source arms) Stop) s bound made k o e = cc
-return_last (Step binds (block.Equal x y body) Stop) s bound made k o e = cc
-return_last (Step binds (block.Loop result body) Stop) s bound made k o e = cc
-return_last (Step binds c (Step ds d more)) s bound made k o e =
-    lets_before s bound binds (Then (control_stmt s (bound_by bound binds) c) (block_body s (bound_by bound binds) (Step ds d more) Done)) k.0
-    (fits_more (kind_of s.term.kind) (control_stmt s (bound_by bound binds) c) (block_body s (bound_by bound binds) (Step ds d more) Done)
-    (control_fits c s (bound_by bound binds) _ k.2 o.0) (return_last (Step ds d more) s (bound_by bound binds) _ k.3 o.1 e))
+return_last : (b : Block) (s : Setting) → AnswersOnce (kind_of s.term.kind) → (bound made : List ℕ) → IsReadyFrom s bound made b → HasSingleArms b → ends_in_return b ≡ true → FitsEnding (kind_of s.term.kind) (block_body s bound b Done)
+return_last Stop s once bound made k o e = cc
+return_last (Step binds (block.Return pos result) Stop) s once bound made k o e =
+    lets_before s bound binds (Then (control_stmt s (bound_by bound binds) (block.Return pos result)) (stop_before (gives_several s) (block.Return pos result) Done)) k.0
+    (subst (λ x. FitsEnding (kind_of s.term.kind) (Then (control_stmt s (bound_by bound binds) (block.Return pos result)) x)) (sym (no_stop (kind_of s.term.kind) once (block.Return pos result) Done))
+    (last_fits (kind_of s.term.kind) once (written_read s (bound_by bound binds) false result)))
+return_last (Step binds (block.Match source arms) Stop) s once bound made k o e = cc
+return_last (Step binds (block.Equal x y body) Stop) s once bound made k o e = cc
+return_last (Step binds (block.Loop result body) Stop) s once bound made k o e = cc
+return_last (Step binds c (Step ds d more)) s once bound made k o e =
+    let after = block_body s (bound_by bound binds) (Step ds d more) Done in
+    lets_before s bound binds (Then (control_stmt s (bound_by bound binds) c) (stop_before (gives_several s) c after)) k.0
+    (subst (λ x. FitsEnding (kind_of s.term.kind) (Then (control_stmt s (bound_by bound binds) c) x)) (sym (no_stop (kind_of s.term.kind) once c after))
+    (fits_more (kind_of s.term.kind) (control_stmt s (bound_by bound binds) c) after (control_fits c s (bound_by bound binds) _ k.2 o.0) (return_last (Step ds d more) s once (bound_by bound binds) _ k.3 o.1 e)))
 
 tail_fits : (kind : ReturnKind) → AnswersOnce kind → (name place : List ℕ) → FitsEnding kind (tail_body (mark_of kind name place))
 tail_fits return_kind.Plain once name place = tt
@@ -153,11 +183,33 @@ ending_fits return_kind.Plain once b h = h
 ending_fits return_kind.Option once b h = h
 ending_fits return_kind.Iterator once b h = absurd once
 
+-- one kind or another
+by_kind : (kind : ReturnKind) → AnswersOnce kind ⊎ (kind ≡ return_kind.Iterator)
+by_kind return_kind.Plain = inl tt
+by_kind return_kind.Option = inl tt
+by_kind return_kind.Iterator = inr refl
+
 -- a completed block with the tail of its kind
-pub function_fits : (b : Block) (s : Setting) (name place : List ℕ) → AnswersOnce (kind_of s.term.kind) → IsReadyFrom s [] [] (completed s [] b) → HasSingleArms (completed s [] b)
+pub function_fits : (b : Block) (s : Setting) (name place : List ℕ) → IsReadyFrom s [] [] (completed s [] b) → HasSingleArms (completed s [] b)
     → FitsFunction (kind_of s.term.kind) (block_body s [] (completed s [] b) (tail_of (kind_of s.term.kind) name place b))
-function_fits b s name place once k o = ending_fits (kind_of s.term.kind) once _ (one (ends_in_return b) refl)
+function_fits b s name place k o =
+    let c = completed s [] b in
+    ⊎_elim (λ once. ending_fits (kind_of s.term.kind) once _ (one once (ends_in_return b) refl))
+    (λ several. subst (λ x. FitsFunction (kind_of s.term.kind) (block_body s [] c x)) (sym (none_behind (kind_of s.term.kind) several (ends_in_return b))) (list_fits (kind_of s.term.kind) several _ (block_fits c s [] [] k o)))
+    (by_kind (kind_of s.term.kind))
   where
-    one : (x : Bool) → ends_in_return b ≡ x → FitsEnding (kind_of s.term.kind) (block_body s [] (completed s [] b) (tail_of (kind_of s.term.kind) name place b))
-    one true is = rw is (return_last (completed s [] b) s [] [] k o (rw (completed_ends b s []) is))
-    one false is = rw is (block_before (completed s [] b) s [] [] _ k o (tail_fits (kind_of s.term.kind) once name place))
+    one : AnswersOnce (kind_of s.term.kind) → (x : Bool) → ends_in_return b ≡ x → FitsEnding (kind_of s.term.kind) (block_body s [] (completed s [] b) (tail_of (kind_of s.term.kind) name place b))
+    one once true is = rw is (return_last (completed s [] b) s once [] [] k o (rw (completed_ends b s []) is))
+    one once false is = rw is (block_before (completed s [] b) s once [] [] _ k o (tail_fits (kind_of s.term.kind) once name place))
+
+    -- where several results are given there is no tail
+    none_behind : (kind : ReturnKind) → kind ≡ return_kind.Iterator → (x : Bool) → cond x Done (tail_body (mark_of kind name place)) ≡ Done
+    none_behind return_kind.Iterator e true = refl
+    none_behind return_kind.Iterator e false = refl
+    none_behind return_kind.Plain e x = cc
+    none_behind return_kind.Option e x = cc
+
+    list_fits : (kind : ReturnKind) → kind ≡ return_kind.Iterator → (body : Body) → FitsBody kind false body → FitsFunction kind body
+    list_fits return_kind.Iterator e body h = h
+    list_fits return_kind.Plain e body h = cc
+    list_fits return_kind.Option e body h = cc

@@ -30,7 +30,7 @@ use Rattle.isle_core.specs.PathType.{IsPathOf, ArePathsOf}
 use Rattle.isle_core.specs.PatternType.{IsNumericDef}
 use Rattle.isle_core.specs.Rule.{Environment}
 use Rattle.isle_core.specs.SingleArms.{HasSingleArms, IsSingle}
-use Rattle.isle_core.specs.Setting.{Setting, paths_in}
+use Rattle.isle_core.specs.Setting.{Setting, paths_in, gives_several}
 use Rattle.isle_core.specs.Terms.{sym_text}
 use Rattle.isle_spelling.specs.Names.{IsName, IsFieldName}
 use Rattle.isle_tree.specs.declared.tree.Operand.{Operand}
@@ -43,7 +43,7 @@ use Rattle.isle_simulation.specs.Operands.{constant, in_place, is_bound}
 use Rattle.isle_simulation.specs.Patterns.{bind_before, field_binds, pattern_named, some_pattern, pattern_of}
 use Rattle.isle_simulation.specs.References.{is_declared, is_reference_in, read_as}
 use Rattle.isle_simulation.specs.RustNames.{IsVariantName, HasRustNames}
-use Rattle.isle_simulation.specs.Statements.{made_named}
+use Rattle.isle_simulation.specs.Statements.{made_named, binds_list, local_stmt}
 use Rattle.isle_simulation.proofs.ArmsRun.{ArmPattern, arm_pattern}
 use Rattle.isle_simulation.proofs.OneBind.{spelled}
 use Rattle.isle_simulation.proofs.BoundTests.{found}
@@ -52,7 +52,9 @@ use Rattle.isle_simulation.proofs.ExternalTerms.{extracted_is}
 use Rattle.isle_simulation.proofs.Made.{over_value, over_option, some_made}
 use Rattle.isle_simulation.proofs.PathValues.{IsConstant}
 use Rattle.isle_simulation.proofs.Ready.{IsSpelled, IsReady, AreReady, IsMadeReady, IsReadyBind, AreReadyBinds, IsReadyFrom, IsReadyControl}
-use Rattle.isle_simulation.proofs.Written.{written, written_operand, written_read, written_place, written_test, written_pattern, callee_of, reads, call_expr, extraction_expr, field_reads, made_expr, bound_expr, block_body, control_stmt, lets, returned}
+use Rattle.isle_simulation.proofs.Written.{written, written_operand, written_read, written_place, written_test, written_pattern, callee_of, reads, call_expr, extraction_expr, field_reads, made_expr, bound_expr, block_body, control_stmt, lets, result_stmt, stop_before}
+use Rattle.isle_tree.specs.declared.tree.TExpr.{TExpr}
+use Rattle.isle_simulation.proofs.LocalStmts.{local_by}
 
 -- ---- operands
 
@@ -135,10 +137,20 @@ made_is s bound p over mk fields names is =
 
 -- ---- what is computed
 
-returned_is : (kind : ReturnKind) (r : Read) → IsRead r → IsExpr (returned kind r)
-returned_is return_kind.Plain r h = h
-returned_is return_kind.Option r h = h
-returned_is return_kind.Iterator r h = h
+result_is : (kind : ReturnKind) (r : Read) → IsRead r → IsStmt (result_stmt kind r)
+result_is return_kind.Plain r h = h
+result_is return_kind.Option r h = h
+result_is return_kind.Iterator r h = h
+
+stop_is : (several : Bool) (c : Control) (after : Body) → IsBody after → IsBody (stop_before several c after)
+stop_is true (block.Return place result) after h = (tt, h)
+stop_is true (block.Match source arms) after h = h
+stop_is true (block.Equal a b body) after h = h
+stop_is true (block.Loop result body) after h = h
+stop_is false c after h = h
+
+local_is : (often : Bool) (n : ℕ) (e : TExpr) → IsExpr e → IsStmt (local_stmt often n e)
+local_is often n e h = local_by IsStmt often n e h (λ borrow call is. subst IsExpr is h)
 
 plain_is : (s : Setting) (b : BindingId) → HasRustNames s.env → IsPlain s.env s.term (at (paths_in s) b) → IsOperand (written_place s b)
 plain_is s b names k = place_is s.env s.term b.0 (at (paths_in s) b) k.1.0 names k.1.1 (spelled (at (paths_in s) b) k.0)
@@ -167,7 +179,7 @@ bound_is s bound b o names fns is = absurd is
 
 lets_are : (s : Setting) (bound : List ℕ) (binds : List BindingId) (more : Body) → HasRustNames s.env → HasCallees s.env → AreReadyBinds s bound binds → IsBody more → IsBody (lets s bound binds more)
 lets_are s bound [] more names fns k h = h
-lets_are s bound (b ∷ binds) more names fns k h = (bound_is s bound b (slice_get s.bindings b.0) names fns k.0, lets_are s (bound ++ b.0 ∷ []) binds more names fns k.1 h)
+lets_are s bound (b ∷ binds) more names fns k h = (local_is (binds_list s b) b.0 _ (bound_is s bound b (slice_get s.bindings b.0) names fns k.0), lets_are s (bound ++ b.0 ∷ []) binds more names fns k.1 h)
 
 -- ---- patterns
 
@@ -208,8 +220,8 @@ mutual
   pub block_is : (b : Block) (s : Setting) (bound made : List ℕ) (end : Body) → HasRustNames s.env → HasCallees s.env → IsReadyFrom s bound made b → HasSingleArms b → IsBody end → IsBody (block_body s bound b end)
   block_is Stop s bound made end names fns k o h = h
   block_is (Step binds c more) s bound made end names fns k o h =
-      lets_are s bound binds (Then (control_stmt s (bound_by bound binds) c) (block_body s (bound_by bound binds) more end)) names fns k.0
-      (control_is c s (bound_by bound binds) _ names fns k.2 o.0, block_is more s (bound_by bound binds) _ end names fns k.3 o.1 h)
+      lets_are s bound binds (Then (control_stmt s (bound_by bound binds) c) (stop_before (gives_several s) c (block_body s (bound_by bound binds) more end))) names fns k.0
+      (control_is c s (bound_by bound binds) _ names fns k.2 o.0, stop_is (gives_several s) c _ (block_is more s (bound_by bound binds) _ end names fns k.3 o.1 h))
 
   control_is : (c : Control) (s : Setting) (bound made : List ℕ) → HasRustNames s.env → HasCallees s.env → IsReadyControl s bound made c → IsSingle c → IsStmt (control_stmt s bound c)
   control_is (block.Match source (Arm (constraint.ConstBool val) places body NoArm)) s bound made names fns k o =
@@ -239,5 +251,5 @@ mutual
   control_is (block.Match source (Arm c places body (Arm d others inside arms))) s bound made names fns k o = absurd o
   control_is (block.Match source NoArm) s bound made names fns k o = absurd o
   control_is (block.Equal x y body) s bound made names fns k o = (operand_is s bound x k.0.0 names k.0.1, operand_is s bound y k.0.0 names k.0.2, block_is body s bound made Done names fns k.1 o tt)
-  control_is (block.Loop result body) s bound made names fns k o = absurd k
-  control_is (block.Return pos result) s bound made names fns k o = returned_is (kind_of s.term.kind) (written_read s bound false result) (written_is s bound false result s.term.ret_ty names k)
+  control_is (block.Loop result body) s bound made names fns k o = block_is body s (bound ++ result.0 ∷ []) made Done names fns k.1 o tt
+  control_is (block.Return pos result) s bound made names fns k o = result_is (kind_of s.term.kind) (written_read s bound false result) (written_is s bound false result s.term.ret_ty names k)

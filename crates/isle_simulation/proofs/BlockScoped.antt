@@ -1,5 +1,5 @@
 -- What the statements of a block read is there, and holds what is asked of it.
-use Rattle.std.proofs.Common.{◌≡◌, ℕ, suc, List, [], ◌∷◌, ◌++◌, length, take, Bool, true, false, Option, Some, None, slice_get, refl, sym, subst, append_assoc}
+use Rattle.std.proofs.Common.{◌≡◌, ℕ, suc, List, [], ◌∷◌, ◌++◌, length, take, Bool, true, false, Option, Some, None, slice_get, refl, sym, subst, append_assoc, ap}
 use Rattle.std.specs.Prelude.{IsSome, IsTrue}
 use Rattle.std.proofs.lemmas.List.{append-nil}
 use Rattle.isle_core.specs.declared.types.ReturnKind.{ReturnKind}
@@ -12,19 +12,19 @@ use Rattle.isle_core.specs.declared.rule_sets.Binding.TheVariants as binding
 use Rattle.isle_core.specs.declared.rule_sets.Constraint.{Constraint}
 use Rattle.isle_core.specs.declared.rule_sets.Constraint.TheVariants as constraint
 use Rattle.isle_core.specs.ArmPlaces.{AreParts, ArePlacesOf, bound_within}
-use Rattle.isle_core.specs.Calling.{kind_of, AnswersOnce}
+use Rattle.isle_core.specs.Calling.{kind_of}
 use Rattle.isle_core.specs.ConstraintType.{IsConstraintOf}
 use Rattle.isle_core.specs.Form.{form}
 use Rattle.isle_core.specs.HasType.{typed_fields}
-use Rattle.isle_core.specs.Path.{VariantField, StructField, Inner, at}
+use Rattle.isle_core.specs.Path.{VariantField, StructField, Inner, at, Chosen, Path}
 use Rattle.isle_core.specs.Block as block
 use Rattle.isle_core.specs.Block.{Block, Stop, Step, Control, Arm, NoArm}
 use Rattle.isle_core.specs.Bindable.{bound_by}
-use Rattle.isle_core.specs.PathType.{IsPathOf, IsTupleOf, IsOptionOf}
+use Rattle.isle_core.specs.PathType.{IsPathOf, IsTupleOf, IsOptionOf, IsListOf}
 use Rattle.isle_core.specs.Rule.{Environment}
 use Rattle.isle_core.specs.SingleArms.{HasSingleArms, IsSingle}
-use Rattle.isle_core.specs.Setting.{Setting, paths_in}
-use Rattle.isle_core.proofs.BindingPaths.{HasParts, at_before, path_at, typed_parts, option_parts, tuple_parts}
+use Rattle.isle_core.specs.Setting.{Setting, paths_in, gives_several}
+use Rattle.isle_core.proofs.BindingPaths.{HasParts, at_before, path_at, typed_parts, option_parts, list_parts, tuple_parts}
 use Rattle.isle_tree.specs.declared.holds.Holds.{Holds}
 use Rattle.isle_tree.specs.declared.holds.Holds.TheVariants as holds
 use Rattle.isle_tree.specs.declared.holds.Item.TheVariants as item
@@ -32,24 +32,27 @@ use Rattle.isle_tree.specs.declared.tree.Read.{Read}
 use Rattle.isle_tree.specs.declared.tree.Read.TheVariants as read
 use Rattle.isle_tree.specs.declared.tree.TBind.{TBind}
 use Rattle.isle_tree.specs.declared.tree.TPat.TheVariants as pattern
-use Rattle.isle_tree.specs.Program.{IfLet, Body, Done, Then}
-use Rattle.isle_tree.specs.WellFormed.{Locals, Callables, read_holds, is_value, inner_holds, expr_holds, GivesKind, ReadsPattern, field_locals, inner_locals, pattern_locals, IsBodyScoped}
+use Rattle.isle_tree.specs.Program.{IfLet, Body, Done, Then, Loop}
+use Rattle.isle_tree.specs.WellFormed.{Locals, Callables, read_holds, is_value, inner_holds, ReadsPattern, field_locals, inner_locals, pattern_locals, IsBodyScoped, each_holds, local_holds, after_let}
 use Rattle.isle_simulation.specs.Patterns.{bind_before, field_binds, leaves_out, pattern_named, some_pattern, pattern_of}
 use Rattle.isle_simulation.specs.References.{is_declared}
 use Rattle.isle_simulation.proofs.ArmsRun.{same_binds, IsForm, ArmPattern, arm_pattern}
 use Rattle.isle_simulation.proofs.Made.{over_value, over_option, some_made}
-use Rattle.isle_simulation.proofs.Ready.{IsReady, IsOptionReady, IsReadyFrom, IsReadyControl}
-use Rattle.isle_simulation.proofs.Written.{written_operand, written_read, written_pattern, block_body, control_stmt, returned}
+use Rattle.isle_simulation.proofs.Ready.{IsReady, IsOptionReady, IsReadyFrom, IsReadyControl, IsLoopReady}
+use Rattle.isle_simulation.proofs.Written.{written_operand, written_read, written_pattern, block_body, control_stmt, result_stmt, stop_before, written_list}
 use Rattle.isle_simulation.specs.TermFns.{callables_of}
 use Rattle.isle_simulation.proofs.CalledTerms.{HasCallees}
 use Rattle.isle_simulation.proofs.LetsScoped.{one_value, tested_holds, items, HoldsAs, LocalsHold, none_hold, more_hold, operand_one, operand_option, read_one, is_one, within_holds, lets_scoped}
+use Rattle.isle_simulation.specs.Statements.{looped_local, list_local}
+use Rattle.isle_simulation.proofs.PathTypes.{one_listed}
 
 -- ---- the places of arms
 
--- a path that is no tuple's and no option's
+-- a path that is no tuple's, no option's and no list's
 record IsNoOption (s : Setting) (b : BindingId) : Type 0 where
   tuple : (tys : List TypeId) → IsTupleOf s.env s.term (at (paths_in s) b) tys → ⊥
   option : (tys : List TypeId) → IsOptionOf s.env s.term (at (paths_in s) b) tys → ⊥
+  list : (tys : List TypeId) → IsListOf s.env s.term (at (paths_in s) b) tys → ⊥
 
 places_hold : (s : Setting) (part : ℕ → Binding) (i : ℕ) (fields : List (List ℕ × TypeId)) (places : List (Option BindingId)) (bound : List ℕ) (locals : Locals) (binds : List TBind) → ((j : ℕ) (b : BindingId) → slice_get s.bindings b.0 ≡ Some (part j) → IsNoOption s b)
     → field_binds s.env fields places ≡ Some binds → AreParts s part i places → LocalsHold s bound locals → LocalsHold s (bound_within bound places) (locals ++ field_locals binds)
@@ -58,7 +61,7 @@ places_hold s part i [] (p ∷ places) bound locals binds none e k l = cc
 places_hold s part i (f ∷ fields) (None ∷ places) bound locals binds none e k l = places_hold s part (suc i) fields places bound locals binds none e k.1 l
 places_hold s part i (f ∷ fields) (Some b ∷ places) bound locals binds none e k l =
     one (field_binds s.env fields places) refl e (λ rest r. places_hold s part (suc i) fields places (bound ++ b.0 ∷ []) (locals ++ (b.0, holds.One item.Value) ∷ []) rest none r k.1
-    (more_hold s bound locals b (holds.One item.Value) l (record { value = λ ty h. refl; tuple = λ tys h. absurd ((none i b k.0).tuple tys h); option = λ tys h. absurd ((none i b k.0).option tys h) })))
+    (more_hold s bound locals b (holds.One item.Value) l (record { value = λ ty h. refl; tuple = λ tys h. absurd ((none i b k.0).tuple tys h); option = λ tys h. absurd ((none i b k.0).option tys h); list = λ tys h. absurd ((none i b k.0).list tys h) })))
   where
     here : TBind
     here = record { field = f.0; by_ref = is_declared s.env f.1; local = b.0 }
@@ -74,7 +77,7 @@ places_hold s part i (f ∷ fields) (Some b ∷ places) bound locals binds none 
 
 -- a field is none
 variant_none : (s : Setting) (source : BindingId) (variant : _) (j : ℕ) (b : BindingId) → slice_get s.bindings b.0 ≡ Some (binding.MatchVariant source variant (record { 0 = j })) → IsNoOption s b
-variant_none s source variant j b e = record { tuple = λ tys h. none (subst (λ p. IsTupleOf s.env s.term p tys) path h); option = λ tys h. none (subst (λ p. IsOptionOf s.env s.term p tys) path h) }
+variant_none s source variant j b e = record { tuple = λ tys h. none (subst (λ p. IsTupleOf s.env s.term p tys) path h); option = λ tys h. none (subst (λ p. IsOptionOf s.env s.term p tys) path h); list = λ tys h. none (subst (λ p. IsListOf s.env s.term p tys) path h) }
   where
     path : at (paths_in s) b ≡ VariantField variant j (at (take b.0 (paths_in s)) source)
     path = at_before s.bindings b (binding.MatchVariant source variant (record { 0 = j })) e
@@ -83,7 +86,7 @@ variant_none s source variant j b e = record { tuple = λ tys h. none (subst (λ
     none x = x
 
 struct_none : (s : Setting) (source : BindingId) (j : ℕ) (b : BindingId) → slice_get s.bindings b.0 ≡ Some (binding.ExtractStruct source (record { 0 = j })) → IsNoOption s b
-struct_none s source j b e = record { tuple = λ tys h. none (subst (λ p. IsTupleOf s.env s.term p tys) path h); option = λ tys h. none (subst (λ p. IsOptionOf s.env s.term p tys) path h) }
+struct_none s source j b e = record { tuple = λ tys h. none (subst (λ p. IsTupleOf s.env s.term p tys) path h); option = λ tys h. none (subst (λ p. IsOptionOf s.env s.term p tys) path h); list = λ tys h. none (subst (λ p. IsListOf s.env s.term p tys) path h) }
   where
     path : at (paths_in s) b ≡ StructField j (at (take b.0 (paths_in s)) source)
     path = at_before s.bindings b (binding.ExtractStruct source (record { 0 = j })) e
@@ -112,6 +115,7 @@ some_hold s source tys (Some b ∷ []) bound locals local e of k l =
       value = λ ty h. (within (typed_parts s.env s.term (at (paths_in s) b) ty h)).value ty (subst (λ q. IsPathOf s.env s.term q ty) (path (typed_parts s.env s.term (at (paths_in s) b) ty h)) h);
       tuple = λ tys' h. (within (tuple_parts s.env s.term (at (paths_in s) b) tys' h)).tuple tys' (subst (λ q. IsTupleOf s.env s.term q tys') (path (tuple_parts s.env s.term (at (paths_in s) b) tys' h)) h);
       option = λ tys' h. (within (option_parts s.env s.term (at (paths_in s) b) tys' h)).option tys' (subst (λ q. IsOptionOf s.env s.term q tys') (path (option_parts s.env s.term (at (paths_in s) b) tys' h)) h);
+      list = λ tys' h. (within (list_parts s.env s.term (at (paths_in s) b) tys' h)).list tys' (subst (λ q. IsListOf s.env s.term q tys') (path (list_parts s.env s.term (at (paths_in s) b) tys' h)) h);
     }))
   where
     path : HasParts (at (paths_in s) b) → at (paths_in s) b ≡ Inner (at (paths_in s) source)
@@ -127,10 +131,57 @@ named_pattern env ty None more binds h k = (k, refl)
 
 -- ---- blocks
 
-returned_scoped : (kind : ReturnKind) → AnswersOnce kind → (r : Read) (fns : Callables) (params : ℕ) (locals : Locals) → read_holds params locals r ≡ one_value → GivesKind kind (expr_holds fns params locals (returned kind r))
-returned_scoped return_kind.Plain once r fns params locals e = rw e tt
-returned_scoped return_kind.Option once r fns params locals e = rw e tt
-returned_scoped return_kind.Iterator once r fns params locals e = absurd once
+result_scoped : (kind : ReturnKind) (r : Read) (fns : Callables) (params : ℕ) (locals : Locals) (ss : Body) → read_holds params locals r ≡ one_value → IsBodyScoped fns kind params locals ss → IsBodyScoped fns kind params locals (Then (result_stmt kind r) ss)
+result_scoped return_kind.Plain r fns params locals ss e h = (rw e tt, h)
+result_scoped return_kind.Option r fns params locals ss e h = (rw e tt, h)
+result_scoped return_kind.Iterator r fns params locals ss e h = (is_one _ e, h)
+
+stop_scoped : (several : Bool) (c : Control) (fns : Callables) (kind : ReturnKind) (params : ℕ) (locals : Locals) (after : Body) → IsBodyScoped fns kind params locals after → IsBodyScoped fns kind params locals (stop_before several c after)
+stop_scoped true (block.Return pos result) fns kind params locals after h = (tt, h)
+stop_scoped true (block.Match source arms) fns kind params locals after h = h
+stop_scoped true (block.Equal a b body) fns kind params locals after h = h
+stop_scoped true (block.Loop result body) fns kind params locals after h = h
+stop_scoped false c fns kind params locals after h = h
+
+-- an item of a list holds its results
+item_holds : (s : Setting) (p : Path) (tys : List TypeId) → IsListOf s.env s.term p tys → HoldsAs s.env s.term (Chosen p) (Some (holds.One (items s.env tys)))
+item_holds s p tys of = record {
+  value = λ ty h. ap (λ (xs : List TypeId). Some (holds.One (items s.env xs))) (one_listed s.env s.term p tys (ty ∷ []) of h);
+  tuple = λ tys' h. ap (λ (xs : List TypeId). Some (holds.One (items s.env xs))) (one_listed s.env s.term p tys tys' of h.1);
+  option = λ tys' h. absurd h;
+  list = λ tys' h. absurd h;
+}
+
+-- so that of a loop
+loop_holds : (s : Setting) (bound : List ℕ) (result : BindingId) (k : IsLoopReady s bound result) → HoldsAs s.env s.term (at (paths_in s) result) (Some (holds.One (items s.env k.tys)))
+loop_holds s bound result k = record {
+  value = λ ty h. let p = path (typed_parts s.env s.term (at (paths_in s) result) ty h) in here.value ty (subst (λ q. IsPathOf s.env s.term q ty) p h);
+  tuple = λ tys h. let p = path (tuple_parts s.env s.term (at (paths_in s) result) tys h) in here.tuple tys (subst (λ q. IsTupleOf s.env s.term q tys) p h);
+  option = λ tys h. let p = path (option_parts s.env s.term (at (paths_in s) result) tys h) in here.option tys (subst (λ q. IsOptionOf s.env s.term q tys) p h);
+  list = λ tys h. let p = path (list_parts s.env s.term (at (paths_in s) result) tys h) in here.list tys (subst (λ q. IsListOf s.env s.term q tys) p h);
+}
+  where
+    path : HasParts (at (paths_in s) result) → at (paths_in s) result ≡ Chosen (at (paths_in s) k.source)
+    path parts = path_at s.bindings result (binding.Iterator k.source) k.is parts
+
+    here : HoldsAs s.env s.term (Chosen (at (paths_in s) k.source)) (Some (holds.One (items s.env k.tys)))
+    here = item_holds s (at (paths_in s) k.source) k.tys k.list
+
+-- a loop over a list that is there
+loop_scoped : (s : Setting) (bound : List ℕ) (locals : Locals) (result : BindingId) (inside ss : Body) (k : IsLoopReady s bound result) → LocalsHold s bound locals
+    → ((after : Locals) → LocalsHold s (bound ++ result.0 ∷ []) after → IsBodyScoped (callables_of s.env) (kind_of s.term.kind) (length s.term.arg_tys) after inside)
+    → IsBodyScoped (callables_of s.env) (kind_of s.term.kind) (length s.term.arg_tys) locals ss
+    → IsBodyScoped (callables_of s.env) (kind_of s.term.kind) (length s.term.arg_tys) locals (Then (Loop (written_list (looped_local s result)) result.0 inside) ss)
+loop_scoped s bound locals result inside ss k l h rest =
+    let held : local_holds locals k.source.0 ≡ Some (holds.Several (items s.env k.tys)) = (l.by k.source k.bound').list k.tys k.list in
+    subst (λ o. IsBodyScoped (callables_of s.env) (kind_of s.term.kind) (length s.term.arg_tys) locals (Then (Loop (written_list (list_local o)) result.0 inside) ss)) (sym k.is) (
+      (
+        subst (λ x. IsSome (each_holds x)) (sym held) refl,
+        subst (λ x. IsBodyScoped (callables_of s.env) (kind_of s.term.kind) (length s.term.arg_tys) (after_let (each_holds x) result.0 locals) inside) (sym held)
+            (h (locals ++ (result.0, holds.One (items s.env k.tys)) ∷ []) (more_hold s bound locals result (holds.One (items s.env k.tys)) l (loop_holds s bound result k))),
+      ),
+      rest,
+    )
 
 -- the body of an arm that tests whether an option is something
 some_scoped : (s : Setting) (bound : List ℕ) (locals : Locals) (source : BindingId) (tys : List TypeId) (places : List (Option BindingId)) (inside ss : Body) → LocalsHold s bound locals → IsOptionReady s bound source tys → ArePlacesOf s source constraint.Some places
@@ -169,65 +220,68 @@ within_hold s bound places locals e l = subst (λ ps. LocalsHold s (bound_within
 
 mutual
   -- what a block reads, where what follows reads what is there whatever is bound
-  block_scoped : (b : Block) (s : Setting) (bound made : List ℕ) (locals : Locals) (end : Body) → HasCallees s.env → AnswersOnce (kind_of s.term.kind) → LocalsHold s bound locals → IsReadyFrom s bound made b → HasSingleArms b
+  block_scoped : (b : Block) (s : Setting) (bound made : List ℕ) (locals : Locals) (end : Body) → HasCallees s.env → LocalsHold s bound locals → IsReadyFrom s bound made b → HasSingleArms b
       → ((after : Locals) → IsBodyScoped (callables_of s.env) (kind_of s.term.kind) (length s.term.arg_tys) after end)
       → IsBodyScoped (callables_of s.env) (kind_of s.term.kind) (length s.term.arg_tys) locals (block_body s bound b end)
-  block_scoped Stop s bound made locals end names once l k o h = h locals
-  block_scoped (Step binds c more) s bound made locals end names once l k o h =
-      lets_scoped s bound locals binds (Then (control_stmt s (bound_by bound binds) c) (block_body s (bound_by bound binds) more end)) names l k.0
-      (λ after held. control_scoped c s (bound_by bound binds) _ after (block_body s (bound_by bound binds) more end) names once held k.2 o.0 (block_scoped more s (bound_by bound binds) _ after end names once held k.3 o.1 h))
+  block_scoped Stop s bound made locals end names l k o h = h locals
+  block_scoped (Step binds c more) s bound made locals end names l k o h =
+      let rest = block_body s (bound_by bound binds) more end in
+      lets_scoped s bound locals binds (Then (control_stmt s (bound_by bound binds) c) (stop_before (gives_several s) c rest)) names l k.0
+      (λ after held. control_scoped c s (bound_by bound binds) _ after (stop_before (gives_several s) c rest) names held k.2 o.0
+      (stop_scoped (gives_several s) c (callables_of s.env) (kind_of s.term.kind) (length s.term.arg_tys) after rest (block_scoped more s (bound_by bound binds) _ after end names held k.3 o.1 h)))
 
-  control_scoped : (c : Control) (s : Setting) (bound made : List ℕ) (locals : Locals) (ss : Body) → HasCallees s.env → AnswersOnce (kind_of s.term.kind) → LocalsHold s bound locals → IsReadyControl s bound made c → IsSingle c
+  control_scoped : (c : Control) (s : Setting) (bound made : List ℕ) (locals : Locals) (ss : Body) → HasCallees s.env → LocalsHold s bound locals → IsReadyControl s bound made c → IsSingle c
       → IsBodyScoped (callables_of s.env) (kind_of s.term.kind) (length s.term.arg_tys) locals ss → IsBodyScoped (callables_of s.env) (kind_of s.term.kind) (length s.term.arg_tys) locals (Then (control_stmt s bound c) ss)
-  control_scoped (block.Match source (Arm (constraint.ConstBool val) places body NoArm)) s bound made locals ss names once l k o h =
+  control_scoped (block.Match source (Arm (constraint.ConstBool val) places body NoArm)) s bound made locals ss names l k o h =
       let v = over_value s bound source (constraint.ConstBool val) k.1.0 (λ e. cc) k.1.1 k.1.2.0 in (
         (
           is_one _ (operand_one s bound locals source v.ty l v.ready),
           is_one _ (tested_holds s.env (constraint.ConstBool val) (length s.term.arg_tys) locals tt),
-          block_scoped body s (bound_within bound places) made locals Done names once (within_hold s bound places locals k.1.2.1 l) k.1.2.2 o (λ after. tt),
+          block_scoped body s (bound_within bound places) made locals Done names (within_hold s bound places locals k.1.2.1 l) k.1.2.2 o (λ after. tt),
         ),
         h,
       )
-  control_scoped (block.Match source (Arm (constraint.ConstInt val of) places body NoArm)) s bound made locals ss names once l k o h =
+  control_scoped (block.Match source (Arm (constraint.ConstInt val of) places body NoArm)) s bound made locals ss names l k o h =
       let v = over_value s bound source (constraint.ConstInt val of) k.1.0 (λ e. cc) k.1.1 k.1.2.0 in (
         (
           is_one _ (operand_one s bound locals source v.ty l v.ready),
           is_one _ (tested_holds s.env (constraint.ConstInt val of) (length s.term.arg_tys) locals tt),
-          block_scoped body s (bound_within bound places) made locals Done names once (within_hold s bound places locals k.1.2.1 l) k.1.2.2 o (λ after. tt),
+          block_scoped body s (bound_within bound places) made locals Done names (within_hold s bound places locals k.1.2.1 l) k.1.2.2 o (λ after. tt),
         ),
         h,
       )
-  control_scoped (block.Match source (Arm (constraint.ConstPrim val) places body NoArm)) s bound made locals ss names once l k o h =
+  control_scoped (block.Match source (Arm (constraint.ConstPrim val) places body NoArm)) s bound made locals ss names l k o h =
       let v = over_value s bound source (constraint.ConstPrim val) k.1.0 (λ e. cc) k.1.1 k.1.2.0 in (
         (
           is_one _ (operand_one s bound locals source v.ty l v.ready),
           is_one _ (tested_holds s.env (constraint.ConstPrim val) (length s.term.arg_tys) locals tt),
-          block_scoped body s (bound_within bound places) made locals Done names once (within_hold s bound places locals k.1.2.1 l) k.1.2.2 o (λ after. tt),
+          block_scoped body s (bound_within bound places) made locals Done names (within_hold s bound places locals k.1.2.1 l) k.1.2.2 o (λ after. tt),
         ),
         h,
       )
-  control_scoped (block.Match source (Arm (constraint.Variant of variant) places body NoArm)) s bound made locals ss names once l k o h =
+  control_scoped (block.Match source (Arm (constraint.Variant of variant) places body NoArm)) s bound made locals ss names l k o h =
       let v = over_value s bound source (constraint.Variant of variant) k.1.0 (λ e. cc) k.1.1 k.1.2.0 in
       form_scoped s bound locals source v.ty (constraint.Variant of variant) places (block_body s (bound_within bound places) body Done) ss l v.ready v.is k.1.2.1 tt
-      (λ after held. block_scoped body s (bound_within bound places) made after Done names once held k.1.2.2 o (λ last. tt)) h
-  control_scoped (block.Match source (Arm (constraint.Struct of) places body NoArm)) s bound made locals ss names once l k o h =
+      (λ after held. block_scoped body s (bound_within bound places) made after Done names held k.1.2.2 o (λ last. tt)) h
+  control_scoped (block.Match source (Arm (constraint.Struct of) places body NoArm)) s bound made locals ss names l k o h =
       let v = over_value s bound source (constraint.Struct of) k.1.0 (λ e. cc) k.1.1 k.1.2.0 in
       form_scoped s bound locals source v.ty (constraint.Struct of) places (block_body s (bound_within bound places) body Done) ss l v.ready v.is k.1.2.1 tt
-      (λ after held. block_scoped body s (bound_within bound places) made after Done names once held k.1.2.2 o (λ last. tt)) h
-  control_scoped (block.Match source (Arm constraint.Some places body NoArm)) s bound made locals ss names once l k o h =
+      (λ after held. block_scoped body s (bound_within bound places) made after Done names held k.1.2.2 o (λ last. tt)) h
+  control_scoped (block.Match source (Arm constraint.Some places body NoArm)) s bound made locals ss names l k o h =
       let v = over_option s bound source k.1.0 k.1.1 k.1.2.0 in
       some_scoped s bound locals source v.0 places (block_body s (bound_within bound places) body Done) ss l v.1 k.1.2.1
-      (λ after held. block_scoped body s (bound_within bound places) made after Done names once held k.1.2.2 o (λ last. tt)) h
-  control_scoped (block.Match source (Arm c places body (Arm d others inside arms))) s bound made locals ss names once l k o h = absurd o
-  control_scoped (block.Match source NoArm) s bound made locals ss names once l k o h = absurd o
-  control_scoped (block.Equal x y body) s bound made locals ss names once l k o h =
-      ((is_one _ (operand_one s bound locals x k.0.0 l k.0.1), is_one _ (operand_one s bound locals y k.0.0 l k.0.2), block_scoped body s bound made locals Done names once l k.1 o (λ after. tt)), h)
-  control_scoped (block.Loop result body) s bound made locals ss names once l k o h = absurd k
-  control_scoped (block.Return pos result) s bound made locals ss names once l k o h =
-      (returned_scoped (kind_of s.term.kind) once (written_read s bound false result) (callables_of s.env) (length s.term.arg_tys) locals (read_one s bound locals false result s.term.ret_ty l k), h)
+      (λ after held. block_scoped body s (bound_within bound places) made after Done names held k.1.2.2 o (λ last. tt)) h
+  control_scoped (block.Match source (Arm c places body (Arm d others inside arms))) s bound made locals ss names l k o h = absurd o
+  control_scoped (block.Match source NoArm) s bound made locals ss names l k o h = absurd o
+  control_scoped (block.Equal x y body) s bound made locals ss names l k o h =
+      ((is_one _ (operand_one s bound locals x k.0.0 l k.0.1), is_one _ (operand_one s bound locals y k.0.0 l k.0.2), block_scoped body s bound made locals Done names l k.1 o (λ after. tt)), h)
+  control_scoped (block.Loop result body) s bound made locals ss names l k o h =
+      loop_scoped s bound locals result (block_body s (bound ++ result.0 ∷ []) body Done) ss k.0 l (λ after held. block_scoped body s (bound ++ result.0 ∷ []) made after Done names held k.1 o (λ last. tt)) h
+  control_scoped (block.Return pos result) s bound made locals ss names l k o h =
+      result_scoped (kind_of s.term.kind) (written_read s bound false result) (callables_of s.env) (length s.term.arg_tys) locals ss (read_one s bound locals false result s.term.ret_ty l k) h
 
 -- what the block of a function reads
-pub root_scoped : (b : Block) (s : Setting) (end : Body) → HasCallees s.env → AnswersOnce (kind_of s.term.kind) → IsReadyFrom s [] [] b → HasSingleArms b
+pub root_scoped : (b : Block) (s : Setting) (end : Body) → HasCallees s.env → IsReadyFrom s [] [] b → HasSingleArms b
     → ((after : Locals) → IsBodyScoped (callables_of s.env) (kind_of s.term.kind) (length s.term.arg_tys) after end)
     → IsBodyScoped (callables_of s.env) (kind_of s.term.kind) (length s.term.arg_tys) [] (block_body s [] b end)
-root_scoped b s end names once k o h = block_scoped b s [] [] [] end names once (none_hold s) k o h
+root_scoped b s end names k o h = block_scoped b s [] [] [] end names (none_hold s) k o h

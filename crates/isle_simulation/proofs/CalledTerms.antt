@@ -39,11 +39,11 @@ abbrev IsCalledTerm : Environment → Term → ReturnKind → Calling → Type 0
 IsCalledTerm env t of c = IsExternalTerm env t of c ⊎ IsRuledTerm env t of c
 
 by_kind : (env : Environment) (t : Term) (k : TermKind) (of : ReturnKind) → t.kind ≡ k → IsCall of (calling_by (kind_of k) (impure_callee env t k) (pure_callee env t k)) → IsCalledTerm env t of (calling_by (kind_of k) (impure_callee env t k) (pure_callee env t k))
-by_kind env t (kind.Decl false multi p recursive (constructor.External func) extractor) of e h = inl (record { func = func; fn = ap (λ x. option_map (constructor_fn env t) (func_of x)) e; callee = refl; answers = ap kind_of e ∙ h.0 })
-by_kind env t (kind.Decl false multi p recursive constructor.Internal extractor) of e h = inr (record { ruled = subst IsRuled (sym e) tt; callee = refl; answers = ap kind_of e ∙ h.0 })
+by_kind env t (kind.Decl false multi p recursive (constructor.External func) extractor) of e h = inl (record { func = func; fn = ap (λ x. option_map (constructor_fn env t) (func_of x)) e; callee = refl; answers = ap kind_of e ∙ h })
+by_kind env t (kind.Decl false multi p recursive constructor.Internal extractor) of e h = inr (record { ruled = subst IsRuled (sym e) tt; callee = refl; answers = ap kind_of e ∙ h })
 by_kind env t (kind.Decl false multi p recursive constructor.Absent extractor) of e h = absurd h
-by_kind env t (kind.Decl true multi p recursive (constructor.External func) extractor) of e h = inl (record { func = func; fn = ap (λ x. option_map (constructor_fn env t) (func_of x)) e; callee = refl; answers = ap kind_of e ∙ h.0 })
-by_kind env t (kind.Decl true multi p recursive constructor.Internal extractor) of e h = inr (record { ruled = subst IsRuled (sym e) tt; callee = refl; answers = ap kind_of e ∙ h.0 })
+by_kind env t (kind.Decl true multi p recursive (constructor.External func) extractor) of e h = inl (record { func = func; fn = ap (λ x. option_map (constructor_fn env t) (func_of x)) e; callee = refl; answers = ap kind_of e ∙ h })
+by_kind env t (kind.Decl true multi p recursive constructor.Internal extractor) of e h = inr (record { ruled = subst IsRuled (sym e) tt; callee = refl; answers = ap kind_of e ∙ h })
 by_kind env t (kind.Decl true multi p recursive constructor.Absent extractor) of e h = absurd h
 by_kind env t (kind.Variant ty variant) of e h = absurd h
 by_kind env t (kind.Struct ty) of e h = absurd h

@@ -18,12 +18,12 @@ use Rattle.isle_core.specs.Occurrences.{AreNew, occurrences, after_control}
 use Rattle.isle_core.specs.Path.{Path, Paths, Nowhere, MadeVariant, MadeStruct, at, at_all}
 use Rattle.isle_core.specs.PathType.{IsPathOf, ArePathsOf}
 use Rattle.isle_core.specs.Readable.{IsReadable, is_bound as bound_read, argument, truth, number, named, made_variant, made_struct, AreReadable, none_read, one_read, AreReadAs}
-use Rattle.isle_core.specs.Setting.{Setting, paths_in}
+use Rattle.isle_core.specs.Setting.{Setting, gives_several, paths_in}
 use Rattle.isle_core.proofs.BindingPaths.{IsThere, AreThere, HasParts, at_before, path_at, binding_at, paths_there, typed_parts}
 use Rattle.isle_simulation.specs.Completed.{local_parts, each_needed, with_parts, needed, needs, read_for, read_by, with_needs, completed_binds, step_binds, completed, completed_control, completed_arms}
 use Rattle.isle_simulation.specs.Operands.{is_bound}
 use Rattle.isle_simulation.proofs.BoundTests.{found}
-use Rattle.isle_simulation.proofs.CompletedRuns.{HasLocal, needed_local, needs_local, step_occurrences, after_control_same, Adds, adds_none, bound_push, adds_more, bound_by-append, adds_with, adds_binds, adds_step, adds_within}
+use Rattle.isle_simulation.proofs.CompletedRuns.{HasLocal, needed_local, needs_local, step_occurrences, after_control_same, Adds, adds_none, bound_push, adds_both, adds_more, bound_by-append, adds_with, adds_binds, adds_step, adds_within}
 use Rattle.isle_simulation.proofs.Ready.{IsSpelled, IsReadyIn, AreReady, IsMadeReady, IsReadyBind, AreReadyBinds, IsReadyFrom, IsReadyControl, AreReadyArms}
 
 -- ---- bind orders behind one another
@@ -36,7 +36,7 @@ still_bound : (xs : List BindingId) (bound : List ℕ) (b : BindingId) → is_bo
 still_bound [] bound b e = e
 still_bound (x ∷ xs) bound b e = still_bound xs (bound ++ x.0 ∷ []) b (bound_push bound x b ∙ ap (λ y. y || eqb x.0 b.0) e)
 
-last_bound : (bound : List ℕ) (b : BindingId) → is_bound (bound ++ b.0 ∷ []) b ≡ true
+pub last_bound : (bound : List ℕ) (b : BindingId) → is_bound (bound ++ b.0 ∷ []) b ≡ true
 last_bound bound b = bound_push bound b b ∙ ap (λ y. is_bound bound b || y) (eq-eqb b.0 b.0 refl) ∙ or_true (is_bound bound b)
   where
     or_true : (x : Bool) → (x || true) ≡ true
@@ -279,13 +279,13 @@ mutual
       let ns = needs s middle (read_by c) in
       let inner = bound_by more bs in
       let same : occurrences s.env (paths_in s) binds ≡ occurrences s.env (paths_in s) bs = sym (step_occurrences s binds c more) in
-      let after : after_control s.env (paths_in s) (made ++ occurrences s.env (paths_in s) binds) c ≡ after_control s.env (paths_in s) (made ++ occurrences s.env (paths_in s) bs) (completed_control s inner c) =
-      ap (λ ks. after_control s.env (paths_in s) (made ++ ks) c) same ∙ sym (after_control_same s c inner (made ++ occurrences s.env (paths_in s) bs)) in
+      let after : after_control (gives_several s) s.env (paths_in s) (made ++ occurrences s.env (paths_in s) binds) c ≡ after_control (gives_several s) s.env (paths_in s) (made ++ occurrences s.env (paths_in s) bs) (completed_control s inner c) =
+      ap (λ ks. after_control (gives_several s) s.env (paths_in s) (made ++ ks) c) same ∙ sym (after_control_same s c inner (made ++ occurrences s.env (paths_in s) bs)) in
       let step = control_ready c rest s (bound_by bound binds) middle (made ++ occurrences s.env (paths_in s) binds) (adds_binds s binds bound more a) k.2 in (
         ready_append s xs ns more (binds_ready s binds bound more a k.0) step.0,
         subst (AreNew made) same k.1,
         subst (λ m. IsReadyControl s m (made ++ occurrences s.env (paths_in s) bs) (completed_control s m c)) (sym (bound_by-append xs ns more)) (subst (λ ks. IsReadyControl s (bound_by middle ns) (made ++ ks) (completed_control s (bound_by middle ns) c)) same step.1),
-        subst (λ ks. IsReadyFrom s inner ks (completed s inner rest)) after (block_ready rest s (bound_by bound binds) inner (after_control s.env (paths_in s) (made ++ occurrences s.env (paths_in s) binds) c) (adds_step s binds c bound more a) k.3),
+        subst (λ ks. IsReadyFrom s inner ks (completed s inner rest)) after (block_ready rest s (bound_by bound binds) inner (after_control (gives_several s) s.env (paths_in s) (made ++ occurrences s.env (paths_in s) binds) c) (adds_step s binds c bound more a) k.3),
       )
 
   control_ready : (c : Control) (rest : Block) (s : Setting) (bound more made : List ℕ) → Adds s bound more → IsLawfulControl s bound made c rest
@@ -298,7 +298,13 @@ mutual
       let h = read_ready s bound more (x ∷ y ∷ []) (k.0.0 ∷ k.0.0 ∷ []) a (k.0.1, (k.0.2, tt)) in
       let ns = needs s more (x ∷ y ∷ []) in
       (h.binds, ((k.0.0, h.ready.0, h.ready.1.0), block_ready body s bound (bound_by more ns) made (adds_more s ns bound more (needs_local s more (x ∷ y ∷ [])) a) k.1))
-  control_ready (Loop result body) rest s bound more made a k = absurd k
+  control_ready (Loop result body) rest s bound more made a k = (
+    tt,
+    (
+      record { several = k.0; source = k.1.source; is = k.1.is; tys = k.1.tys; list = k.1.list; bound' = a.keeps k.1.source (found bound k.1.source.0 k.1.bound') },
+      block_ready body s (bound ++ result.0 ∷ []) (more ++ result.0 ∷ []) made (adds_both s bound more result a) k.2,
+    ),
+  )
   control_ready (Return pos result) rest s bound more made a k =
       let h = read_ready s bound more (result ∷ []) (s.term.ret_ty ∷ []) a (k.0, tt) in
       (h.binds, h.ready.0)
@@ -314,4 +320,4 @@ mutual
 
 -- a lawful block, completed from where nothing is bound
 pub completed_ready : (s : Setting) (b : Block) → IsLawfulBlock s b → IsReadyFrom s [] [] (completed s [] b)
-completed_ready s b h = block_ready b s [] [] [] (adds_none s []) h
+completed_ready s b h = block_ready b s [] [] [] (adds_none s []) h.from

@@ -16,7 +16,7 @@ use Rattle.isle_core.specs.Meaning.{Meaning}
 use Rattle.isle_core.specs.Occurrences.{occurrence_at, occurrences, after_block, after_control, after_arms}
 use Rattle.isle_core.specs.Path.{Path, MadeVariant, MadeStruct, NoPath, APath, at}
 use Rattle.isle_core.specs.Rule.{Environment}
-use Rattle.isle_core.specs.Setting.{Setting, paths_in}
+use Rattle.isle_core.specs.Setting.{Setting, gives_several, paths_in}
 use Rattle.isle_core.specs.SingleArms.{HasSingleArms, IsSingle}
 use Rattle.isle_core.specs.Value.{Value, Made}
 use Rattle.isle_core.specs.ValueAt.{Held, Known, value_at, meets, equal_held}
@@ -117,7 +117,7 @@ module _ (s : Setting) (m : Meaning) (args : List Value) where
       ∙ before_still ns (b ∷ rest) known made (needs_local s bound (read_for (slice_get s.bindings b.0)))
       ∙ then_same (bind_one s.env m args (at (paths_in s) b) known made) _ (bind_all s.env m args (paths_in s) rest) (bind_all s.env m args (paths_in s) bs) refl (λ known' made'. completed_binds_run bs (bound_by bound (with_needs s bound b)) known' made')
 
-  step_binds_run : (bs : List BindingId) (c : Control) (bound : List ℕ) (known : Known) (made : List Made) → bind_all s.env m args (paths_in s) (step_binds s bound bs c) known made ≡ bind_all s.env m args (paths_in s) bs known made
+  pub step_binds_run : (bs : List BindingId) (c : Control) (bound : List ℕ) (known : Known) (made : List Made) → bind_all s.env m args (paths_in s) (step_binds s bound bs c) known made ≡ bind_all s.env m args (paths_in s) bs known made
   step_binds_run bs c bound known made =
       behind_still (completed_binds s bound bs) (needs s (bound_by bound (completed_binds s bound bs)) (read_by c)) known made (needs_local s (bound_by bound (completed_binds s bound bs)) (read_by c)) ∙ completed_binds_run bs bound known made
 
@@ -162,7 +162,7 @@ mutual
   control_single s bound (Match source (Arm c places body (Arm d others inside arms))) h = absurd h
   control_single s bound (Match source NoArm) h = absurd h
   control_single s bound (Equal a b body) h = completed_single s bound body h
-  control_single s bound (Loop result body) h = h
+  control_single s bound (Loop result body) h = completed_single s (bound ++ result.0 ∷ []) body h
   control_single s bound (Return pos result) h = tt
 
 -- ---- occurrences
@@ -190,24 +190,24 @@ step_occurrences s bs c bound =
     behind_uncalled s (completed_binds s bound bs) (needs s (bound_by bound (completed_binds s bound bs)) (read_by c)) (needs_local s (bound_by bound (completed_binds s bound bs)) (read_by c)) ∙ completed_occurrences s bs bound
 
 mutual
-  after_block_same : (s : Setting) (b : Block) (bound made : List ℕ) → after_block s.env (paths_in s) made (completed s bound b) ≡ after_block s.env (paths_in s) made b
+  after_block_same : (s : Setting) (b : Block) (bound made : List ℕ) → after_block (gives_several s) s.env (paths_in s) made (completed s bound b) ≡ after_block (gives_several s) s.env (paths_in s) made b
   after_block_same s Stop bound made = refl
   after_block_same s (Step bs c more) bound made =
       let inner = bound_by bound (step_binds s bound bs c) in
-      after_block_same s more inner (after_control s.env (paths_in s) (made ++ occurrences s.env (paths_in s) (step_binds s bound bs c)) (completed_control s inner c))
-      ∙ ap (λ ks. after_block s.env (paths_in s) ks more) (after_control_same s c inner (made ++ occurrences s.env (paths_in s) (step_binds s bound bs c)) ∙ ap (λ ks. after_control s.env (paths_in s) (made ++ ks) c) (step_occurrences s bs c bound))
+      after_block_same s more inner (after_control (gives_several s) s.env (paths_in s) (made ++ occurrences s.env (paths_in s) (step_binds s bound bs c)) (completed_control s inner c))
+      ∙ ap (λ ks. after_block (gives_several s) s.env (paths_in s) ks more) (after_control_same s c inner (made ++ occurrences s.env (paths_in s) (step_binds s bound bs c)) ∙ ap (λ ks. after_control (gives_several s) s.env (paths_in s) (made ++ ks) c) (step_occurrences s bs c bound))
 
   -- the same calls may have been bound behind a step
-  pub after_control_same : (s : Setting) (c : Control) (bound made : List ℕ) → after_control s.env (paths_in s) made (completed_control s bound c) ≡ after_control s.env (paths_in s) made c
+  pub after_control_same : (s : Setting) (c : Control) (bound made : List ℕ) → after_control (gives_several s) s.env (paths_in s) made (completed_control s bound c) ≡ after_control (gives_several s) s.env (paths_in s) made c
   after_control_same s (Match source arms) bound made = ap (λ ks. made ++ ks) (after_arms_same s arms bound made)
   after_control_same s (Equal a b body) bound made = ap (λ ks. made ++ ks) (after_block_same s body bound made)
-  after_control_same s (Loop result body) bound made = refl
+  after_control_same s (Loop result body) bound made = ap (λ ks. made ++ ks) (after_block_same s body (bound ++ result.0 ∷ []) made)
   after_control_same s (Return pos result) bound made = refl
 
-  after_arms_same : (s : Setting) (arms : Arms) (bound made : List ℕ) → after_arms s.env (paths_in s) made (completed_arms s bound arms) ≡ after_arms s.env (paths_in s) made arms
+  after_arms_same : (s : Setting) (arms : Arms) (bound made : List ℕ) → after_arms (gives_several s) s.env (paths_in s) made (completed_arms s bound arms) ≡ after_arms (gives_several s) s.env (paths_in s) made arms
   after_arms_same s NoArm bound made = refl
   after_arms_same s (Arm c places body arms) bound made =
-      ap (λ ks. ks ++ after_arms s.env (paths_in s) made (completed_arms s bound arms)) (after_block_same s body (bound_within bound places) made) ∙ ap (λ ks. after_block s.env (paths_in s) made body ++ ks) (after_arms_same s arms bound made)
+      ap (λ ks. ks ++ after_arms (gives_several s) s.env (paths_in s) made (completed_arms s bound arms)) (after_block_same s body (bound_within bound places) made) ∙ ap (λ ks. after_block (gives_several s) s.env (paths_in s) made body ++ ks) (after_arms_same s arms bound made)
 
 -- ---- what is bound more
 

@@ -1,5 +1,5 @@
 -- What holds of the function that a lawful block of a term gives.
-use Rattle.std.proofs.Common.{◌≡◌, List, Bool, Some, sym, subst, ◌∙◌}
+use Rattle.std.proofs.Common.{◌≡◌, List, Bool, true, Some, sym, subst, ◌∙◌}
 use Rattle.std.specs.Prelude.{Contains}
 use Rattle.isle_core.specs.declared.files.Files.{Files}
 use Rattle.isle_core.specs.declared.rule_sets.Binding.{Binding}
@@ -7,16 +7,17 @@ use Rattle.isle_core.specs.declared.types.Term.{Term}
 use Rattle.isle_core.specs.declared.values.Callee.{Callee}
 use Rattle.isle_core.specs.Block.{Block}
 use Rattle.isle_core.specs.BlockLawful.{IsLawfulBlock}
-use Rattle.isle_core.specs.Calling.{kind_of, AnswersOnce}
+use Rattle.isle_core.specs.Calling.{kind_of, is_several, AnswersOnce}
 use Rattle.isle_core.specs.Rule.{Environment}
 use Rattle.isle_core.specs.Setting.{setting}
 use Rattle.isle_core.specs.SingleArms.{HasSingleArms}
 use Rattle.isle_tree.specs.Calls.{body_calls}
 use Rattle.isle_tree.specs.Program.{Function, Program}
 use Rattle.isle_tree.specs.WellFormed.{callables, IsFunction}
-use Rattle.isle_simulation.specs.Emitted.{IsEmittable, RunsAsBlock}
+use Rattle.isle_simulation.specs.Emitted.{IsEmittable, RunsAsBlock, RunsAsSeveral}
 use Rattle.isle_simulation.specs.OfTerm.{IsOfTerm}
 use Rattle.isle_simulation.specs.RustNames.{HasRustNames}
+use Rattle.isle_core.specs.NewItems.{HasNewItems}
 use Rattle.isle_simulation.specs.Shape.{HasShape}
 use Rattle.isle_simulation.specs.LogLines.{lines_of}
 use Rattle.isle_simulation.specs.TermFunction.{term_function, log_lines}
@@ -27,15 +28,16 @@ use Rattle.isle_simulation.proofs.FunctionsApart.{pure_extractors, pure_construc
 use Rattle.isle_simulation.proofs.LoggedLines.{told_is, written_lines}
 use Rattle.isle_simulation.proofs.Made.{function_made}
 use Rattle.isle_simulation.proofs.Shapes.{written_shape}
+use Rattle.isle_simulation.proofs.SeveralSimulation.{written_several}
 use Rattle.isle_simulation.proofs.Simulation.{written_runs}
 use Rattle.isle_simulation.proofs.Tails.{written_of_term}
 use Rattle.isle_simulation.proofs.WellFormedFunctions.{written_well_formed}
 use Rattle.isle_simulation.proofs.Written.{logged_function, function_of}
 
-module _ (logging : Bool) (files : Files) (env : Environment) (t : Term) (bs : List Binding) (b : Block) (f : Function) (lawful : IsLawfulBlock (setting env t bs) b) (single : HasSingleArms b) (once : AnswersOnce (kind_of t.kind)) (given : term_function logging files (setting env t bs) b ≡ Some f) where
+module _ (logging : Bool) (files : Files) (env : Environment) (t : Term) (bs : List Binding) (b : Block) (f : Function) (lawful : IsLawfulBlock (setting env t bs) b) (single : HasSingleArms b) (given : term_function logging files (setting env t bs) b ≡ Some f) where
   -- it is the written one
   given_is : logged_function logging files env t bs b ≡ f
-  given_is = sym (told_is logging files env t bs b lawful single) ∙ some_one (function_of logging files env t bs b) f (sym (function_made logging files env t bs b once lawful single) ∙ given)
+  given_is = sym (told_is logging files env t bs b lawful single) ∙ some_one (function_of logging files env t bs b) f (sym (function_made logging files env t bs b lawful single) ∙ given)
     where
       some_one : (g h : Function) → Some g ≡ Some h → g ≡ h
       some_one g h e = cc
@@ -44,10 +46,13 @@ module _ (logging : Bool) (files : Files) (env : Environment) (t : Term) (bs : L
   emitted_well_formed h names fns terms p same = subst (IsFunction p) given_is (written_well_formed logging files env t bs b h names lawful single (record { fns = fns; terms = terms }) p same)
 
   pub has_shape : HasShape (setting env t bs) f.body b
-  has_shape = subst (λ (g : Function). HasShape (setting env t bs) g.body b) given_is (written_shape logging files env t bs b once lawful single)
+  has_shape = subst (λ (g : Function). HasShape (setting env t bs) g.body b) given_is (written_shape logging files env t bs b lawful single)
 
-  pub runs_as_block : HasRustNames env → HasFnNames env → HasTermFns env → RunsAsBlock env t bs b f
-  runs_as_block names fns terms = subst (RunsAsBlock env t bs b) given_is (written_runs logging files env t bs b once names (pure_extractors env bs fns) (pure_constructors env fns terms) lawful single)
+  pub runs_as_block : AnswersOnce (kind_of t.kind) → HasRustNames env → HasFnNames env → HasTermFns env → RunsAsBlock env t bs b f
+  runs_as_block once names fns terms = subst (RunsAsBlock env t bs b) given_is (written_runs logging files env t bs b once names (pure_extractors env bs fns) (pure_constructors env fns terms) lawful single)
+
+  pub runs_as_several : is_several (kind_of t.kind) ≡ true → HasNewItems (setting env t bs) b → HasRustNames env → HasFnNames env → HasTermFns env → RunsAsSeveral env t bs b f
+  runs_as_several several new names fns terms = subst (RunsAsSeveral env t bs b) given_is (written_several logging files env t bs b several names (pure_extractors env bs fns) (pure_constructors env fns terms) lawful single new)
 
   pub of_its_term : IsOfTerm files env t f
   of_its_term = subst (IsOfTerm files env t) given_is (written_of_term logging files env t bs b lawful single)

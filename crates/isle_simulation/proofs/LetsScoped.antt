@@ -16,7 +16,7 @@ use Rattle.isle_core.specs.declared.rule_sets.Binding.TheVariants as binding
 use Rattle.isle_core.specs.declared.rule_sets.Constraint.{Constraint}
 use Rattle.isle_core.specs.declared.rule_sets.Constraint.TheVariants as constraint
 use Rattle.isle_core.specs.declared.types.Term.{Term}
-use Rattle.isle_core.specs.Calling.{Calling, ByTurns, ByCases, NoCall, calling, extracting, kind_of, AnswersOnce}
+use Rattle.isle_core.specs.Calling.{Calling, ByTurns, ByCases, NoCall, calling, extracting, kind_of, answers_often, is_several}
 use Rattle.isle_core.specs.Constants.{int_value}
 use Rattle.isle_core.specs.Form.{Form, form}
 use Rattle.isle_core.specs.HasType.{typed_fields}
@@ -24,7 +24,7 @@ use Rattle.isle_core.specs.Making.{Making, MakesVariant, MakesStruct}
 use Rattle.isle_core.specs.Path.{Path, Paths, Arg, ConstBool, ConstInt, ConstPrim, Extracted, Called, MadeStruct, Inner, NoPath, APath, at, at_all}
 use Rattle.isle_core.specs.Bindable.{IsPlain, bound_by}
 use Rattle.isle_core.specs.ExternalCall.{IsCall, IsExtraction}
-use Rattle.isle_core.specs.PathType.{AreTuple, IsPathOf, IsTupleOf, IsOptionOf, ArePathsOf}
+use Rattle.isle_core.specs.PathType.{AreTuple, IsPathOf, IsTupleOf, IsOptionOf, IsListOf, ArePathsOf}
 use Rattle.isle_core.specs.Rule.{Environment}
 use Rattle.isle_core.specs.Setting.{Setting, paths_in}
 use Rattle.isle_core.specs.Terms.{sym_text}
@@ -37,12 +37,13 @@ use Rattle.isle_tree.specs.declared.tree.Operand.{Operand}
 use Rattle.isle_tree.specs.declared.tree.Operand.TheVariants as operand
 use Rattle.isle_tree.specs.declared.tree.Read.{Read}
 use Rattle.isle_tree.specs.declared.tree.TExpr.TheVariants as expr
-use Rattle.isle_tree.specs.Program.{Body}
-use Rattle.isle_tree.specs.WellFormed.{Locals, Callables, newer, local_holds, operand_holds, read_holds, is_value, are_values, results_item, kind_holds, once_holds, call_holds, part_holds, callee_holds, inner_holds, are_field_values, made_holds, expr_holds, after_let, IsBodyScoped}
+use Rattle.isle_tree.specs.Program.{Body, Stmt, Let, LetList}
+use Rattle.isle_tree.specs.WellFormed.{Locals, Callables, newer, local_holds, operand_holds, read_holds, is_value, are_values, results_item, kind_holds, once_holds, call_holds, part_holds, callee_holds, inner_holds, are_field_values, made_holds, expr_holds, after_let, IsBodyScoped, called_holds, list_holds, bound_after, IsStmtScoped}
 use Rattle.isle_simulation.specs.Operands.{constant, in_place, is_bound}
 use Rattle.isle_simulation.specs.References.{is_declared, result_type, is_reference_in, read_as}
-use Rattle.isle_simulation.specs.Statements.{made_named}
-use Rattle.isle_simulation.proofs.OneBind.{no_option, no_tuple, results_are, spelled}
+use Rattle.isle_simulation.specs.Statements.{made_named, local_stmt, binds_list, is_list}
+use Rattle.isle_simulation.proofs.HeldAnswers.{results_are}
+use Rattle.isle_simulation.proofs.OneBind.{no_option, no_tuple, spelled, no_list}
 use Rattle.isle_simulation.proofs.BoundTests.{found}
 use Rattle.isle_simulation.proofs.CompletedRuns.{bound_push}
 use Rattle.isle_simulation.proofs.ExternalTerms.{external_extractor, extractor_found}
@@ -53,6 +54,10 @@ use Rattle.isle_simulation.proofs.Written.{written, written_operand, written_rea
 use Rattle.isle_simulation.specs.TermFns.{callables_of}
 use Rattle.isle_simulation.specs.TypeTexts.{type_text}
 use Rattle.isle_simulation.proofs.CalledTerms.{HasCallees, callee_answers}
+use Rattle.isle_tree.specs.declared.tree.TExpr.TheVariants.{Call}
+use Rattle.isle_tree.specs.declared.tree.TExpr.{TExpr}
+use Rattle.isle_simulation.proofs.LocalStmts.{local_by}
+use Rattle.isle_tree.specs.declared.tree.TCall.{TCall}
 
 -- ---- operands
 
@@ -92,11 +97,12 @@ tested_holds env c params locals h = absurd h
 abbrev pub items : Environment → List TypeId → Item
 items env tys = results_item (map (type_text env) tys)
 
--- a value where a path is of a type, a tuple where it is one, and an option where it is an option's
+-- a value where a path is of a type, a tuple where it is one, an option where it is an option's, and a list where it is a list's
 pub record HoldsAs (env : Environment) (t : Term) (p : Path) (o : Option Holds) : Type 0 where
   pub value : (ty : TypeId) → IsPathOf env t p ty → o ≡ one_value
   pub tuple : (tys : List TypeId) → IsTupleOf env t p tys → o ≡ Some (holds.One (items env tys))
   pub option : (tys : List TypeId) → IsOptionOf env t p tys → o ≡ Some (holds.Optional (items env tys))
+  pub list : (tys : List TypeId) → IsListOf env t p tys → o ≡ Some (holds.Several (items env tys))
 
 -- each that is bound holds what its path is
 pub record LocalsHold (s : Setting) (bound : List ℕ) (locals : Locals) : Type 0 where
@@ -162,39 +168,29 @@ fields_hold s bound locals [] (b ∷ more) l h = absurd h
 
 -- ---- lets
 
+-- what a statement binds
+abbrev stmt_holds : Callables → ℕ → Locals → Stmt → Option Holds
+stmt_holds fns params locals (Let n e) = expr_holds fns params locals e
+stmt_holds fns params locals (LetList n call) = list_holds (called_holds fns params locals call)
+stmt_holds fns params locals other = None
+
 -- what a let computes holds this, which is what the path is
 record LetHolds (s : Setting) (bound : List ℕ) (locals : Locals) (b : BindingId) (o : Option Binding) : Type 0 where
   h : Holds
-  is : expr_holds (callables_of s.env) (length s.term.arg_tys) locals (bound_expr s bound b o) ≡ Some h
+  is : stmt_holds (callables_of s.env) (length s.term.arg_tys) locals (local_stmt (is_list s.env o) b.0 (bound_expr s bound b o)) ≡ Some h
   kept : HoldsAs s.env s.term (at (paths_in s) b) (Some h)
 
 plain_let : (s : Setting) (bound : List ℕ) (locals : Locals) (b : BindingId) → IsPlain s.env s.term (at (paths_in s) b)
     → (operand_holds (length s.term.arg_tys) locals (written_place s b) ≡ one_value) × HoldsAs s.env s.term (at (paths_in s) b) one_value
 plain_let s bound locals b k = (
   place_holds s.env s.term b.0 (at (paths_in s) b) k.1.0 locals k.1.1 (spelled (at (paths_in s) b) k.0),
-  record { value = λ ty h. refl; tuple = λ tys h. absurd (no_tuple s.env s.term (at (paths_in s) b) tys k.0 h); option = λ tys h. absurd (no_option s.env s.term (at (paths_in s) b) tys k.0 h) },
+  record { value = λ ty h. refl; tuple = λ tys h. absurd (no_tuple s.env s.term (at (paths_in s) b) tys k.0 h); option = λ tys h. absurd (no_option s.env s.term (at (paths_in s) b) tys k.0 h); list = λ tys h. absurd (no_list s.env s.term (at (paths_in s) b) tys k.0 h) },
 )
-
--- what an answer holds
-abbrev answer_holds : (of : ReturnKind) (x : Item) → AnswersOnce of → (h : Holds) × (once_holds (Some (kind_holds of x)) ≡ Some h)
-answer_holds return_kind.Plain x once = ((holds.One x), refl)
-answer_holds return_kind.Option x once = ((holds.Optional x), refl)
-answer_holds return_kind.Iterator x once = absurd once
-
-called_once : (of : ReturnKind) (c : Calling) → IsCall of c → AnswersOnce of
-called_once of (ByTurns callee p) h = h.1
-called_once of (ByCases callee p) h = h.1
-called_once of NoCall h = absurd h
-
-extracted_once : (of : ReturnKind) (c : Calling) → IsExtraction of c → AnswersOnce of
-extracted_once of (ByCases callee p) h = h.2
-extracted_once of (ByTurns callee p) h = absurd h
-extracted_once of NoCall h = absurd h
 
 -- a call is of one kind
 one_call : (a b : ReturnKind) (c : Calling) → IsCall a c → IsCall b c → a ≡ b
-one_call a b (ByTurns callee p) h k = sym h.0 ∙ k.0
-one_call a b (ByCases callee p) h k = sym h.0 ∙ k.0
+one_call a b (ByTurns callee p) h k = sym h ∙ k
+one_call a b (ByCases callee p) h k = sym h ∙ k
 one_call a b NoCall h k = absurd h
 
 one_extraction : (a b : ReturnKind) (c : Calling) → IsExtraction a c → IsExtraction b c → a ≡ b
@@ -208,31 +204,57 @@ one_item env None tys P h = absurd h
 one_item env (Some c) tys P h = ap (items env) h.0
 
 -- an answer of the kind, and with what, that the path's type says
-answer_as : (env : Environment) (t : Term) (p : Path) (of : ReturnKind) (x : Item) (once : AnswersOnce of) → ((ty : TypeId) → IsPathOf env t p ty → (of ≡ return_kind.Plain) × (x ≡ item.Value))
-    → ((tys : List TypeId) → IsTupleOf env t p tys → (of ≡ return_kind.Plain) × (x ≡ items env tys)) → ((tys : List TypeId) → IsOptionOf env t p tys → (of ≡ return_kind.Option) × (x ≡ items env tys))
-    → HoldsAs env t p (Some (answer_holds of x once).0)
-answer_as env t p return_kind.Plain x once plain tuple option = record { value = λ ty h. ap (λ y. Some (holds.One y)) (plain ty h).1; tuple = λ tys h. ap (λ y. Some (holds.One y)) (tuple tys h).1; option = λ tys h. absurd (let bad = (option tys h).0 in cc) }
-answer_as env t p return_kind.Option x once plain tuple option = record { value = λ ty h. absurd (let bad = (plain ty h).0 in cc); tuple = λ tys h. absurd (let bad = (tuple tys h).0 in cc); option = λ tys h. ap (λ y. Some (holds.Optional y)) (option tys h).1 }
-answer_as env t p return_kind.Iterator x once plain tuple option = absurd once
+record AnswersAs (env : Environment) (t : Term) (p : Path) (of : ReturnKind) (x : Item) : Type 0 where
+  plain : (ty : TypeId) → IsPathOf env t p ty → (of ≡ return_kind.Plain) × (x ≡ item.Value)
+  tuple : (tys : List TypeId) → IsTupleOf env t p tys → (of ≡ return_kind.Plain) × (x ≡ items env tys)
+  option : (tys : List TypeId) → IsOptionOf env t p tys → (of ≡ return_kind.Option) × (x ≡ items env tys)
+  list : (tys : List TypeId) → IsListOf env t p tys → (of ≡ return_kind.Iterator) × (x ≡ items env tys)
+
+answer_as : (env : Environment) (t : Term) (p : Path) (of : ReturnKind) (x : Item) → AnswersAs env t p of x → HoldsAs env t p (Some (kind_holds of x))
+answer_as env t p of x a = record {
+  value = λ ty h. let k = a.plain ty h in ap (λ y. Some (kind_holds y x)) k.0 ∙ ap (λ y. Some (holds.One y)) k.1;
+  tuple = λ tys h. let k = a.tuple tys h in ap (λ y. Some (kind_holds y x)) k.0 ∙ ap (λ y. Some (holds.One y)) k.1;
+  option = λ tys h. let k = a.option tys h in ap (λ y. Some (kind_holds y x)) k.0 ∙ ap (λ y. Some (holds.Optional y)) k.1;
+  list = λ tys h. let k = a.list tys h in ap (λ y. Some (kind_holds y x)) k.0 ∙ ap (λ y. Some (holds.Several y)) k.1;
+}
+
+-- how often a call answers
+often_of : (of : ReturnKind) (c : Calling) → IsCall of c → answers_often c ≡ is_several of
+often_of of (ByTurns callee p) h = ap is_several h
+often_of of (ByCases callee p) h = ap is_several h
+often_of of NoCall h = absurd h
+
+extracted_often : (of : ReturnKind) (c : Calling) → IsExtraction of c → answers_often c ≡ is_several of
+extracted_often of (ByCases callee p) h = ap is_several h.0
+extracted_often of (ByTurns callee p) h = absurd h
+extracted_often of NoCall h = absurd h
+
+-- a call is bound as it answers
+bound_call : (of : ReturnKind) (often : Bool) (n : ℕ) (fns : Callables) (params : ℕ) (locals : Locals) (borrow : Bool) (call : TCall) (x : Item) → often ≡ is_several of → called_holds fns params locals call ≡ Some (kind_holds of x)
+    → stmt_holds fns params locals (local_stmt often n (expr.Call borrow call)) ≡ Some (kind_holds of x)
+bound_call return_kind.Plain often n fns params locals borrow call x e h = ap (λ y. stmt_holds fns params locals (local_stmt y n (expr.Call borrow call))) e ∙ ap once_holds h
+bound_call return_kind.Option often n fns params locals borrow call x e h = ap (λ y. stmt_holds fns params locals (local_stmt y n (expr.Call borrow call))) e ∙ ap once_holds h
+bound_call return_kind.Iterator often n fns params locals borrow call x e h = ap (λ y. stmt_holds fns params locals (local_stmt y n (expr.Call borrow call))) e ∙ ap list_holds h
 
 -- a call of what takes as many
-called_holds : (s : Setting) (bound : List ℕ) (locals : Locals) (borrow : Bool) (callee : _) (tys : List TypeId) (parameters : List BindingId) (of : ReturnKind) (x : Item) → LocalsHold s bound locals → AreReady s bound parameters tys
-    → callee_holds (callables_of s.env) callee (length tys) ≡ Some (kind_holds of x) → expr_holds (callables_of s.env) (length s.term.arg_tys) locals (expr.Call borrow (record { callee = callee; args = reads s bound tys parameters })) ≡ once_holds (Some (kind_holds of x))
-called_holds s bound locals borrow callee tys parameters of x l args k =
+call_answers : (s : Setting) (bound : List ℕ) (locals : Locals) (callee : _) (tys : List TypeId) (parameters : List BindingId) (of : ReturnKind) (x : Item) → LocalsHold s bound locals → AreReady s bound parameters tys
+    → callee_holds (callables_of s.env) callee (length tys) ≡ Some (kind_holds of x) → called_holds (callables_of s.env) (length s.term.arg_tys) locals (record { callee = callee; args = reads s bound tys parameters }) ≡ Some (kind_holds of x)
+call_answers s bound locals callee tys parameters of x l args k =
     let r = reads_hold s bound locals tys parameters l args in
-    ap once_holds (ap (λ y. cond y (callee_holds (callables_of s.env) callee (length (reads s bound tys parameters))) None) r.0 ∙ ap (callee_holds (callables_of s.env) callee) r.1 ∙ k)
+    ap (λ y. cond y (callee_holds (callables_of s.env) callee (length (reads s bound tys parameters))) None) r.0 ∙ ap (callee_holds (callables_of s.env) callee) r.1 ∙ k
 
-call_let : (s : Setting) (bound : List ℕ) (locals : Locals) (o : Option Term) (called : Term) (callee : _) (parameters : List BindingId) (of : ReturnKind) (x : Item) → o ≡ Some called → LocalsHold s bound locals → AreReady s bound parameters called.arg_tys
-    → callee_holds (callables_of s.env) callee (length called.arg_tys) ≡ Some (kind_holds of x) → expr_holds (callables_of s.env) (length s.term.arg_tys) locals (call_expr s bound o callee parameters) ≡ once_holds (Some (kind_holds of x))
-call_let s bound locals o called callee parameters of x e l args k =
-    ap (λ x. expr_holds (callables_of s.env) (length s.term.arg_tys) locals (call_expr s bound x callee parameters)) e
-    ∙ called_holds s bound locals (is_declared s.env called.ret_ty) callee called.arg_tys parameters of x l args k
+call_let : (s : Setting) (bound : List ℕ) (locals : Locals) (n : ℕ) (often : Bool) (o : Option Term) (called : Term) (callee : _) (parameters : List BindingId) (of : ReturnKind) (x : Item) → often ≡ is_several of → o ≡ Some called → LocalsHold s bound locals → AreReady s bound parameters called.arg_tys
+    → callee_holds (callables_of s.env) callee (length called.arg_tys) ≡ Some (kind_holds of x) → stmt_holds (callables_of s.env) (length s.term.arg_tys) locals (local_stmt often n (call_expr s bound o callee parameters)) ≡ Some (kind_holds of x)
+call_let s bound locals n often o called callee parameters of x e there l args k =
+    ap (λ y. stmt_holds (callables_of s.env) (length s.term.arg_tys) locals (local_stmt often n (call_expr s bound y callee parameters))) there
+    ∙ bound_call of often n (callables_of s.env) (length s.term.arg_tys) locals (is_declared s.env called.ret_ty) (record { callee = callee; args = reads s bound called.arg_tys parameters }) x e (call_answers s bound locals callee called.arg_tys parameters of x l args k)
 
-extraction_let : (s : Setting) (bound : List ℕ) (locals : Locals) (o : Option Term) (called : Term) (callee : _) (parameter : BindingId) (of : ReturnKind) (x : Item) → o ≡ Some called → LocalsHold s bound locals → IsReady s bound parameter called.ret_ty
-    → callee_holds (callables_of s.env) callee 1 ≡ Some (kind_holds of x) → expr_holds (callables_of s.env) (length s.term.arg_tys) locals (extraction_expr s bound o callee parameter) ≡ once_holds (Some (kind_holds of x))
-extraction_let s bound locals o called callee parameter of x e l arg k =
-    ap (λ x. expr_holds (callables_of s.env) (length s.term.arg_tys) locals (extraction_expr s bound x callee parameter)) e
-    ∙ called_holds s bound locals (option_map_or (is_declared s.env) (result_type (Some called)) false) callee (called.ret_ty ∷ []) (parameter ∷ []) of x l (arg, tt) k
+extraction_let : (s : Setting) (bound : List ℕ) (locals : Locals) (n : ℕ) (often : Bool) (o : Option Term) (called : Term) (callee : _) (parameter : BindingId) (of : ReturnKind) (x : Item) → often ≡ is_several of → o ≡ Some called → LocalsHold s bound locals → IsReady s bound parameter called.ret_ty
+    → callee_holds (callables_of s.env) callee 1 ≡ Some (kind_holds of x) → stmt_holds (callables_of s.env) (length s.term.arg_tys) locals (local_stmt often n (extraction_expr s bound o callee parameter)) ≡ Some (kind_holds of x)
+extraction_let s bound locals n often o called callee parameter of x e there l arg k =
+    ap (λ y. stmt_holds (callables_of s.env) (length s.term.arg_tys) locals (local_stmt often n (extraction_expr s bound y callee parameter))) there
+    ∙ bound_call of often n (callables_of s.env) (length s.term.arg_tys) locals (option_map_or (is_declared s.env) (result_type (Some called)) false) (record { callee = callee; args = reads s bound (called.ret_ty ∷ []) (parameter ∷ []) }) x e
+    (call_answers s bound locals callee (called.ret_ty ∷ []) (parameter ∷ []) of x l (arg, tt) k)
 
 named_holds : (fns : Callables) (env : Environment) (params : ℕ) (locals : Locals) (ty : Sym) (variant : Option Sym) (fs : List (List ℕ × Read)) → are_field_values params locals fs ≡ true → expr_holds fns params locals (made_named env ty variant fs) ≡ one_value
 named_holds fns env params locals ty (Some variant) fs e = ap made_holds e
@@ -251,6 +273,7 @@ within_holds s p tys of = record {
   value = λ ty h. ap (λ (xs : List TypeId). Some (holds.One (items s.env xs))) (one_within s.env s.term p tys (ty ∷ []) of h);
   tuple = λ tys' h. ap (λ (xs : List TypeId). Some (holds.One (items s.env xs))) (one_within s.env s.term p tys tys' of h.1);
   option = λ tys' h. absurd h;
+  list = λ tys' h. absurd h;
 }
 
 -- a part of a tuple is there
@@ -264,39 +287,42 @@ part_there env part (of ∷ more ∷ tys) ty several at' =
 
 let_holds : (s : Setting) (bound : List ℕ) (locals : Locals) (b : BindingId) (o : Option Binding) → HasCallees s.env → LocalsHold s bound locals → IsReadyBind s bound (at (paths_in s) b) o → LetHolds s bound locals b o
 let_holds s bound locals b (Some (binding.Constructor term parameters k)) names l is =
-    let once = called_once is.kind (calling s.env term) is.external in
-    let answered = answer_holds is.kind item.Value once in
+    let ps = at_all (paths_in s) parameters in
+    let kind = λ (of : ReturnKind) (h : IsCall of (calling s.env term)). one_call is.kind of (calling s.env term) is.external h in
+    let one = λ (tys : List TypeId) (h : IsSomeAnd (slice_get s.env.terms term.0) (λ (c : Term). (c.ret_ty ∷ [] ≡ tys) × ArePathsOf s.env s.term ps c.arg_tys)).
+    one_item s.env (slice_get s.env.terms term.0) tys (λ (c : Term). ArePathsOf s.env s.term ps c.arg_tys) h in
     record {
-      h = answered.0;
+      h = kind_holds is.kind item.Value;
       is =
-          call_let s bound locals (slice_get s.env.terms term.0) is.called (callee_of (calling s.env term)) parameters is.kind item.Value is.found l is.args
-          (callee_answers s.env term is.called is.kind names is.found is.external)
-          ∙ answered.1;
-      kept = subst (λ q. HoldsAs s.env s.term q (Some answered.0)) (sym is.path)
-          (
-          answer_as s.env s.term (Called term (at_all (paths_in s) parameters) k) is.kind item.Value once (λ ty h. (one_call is.kind return_kind.Plain (calling s.env term) is.external h.0, refl)) (λ tys h. absurd h)
-          (λ tys h. (one_call is.kind return_kind.Option (calling s.env term) is.external h.0, one_item s.env (slice_get s.env.terms term.0) tys (λ (c : Term). ArePathsOf s.env s.term (at_all (paths_in s) parameters) c.arg_tys) h.1))
-          );
+          call_let s bound locals b.0 (answers_often (calling s.env term)) (slice_get s.env.terms term.0) is.called (callee_of (calling s.env term)) parameters is.kind item.Value (often_of is.kind (calling s.env term) is.external) is.found l is.args
+          (callee_answers s.env term is.called is.kind names is.found is.external);
+      kept = subst (λ q. HoldsAs s.env s.term q (Some (kind_holds is.kind item.Value))) (sym is.path)
+          (answer_as s.env s.term (Called term ps k) is.kind item.Value (record {
+            plain = λ ty h. (kind return_kind.Plain h.0, refl);
+            tuple = λ tys h. absurd h;
+            option = λ tys h. (kind return_kind.Option h.0, one tys h.1);
+            list = λ tys h. (kind return_kind.Iterator h.0, one tys h.1);
+          }));
     }
 let_holds s bound locals b (Some (binding.Extractor term parameter)) names l is =
     let x = external_extractor s.env term is.called is.kind is.found is.external in
-    let once = extracted_once is.kind (extracting s.env term) is.external in
     let given = items s.env is.called.arg_tys in
-    let answered = answer_holds is.kind given once in
     let p = at (paths_in s) parameter in
+    let kind = λ (of : ReturnKind) (h : IsExtraction of (extracting s.env term)). one_extraction is.kind of (extracting s.env term) is.external h in
     let same : (tys : List TypeId) → IsSomeAnd (slice_get s.env.terms term.0) (λ (c : Term). (c.arg_tys ≡ tys) × IsPathOf s.env s.term p c.ret_ty) → given ≡ items s.env tys =
     λ tys h. ap (items s.env) (results_are (slice_get s.env.terms term.0) is.called tys (λ (c : Term). IsPathOf s.env s.term p c.ret_ty) is.found h) in
     record {
-      h = answered.0;
+      h = kind_holds is.kind given;
       is =
-          extraction_let s bound locals (slice_get s.env.terms term.0) is.called (callee_of (extracting s.env term)) parameter is.kind given is.found l is.arg
-          (ap (λ y. callee_holds (callables_of s.env) y 1) x.callee ∙ ap (λ y. call_holds y 1) (extractor_found s.env term is.called is.kind names.fns is.found x))
-          ∙ answered.1;
-      kept = subst (λ q. HoldsAs s.env s.term q (Some answered.0)) (sym is.path)
-          (
-          answer_as s.env s.term (Extracted term p) is.kind given once (λ ty h. (one_extraction is.kind return_kind.Plain (extracting s.env term) is.external h.0, same (ty ∷ []) h.1))
-          (λ tys h. (one_extraction is.kind return_kind.Plain (extracting s.env term) is.external h.1, same tys h.2)) (λ tys h. (one_extraction is.kind return_kind.Option (extracting s.env term) is.external h.0, same tys h.1))
-          );
+          extraction_let s bound locals b.0 (answers_often (extracting s.env term)) (slice_get s.env.terms term.0) is.called (callee_of (extracting s.env term)) parameter is.kind given (extracted_often is.kind (extracting s.env term) is.external) is.found l is.arg
+          (ap (λ y. callee_holds (callables_of s.env) y 1) x.callee ∙ ap (λ y. call_holds y 1) (extractor_found s.env term is.called is.kind names.fns is.found x));
+      kept = subst (λ q. HoldsAs s.env s.term q (Some (kind_holds is.kind given))) (sym is.path)
+          (answer_as s.env s.term (Extracted term p) is.kind given (record {
+            plain = λ ty h. (kind return_kind.Plain h.0, same (ty ∷ []) h.1);
+            tuple = λ tys h. (kind return_kind.Plain h.1, same tys h.2);
+            option = λ tys h. (kind return_kind.Option h.0, same tys h.1);
+            list = λ tys h. (kind return_kind.Iterator h.0, same tys h.1);
+          }));
     }
 let_holds s bound locals b (Some (binding.MatchSome source)) names l is =
     let here = found bound source.0 is.bound' in
@@ -310,7 +336,7 @@ let_holds s bound locals b (Some (binding.MatchTuple source field)) names l is =
     record {
       h = holds.One item.Value;
       is = rw here (ap (part_holds field.0) ((l.by source here).tuple is.tys is.tuple) ∙ part_there s.env field.0 is.tys is.ty (tuple_many s.env s.term (at (paths_in s) source) is.tys is.tuple) is.there);
-      kept = subst (λ q. HoldsAs s.env s.term q one_value) (sym is.path) (record { value = λ ty h. refl; tuple = λ tys h. absurd h; option = λ tys h. absurd h });
+      kept = subst (λ q. HoldsAs s.env s.term q one_value) (sym is.path) (record { value = λ ty h. refl; tuple = λ tys h. absurd h; option = λ tys h. absurd h; list = λ tys h. absurd h });
     }
 let_holds s bound locals b (Some (binding.Argument index)) names l is = let k = plain_let s bound locals b is in record { h = holds.One item.Value; is = k.0; kept = k.1 }
 let_holds s bound locals b (Some (binding.ConstBool val ty)) names l is = let k = plain_let s bound locals b is in record { h = holds.One item.Value; is = k.0; kept = k.1 }
@@ -319,14 +345,21 @@ let_holds s bound locals b (Some (binding.ConstPrim val)) names l is = let k = p
 let_holds s bound locals b (Some (binding.MakeVariant of variant fields)) names l is = record {
   h = holds.One item.Value;
   is = made_let s bound locals (at (paths_in s) b) _ (MakesVariant of variant) fields l is;
-  kept = subst (λ q. HoldsAs s.env s.term q one_value) (sym is.path) (record { value = λ ty h. refl; tuple = λ tys h. absurd h; option = λ tys h. absurd h });
+  kept = subst (λ q. HoldsAs s.env s.term q one_value) (sym is.path) (record { value = λ ty h. refl; tuple = λ tys h. absurd h; option = λ tys h. absurd h; list = λ tys h. absurd h });
 }
 let_holds s bound locals b (Some (binding.MakeStruct of fields)) names l is = record {
   h = holds.One item.Value;
   is = made_let s bound locals (at (paths_in s) b) _ (MakesStruct of) fields l is;
-  kept = subst (λ q. HoldsAs s.env s.term q one_value) (sym is.path) (record { value = λ ty h. refl; tuple = λ tys h. absurd h; option = λ tys h. absurd h });
+  kept = subst (λ q. HoldsAs s.env s.term q one_value) (sym is.path) (record { value = λ ty h. refl; tuple = λ tys h. absurd h; option = λ tys h. absurd h; list = λ tys h. absurd h });
 }
 let_holds s bound locals b o names l is = absurd is
+
+-- so the statement is in scope, and its local is bound behind it
+stmt_scoped : (fns : Callables) (of : ReturnKind) (params : ℕ) (locals : Locals) (often : Bool) (n : ℕ) (e : TExpr) → IsSome (stmt_holds fns params locals (local_stmt often n e)) → IsStmtScoped fns of params locals (local_stmt often n e)
+stmt_scoped fns of params locals often n e = local_by (λ st. IsSome (stmt_holds fns params locals st) → IsStmtScoped fns of params locals st) often n e (λ h. h) (λ borrow call is h. h)
+
+stmt_after : (fns : Callables) (params : ℕ) (locals : Locals) (often : Bool) (n : ℕ) (e : TExpr) → bound_after fns params (local_stmt often n e) locals ≡ after_let (stmt_holds fns params locals (local_stmt often n e)) n locals
+stmt_after fns params locals often n e = local_by (λ st. bound_after fns params st locals ≡ after_let (stmt_holds fns params locals st) n locals) often n e refl (λ borrow call is. refl)
 
 pub lets_scoped : (s : Setting) (bound : List ℕ) (locals : Locals) (binds : List BindingId) (more : Body) → HasCallees s.env → LocalsHold s bound locals → AreReadyBinds s bound binds
     → ((after : Locals) → LocalsHold s (bound_by bound binds) after → IsBodyScoped (callables_of s.env) (kind_of s.term.kind) (length s.term.arg_tys) after more)
@@ -335,6 +368,7 @@ lets_scoped s bound locals [] more names l k h = h locals l
 lets_scoped s bound locals (b ∷ binds) more names l k h =
     let x = let_holds s bound locals b (slice_get s.bindings b.0) names l k.0 in
     let rest = lets_scoped s (bound ++ b.0 ∷ []) (locals ++ (b.0, x.h) ∷ []) binds more names (more_hold s bound locals b x.h l x.kept) k.1 h in (
-      subst IsSome (sym x.is) refl,
-      subst (λ o. IsBodyScoped (callables_of s.env) (kind_of s.term.kind) (length s.term.arg_tys) (after_let o b.0 locals) (lets s (bound ++ b.0 ∷ []) binds more)) (sym x.is) rest,
+      stmt_scoped (callables_of s.env) (kind_of s.term.kind) (length s.term.arg_tys) locals (binds_list s b) b.0 (bound_expr s bound b (slice_get s.bindings b.0)) (subst IsSome (sym x.is) refl),
+      subst (λ ls. IsBodyScoped (callables_of s.env) (kind_of s.term.kind) (length s.term.arg_tys) ls (lets s (bound ++ b.0 ∷ []) binds more))
+          (sym (stmt_after (callables_of s.env) (length s.term.arg_tys) locals (binds_list s b) b.0 (bound_expr s bound b (slice_get s.bindings b.0)) ∙ ap (λ o. after_let o b.0 locals) x.is)) rest,
     )

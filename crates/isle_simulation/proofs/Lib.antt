@@ -4,10 +4,12 @@ pub mod PathTypes
 pub mod MadeValues
 pub mod BoundTests
 pub mod Written
+pub mod LocalStmts
 pub mod Ready
 pub mod PathValues
 pub mod ResultsAt
 pub mod LocalsAgree
+pub mod HeldAnswers
 pub mod OneBind
 pub mod ArmsRun
 pub mod MadeBinds
@@ -17,7 +19,14 @@ pub mod CompletedReady
 pub mod Logged
 pub mod LoggedLaws
 pub mod LoggedLines
+pub mod KnownAlong
 pub mod Simulation
+pub mod ItemsWithin
+pub mod CutLaws
+pub mod CompletedSeveral
+pub mod ClosedItems
+pub mod ResultsGiven
+pub mod SeveralSimulation
 pub mod Made
 pub mod Shapes
 pub mod TermNames

@@ -11,7 +11,7 @@ use Rattle.isle_core.specs.HasType.{AreFieldsOf}
 use Rattle.isle_core.specs.Form.{field_values}
 use Rattle.isle_core.specs.Nameless.{nameless, nameless_fields}
 use Rattle.isle_core.specs.Path.{Path, at, at_all}
-use Rattle.isle_core.specs.PathType.{IsPathOf, IsTupleOf, IsOptionOf}
+use Rattle.isle_core.specs.PathType.{IsPathOf, IsTupleOf, IsOptionOf, IsListOf}
 use Rattle.isle_core.specs.Rule.{Environment}
 use Rattle.isle_core.specs.Setting.{Setting, paths_in}
 use Rattle.isle_core.specs.Value.{Value, FieldValues, NoField, Field}
@@ -23,7 +23,7 @@ use Rattle.isle_simulation.specs.References.{is_declared, is_reference_in, read_
 use Rattle.isle_core.proofs.HeldStays.{IsThere, Grows, held_stays}
 use Rattle.isle_simulation.proofs.PathValues.{Grounds, IsValueAt, constant_valued, path_reads}
 use Rattle.isle_simulation.proofs.Ready.{IsSpelled, IsReady, AreReady}
-use Rattle.isle_simulation.proofs.ResultsAt.{AreResultsAt, IsOptionAt}
+use Rattle.isle_simulation.proofs.ResultsAt.{AreResultsAt, IsOptionAt, IsListAt}
 use Rattle.isle_simulation.proofs.Written.{written_operand, written_read, reads, field_reads}
 
 -- a local holds in the run what stands at a path of a type
@@ -31,6 +31,7 @@ pub record Stands (env : Environment) (t : Term) (p : Path) (h g : Held) : Type 
   pub value : (ty : TypeId) → IsPathOf env t p ty → IsValueAt env h g ty
   pub tuple : (tys : List TypeId) → IsTupleOf env t p tys → AreResultsAt env h g tys
   pub option : (tys : List TypeId) → IsOptionOf env t p tys → IsOptionAt env h g tys
+  pub list : (tys : List TypeId) → IsListOf env t p tys → IsListAt env h g tys
 
 -- so of each that is bound
 pub record Agree (s : Setting) (u : Around) (bound : List ℕ) (known : Known) (locals : Env) : Type 0 where
@@ -42,7 +43,7 @@ none_agree s u known = record { by = λ c e. cc }
 
 -- still so while later calls are answered
 pub agree_later : (s : Setting) (u : Around) (bound : List ℕ) (known later : Known) (locals : Env) → Grows known later → Agree s u bound known locals → Agree s u bound later locals
-agree_later s u bound known later locals g a = record { by = λ c e. record { value = λ ty k. still c ty ((a.by c e).value ty k); tuple = λ tys k. still_results c tys ((a.by c e).tuple tys k); option = λ tys k. still_option c tys ((a.by c e).option tys k) } }
+agree_later s u bound known later locals g a = record { by = λ c e. record { value = λ ty k. still c ty ((a.by c e).value ty k); tuple = λ tys k. still_results c tys ((a.by c e).tuple tys k); option = λ tys k. still_option c tys ((a.by c e).option tys k); list = λ tys k. still_list c tys ((a.by c e).list tys k) } }
   where
     at_path : Known → BindingId → Held
     at_path k c = value_at s.env u.meaning u.args k (at (paths_in s) c)
@@ -55,6 +56,9 @@ agree_later s u bound known later locals g a = record { by = λ c e. record { va
 
     still_option : (c : BindingId) (tys : List TypeId) → IsOptionAt s.env (look locals c.0) (at_path known c) tys → IsOptionAt s.env (look locals c.0) (at_path later c) tys
     still_option c tys x = record { o = x.o; q = x.q; run = x.run; block = held_stays (at (paths_in s) c) s.env u.meaning u.args known later g (subst IsThere (sym x.block) tt) ∙ x.block; same = x.same; typed = x.typed }
+
+    still_list : (c : BindingId) (tys : List TypeId) → IsListAt s.env (look locals c.0) (at_path known c) tys → IsListAt s.env (look locals c.0) (at_path later c) tys
+    still_list c tys x = record { vss = x.vss; rss = x.rss; run = x.run; block = held_stays (at (paths_in s) c) s.env u.meaning u.args known later g (subst IsThere (sym x.block) tt) ∙ x.block; same = x.same; typed = x.typed }
 
 older : (x : Bool) → (x || (false || false)) ≡ true → x ≡ true
 older true e = refl

@@ -8,19 +8,22 @@ use Rattle.isle_core.specs.declared.position.Pos.{Pos}
 use Rattle.isle_core.specs.declared.rule_sets.Binding.{Binding}
 use Rattle.isle_core.specs.declared.rule_sets.Constraint.{Constraint}
 use Rattle.isle_core.specs.declared.rule_sets.Constraint.TheVariants as constraint
+use Rattle.isle_core.specs.declared.types.ReturnKind.{ReturnKind}
+use Rattle.isle_core.specs.declared.types.ReturnKind.TheVariants as return_kind
 use Rattle.isle_core.specs.declared.types.Term.{Term}
+use Rattle.isle_core.specs.Calling.{kind_of}
 use Rattle.isle_core.specs.ArmPlaces.{bound_within}
 use Rattle.isle_core.specs.Bindable.{bound_by}
 use Rattle.isle_core.specs.Block as block
 use Rattle.isle_core.specs.Block.{Block, Control}
 use Rattle.isle_core.specs.BlockLawful.{IsLawfulBlock}
-use Rattle.isle_core.specs.Places.{place_in}
 use Rattle.isle_core.specs.ReturnPositions.{return_positions, control_positions, arms_positions}
 use Rattle.isle_core.specs.Rule.{Environment}
-use Rattle.isle_core.specs.Setting.{Setting, setting}
+use Rattle.isle_core.specs.Setting.{Setting, setting, gives_several}
 use Rattle.isle_core.specs.SingleArms.{HasSingleArms, IsSingle}
-use Rattle.isle_core.specs.Terms.{sym_text}
 use Rattle.isle_tree.specs.Program.{Stmt, Let, LetList, IfEq, IfLet, Match, Loop, Return, Extend, Overflow, Log, Split, Tail, Body, Done, Then, Arms, NoArm, Arm}
+use Rattle.isle_tree.specs.declared.tree.Read.{Read}
+use Rattle.isle_tree.specs.declared.tree.TExpr.{TExpr}
 use Rattle.isle_tree.specs.Walk.{of_stmt, of_body, of_arms}
 use Rattle.isle_simulation.specs.Completed.{completed, completed_control, completed_arms, step_binds}
 use Rattle.isle_simulation.specs.LogLines.{LogLine, own_lines, lines_of}
@@ -29,9 +32,11 @@ use Rattle.isle_simulation.specs.TermFunction.{ends_in_return, mark_in, tail_bod
 use Rattle.isle_simulation.proofs.CompletedReady.{completed_ready}
 use Rattle.isle_simulation.proofs.CompletedRuns.{completed_single}
 use Rattle.isle_simulation.proofs.Ready.{IsReadyFrom, IsReadyControl}
-use Rattle.isle_simulation.specs.Telling.{log_line}
+use Rattle.isle_simulation.specs.Statements.{binds_list, local_stmt, looped_local}
+use Rattle.isle_simulation.specs.Telling.{line_before, log_line}
+use Rattle.isle_simulation.proofs.LocalStmts.{local_by}
 use Rattle.isle_simulation.proofs.LoggedLaws.{logged_none}
-use Rattle.isle_simulation.proofs.Written.{written_operand, bound_expr, arm_stmt, told_before, told_body, told_control, block_body, control_stmt, lets, written_body, logged_function, function_of}
+use Rattle.isle_simulation.proofs.Written.{written_operand, written_read, written_list, bound_expr, bound_stmt, arm_stmt, result_stmt, stop_before, told_before, told_body, told_control, block_body, control_stmt, lets, written_body, logged_function, function_of}
 
 -- ---- lists
 
@@ -95,9 +100,24 @@ mutual
 
 -- ---- results and lines of a block's statements
 
+local_results : (often : Bool) (n : ℕ) (e : TExpr) → of_stmt own_results (local_stmt often n e) ≡ []
+local_results often n e = local_by (λ st. of_stmt own_results st ≡ []) often n e refl (λ borrow call is. refl)
+
 lets_results : (s : Setting) (bound : List ℕ) (binds : List BindingId) (more : Body) → of_body own_results (lets s bound binds more) ≡ of_body own_results more
 lets_results s bound [] more = refl
-lets_results s bound (b ∷ binds) more = lets_results s (bound ++ b.0 ∷ []) binds more
+lets_results s bound (b ∷ binds) more = ap (λ rs. rs ++ of_body own_results (lets s (bound ++ b.0 ∷ []) binds more)) (local_results (binds_list s b) b.0 (bound_expr s bound b (slice_get s.bindings b.0))) ∙ lets_results s (bound ++ b.0 ∷ []) binds more
+
+result_results : (kind : ReturnKind) (r : Read) → length (of_stmt own_results (result_stmt kind r)) ≡ 1
+result_results return_kind.Plain r = refl
+result_results return_kind.Option r = refl
+result_results return_kind.Iterator r = refl
+
+stop_results : (several : Bool) (c : Control) (after : Body) → of_body own_results (stop_before several c after) ≡ of_body own_results after
+stop_results true (block.Return place result) after = refl
+stop_results true (block.Match source arms) after = refl
+stop_results true (block.Equal a b body) after = refl
+stop_results true (block.Loop result body) after = refl
+stop_results false c after = refl
 
 arm_results : (s : Setting) (bound : List ℕ) (source : BindingId) (c : Constraint) (places : List (Option BindingId)) (inside : Body) → of_stmt own_results (arm_stmt s bound source c places inside) ≡ of_body own_results inside
 arm_results s bound source (constraint.ConstBool val) places inside = refl
@@ -115,22 +135,37 @@ mutual
   control_results (block.Match source (block.Arm c places body (block.Arm d others inside arms))) s bound made h o = absurd o
   control_results (block.Match source block.NoArm) s bound made h o = absurd o
   control_results (block.Equal a b body) s bound made h o = block_results body s bound made Done h.1 o ∙ sym (length-append (return_positions body) []) ∙ ap length (append-nil (return_positions body))
-  control_results (block.Loop result body) s bound made h o = absurd h
-  control_results (block.Return pos result) s bound made h o = refl
+  control_results (block.Loop result body) s bound made h o = block_results body s (bound ++ result.0 ∷ []) made Done h.1 o ∙ sym (length-append (return_positions body) []) ∙ ap length (append-nil (return_positions body))
+  control_results (block.Return pos result) s bound made h o = result_results (kind_of s.term.kind) (written_read s bound false result)
 
   block_results : (b : Block) (s : Setting) (bound made : List ℕ) (end : Body) → IsReadyFrom s bound made b → HasSingleArms b → results_of (block_body s bound b end) ≡ length (return_positions b) + results_of end
   block_results block.Stop s bound made end h o = omega arith
   block_results (block.Step binds c more) s bound made end h o =
       let here = of_stmt own_results (control_stmt s (bound_by bound binds) c) in
-      let there = of_body own_results (block_body s (bound_by bound binds) more end) in
+      let there = of_body own_results (stop_before (gives_several s) c (block_body s (bound_by bound binds) more end)) in
       let one : length here ≡ length (control_positions c) = control_results c s (bound_by bound binds) _ h.2 o.0 in
-      let others : length there ≡ length (return_positions more) + results_of end = block_results more s (bound_by bound binds) _ end h.3 o.1 in
+      let others : length there ≡ length (return_positions more) + results_of end = ap length (stop_results (gives_several s) c (block_body s (bound_by bound binds) more end)) ∙ block_results more s (bound_by bound binds) _ end h.3 o.1 in
       let apart : length (control_positions c ++ return_positions more) ≡ length (control_positions c) + length (return_positions more) = length-append (control_positions c) (return_positions more) in
       ap length (lets_results s bound binds _) ∙ length-append here there ∙ omega arith
 
+local_lines : (often : Bool) (n : ℕ) (e : TExpr) → of_stmt own_lines (local_stmt often n e) ≡ []
+local_lines often n e = local_by (λ st. of_stmt own_lines st ≡ []) often n e refl (λ borrow call is. refl)
+
 lets_lines : (s : Setting) (bound : List ℕ) (binds : List BindingId) (more : Body) → lines_of (lets s bound binds more) ≡ lines_of more
 lets_lines s bound [] more = refl
-lets_lines s bound (b ∷ binds) more = lets_lines s (bound ++ b.0 ∷ []) binds more
+lets_lines s bound (b ∷ binds) more = ap (λ ls. ls ++ lines_of (lets s (bound ++ b.0 ∷ []) binds more)) (local_lines (binds_list s b) b.0 (bound_expr s bound b (slice_get s.bindings b.0))) ∙ lets_lines s (bound ++ b.0 ∷ []) binds more
+
+result_lines : (kind : ReturnKind) (r : Read) → of_stmt own_lines (result_stmt kind r) ≡ []
+result_lines return_kind.Plain r = refl
+result_lines return_kind.Option r = refl
+result_lines return_kind.Iterator r = refl
+
+stop_lines : (several : Bool) (c : Control) (after : Body) → lines_of (stop_before several c after) ≡ lines_of after
+stop_lines true (block.Return place result) after = refl
+stop_lines true (block.Match source arms) after = refl
+stop_lines true (block.Equal a b body) after = refl
+stop_lines true (block.Loop result body) after = refl
+stop_lines false c after = refl
 
 arm_own : (s : Setting) (bound : List ℕ) (source : BindingId) (c : Constraint) (places : List (Option BindingId)) (inside : Body) → of_stmt own_lines (arm_stmt s bound source c places inside) ≡ lines_of inside
 arm_own s bound source (constraint.ConstBool val) places inside = refl
@@ -147,14 +182,15 @@ mutual
   control_lines (block.Match source (block.Arm c places body (block.Arm d others inside arms))) s bound made h o = absurd o
   control_lines (block.Match source block.NoArm) s bound made h o = absurd o
   control_lines (block.Equal a b body) s bound made h o = block_lines body s bound made Done h.1 o
-  control_lines (block.Loop result body) s bound made h o = absurd h
-  control_lines (block.Return pos result) s bound made h o = refl
+  control_lines (block.Loop result body) s bound made h o = block_lines body s (bound ++ result.0 ∷ []) made Done h.1 o
+  control_lines (block.Return pos result) s bound made h o = result_lines (kind_of s.term.kind) (written_read s bound false result)
 
   block_lines : (b : Block) (s : Setting) (bound made : List ℕ) (end : Body) → IsReadyFrom s bound made b → HasSingleArms b → lines_of (block_body s bound b end) ≡ lines_of end
   block_lines block.Stop s bound made end h o = refl
   block_lines (block.Step binds c more) s bound made end h o =
       lets_lines s bound binds _
-      ∙ ap (λ ls. ls ++ lines_of (block_body s (bound_by bound binds) more end)) (control_lines c s (bound_by bound binds) _ h.2 o.0)
+      ∙ ap (λ ls. ls ++ lines_of (stop_before (gives_several s) c (block_body s (bound_by bound binds) more end))) (control_lines c s (bound_by bound binds) _ h.2 o.0)
+      ∙ stop_lines (gives_several s) c (block_body s (bound_by bound binds) more end)
       ∙ block_lines more s (bound_by bound binds) _ end h.3 o.1
 
 -- ---- positions
@@ -169,7 +205,7 @@ mutual
   control_same : (c : Control) (s : Setting) (bound : List ℕ) → control_positions (completed_control s bound c) ≡ control_positions c
   control_same (block.Match source arms) s bound = arms_same arms s bound
   control_same (block.Equal a b body) s bound = completed_positions body s bound
-  control_same (block.Loop result body) s bound = refl
+  control_same (block.Loop result body) s bound = completed_positions body s (bound ++ result.0 ∷ [])
   control_same (block.Return pos result) s bound = refl
 
   arms_same : (arms : block.Arms) (s : Setting) (bound : List ℕ) → arms_positions (completed_arms s bound arms) ≡ arms_positions arms
@@ -183,9 +219,27 @@ drop_lines : (line : Pos → LogLine) (ps qs : List Pos) (lines : List LogLine) 
 drop_lines line [] qs lines = refl
 drop_lines line (p ∷ ps) qs lines = drop_lines line ps qs lines
 
+local_logged : (lines : List LogLine) (often : Bool) (n : ℕ) (e : TExpr) (after : Body) → logged_before lines (local_stmt often n e) after ≡ Then (local_stmt often n e) after
+local_logged lines often n e after = local_by (λ st. logged_before lines st after ≡ Then st after) often n e refl (λ borrow call is. refl)
+
 lets_logged : (lines : List LogLine) (s : Setting) (bound : List ℕ) (binds : List BindingId) (more : Body) → logged lines (lets s bound binds more) ≡ lets s bound binds (logged lines more)
 lets_logged lines s bound [] more = refl
-lets_logged lines s bound (b ∷ binds) more = ap (Then (Let b.0 (bound_expr s bound b (slice_get s.bindings b.0)))) (lets_logged lines s (bound ++ b.0 ∷ []) binds more)
+lets_logged lines s bound (b ∷ binds) more =
+    local_logged lines (binds_list s b) b.0 (bound_expr s bound b (slice_get s.bindings b.0)) (logged (drop (results_in (bound_stmt s bound b)) lines) (lets s (bound ++ b.0 ∷ []) binds more))
+    ∙ ap (λ n. Then (bound_stmt s bound b) (logged (drop n lines) (lets s (bound ++ b.0 ∷ []) binds more))) (ap length (local_results (binds_list s b) b.0 (bound_expr s bound b (slice_get s.bindings b.0))))
+    ∙ ap (Then (bound_stmt s bound b)) (lets_logged lines s (bound ++ b.0 ∷ []) binds more)
+
+stop_logged : (lines : List LogLine) (several : Bool) (c : Control) (after : Body) → stop_before several c (logged lines after) ≡ logged lines (stop_before several c after)
+stop_logged lines true (block.Return place result) after = refl
+stop_logged lines true (block.Match source arms) after = refl
+stop_logged lines true (block.Equal a b body) after = refl
+stop_logged lines true (block.Loop result body) after = refl
+stop_logged lines false c after = refl
+
+result_logged : (l : LogLine) (lines : List LogLine) (kind : ReturnKind) (r : Read) (after : Body) → logged_before (l ∷ lines) (result_stmt kind r) after ≡ line_before l (Then (result_stmt kind r) after)
+result_logged l lines return_kind.Plain r after = refl
+result_logged l lines return_kind.Option r after = refl
+result_logged l lines return_kind.Iterator r after = refl
 
 arm_logged : (lines : List LogLine) (s : Setting) (bound : List ℕ) (source : BindingId) (c : Constraint) (places : List (Option BindingId)) (inside after : Body)
     → logged_before lines (arm_stmt s bound source c places inside) after ≡ Then (arm_stmt s bound source c places (logged lines inside)) after
@@ -212,10 +266,11 @@ mutual
       let left : drop (results_in (control_stmt s now c)) all ≡ rest =
       ap (λ n. drop n all) (control_results c s now _ h.2 o.0) ∙ drop_lines line (control_positions c) (return_positions more) lines in
       ap (lets s bound binds)
-      (ap (λ x. told_before (Some line) c (Then (told_control (Some line) s now c) x)) (told_logged more line s now _ end lines h.3 o.1)
-      ∙ control_logged c line s now _ (return_positions more) lines (logged rest after) h.2 o.0
-      ∙ ap (λ ls. logged_before all (control_stmt s now c) (logged ls after)) (sym left))
-      ∙ sym (lets_logged all s bound binds (Then (control_stmt s now c) after))
+      (ap (λ x. told_before (Some line) c (Then (told_control (Some line) s now c) (stop_before (gives_several s) c x))) (told_logged more line s now _ end lines h.3 o.1)
+      ∙ ap (λ x. told_before (Some line) c (Then (told_control (Some line) s now c) x)) (stop_logged rest (gives_several s) c after)
+      ∙ control_logged c line s now _ (return_positions more) lines (logged rest (stop_before (gives_several s) c after)) h.2 o.0
+      ∙ ap (λ ls. logged_before all (control_stmt s now c) (logged ls (stop_before (gives_several s) c after))) (sym left))
+      ∙ sym (lets_logged all s bound binds (Then (control_stmt s now c) (stop_before (gives_several s) c after)))
 
   control_logged : (c : Control) (line : Pos → LogLine) (s : Setting) (bound made : List ℕ) (others : List Pos) (lines : List LogLine) (after : Body) → IsReadyControl s bound made c → IsSingle c
       → told_before (Some line) c (Then (told_control (Some line) s bound c) after) ≡ logged_before (map line (control_positions c ++ others) ++ lines) (control_stmt s bound c) after
@@ -234,8 +289,13 @@ mutual
       let inside = block_body s bound body Done in
       ap (λ i. Then (IfEq x y i) after) (told_logged body line s bound made Done (map line others ++ lines) h.1 o)
       ∙ ap (λ ls. logged_before ls (IfEq x y inside) after) (parted line ps others lines)
-  control_logged (block.Loop result body) line s bound made others lines after h o = absurd h
-  control_logged (block.Return pos result) line s bound made others lines after h o = refl
+  control_logged (block.Loop result body) line s bound made others lines after h o =
+      let ps = return_positions body in
+      let list = written_list (looped_local s result) in
+      let inside = block_body s (bound ++ result.0 ∷ []) body Done in
+      ap (λ i. Then (Loop list result.0 i) after) (told_logged body line s (bound ++ result.0 ∷ []) made Done (map line others ++ lines) h.1 o)
+      ∙ ap (λ ls. logged_before ls (Loop list result.0 inside) after) (parted line ps others lines)
+  control_logged (block.Return pos result) line s bound made others lines after h o = sym (result_logged (line pos) (map line others ++ lines) (kind_of s.term.kind) (written_read s bound false result) after)
 
 -- ---- functions
 

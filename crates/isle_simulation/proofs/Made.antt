@@ -21,7 +21,7 @@ use Rattle.isle_core.specs.Bindable.{IsPlain, bound_by}
 use Rattle.isle_core.specs.Block as block
 use Rattle.isle_core.specs.Block.{Block, Stop, Step, Control, Arm, NoArm}
 use Rattle.isle_core.specs.BlockLawful.{Source, AValue, AnOption, IsConstraintOver, IsLawfulBlock}
-use Rattle.isle_core.specs.Calling.{Calling, ByTurns, ByCases, NoCall, calling, extracting, kind_of, AnswersOnce}
+use Rattle.isle_core.specs.Calling.{Calling, ByTurns, ByCases, NoCall, calling, extracting, kind_of}
 use Rattle.isle_core.specs.Constants.{int_of_def}
 use Rattle.isle_core.specs.ConstraintType.{IsConstraintOf}
 use Rattle.isle_core.specs.ExternalCall.{IsCall, IsExtraction}
@@ -31,7 +31,7 @@ use Rattle.isle_core.specs.Making.{Making, MakesStruct}
 use Rattle.isle_core.specs.Path.{Path, Paths, Arg, ConstBool, ConstInt, ConstPrim, MadeStruct, NoPath, APath, at}
 use Rattle.isle_core.specs.PathType.{IsPathOf, ArePathsOf}
 use Rattle.isle_core.specs.Rule.{Environment}
-use Rattle.isle_core.specs.Setting.{Setting, setting, paths_in}
+use Rattle.isle_core.specs.Setting.{Setting, setting, gives_several, paths_in}
 use Rattle.isle_core.specs.SingleArms.{HasSingleArms, IsSingle}
 use Rattle.isle_core.specs.Terms.{sym_text}
 use Rattle.isle_tree.specs.declared.tree.Operand.{Operand}
@@ -39,12 +39,12 @@ use Rattle.isle_tree.specs.declared.tree.Operand.TheVariants as operand
 use Rattle.isle_tree.specs.declared.tree.Read.{Read}
 use Rattle.isle_tree.specs.declared.tree.TPat.{TPat}
 use Rattle.isle_tree.specs.declared.tree.TPat.TheVariants as pattern
-use Rattle.isle_tree.specs.Program.{Stmt, IfEq, IfLet, Return, Body, Done, Then}
+use Rattle.isle_tree.specs.Program.{Stmt, IfEq, IfLet, Loop, Overflow, Body, Done, Then}
 use Rattle.isle_simulation.specs.Completed.{completed}
 use Rattle.isle_simulation.specs.Operands.{constant, in_place, tested, is_bound, operand_of}
 use Rattle.isle_simulation.specs.Patterns.{some_pattern}
 use Rattle.isle_simulation.specs.References.{is_declared, result_type, is_reference_in, read_as}
-use Rattle.isle_simulation.specs.Statements.{callee_of, read_before, read_in, reads, call_on, call_of, extraction_of, read_of, field_before, field_reads, made_of, made_in, computed, stmt_before, let_of, lets, if_eq, if_let, return_of, plain_read, told_body, told_control}
+use Rattle.isle_simulation.specs.Statements.{callee_of, read_before, read_in, reads, call_on, call_of, extraction_of, read_of, field_before, field_reads, made_of, made_in, computed, stmt_before, binds_list, let_of, lets, if_eq, if_let, return_of, stop_before, list_local, loop_of, plain_read, told_body, told_control}
 use Rattle.isle_simulation.specs.Telling.{Telling, line_before, told_before, telling_of}
 use Rattle.isle_simulation.specs.TermFunction.{tail_in, function_with, term_function}
 use Rattle.isle_simulation.proofs.ArmsRun.{arm_pattern}
@@ -186,7 +186,7 @@ before_made o st r ss e f = rw (e, f) refl
 lets_made : (s : Setting) (bound : List ℕ) (binds : List BindingId) (r : Option Body) (more : Body) → AreReadyBinds s bound binds → r ≡ Some more → lets s bound binds r ≡ Some (written.lets s bound binds more)
 lets_made s bound [] r more k e = e
 lets_made s bound (b ∷ binds) r more k e =
-    before_made _ _ _ _ (ap (let_of b.0) (bound_made s bound b (slice_get s.bindings b.0) k.0)) (lets_made s (bound ++ b.0 ∷ []) binds r more k.1 e)
+    before_made _ _ _ _ (ap (let_of (binds_list s b) b.0) (bound_made s bound b (slice_get s.bindings b.0) k.0)) (lets_made s (bound ++ b.0 ∷ []) binds r more k.1 e)
 
 test_made : (a b : Option Operand) (x y : Operand) (i : Option Body) (inside : Body) → a ≡ Some x → b ≡ Some y → i ≡ Some inside → if_eq a b i ≡ Some (IfEq x y inside)
 test_made a b x y i inside e f g = rw (e, f, g) refl
@@ -200,10 +200,20 @@ some_made [] le = (None, refl)
 some_made (p ∷ []) le = (option_map (λ (b : BindingId). b.0) p, refl)
 some_made (p ∷ q ∷ places) le = absurd (omega (arith, le))
 
-return_made : (kind : ReturnKind) → AnswersOnce kind → (o : Option Read) (x : Read) → o ≡ Some x → return_of kind o ≡ Some (Return (written.returned kind x))
-return_made return_kind.Plain once o x e = rw e refl
-return_made return_kind.Option once o x e = rw e refl
-return_made return_kind.Iterator once o x e = absurd once
+return_made : (kind : ReturnKind) (o : Option Read) (x : Read) → o ≡ Some x → return_of kind o ≡ Some (written.result_stmt kind x)
+return_made return_kind.Plain o x e = rw e refl
+return_made return_kind.Option o x e = rw e refl
+return_made return_kind.Iterator o x e = rw e refl
+
+stop_made : (several : Bool) (c : Control) (o : Option Body) (after : Body) → o ≡ Some after → stop_before several c o ≡ Some (written.stop_before several c after)
+stop_made true (block.Return place result) o after e = ap (stmt_before (Some (Overflow false))) e
+stop_made true (block.Match source arms) o after e = e
+stop_made true (block.Equal a b body) o after e = e
+stop_made true (block.Loop result body) o after e = e
+stop_made false c o after e = e
+
+loop_made : (o : Option ℕ) (list item : ℕ) (i : Option Body) (inside : Body) → o ≡ Some list → i ≡ Some inside → loop_of o item i ≡ Some (Loop (written.written_list o) item inside)
+loop_made o list item i inside e f = rw (e, f) refl
 
 told_made : (telling : Telling) (c : Control) (o : Option Body) (after : Body) → o ≡ Some after → told_before telling c o ≡ Some (written.told_before telling c after)
 told_made None c o after e = e
@@ -214,41 +224,41 @@ told_made (Some line) (block.Return place result) o after e = ap (option_map (li
 
 mutual
   -- the statements of a lawful block
-  block_made : (telling : Telling) (b : Block) (s : Setting) → AnswersOnce (kind_of s.term.kind) → (bound made : List ℕ) (end : Body) → IsReadyFrom s bound made b → HasSingleArms b → told_body telling s bound b (Some end) ≡ Some (written.told_body telling s bound b end)
-  block_made telling Stop s once bound made end k o = refl
-  block_made telling (Step binds c more) s once bound made end k o =
+  block_made : (telling : Telling) (b : Block) (s : Setting) (bound made : List ℕ) (end : Body) → IsReadyFrom s bound made b → HasSingleArms b → told_body telling s bound b (Some end) ≡ Some (written.told_body telling s bound b end)
+  block_made telling Stop s bound made end k o = refl
+  block_made telling (Step binds c more) s bound made end k o =
       lets_made s bound binds _ _ k.0
-      (told_made telling c _ _ (before_made _ _ _ _ (control_made telling c s once (bound_by bound binds) _ k.2 o.0) (block_made telling more s once (bound_by bound binds) _ end k.3 o.1)))
+      (told_made telling c _ _ (before_made _ _ _ _ (control_made telling c s (bound_by bound binds) _ k.2 o.0) (stop_made (gives_several s) c _ _ (block_made telling more s (bound_by bound binds) _ end k.3 o.1))))
 
-  control_made : (telling : Telling) (c : Control) (s : Setting) → AnswersOnce (kind_of s.term.kind) → (bound made : List ℕ) → IsReadyControl s bound made c → IsSingle c → told_control telling s bound c ≡ Some (written.told_control telling s bound c)
-  control_made telling (block.Match source (Arm (constraint.ConstBool val) places body NoArm)) s once bound made k o =
+  control_made : (telling : Telling) (c : Control) (s : Setting) (bound made : List ℕ) → IsReadyControl s bound made c → IsSingle c → told_control telling s bound c ≡ Some (written.told_control telling s bound c)
+  control_made telling (block.Match source (Arm (constraint.ConstBool val) places body NoArm)) s bound made k o =
       let v = over_value s bound source (constraint.ConstBool val) k.1.0 (λ e. cc) k.1.1 k.1.2.0 in
-      test_made _ _ _ _ _ _ (operand_there s bound source v.ty v.ready) (test_there s.env (constraint.ConstBool val) tt) (block_made telling body s once (bound_within bound places) made Done k.1.2.2 o)
-  control_made telling (block.Match source (Arm (constraint.ConstInt val of) places body NoArm)) s once bound made k o =
+      test_made _ _ _ _ _ _ (operand_there s bound source v.ty v.ready) (test_there s.env (constraint.ConstBool val) tt) (block_made telling body s (bound_within bound places) made Done k.1.2.2 o)
+  control_made telling (block.Match source (Arm (constraint.ConstInt val of) places body NoArm)) s bound made k o =
       let v = over_value s bound source (constraint.ConstInt val of) k.1.0 (λ e. cc) k.1.1 k.1.2.0 in
-      test_made _ _ _ _ _ _ (operand_there s bound source v.ty v.ready) (test_there s.env (constraint.ConstInt val of) tt) (block_made telling body s once (bound_within bound places) made Done k.1.2.2 o)
-  control_made telling (block.Match source (Arm (constraint.ConstPrim val) places body NoArm)) s once bound made k o =
+      test_made _ _ _ _ _ _ (operand_there s bound source v.ty v.ready) (test_there s.env (constraint.ConstInt val of) tt) (block_made telling body s (bound_within bound places) made Done k.1.2.2 o)
+  control_made telling (block.Match source (Arm (constraint.ConstPrim val) places body NoArm)) s bound made k o =
       let v = over_value s bound source (constraint.ConstPrim val) k.1.0 (λ e. cc) k.1.1 k.1.2.0 in
-      test_made _ _ _ _ _ _ (operand_there s bound source v.ty v.ready) (test_there s.env (constraint.ConstPrim val) tt) (block_made telling body s once (bound_within bound places) made Done k.1.2.2 o)
-  control_made telling (block.Match source (Arm (constraint.Variant of variant) places body NoArm)) s once bound made k o =
+      test_made _ _ _ _ _ _ (operand_there s bound source v.ty v.ready) (test_there s.env (constraint.ConstPrim val) tt) (block_made telling body s (bound_within bound places) made Done k.1.2.2 o)
+  control_made telling (block.Match source (Arm (constraint.Variant of variant) places body NoArm)) s bound made k o =
       let v = over_value s bound source (constraint.Variant of variant) k.1.0 (λ e. cc) k.1.1 k.1.2.0 in
-      pattern_made _ _ _ _ _ _ (arm_pattern s source v.ty (constraint.Variant of variant) places v.is k.1.2.1 tt).is (read_there s bound true source v.ty v.ready) (block_made telling body s once (bound_within bound places) made Done k.1.2.2 o)
-  control_made telling (block.Match source (Arm (constraint.Struct of) places body NoArm)) s once bound made k o =
+      pattern_made _ _ _ _ _ _ (arm_pattern s source v.ty (constraint.Variant of variant) places v.is k.1.2.1 tt).is (read_there s bound true source v.ty v.ready) (block_made telling body s (bound_within bound places) made Done k.1.2.2 o)
+  control_made telling (block.Match source (Arm (constraint.Struct of) places body NoArm)) s bound made k o =
       let v = over_value s bound source (constraint.Struct of) k.1.0 (λ e. cc) k.1.1 k.1.2.0 in
-      pattern_made _ _ _ _ _ _ (arm_pattern s source v.ty (constraint.Struct of) places v.is k.1.2.1 tt).is (read_there s bound true source v.ty v.ready) (block_made telling body s once (bound_within bound places) made Done k.1.2.2 o)
-  control_made telling (block.Match source (Arm constraint.Some places body NoArm)) s once bound made k o =
+      pattern_made _ _ _ _ _ _ (arm_pattern s source v.ty (constraint.Struct of) places v.is k.1.2.1 tt).is (read_there s bound true source v.ty v.ready) (block_made telling body s (bound_within bound places) made Done k.1.2.2 o)
+  control_made telling (block.Match source (Arm constraint.Some places body NoArm)) s bound made k o =
       let v = over_option s bound source k.1.0 k.1.1 k.1.2.0 in
-      pattern_made _ _ _ _ _ _ (some_made places k.1.2.1.0).1 (ap plain_read (option_there s bound source v.0 v.1)) (block_made telling body s once (bound_within bound places) made Done k.1.2.2 o)
-  control_made telling (block.Match source (Arm c places body (Arm d others inside arms))) s once bound made k o = absurd o
-  control_made telling (block.Match source NoArm) s once bound made k o = absurd o
-  control_made telling (block.Equal x y body) s once bound made k o =
-      test_made _ _ _ _ _ _ (operand_there s bound x k.0.0 k.0.1) (operand_there s bound y k.0.0 k.0.2) (block_made telling body s once bound made Done k.1 o)
-  control_made telling (block.Loop result body) s once bound made k o = absurd k
-  control_made telling (block.Return pos result) s once bound made k o = return_made (kind_of s.term.kind) once _ _ (read_there s bound false result s.term.ret_ty k)
+      pattern_made _ _ _ _ _ _ (some_made places k.1.2.1.0).1 (ap plain_read (option_there s bound source v.0 v.1)) (block_made telling body s (bound_within bound places) made Done k.1.2.2 o)
+  control_made telling (block.Match source (Arm c places body (Arm d others inside arms))) s bound made k o = absurd o
+  control_made telling (block.Match source NoArm) s bound made k o = absurd o
+  control_made telling (block.Equal x y body) s bound made k o =
+      test_made _ _ _ _ _ _ (operand_there s bound x k.0.0 k.0.1) (operand_there s bound y k.0.0 k.0.2) (block_made telling body s bound made Done k.1 o)
+  control_made telling (block.Loop result body) s bound made k o = loop_made _ k.0.source.0 result.0 _ _ (ap list_local k.0.is) (block_made telling body s (bound ++ result.0 ∷ []) made Done k.1 o)
+  control_made telling (block.Return pos result) s bound made k o = return_made (kind_of s.term.kind) _ _ (read_there s bound false result s.term.ret_ty k)
 
 -- ---- functions
 
-pub function_made : (logging : Bool) (files : Files) (env : Environment) (t : Term) (bs : List Binding) (b : Block) → AnswersOnce (kind_of t.kind) → IsLawfulBlock (setting env t bs) b → HasSingleArms b → term_function logging files (setting env t bs) b ≡ Some (function_of logging files env t bs b)
-function_made logging files env t bs b once h o =
+pub function_made : (logging : Bool) (files : Files) (env : Environment) (t : Term) (bs : List Binding) (b : Block) → IsLawfulBlock (setting env t bs) b → HasSingleArms b → term_function logging files (setting env t bs) b ≡ Some (function_of logging files env t bs b)
+function_made logging files env t bs b h o =
     let s = setting env t bs in
-    ap (option_map (function_with env t)) (block_made (telling_of logging files s) (completed s [] b) s once [] [] (tail_in files env t b) (completed_ready s b h) (completed_single s [] b o))
+    ap (option_map (function_with env t)) (block_made (telling_of logging files s) (completed s [] b) s [] [] (tail_in files env t b) (completed_ready s b h) (completed_single s [] b o))

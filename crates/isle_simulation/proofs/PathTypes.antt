@@ -5,8 +5,8 @@ use Rattle.isle_core.specs.declared.TypeId.{TypeId}
 use Rattle.isle_core.specs.declared.types.Term.{Term}
 use Rattle.isle_core.specs.Form.{Form, form, form_types}
 use Rattle.isle_core.specs.Making.{MakesVariant, MakesStruct}
-use Rattle.isle_core.specs.Path.{Path, Arg, ConstBool, ConstInt, ConstPrim, Extracted, Called, MadeVariant, MadeStruct, VariantField, StructField, Inner, Part}
-use Rattle.isle_core.specs.PathType.{AreTuple, IsPathOf, IsTupleOf, IsOptionOf, ArePathsOf}
+use Rattle.isle_core.specs.Path.{Path, Arg, ConstBool, ConstInt, ConstPrim, Extracted, Called, Chosen, MadeVariant, MadeStruct, VariantField, StructField, Inner, Part}
+use Rattle.isle_core.specs.PathType.{AreTuple, IsPathOf, IsTupleOf, IsOptionOf, IsListOf, ArePathsOf}
 use Rattle.isle_core.specs.Rule.{Environment}
 use Rattle.isle_simulation.specs.References.{one_result, result_type, extractor_at, results_of, field_type, type_at}
 
@@ -38,6 +38,11 @@ option_type env t (Called term ps instance) ty h = within_type (slice_get env.te
 option_type env t (Extracted term q) ty h = extracted_type (slice_get env.terms term.0) ty (λ (c : Term). IsPathOf env t q c.ret_ty) h.1
 option_type env t p ty h = absurd h
 
+list_type : (env : Environment) (t : Term) (p : Path) (ty : TypeId) → IsListOf env t p (ty ∷ []) → type_at env t p ≡ Some ty
+list_type env t (Called term ps instance) ty h = within_type (slice_get env.terms term.0) ty (λ (c : Term). ArePathsOf env t ps c.arg_tys) h.1
+list_type env t (Extracted term q) ty h = extracted_type (slice_get env.terms term.0) ty (λ (c : Term). IsPathOf env t q c.ret_ty) h.1
+list_type env t p ty h = absurd h
+
 -- a value is no tuple
 no_value : (o : Option Term) (tys : List TypeId) (P : Term → Type 0) → AreTuple tys → IsSomeAnd o (λ (c : Term). (c.ret_ty ∷ [] ≡ tys) × P c) → ⊥
 no_value None tys P several h = absurd h
@@ -52,6 +57,12 @@ tuple_types env t (Inner p) tys h = within p h.0 h.1
     within (Called term ps instance) several k = absurd (no_value (slice_get env.terms term.0) tys (λ (c : Term). ArePathsOf env t ps c.arg_tys) several k.1)
     within (Extracted term q) several k = results_type (slice_get env.terms term.0) tys (λ (c : Term). IsPathOf env t q c.ret_ty) k.1
     within q several k = absurd k
+tuple_types env t (Chosen p) tys h = within p h.0 h.1
+  where
+    within : (q : Path) → AreTuple tys → IsListOf env t q tys → results_of env (extractor_at q) ≡ Some tys
+    within (Called term ps instance) several k = absurd (no_value (slice_get env.terms term.0) tys (λ (c : Term). ArePathsOf env t ps c.arg_tys) several k.1)
+    within (Extracted term q) several k = results_type (slice_get env.terms term.0) tys (λ (c : Term). IsPathOf env t q c.ret_ty) k.1
+    within q several k = absurd k
 tuple_types env t p tys h = absurd h
 
 pub path_type : (env : Environment) (t : Term) (p : Path) (ty : TypeId) → IsPathOf env t p ty → type_at env t p ≡ Some ty
@@ -62,6 +73,7 @@ path_type env t (ConstPrim name) ty h = h
 path_type env t (Called term ps instance) ty h = answer_type (slice_get env.terms term.0) ty (λ (c : Term). ArePathsOf env t ps c.arg_tys) h.1
 path_type env t (Extracted term q) ty h = extracted_type (slice_get env.terms term.0) ty (λ (c : Term). IsPathOf env t q c.ret_ty) h.1
 path_type env t (Inner p) ty h = option_type env t p ty h
+path_type env t (Chosen p) ty h = list_type env t p ty h
 path_type env t (Part part q) ty h = ap (option_and_then (λ (tys : List TypeId). slice_get tys part)) (tuple_types env t q h.0 h.1) ∙ h.2
 path_type env t (MadeVariant of variant ps) ty h = ap Some h.0
 path_type env t (MadeStruct of ps) ty h = ap Some h.0
@@ -87,8 +99,15 @@ one_within env t (Called term ps instance) tys of h k = within_once (slice_get e
 one_within env t (Extracted term q) tys of h k = within_once (slice_get env.terms term.0) tys of (λ (c : Term). c.arg_tys) (λ (c : Term). IsPathOf env t q c.ret_ty) h.1 k.1
 one_within env t p tys of h k = absurd h
 
+-- and what is in a list
+pub one_listed : (env : Environment) (t : Term) (p : Path) (tys of : List TypeId) → IsListOf env t p tys → IsListOf env t p of → tys ≡ of
+one_listed env t (Called term ps instance) tys of h k = within_once (slice_get env.terms term.0) tys of (λ (c : Term). c.ret_ty ∷ []) (λ (c : Term). ArePathsOf env t ps c.arg_tys) h.1 k.1
+one_listed env t (Extracted term q) tys of h k = within_once (slice_get env.terms term.0) tys of (λ (c : Term). c.arg_tys) (λ (c : Term). IsPathOf env t q c.ret_ty) h.1 k.1
+one_listed env t p tys of h k = absurd h
+
 -- what is a tuple has none or several types
 pub tuple_many : (env : Environment) (t : Term) (p : Path) (tys : List TypeId) → IsTupleOf env t p tys → AreTuple tys
 tuple_many env t (Extracted term q) tys h = h.0
 tuple_many env t (Inner q) tys h = h.0
+tuple_many env t (Chosen q) tys h = h.0
 tuple_many env t p tys h = absurd h

@@ -17,8 +17,8 @@ use Rattle.isle_core.specs.Form.{Form, form, form_types}
 use Rattle.isle_core.specs.Making.{Making, MakesVariant, MakesStruct}
 use Rattle.isle_core.specs.Occurrences.{AreNew, occurrences, after_control}
 use Rattle.isle_core.specs.Path.{Path, Arg, ConstBool, ConstInt, ConstPrim, Extracted, Called, MadeVariant, MadeStruct, Paths, NoPath, at, at_all}
-use Rattle.isle_core.specs.PathType.{IsPathOf, IsOptionOf}
-use Rattle.isle_core.specs.Setting.{Setting, paths_in}
+use Rattle.isle_core.specs.PathType.{IsPathOf, IsOptionOf, IsListOf}
+use Rattle.isle_core.specs.Setting.{Setting, gives_several, paths_in}
 use Rattle.isle_simulation.specs.Operands.{is_bound}
 
 -- an argument, a constant, or a struct without fields
@@ -96,6 +96,15 @@ abbrev pub AreReadyBinds : Setting → List ℕ → List BindingId → Type 0
 AreReadyBinds s bound [] = Unit {0}
 AreReadyBinds s bound (b ∷ more) = IsReadyBind s bound (at (paths_in s) b) (slice_get s.bindings b.0) × AreReadyBinds s (bound ++ b.0 ∷ []) more
 
+-- a loop over a list that has a local, in a function that answers several times
+pub record IsLoopReady (s : Setting) (bound : List ℕ) (result : BindingId) : Type 0 where
+  pub several : gives_several s ≡ true
+  pub source : BindingId
+  pub is : slice_get s.bindings result.0 ≡ Some (binding.Iterator source)
+  pub tys : List TypeId
+  pub list : IsListOf s.env s.term (at (paths_in s) source) tys
+  pub bound' : is_bound bound source ≡ true
+
 -- a lawful block in which all that is read is ready
 abbrev mutual
   pub IsReadyFrom : Setting → (bound made : List ℕ) → Block → Type 0
@@ -103,12 +112,12 @@ abbrev mutual
   IsReadyFrom s bound made (Step binds c more) =
       AreReadyBinds s bound binds × AreNew made (occurrences s.env (paths_in s) binds)
       × IsReadyControl s (bound_by bound binds) (made ++ occurrences s.env (paths_in s) binds) c
-      × IsReadyFrom s (bound_by bound binds) (after_control s.env (paths_in s) (made ++ occurrences s.env (paths_in s) binds) c) more
+      × IsReadyFrom s (bound_by bound binds) (after_control (gives_several s) s.env (paths_in s) (made ++ occurrences s.env (paths_in s) binds) c) more
 
   pub IsReadyControl : Setting → (bound made : List ℕ) → Control → Type 0
   IsReadyControl s bound made (Match source arms) = HasArm arms × ((over : Source) × IsReadyIn s bound source over × AreReadyArms s bound made source over arms)
   IsReadyControl s bound made (Equal a b body) = ((ty : TypeId) × IsReady s bound a ty × IsReady s bound b ty) × IsReadyFrom s bound made body
-  IsReadyControl s bound made (Loop result body) = ⊥
+  IsReadyControl s bound made (Loop result body) = IsLoopReady s bound result × IsReadyFrom s (bound ++ result.0 ∷ []) made body
   IsReadyControl s bound made (Return pos result) = IsReady s bound result s.term.ret_ty
 
   pub AreReadyArms : Setting → (bound made : List ℕ) → BindingId → Source → Arms → Type 0

@@ -1,6 +1,7 @@
 -- Results that a place holds in the run and another one where a block runs: one is a value, none or several are a tuple.
 use Rattle.std.proofs.Common.{◌≡◌, ℕ, zero, suc, List, [], ◌∷◌, map, Option, Some, refl, subst}
 use Rattle.std.specs.Prelude.{option_map, slice_get}
+use Rattle.std.specs.List.{AllByRecursion}
 use Rattle.std.proofs.lemmas.Option.{same_Some}
 use Rattle.isle_core.specs.declared.TypeId.{TypeId}
 use Rattle.isle_core.specs.Answered.{ATuple, item_of}
@@ -9,7 +10,7 @@ use Rattle.isle_core.specs.Nameless.{nameless}
 use Rattle.isle_core.specs.PathType.{AreTuple}
 use Rattle.isle_core.specs.Rule.{Environment}
 use Rattle.isle_core.specs.Value.{Value}
-use Rattle.isle_core.specs.ValueAt.{Held, One, Optional}
+use Rattle.isle_core.specs.ValueAt.{Held, One, Optional, Listed}
 use Rattle.isle_simulation.proofs.PathValues.{IsValueAt}
 
 -- a place holds in the run results that another one holds where a block runs, of these types and but for names
@@ -29,6 +30,15 @@ pub record IsOptionAt (env : Environment) (h g : Held) (tys : List TypeId) : Typ
   pub block : g ≡ Optional (option_map item_of o)
   pub same : option_map (map nameless) q ≡ option_map (map nameless) o
   pub typed : (vs : List Value) → o ≡ Some vs → HaveTypes env vs tys
+
+-- and of lists of results
+pub record IsListAt (env : Environment) (h g : Held) (tys : List TypeId) : Type 0 where
+  pub vss : List (List Value)
+  pub rss : List (List Value)
+  pub run : h ≡ Listed (map item_of rss)
+  pub block : g ≡ Listed (map item_of vss)
+  pub same : map (map nameless) rss ≡ map (map nameless) vss
+  pub typed : AllByRecursion (λ vs. HaveTypes env vs tys) vss
 
 -- one result is a value
 one_of : (env : Environment) (h g : Held) (ty : TypeId) (vs rs : List Value) → h ≡ One (item_of rs) → g ≡ One (item_of vs) → map nameless rs ≡ map nameless vs → HaveTypes env vs (ty ∷ []) → IsValueAt env h g ty

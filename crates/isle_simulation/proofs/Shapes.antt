@@ -1,7 +1,7 @@
 -- The function of a term has the shape of its block.
 use Rattle.std.proofs.Common.{◌≡◌, ℕ, List, [], ◌∷◌, ◌++◌, Bool, true, false, cond, Option, Some, None, refl, sym, ap, ◌∙◌, subst}
-use Rattle.std.specs.Prelude.{option_map}
-use Rattle.isle_core.specs.Calling.{kind_of, AnswersOnce}
+use Rattle.std.specs.Prelude.{option_map, slice_get}
+use Rattle.isle_core.specs.Calling.{kind_of}
 use Rattle.isle_core.specs.declared.BindingId.{BindingId}
 use Rattle.isle_core.specs.declared.Sym.{Sym}
 use Rattle.isle_core.specs.declared.TypeId.{TypeId}
@@ -19,7 +19,7 @@ use Rattle.isle_core.specs.Block.{Block, Stop, Step, Control, Arm, NoArm}
 use Rattle.isle_core.specs.BlockLawful.{IsLawfulBlock}
 use Rattle.isle_core.specs.Places.{place_in}
 use Rattle.isle_core.specs.Rule.{Environment}
-use Rattle.isle_core.specs.Setting.{Setting, setting}
+use Rattle.isle_core.specs.Setting.{Setting, setting, gives_several}
 use Rattle.isle_core.specs.SingleArms.{HasSingleArms, IsSingle}
 use Rattle.isle_core.specs.Terms.{sym_text}
 use Rattle.isle_tree.specs.declared.tree.Read.{Read}
@@ -27,22 +27,25 @@ use Rattle.isle_tree.specs.declared.tree.Read.TheVariants as read
 use Rattle.isle_tree.specs.declared.tree.TBind.{TBind}
 use Rattle.isle_tree.specs.declared.tree.TPat.{TPat}
 use Rattle.isle_tree.specs.declared.tree.TPat.TheVariants as pattern
+use Rattle.isle_tree.specs.declared.tree.TExpr.TheVariants as expr
 use Rattle.isle_tree.specs.Program.{Body, Done, Then}
 use Rattle.isle_simulation.specs.Bare.{bare, bare_before}
 use Rattle.isle_simulation.specs.Completed.{step_binds, completed, completed_control}
 use Rattle.isle_simulation.specs.Operands.{operand_of}
 use Rattle.isle_simulation.specs.Patterns.{pattern_named, some_pattern, pattern_of}
 use Rattle.isle_simulation.specs.References.{is_reference_in, read_as}
-use Rattle.isle_simulation.specs.Shape.{IsOperandOf, IsReadOf, IsResultOf, IsTestedBy, AreSteps, HasShape}
-use Rattle.isle_simulation.specs.Statements.{plain_read}
+use Rattle.isle_simulation.specs.Shape.{IsOperandOf, IsReadOf, IsResultOf, IsTestedBy, AreSteps, HasShape, DoesControl, IsGivenOf}
+use Rattle.isle_simulation.specs.Statements.{plain_read, binds_list, local_stmt, looped_local, list_local}
 use Rattle.isle_simulation.specs.TermFunction.{ends_in_return, mark_of, tail_body, log_lines}
 use Rattle.isle_simulation.proofs.ArmsRun.{ArmPattern, arm_pattern}
 use Rattle.isle_simulation.proofs.CompletedReady.{completed_ready}
-use Rattle.isle_simulation.proofs.CompletedRuns.{Adds, adds_none, adds_step, adds_within, operands_same}
+use Rattle.isle_simulation.proofs.CompletedRuns.{Adds, adds_none, adds_step, adds_within, operands_same, adds_both}
 use Rattle.isle_simulation.proofs.Made.{over_value, over_option, test_there, operand_there, option_there, some_made}
 use Rattle.isle_simulation.proofs.Ready.{IsReady, IsOptionReady, IsReadyFrom, IsReadyControl}
-use Rattle.isle_simulation.proofs.Written.{written_operand, written_read, written_pattern, block_body, control_stmt, lets, returned, written_body, logged_function}
+use Rattle.isle_simulation.proofs.Written.{written_operand, written_read, written_pattern, block_body, control_stmt, lets, written_body, logged_function, result_stmt, stop_before, written_list, bound_expr}
 use Rattle.isle_simulation.proofs.LoggedLaws.{logged_bare}
+use Rattle.isle_tree.specs.declared.tree.TExpr.{TExpr}
+use Rattle.isle_simulation.proofs.LocalStmts.{local_by}
 
 -- ---- operands
 
@@ -68,64 +71,88 @@ arm_tested s bound b c places p r h = subst (λ o. IsTestedBy s bound b (written
 some_tested : (s : Setting) (bound : List ℕ) (b : BindingId) (o : Option TPat) (local : Option ℕ) (r : Read) → o ≡ Some (pattern.Some local) → plain_read (operand_of s.env s.bindings bound b) ≡ Some r → IsTestedBy s bound b (written_pattern o) r
 some_tested s bound b o local r e h = subst (λ x. IsTestedBy s bound b (written_pattern x) r) (sym e) h
 
-result_shape : (s : Setting) (bound : List ℕ) (kind : ReturnKind) → AnswersOnce kind → (b : BindingId) (r : Read) → IsReadOf s bound false b r → IsResultOf s bound kind b (returned kind r)
-result_shape s bound return_kind.Plain once b r h = h
-result_shape s bound return_kind.Option once b r h = h
-result_shape s bound return_kind.Iterator once b r h = absurd once
+-- a statement and others do what a step does, and the steps behind it
+abbrev AreResultSteps : Setting → List ℕ → Body → Control → Block → Type 0
+AreResultSteps s bound (Then st ss) c more = DoesControl s bound st c × AreSteps s bound ss more
+AreResultSteps s bound Done c more = ⊥
+
+result_steps : (s : Setting) (outer : List ℕ) (binds : List BindingId) (bound : List ℕ) (body : Body) (c : Control) (more : Block) → bound_by outer binds ≡ bound → AreResultSteps s bound body c more → AreSteps s outer body (Step binds c more)
+result_steps s outer binds bound (Then st ss) c more e h = rw e h
+result_steps s outer binds bound Done c more e h = absurd h
+
+result_shape : (s : Setting) (bound : List ℕ) (kind : ReturnKind) → kind_of s.term.kind ≡ kind → (pos : _) (b : BindingId) (r : Read) (after : Body) (more : Block) → IsReadOf s bound false b r → AreSteps s bound after more
+    → AreResultSteps s bound (bare_before (result_stmt kind r) after) (block.Return pos b) more
+result_shape s bound return_kind.Plain e pos b r after more h k = (subst (λ x. IsResultOf s bound x b (expr.Read r)) (sym e) h, k)
+result_shape s bound return_kind.Option e pos b r after more h k = (subst (λ x. IsResultOf s bound x b (expr.Some r)) (sym e) h, k)
+result_shape s bound return_kind.Iterator e pos b r after more h k = (subst (λ x. IsGivenOf s bound x b r) (sym e) h, k)
+
+stop_bare : (several : Bool) (c : Control) (after : Body) → bare (stop_before several c after) ≡ bare after
+stop_bare true (block.Return place result) after = refl
+stop_bare true (block.Match source arms) after = refl
+stop_bare true (block.Equal a b body) after = refl
+stop_bare true (block.Loop result body) after = refl
+stop_bare false c after = refl
+
+written_loop : (o : Option ℕ) (list : ℕ) → o ≡ Some list → o ≡ Some (written_list o)
+written_loop o list e = rw e refl
 
 written_is : (o : Option TPat) (pat : TPat) → o ≡ Some pat → o ≡ Some (written_pattern o)
 written_is o pat e = rw e refl
 
 -- ---- statements
 
+local_bare : (often : Bool) (n : ℕ) (e : TExpr) (after : Body) → bare_before (local_stmt often n e) after ≡ after
+local_bare often n e after = local_by (λ st. bare_before st after ≡ after) often n e refl (λ borrow call is. refl)
+
 -- lets are not bare
 lets_bare : (s : Setting) (bound : List ℕ) (binds : List BindingId) (more : Body) → bare (lets s bound binds more) ≡ bare more
 lets_bare s bound [] more = refl
-lets_bare s bound (x ∷ binds) more = lets_bare s (bound ++ x.0 ∷ []) binds more
+lets_bare s bound (x ∷ binds) more = local_bare (binds_list s x) x.0 (bound_expr s bound x (slice_get s.bindings x.0)) (bare (lets s (bound ++ x.0 ∷ []) binds more)) ∙ lets_bare s (bound ++ x.0 ∷ []) binds more
 
 mutual
-  block_shape : (b : Block) (s : Setting) → AnswersOnce (kind_of s.term.kind) → (bound more made : List ℕ) (end : Body) → Adds s bound more → IsReadyFrom s more made (completed s more b) → HasSingleArms b → bare end ≡ Done
+  block_shape : (b : Block) (s : Setting) (bound more made : List ℕ) (end : Body) → Adds s bound more → IsReadyFrom s more made (completed s more b) → HasSingleArms b → bare end ≡ Done
       → AreSteps s bound (bare (block_body s more (completed s more b) end)) b
-  block_shape Stop s once bound more made end a k o e = subst (λ body. AreSteps s bound body Stop) (sym e) tt
-  block_shape (Step binds c rest) s once bound more made end a k o e =
+  block_shape Stop s bound more made end a k o e = subst (λ body. AreSteps s bound body Stop) (sym e) tt
+  block_shape (Step binds c rest) s bound more made end a k o e =
       let bs = step_binds s more binds c in
       let inner = bound_by more bs in
       let after = adds_step s binds c bound more a in
       let body = block_body s inner (completed s inner rest) end in
-      subst (λ x. AreSteps s bound x (Step binds c rest)) (sym (lets_bare s more bs (Then (control_stmt s inner (completed_control s inner c)) body)))
-      (control_shape c rest s once bound binds (bound_by bound binds) inner _ (bare body) refl after k.2 o.0 (block_shape rest s once (bound_by bound binds) inner _ end after k.3 o.1 e))
+      subst (λ x. AreSteps s bound x (Step binds c rest)) (sym (lets_bare s more bs (Then (control_stmt s inner (completed_control s inner c)) (stop_before (gives_several s) (completed_control s inner c) body)) ∙ ap (bare_before (control_stmt s inner (completed_control s inner c))) (stop_bare (gives_several s) (completed_control s inner c) body)))
+      (control_shape c rest s bound binds (bound_by bound binds) inner _ (bare body) refl after k.2 o.0 (block_shape rest s (bound_by bound binds) inner _ end after k.3 o.1 e))
 
-  control_shape : (c : Control) (rest : Block) (s : Setting) → AnswersOnce (kind_of s.term.kind) → (outer : List ℕ) (binds : List BindingId) (bound more made : List ℕ) (after : Body) → bound_by outer binds ≡ bound → Adds s bound more
+  control_shape : (c : Control) (rest : Block) (s : Setting) (outer : List ℕ) (binds : List BindingId) (bound more made : List ℕ) (after : Body) → bound_by outer binds ≡ bound → Adds s bound more
       → IsReadyControl s more made (completed_control s more c) → IsSingle c → AreSteps s bound after rest
       → AreSteps s outer (bare_before (control_stmt s more (completed_control s more c)) after) (Step binds c rest)
-  control_shape (block.Match source (Arm (constraint.ConstBool val) places body NoArm)) rest s once outer binds bound more made after e a k o h =
+  control_shape (block.Match source (Arm (constraint.ConstBool val) places body NoArm)) rest s outer binds bound more made after e a k o h =
       let v = over_value s more source (constraint.ConstBool val) k.1.0 (λ e. cc) k.1.1 k.1.2.0 in
-      rw e ((operand_shape s bound more source v.ty a v.ready, (test_there s.env (constraint.ConstBool val) tt, block_shape body s once (bound_within bound places) (bound_within more places) made Done (adds_within s places bound more a) k.1.2.2 o refl)), h)
-  control_shape (block.Match source (Arm (constraint.ConstInt val of) places body NoArm)) rest s once outer binds bound more made after e a k o h =
+      rw e ((operand_shape s bound more source v.ty a v.ready, (test_there s.env (constraint.ConstBool val) tt, block_shape body s (bound_within bound places) (bound_within more places) made Done (adds_within s places bound more a) k.1.2.2 o refl)), h)
+  control_shape (block.Match source (Arm (constraint.ConstInt val of) places body NoArm)) rest s outer binds bound more made after e a k o h =
       let v = over_value s more source (constraint.ConstInt val of) k.1.0 (λ e. cc) k.1.1 k.1.2.0 in
-      rw e ((operand_shape s bound more source v.ty a v.ready, (test_there s.env (constraint.ConstInt val of) tt, block_shape body s once (bound_within bound places) (bound_within more places) made Done (adds_within s places bound more a) k.1.2.2 o refl)), h)
-  control_shape (block.Match source (Arm (constraint.ConstPrim val) places body NoArm)) rest s once outer binds bound more made after e a k o h =
+      rw e ((operand_shape s bound more source v.ty a v.ready, (test_there s.env (constraint.ConstInt val of) tt, block_shape body s (bound_within bound places) (bound_within more places) made Done (adds_within s places bound more a) k.1.2.2 o refl)), h)
+  control_shape (block.Match source (Arm (constraint.ConstPrim val) places body NoArm)) rest s outer binds bound more made after e a k o h =
       let v = over_value s more source (constraint.ConstPrim val) k.1.0 (λ e. cc) k.1.1 k.1.2.0 in
-      rw e ((operand_shape s bound more source v.ty a v.ready, (test_there s.env (constraint.ConstPrim val) tt, block_shape body s once (bound_within bound places) (bound_within more places) made Done (adds_within s places bound more a) k.1.2.2 o refl)), h)
-  control_shape (block.Match source (Arm (constraint.Variant of variant) places body NoArm)) rest s once outer binds bound more made after e a k o h =
+      rw e ((operand_shape s bound more source v.ty a v.ready, (test_there s.env (constraint.ConstPrim val) tt, block_shape body s (bound_within bound places) (bound_within more places) made Done (adds_within s places bound more a) k.1.2.2 o refl)), h)
+  control_shape (block.Match source (Arm (constraint.Variant of variant) places body NoArm)) rest s outer binds bound more made after e a k o h =
       let v = over_value s more source (constraint.Variant of variant) k.1.0 (λ e. cc) k.1.1 k.1.2.0 in
       let p = arm_pattern s source v.ty (constraint.Variant of variant) places v.is k.1.2.1 tt in
-      rw e ((arm_tested s bound source (constraint.Variant of variant) places p _ (read_shape s bound more true source v.ty a v.ready), (written_is (pattern_of s.env (constraint.Variant of variant) places) _ p.is, block_shape body s once (bound_within bound places) (bound_within more places) made Done (adds_within s places bound more a) k.1.2.2 o refl)), h)
-  control_shape (block.Match source (Arm (constraint.Struct of) places body NoArm)) rest s once outer binds bound more made after e a k o h =
+      rw e ((arm_tested s bound source (constraint.Variant of variant) places p _ (read_shape s bound more true source v.ty a v.ready), (written_is (pattern_of s.env (constraint.Variant of variant) places) _ p.is, block_shape body s (bound_within bound places) (bound_within more places) made Done (adds_within s places bound more a) k.1.2.2 o refl)), h)
+  control_shape (block.Match source (Arm (constraint.Struct of) places body NoArm)) rest s outer binds bound more made after e a k o h =
       let v = over_value s more source (constraint.Struct of) k.1.0 (λ e. cc) k.1.1 k.1.2.0 in
       let p = arm_pattern s source v.ty (constraint.Struct of) places v.is k.1.2.1 tt in
-      rw e ((arm_tested s bound source (constraint.Struct of) places p _ (read_shape s bound more true source v.ty a v.ready), (written_is (pattern_of s.env (constraint.Struct of) places) _ p.is, block_shape body s once (bound_within bound places) (bound_within more places) made Done (adds_within s places bound more a) k.1.2.2 o refl)), h)
-  control_shape (block.Match source (Arm constraint.Some places body NoArm)) rest s once outer binds bound more made after e a k o h =
+      rw e ((arm_tested s bound source (constraint.Struct of) places p _ (read_shape s bound more true source v.ty a v.ready), (written_is (pattern_of s.env (constraint.Struct of) places) _ p.is, block_shape body s (bound_within bound places) (bound_within more places) made Done (adds_within s places bound more a) k.1.2.2 o refl)), h)
+  control_shape (block.Match source (Arm constraint.Some places body NoArm)) rest s outer binds bound more made after e a k o h =
       let v = over_option s more source k.1.0 k.1.1 k.1.2.0 in
       let p = some_made places k.1.2.1.0 in
-      rw e ((some_tested s bound source (some_pattern places) p.0 _ p.1 (option_shape s bound more source v.0 a v.1), (written_is (some_pattern places) _ p.1, block_shape body s once (bound_within bound places) (bound_within more places) made Done (adds_within s places bound more a) k.1.2.2 o refl)), h)
-  control_shape (block.Match source (Arm c places body (Arm d others inside arms))) rest s once outer binds bound more made after e a k o h = absurd o
-  control_shape (block.Match source NoArm) rest s once outer binds bound more made after e a k o h = absurd o
-  control_shape (block.Equal x y body) rest s once outer binds bound more made after e a k o h =
-      rw e ((operand_shape s bound more x k.0.0 a k.0.1, operand_shape s bound more y k.0.0 a k.0.2, block_shape body s once bound more made Done a k.1 o refl), h)
-  control_shape (block.Loop result body) rest s once outer binds bound more made after e a k o h = absurd k
-  control_shape (block.Return pos result) rest s once outer binds bound more made after e a k o h =
-      rw e (result_shape s bound (kind_of s.term.kind) once result (written_read s more false result) (read_shape s bound more false result s.term.ret_ty a k), h)
+      rw e ((some_tested s bound source (some_pattern places) p.0 _ p.1 (option_shape s bound more source v.0 a v.1), (written_is (some_pattern places) _ p.1, block_shape body s (bound_within bound places) (bound_within more places) made Done (adds_within s places bound more a) k.1.2.2 o refl)), h)
+  control_shape (block.Match source (Arm c places body (Arm d others inside arms))) rest s outer binds bound more made after e a k o h = absurd o
+  control_shape (block.Match source NoArm) rest s outer binds bound more made after e a k o h = absurd o
+  control_shape (block.Equal x y body) rest s outer binds bound more made after e a k o h =
+      rw e ((operand_shape s bound more x k.0.0 a k.0.1, operand_shape s bound more y k.0.0 a k.0.2, block_shape body s bound more made Done a k.1 o refl), h)
+  control_shape (block.Loop result body) rest s outer binds bound more made after e a k o h =
+      rw e ((written_loop (looped_local s result) k.0.source.0 (ap list_local k.0.is), refl, block_shape body s (bound ++ result.0 ∷ []) (more ++ result.0 ∷ []) made Done (adds_both s bound more result a) k.1 o refl), h)
+  control_shape (block.Return pos result) rest s outer binds bound more made after e a k o h =
+      result_steps s outer binds bound _ (block.Return pos result) rest e (result_shape s bound (kind_of s.term.kind) refl pos result (written_read s more false result) after rest (read_shape s bound more false result s.term.ret_ty a k) h)
 
 -- what stands behind the steps has no step
 mark_bare : (mark : Option (Option (List ℕ × List ℕ))) → bare (tail_body mark) ≡ Done
@@ -137,7 +164,7 @@ tail_bare mark true = refl
 tail_bare mark false = mark_bare mark
 
 -- the statements of a term's function are its block's steps
-pub written_shape : (logging : Bool) (files : Files) (env : Environment) (t : Term) (bs : List Binding) (b : Block) → AnswersOnce (kind_of t.kind) → IsLawfulBlock (setting env t bs) b → HasSingleArms b → HasShape (setting env t bs) (logged_function logging files env t bs b).body b
-written_shape logging files env t bs b once h o =
+pub written_shape : (logging : Bool) (files : Files) (env : Environment) (t : Term) (bs : List Binding) (b : Block) → IsLawfulBlock (setting env t bs) b → HasSingleArms b → HasShape (setting env t bs) (logged_function logging files env t bs b).body b
+written_shape logging files env t bs b h o =
     subst (λ (body : Body). AreSteps (setting env t bs) [] body b) (sym (logged_bare (written_body files env t bs b) (log_lines logging files (setting env t bs) b)))
-    (block_shape b (setting env t bs) once [] [] [] _ (adds_none (setting env t bs) []) (completed_ready (setting env t bs) b h) o (tail_bare (mark_of (kind_of t.kind) (sym_text env t.name) (place_in files t.decl_pos)) (ends_in_return b)))
+    (block_shape b (setting env t bs) [] [] [] _ (adds_none (setting env t bs) []) (completed_ready (setting env t bs) b h) o (tail_bare (mark_of (kind_of t.kind) (sym_text env t.name) (place_in files t.decl_pos)) (ends_in_return b)))

@@ -1,9 +1,8 @@
 -- The function of a term runs as its block, but for calls of pure terms and the type names of opaque numbers.
-use Rattle.std.proofs.Common.{◌≡◌, ℕ, List, [], ◌++◌, map, Bool, true, false, cond, Option, Some, None, refl, sym, ap, ◌∙◌, subst}
-use Rattle.std.specs.Prelude.{Contains, option_map}
-use Rattle.std.proofs.lemmas.List.Elements.{Contains-append_left, Contains-append_right}
+use Rattle.std.proofs.Common.{◌≡◌, ℕ, List, [], ◌++◌, map, Bool, true, false, cond, Option, Some, refl, sym, ap, ◌∙◌, subst}
+use Rattle.std.specs.Prelude.{option_map}
 use Rattle.isle_core.specs.Answered.{item_of}
-use Rattle.isle_core.specs.Calling.{kind_of, AnswersOnce}
+use Rattle.isle_core.specs.Calling.{kind_of, is_several, AnswersOnce}
 use Rattle.isle_core.specs.declared.BindingId.{BindingId}
 use Rattle.isle_core.specs.declared.TypeId.{TypeId}
 use Rattle.isle_core.specs.declared.files.Files.{Files}
@@ -31,19 +30,19 @@ use Rattle.isle_core.specs.RuleSet.{gave}
 use Rattle.isle_core.specs.BlockRun.{bind_all, block_run, control_run, block_outcome}
 use Rattle.isle_core.specs.Bindable.{bound_by}
 use Rattle.isle_core.specs.BlockLawful.{IsLawfulBlock}
-use Rattle.isle_core.specs.Occurrences.{AreNew, occurrences, after_block, after_control}
+use Rattle.isle_core.specs.Occurrences.{occurrences, after_block, after_control}
 use Rattle.isle_core.specs.Terms.{sym_text, impure_calls}
 use Rattle.isle_core.specs.Rule.{Environment}
 use Rattle.isle_core.specs.HasType.{HaveTypes}
 use Rattle.isle_core.specs.NamesApart.{ValuesConstants}
-use Rattle.isle_core.specs.Setting.{Setting, setting, paths_in}
+use Rattle.isle_core.specs.Setting.{Setting, setting, gives_several, paths_in}
 use Rattle.isle_core.specs.SingleArms.{HasSingleArms, IsSingle}
 use Rattle.isle_tree.specs.declared.tree.Operand.{Operand}
 use Rattle.isle_tree.specs.declared.tree.Read.{Read}
 use Rattle.isle_tree.specs.declared.tree.Read.TheVariants as read
 use Rattle.isle_tree.specs.declared.tree.TPat.{TPat}
 use Rattle.isle_tree.specs.Program.{IfEq, IfLet, Body, Done, Then, Function, Program}
-use Rattle.isle_tree.specs.Run.{Around, Env, value_of, read_value, fitted, Flow, Goes, then_run, after_scope, run_return, run_stmt, run_body, ended, nothing_done, around, room, function_run}
+use Rattle.isle_tree.specs.Run.{Around, Env, value_of, read_value, fitted, Flow, Goes, then_run, after_scope, run_stmt, run_body, ended, nothing_done, around, room, function_run}
 use Rattle.isle_simulation.specs.Completed.{completed}
 use Rattle.isle_simulation.specs.Patterns.{pattern_of}
 use Rattle.isle_simulation.specs.TermFunction.{ends_in_return, mark_of, tail_body, log_lines}
@@ -56,13 +55,13 @@ use Rattle.isle_simulation.proofs.BindsRun.{LetsRun, lets_run}
 use Rattle.isle_simulation.proofs.OneBind.{AreUnanswered, Keeps, done, EndsSo, ends_on, ends_as_well}
 use Rattle.isle_simulation.proofs.CompletedReady.{completed_ready}
 use Rattle.isle_simulation.proofs.CompletedRuns.{completed_runs, completed_single}
-use Rattle.isle_core.proofs.HeldStays.{Grows}
+use Rattle.isle_simulation.proofs.KnownAlong.{KnowsOnly, IsLater, WentOn, kept_grows, kept_only, new_unanswered, on_left, on_right, on_first, same_later, goes_twice}
 use Rattle.isle_simulation.proofs.LocalsAgree.{Agree, none_agree, agree_later, operand_reads, option_reads, written_reads}
 use Rattle.isle_simulation.proofs.Made.{over_value, over_option}
 use Rattle.isle_simulation.proofs.NamelessLaws.{AreSameCalls, run_same}
 use Rattle.isle_simulation.proofs.PathValues.{Grounds, constraint_tests, IsConstant}
 use Rattle.isle_simulation.proofs.Ready.{IsReady, IsOptionReady, IsReadyFrom, IsReadyControl}
-use Rattle.isle_simulation.proofs.Written.{written_operand, written_read, written_test, written_pattern, block_body, control_stmt, end_of, returned, written_body, logged_function}
+use Rattle.isle_simulation.proofs.Written.{written_operand, written_read, written_test, written_pattern, block_body, control_stmt, end_of, result_stmt, stop_before, written_body, logged_function}
 
 -- ---- how statements go
 
@@ -70,94 +69,48 @@ use Rattle.isle_simulation.proofs.Written.{written_operand, written_read, writte
 record GoesOn (env : Environment) (u : Around) (f : Body → Flow) (calls : List Made) : Type 0 where
   after : Env
   those : List Made
-  is : (end : Body) → f end ≡ run_body u end after (done those)
+  is : (end : Body) → f end ≡ run_body u end after (done [] those)
   same : AreSameCalls env those calls
 
 -- statements go as a block that went so
 abbrev RunsSo : Environment → ReturnKind → Around → (Body → Flow) → Went → Type 0
 RunsSo env kind u f (went.Goes later calls) = GoesOn env u f calls
-RunsSo env kind u f (went.Ends o) = (end : Body) → EndsSo env kind (f end) o
+RunsSo env kind u f (went.Ends o) = (end : Body) → EndsSo [] env kind (f end) o
 
 -- a statement goes on with the locals that were there
 record StaysSo (env : Environment) (locals : Env) (f : Flow) (calls : List Made) : Type 0 where
   those : List Made
-  is : f ≡ Goes locals (done those)
+  is : f ≡ Goes locals (done [] those)
   same : AreSameCalls env those calls
 
 -- a statement goes as a step that went so
 abbrev DoesSo : Environment → ReturnKind → Env → Flow → Went → Type 0
 DoesSo env kind locals f (went.Goes later calls) = StaysSo env locals f calls
-DoesSo env kind locals f (went.Ends o) = EndsSo env kind f o
+DoesSo env kind locals f (went.Ends o) = EndsSo [] env kind f o
 
 runs_by : (env : Environment) (kind : ReturnKind) (u : Around) (f h : Body → Flow) (w : Went) → ((end : Body) → f end ≡ h end) → RunsSo env kind u h w → RunsSo env kind u f w
 runs_by env kind u f h (went.Goes later calls) e r = record { after = r.after; those = r.those; is = λ end. e end ∙ r.is end; same = r.same }
-runs_by env kind u f h (went.Ends o) e r = λ end. ends_as_well env kind (f end) (h end) o (e end) (r end)
+runs_by env kind u f h (went.Ends o) e r = λ end. ends_as_well [] env kind (f end) (h end) o (e end) (r end)
 
 does_by : (env : Environment) (kind : ReturnKind) (locals : Env) (f h : Flow) (w : Went) → f ≡ h → DoesSo env kind locals h w → DoesSo env kind locals f w
 does_by env kind locals f h (went.Goes later calls) e r = record { those = r.those; is = e ∙ r.is; same = r.same }
-does_by env kind locals f h (went.Ends o) e r = ends_as_well env kind f h o e r
+does_by env kind locals f h (went.Ends o) e r = ends_as_well [] env kind f h o e r
 
 -- behind a body stand the outer locals
 scope_does : (env : Environment) (kind : ReturnKind) (u : Around) (locals : Env) (f : Body → Flow) (w : Went) → RunsSo env kind u f w → DoesSo env kind locals (after_scope locals (f Done)) w
 scope_does env kind u locals f (went.Goes later calls) r = record { those = r.those; is = ap (after_scope locals) (r.is Done); same = r.same }
 scope_does env kind u locals f (went.Ends o) r = let e = r Done in record { end = e.end; those = e.those; is = ap (after_scope locals) e.is; same = e.same; calls = e.calls }
 
-return_does : (env : Environment) (u : Around) (kind : ReturnKind) (q : Read) (r v : Value) (locals : Env) (calls those : List Made) → read_value u locals q ≡ a_value r → nameless r ≡ nameless v → AreSameCalls env those calls
-    → EndsSo env kind (run_return u (returned kind q) locals (done those)) (record { result = Value' v; calls = calls })
-return_does env u return_kind.Plain q r v locals calls those e same made = record { end = Gives r; those = those; is = rw e refl; same = ap Gives same; calls = made }
-return_does env u return_kind.Option q r v locals calls those e same made = record { end = GivesSome r; those = those; is = rw e refl; same = ap GivesSome same; calls = made }
-return_does env u return_kind.Iterator q r v locals calls those e same made = record { end = Gives r; those = those; is = rw e refl; same = ap Gives same; calls = made }
+-- no stop stands where one result is given
+no_stop : (several : Bool) → several ≡ false → (c : Control) (after : Body) → stop_before several c after ≡ after
+no_stop false e c after = refl
+no_stop true e c after = cc
 
--- ---- what is known along a way
-
--- only these calls may have been answered
-abbrev KnowsOnly : (made : List ℕ) → Known → Type 0
-KnowsOnly made known = (k : ℕ) → (Contains made k → ⊥) → known k ≡ None
-
--- what is known stays, and only these calls may have been answered
-record IsLater (known : Known) (made : List ℕ) (later : Known) : Type 0 where
-  grows : Grows known later
-  only : KnowsOnly made later
-
--- so where a run goes on
-abbrev WentOn : Known → (made : List ℕ) → Went → Type 0
-WentOn known made (went.Goes later calls) = IsLater known made later
-WentOn known made (went.Ends o) = Unit {0}
-
-grows_twice : (known later last : Known) → Grows known later → Grows later last → Grows known last
-grows_twice known later last g h = record { by = λ k a e. h.by k a (g.by k a e) }
-
--- answers to calls that are new
-kept_grows : (ks : List ℕ) (known later : Known) → AreUnanswered known ks → Keeps ks known later → Grows known later
-kept_grows ks known later new keeps = record { by = λ k a e. keeps k (λ c. let bad : None ≡ Some a = sym (new k c) ∙ e in cc) ∙ e }
-
-kept_only : (made ks : List ℕ) (known later : Known) → KnowsOnly made known → Keeps ks known later → KnowsOnly (made ++ ks) later
-kept_only made ks known later only keeps k apart = keeps k (λ c. apart (Contains-append_right made ks k c)) ∙ only k (λ c. apart (Contains-append_left made ks k c))
-
--- the calls of a bind order, where they are new
-new_unanswered : (made ks : List ℕ) (known : Known) → KnowsOnly made known → AreNew made ks → AreUnanswered known ks
-new_unanswered made ks known only new k c = only k (λ d. new.apart k d c)
-
--- more calls may have been answered
-on_left : (made more : List ℕ) (known later : Known) → IsLater known made later → IsLater known (made ++ more) later
-on_left made more known later h = record { grows = h.grows; only = λ k apart. h.only k (λ c. apart (Contains-append_left made more k c)) }
-
-on_right : (made more : List ℕ) (known : Known) (w : Went) → WentOn known more w → WentOn known (made ++ more) w
-on_right made more known (went.Goes later calls) h = record { grows = h.grows; only = λ k apart. h.only k (λ c. apart (Contains-append_right made more k c)) }
-on_right made more known (went.Ends o) h = tt
-
-on_first : (more others : List ℕ) (known : Known) (w : Went) → WentOn known more w → WentOn known (more ++ others) w
-on_first more others known (went.Goes later calls) h = on_left more others known later h
-on_first more others known (went.Ends o) h = tt
-
--- the same is known as before
-same_later : (known : Known) (made : List ℕ) → KnowsOnly made known → IsLater known made known
-same_later known made only = record { grows = record { by = λ k a e. e }; only = only }
-
--- what is known before a step stays to the end
-goes_twice : (known later : Known) (made : List ℕ) (w : Went) → Grows known later → WentOn later made w → WentOn known made w
-goes_twice known later made (went.Goes last all) g h = record { grows = grows_twice known later last g h.grows; only = h.only }
-goes_twice known later made (went.Ends o) g h = tt
+return_does : (env : Environment) (u : Around) (kind : ReturnKind) → is_several kind ≡ false → (q : Read) (r v : Value) (locals : Env) (calls those : List Made) → read_value u locals q ≡ a_value r → nameless r ≡ nameless v → AreSameCalls env those calls
+    → EndsSo [] env kind (run_stmt u (result_stmt kind q) locals (done [] those)) (record { result = Value' v; calls = calls })
+return_does env u return_kind.Plain few q r v locals calls those e same made = record { end = Gives r; those = those; is = rw e refl; same = ap Gives same; calls = made }
+return_does env u return_kind.Option few q r v locals calls those e same made = record { end = GivesSome r; those = those; is = rw e refl; same = ap GivesSome same; calls = made }
+return_does env u return_kind.Iterator few q r v locals calls those e same made = cc
 
 -- ---- blocks
 
@@ -167,99 +120,100 @@ record Does (env : Environment) (kind : ReturnKind) (locals : Env) (known : Know
   goes : WentOn known made w
 
 -- a test that doesn't hold
-skip : (env : Environment) (kind : ReturnKind) (locals : Env) (known : Known) (made more : List ℕ) (f : Flow) (w : Went) (calls those : List Made) → KnowsOnly made known → AreSameCalls env those calls → f ≡ Goes locals (done those) → w ≡ went.Goes known calls → Does env kind locals known (made ++ more) f w
+skip : (env : Environment) (kind : ReturnKind) (locals : Env) (known : Known) (made more : List ℕ) (f : Flow) (w : Went) (calls those : List Made) → KnowsOnly made known → AreSameCalls env those calls → f ≡ Goes locals (done [] those) → w ≡ went.Goes known calls → Does env kind locals known (made ++ more) f w
 skip env kind locals known made more f w calls those only same e is =
     subst (Does env kind locals known (made ++ more) f) (sym is) (record { runs = record { those = those; is = e; same = same }; goes = on_left made more known known (same_later known made only) })
 
-module _ (s : Setting) (u : Around) (g : Grounds s u) where
+module _ (s : Setting) (u : Around) (g : Grounds s u) (few : gives_several s ≡ false) where
   -- the statements of a block go as the block, whatever follows them
   record Runs (bound made : List ℕ) (b : Block) (locals : Env) (known : Known) (calls those : List Made) : Type 0 where
-    runs : RunsSo s.env (kind_of s.term.kind) u (λ end. run_body u (block_body s bound b end) locals (done those)) (block_run s.env u.meaning u.args (paths_in s) b known calls)
-    goes : WentOn known (after_block s.env (paths_in s) made b) (block_run s.env u.meaning u.args (paths_in s) b known calls)
+    runs : RunsSo s.env (kind_of s.term.kind) u (λ end. run_body u (block_body s bound b end) locals (done [] those)) (block_run s.env u.meaning u.args (paths_in s) b known calls)
+    goes : WentOn known (after_block (gives_several s) s.env (paths_in s) made b) (block_run s.env u.meaning u.args (paths_in s) b known calls)
 
   -- a statement, and the steps after it
   record RunsAfter (bound made : List ℕ) (known : Known) (f : Flow) (w : Went) (more : Block) : Type 0 where
     runs : RunsSo s.env (kind_of s.term.kind) u (λ end. then_run f (run_body u (block_body s bound more end))) (then_go w (block_run s.env u.meaning u.args (paths_in s) more))
-    goes : WentOn known (after_block s.env (paths_in s) made more) (then_go w (block_run s.env u.meaning u.args (paths_in s) more))
+    goes : WentOn known (after_block (gives_several s) s.env (paths_in s) made more) (then_go w (block_run s.env u.meaning u.args (paths_in s) more))
 
   runs_after : (bound made : List ℕ) (known : Known) (f : Flow) (w : Went) (more : Block) (locals : Env) → Does s.env (kind_of s.term.kind) locals known made f w
       → ((last : Known) (all behind : List Made) → AreSameCalls s.env behind all → IsLater known made last → Runs bound made more locals last all behind) → RunsAfter bound made known f w more
   runs_after bound made known f (went.Goes last all) more locals is h =
       let r = h last all is.runs.those is.runs.same is.goes in
       record {
-        runs = runs_by s.env (kind_of s.term.kind) u (λ end. then_run f (run_body u (block_body s bound more end))) (λ end. run_body u (block_body s bound more end) locals (done is.runs.those)) (block_run s.env u.meaning u.args (paths_in s) more last all)
+        runs = runs_by s.env (kind_of s.term.kind) u (λ end. then_run f (run_body u (block_body s bound more end))) (λ end. run_body u (block_body s bound more end) locals (done [] is.runs.those)) (block_run s.env u.meaning u.args (paths_in s) more last all)
             (λ end. ap (λ x. then_run x (run_body u (block_body s bound more end))) is.runs.is) r.runs;
-        goes = goes_twice known last (after_block s.env (paths_in s) made more) (block_run s.env u.meaning u.args (paths_in s) more last all) is.goes.grows r.goes;
+        goes = goes_twice known last (after_block (gives_several s) s.env (paths_in s) made more) (block_run s.env u.meaning u.args (paths_in s) more last all) is.goes.grows r.goes;
       }
-  runs_after bound made known f (went.Ends o) more locals is h = record { runs = λ end. ends_on s.env (kind_of s.term.kind) f o (run_body u (block_body s bound more end)) is.runs; goes = tt }
+  runs_after bound made known f (went.Ends o) more locals is h = record { runs = λ end. ends_on [] s.env (kind_of s.term.kind) f o (run_body u (block_body s bound more end)) is.runs; goes = tt }
 
   -- a step, after its lets
   step_runs : (bound made : List ℕ) (binds : List BindingId) (c : Control) (more : Block) (locals : Env) (known : Known) (calls those : List Made) (w : Went) → bind_all s.env u.meaning u.args (paths_in s) binds known calls ≡ w → AreUnanswered known (occurrences s.env (paths_in s) binds)
-      → LetsRun s u bound binds known those locals w
+      → LetsRun s u bound binds known [] those locals w
       → ((later : Known) (all behind : List Made) (after : Env) → AreSameCalls s.env behind all → Keeps (occurrences s.env (paths_in s) binds) known later → Agree s u (bound_by bound binds) later after
-      → Does s.env (kind_of s.term.kind) after later (after_control s.env (paths_in s) (made ++ occurrences s.env (paths_in s) binds) c) (run_stmt u (control_stmt s (bound_by bound binds) c) after (done behind)) (control_run s.env u.meaning u.args (paths_in s) c later all)
-      × ((last : Known) (all' behind' : List Made) → AreSameCalls s.env behind' all' → IsLater later (after_control s.env (paths_in s) (made ++ occurrences s.env (paths_in s) binds) c) last → Runs (bound_by bound binds) (after_control s.env (paths_in s) (made ++ occurrences s.env (paths_in s) binds) c) more after last all' behind'))
+      → Does s.env (kind_of s.term.kind) after later (after_control (gives_several s) s.env (paths_in s) (made ++ occurrences s.env (paths_in s) binds) c) (run_stmt u (control_stmt s (bound_by bound binds) c) after (done [] behind)) (control_run s.env u.meaning u.args (paths_in s) c later all)
+      × ((last : Known) (all' behind' : List Made) → AreSameCalls s.env behind' all' → IsLater later (after_control (gives_several s) s.env (paths_in s) (made ++ occurrences s.env (paths_in s) binds) c) last → Runs (bound_by bound binds) (after_control (gives_several s) s.env (paths_in s) (made ++ occurrences s.env (paths_in s) binds) c) more after last all' behind'))
       → Runs bound made (Step binds c more) locals known calls those
   step_runs bound made binds c more locals known calls those (went.Ends o) e new is rest = record {
-    runs = subst (λ x. RunsSo s.env (kind_of s.term.kind) u (λ end. run_body u (block_body s bound (Step binds c more) end) locals (done those)) (then_go (then_go x (control_run s.env u.meaning u.args (paths_in s) c)) (block_run s.env u.meaning u.args (paths_in s) more))) (sym e)
-        (λ end. is (Then (control_stmt s (bound_by bound binds) c) (block_body s (bound_by bound binds) more end)));
-    goes = subst (λ x. WentOn known (after_block s.env (paths_in s) made (Step binds c more)) (then_go (then_go x (control_run s.env u.meaning u.args (paths_in s) c)) (block_run s.env u.meaning u.args (paths_in s) more))) (sym e) tt;
+    runs = subst (λ x. RunsSo s.env (kind_of s.term.kind) u (λ end. run_body u (block_body s bound (Step binds c more) end) locals (done [] those)) (then_go (then_go x (control_run s.env u.meaning u.args (paths_in s) c)) (block_run s.env u.meaning u.args (paths_in s) more))) (sym e)
+        (λ end. is (Then (control_stmt s (bound_by bound binds) c) (stop_before (gives_several s) c (block_body s (bound_by bound binds) more end))));
+    goes = subst (λ x. WentOn known (after_block (gives_several s) s.env (paths_in s) made (Step binds c more)) (then_go (then_go x (control_run s.env u.meaning u.args (paths_in s) c)) (block_run s.env u.meaning u.args (paths_in s) more))) (sym e) tt;
   }
   step_runs bound made binds c more locals known calls those (went.Goes later all) e new is rest =
       let ps = paths_in s in
       let ks = occurrences s.env ps binds in
       let k = rest later all is.behind is.after is.same is.keeps is.agree in
-      let f = run_stmt u (control_stmt s (bound_by bound binds) c) is.after (done is.behind) in
+      let f = run_stmt u (control_stmt s (bound_by bound binds) c) is.after (done [] is.behind) in
       let w = control_run s.env u.meaning u.args ps c later all in
-      let r = runs_after (bound_by bound binds) (after_control s.env ps (made ++ ks) c) later f w more is.after k.0 k.1 in
+      let r = runs_after (bound_by bound binds) (after_control (gives_several s) s.env ps (made ++ ks) c) later f w more is.after k.0 k.1 in
       record {
-        runs = subst (λ x. RunsSo s.env (kind_of s.term.kind) u (λ end. run_body u (block_body s bound (Step binds c more) end) locals (done those)) (then_go (then_go x (control_run s.env u.meaning u.args ps c)) (block_run s.env u.meaning u.args ps more))) (sym e)
-            (runs_by s.env (kind_of s.term.kind) u (λ end. run_body u (block_body s bound (Step binds c more) end) locals (done those)) (λ end. then_run f (run_body u (block_body s (bound_by bound binds) more end))) (then_go w (block_run s.env u.meaning u.args ps more))
-            (λ end. is.runs (Then (control_stmt s (bound_by bound binds) c) (block_body s (bound_by bound binds) more end))) r.runs);
-        goes = subst (λ x. WentOn known (after_block s.env ps made (Step binds c more)) (then_go (then_go x (control_run s.env u.meaning u.args ps c)) (block_run s.env u.meaning u.args ps more))) (sym e)
-            (goes_twice known later (after_block s.env ps made (Step binds c more)) (then_go w (block_run s.env u.meaning u.args ps more)) (kept_grows ks known later new is.keeps) r.goes);
+        runs = subst (λ x. RunsSo s.env (kind_of s.term.kind) u (λ end. run_body u (block_body s bound (Step binds c more) end) locals (done [] those)) (then_go (then_go x (control_run s.env u.meaning u.args ps c)) (block_run s.env u.meaning u.args ps more))) (sym e)
+            (runs_by s.env (kind_of s.term.kind) u (λ end. run_body u (block_body s bound (Step binds c more) end) locals (done [] those)) (λ end. then_run f (run_body u (block_body s (bound_by bound binds) more end))) (then_go w (block_run s.env u.meaning u.args ps more))
+            (λ end. is.runs (Then (control_stmt s (bound_by bound binds) c) (stop_before (gives_several s) c (block_body s (bound_by bound binds) more end)))
+            ∙ ap (λ x. then_run f (run_body u x)) (no_stop (gives_several s) few c (block_body s (bound_by bound binds) more end))) r.runs);
+        goes = subst (λ x. WentOn known (after_block (gives_several s) s.env ps made (Step binds c more)) (then_go (then_go x (control_run s.env u.meaning u.args ps c)) (block_run s.env u.meaning u.args ps more))) (sym e)
+            (goes_twice known later (after_block (gives_several s) s.env ps made (Step binds c more)) (then_go w (block_run s.env u.meaning u.args ps more)) (kept_grows ks known later new is.keeps) r.goes);
       }
 
   -- two values that are compared, and the body behind that
   equal_does : (a b : Operand) (bound made more : List ℕ) (body : Block) (locals : Env) (known : Known) (calls those : List Made) (r q : Value) (x : Bool) → value_of u locals a ≡ a_value r → value_of u locals b ≡ a_value q → same_in_run r q ≡ x
       → KnowsOnly made known → AreSameCalls s.env those calls → Runs bound made body locals known calls those
       → WentOn known (made ++ more) (block_run s.env u.meaning u.args (paths_in s) body known calls)
-      → Does s.env (kind_of s.term.kind) locals known (made ++ more) (run_stmt u (IfEq a b (block_body s bound body Done)) locals (done those)) (cond x (block_run s.env u.meaning u.args (paths_in s) body known calls) (went.Goes known calls))
+      → Does s.env (kind_of s.term.kind) locals known (made ++ more) (run_stmt u (IfEq a b (block_body s bound body Done)) locals (done [] those)) (cond x (block_run s.env u.meaning u.args (paths_in s) body known calls) (went.Goes known calls))
   equal_does a b bound made more body locals known calls those r q true e f same only made' runs goes = record {
-    runs = does_by s.env (kind_of s.term.kind) locals _ (after_scope locals (run_body u (block_body s bound body Done) locals (done those))) (block_run s.env u.meaning u.args (paths_in s) body known calls) (rw (e, f, same) refl)
-        (scope_does s.env (kind_of s.term.kind) u locals (λ end. run_body u (block_body s bound body end) locals (done those)) (block_run s.env u.meaning u.args (paths_in s) body known calls) runs.runs);
+    runs = does_by s.env (kind_of s.term.kind) locals _ (after_scope locals (run_body u (block_body s bound body Done) locals (done [] those))) (block_run s.env u.meaning u.args (paths_in s) body known calls) (rw (e, f, same) refl)
+        (scope_does s.env (kind_of s.term.kind) u locals (λ end. run_body u (block_body s bound body end) locals (done [] those)) (block_run s.env u.meaning u.args (paths_in s) body known calls) runs.runs);
     goes = goes;
   }
   equal_does a b bound made more body locals known calls those r q false e f same only made' runs goes = skip s.env (kind_of s.term.kind) locals known made more _ (went.Goes known calls) calls those only made' (rw (e, f, same) refl) refl
 
-  arm_goes : (made : List ℕ) (body : Block) (known : Known) (w : Went) → WentOn known (after_block s.env (paths_in s) made body) w → WentOn known (made ++ (after_block s.env (paths_in s) made body ++ [])) w
-  arm_goes made body known w h = on_right made (after_block s.env (paths_in s) made body ++ []) known w (on_first (after_block s.env (paths_in s) made body) [] known w h)
+  arm_goes : (made : List ℕ) (body : Block) (known : Known) (w : Went) → WentOn known (after_block (gives_several s) s.env (paths_in s) made body) w → WentOn known (made ++ (after_block (gives_several s) s.env (paths_in s) made body ++ [])) w
+  arm_goes made body known w h = on_right made (after_block (gives_several s) s.env (paths_in s) made body ++ []) known w (on_first (after_block (gives_several s) s.env (paths_in s) made body) [] known w h)
 
   -- an arm that tests for a constant
   constant_does : (bound made : List ℕ) (source : BindingId) (ty : TypeId) (c : Constraint) (places : List (Option BindingId)) (body : Block) (locals : Env) (known : Known) (calls those : List Made) → KnowsOnly made known → AreSameCalls s.env those calls → Agree s u bound known locals
       → IsReady s bound source ty → IsConstraintOf s.env c ty → IsConstant c → Runs (bound_within bound places) made body locals known calls those
-      → Does s.env (kind_of s.term.kind) locals known (after_control s.env (paths_in s) made (block.Match source (Arm c places body NoArm))) (run_stmt u (IfEq (written_operand s bound source) (written_test s.env c) (block_body s (bound_within bound places) body Done)) locals (done those))
+      → Does s.env (kind_of s.term.kind) locals known (after_control (gives_several s) s.env (paths_in s) made (block.Match source (Arm c places body NoArm))) (run_stmt u (IfEq (written_operand s bound source) (written_test s.env c) (block_body s (bound_within bound places) body Done)) locals (done [] those))
       (control_run s.env u.meaning u.args (paths_in s) (block.Match source (Arm c places body NoArm)) known calls)
   constant_does bound made source ty c places body locals known calls those only same a ready is constant runs =
       let v = operand_reads s u bound known locals source ty g a ready in
       let w = constraint_tests s.env u c ty g.names g.constants is constant in
-      let after = after_block s.env (paths_in s) made body in
-      subst (λ h. Does s.env (kind_of s.term.kind) locals known (made ++ (after ++ [])) (run_stmt u (IfEq (written_operand s bound source) (written_test s.env c) (block_body s (bound_within bound places) body Done)) locals (done those)) (cond (meets s.env u.meaning c h) (block_run s.env u.meaning u.args (paths_in s) body known calls) (went.Goes known calls))) (sym v.block)
+      let after = after_block (gives_several s) s.env (paths_in s) made body in
+      subst (λ h. Does s.env (kind_of s.term.kind) locals known (made ++ (after ++ [])) (run_stmt u (IfEq (written_operand s bound source) (written_test s.env c) (block_body s (bound_within bound places) body Done)) locals (done [] those)) (cond (meets s.env u.meaning c h) (block_run s.env u.meaning u.args (paths_in s) body known calls) (went.Goes known calls))) (sym v.block)
       (equal_does (written_operand s bound source) (written_test s.env c) (bound_within bound places) made (after ++ []) body locals known calls those v.r w.w (meets s.env u.meaning c (a_value v.v)) v.run (w.place locals) (w.met v.r v.v v.same v.typed) only same runs
       (arm_goes made body known (block_run s.env u.meaning u.args (paths_in s) body known calls) runs.goes))
 
   -- an arm that tests by a pattern
   pattern_does : (bound made : List ℕ) (source : BindingId) (c : Constraint) (places : List (Option BindingId)) (body : Block) (locals : Env) (known : Known) (calls those : List Made) (q : Read) (h : Held) → KnowsOnly made known → AreSameCalls s.env those calls
       → value_at s.env u.meaning u.args known (at (paths_in s) source) ≡ h → ArmFits s u bound known locals c places (read_value u locals q) h → ((inner : Env) → Agree s u (bound_within bound places) known inner → Runs (bound_within bound places) made body inner known calls those)
-      → Does s.env (kind_of s.term.kind) locals known (after_control s.env (paths_in s) made (block.Match source (Arm c places body NoArm))) (run_stmt u (IfLet (written_pattern (pattern_of s.env c places)) q (block_body s (bound_within bound places) body Done)) locals (done those))
+      → Does s.env (kind_of s.term.kind) locals known (after_control (gives_several s) s.env (paths_in s) made (block.Match source (Arm c places body NoArm))) (run_stmt u (IfLet (written_pattern (pattern_of s.env c places)) q (block_body s (bound_within bound places) body Done)) locals (done [] those))
       (control_run s.env u.meaning u.args (paths_in s) (block.Match source (Arm c places body NoArm)) known calls)
   pattern_does bound made source c places body locals known calls those q h only same held fits runs =
-      subst (λ x. Does s.env (kind_of s.term.kind) locals known (made ++ (after ++ [])) (run_stmt u (IfLet (written_pattern (pattern_of s.env c places)) q inside) locals (done those)) (cond (meets s.env u.meaning c x) w (went.Goes known calls))) (sym held)
-      (subst (λ p. Does s.env (kind_of s.term.kind) locals known (made ++ (after ++ [])) (run_stmt u (IfLet (written_pattern p) q inside) locals (done those)) (cond (meets s.env u.meaning c h) w (went.Goes known calls))) (sym fits.spelled)
+      subst (λ x. Does s.env (kind_of s.term.kind) locals known (made ++ (after ++ [])) (run_stmt u (IfLet (written_pattern (pattern_of s.env c places)) q inside) locals (done [] those)) (cond (meets s.env u.meaning c x) w (went.Goes known calls))) (sym held)
+      (subst (λ p. Does s.env (kind_of s.term.kind) locals known (made ++ (after ++ [])) (run_stmt u (IfLet (written_pattern p) q inside) locals (done [] those)) (cond (meets s.env u.meaning c h) w (went.Goes known calls))) (sym fits.spelled)
       (by fits.pat (meets s.env u.meaning c h) fits.fits))
     where
       after : List ℕ
-      after = after_block s.env (paths_in s) made body
+      after = after_block (gives_several s) s.env (paths_in s) made body
 
       inside : Body
       inside = block_body s (bound_within bound places) body Done
@@ -267,20 +221,20 @@ module _ (s : Setting) (u : Around) (g : Grounds s u) where
       w : Went
       w = block_run s.env u.meaning u.args (paths_in s) body known calls
 
-      by : (pat : TPat) (x : Bool) → FitsBy s u bound known locals places pat (read_value u locals q) x → Does s.env (kind_of s.term.kind) locals known (made ++ (after ++ [])) (run_stmt u (IfLet pat q inside) locals (done those)) (cond x w (went.Goes known calls))
-      by pat false k = skip s.env (kind_of s.term.kind) locals known made (after ++ []) _ (went.Goes known calls) calls those only same (ap (λ o. fitted o (λ more. after_scope locals (run_body u inside (locals ++ more) (done those))) (Goes locals (done those))) k) refl
+      by : (pat : TPat) (x : Bool) → FitsBy s u bound known locals places pat (read_value u locals q) x → Does s.env (kind_of s.term.kind) locals known (made ++ (after ++ [])) (run_stmt u (IfLet pat q inside) locals (done [] those)) (cond x w (went.Goes known calls))
+      by pat false k = skip s.env (kind_of s.term.kind) locals known made (after ++ []) _ (went.Goes known calls) calls those only same (ap (λ o. fitted o (λ more. after_scope locals (run_body u inside (locals ++ more) (done [] those))) (Goes locals (done [] those))) k) refl
       by pat true k =
           let r = runs (locals ++ k.0) k.2 in
           record {
-            runs = does_by s.env (kind_of s.term.kind) locals _ (after_scope locals (run_body u inside (locals ++ k.0) (done those))) w (ap (λ o. fitted o (λ more. after_scope locals (run_body u inside (locals ++ more) (done those))) (Goes locals (done those))) k.1)
-                (scope_does s.env (kind_of s.term.kind) u locals (λ end. run_body u (block_body s (bound_within bound places) body end) (locals ++ k.0) (done those)) w r.runs);
+            runs = does_by s.env (kind_of s.term.kind) locals _ (after_scope locals (run_body u inside (locals ++ k.0) (done [] those))) w (ap (λ o. fitted o (λ more. after_scope locals (run_body u inside (locals ++ more) (done [] those))) (Goes locals (done [] those))) k.1)
+                (scope_does s.env (kind_of s.term.kind) u locals (λ end. run_body u (block_body s (bound_within bound places) body end) (locals ++ k.0) (done [] those)) w r.runs);
             goes = arm_goes made body known w r.goes;
           }
 
   -- so of a variant or a struct
   form_does : (bound made : List ℕ) (source : BindingId) (ty : TypeId) (c : Constraint) (places : List (Option BindingId)) (body : Block) (locals : Env) (known : Known) (calls those : List Made) → KnowsOnly made known → AreSameCalls s.env those calls → Agree s u bound known locals
       → IsReady s bound source ty → IsConstraintOf s.env c ty → ArePlacesOf s source c places → IsForm c → ((inner : Env) → Agree s u (bound_within bound places) known inner → Runs (bound_within bound places) made body inner known calls those)
-      → Does s.env (kind_of s.term.kind) locals known (after_control s.env (paths_in s) made (block.Match source (Arm c places body NoArm))) (run_stmt u (IfLet (written_pattern (pattern_of s.env c places)) (written_read s bound true source) (block_body s (bound_within bound places) body Done)) locals (done those))
+      → Does s.env (kind_of s.term.kind) locals known (after_control (gives_several s) s.env (paths_in s) made (block.Match source (Arm c places body NoArm))) (run_stmt u (IfLet (written_pattern (pattern_of s.env c places)) (written_read s bound true source) (block_body s (bound_within bound places) body Done)) locals (done [] those))
       (control_run s.env u.meaning u.args (paths_in s) (block.Match source (Arm c places body NoArm)) known calls)
   form_does bound made source ty c places body locals known calls those only same a ready is parts form runs =
       let v = written_reads s u bound known locals true source ty g a ready in
@@ -290,7 +244,7 @@ module _ (s : Setting) (u : Around) (g : Grounds s u) where
   -- and of an option
   some_does : (bound made : List ℕ) (source : BindingId) (tys : List TypeId) (places : List (Option BindingId)) (body : Block) (locals : Env) (known : Known) (calls those : List Made) → KnowsOnly made known → AreSameCalls s.env those calls → Agree s u bound known locals
       → IsOptionReady s bound source tys → ArePlacesOf s source constraint.Some places → ((inner : Env) → Agree s u (bound_within bound places) known inner → Runs (bound_within bound places) made body inner known calls those)
-      → Does s.env (kind_of s.term.kind) locals known (after_control s.env (paths_in s) made (block.Match source (Arm constraint.Some places body NoArm))) (run_stmt u (IfLet (written_pattern (pattern_of s.env constraint.Some places)) (read.Plain (written_operand s bound source)) (block_body s (bound_within bound places) body Done)) locals (done those))
+      → Does s.env (kind_of s.term.kind) locals known (after_control (gives_several s) s.env (paths_in s) made (block.Match source (Arm constraint.Some places body NoArm))) (run_stmt u (IfLet (written_pattern (pattern_of s.env constraint.Some places)) (read.Plain (written_operand s bound source)) (block_body s (bound_within bound places) body Done)) locals (done [] those))
       (control_run s.env u.meaning u.args (paths_in s) (block.Match source (Arm constraint.Some places body NoArm)) known calls)
   some_does bound made source tys places body locals known calls those only same a ready parts runs =
       let o = option_reads s u bound known locals source tys a ready.bound' ready.path in
@@ -308,14 +262,14 @@ module _ (s : Setting) (u : Around) (g : Grounds s u) where
         let ks = occurrences s.env (paths_in s) binds in
         let new = new_unanswered made ks known only k.1 in
         step_runs bound made binds c more locals known calls those (bind_all s.env u.meaning u.args (paths_in s) binds known calls) refl new
-        (lets_run s u bound binds known calls those locals g same k.0 k.1.once new a)
+        (lets_run s u bound binds known [] calls those locals g same k.0 k.1.once new a)
         (λ later all behind after same' keeps agree. (
           control_runs c (bound_by bound binds) (made ++ ks) after later all behind (kept_only made ks known later only keeps) same' k.2 o.0 agree,
-          λ last all' behind' same'' is. block_runs more (bound_by bound binds) (after_control s.env (paths_in s) (made ++ ks) c) after last all' behind' is.only same'' k.3 o.1 (agree_later s u (bound_by bound binds) later last after is.grows agree),
+          λ last all' behind' same'' is. block_runs more (bound_by bound binds) (after_control (gives_several s) s.env (paths_in s) (made ++ ks) c) after last all' behind' is.only same'' k.3 o.1 (agree_later s u (bound_by bound binds) later last after is.grows agree),
         ))
 
     control_runs : (c : Control) (bound made : List ℕ) (locals : Env) (known : Known) (calls those : List Made) → KnowsOnly made known → AreSameCalls s.env those calls → IsReadyControl s bound made c → IsSingle c → Agree s u bound known locals
-        → Does s.env (kind_of s.term.kind) locals known (after_control s.env (paths_in s) made c) (run_stmt u (control_stmt s bound c) locals (done those)) (control_run s.env u.meaning u.args (paths_in s) c known calls)
+        → Does s.env (kind_of s.term.kind) locals known (after_control (gives_several s) s.env (paths_in s) made c) (run_stmt u (control_stmt s bound c) locals (done [] those)) (control_run s.env u.meaning u.args (paths_in s) c known calls)
     control_runs (block.Match source (Arm (constraint.ConstBool val) places body NoArm)) bound made locals known calls those only same k o a =
         let x = over_value s bound source (constraint.ConstBool val) k.1.0 (λ e. cc) k.1.1 k.1.2.0 in
         constant_does bound made source x.ty (constraint.ConstBool val) places body locals known calls those only same a x.ready x.is tt
@@ -346,19 +300,19 @@ module _ (s : Setting) (u : Around) (g : Grounds s u) where
         let v = operand_reads s u bound known locals x k.0.0 g a k.0.1 in
         let w = operand_reads s u bound known locals y k.0.0 g a k.0.2 in
         let r = block_runs body bound made locals known calls those only same k.1 o a in
-        let after = after_block s.env (paths_in s) made body in
-        let f = run_stmt u (IfEq (written_operand s bound x) (written_operand s bound y) (block_body s bound body Done)) locals (done those) in
+        let after = after_block (gives_several s) s.env (paths_in s) made body in
+        let f = run_stmt u (IfEq (written_operand s bound x) (written_operand s bound y) (block_body s bound body Done)) locals (done [] those) in
         let inner = block_run s.env u.meaning u.args (paths_in s) body known calls in
         subst (λ h. Does s.env (kind_of s.term.kind) locals known (made ++ after) f (cond (equal_held h (value_at s.env u.meaning u.args known (at (paths_in s) y))) inner (went.Goes known calls))) (sym v.block)
         (subst (λ h. Does s.env (kind_of s.term.kind) locals known (made ++ after) f (cond (equal_held (a_value v.v) h) inner (went.Goes known calls))) (sym w.block)
         (equal_does (written_operand s bound x) (written_operand s bound y) bound made after body locals known calls those v.r w.r _ v.run w.run (run_same s.env k.0.0 v.r w.r v.v w.v v.same w.same v.typed w.typed) only same r
         (on_right made after known inner r.goes)))
-    control_runs (block.Loop result body) bound made locals known calls those only same k o a = absurd k
+    control_runs (block.Loop result body) bound made locals known calls those only same k o a = absurd (let bad : false ≡ true = sym few ∙ k.0.several in cc)
     control_runs (block.Return pos result) bound made locals known calls those only same k o a =
         let v = written_reads s u bound known locals false result s.term.ret_ty g a k in
         record {
-          runs = subst (λ h. EndsSo s.env (kind_of s.term.kind) (run_return u (returned (kind_of s.term.kind) (written_read s bound false result)) locals (done those)) (record { result = result_of h; calls = calls })) (sym v.block)
-              (return_does s.env u (kind_of s.term.kind) (written_read s bound false result) v.r v.v locals calls those v.run v.same same);
+          runs = subst (λ h. EndsSo [] s.env (kind_of s.term.kind) (run_stmt u (result_stmt (kind_of s.term.kind) (written_read s bound false result)) locals (done [] those)) (record { result = result_of h; calls = calls })) (sym v.block)
+              (return_does s.env u (kind_of s.term.kind) few (written_read s bound false result) v.r v.v locals calls those v.run v.same same);
           goes = tt;
         }
 
@@ -383,7 +337,7 @@ returns (Step binds c (Step ds d more)) env m args bs known made e =
     ended_after (went.Ends o) go h = (o, refl)
 
 -- a run that ends is the same but for names
-ran_same : (env : Environment) (kind : ReturnKind) (f : Flow) (o : Prescription) → EndsSo env kind f o → AreSameRuns env (ended kind f) (Some (ran_with o.calls (end_of kind o.result)))
+ran_same : (env : Environment) (kind : ReturnKind) (f : Flow) (o : Prescription) → EndsSo [] env kind f o → AreSameRuns env (ended kind f) (Some (ran_with o.calls (end_of kind o.result)))
 ran_same env kind f o e =
     ap (λ x. option_map (λ (q : Ran). nameless_ran (impure_ran env q)) (ended kind x)) e.is ∙ ap (λ x. Some (record { end = x; calls = map nameless_made (impure_calls env e.those) })) e.same ∙ ap (λ x. Some (record { end = nameless_end (end_of kind o.result); calls = x })) e.calls
 
@@ -397,6 +351,11 @@ tail_runs env u return_kind.Plain once false name place f (went.Goes known made)
 tail_runs env u return_kind.Option once false name place f (went.Goes known made) h r =
     ap (λ x. option_map (λ (q : Ran). nameless_ran (impure_ran env q)) (ended return_kind.Option x)) (r.is (tail_body (mark_of return_kind.Option name place))) ∙ ap (λ x. Some (record { end = GivesNone; calls = x })) r.same
 tail_runs env u return_kind.Iterator once false name place f (went.Goes known made) h r = absurd once
+
+few_of : (kind : ReturnKind) → AnswersOnce kind → is_several kind ≡ false
+few_of return_kind.Plain once = refl
+few_of return_kind.Option once = refl
+few_of return_kind.Iterator once = absurd once
 
 -- the end that a kind has
 pub ends_as : (kind : ReturnKind) → AnswersOnce kind → (r : Result) → ending kind r ≡ Some (end_of kind r)
@@ -420,8 +379,8 @@ written_flow files env t bs b once names pure pure_made h o p args m k answers v
     let u = around p m args limit g in
     let grounds : Grounds s u = record { typed = k; answers = answers; constants = values; names = names; pure = pure; pure_made = pure_made } in
     let c = completed s [] b in
-    let f : Body → Flow = λ end. run_body u (block_body s [] c end) [] (done []) in
-    let r = block_runs s u grounds c [] [] [] nothing_known [] [] (λ j apart. refl) refl (completed_ready s b h) (completed_single s [] b o) (none_agree s u nothing_known) in
+    let f : Body → Flow = λ end. run_body u (block_body s [] c end) [] (done [] []) in
+    let r = block_runs s u grounds (few_of (kind_of t.kind) once) c [] [] [] nothing_known [] [] (λ j apart. refl) refl (completed_ready s b h) (completed_single s [] b o) (none_agree s u nothing_known) in
     let outcome = block_outcome env m args (paths_of bs) b kind in
     tail_runs env u kind once (ends_in_return b) name place f (block_run env m args (paths_of bs) b nothing_known []) (λ x. returns b env m args bs nothing_known [] x) (subst (RunsSo env kind u f) (completed_runs s m args [] b nothing_known []) r.runs)
     ∙ ap (λ x. option_map nameless_ran (option_map (ran_with outcome.calls) x)) (sym (ends_as kind once outcome.result))

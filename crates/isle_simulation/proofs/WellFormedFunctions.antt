@@ -63,6 +63,6 @@ written_well_formed logging files env t bs b h names k o fns p same =
       forms = logged_is body lines (block_is c s [] [] (tail_of kind name place b) names fns ready single (tail_is mark (ends_in_return b)));
       scoped = logged_scoped body lines (callables p) kind (length (map (parameter env) t.arg_tys)) [] (subst (λ (ts : Callables). IsBodyScoped ts kind (length (map (parameter env) t.arg_tys)) [] body) (sym same)
           (subst (λ n. IsBodyScoped (callables_of env) kind n [] body) (sym (length-map t.arg_tys (parameter env)))
-          (root_scoped c s (tail_of kind name place b) fns h.once ready single (λ locals. tail_scoped mark (ends_in_return b) (callables_of env) kind (length t.arg_tys) locals))));
-      fits = logged_fits_function body lines kind (function_fits b s name place h.once ready single);
+          (root_scoped c s (tail_of kind name place b) fns ready single (λ locals. tail_scoped mark (ends_in_return b) (callables_of env) kind (length t.arg_tys) locals))));
+      fits = logged_fits_function body lines kind (function_fits b s name place ready single);
     }

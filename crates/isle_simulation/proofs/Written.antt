@@ -25,7 +25,7 @@ use Rattle.isle_core.specs.Making.{MakesVariant, MakesStruct}
 use Rattle.isle_core.specs.Outcome.{Result, Value', Failure, Unmatched}
 use Rattle.isle_core.specs.Path.{at}
 use Rattle.isle_core.specs.Rule.{Environment}
-use Rattle.isle_core.specs.Setting.{Setting, setting, paths_in}
+use Rattle.isle_core.specs.Setting.{Setting, setting, gives_several, paths_in}
 use Rattle.isle_core.specs.Value.{End, Gives, GivesSome, GivesNone, IsUnreachable}
 use Rattle.isle_tree.specs.declared.tree.Operand.{Operand}
 use Rattle.isle_tree.specs.declared.tree.Operand.TheVariants as operand
@@ -35,12 +35,12 @@ use Rattle.isle_tree.specs.declared.tree.TExpr.{TExpr}
 use Rattle.isle_tree.specs.declared.tree.TExpr.TheVariants as expr
 use Rattle.isle_tree.specs.declared.tree.TPat.{TPat}
 use Rattle.isle_tree.specs.declared.tree.TPat.TheVariants as pattern
-use Rattle.isle_tree.specs.Program.{Stmt, Let, IfEq, IfLet, Return, Tail, Body, Done, Then, Function}
+use Rattle.isle_tree.specs.Program.{Stmt, IfEq, IfLet, Loop, Return, Extend, Overflow, Tail, Body, Done, Then, Function}
 use Rattle.isle_simulation.specs.Completed.{completed}
 use Rattle.isle_simulation.specs.Operands.{in_place, tested, operand_of}
 use Rattle.isle_simulation.specs.Patterns.{pattern_of}
 use Rattle.isle_simulation.specs.References.{is_declared, result_type, is_reference_in, read_as}
-use Rattle.isle_simulation.specs.Statements.{made_of}
+use Rattle.isle_simulation.specs.Statements.{made_of, local_stmt, binds_list, looped_local}
 use Rattle.isle_simulation.specs.Telling.{Telling, line_before, telling_of}
 use Rattle.isle_simulation.specs.TermFunction.{tail_in, function_with, log_lines}
 use Rattle.isle_simulation.proofs.Logged.{logged}
@@ -107,14 +107,28 @@ bound_expr s bound b other = expr.Read (read.Plain (written_place s b))
 
 -- ---- statements
 
+abbrev pub bound_stmt : Setting → List ℕ → BindingId → Stmt
+bound_stmt s bound b = local_stmt (binds_list s b) b.0 (bound_expr s bound b (slice_get s.bindings b.0))
+
 abbrev pub lets : Setting → List ℕ → List BindingId → Body → Body
 lets s bound [] more = more
-lets s bound (b ∷ binds) more = Then (Let b.0 (bound_expr s bound b (slice_get s.bindings b.0))) (lets s (bound ++ b.0 ∷ []) binds more)
+lets s bound (b ∷ binds) more = Then (bound_stmt s bound b) (lets s (bound ++ b.0 ∷ []) binds more)
 
-abbrev pub returned : ReturnKind → Read → TExpr
-returned return_kind.Plain r = expr.Read r
-returned return_kind.Option r = expr.Some r
-returned return_kind.Iterator r = expr.Read r
+abbrev pub result_stmt : ReturnKind → Read → Stmt
+result_stmt return_kind.Plain r = Return (expr.Read r)
+result_stmt return_kind.Option r = Return (expr.Some r)
+result_stmt return_kind.Iterator r = Extend r
+
+abbrev pub stop_before : (several : Bool) → Control → Body → Body
+stop_before true (block.Return place result) after = Then (Overflow false) after
+stop_before true (block.Match source arms) after = after
+stop_before true (block.Equal a b body) after = after
+stop_before true (block.Loop result body) after = after
+stop_before false c after = after
+
+abbrev pub written_list : Option ℕ → ℕ
+written_list (Some list) = list
+written_list None = 0
 
 abbrev pub arm_stmt : Setting → List ℕ → BindingId → Constraint → List (Option BindingId) → Body → Stmt
 arm_stmt s bound source (constraint.Variant ty variant) places inside = IfLet (written_pattern (pattern_of s.env (constraint.Variant ty variant) places)) (written_read s bound true source) inside
@@ -133,13 +147,13 @@ abbrev mutual
   pub told_body : Telling → Setting → List ℕ → Block → Body → Body
   told_body telling s bound block.Stop end = end
   told_body telling s bound (block.Step binds c more) end =
-      lets s bound binds (told_before telling c (Then (told_control telling s (bound_by bound binds) c) (told_body telling s (bound_by bound binds) more end)))
+      lets s bound binds (told_before telling c (Then (told_control telling s (bound_by bound binds) c) (stop_before (gives_several s) c (told_body telling s (bound_by bound binds) more end))))
 
   pub told_control : Telling → Setting → List ℕ → Control → Stmt
   told_control telling s bound (block.Match source arms) = told_arms telling s bound source arms
   told_control telling s bound (block.Equal a b body) = IfEq (written_operand s bound a) (written_operand s bound b) (told_body telling s bound body Done)
-  told_control telling s bound (block.Loop result body) = Tail None
-  told_control telling s bound (block.Return place result) = Return (returned (kind_of s.term.kind) (written_read s bound false result))
+  told_control telling s bound (block.Loop result body) = Loop (written_list (looped_local s result)) result.0 (told_body telling s (bound ++ result.0 ∷ []) body Done)
+  told_control telling s bound (block.Return place result) = result_stmt (kind_of s.term.kind) (written_read s bound false result)
 
   pub told_arms : Telling → Setting → List ℕ → BindingId → Arms → Stmt
   told_arms telling s bound source block.NoArm = Tail None

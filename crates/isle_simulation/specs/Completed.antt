@@ -91,7 +91,7 @@ completed_binds s bound (b ∷ bs) = with_needs s bound b ++ completed_binds s (
 abbrev pub step_binds : Setting → List ℕ → List BindingId → Control → List BindingId
 step_binds s bound binds c = completed_binds s bound binds ++ needs s (bound_by bound (completed_binds s bound binds)) (read_by c)
 
--- a block with these bind orders; loops are not built
+-- a block with these bind orders
 abbrev mutual
   pub completed : Setting → List ℕ → Block → Block
   completed s bound Stop = Stop
@@ -101,7 +101,7 @@ abbrev mutual
   pub completed_control : Setting → List ℕ → Control → Control
   completed_control s bound (Match source arms) = Match source (completed_arms s bound arms)
   completed_control s bound (Equal a b body) = Equal a b (completed s bound body)
-  completed_control s bound (Loop result body) = Loop result body
+  completed_control s bound (Loop result body) = Loop result (completed s (bound ++ result.0 ∷ []) body)
   completed_control s bound (Return pos result) = Return pos result
 
   pub completed_arms : Setting → List ℕ → Arms → Arms

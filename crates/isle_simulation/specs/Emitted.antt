@@ -10,12 +10,14 @@ use Rattle.isle_core.specs.declared.rule_sets.Binding.{Binding}
 use Rattle.isle_core.specs.declared.rule_sets.Binding.TheVariants as binding
 use Rattle.isle_core.specs.CalledTerms.{Extractor}
 use Rattle.isle_core.specs.Lawful.{AnswersFit, RoleFits}
-use Rattle.isle_core.specs.Calling.{ByCases, calling, extracting, kind_of, AnswersOnce}
+use Rattle.isle_core.specs.Calling.{ByCases, calling, extracting, kind_of}
 use Rattle.isle_core.specs.declared.types.ReturnKind.{ReturnKind}
 use Rattle.isle_core.specs.Outcome.{Prescription}
 use Rattle.isle_core.specs.Path.{paths_of}
 use Rattle.isle_core.specs.Block.{Block}
 use Rattle.isle_core.specs.BlockRun.{block_outcome}
+use Rattle.isle_core.specs.Cut.{cut_run}
+use Rattle.isle_core.specs.SeveralRun.{several_outcome}
 use Rattle.isle_core.specs.declared.BindingId.{BindingId}
 use Rattle.isle_core.specs.declared.TermId.{TermId}
 use Rattle.isle_core.specs.declared.values.Callee.{Callee}
@@ -31,11 +33,10 @@ use Rattle.isle_tree.specs.Run.{run, function_of}
 use Rattle.isle_simulation.specs.Ends.{end_of}
 use Rattle.isle_simulation.specs.Statements.{callee_of}
 
--- a term whose name may be emitted, whose types have names of Rust, and that answers at most once
+-- a term whose name may be emitted, and whose types have names of Rust
 pub record IsEmittable (env : Environment) (t : Term) : Type 0 where
   pub name : IsTrue (list_all is_word_byte (sym_text env t.name))
   pub types : AllByRecursion (λ ty. IsIdentifier (type_text env ty)) (t.ret_ty ∷ t.arg_tys)
-  pub once : AnswersOnce (kind_of t.kind)
 
 -- an end with these calls
 abbrev pub ran_with : List Made → End → Ran
@@ -79,9 +80,16 @@ impure_ran env r = record { end = r.end; calls = impure_calls env r.calls }
 abbrev pub AreSameRuns : Environment → Option Ran → Option Ran → Type 0
 AreSameRuns env r q = option_map (λ (x : Ran). nameless_ran (impure_ran env x)) r ≡ option_map nameless_ran q
 
--- in every program in which the term's function is this, its run on well-typed arguments is the block's, but for calls of pure
--- terms, under every meaning that answers its calls and gives constants values of their types
+-- in every program in which the function of a term that answers at most once is this, its run on well-typed arguments is the block's, but for calls
+-- of pure terms, under every meaning that answers its calls and gives constants values of their types
 abbrev pub RunsAsBlock : Environment → Term → List Binding → Block → Function → Type 0
 RunsAsBlock env t bs b f = (p : Program) (args : List Value) (m : Meaning)
     → function_of (sym_text env t.name) p.fns ≡ Some f → HaveTypes env args t.arg_tys → AnswersBindings env m bs → ValuesConstants env m
     → AreSameRuns env (run p (sym_text env t.name) args m) (ran_of t (block_outcome env m args (paths_of bs) b (kind_of t.kind)))
+
+-- so of a term that answers several times: the function appends the first results of the block, as many as there is room for and at least one, and
+-- makes the calls up to the last of them, or all where the room isn't used up
+abbrev pub RunsAsSeveral : Environment → Term → List Binding → Block → Function → Type 0
+RunsAsSeveral env t bs b f = (p : Program) (args : List Value) (m : Meaning)
+    → function_of (sym_text env t.name) p.fns ≡ Some f → HaveTypes env args t.arg_tys → AnswersBindings env m bs → ValuesConstants env m
+    → AreSameRuns env (run p (sym_text env t.name) args m) (Some (cut_run m (several_outcome env m args (paths_of bs) b)))

@@ -5,7 +5,7 @@ use Rattle.isle_core.specs.declared.types.ReturnKind.TheVariants as kind
 use Rattle.isle_core.specs.Value.{End, Gives, GivesSome, GivesNone, IsUnreachable}
 use Rattle.isle_core.specs.Outcome.{Result, Value', Failure, Unmatched}
 
--- how a run ends that has the result: of a term that may answer nothing in an option; several answers are not built
+-- how a run ends that has the result: of a term that may answer nothing in an option; one that answers several times has no single result
 abbrev pub end_of : ReturnKind → Result → Option End
 end_of kind.Plain (Value' v) = Some (Gives v)
 end_of kind.Plain Failure = Some GivesNone

@@ -30,7 +30,7 @@ one_result (ty ∷ of ∷ tys) = None
 abbrev pub result_type : Option Term → Option TypeId
 result_type t = option_and_then (λ (x : Term). one_result x.arg_tys) t
 
--- the extractor whose answer stands at a path, also within an option
+-- the extractor whose answer stands at a path, also within an option or as an item
 abbrev pub extractor_at : Path → Option TermId
 extractor_at (Extracted term p) = Some term
 extractor_at (Inner p) = extractor_at p
@@ -44,7 +44,7 @@ extractor_at (MadeStruct ty ps) = None
 extractor_at (VariantField variant field p) = None
 extractor_at (StructField field p) = None
 extractor_at Nowhere = None
-extractor_at (Chosen p) = None
+extractor_at (Chosen p) = extractor_at p
 extractor_at (Wrapped p) = None
 extractor_at (Part part p) = None
 
@@ -52,7 +52,8 @@ extractor_at (Part part p) = None
 abbrev pub results_of : Environment → Option TermId → Option (List TypeId)
 results_of env o = option_and_then (λ (term : TermId). option_map (λ (x : Term). x.arg_tys) (slice_get env.terms term.0)) o
 
--- the type of what stands at a path, where it has one; of an option it is the type of what is within, and a tuple has none
+-- the type of what stands at a path, where it has one; of an option it is the type of what is within, of a list that of its items, and a tuple has
+-- none
 abbrev pub type_at : Environment → Term → Path → Option TypeId
 type_at env t (Arg i) = slice_get t.arg_tys i
 type_at env t (ConstBool ty b) = Some ty
@@ -66,7 +67,7 @@ type_at env t (VariantField variant field p) = option_and_then (λ ty. field_typ
 type_at env t (StructField field p) = option_and_then (λ ty. field_type env (MakesStruct ty) field) (type_at env t p)
 type_at env t Nowhere = None
 type_at env t (Extracted term p) = result_type (slice_get env.terms term.0)
-type_at env t (Chosen p) = None
+type_at env t (Chosen p) = type_at env t p
 type_at env t (Wrapped p) = None
 type_at env t (Part part p) = option_and_then (λ (tys : List TypeId). slice_get tys part) (results_of env (extractor_at p))
 
@@ -74,11 +75,12 @@ type_at env t (Part part p) = option_and_then (λ (tys : List TypeId). slice_get
 abbrev pub is_declared : Environment → TypeId → Bool
 is_declared env ty = is_by_ref (slice_get env.types.types ty.0)
 
--- whether what stands for a path is a reference: of the enums and structs all but those that are made here and parts of tuples
+-- whether what stands for a path is a reference: of the enums and structs all but those that are made here, parts of tuples and items of lists
 abbrev pub is_reference : Environment → Term → Path → Bool
 is_reference env t (MadeVariant ty variant ps) = false
 is_reference env t (MadeStruct ty ps) = false
 is_reference env t (Part part p) = false
+is_reference env t (Chosen p) = false
 is_reference env t p = option_map_or (is_declared env) (type_at env t p) false
 
 -- so of a binding

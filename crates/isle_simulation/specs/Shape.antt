@@ -1,5 +1,5 @@
 -- When statements have the shape of a block.
-use Rattle.std.specs.Prelude.{◌≡◌, ℕ, List, [], Bool, true, false, Some}
+use Rattle.std.specs.Prelude.{◌≡◌, ℕ, List, [], ◌∷◌, ◌++◌, Bool, true, false, Some}
 use Rattle.isle_core.specs.declared.BindingId.{BindingId}
 use Rattle.isle_core.specs.ArmPlaces.{bound_within}
 use Rattle.isle_core.specs.Bindable.{bound_by}
@@ -19,7 +19,7 @@ use Rattle.isle_tree.specs.Program.{Stmt, Let, LetList, IfEq, IfLet, Match, Loop
 use Rattle.isle_simulation.specs.Bare.{bare}
 use Rattle.isle_simulation.specs.Operands.{tested, operand_of}
 use Rattle.isle_simulation.specs.Patterns.{pattern_of}
-use Rattle.isle_simulation.specs.Statements.{plain_read, read_in}
+use Rattle.isle_simulation.specs.Statements.{looped_local, plain_read, read_in}
 
 -- the operand is that of the binding, where these are bound
 abbrev pub IsOperandOf : Setting → List ℕ → BindingId → Operand → Type 0
@@ -49,12 +49,18 @@ IsSomeOf s bound b (expr.Some r) = IsReadOf s bound false b r
 IsSomeOf s bound b (expr.Try source as_ref) = ⊥
 IsSomeOf s bound b (expr.Tuple source part) = ⊥
 
--- what is returned: the value of a binding, or in a function that may answer nothing an option of it; several answers are
--- not built
+-- what is returned: the value of a binding, or in a function that may answer nothing an option of it; one of several results is returned by
+-- no such statement
 abbrev pub IsResultOf : Setting → List ℕ → ReturnKind → BindingId → TExpr → Type 0
 IsResultOf s bound return_kind.Plain b e = IsValueOf s bound b e
 IsResultOf s bound return_kind.Option b e = IsSomeOf s bound b e
 IsResultOf s bound return_kind.Iterator b e = ⊥
+
+-- what is appended: the value of a binding, in a function that answers several times
+abbrev pub IsGivenOf : Setting → List ℕ → ReturnKind → BindingId → Read → Type 0
+IsGivenOf s bound return_kind.Plain b r = ⊥
+IsGivenOf s bound return_kind.Option b r = ⊥
+IsGivenOf s bound return_kind.Iterator b r = IsReadOf s bound false b r
 
 -- what is tested for is the one arm's constraint, and the statements inside do its body; several arms are not built
 abbrev pub IsArmOf : Setting → List ℕ → Operand → (does : List ℕ → Block → Type 0) → Arms → Type 0
@@ -62,7 +68,7 @@ IsArmOf s bound q does block.NoArm = ⊥
 IsArmOf s bound q does (block.Arm c places body block.NoArm) = (tested s.env c ≡ Some q) × does (bound_within bound places) body
 IsArmOf s bound q does (block.Arm c places body (block.Arm d others more arms)) = ⊥
 
--- the test of two operands is the step's, of a constraint or of two bindings; loops are not built
+-- the test of two operands is the step's, of a constraint or of two bindings
 abbrev pub IsTestOf : Setting → List ℕ → (a b : Operand) → (does : List ℕ → Block → Type 0) → Control → Type 0
 IsTestOf s bound o q does (block.Match source arms) = IsOperandOf s bound source o × IsArmOf s bound q does arms
 IsTestOf s bound o q does (block.Equal a b body) = IsOperandOf s bound a o × IsOperandOf s bound b q × does bound body
@@ -96,7 +102,21 @@ IsReturnOf s bound e (block.Equal a b body) = ⊥
 IsReturnOf s bound e (block.Loop result body) = ⊥
 IsReturnOf s bound e (block.Return pos result) = IsResultOf s bound (kind_of s.term.kind) result e
 
--- the bare statements are the block's steps in order, and each tests or returns the operand of its binding
+-- the result is the step's
+abbrev pub IsExtendOf : Setting → List ℕ → Read → Control → Type 0
+IsExtendOf s bound r (block.Match source arms) = ⊥
+IsExtendOf s bound r (block.Equal a b body) = ⊥
+IsExtendOf s bound r (block.Loop result body) = ⊥
+IsExtendOf s bound r (block.Return pos result) = IsGivenOf s bound (kind_of s.term.kind) result r
+
+-- the loop is the step's: over the list of its item, which has the local of its binding inside it
+abbrev pub IsLoopOf : Setting → List ℕ → (list item : ℕ) → (does : List ℕ → Block → Type 0) → Control → Type 0
+IsLoopOf s bound list item does (block.Match source arms) = ⊥
+IsLoopOf s bound list item does (block.Equal a b body) = ⊥
+IsLoopOf s bound list item does (block.Loop result body) = (looped_local s result ≡ Some list) × (item ≡ result.0) × does (bound ++ result.0 ∷ []) body
+IsLoopOf s bound list item does (block.Return pos result) = ⊥
+
+-- the bare statements are the block's steps in order, and each tests, loops over or gives the operand of its binding
 abbrev mutual
   pub AreSteps : Setting → List ℕ → Body → Block → Type 0
   AreSteps s bound Done block.Stop = Unit {0}
@@ -104,14 +124,14 @@ abbrev mutual
   AreSteps s bound Done (block.Step binds c more) = ⊥
   AreSteps s bound (Then st ss) block.Stop = ⊥
 
-  -- the statement does what the step does; those of several arms and of several results are not built, and the others are not bare
+  -- the statement does what the step does; those of several arms are not built, and the others are not bare
   pub DoesControl : Setting → List ℕ → Stmt → Control → Type 0
   DoesControl s bound (IfEq o q inside) c = IsTestOf s bound o q (λ within body. AreSteps s within inside body) c
   DoesControl s bound (Return e) c = IsReturnOf s bound e c
   DoesControl s bound (IfLet pat r inside) c = IsPatternTest s bound pat r (λ within body. AreSteps s within inside body) c
   DoesControl s bound (Match read arms) c = ⊥
-  DoesControl s bound (Loop list item inside) c = ⊥
-  DoesControl s bound (Extend read) c = ⊥
+  DoesControl s bound (Loop list item inside) c = IsLoopOf s bound list item (λ within body. AreSteps s within inside body) c
+  DoesControl s bound (Extend read) c = IsExtendOf s bound read c
   DoesControl s bound (Let local e) c = ⊥
   DoesControl s bound (LetList local call) c = ⊥
   DoesControl s bound (Overflow inside) c = ⊥

@@ -7,7 +7,7 @@ use Rattle.isle_core.specs.declared.rule_sets.Binding.TheVariants as binding
 use Rattle.isle_core.specs.declared.types.ReturnKind.{ReturnKind}
 use Rattle.isle_core.specs.declared.types.ReturnKind.TheVariants as return_kind
 use Rattle.isle_core.specs.declared.values.Callee.{Callee}
-use Rattle.isle_core.specs.Calling.{Calling, ByTurns, ByCases, NoCall, calling, extracting, kind_of}
+use Rattle.isle_core.specs.Calling.{Calling, ByTurns, ByCases, NoCall, calling, extracting, kind_of, answers_often}
 use Rattle.isle_core.specs.declared.Sym.{Sym}
 use Rattle.isle_core.specs.declared.TypeId.{TypeId}
 use Rattle.isle_core.specs.declared.rule_sets.Constraint.{Constraint}
@@ -23,7 +23,7 @@ use Rattle.isle_core.specs.Terms.{sym_text}
 use Rattle.isle_core.specs.Bindable.{bound_by}
 use Rattle.isle_core.specs.Block as block
 use Rattle.isle_core.specs.Block.{Block, Control, Arms}
-use Rattle.isle_core.specs.Setting.{Setting, paths_in}
+use Rattle.isle_core.specs.Setting.{Setting, gives_several, paths_in}
 use Rattle.isle_tree.specs.declared.tree.Operand.{Operand}
 use Rattle.isle_tree.specs.declared.tree.Operand.TheVariants as operand
 use Rattle.isle_tree.specs.declared.tree.TPat.{TPat}
@@ -31,7 +31,7 @@ use Rattle.isle_tree.specs.declared.tree.Read.{Read}
 use Rattle.isle_tree.specs.declared.tree.Read.TheVariants as read
 use Rattle.isle_tree.specs.declared.tree.TExpr.{TExpr}
 use Rattle.isle_tree.specs.declared.tree.TExpr.TheVariants as expr
-use Rattle.isle_tree.specs.Program.{Stmt, Let, IfEq, IfLet, Return, Body, Done, Then}
+use Rattle.isle_tree.specs.Program.{Stmt, Let, LetList, IfEq, IfLet, Loop, Return, Extend, Overflow, Body, Done, Then}
 use Rattle.isle_simulation.specs.Patterns.{pattern_of}
 use Rattle.isle_simulation.specs.References.{is_declared, result_type, is_reference_in, read_as}
 use Rattle.isle_simulation.specs.Operands.{in_place, tested, operand_of}
@@ -122,7 +122,7 @@ made_in s bound None parts = None
 made_in s bound (Some f) parts = option_map (made_of s.env f) (field_reads s bound (typed_fields s.env f.fields) parts)
 
 -- what is computed for a binding: a call, also of an extractor, the inner value of an option, a part of a tuple, a made value, or what is read
--- in place; the others are not built
+-- in place; items of lists, fields and options that are made are computed by no binding
 abbrev pub computed : Setting → List ℕ → BindingId → Option Binding → Option TExpr
 computed s bound b (Some (binding.Constructor term parameters instance)) = call_of s bound (slice_get s.env.terms term.0) (callee_of (calling s.env term)) parameters
 computed s bound b (Some (binding.MatchSome source)) = inner_of (is_reference_in s source) (operand_of s.env s.bindings bound source)
@@ -152,15 +152,51 @@ stmt_before (Some s) (Some ss) = Some (Then s ss)
 stmt_before (Some s) None = None
 stmt_before None ss = None
 
--- a local that is bound to what is computed
-abbrev pub let_of : ℕ → Option TExpr → Option Stmt
-let_of n (Some e) = Some (Let n e)
-let_of n None = None
+-- whether a binding is a list: a call that answers several times, also of an extractor
+abbrev pub is_list : Environment → Option Binding → Bool
+is_list env (Some (binding.Constructor term parameters instance)) = answers_often (calling env term)
+is_list env (Some (binding.Extractor term parameter)) = answers_often (extracting env term)
+is_list env (Some (binding.ConstBool val ty)) = false
+is_list env (Some (binding.ConstInt val ty)) = false
+is_list env (Some (binding.ConstPrim val)) = false
+is_list env (Some (binding.Argument index)) = false
+is_list env (Some (binding.Iterator source)) = false
+is_list env (Some (binding.MakeVariant ty variant fields)) = false
+is_list env (Some (binding.MakeStruct ty fields)) = false
+is_list env (Some (binding.MatchVariant source variant field)) = false
+is_list env (Some (binding.ExtractStruct source field)) = false
+is_list env (Some (binding.MakeSome inner)) = false
+is_list env (Some (binding.MatchSome source)) = false
+is_list env (Some (binding.MatchTuple source field)) = false
+is_list env None = false
+
+-- so of a binding of a rule set
+abbrev pub binds_list : Setting → BindingId → Bool
+binds_list s b = is_list s.env (slice_get s.bindings b.0)
+
+-- the local of a list, which a call fills; nothing but a call is a list
+abbrev pub list_stmt : ℕ → TExpr → Stmt
+list_stmt n (expr.Call borrow call) = LetList n call
+list_stmt n (expr.Read r) = Let n (expr.Read r)
+list_stmt n (expr.Variant ty variant fields) = Let n (expr.Variant ty variant fields)
+list_stmt n (expr.Struct ty fields) = Let n (expr.Struct ty fields)
+list_stmt n (expr.Some r) = Let n (expr.Some r)
+list_stmt n (expr.Try source as_ref) = Let n (expr.Try source as_ref)
+list_stmt n (expr.Tuple source part) = Let n (expr.Tuple source part)
+
+-- a local that is bound to what is computed, a list or anything else
+abbrev pub local_stmt : (often : Bool) → ℕ → TExpr → Stmt
+local_stmt true n e = list_stmt n e
+local_stmt false n e = Let n e
+
+-- so where something is computed
+abbrev pub let_of : (often : Bool) → ℕ → Option TExpr → Option Stmt
+let_of often n e = option_map (local_stmt often n) e
 
 -- each binding in its local, and what follows
 abbrev pub lets : Setting → List ℕ → List BindingId → Option Body → Option Body
 lets s bound [] more = more
-lets s bound (b ∷ binds) more = stmt_before (let_of b.0 (bound_expr s bound b)) (lets s (bound ++ b.0 ∷ []) binds more)
+lets s bound (b ∷ binds) more = stmt_before (let_of (binds_list s b) b.0 (bound_expr s bound b)) (lets s (bound ++ b.0 ∷ []) binds more)
 
 -- a test of two operands
 abbrev pub if_eq : Option Operand → Option Operand → Option Body → Option Stmt
@@ -176,12 +212,48 @@ if_let (Some pat) (Some r) None = None
 if_let (Some pat) None inside = None
 if_let None r inside = None
 
--- what is returned: of a term that may answer nothing an option; several answers are not built
+-- what is returned: of a term that may answer nothing an option; one of several results is appended to the others
 abbrev pub return_of : ReturnKind → Option Read → Option Stmt
 return_of return_kind.Plain (Some r) = Some (Return (expr.Read r))
 return_of return_kind.Option (Some r) = Some (Return (expr.Some r))
-return_of return_kind.Iterator (Some r) = None
+return_of return_kind.Iterator (Some r) = Some (Extend r)
 return_of kind None = None
+
+-- behind one of several results the function stops where its list is full
+abbrev pub stop_before : (several : Bool) → Control → Option Body → Option Body
+stop_before true (block.Return pos result) after = stmt_before (Some (Overflow false)) after
+stop_before true (block.Match source arms) after = after
+stop_before true (block.Equal a b body) after = after
+stop_before true (block.Loop result body) after = after
+stop_before false c after = after
+
+-- the local of the list whose item a binding is
+abbrev pub list_local : Option Binding → Option ℕ
+list_local (Some (binding.Iterator source)) = Some source.0
+list_local (Some (binding.ConstBool val ty)) = None
+list_local (Some (binding.ConstInt val ty)) = None
+list_local (Some (binding.ConstPrim val)) = None
+list_local (Some (binding.Argument index)) = None
+list_local (Some (binding.Extractor term parameter)) = None
+list_local (Some (binding.Constructor term parameters instance)) = None
+list_local (Some (binding.MakeVariant ty variant fields)) = None
+list_local (Some (binding.MakeStruct ty fields)) = None
+list_local (Some (binding.MatchVariant source variant field)) = None
+list_local (Some (binding.ExtractStruct source field)) = None
+list_local (Some (binding.MakeSome inner)) = None
+list_local (Some (binding.MatchSome source)) = None
+list_local (Some (binding.MatchTuple source field)) = None
+list_local None = None
+
+-- so of a binding of a rule set
+abbrev pub looped_local : Setting → BindingId → Option ℕ
+looped_local s result = list_local (slice_get s.bindings result.0)
+
+-- a loop over a list
+abbrev pub loop_of : Option ℕ → (item : ℕ) → Option Body → Option Stmt
+loop_of (Some list) item (Some inside) = Some (Loop list item inside)
+loop_of (Some list) item None = None
+loop_of None item inside = None
 
 -- an operand as it is
 abbrev pub plain_read : Option Operand → Option Read
@@ -196,19 +268,19 @@ arm_stmt s bound source (constraint.Variant ty variant) places inside = if_let (
 arm_stmt s bound source (constraint.Struct ty) places inside = if_let (pattern_of s.env (constraint.Struct ty) places) (read_in s bound true source) inside
 arm_stmt s bound source constraint.Some places inside = if_let (pattern_of s.env constraint.Some places) (plain_read (operand_of s.env s.bindings bound source)) inside
 
--- a block's steps in order, each Return behind its log line where it is told, and what follows; a match of several arms and a loop are not
--- built
+-- a block's steps in order, each Return behind its log line where it is told and before its stop, and what follows; a match of several arms is
+-- not built
 abbrev mutual
   pub told_body : Telling → Setting → List ℕ → Block → Option Body → Option Body
   told_body telling s bound block.Stop end = end
   told_body telling s bound (block.Step binds c more) end =
-      lets s bound binds (told_before telling c (stmt_before (told_control telling s (bound_by bound binds) c) (told_body telling s (bound_by bound binds) more end)))
+      lets s bound binds (told_before telling c (stmt_before (told_control telling s (bound_by bound binds) c) (stop_before (gives_several s) c (told_body telling s (bound_by bound binds) more end))))
 
   pub told_control : Telling → Setting → List ℕ → Control → Option Stmt
   told_control telling s bound (block.Match source arms) = told_arms telling s bound source arms
   told_control telling s bound (block.Equal a b body) =
       if_eq (operand_of s.env s.bindings bound a) (operand_of s.env s.bindings bound b) (told_body telling s bound body (Some Done))
-  told_control telling s bound (block.Loop result body) = None
+  told_control telling s bound (block.Loop result body) = loop_of (looped_local s result) result.0 (told_body telling s (bound ++ result.0 ∷ []) body (Some Done))
   told_control telling s bound (block.Return pos result) = return_of (kind_of s.term.kind) (read_in s bound false result)
 
   pub told_arms : Telling → Setting → List ℕ → BindingId → Arms → Option Stmt

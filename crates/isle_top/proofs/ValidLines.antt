@@ -1,5 +1,5 @@
 -- A valid line has no refusal but want of memory, where no call of the directory fails.
-use Rattle.std.proofs.Common.{◌≡◌, ⊎_elim, ℕ, ◌<◌, ◌≤◌, zero, suc, List, [], ◌∷◌, length, Option, Some, None, Result, Ok, Err, refl, sym, ◌∙◌, subst, arith}
+use Rattle.std.proofs.Common.{◌≡◌, ℕ, ◌<◌, ◌≤◌, zero, suc, List, [], ◌∷◌, length, Option, Some, None, Result, Ok, Err, refl, sym, ◌∙◌, subst, arith}
 use Rattle.std.specs.Prelude.{◌^◌, IsSomeAnd, IfErr, IsOkUnless, IsUtf8, slice_get}
 use Rattle.isle_outside.specs.Directory.{Contents, bytes_of, Rose, Counts}
 use Rattle.isle_outside.specs.Reading.{IsText, IsCause, RoseAt}
@@ -10,9 +10,9 @@ use Rattle.isle_core.specs.declared.read_error.ReadError.TheVariants as read
 use Rattle.isle_core.specs.declared.errors.Errors.{Errors}
 use Rattle.isle_values.specs.Written.{Writtens}
 use Rattle.isle_codegen.specs.Causes as compiling
-use Rattle.isle_codegen.specs.Causes.{printed, IsNotBuilt}
+use Rattle.isle_codegen.specs.Causes.{printed}
 use Rattle.isle_codegen.specs.Source.{AreAccepted}
-use Rattle.isle_codegen.proofs.Accepted.{accepted_none, accepted_built, accepted_named}
+use Rattle.isle_codegen.proofs.Accepted.{accepted_none, accepted_named}
 use Rattle.isle_names.specs.declared.name_error.NameError.{NameError}
 use Rattle.isle_command_line.specs.Request.{Request, Help, Version, Compile, Build, Prelude, Units, Isa, Run}
 use Rattle.isle_core.specs.declared.options.CodegenOptions.{CodegenOptions}
@@ -21,7 +21,7 @@ use Rattle.isle_run.specs.declared.refusal.Refusal.{Refusal}
 use Rattle.isle_run.specs.declared.refusal.Refusal.TheVariants as refusal
 use Rattle.isle_run.proofs.Complete.{only_memory}
 use Rattle.isle_top.specs.Requests.{IsBuilt, inputs_of, answers_names, source_name}
-use Rattle.isle_top.specs.Causes.{GivesNoLines, HasErrors, HasBadName, IsNotOfIt, IsNotRun, HasCause}
+use Rattle.isle_top.specs.Causes.{GivesNoLines, HasErrors, HasBadName, IsNotRun, HasCause}
 use Rattle.isle_top.specs.Valid.{AreValid, IsValidRun, IsValidLine, IsAnswersText, one_file}
 
 -- ---- inputs
@@ -100,9 +100,6 @@ read_once fs (n ∷ names) (x ∷ a) (y ∷ b) r k =
     cc
 
 -- the files of a `compile`
-valid_files : (options : CodegenOptions) (fs : Contents) (names : List (List ℕ)) → AreValid options fs names → IsNotBuilt (Some fs) names → ⊥
-valid_files options fs names v h = accepted_built h.texts (subst AreAccepted (read_once fs names v.texts h.texts v.found h.read) v.accepted) h.unbuilt
-
 no_bad_name : (options : CodegenOptions) (fs : Contents) (names : List (List ℕ)) (e : NameError) → AreValid options fs names → compiling.IsBadlyNamed e options (Some fs) names → ⊥
 no_bad_name options fs names e v h =
     accepted_named (printed options names) h.texts e (subst AreAccepted (read_once fs names v.texts h.texts v.found h.read) v.accepted) v.emitted h.error
@@ -130,16 +127,6 @@ built_line (Prelude kind) fs v = v
 built_line Units fs v = v
 built_line (Isa target) fs v = v
 built_line (Run trace options from term vs answers) fs v = v.0
-
-valid_inputs : (request : Request) (fs : Contents) → IsValidLine request fs → IsNotOfIt request (Some fs) → ⊥
-valid_inputs Help fs v h = h
-valid_inputs Version fs v h = h
-valid_inputs (Compile options names) fs v h = valid_files options fs names v h
-valid_inputs (Build options unit) fs v h = v
-valid_inputs (Prelude kind) fs v h = v
-valid_inputs Units fs v h = v
-valid_inputs (Isa target) fs v h = v
-valid_inputs (Run trace options from term vs answers) fs v h = let e : refusal.NotYet ≡ refusal.Memory = has_lines options fs (source_name from) term vs answers refusal.NotYet v.1 h in absurd cc
 
 -- a valid run has lines, or memory is wanting
 not_run : (request : Request) (fs : Contents) (e : Refusal) → IsValidLine request fs → IsNotRun request (Some fs) e → e ≡ refusal.Memory
@@ -177,7 +164,7 @@ no_name (Run trace options from term vs answers) fs before after e v h = not_run
 -- the only cause is want of memory
 only_memory_wants : (request : Request) (e : Refusal) (fs : Contents) (before after : Counts) → IsValidLine request fs → HasCause e request (Some fs) before after → (Rose before.faults after.faults → ⊥) → e ≡ refusal.Memory
 only_memory_wants request refusal.Memory fs before after v h calm = refl
-only_memory_wants request refusal.NotYet fs before after v h calm = absurd (⊎_elim (λ never. never (built_line request fs v)) (λ bad. valid_inputs request fs v bad) h)
+only_memory_wants request refusal.NotYet fs before after v h calm = absurd (h (built_line request fs v))
 only_memory_wants request (refusal.Unread index why) fs before after v h calm = absurd (all_read request fs index why before after v h.1 calm)
 only_memory_wants request (refusal.Errors errors) fs before after v h calm = no_errors request fs before after errors v h.1
 only_memory_wants request (refusal.Name e) fs before after v h calm = no_name request fs before after e v h

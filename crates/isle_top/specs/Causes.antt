@@ -1,12 +1,11 @@
 -- Why a line of words is not answered.
-use Rattle.std.specs.Prelude.{ℕ, ◌⊎◌, List, [], ◌∷◌, Option, IfSome}
+use Rattle.std.specs.Prelude.{ℕ, List, [], ◌∷◌, Option, IfSome}
 use Rattle.isle_outside.specs.Directory.{Contents, Counts}
 use Rattle.isle_core.specs.Inputs.{AreRead, Fails}
 use Rattle.isle_core.specs.declared.read_error.ReadError.TheVariants as read
 use Rattle.isle_values.specs.Written.{Writtens}
 use Rattle.isle_core.specs.declared.errors.Errors.{Errors}
 use Rattle.isle_codegen.specs.declared.file_error.FileError.TheVariants as file
-use Rattle.isle_codegen.specs.Causes.{IsNotBuilt}
 use Rattle.isle_codegen.specs.Causes as compiling
 use Rattle.isle_command_line.specs.Request.{Request, Help, Version, Compile, Build, Prelude, Units, Isa, Run}
 use Rattle.isle_core.specs.declared.options.CodegenOptions.{CodegenOptions}
@@ -24,17 +23,6 @@ pub record GivesNoLines (options : CodegenOptions) (name term : List ℕ) (vs : 
   pub given : List ℕ
   pub read : IfSome files (λ fs. AreRead fs (name ∷ []) (source ∷ []) × IsAnswersText fs answers given)
   pub none : HasNoLines options (one_file options name source) term vs given e
-
--- the inputs were read, and are not all built
-abbrev pub IsNotOfIt : Request → Option Contents → Type 0
-IsNotOfIt Help files = ⊥
-IsNotOfIt Version files = ⊥
-IsNotOfIt (Compile options names) files = IsNotBuilt files names
-IsNotOfIt (Build options unit) files = ⊥
-IsNotOfIt (Prelude kind) files = ⊥
-IsNotOfIt Units files = ⊥
-IsNotOfIt (Isa target) files = ⊥
-IsNotOfIt (Run trace options from term vs answers) files = GivesNoLines options (source_name from) term vs answers files refusal.NotYet
 
 -- the line is built, and its term is not run for this
 abbrev pub IsNotRun : Request → Option Contents → Refusal → Type 0
@@ -69,10 +57,10 @@ HasBadName Units files before after e = ⊥
 HasBadName (Isa target) files before after e = ⊥
 HasBadName (Run trace options from term vs answers) files before after e = IsNotRun (Run trace options from term vs answers) files (refusal.Name e)
 
--- why a line is not answered: it is not built, or its inputs are not; it is built, and an input was not read, the first
+-- why a line is not answered: it is not built; it is built, and an input was not read, the first
 -- that is not, or errors are in them, each at its place, or a name may not be emitted, or a term is not run; or want of memory
 abbrev pub HasCause : Refusal → Request → Option Contents → (before after : Counts) → Type 0
-HasCause refusal.NotYet request files before after = (IsBuilt request → ⊥) ⊎ IsNotOfIt request files
+HasCause refusal.NotYet request files before after = IsBuilt request → ⊥
 HasCause (refusal.Unread index why) request files before after = IsBuilt request × Fails (read.Io index why) files (inputs_of request) before after
 HasCause (refusal.Errors errors) request files before after = HavePlaces errors × HasErrors request files before after errors
 HasCause (refusal.Name e) request files before after = HasBadName request files before after e

@@ -44,6 +44,5 @@ pub fn compiled<D: Dir>(
         Err(FileError::Memory) => Err(Refusal::Memory),
         Err(FileError::Errors(errors)) => Err(Refusal::Errors(errors)),
         Err(FileError::Name(name)) => Err(Refusal::Name(name)),
-        Err(FileError::NotYet) => Err(Refusal::NotYet),
     }
 }

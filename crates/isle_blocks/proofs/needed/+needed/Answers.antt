@@ -1,7 +1,7 @@
-use Rattle.std.proofs.Common.{arith, ◌≡◌, ◌-◌, suc, [], ◌∷◌, drop, refl, sym, ap, ◌∙◌}
-use Rattle.std.specs.Prelude.{option_map}
+use Rattle.std.proofs.Common.{arith, ◌≡◌, ◌-◌, suc, [], drop, refl, sym, ap, ◌∙◌}
+use Rattle.std.specs.Prelude.{option_map, slice_get}
 use Rattle.std.proofs.lemmas.List.{drop_all}
-use Rattle.isle_blocks.specs.Needed.{needed, each_needed}
+use Rattle.isle_blocks.specs.Needed.{list_before, with_list, needed, each_needed}
 use Rattle.isle_blocks.proofs.PushedBinds.{pushed_nil, pushed_then, so_named, needed_parts, needed_none, left_more, left_none}
 use Rattle.isle_blocks.proofs.needed.+needed.Goals as goal
 
@@ -31,5 +31,5 @@ push_needed-returns t c =
     let is : c.args.depth ≡ suc less = omega (arith, c.if-depth-eq0.false) in
     so_named
     (needed_parts bs c.args.depth less c.args.bound.now c.args.binding c.in-Some.parts.now is (sym c.is_bound.ensures ∙ c.if-is_bound.false) (ap (option_map (λ parts. parts.now)) (sym c.in-Some.is) ∙ c.parts_at.ensures))
-    (pushed_then (each_needed (needed bs less) c.args.bound.now c.in-Some.parts.now) (c.args.binding ∷ []) c.args.bound.now c.push_each.new.bound c.push_one.new.bound c.args.order.now.items c.push_each.new.order.items c.push_one.new.order.items
-    c.in_ok-push_each.ensures c.in_ok-push_one.ensures)
+    (pushed_then (each_needed (needed bs less) c.args.bound.now c.in-Some.parts.now) (with_list (list_before (slice_get bs c.args.binding.0)) c.args.binding) c.args.bound.now c.push_each.new.bound c.push_itself.new.bound c.args.order.now.items c.push_each.new.order.items c.push_itself.new.order.items
+    c.in_ok-push_each.ensures c.in_ok-push_itself.ensures)

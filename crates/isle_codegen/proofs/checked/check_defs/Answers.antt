@@ -1,8 +1,6 @@
-use Rattle.std.proofs.Common.{rules, ◌≡◌, [], false, Err, sym, ap, subst}
+use Rattle.std.proofs.Common.{rules, ◌≡◌, [], Err, sym, ap, subst}
 use Rattle.isle_core.specs.RuleViews.{environment}
 use Rattle.isle_ast.specs.Views.{defs as seen}
-use Rattle.isle_sema.specs.Language.{are_built}
-use Rattle.isle_sema.specs.Typing.{TypedBuilt}
 use Rattle.isle_sema.proofs.BuiltRules.{typed_built, typed_scoped, typed_terms}
 use Rattle.isle_names.specs.declared.name_error.NameFail.TheVariants.{Name}
 use Rattle.isle_names.specs.NameFault.{IsNameFail}
@@ -17,26 +15,22 @@ use Rattle.isle_codegen.proofs.checked.check_defs.Goals as goal
 
 pub check-requires-clause-built : goal.check-requires-clause-built
 check-requires-clause-built c =
-    let typed : TypedBuilt (seen c.args.defs.now) (environment c.in-Ok.envs.0 c.in-Ok.envs.1) = record { typed = c.in-Ok.ensures.ok.typed; built = search rules } in
-    typed_built (seen c.args.defs.now) (environment c.in-Ok.envs.0 c.in-Ok.envs.1) typed
+    typed_built (seen c.args.defs.now) (environment c.in-Ok.envs.0 c.in-Ok.envs.1) c.in-Ok.ensures.ok.typed
 
 pub check-requires-clause-bound : goal.check-requires-clause-bound
 check-requires-clause-bound c =
-    let typed : TypedBuilt (seen c.args.defs.now) (environment c.in-Ok.envs.0 c.in-Ok.envs.1) = record { typed = c.in-Ok.ensures.ok.typed; built = search rules } in
-    typed_scoped (seen c.args.defs.now) (environment c.in-Ok.envs.0 c.in-Ok.envs.1) typed
+    typed_scoped (seen c.args.defs.now) (environment c.in-Ok.envs.0 c.in-Ok.envs.1) c.in-Ok.ensures.ok.typed
 
 pub check-requires-clause-terms : goal.check-requires-clause-terms
 check-requires-clause-terms c =
-    let typed : TypedBuilt (seen c.args.defs.now) (environment c.in-Ok.envs.0 c.in-Ok.envs.1) = record { typed = c.in-Ok.ensures.ok.typed; built = search rules } in
-    typed_terms (seen c.args.defs.now) (environment c.in-Ok.envs.0 c.in-Ok.envs.1) typed
+    typed_terms (seen c.args.defs.now) (environment c.in-Ok.envs.0 c.in-Ok.envs.1) c.in-Ok.ensures.ok.typed
 
 pub check-requires-2-clause-there : goal.check-requires-2-clause-there
 check-requires-2-clause-there c =
-    let typed : TypedBuilt (seen c.args.defs.now) (environment c.in-Ok.envs.0 c.in-Ok.envs.1) = record { typed = c.in-Ok.ensures.ok.typed; built = search rules } in
     let env = environment c.in-Ok.envs.0 c.in-Ok.envs.1 in
     let same : c.as_slice.result.now ≡ c.in-Ok-check.terms.items = search rules in
     let stand : AreRuleSets env c.as_slice.result.now = subst (AreRuleSets env) (sym same) (c.in-Ok-check.ensures.ok c.in-Ok.envs.0) in
-    sets_there env c.as_slice.result.now stand (typed_roots (seen c.args.defs.now) env typed)
+    sets_there env c.as_slice.result.now stand (typed_roots (seen c.args.defs.now) env c.in-Ok.ensures.ok.typed)
 
 pub check-requires-2-clause-once : goal.check-requires-2-clause-once
 check-requires-2-clause-once c =
@@ -44,39 +38,31 @@ check-requires-2-clause-once c =
     let same : c.as_slice.result.now ≡ c.in-Ok-check.terms.items = search rules in
     sets_once env c.as_slice.result.now (subst (AreRuleSets env) (sym same) (c.in-Ok-check.ensures.ok c.in-Ok.envs.0))
 
-pub returns-then-not-are_built_forms-clause-err : goal.returns-then-not-are_built_forms-clause-err
-returns-then-not-are_built_forms-clause-err c =
-    let other : are_built (seen c.args.defs.now) ≡ false = search rules in
-    (c.in-Ok.ensures.ok.typed.sound, other)
-
 pub returns-in-Err-check-clause-err : goal.returns-in-Err-check-clause-err
 returns-in-Err-check-clause-err c =
-    let typed : TypedBuilt (seen c.args.defs.now) (environment c.in-Ok.envs.0 c.in-Ok.envs.1) = record { typed = c.in-Ok.ensures.ok.typed; built = search rules } in
     let env = environment c.in-Ok.envs.0 c.in-Ok.envs.1 in
-    rules_found c.wrong.result c.args.files.now (seen c.args.defs.now) env c.in-Err-check.fail c.wrong.ensures typed c.requires
+    rules_found c.wrong.result c.args.files.now (seen c.args.defs.now) env c.in-Err-check.fail c.wrong.ensures c.in-Ok.ensures.ok.typed c.requires
     (λ errors same. c.in-Err-check.ensures.err errors (ap Err same) c.in-Ok.envs.0) (λ errors same. c.in-Err-check.ensures.some errors (ap Err same))
 
 pub returns-in-Err-check-2-clause-err : goal.returns-in-Err-check-2-clause-err
 returns-in-Err-check-2-clause-err c =
-    let typed : TypedBuilt (seen c.args.defs.now) (environment c.in-Ok.envs.0 c.in-Ok.envs.1) = record { typed = c.in-Ok.ensures.ok.typed; built = search rules } in
     let env = environment c.in-Ok.envs.0 c.in-Ok.envs.1 in
     let same : c.as_slice.result.now ≡ c.in-Ok-check.terms.items = search rules in
     let stand : AreRuleSets env c.as_slice.result.now = subst (AreRuleSets env) (sym same) (c.in-Ok-check.ensures.ok c.in-Ok.envs.0) in
-    recursion_found c.wrong-in-Err-check-2.result c.args.files.now (seen c.args.defs.now) env c.in-Err-check-2.fail c.wrong-in-Err-check-2.ensures typed c.requires (c.in-Ok-check.ensures.clean c.in-Ok.envs.0)
-    (λ errors is. list_of_rules env c.as_slice.result.now stand (typed_roots (seen c.args.defs.now) env typed) errors (c.in-Err-check-2.ensures.err errors (ap Err is)))
+    recursion_found c.wrong-in-Err-check-2.result c.args.files.now (seen c.args.defs.now) env c.in-Err-check-2.fail c.wrong-in-Err-check-2.ensures c.in-Ok.ensures.ok.typed c.requires (c.in-Ok-check.ensures.clean c.in-Ok.envs.0)
+    (λ errors is. list_of_rules env c.as_slice.result.now stand (typed_roots (seen c.args.defs.now) env c.in-Ok.ensures.ok.typed) errors (c.in-Err-check-2.ensures.err errors (ap Err is)))
     (λ errors is. c.in-Err-check-2.ensures.some errors (ap Err is))
 
 pub returns-in-Ok-lawful_names-clause-given : goal.returns-in-Ok-lawful_names-clause-given
 returns-in-Ok-lawful_names-clause-given c =
-    let typed : TypedBuilt (seen c.args.defs.now) (environment c.in-Ok.envs.0 c.in-Ok.envs.1) = record { typed = c.in-Ok.ensures.ok.typed; built = search rules } in
     let env = environment c.in-Ok.envs.0 c.in-Ok.envs.1 in
     let same : c.as_slice.result.now ≡ c.in-Ok-check.terms.items = search rules in
     let stand : AreRuleSets env c.as_slice.result.now = subst (AreRuleSets env) (sym same) (c.in-Ok-check.ensures.ok c.in-Ok.envs.0) in
     record {
       defs = seen c.args.defs.now;
-      compilable = compilable c.args.files.now.file_names (seen c.args.defs.now) env typed c.in-Ok-lawful_names.ensures.ok;
+      compilable = compilable c.args.files.now.file_names (seen c.args.defs.now) env c.in-Ok.ensures.ok.typed c.in-Ok-lawful_names.ensures.ok;
       clean = c.in-Ok-check.ensures.clean c.in-Ok.envs.0;
-      marked = list_of_rules env c.as_slice.result.now stand (typed_roots (seen c.args.defs.now) env typed) [] c.in-Ok-check-2.ensures.ok;
+      marked = list_of_rules env c.as_slice.result.now stand (typed_roots (seen c.args.defs.now) env c.in-Ok.ensures.ok.typed) [] c.in-Ok-check-2.ensures.ok;
     }
 
 pub returns-in-Ok-lawful_names-clause-places : goal.returns-in-Ok-lawful_names-clause-places
@@ -90,15 +76,14 @@ returns-in-Ok-lawful_names-clause-terms c = c.in-Ok-check.ensures.ok c.in-Ok.env
 
 pub returns-in-Err-Name-clause-err : goal.returns-in-Err-Name-clause-err
 returns-in-Err-Name-clause-err c =
-    let typed : TypedBuilt (seen c.args.defs.now) (environment c.in-Ok.envs.0 c.in-Ok.envs.1) = record { typed = c.in-Ok.ensures.ok.typed; built = search rules } in
     let env = environment c.in-Ok.envs.0 c.in-Ok.envs.1 in
     let same : c.as_slice.result.now ≡ c.in-Ok-check.terms.items = search rules in
     let stand : AreRuleSets env c.as_slice.result.now = subst (AreRuleSets env) (sym same) (c.in-Ok-check.ensures.ok c.in-Ok.envs.0) in
     let named : c.in-Err-Name.field-0 ≡ Name c.in-Err-Name.name = search rules in
     record {
       env = env;
-      typed = typed;
+      typed = c.in-Ok.ensures.ok.typed;
       clean = c.in-Ok-check.ensures.clean c.in-Ok.envs.0;
-      marked = list_of_rules env c.as_slice.result.now stand (typed_roots (seen c.args.defs.now) env typed) [] c.in-Ok-check-2.ensures.ok;
+      marked = list_of_rules env c.as_slice.result.now stand (typed_roots (seen c.args.defs.now) env c.in-Ok.ensures.ok.typed) [] c.in-Ok-check-2.ensures.ok;
       first = subst (IsNameFail c.args.files.now.file_names env) named c.in-Err-Name.ensures.err;
     }

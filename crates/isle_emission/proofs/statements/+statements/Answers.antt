@@ -5,6 +5,7 @@ use Rattle.isle_core.specs.BlockViews.{control, block}
 use Rattle.isle_core.proofs.SeesBlocks.{step-parts, arm-parts}
 use Rattle.isle_tree.specs.Program.{Done}
 use Rattle.isle_tree.specs.Views.{stmt}
+use Rattle.isle_simulation.specs.Completed.{step_binds}
 use Rattle.isle_simulation.specs.Operands.{operand_of}
 use Rattle.isle_simulation.specs.Statements.{if_eq, arm_stmt}
 use Rattle.isle_emission.specs.BodyOnto.{onto, stmts_of}
@@ -58,9 +59,9 @@ pub push_step-returns : goal.push_step-returns
 push_step-returns t c =
     let x = c.args.step.now in
     let made : c.in_ok-push_lets.field-0 ≡ true = search rules in
-    step_made (telling_in (setting_in c.args.typed.now) c.args.telling) (setting_in c.args.typed.now) x (c.as_slice-binds.result.now, control x.check) c.args.bound.now c.push_lets.new.bound c.control_stmt.new.bound c.args.out.now.items c.push_lets.new.out.items c.push_told.new.out.items c.push.new.self.items _
+    step_made (telling_in (setting_in c.args.typed.now) c.args.telling) (setting_in c.args.typed.now) x (c.as_slice-binds.result.now, control x.check) c.args.bound.now c.push_lets.new.bound c.control_stmt.new.bound c.args.out.now.items c.push_lets.new.out.items c.push_told.new.out.items c.push.new.self.items c.push_stop.new.out.items c.in-Some.made
     (step-parts x ∙ ap (λ bs. (bs, control x.check)) (sym c.as_slice-binds.ensures))
-    (so_made made c.in_ok-push_lets.ensures) (ap (option_map stmt) (sym c.in-Some.is) ∙ c.in_ok-made.ensures.stmt) c.in_ok-made.ensures.bound c.in_ok-push_told.ensures c.in_ok-push.ensures.items
+    (so_made {binds = step_binds (setting_in c.args.typed.now) c.args.bound.now c.as_slice-binds.result.now (control x.check)} made c.in_ok-push_lets.ensures) (ap (option_map stmt) (sym c.in-Some.is) ∙ c.in_ok-made.ensures.stmt) c.in_ok-made.ensures.bound c.in_ok-push_told.ensures c.in_ok-push.ensures.items c.in_ok-push_stop.ensures
 
 pub step_stmts-returns-then-not-branch : goal.step_stmts-returns-then-not-branch
 step_stmts-returns-then-not-branch t c =

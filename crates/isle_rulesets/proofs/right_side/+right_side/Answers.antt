@@ -7,7 +7,7 @@ use Rattle.isle_core.specs.Scope.{IsInScope}
 use Rattle.isle_rulesets.specs.RightSides.{names, bound, AreThere, Given}
 use Rattle.isle_core.proofs.SeesRules.{expr-var, expr-bool, expr-int, expr-prim, expr-term}
 use Rattle.isle_rulesets.proofs.RightSideLaws.{given_var, given_bool, given_int, given_prim, given_call, given_more, given_over, known_at, terms_at, there_behind, numbers_there}
-use Rattle.isle_rulesets.proofs.LetLaws.{let_seen, lets_next, lets_there, let_known, let_terms, let_given, lets_all}
+use Rattle.isle_rulesets.proofs.LetLaws.{lets_first, let_seen, lets_next, lets_there, let_known, let_terms, let_given, lets_all}
 use Rattle.isle_rulesets.proofs.right_side.+right_side.Goals as goal
 
 pub number_expr-returns-in-Var-clause-numbers : goal.number_expr-returns-in-Var-clause-numbers
@@ -104,3 +104,6 @@ number_lets-returns-clause-there t c =
 pub number_lets-returns-clause-binds : goal.number_lets-returns-clause-binds
 number_lets-returns-clause-binds t c =
     lets_all c.args.terms.now c.args.scope.now c.loop-binding.scope c.args.numbering.now c.loop-binding.numbering c.args.ordered.now.items c.loop-binding.ordered.items c.args.bindings.now c.loop-binding.binding-index c.loop-binding-test.false c.loop-binding.invariant
+
+pub number_lets-loop-binding-init : goal.number_lets-loop-binding-init
+number_lets-loop-binding-init t c = lets_first c.args.terms.now c.args.scope.now c.args.numbering.now c.args.ordered.now.items

@@ -8,4 +8,5 @@ answered-requires c = (next_call c.args.self.now c.args.term c.args.parameters, 
 
 pub returns : goal.returns
 returns c =
-    call_valued c.answered.result c.args.self.now c.push_call.new.self c.answered.new.self (next_call c.args.self.now c.args.term c.args.parameters) c.args.is_partial (suc c.args.self.now.calls) c.in_ok-number.number c.in_ok-number.ensures c.answered.ensures
+    let p = next_call c.args.self.now c.args.term c.args.parameters in
+    call_valued c.args.self.now c.push_call.new.self c.answered.new.self p c.args.kind (suc c.args.self.now.calls) c.in_ok-number.number c.in_ok-value.value c.in_ok-number.ensures c.in_ok-value.ensures

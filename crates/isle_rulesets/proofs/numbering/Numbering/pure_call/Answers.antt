@@ -8,5 +8,4 @@ answered-requires c = (same_call c.args.self.now c.args.term c.args.parameters, 
 pub returns : goal.returns
 returns c =
     let p = same_call c.args.self.now c.args.term c.args.parameters in
-    call_valued c.answered.result c.args.self.now c.intern.new.self c.answered.new.self p c.args.is_partial c.args.self.now.calls c.in_ok-number.number
-    (key_called c.args.self.now c.intern.new.self p c.in_ok-number.number c.in_ok-number.ensures) c.answered.ensures
+    call_valued c.args.self.now c.intern.new.self c.answered.new.self p c.args.kind c.args.self.now.calls c.in_ok-number.number c.in_ok-value.value (key_called c.args.self.now c.intern.new.self p c.in_ok-number.number c.in_ok-number.ensures) c.in_ok-value.ensures

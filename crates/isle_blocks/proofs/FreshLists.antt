@@ -1,0 +1,135 @@
+-- What is bound for a rule opens each item directly behind its list.
+use Rattle.std.proofs.Common.{◌≡◌, ◌⊎◌, inl, inr, ⊎_elim, ℕ, zero, suc, List, [], ◌∷◌, ◌++◌, length, Bool, true, false, cond, Option, Some, None, map, refl, sym, ap, ◌∙◌, subst}
+use Rattle.std.specs.Prelude.{slice_get, Contains}
+use Rattle.std.specs.List.{AllByRecursion}
+use Rattle.std.proofs.lemmas.List.Elements.{Contains-push}
+use Rattle.isle_core.specs.declared.BindingId.{BindingId}
+use Rattle.isle_core.specs.declared.rule_sets.Binding.{Binding}
+use Rattle.isle_core.specs.declared.rule_sets.Binding.TheVariants as binding
+use Rattle.isle_core.specs.declared.rule_sets.FlatRule.{FlatRule}
+use Rattle.isle_core.specs.declared.types.Term.{Term}
+use Rattle.isle_core.specs.Bindable.{bound_by}
+use Rattle.isle_core.specs.Path.{Path, at, paths_of}
+use Rattle.isle_core.specs.Rule.{Environment}
+use Rattle.isle_core.specs.Serializable.{IsSerializableCall, AreSerializableCalls}
+use Rattle.isle_core.specs.Tests.{Test}
+use Rattle.isle_core.proofs.BindingPaths.{paths_there, call_at}
+use Rattle.isle_blocks.specs.Needed.{list_parts, parts_of, list_before, is_bound, each_needed, with_parts, unbound, needed, needs, parameters_of}
+use Rattle.isle_blocks.specs.Nest.{with_inner, call_binds, binds, was_bound, left_one, left_calls, left_items, behind_lists, last_binds, option_before}
+use Rattle.isle_blocks.proofs.NextLaws.{FindsNext}
+use Rattle.isle_blocks.proofs.OpenedSteps.{FreshBy, AlwaysFresh, fresh_append}
+use Rattle.isle_blocks.proofs.PushedLists.{some_same}
+
+fresh_none : (bs : List Binding) → AlwaysFresh bs []
+fresh_none bs = λ fresh. tt
+
+-- ---- what is needed
+
+-- neither an item nor an inner value
+pub record IsPlainAt (bs : List Binding) (b : BindingId) : Type 0 where
+  pub no_item : list_before (slice_get bs b.0) ≡ None
+  pub no_inner : option_before (slice_get bs b.0) ≡ None
+
+-- a binding that is no item, alone
+plain_fresh : (bs : List Binding) (b : BindingId) → list_before (slice_get bs b.0) ≡ None → AlwaysFresh bs (b ∷ [])
+plain_fresh bs b none = λ fresh. pick fresh (list_before (slice_get bs b.0)) (option_before (slice_get bs b.0)) none
+  where
+    pick : (fresh : List ℕ) (list option : Option BindingId) → list ≡ None → FreshBy list option fresh b (λ ks. Unit {0})
+    pick fresh None None e = tt
+    pick fresh None (Some source) e = tt
+    pick fresh (Some list) option e = cc
+
+-- what stands directly behind a call, and is its item if it is one
+pair_fresh : (bs : List Binding) (c b : BindingId) → IsPlainAt bs c → (list_before (slice_get bs b.0) ≡ None) ⊎ (list_before (slice_get bs b.0) ≡ Some c) → AlwaysFresh bs (c ∷ b ∷ [])
+pair_fresh bs c b plain which = λ fresh. pick fresh (list_before (slice_get bs c.0)) (option_before (slice_get bs c.0)) (list_before (slice_get bs b.0)) (option_before (slice_get bs b.0)) plain.no_item plain.no_inner which
+  where
+    pick : (fresh : List ℕ) (l o m p : Option BindingId) → l ≡ None → o ≡ None → (m ≡ None) ⊎ (m ≡ Some c) → FreshBy l o fresh c (λ ks. FreshBy m p ks b (λ js. Unit {0}))
+    pick fresh None None None None d e w = tt
+    pick fresh None None None (Some source) d e w = tt
+    pick fresh None None (Some list) p d e (inl none) = cc
+    pick fresh None None (Some list) p d e (inr is) = (subst (λ (x : BindingId). Contains (fresh ++ c.0 ∷ []) x.0) (sym (some_same list c is)) (Contains-push fresh c.0), tt)
+    pick fresh None (Some source) m p d e w = cc
+    pick fresh (Some list) o m p d e w = cc
+
+-- what a list is made over is that of a call, also of an extractor
+list_plain : (o : Option Binding) (parts : List BindingId) → list_parts o ≡ Some parts → (list_before o ≡ None) × (option_before o ≡ None)
+list_plain (Some (binding.Constructor term parameters instance)) parts e = (refl, refl)
+list_plain (Some (binding.Extractor term parameter)) parts e = (refl, refl)
+list_plain o parts e = cc
+
+-- whatever is bound before, what one needs is always fresh
+abbrev OneFresh : List Binding → (List ℕ → BindingId → List BindingId) → Type 0
+OneFresh bs one = (bound : List ℕ) (b : BindingId) → AlwaysFresh bs (one bound b)
+
+each_fresh : (bs : List Binding) (one : List ℕ → BindingId → List BindingId) → OneFresh bs one → (bound : List ℕ) (reads : List BindingId) → AlwaysFresh bs (each_needed one bound reads)
+each_fresh bs one h bound [] = fresh_none bs
+each_fresh bs one h bound (b ∷ reads) = fresh_append bs (one bound b) (each_needed one (bound_by bound (one bound b)) reads) (h bound b) (each_fresh bs one h (bound_by bound (one bound b)) reads)
+
+parts_fresh : (bs : List Binding) (one : List ℕ → BindingId → List BindingId) → OneFresh bs one → (bound : List ℕ) (itself : List BindingId) (o : Option (List BindingId)) → ((parts : List BindingId) → o ≡ Some parts → AlwaysFresh bs itself) → AlwaysFresh bs (with_parts one bound itself o)
+parts_fresh bs one h bound itself None k = fresh_none bs
+parts_fresh bs one h bound itself (Some parts) k = fresh_append bs (each_needed one bound parts) itself (each_fresh bs one h bound parts) (k parts refl)
+
+unbound_fresh : (bs : List Binding) (one : List ℕ → BindingId → List BindingId) → OneFresh bs one → (bound : List ℕ) (b : BindingId) (o : Option Binding) → slice_get bs b.0 ≡ o → AlwaysFresh bs (unbound bs one bound b o)
+unbound_fresh bs one h bound b (Some (binding.Iterator source)) e =
+    parts_fresh bs one h bound (source ∷ b ∷ []) (list_parts (slice_get bs source.0))
+    (λ parts is. let plain = list_plain (slice_get bs source.0) parts is in pair_fresh bs source b (record { no_item = plain.0; no_inner = plain.1 }) (inr (ap list_before e)))
+unbound_fresh bs one h bound b o e = parts_fresh bs one h bound (b ∷ []) (parts_of bs o) (λ parts is. plain_fresh bs b (ap list_before e))
+
+needed_fresh : (bs : List Binding) (depth : ℕ) → OneFresh bs (needed bs depth)
+needed_fresh bs zero bound b = fresh_none bs
+needed_fresh bs (suc depth) bound b = pick (is_bound bound b) (unbound_fresh bs (needed bs depth) (needed_fresh bs depth) bound b (slice_get bs b.0) refl)
+  where
+    pick : (x : Bool) → AlwaysFresh bs (unbound bs (needed bs depth) bound b (slice_get bs b.0)) → AlwaysFresh bs (cond x [] (unbound bs (needed bs depth) bound b (slice_get bs b.0)))
+    pick true k = fresh_none bs
+    pick false k = k
+
+pub needs_fresh : (bs : List Binding) (bound : List ℕ) (reads : List BindingId) → AlwaysFresh bs (needs bs bound reads)
+needs_fresh bs bound reads = each_fresh bs (needed bs (length bs)) (needed_fresh bs (length bs)) bound reads
+
+-- ---- calls
+
+-- each is neither an item nor an inner value
+abbrev pub ArePlainAt : List Binding → List BindingId → Type 0
+ArePlainAt bs cs = AllByRecursion (IsPlainAt bs) cs
+
+plain_call : (bs : List Binding) (c : BindingId) (x : Binding) → slice_get bs c.0 ≡ Some x → (list_before (Some x) ≡ None) → (option_before (Some x) ≡ None) → IsPlainAt bs c
+plain_call bs c x e no_item no_inner = record { no_item = ap list_before e ∙ no_item; no_inner = ap option_before e ∙ no_inner }
+
+calls_plain : (env : Environment) (t : Term) (tests : List Test) (bs : List Binding) (cs : List BindingId) (done : List Path) → AreSerializableCalls env t tests (paths_of bs) done (map (at (paths_of bs)) cs) → ArePlainAt bs cs
+calls_plain env t tests bs [] done h = tt
+calls_plain env t tests bs (c ∷ cs) done h =
+    let call : IsSerializableCall env t tests (paths_of bs) done (at (paths_of bs) c) = h.0 in
+    let is = call_at bs c call.term call.parameters call.instance (paths_there env t call.parameters call.called.arg_tys call.args) call.path in
+    (plain_call bs c (binding.Constructor call.term is.0 call.instance) is.1 refl refl, calls_plain env t tests bs cs (at (paths_of bs) c ∷ done) h.1)
+
+left_plain : (bs : List Binding) (next : ℕ → Option BindingId) (start : List ℕ) (cs : List BindingId) → ArePlainAt bs cs → ArePlainAt bs (left_calls next start cs)
+left_plain bs next start [] h = tt
+left_plain bs next start (c ∷ cs) h = pick (was_bound next start c) (left_plain bs next start cs h.1)
+  where
+    pick : (b : Bool) → ArePlainAt bs (left_calls next start cs) → ArePlainAt bs (left_one b c ++ left_calls next start cs)
+    pick true k = k
+    pick false k = (h.0, k)
+
+next_fresh : (bs : List Binding) (next : ℕ → Option BindingId) → FindsNext bs next → (c : BindingId) → IsPlainAt bs c → (o : Option BindingId) → next c.0 ≡ o → AlwaysFresh bs (with_inner o c)
+next_fresh bs next f c h None e = plain_fresh bs c h.no_item
+next_fresh bs next f c h (Some b) e = pair_fresh bs c b h (⊎_elim (λ is. inl (ap list_before is)) (λ is. inr (ap list_before is)) (f.found c b e).0)
+
+binds_fresh : (bs : List Binding) (next : ℕ → Option BindingId) → FindsNext bs next → (cs : List BindingId) (bound : List ℕ) → ArePlainAt bs cs → AlwaysFresh bs (binds bs next bound cs)
+binds_fresh bs next f [] bound h = fresh_none bs
+binds_fresh bs next f (c ∷ cs) bound h =
+    let reads = needs bs bound (parameters_of (slice_get bs c.0)) in
+    let one = call_binds bs next bound c in
+    fresh_append bs one (binds bs next (bound_by bound one) cs) (fresh_append bs reads (with_inner (next c.0) c) (needs_fresh bs bound (parameters_of (slice_get bs c.0))) (next_fresh bs next f c h.0 (next c.0) refl)) (binds_fresh bs next f cs (bound_by bound one) h.1)
+
+-- what is bound in a rule's last step
+pub last_fresh : (several : Bool) (bs : List Binding) (next items : ℕ → Option BindingId) → FindsNext bs next → (f : FlatRule) (bound : List ℕ) → ArePlainAt bs f.ordered → AlwaysFresh bs (last_binds several bs next items bound f)
+last_fresh several bs next items found f bound h =
+    let lists = needs bs bound (left_items several items f) in
+    let behind = bound_by bound lists in
+    let left = left_calls next behind f.ordered in
+    let order = binds bs next behind left in
+    fresh_append bs lists (behind_lists bs next behind f) (needs_fresh bs bound (left_items several items f))
+    (fresh_append bs order (needs bs (bound_by behind order) (f.result ∷ [])) (binds_fresh bs next found left behind (left_plain bs next behind f.ordered h)) (needs_fresh bs (bound_by behind order) (f.result ∷ [])))
+
+pub ordered_plain : (env : Environment) (t : Term) (tests : List Test) (bs : List Binding) (cs : List BindingId) → AreSerializableCalls env t tests (paths_of bs) [] (map (at (paths_of bs)) cs) → ArePlainAt bs cs
+ordered_plain env t tests bs cs h = calls_plain env t tests bs cs [] h

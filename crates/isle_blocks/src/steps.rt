@@ -1,0 +1,86 @@
+//! Steps and what they do.
+
+ghost use Rattle.std.specs.Prelude.{◌≡◌, IfOk};
+ghost use Rattle.isle_core.specs.Block as Blocks;
+ghost use Rattle.isle_core.specs.BlockViews as BlockViews;
+ghost use Rattle.isle_blocks.specs.Nest as Nest;
+
+use isle_core::{BindingId, Block, Constraint, ControlFlow, EvalStep, List, MatchArm, Pos};
+use std::alloc::{AllocError, Global};
+
+/// A step.
+#[tactic(auto, using(isle_core::proofs::SeesBlocks::sees_blocks))]
+pub fn step_of(order: Vec<BindingId>, check: ControlFlow) -> EvalStep
+    ensures { BlockViews.step result ≡ (order.items, BlockViews.control check) }
+{
+    EvalStep {
+        bind_order: List::new(order),
+        check,
+    }
+}
+
+// A block of one step.
+#[tactic(auto, using(isle_core::proofs::SeesBlocks::sees_blocks))]
+fn alone(alloc: Global, step: EvalStep) -> Result<Block, AllocError>
+    ensures { IfOk result (λ b. BlockViews.block b ≡ Nest.alone (BlockViews.step step)) }
+{
+    let steps = vec![in alloc; step]?;
+    Ok(Block {
+        steps: List::new(steps),
+    })
+}
+
+/// A match of one arm, whose places are bound round what follows it. The only error is want of memory.
+#[tactic(auto, using(isle_core::proofs::SeesBlocks::sees_blocks))]
+pub fn matched(
+    alloc: Global,
+    source: BindingId,
+    constraint: Constraint,
+    places: Vec<Option<BindingId>>,
+    inner: EvalStep,
+) -> Result<ControlFlow, AllocError>
+    ensures { IfOk result (λ c. BlockViews.control c ≡ Blocks.Match source (Blocks.Arm constraint places.items (Nest.alone (BlockViews.step inner)) Blocks.NoArm)) }
+{
+    let body = alone(alloc, inner)?;
+    let arm = MatchArm {
+        constraint,
+        bindings: List::new(places),
+        body,
+    };
+    let arms = vec![in alloc; arm]?;
+    Ok(ControlFlow::Match {
+        source,
+        arms: List::new(arms),
+    })
+}
+
+/// An equality round what follows it. The only error is want of memory.
+#[tactic(auto, using(isle_core::proofs::SeesBlocks::sees_blocks))]
+pub fn equated(
+    alloc: Global,
+    a: BindingId,
+    b: BindingId,
+    inner: EvalStep,
+) -> Result<ControlFlow, AllocError>
+    ensures { IfOk result (λ c. BlockViews.control c ≡ Blocks.Equal a b (Nest.alone (BlockViews.step inner))) }
+{
+    let body = alone(alloc, inner)?;
+    Ok(ControlFlow::Equal { a, b, body })
+}
+
+/// A loop over the items of a list round what is done with each. The only error is want of memory.
+#[tactic(auto, using(isle_core::proofs::SeesBlocks::sees_blocks))]
+pub fn looped(alloc: Global, item: BindingId, inner: EvalStep) -> Result<ControlFlow, AllocError>
+    ensures { IfOk result (λ c. BlockViews.control c ≡ Blocks.Loop item (Nest.alone (BlockViews.step inner))) }
+{
+    let body = alone(alloc, inner)?;
+    Ok(ControlFlow::Loop { result: item, body })
+}
+
+/// A return.
+#[tactic(auto, using(isle_core::proofs::SeesBlocks::sees_blocks))]
+pub fn returned(pos: Pos, value: BindingId) -> ControlFlow
+    ensures { BlockViews.control result ≡ Blocks.Return pos value }
+{
+    ControlFlow::Return { pos, result: value }
+}
