@@ -284,7 +284,7 @@ module _ (env : Environment) (t : Term) (bs : List Binding) (found : FieldKey �
       let at_result = need_lists env tests done all (opened' ++ done) (early_made env t bs fits tests next found_next once all opened' opens' bound k.opens.items done) (late_made env t bs fits tests next found_next once all opened' opens' bound k.opens.items done) (at ps f.result) stands lists.result in
       let none = no_items env t bs (opened' ++ done) ns behind (items_made env t bs fits tests next found_next once all opened' opens' bound k.opens.items done behind (by_kept order bound) made.behind) r.binds (r.items (opened' ++ done) (at_result, tt)) in
       ordered_run env t m args bs next found_next once tests known bound opened' k.opens (was_tested env bs next tests bound k.within.tested) holds' (λ q c. (early_from env all q (k.each q c)).1) f.pos f.result
-      ns r.still none f.ordered bound [] h.calls (ordered_plain env t tests bs f.ordered h.calls) still.0 plain lists.once (λ q c d. none_contained q c) (λ q c e. lists.late q c e) known g (record { answers = λ n a e. e; choice = λ q c. refl })
+      ns r.still none f.ordered bound [] h.calls (ordered_plain env t tests bs f.ordered h.calls) still.0 plain lists.ordered.once (λ q c d. none_contained q c) (λ q c e. lists.ordered.late q c e) known g (record { answers = λ n a e. e; choice = λ q c. refl })
 
   last_adds : Inside tests [] (last_step true bs next items f) (last_lists bs items f)
   last_adds bound opened' k =
@@ -295,7 +295,7 @@ module _ (env : Environment) (t : Term) (bs : List Binding) (found : FieldKey �
       let opens = order_opens env t bs ns early bound opened' once k.opens r.binds new in
       let opened1 = came_behind opened' (loops bs ns) in
       let k' = at_order tests bound opened' ns k r.still opens in
-      let ends : (q : Path) → Contains early q → Contains opened1 q = λ q c. let e = early_from env all q c in all_opened env t bs items found_items once f tests lists.late behind opened1 opens.opens f.iterators h.lists r.there q e.0 e.1 in
+      let ends : (q : Path) → Contains early q → Contains opened1 q = λ q c. let e = early_from env all q c in all_opened env t bs items found_items once f tests lists.ordered.late behind opened1 opens.opens f.iterators h.lists r.there q e.0 e.1 in
       record {
         adds = λ m args known g. several_run env m args ps (alone (opening bs (behind_lists bs next behind f) (Return f.pos f.result))) known g;
         run = λ m args known g. order_run env m args t bs ns (behind_lists bs next behind f) (Return f.pos f.result) bound r.binds r.still known g;

@@ -1,5 +1,5 @@
 -- What the block of a term that answers several times gives.
-use Rattle.std.specs.Prelude.{◌≡◌, ◌↔◌, ℕ, List, [], ◌∷◌, ◌++◌, true, false, Some, Contains, map}
+use Rattle.std.specs.Prelude.{◌≡◌, ◌↔◌, ℕ, List, [], ◌∷◌, ◌++◌, false, Some, Contains, map}
 use Rattle.std.specs.List.{AllByRecursion}
 use Rattle.isle_core.specs.declared.BindingId.{BindingId}
 use Rattle.isle_core.specs.declared.rule_sets.Constraint.{Constraint}
@@ -9,31 +9,28 @@ use Rattle.isle_core.specs.Block.{Block}
 use Rattle.isle_core.specs.Choice.{first_items}
 use Rattle.isle_core.specs.Choices.{each_choice, flat_adds}
 use Rattle.isle_core.specs.HoldsImpure.{holds_impure}
-use Rattle.isle_core.specs.Iterators.{calls_multi}
 use Rattle.isle_core.specs.Meaning.{Meaning}
 use Rattle.isle_core.specs.Parts.{Given, nothing_given}
 use Rattle.isle_core.specs.Path.{Path, at, paths_of}
 use Rattle.isle_core.specs.Rule.{Environment}
 use Rattle.isle_core.specs.Serializable.{occurrences_of}
 use Rattle.isle_core.specs.SeveralRun.{several_outcome}
-use Rattle.isle_core.specs.StandsFor.{EachOnce}
 use Rattle.isle_core.specs.Value.{Value, Answer}
 use Rattle.isle_core.specs.ValueAt.{Known, nothing_known}
 use Rattle.isle_core.specs.ListOrder.{ListsWithin, AreListsInOrder}
+use Rattle.isle_blocks.specs.CallsOnce.{HasCallsOnce}
 use Rattle.isle_blocks.specs.Order.{by_priority}
 
 -- ---- the lists of a rule
 
--- the lists whose items are read in a rule are its lists, and so are those within them; its ordered calls stand once, and those that answer
--- several times hold an impure call
+-- the lists whose items are read in a rule, and those within them, are its lists; and its ordered calls are called once
 pub record HasItsLists (env : Environment) (ps : List Path) (f : FlatRule) : Type 0 where
   pub tests : AllByRecursion (λ (c : BindingId × Constraint). ListsWithin (map (at ps) f.iterators) (at ps c.0)) f.constraints
   pub equals : AllByRecursion (λ (e : BindingId × BindingId). ListsWithin (map (at ps) f.iterators) (at ps e.0) × ListsWithin (map (at ps) f.iterators) (at ps e.1)) f.equals
   pub lists : AllByRecursion (λ (l : BindingId). ListsWithin (map (at ps) f.iterators) (at ps l)) f.iterators
   pub calls : AllByRecursion (λ (c : BindingId). ListsWithin (map (at ps) f.iterators) (at ps c)) f.ordered
   pub result : ListsWithin (map (at ps) f.iterators) (at ps f.result)
-  pub once : EachOnce (map (at ps) f.ordered)
-  pub late : (q : Path) → Contains (map (at ps) f.ordered) q → calls_multi env q ≡ true → holds_impure env q ≡ true
+  pub ordered : HasCallsOnce env ps f
 
 -- over these lists a rule's choices go: each stands once, behind those within it, and they are the rule's lists that hold no impure call
 pub record AreEarlyLists (env : Environment) (ps : List Path) (f : FlatRule) (lists : List Path) : Type 0 where

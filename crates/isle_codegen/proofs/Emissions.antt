@@ -41,7 +41,7 @@ calls_once files env id s h = each s.rules h.lists
   where
     each : (fs : List FlatRule) → AllByRecursion (HasItsLists env (paths_of s.bindings)) fs → AllByRecursion (HasCallsOnce env (paths_of s.bindings)) fs
     each [] k = tt
-    each (f ∷ fs) k = (record { once = k.0.once; late = k.0.late }, each fs k.1)
+    each (f ∷ fs) k = (k.0.ordered, each fs k.1)
 
 -- the function of a block of the rule set is emitted for it
 pub is_emitted : (logging : Bool) (files : Files) (env : Environment) (id : TermId) (s : RuleSet) (t : Term) (b : Block) (f : Function) → (h : CanEmit files env (id, s)) → slice_get env.terms id.0 ≡ Some t

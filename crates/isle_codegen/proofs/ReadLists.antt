@@ -46,8 +46,7 @@ has_lists env ps f h once =
       lists = mapped_all (ListsWithin own) (at ps) f.iterators h.lists;
       calls = mapped_all (ListsWithin own) (at ps) f.ordered h.ordered;
       result = h.result;
-      once = once.once;
-      late = once.late;
+      ordered = once;
     }
 
 rules_lists : (env : Environment) (t : Term) (ps : List Path) (rs : List Rule) (n : ℕ) (fs : List FlatRule) → AreFlat env ps rs n fs → AllByRecursion (IsRuleOf env t) rs → AllByRecursion (HasCallsOnce env ps) fs → AllByRecursion (HasItsLists env ps) fs

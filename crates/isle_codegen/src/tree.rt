@@ -15,9 +15,9 @@ use isle_core::{
     CodegenOptions, Files, LineStarts, List, OutOfMemory, ReturnKind, RuleSet, TermEnv, TermId,
     TermKind, TypeEnv,
 };
-use isle_emission::{ConstTypes, Context, term_function, trait_fns};
+use isle_emission::{ConstTypes, Context, term_function};
 use isle_items::type_items;
-use isle_operands::kind_of;
+use isle_operands::{kind_of, trait_fns};
 use isle_tree::{Function, Program};
 use std::alloc::Global;
 

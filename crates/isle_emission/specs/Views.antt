@@ -1,13 +1,11 @@
 -- What contracts see of lists that may not be there, and of the lists in blocks.
-use Rattle.std.specs.Prelude.{◌≡◌, List, ◌++◌, Option, Some, None, map}
+use Rattle.std.specs.Prelude.{List, Option, Some, None, map}
 use Rattle.std.specs.Global.{Vec}
-use Rattle.std.specs.List.{cons_option}
 use Rattle.isle_core.specs.declared.blocks.EvalStep.{EvalStep as CodeStep}
 use Rattle.isle_core.specs.declared.blocks.MatchArm.{MatchArm as CodeArm}
 use Rattle.isle_core.specs.Block.{Block, Arms}
 use Rattle.isle_core.specs.BlockViews.{block_of, arms_of, step, arm}
 use Rattle.isle_tree.specs.declared.tree.Stmt.{Stmt as CodeStmt}
-use Rattle.isle_tree.specs.declared.tree.TraitFn.{TraitFn}
 use Rattle.isle_tree.specs.Program.{Body}
 use Rattle.isle_tree.specs.Views.{body}
 
@@ -23,7 +21,3 @@ steps_block xs = block_of (map step xs)
 -- the arms of a match
 abbrev pub match_arms : List CodeArm → Arms
 match_arms xs = arms_of (map arm xs)
-
--- a function was pushed, where there is one
-abbrev pub IsPushed : (old new : List TraitFn) → Option TraitFn → Type 0
-IsPushed old new f = (more : List TraitFn) → new ++ more ≡ old ++ cons_option f more

@@ -6,7 +6,6 @@ mod called;
 mod calls;
 mod computed;
 mod emit;
-mod externals;
 mod filling;
 mod lets;
 mod made;
@@ -18,5 +17,4 @@ mod telling;
 mod told;
 
 pub use emit::{emit_term, term_function};
-pub use externals::trait_fns;
 pub use isle_operands::{ConstTypes, Context};

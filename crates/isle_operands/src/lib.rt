@@ -3,6 +3,7 @@
 
 mod constants;
 mod context;
+mod externals;
 mod forms;
 mod lists;
 mod operands;
@@ -13,6 +14,7 @@ mod types;
 
 pub use constants::ConstTypes;
 pub use context::{Context, kind_of};
+pub use externals::trait_fns;
 pub use forms::{Form, field_at, field_count, struct_form, variant_form};
 pub use lists::{binds_list, looped_local};
 pub use operands::{in_place, is_bound, operand_of, tested};

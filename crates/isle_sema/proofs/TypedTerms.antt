@@ -44,11 +44,9 @@ use Rattle.isle_types.specs.TypeNames.{declared_names, type_names}
 use Rattle.isle_terms.specs.Whole.{Whole}
 use Rattle.isle_terms.specs.Whole.{whole_of}
 use Rattle.isle_terms.specs.TermPass.{types_named, constructor_named, extracting_named, kind_from, term_pass, terms_pass}
-use Rattle.isle_sema.specs.Language.{is_built_def}
 use Rattle.isle_terms.specs.TypeNames.{type_named}
-use Rattle.isle_sema.specs.Typing.{Typed, TypedBuilt}
+use Rattle.isle_sema.specs.Typing.{Typed}
 use Rattle.isle_sema.proofs.AnsweringTerms.{IsAnswering, all_answer}
-use Rattle.isle_sema.proofs.BuiltForms.{IsPlain}
 use Rattle.isle_terms.proofs.MadeTerms.{first_there, made_of, term_is, types_are, all_at}
 use Rattle.isle_sema.proofs.NamesApart.{made_apart, terms_apart, declared_unmade}
 use Rattle.isle_sema.proofs.TermFaults.{has_too_many, terms_kept}
@@ -68,27 +66,6 @@ body_all P ty (Enum variants) pos rest own h = variants_all P ty pos 0 variants 
 body_all P ty (Struct fields) pos rest own h = (own _ refl refl, h)
 
 -- ---- its kind
-
--- a term that no type makes is not `multi`
-abbrev IsPlainTerm : Signature → Type 0
-IsPlainTerm s = is_made s.origin ≡ false → IsPlain s
-
-made_plain : (s : Signature) (pos : Pos) → is_made s.origin ≡ true → s.pos ≡ pos → IsPlainTerm s
-made_plain s pos made at other = let bad : true ≡ false = sym made ∙ other in absurd cc
-
-plain_terms : (ds : List Def) → list_all is_built_def ds ≡ true → AllByRecursion IsPlainTerm (terms ds)
-plain_terms [] h = tt
-plain_terms (tree.Decl term pure multi partial recursive args ret pos ∷ ds) h =
-    let k = and_parts (not multi) (list_all is_built_def ds) h in
-    (λ e. not-true multi k.0, plain_terms ds k.1)
-plain_terms (tree.TypeDecl name is_extern is_nodebug body pos ∷ ds) h = body_all IsPlainTerm name body pos (terms ds) (λ s made at. made_plain s pos made at) (plain_terms ds h)
-plain_terms (tree.ExternConstructor term func pos ∷ ds) h = plain_terms ds h
-plain_terms (tree.Rule name prio term args iflets rhs pos ∷ ds) h = plain_terms ds (and_parts (is_built_def (tree.Rule name prio term args iflets rhs pos)) (list_all is_built_def ds) h).1
-plain_terms (tree.ExternConst name ty pos ∷ ds) h = plain_terms ds h
-plain_terms (tree.ExternExtractor term func infallible pos ∷ ds) h = plain_terms ds h
-plain_terms (tree.Extractor term params template pos ∷ ds) h = plain_terms ds h
-plain_terms (tree.Converter from to term pos ∷ ds) h = plain_terms ds h
-plain_terms (tree.Passed head items pos ∷ ds) h = plain_terms ds h
 
 -- a term of this kind is declared, and not both `multi` and `partial`
 pub record IsDeclaredKind (k : TermKind) : Type 0 where
@@ -123,32 +100,6 @@ declared_kind defs env i t h at other =
     let s = m.signature in
     let is = term_is (whole_of defs) s t m.made in
     kind_declared (whole_of defs) s t.ret_ty s.origin t.kind (all_at IsAnswering (terms defs) i s (all_answer defs [] defs g.terms_kept) m.there) (ap (λ (u : Term). u.kind) is.is) other
-
--- a term of this kind is declared, and not `multi`
-pub record IsPlainKind (k : TermKind) : Type 0 where
-  pub pure : Bool
-  pub partial : Bool
-  pub recursive : Bool
-  pub by : ConstructorKind
-  pub how : ExtractorKind
-  pub is : kind.Decl pure false partial recursive by how ≡ k
-
-kind_plain : (w : Whole) (s : Signature) (ret : TypeId) (from : Origin) (k : TermKind) → (is_made from ≡ false → IsPlain s) → kind_from w s ret from ≡ k → is_made_kind k ≡ false → IsPlainKind k
-kind_plain w s ret origin.Declared k plain is other =
-    let by = constructor_named w s.term in
-    let how = extracting_named w s.term in
-    record { pure = s.pure; partial = s.partial; recursive = s.recursive; by = by; how = how; is = ap (λ b. kind.Decl s.pure b s.partial s.recursive by how) (sym (plain refl)) ∙ is }
-kind_plain w s ret (origin.Variant n) k plain is other = let bad : true ≡ false = ap is_made_kind is ∙ other in absurd cc
-kind_plain w s ret origin.Struct k plain is other = let bad : true ≡ false = ap is_made_kind is ∙ other in absurd cc
-
--- in definitions without `multi` a term that no type makes is
-pub typed_kind : (defs : List Def) (env : Environment) (i : ℕ) (t : Term) → TypedBuilt defs env → slice_get env.terms i ≡ Some t → is_made_kind t.kind ≡ false → IsPlainKind t.kind
-typed_kind defs env i t h at other =
-    let g = given_in h.typed in
-    let m = made_of (whole_of defs) (terms defs) env.terms i t g.terms at in
-    let s = m.signature in
-    let is = term_is (whole_of defs) s t m.made in
-    kind_plain (whole_of defs) s t.ret_ty s.origin t.kind (all_at IsPlainTerm (terms defs) i s (plain_terms defs h.built) m.there) (ap (λ (u : Term). u.kind) is.is) other
 
 -- ---- its arguments
 

@@ -7,7 +7,6 @@ pub mod ExprType
 pub mod RulePass
 pub mod RuleRows
 pub mod TemplateRows
-pub mod Language
 pub mod Breaks
 pub mod Fault
 pub mod Environment

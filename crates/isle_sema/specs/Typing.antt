@@ -1,5 +1,5 @@
 -- What definitions give, where no row of the typing table is broken.
-use Rattle.std.specs.Prelude.{◌≡◌, List, Option, Some, None, true}
+use Rattle.std.specs.Prelude.{◌≡◌, List, Option, Some, None}
 use Rattle.isle_core.specs.declared.position.Pos.{Pos}
 use Rattle.isle_core.specs.declared.types.TypeEnv.{TypeEnv}
 use Rattle.isle_core.specs.Rule.{Environment}
@@ -13,7 +13,6 @@ use Rattle.isle_sema.specs.declared.typing.EnvError.TheVariants as error
 use Rattle.isle_sema.specs.Fault.{fault_of}
 use Rattle.isle_terms.specs.Whole.{whole_of}
 use Rattle.isle_sema.specs.Environment.{env_of}
-use Rattle.isle_sema.specs.Language.{are_built}
 
 -- the fault of definitions, if they have one: its row and the place of its definition
 abbrev pub fault : List Def → Option (Row × Pos)
@@ -28,11 +27,6 @@ pub record TypesFrom (defs : List Def) (types : TypeEnv) : Type 0 where
 pub record Typed (defs : List Def) (env : Environment) : Type 0 where
   pub sound : fault defs ≡ None
   pub given : env_of defs ≡ Some env
-
--- they do, and are all of forms that are built
-pub record TypedBuilt (defs : List Def) (env : Environment) : Type 0 where
-  pub typed : Typed defs env
-  pub built : are_built defs ≡ true
 
 -- they give some environment
 abbrev pub SomeTyped : List Def → Type 0

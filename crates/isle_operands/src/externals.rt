@@ -4,12 +4,13 @@ ghost use Rattle.std.specs.Prelude.{◌≡◌, IfOk, OnOk};
 ghost use Rattle.isle_core.specs.RuleViews.{environment};
 ghost use Rattle.isle_core.specs.Calling.{extractor_kind};
 ghost use Rattle.isle_simulation.specs.TraitFns as TraitFns;
-ghost use Rattle.isle_emission.specs.Views.{IsPushed};
+ghost use Rattle.isle_operands.specs.Views.{IsPushed};
 
+use crate::context::kind_of;
+use crate::signature::{params, sym_name, ty_name, ty_names};
 use isle_core::{
     ConstructorKind, ExtractorKind, List, ReturnKind, Sym, Term, TermEnv, TermKind, TypeEnv,
 };
-use isle_operands::{kind_of, params, sym_name, ty_name, ty_names};
 use isle_tree::TraitFn;
 use std::alloc::{AllocError, Global};
 
