@@ -18,18 +18,20 @@ class Rules:
     """The declarations, templates and rules of one file."""
 
     def __init__(self, source):
-        self.terms, self.made, self.pure, self.constants, self.converters, self.rules = {}, set(), set(), {}, {}, []
+        self.terms, self.made, self.pure, self.several, self.constants, self.converters, self.rules = {}, set(), set(), set(), {}, {}, []
         self.templates = {}
         for form in lists((HERE / source).read_text()):
             self.note(form)
 
     def note(self, form):
-        """Notes a form: the types of a term's arguments and of its result, what is pure or made, or a rule."""
+        """Notes a form: the types of a term's arguments and of its result, what is pure, `multi` or made, or a rule."""
         if form[0] == "decl":
             name = next(place for place, part in enumerate(form) if isinstance(part, list)) - 1
             self.terms[form[name]] = form[name + 1], form[name + 2]
             if "pure" in form[1:name]:
                 self.pure.add(form[name])
+            if "multi" in form[1:name]:
+                self.several.add(form[name])
         elif form[:2] == ["extern", "const"]:
             self.constants[form[2]] = form[3]
         elif form[0] == "extractor":
