@@ -13,12 +13,18 @@ use isle_scope::Table;
 use isle_tree::{Function, Operand, Read, Stmt, TPat};
 use std::alloc::{AllocError, Global};
 
+// Where a walk goes: a function of a program.
+#[derive(Clone, Copy)]
+struct Walk<'s, 'p> {
+    alloc: Global,
+    signatures: &'s Signatures<'p>,
+    f: &'s Function,
+}
+
 // Appends the places of a pattern, of what it is held against, and in the statements behind it.
 #[cycle(placing)]
 fn push_arm<'s>(
-    alloc: Global,
-    signatures: &'s Signatures<'_>,
-    f: &'s Function,
+    walk: Walk<'s, '_>,
     bound: &mut Table<Told<'s>>,
     found: &mut Vec<(&'s Operand, &'s str)>,
     pat: &'s TPat,
@@ -26,14 +32,14 @@ fn push_arm<'s>(
     inside: &'s [Stmt],
 ) -> Result<(), AllocError>
     ensures more { OnOk result (placed found.new.items
-        ≡ placed found.old.items ++ arm_places (program signatures.now) (function f.now) (tells bound.old) pat.now read.now (body inside.now)) }
+        ≡ placed found.old.items ++ arm_places (program walk.entry.signatures.now) (function walk.entry.f.now) (tells bound.old) pat.now read.now (body inside.now)) }
     ensures kept { OnOk result (tells bound.new ≡ tells bound.old) }
 {
     let count = bound.len();
-    push_pattern(f, bound, found, pat, read)?;
-    let held = operand_told(f, bound, operand_of(read));
-    bind_pattern(alloc, signatures, bound, pat, held)?;
-    push_body(alloc, signatures, f, bound, found, inside)?;
+    push_pattern(walk.f, bound, found, pat, read)?;
+    let held = operand_told(walk.f, bound, operand_of(read));
+    bind_pattern(walk.alloc, walk.signatures, bound, pat, held)?;
+    push_body(walk, bound, found, inside)?;
     bound.truncate(count);
     Ok(())
 }
@@ -41,9 +47,7 @@ fn push_arm<'s>(
 // Appends the places in a loop over the items of a list.
 #[cycle(placing)]
 fn push_loop<'s>(
-    alloc: Global,
-    signatures: &'s Signatures<'_>,
-    f: &'s Function,
+    walk: Walk<'s, '_>,
     bound: &mut Table<Told<'s>>,
     found: &mut Vec<(&'s Operand, &'s str)>,
     list: usize,
@@ -51,13 +55,13 @@ fn push_loop<'s>(
     inside: &'s [Stmt],
 ) -> Result<(), AllocError>
     ensures more { OnOk result (placed found.new.items
-        ≡ placed found.old.items ++ body_places (program signatures.now) (function f.now) (told_inside list item (tells bound.old)) (body inside.now)) }
+        ≡ placed found.old.items ++ body_places (program walk.entry.signatures.now) (function walk.entry.f.now) (told_inside list item (tells bound.old)) (body inside.now)) }
     ensures kept { OnOk result (tells bound.new ≡ tells bound.old) }
 {
     let count = bound.len();
     let held = item_told(local_told(bound, list));
     bound.bind(item, held)?;
-    push_body(alloc, signatures, f, bound, found, inside)?;
+    push_body(walk, bound, found, inside)?;
     bound.truncate(count);
     Ok(())
 }
@@ -66,76 +70,53 @@ fn push_loop<'s>(
 #[cycle(placing)]
 #[tactic(auto, using(isle_tree::proofs::Sees::sees))]
 fn push_statement<'s>(
-    alloc: Global,
-    signatures: &'s Signatures<'_>,
-    f: &'s Function,
+    walk: Walk<'s, '_>,
     bound: &mut Table<Told<'s>>,
     found: &mut Vec<(&'s Operand, &'s str)>,
     statement: &'s Stmt,
 ) -> Result<(), AllocError>
     ensures more { OnOk result (placed found.new.items
-        ≡ placed found.old.items ++ stmt_places (program signatures.now) (function f.now) (tells bound.old) (stmt statement.now)) }
-    ensures after { OnOk result (tells bound.new ≡ told_after (program signatures.now) (function f.now) (tells bound.old) (stmt statement.now)) }
+        ≡ placed found.old.items ++ stmt_places (program walk.entry.signatures.now) (function walk.entry.f.now) (tells bound.old) (stmt statement.now)) }
+    ensures after { OnOk result (tells bound.new ≡ told_after (program walk.entry.signatures.now) (function walk.entry.f.now) (tells bound.old) (stmt statement.now)) }
 {
     match statement {
         Stmt::Let(local, computed) => {
-            push_computed(alloc, signatures, found, computed)?;
-            let held = expr_told(signatures, f, bound, computed);
+            push_computed(walk.alloc, walk.signatures, found, computed)?;
+            let held = expr_told(walk.signatures, walk.f, bound, computed);
             bound.bind(*local, held)
         }
         Stmt::LetList { local, call } => {
-            push_call(signatures, found, call)?;
-            let held = list_told(signatures, call);
+            push_call(walk.signatures, found, call)?;
+            let held = list_told(walk.signatures, call);
             bound.bind(*local, held)
         }
         Stmt::IfEq(a, b, inside) => {
-            push_both(f, bound, found, a, b)?;
-            push_body(alloc, signatures, f, bound, found, inside.as_slice())
+            push_both(walk.f, bound, found, a, b)?;
+            push_body(walk, bound, found, inside.as_slice())
         }
         Stmt::IfLet(pat, read, inside) => {
-            push_arm(
-                alloc,
-                signatures,
-                f,
-                bound,
-                found,
-                pat,
-                read,
-                inside.as_slice(),
-            )
+            push_arm(walk, bound, found, pat, read, inside.as_slice())
         }
         Stmt::Match(read, arms) => {
             for arm in arms.as_slice() {
-                push_arm(
-                    alloc,
-                    signatures,
-                    f,
-                    bound,
-                    found,
-                    &arm.0,
-                    read,
-                    arm.1.as_slice(),
-                )?;
+                push_arm(walk, bound, found, &arm.0, read, arm.1.as_slice())?;
             }
             Ok(())
         }
         Stmt::Loop { list, item, body } => {
-            push_loop(
-                alloc,
-                signatures,
-                f,
-                bound,
+            push_loop(walk, bound, found, *list, *item, body.as_slice())
+        }
+        Stmt::Split { body, .. } => push_body(walk, bound, found, body.as_slice()),
+        Stmt::Return(computed) => {
+            push_returned(walk.alloc, walk.signatures, walk.f, found, computed)
+        }
+        Stmt::Extend(read) => {
+            push_at(
                 found,
-                *list,
-                *item,
-                body.as_slice(),
+                operand_of(read),
+                Told::AValue(walk.f.result.as_str()),
             )
         }
-        Stmt::Split { body, .. } => {
-            push_body(alloc, signatures, f, bound, found, body.as_slice())
-        }
-        Stmt::Return(computed) => push_returned(alloc, signatures, f, found, computed),
-        Stmt::Extend(read) => { push_at(found, operand_of(read), Told::AValue(f.result.as_str())) }
         Stmt::Overflow { .. } | Stmt::Log { .. } | Stmt::Tail(_) => Ok(()),
     }
 }
@@ -143,20 +124,18 @@ fn push_statement<'s>(
 // Appends the places in statements in order, and leaves what they bound.
 #[cycle(placing)]
 fn push_body<'s>(
-    alloc: Global,
-    signatures: &'s Signatures<'_>,
-    f: &'s Function,
+    walk: Walk<'s, '_>,
     bound: &mut Table<Told<'s>>,
     found: &mut Vec<(&'s Operand, &'s str)>,
     statements: &'s [Stmt],
 ) -> Result<(), AllocError>
     ensures more { OnOk result (placed found.new.items
-        ≡ placed found.old.items ++ body_places (program signatures.now) (function f.now) (tells bound.old) (body statements.now)) }
+        ≡ placed found.old.items ++ body_places (program walk.entry.signatures.now) (function walk.entry.f.now) (tells bound.old) (body statements.now)) }
     ensures kept { OnOk result (tells bound.new ≡ tells bound.old) }
 {
     let count = bound.len();
     for statement in statements {
-        push_statement(alloc, signatures, f, bound, found, statement)?;
+        push_statement(walk, bound, found, statement)?;
     }
     bound.truncate(count);
     Ok(())
@@ -173,5 +152,10 @@ pub fn push_places<'s>(
     ensures { OnOk result (placed found.new.items ≡ placed found.old.items ++ places (program signatures.now) (function f.now)) }
 {
     let mut bound = Table::new(alloc);
-    push_body(alloc, signatures, f, &mut bound, found, f.body.as_slice())
+    let walk = Walk {
+        alloc,
+        signatures,
+        f,
+    };
+    push_body(walk, &mut bound, found, f.body.as_slice())
 }

@@ -7,10 +7,10 @@ use Rattle.isle_places.proofs.placing.+placing.Given as goal
 
 abbrev pub invariant-push_statement-loop-arm : goal.invariant-push_statement-loop-arm
 invariant-push_statement-loop-arm l =
-    (placed l.found.items ++ (arms_places (program l.signatures) (function l.f) (tells l.bound) l.read (arms (drop l.arm-index l.arm-items))) ≡ placed l.fn.found.items ++ (stmt_places (program l.signatures) (function l.f) (tells l.fn.bound) (stmt l.fn.statement)))
+    (placed l.found.items ++ (arms_places (program l.walk.signatures.now) (function l.walk.f.now) (tells l.bound) l.read (arms (drop l.arm-index l.arm-items))) ≡ placed l.fn.found.items ++ (stmt_places (program l.walk.signatures.now) (function l.walk.f.now) (tells l.fn.bound) (stmt l.fn.statement)))
     × (tells l.bound ≡ tells l.fn.bound)
 
 abbrev pub invariant-push_body-loop-statement : goal.invariant-push_body-loop-statement
 invariant-push_body-loop-statement l =
-    (placed l.found.items ++ (body_places (program l.signatures) (function l.f) (tells l.bound) (body (drop l.statement-index l.statements))) ≡ placed l.fn.found.items ++ (body_places (program l.signatures) (function l.f) (tells l.fn.bound) (body l.statements)))
+    (placed l.found.items ++ (body_places (program l.walk.signatures.now) (function l.walk.f.now) (tells l.bound) (body (drop l.statement-index l.statements))) ≡ placed l.fn.found.items ++ (body_places (program l.walk.signatures.now) (function l.walk.f.now) (tells l.fn.bound) (body l.statements)))
     × ((more : Tells) × (tells l.bound ≡ tells l.fn.bound ++ more))
