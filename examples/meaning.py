@@ -12,21 +12,31 @@ IMPURE = ["whole", "part"]
 # What answers by a list that its one argument tells: an extractor and a pure constructor.
 LISTS = ["items", "near"]
 
-# What patterns and expressions are read in: what functions answer, and the templates.
-World = collections.namedtuple("World", "answers templates")
+# How many items are chosen at most, in a reading of a term's rules at some arguments.
+MOST_CHOSEN = 100_000
+
+# What patterns and expressions are read in: what functions answer, the templates, and the items that were chosen so far.
+World = collections.namedtuple("World", "answers templates taken")
 # What stands for the parameters of a template where it is used, and what stands there for those of another template.
 Given = collections.namedtuple("Given", "patterns outer")
 # The variables, each with its value and the path that gives it, and the item that is chosen of each list, by the list's path.
 State = collections.namedtuple("State", "names chosen")
 
 
-def chosen_items(items, path, chosen):
+class TooWide(Exception):
+    """More items are to be chosen than a reading goes through."""
+
+
+def chosen_items(items, path, chosen, world):
     """The items that may be chosen of a list, each with all that is chosen then."""
     if path in chosen:
         yield chosen[path], chosen
-    else:
-        for item in items:
-            yield item, {**chosen, path: item}
+        return
+    for item in items:
+        world.taken.append(item)
+        if len(world.taken) > MOST_CHOSEN:
+            raise TooWide
+        yield item, {**chosen, path: item}
 
 
 def meets(name, value, path, state, world, given):
@@ -62,7 +72,7 @@ def opened(name, parts, value, path, state, world, given):
     """The states in which what an extractor gives matches patterns."""
     found = world.answers[name][min(value, 3)]
     if name in LISTS:
-        for item, chosen in chosen_items(found, path, state.chosen):
+        for item, chosen in chosen_items(found, path, state.chosen, world):
             yield from matches(parts[0], item, path, State(state.names, chosen), world, given)
     elif found is not None:
         yield from all_match([(part, result, (path, place)) for place, (part, result) in enumerate(zip(parts, found))], state, world, given)
@@ -131,7 +141,7 @@ def called(tree, given, chosen, world, calls):
         calls.append((name, [value for value, _ in given]))
         answer = world.answers[name][min(turn, len(world.answers[name]) - 1)]
     if isinstance(answer, list):
-        yield from ((item, path, more) for item, more in chosen_items(answer, path, chosen))
+        yield from ((item, path, more) for item, more in chosen_items(answer, path, chosen, world))
     elif answer is not None:
         yield answer, path, chosen
 

@@ -11,8 +11,6 @@ mod pattern;
 mod print;
 mod several;
 mod statement;
-#[cfg(test)]
-mod tests;
 mod types;
 
 pub use isle_spelling::rust_int_literal;
