@@ -3,10 +3,12 @@
 
 ghost use Rattle.std.specs.Prelude.{◌≡◌, length, IfOk};
 
+mod literals;
 mod shown;
 
 use isle_codegen::{Checked, check_files};
 use isle_core::{Binding, Files, List, RuleSet, Term, TermKind, Text};
+use literals::push_literals;
 use shown::{shown_place, shown_sig};
 use std::alloc::{AllocError, Global};
 use std::io;
@@ -82,6 +84,7 @@ fn lines(alloc: Global, checked: &Checked) -> Result<String, AllocError> {
     for (_, set) in &checked.terms {
         push_bindings(alloc, &mut lines, set)?;
     }
+    push_literals(alloc, &mut lines)?;
     Ok(lines)
 }
 
