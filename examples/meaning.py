@@ -137,7 +137,7 @@ def called(tree, given, chosen, world, calls):
             answer = answer[0]
     else:
         path = ("call", id(tree))
-        turn = sum(called == name for called, _ in calls)
+        turn = sum(other == name for other, _ in calls)
         calls.append((name, [value for value, _ in given]))
         answer = world.answers[name][min(turn, len(world.answers[name]) - 1)]
     if isinstance(answer, list):
