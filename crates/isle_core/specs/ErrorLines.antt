@@ -1,5 +1,5 @@
 -- The lines in which errors are told.
-use Rattle.std.specs.Prelude.{ℕ, ◌+◌, ◌==◌, List, [], ◌∷◌, ◌++◌, take, codes, Option, Some, None, IsSomeAnd, slice_get, if◌then◌else◌}
+use Rattle.std.specs.Prelude.{ℕ, ◌+◌, ◌==◌, List, [], ◌∷◌, ◌++◌, take, map, nat_lt, codes, Option, Some, None, IsSomeAnd, slice_get, if◌then◌else◌}
 use Rattle.std.specs.Fmt.{decimal}
 use Rattle.isle_core.specs.declared.errors.Error.{Error}
 use Rattle.isle_core.specs.declared.errors.Error.TheVariants as error
@@ -57,16 +57,33 @@ told_at name line column said = name ++ (codes ":" ++ (decimal line ++ (codes ":
 abbrev pub told_of : Files → Pos → List ℕ → List ℕ
 told_of files pos said = told_at (name_in files pos.file) (line_of (text_in files pos.file) pos.offset) (column_of (text_in files pos.file) pos.offset) said
 
--- the line of an error whose span is this
-abbrev pub line_at : Files → Error → Option Span → List ℕ
-line_at files e (Some s) = told_of files s.from (kind_of e ++ (codes ": " ++ (words_of e ++ codes "\n")))
-line_at files e None = []
+-- what tells an error whose span is this
+abbrev pub text_at : Files → Error → Option Span → List ℕ
+text_at files e (Some s) = told_of files s.from (kind_of e ++ (codes ": " ++ words_of e))
+text_at files e None = kind_of e ++ (codes ": " ++ words_of e)
+
+-- what tells an error, without a line's end
+abbrev pub error_text : Files → Error → List ℕ
+error_text files e = text_at files e (span_of e)
 
 -- the line of an error
 abbrev pub error_line : Files → Error → List ℕ
-error_line files e = line_at files e (span_of e)
+error_line files e = error_text files e ++ codes "\n"
 
 -- the lines of errors, in order
 abbrev pub error_lines : Files → List Error → List ℕ
 error_lines files [] = []
 error_lines files (e ∷ es) = error_line files e ++ error_lines files es
+
+-- a byte as a line shows it: one that may steer a terminal as `?`
+abbrev pub masked : ℕ → ℕ
+masked b = if nat_lt b 32 then 63 else b
+
+-- the line of an error as it is shown
+abbrev pub shown_line : Files → Error → List ℕ
+shown_line files e = map masked (error_text files e) ++ codes "\n"
+
+-- the lines of errors as they are shown, in order
+abbrev pub shown_lines : Files → List Error → List ℕ
+shown_lines files [] = []
+shown_lines files (e ∷ es) = shown_line files e ++ shown_lines files es

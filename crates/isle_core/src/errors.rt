@@ -2,7 +2,7 @@
 
 ghost use Rattle.std.specs.Prelude.{◌≡◌, ◌++◌, All, Some as SomeOf, IfOk, OnOk, IsSomeAnd, codes, map, option_copied};
 ghost use Rattle.std.specs.String.{string_bytes};
-ghost use Rattle.isle_core.specs.ErrorLines.{IsPlaced, kind_of, words_of, span_of, error_line, error_lines};
+ghost use Rattle.isle_core.specs.ErrorLines.{IsPlaced, kind_of, words_of, span_of, error_text, error_line, error_lines, masked, shown_line, shown_lines};
 ghost use Rattle.isle_core.specs.LineStarts.{starts_of};
 
 use crate::files::Files;
@@ -103,20 +103,66 @@ impl Error {
         }
     }
 
+    // What tells it, without a line's end.
+    fn text(&self, alloc: Global, starts: &LineStarts, files: &Files) -> Result<String, OutOfMemory>
+        requires table { starts.now ≡ map starts_of files.now.file_texts }
+        requires placed { IsPlaced files.now self.now }
+        ensures { IfOk result (λ text. string_bytes text ≡ error_text files.now self.now) }
+    {
+        let kind = self.kind();
+        let words = self.words();
+        let said = format!(in alloc; "{kind}: {words}")?;
+        match self.span() {
+            Some(span) => starts.told(alloc, files, span.from, said.as_str()),
+            None => Ok(said),
+        }
+    }
+
     // The line that tells it.
     fn line(&self, alloc: Global, starts: &LineStarts, files: &Files) -> Result<String, OutOfMemory>
         requires table { starts.now ≡ map starts_of files.now.file_texts }
         requires placed { IsPlaced files.now self.now }
         ensures { IfOk result (λ text. string_bytes text ≡ error_line files.now self.now) }
     {
-        let kind = self.kind();
-        let words = self.words();
-        let said = format!(in alloc; "{kind}: {words}\n")?;
-        match self.span() {
-            Some(span) => starts.told(alloc, files, span.from, said.as_str()),
-            None => Ok(said),
-        }
+        let mut line = self.text(alloc, starts, files)?;
+        line.push_str("\n")?;
+        Ok(line)
     }
+
+    // The line that tells it, as it is shown.
+    fn shown(
+        &self,
+        alloc: Global,
+        starts: &LineStarts,
+        files: &Files,
+    ) -> Result<Vec<u8>, OutOfMemory>
+        requires table { starts.now ≡ map starts_of files.now.file_texts }
+        requires placed { IsPlaced files.now self.now }
+        ensures { IfOk result (λ bytes. bytes.items ≡ shown_line files.now self.now) }
+    {
+        let text = self.text(alloc, starts, files)?;
+        let mut line = masked_bytes(alloc, text.as_str())?;
+        line.extend_from_slice(b"\n")?;
+        Ok(line)
+    }
+}
+
+/// Returns a byte as a line shows it: one below 32, which may steer a terminal, as `?`.
+pub fn masked(byte: u8) -> u8
+    ensures { result ≡ masked byte }
+{
+    if byte < 32 { b'?' } else { byte }
+}
+
+// The bytes of a text as a line shows them.
+fn masked_bytes(alloc: Global, text: &str) -> Result<Vec<u8>, OutOfMemory>
+    ensures { IfOk result (λ bytes. bytes.items ≡ map masked text.now) }
+{
+    let mut bytes = Vec::new(alloc);
+    for byte in text.as_bytes() {
+        bytes.push(masked(*byte))?;
+    }
+    Ok(bytes)
 }
 
 /// The errors of one check, in order, with the files that their places lie in.
@@ -139,6 +185,20 @@ impl Errors {
         for error in self.errors.as_slice() {
             let line = error.line(alloc, &starts, &self.files)?;
             out.push_str(line.as_str())?;
+        }
+        Ok(out)
+    }
+    /// Returns the bytes of the same lines as a terminal may be shown them: in each, a byte below 32 before its end is `?`, so
+    /// a name of a file neither breaks a line nor steers the terminal. Fails for want of memory alone.
+    pub fn shown_lines(&self, alloc: Global) -> Result<Vec<u8>, OutOfMemory>
+        requires { All (IsPlaced self.now.files) self.now.errors }
+        ensures { IfOk result (λ bytes. bytes.items ≡ shown_lines self.now.files self.now.errors) }
+    {
+        let starts = LineStarts::new(alloc, &self.files)?;
+        let mut out = Vec::new(alloc);
+        for error in self.errors.as_slice() {
+            let line = error.shown(alloc, &starts, &self.files)?;
+            out.extend_from_slice(line.as_slice())?;
         }
         Ok(out)
     }

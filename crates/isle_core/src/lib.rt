@@ -17,7 +17,7 @@ mod types;
 mod values;
 
 pub use blocks::{Block, ControlFlow, EvalStep, MatchArm};
-pub use errors::{Error, Errors};
+pub use errors::{Error, Errors, masked};
 pub use files::Files;
 pub use isle_base::{
     BindingId, Boxed, FieldId, List, RuleId, Sym, TermId, Text, TupleIndex, TypeId, VarId,

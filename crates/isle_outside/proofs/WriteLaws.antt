@@ -2,7 +2,7 @@
 use Rattle.std.proofs.Common.{◌≡◌, ℕ, ◌+◌, ◌≤◌, max, Bool, true, false, cond, List, [], ◌∷◌, Some, Result, Ok, Err, OnOk, OnErr, refl, ap, sym, ◌∙◌, arith}
 use Rattle.std.specs.Str.{bytes_eq}
 use Rattle.std.proofs.lemmas.Slice.Eq.{bytes_eq-Decides}
-use Rattle.isle_outside.specs.Directory.{Contents, bytes_of, entries_of, AddsNoSecond, Holds, KeepsEntries, KeepsOthers}
+use Rattle.isle_outside.specs.Directory.{Contents, bytes_of, entries_of, AddsNoSecond, Holds, KeepsOthers}
 use Rattle.isle_outside.specs.Memory.{Kept, files_of, written}
 
 differ_at : (r : Bool) (a b : List ℕ) → (r ≡ true → a ≡ b) → (a ≡ b → ⊥) → r ≡ false

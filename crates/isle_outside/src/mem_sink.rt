@@ -96,6 +96,7 @@ impl Sink for MemSink {
         ensures later { self.old.faults ≤ self.new.faults }
         ensures stays { self.old.faults ≡ 2 ^ 64 - 1 → self.new.faults ≡ 2 ^ 64 - 1 }
         ensures failed { OnErr result (Rose self.old.faults self.new.faults) }
+        ensures steady { OnOk result (self.new.faults ≡ self.old.faults) }
         ensures fails { is_err result ≡ (is_failing self.old.failures.calls self.old.failures.numbers.items
             || (nat_lt 0 (length bytes.now) && (self.old.room == vec_len self.old.bytes))) }
         ensures most { IfOk result (λ n. n ≡ min (min (length bytes.now) self.old.piece) (self.old.room - vec_len self.old.bytes)) }

@@ -1,4 +1,4 @@
-ghost use Rattle.std.specs.Prelude.{◌≡◌, ◌-◌, ◌^◌, ◌≤◌, ◌<◌, None, length, is_err, IfOk, OnErr};
+ghost use Rattle.std.specs.Prelude.{◌≡◌, ◌-◌, ◌^◌, ◌≤◌, ◌<◌, None, length, is_err, IfOk, OnOk, OnErr};
 ghost use Rattle.std.specs.Io.KnownBytes.{WriteAppends};
 ghost use Rattle.isle_outside.specs.Directory.{Rose};
 ghost use Rattle.isle_outside.specs.Failures.{counted};
@@ -43,6 +43,7 @@ impl<W: Write> Sink for StdSink<W> {
         ensures later { self.old.faults ≤ self.new.faults }
         ensures stays { self.old.faults ≡ 2 ^ 64 - 1 → self.new.faults ≡ 2 ^ 64 - 1 }
         ensures failed { OnErr result (Rose self.old.faults self.new.faults) }
+        ensures steady { OnOk result (self.new.faults ≡ self.old.faults) }
         ensures written { WriteAppends (W.contents self.old.writer) (W.contents self.new.writer) result bytes.now }
         ensures counted { self.new.faults ≡ counted (is_err result) self.old.faults }
     {

@@ -1,8 +1,7 @@
-//! The machine's directory and sink, each once, and failing calls of the directory in memory.
+//! The machine's directory and sink, each once.
 
 use crate::dir::{Dir, Found};
 use crate::errors::{DirFault, Failed};
-use crate::mem_dir::MemDir;
 use crate::reading::read_text;
 use crate::sink::Sink;
 use crate::std_dir::StdDir;
@@ -61,15 +60,4 @@ fn a_writer_of_the_machine(rt: HostRuntime) {
     assert_eq!(rt; sink.put(b"abc"), Ok(3));
     assert_eq!(rt; sink.put(b"def"), Ok(2));
     assert_eq!(rt; sink.put(b"g"), Err(Failed));
-}
-
-#[test]
-fn calls_in_memory_that_fail(rt: HostRuntime) -> Result<(), Fail> {
-    let alloc = rt.alloc();
-    let fails = vec![in alloc; 2]?;
-    let mut dir = MemDir::new(alloc, Vec::new(alloc), fails, 8);
-    assert_eq!(rt; dir.find("a"), Ok(Found::Absent));
-    assert_eq!(rt; dir.write_file("a", b"new"), Err(DirFault::Failed));
-    assert_eq!(rt; dir.faults(), 1);
-    Ok(())
 }

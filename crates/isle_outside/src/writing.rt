@@ -10,6 +10,7 @@ pub fn write_all<S: Sink>(sink: &mut S, bytes: &[u8]) -> Result<(), Failed>
     ensures ok { OnOk result (Took (S.taken sink.old) (S.taken sink.new) bytes.now) }
     ensures part { OnErr result (TookPart (S.taken sink.old) (S.taken sink.new) bytes.now) }
     ensures failed { OnErr result (Rose (S.faults sink.old) (S.faults sink.new)) }
+    ensures steady { OnOk result (S.faults sink.new ≡ S.faults sink.old) }
     ensures later { S.faults sink.old ≤ S.faults sink.new }
     ensures stays { S.faults sink.old ≡ 2 ^ 64 - 1 → S.faults sink.new ≡ 2 ^ 64 - 1 }
 {

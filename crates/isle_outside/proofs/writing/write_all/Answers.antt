@@ -1,4 +1,4 @@
-use Rattle.std.proofs.Common.{arith}
+use Rattle.std.proofs.Common.{◌∙◌, arith}
 use Rattle.isle_outside.proofs.TakeLaws.{took_next}
 use Rattle.isle_outside.proofs.writing.write_all.Goals as goal
 
@@ -6,6 +6,5 @@ pub loop-at-preserved : goal.loop-at-preserved
 loop-at-preserved g c = record {
   within = omega (arith, c.in-Ok.ensures.within);
   taken = took_next _ _ _ _ _ _ c.loop-at.invariant.taken c.in-Ok.ensures.taken;
-  later = omega (arith, c.put.ensures.later);
-  stays = λ e. c.put.ensures.stays (c.loop-at.invariant.stays e);
+  steady = c.in-Ok.ensures.steady ∙ c.loop-at.invariant.steady;
 }
