@@ -5,7 +5,7 @@ ghost use Rattle.isle_checks.specs.CheckList as list;
 ghost use Rattle.isle_checks.specs.CheckList.{told, single, unreachable_of, overlap_of, shadow_of};
 ghost use Rattle.isle_checks.specs.Errors.{places_of, Joined, JoinedOf};
 
-use crate::firsts::firsts;
+use crate::firsts::firsts_of_term;
 use crate::placed::Check;
 use crate::unreachable::unreachable_rules;
 use isle_core::{Error, FlatRule, List, Pos, Span, Text};
@@ -97,17 +97,19 @@ fn push_shadow(
 }
 
 /// Adds the errors of the rules of a term, rule by rule: that it is unreachable by itself, then the first earlier one that
-/// overlaps it, then the first that shadows it. The only error is want of memory.
+/// overlaps it, then the first that shadows it; only the unreachable ones where the term answers several times (`multi`).
+/// The only error is want of memory.
 pub fn push_errors(
     alloc: Global,
+    multi: bool,
     rules: &[FlatRule],
     errors: &mut Vec<Error>,
 ) -> Result<(), AllocError>
-    ensures { OnOk result (JoinedOf rules.now errors.old.items errors.new.items) }
+    ensures { OnOk result (JoinedOf multi rules.now errors.old.items errors.new.items) }
 {
     let unreachable = unreachable_rules(alloc, rules)?;
-    let overlaps = firsts(alloc, Check::Overlaps, rules)?;
-    let masks = firsts(alloc, Check::Shadows, rules)?;
+    let overlaps = firsts_of_term(alloc, Check::Overlaps, multi, rules)?;
+    let masks = firsts_of_term(alloc, Check::Shadows, multi, rules)?;
     for place in 0..rules.len() {
         push_unreachable(alloc, rules, place, unreachable[place], errors)?;
         push_overlap(alloc, rules, place, overlaps[place], errors)?;

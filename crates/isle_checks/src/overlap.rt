@@ -72,10 +72,8 @@ fn push_term(
     ensures { OnOk result ((env : Environment) (ids : List TheId) → env.terms ≡ terms.now → AreBuilt env → StandsFor env set.now.1 (rules_of env set.now.0)
         → TellTerms env ids errors.old.items → TellTerms env (ids ++ set.now.0 ∷ []) errors.new.items) }
 {
-    if is_multi(terms, set.0) {
-        return Ok(());
-    }
-    push_errors(alloc, set.1.rules.as_slice(), errors)?;
+    let multi = is_multi(terms, set.0);
+    push_errors(alloc, multi, set.1.rules.as_slice(), errors)?;
     Ok(())
 }
 
@@ -94,9 +92,10 @@ fn errors_of(
     Ok(errors)
 }
 
-/// Makes the rule set of each term with rules, in order of ids, where none of its rules is unreachable by itself, no two
-/// overlap and none is shadowed. `Rules` comes exactly where one is, and tells each, rule by rule: that it is unreachable by
-/// itself, then the first earlier rule that overlaps it, then the first that shadows it.
+/// Makes the rule set of each term with rules, in order of ids, where none of its rules is unreachable by itself, and no two
+/// overlap and none is shadowed unless the term answers several times (`multi`). `Rules` comes exactly where one is, and tells
+/// each, rule by rule: that it is unreachable by itself, then, where the term answers at most once, the first earlier rule that
+/// overlaps it, and the first that shadows it.
 pub fn check(alloc: Global, termenv: &TermEnv) -> Result<Vec<(TermId, RuleSet)>, CheckError>
     requires built { All (IsBuiltRule termenv.now.terms) (map seen termenv.now.rules) }
     requires bound { All IsScopedRule (map seen termenv.now.rules) }
