@@ -2,7 +2,7 @@ ghost use Rattle.std.specs.Prelude.{◌≡◌};
 ghost use Rattle.isle_codegen.specs.Causes.{of_texts};
 
 use crate::compile_error::CompileError;
-use isle_core::{Errors, IoCause};
+use isle_core::{Errors, Files, IoCause};
 use isle_names::NameError;
 
 /// Why files give no text.
@@ -17,12 +17,12 @@ pub enum FileError {
     Memory,
 }
 
-/// Gives why files that were read give no text, where their definitions give none.
-pub fn of_texts(fail: CompileError) -> FileError
-    ensures { result ≡ of_texts fail }
+/// Gives why files that were read give no text, where their texts give none. Errors take the files along.
+pub fn of_texts(files: Files, fail: CompileError) -> FileError
+    ensures { result ≡ of_texts files fail }
 {
     match fail {
-        CompileError::Errors(errors) => FileError::Errors(errors),
+        CompileError::Errors(errors) => FileError::Errors(Errors { errors, files }),
         CompileError::Name(name) => FileError::Name(name),
         CompileError::Memory => FileError::Memory,
     }

@@ -3,8 +3,8 @@
 ghost use Rattle.std.specs.Prelude.{◌≡◌, IfOk};
 ghost use Rattle.isle_codegen.specs.Errors.{IsParseError, TellsParseError};
 
-use crate::file_error::FileError;
-use isle_core::{Error, Errors, Files, List, OutOfMemory, Pos, Span, Text};
+use crate::compile_error::CompileError;
+use isle_core::{Error, Files, List, OutOfMemory, Pos, Span, Text};
 use isle_syntax::{Expected, Mismatch};
 use std::alloc::Global;
 
@@ -90,15 +90,12 @@ fn error_at(
     Ok(List::new(vec![in alloc; error]?))
 }
 
-/// Gives the error of files one of which goes wrong at that place, with the files; or want of memory.
-pub fn parse_error(alloc: Global, files: &Files, at: Pos, mismatch: Mismatch) -> FileError
-    ensures { TellsParseError result files.now at }
+/// Gives the error of files one of which goes wrong at that place; or want of memory.
+pub fn parse_error(alloc: Global, files: &Files, at: Pos, mismatch: Mismatch) -> CompileError
+    ensures { TellsParseError result at }
 {
     match error_at(alloc, files, at, mismatch) {
-        Ok(errors) => match files.copied(alloc) {
-            Ok(files) => FileError::Errors(Errors { errors, files }),
-            Err(_) => FileError::Memory,
-        },
-        Err(_) => FileError::Memory,
+        Ok(errors) => CompileError::Errors(errors),
+        Err(_) => CompileError::Memory,
     }
 }

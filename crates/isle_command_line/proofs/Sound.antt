@@ -27,7 +27,7 @@ use Rattle.isle_command_line.specs.Known.{Known}
 use Rattle.isle_command_line.specs.Known as state
 use Rattle.isle_command_line.proofs.WordLaws.{on_if, off_if, both, IsFirst, first_is, IsMarked, mark_is, IsKind, kind_is, IsCounted, count_is, IsParted, parts_is}
 use Rattle.isle_command_line.proofs.ChoiceLaws.{free, Chose, chose_none, chose_more}
-use Rattle.isle_command_line.proofs.RunWords.{trace_is, answers_is, IsSource, source_is}
+use Rattle.isle_command_line.proofs.RunWords.{trace_is, answers_is, source_is}
 
 abbrev pub verb_word : Verb → List ℕ
 verb_word verb.Compile = codes "compile"
@@ -111,9 +111,8 @@ built o us w h good = subst (λ p. LineS (codes "build" ∷ us ++ w ∷ []) (com
 pub compiled : (o : CodegenOptions) (us : List (List ℕ)) (n : List ℕ) (ns : List (List ℕ)) → Chose o us → list_all is_name (n ∷ ns) ≡ true → LineS (codes "compile" ∷ us ++ n ∷ ns) (command.Compile o (n ∷ ns))
 compiled o us n ns h good = subst (λ p. LineS (codes "compile" ∷ us ++ n ∷ ns) (command.Compile p (n ∷ ns))) h.chosen (choice.compile h.choices us n ns h.spelt h.once good)
 
-has_read_sourced : (t : Bool) (o : CodegenOptions) (ws : List (List ℕ)) (r : Option Source) (w : List ℕ) → HasRead (state.Options (verb.Run t) o) ws → IsSource r w → After (sourced t o r) (ws ++ w ∷ [])
-has_read_sourced t o ws None w h is = tt
-has_read_sourced t o ws (Some s) w h is = (h.0 ++ w ∷ [], record { options = h.0; begun = h.1; from = w; is = is; words = refl }, ap (λ z. z ++ w ∷ []) h.2)
+has_read_sourced : (t : Bool) (o : CodegenOptions) (ws : List (List ℕ)) (s : Source) (w : List ℕ) → HasRead (state.Options (verb.Run t) o) ws → SourceS s w → After (sourced t o s) (ws ++ w ∷ [])
+has_read_sourced t o ws s w h is = (h.0 ++ w ∷ [], record { options = h.0; begun = h.1; from = w; is = is; words = refl }, ap (λ z. z ++ w ∷ []) h.2)
 
 pub has_read_named : (v : Verb) (o : CodegenOptions) (ws : List (List ℕ)) (w : List ℕ) → HasRead (state.Options v o) ws → is_name w ≡ true → After (named v o w) (ws ++ w ∷ [])
 has_read_named verb.Compile o ws w h good = (h.0, h.1, omega arith, (λ k. good k && true), ap (λ z. z ++ w ∷ []) h.2)

@@ -86,10 +86,10 @@ kind_word kind.AssemblerRust = codes "assembler-rust"
 kind_word kind.Pulley = codes "pulley"
 kind_word kind.PulleyRust = codes "pulley-rust"
 
--- a source in a word: unit: and a unit's name, or a file's name that does not begin so
+-- a source in a word: unit: and what is a unit's name, or a file's name that does not begin so
 pub data SourceS : Source → List ℕ → Type 0 where
   file : (name : List ℕ) → is_name name ≡ true → after_prefix (codes "unit:") name ≡ None → SourceS (source.File name) name
-  unit : (name : List ℕ) → is_name name ≡ true → SourceS (source.Unit name) (codes "unit:" ++ name)
+  unit : (name : List ℕ) → SourceS (source.Unit name) (codes "unit:" ++ name)
 
 -- whether the run is traced
 abbrev pub traced : Bool → List (List ℕ)

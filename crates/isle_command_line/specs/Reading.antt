@@ -74,12 +74,12 @@ unfoldable pub is_answers : List ℕ → Bool
 is_answers w = bytes_eq w (codes "--answers")
 
 -- a source, by what stands behind unit:
-abbrev pub source_by : List ℕ → Option (List ℕ) → Option Source
-source_by w None = Some (source.File w)
-source_by w (Some n) = if is_name n then Some (source.Unit n) else None
+abbrev pub source_by : List ℕ → Option (List ℕ) → Source
+source_by w None = source.File w
+source_by w (Some n) = source.Unit n
 
 -- the source that a name is
-unfoldable pub source_of : List ℕ → Option Source
+unfoldable pub source_of : List ℕ → Source
 source_of w = source_by w (after_prefix (codes "unit:") w)
 
 -- behind the first word
@@ -95,9 +95,8 @@ begun first_word.Run = Some state.Run
 begun first_word.Other = None
 
 -- behind a source
-abbrev pub sourced : Bool → CodegenOptions → Option Source → Option Known
-sourced t o (Some s) = Some (state.Term t o s)
-sourced t o None = None
+abbrev pub sourced : Bool → CodegenOptions → Source → Option Known
+sourced t o s = Some (state.Term t o s)
 
 -- behind the first name
 abbrev pub named : Verb → CodegenOptions → List ℕ → Option Known
