@@ -1,6 +1,7 @@
 -- Texts that are accepted have no errors.
-use Rattle.std.proofs.Common.{ℕ, List, [], subst}
+use Rattle.std.proofs.Common.{◌≡◌, ℕ, List, [], ◌∷◌, sym, ◌∙◌, subst}
 use Rattle.isle_core.specs.declared.errors.Error.{Error}
+use Rattle.isle_core.specs.declared.errors.Error.TheVariants as error
 use Rattle.isle_core.specs.declared.files.Files.{Files}
 use Rattle.isle_core.specs.Rule.{Environment}
 use Rattle.isle_ast.specs.Tree.{Def}
@@ -44,3 +45,16 @@ accepted_named names texts e a h =
 -- files that pass the check have texts that are accepted
 pub checked_accepted : (files : Files) (env : Environment) → IsChecked files env → AreAccepted files.file_names files.file_texts
 checked_accepted files env h = record { defs = h.defs; env = env; source = h.source; lawful = h.lawful }
+
+-- errors of texts are some
+pub some_errors : (files : Files) (errors : List Error) → AreErrorsOfTexts errors files → errors ≡ [] → ⊥
+some_errors files errors h = of_texts h.cause
+  where
+    of_definitions : {defs : List Def} → HaveDefErrors defs errors → errors ≡ [] → ⊥
+    of_definitions (of_types k) none = let bad : k.error ∷ [] ≡ [] = sym k.one ∙ none in cc
+    of_definitions (of_rules k) none = k.some none
+    of_definitions (of_recursion k) none = k.some none
+
+    of_texts : HaveErrors files.file_texts errors → errors ≡ [] → ⊥
+    of_texts (of_parsing pos wrong k) none = let bad : error.ParseError k.words k.span ∷ [] ≡ [] = sym k.one ∙ none in cc
+    of_texts (of_defs defs source once k) none = of_definitions k none

@@ -6,7 +6,7 @@ ghost use Rattle.isle_codegen.specs.Causes.{CompilesTo, IsTextRefusal, IsCompile
 
 use crate::compile_error::CompileError;
 use crate::compiled::compile;
-use crate::file_error::{FileError, of_texts};
+use crate::file_error::FileError;
 use crate::source::parse_files;
 use isle_core::{CodegenOptions, Dir, Files, ReadError};
 use std::alloc::Global;
@@ -33,7 +33,7 @@ pub fn from_files<D: Dir>(
     match Files::from_paths(alloc, dir, inputs, options.prefixes.as_slice()) {
         Ok(files) => match compiled(alloc, &files, options) {
             Ok(text) => Ok(text),
-            Err(fail) => Err(of_texts(files, fail)),
+            Err(fail) => Err(fail.with_files(files)),
         },
         Err(ReadError::Io { index, cause }) => Err(FileError::Io { index, cause }),
         Err(ReadError::Memory) => Err(FileError::Memory),

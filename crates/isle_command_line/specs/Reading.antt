@@ -151,7 +151,7 @@ next state.Run w = if is_trace w then Some (state.Options (verb.Run true) no_opt
 next (state.Term t o s) w = if is_name w then Some (state.Values t o s w) else None
 next (state.Values t o s m) w = valued t o s m (spelt w)
 next (state.AfterValues t o s m vs) w = if is_answers w then Some (state.Answers t o s m vs) else None
-next (state.Answers t o s m vs) w = if is_name w then Some (state.Whole (command.Run t o s m vs (Some w))) else None
+next (state.Answers t o s m vs) w = if is_name w then Some (state.Whole (command.run_of t o s m vs (Some w))) else None
 
 -- goes on where something is known
 abbrev pub onward : Option Known → (Known → Option Known) → Option Known
@@ -176,7 +176,7 @@ asks state.Target = None
 asks state.Run = None
 asks (state.Term t o s) = None
 asks (state.Values t o s m) = None
-asks (state.AfterValues t o s m vs) = Some (command.Run t o s m vs None)
+asks (state.AfterValues t o s m vs) = Some (command.run_of t o s m vs None)
 asks (state.Answers t o s m vs) = None
 
 -- the word of this number is the first with which no line continues

@@ -8,7 +8,7 @@ ghost use Rattle.isle_command_line.specs.Words.{is_name};
 ghost use Rattle.isle_command_line.specs.Views.{seen_state};
 ghost use Rattle.isle_command_line.specs.declared.state.WordFail.TheVariants.{Bad};
 
-use crate::commands::{Command, Source};
+use crate::commands::{Command, RunLine, Source};
 use crate::options::option;
 use crate::state::{State, Verb, WordFail};
 use crate::word::{is_answers, is_name, is_trace};
@@ -139,12 +139,12 @@ pub fn answers(
         return Err(WordFail::Bad);
     }
     let answers = Some(Text::copied(alloc, word)?);
-    Ok(State::Whole(Command::Run {
+    Ok(State::Whole(Command::Run(RunLine {
         trace,
         options,
         source,
         term,
         values,
         answers,
-    }))
+    })))
 }

@@ -26,6 +26,6 @@ returns-in-Ok-in-Err-clause-err g c =
     c.in-Ok.ensures.names ∙ ap (λ ps. map (shown ps) (bytes_each c.args.inputs.now)) c.as_slice.ensures in
     let tried : IsTried (length (bytes_each c.args.inputs.now)) (g.D.Dir.counts c.args.dir.now) (g.D.Dir.counts c.from_paths.new.dir) =
     subst (λ n. IsTried n (g.D.Dir.counts c.args.dir.now) (g.D.Dir.counts c.from_paths.new.dir)) (sym (length-map c.args.inputs.now string_bytes)) c.in-Ok.ensures.tried in
-    read_cause c.of_texts.result c.args.options.now (g.D.Dir.files c.args.dir.now) (bytes_each c.args.inputs.now) files.file_names files.file_texts (g.D.Dir.counts c.args.dir.now) (g.D.Dir.counts c.from_paths.new.dir)
+    read_cause c.with_files.result c.args.options.now (g.D.Dir.files c.args.dir.now) (bytes_each c.args.inputs.now) files.file_names files.file_texts (g.D.Dir.counts c.args.dir.now) (g.D.Dir.counts c.from_paths.new.dir)
     names (tried, c.in-Ok.ensures.steady) c.in-Ok.ensures.texts
-    (subst (λ e. IsRefusal e files.file_names files.file_texts) (sym c.of_texts.ensures) (of_read c.in-Err.fail files c.in-Err.ensures.err))
+    (subst (λ e. IsRefusal e files.file_names files.file_texts) (sym c.with_files.ensures) (of_read c.in-Err.fail files c.in-Err.ensures.err))
