@@ -45,11 +45,17 @@ fn token_at(files: &Files, at: Pos, to: Pos) -> Option<&str> {
     Some(shown)
 }
 
-// Adds a token in quotes, each byte below 32 as `?`.
+/// What some editors put before a text, and no one sees.
+const BYTE_ORDER_MARK: char = '\u{FEFF}';
+
+// Adds a token in quotes, each byte below 32 as `?`, and a byte order mark by its name.
 fn push_token(out: &mut String, token: &str) -> Result<(), OutOfMemory> {
     out.push('\'')?;
     for letter in token.chars() {
-        out.push(if letter < ' ' { '?' } else { letter })?;
+        match letter {
+            BYTE_ORDER_MARK => out.push_str("<byte order mark>")?,
+            letter => out.push(if letter < ' ' { '?' } else { letter })?,
+        }
     }
     out.push('\'')?;
     Ok(())
