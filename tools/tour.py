@@ -34,6 +34,7 @@ def walk(root):
         ran = subprocess.run(["rt", "try", *data, "--cases", folder], cwd=root / "crates" / "isle_program", stdin=subprocess.DEVNULL,
                              stdout=subprocess.PIPE, stderr=subprocess.STDOUT, text=True, errors="replace")
     for number, line in enumerate(found):
-        told = re.search(rf"^== {number:02}\n(.*?)(?=^== |^case |\Z)", ran.stdout, re.S | re.M)
-        print(f"$ ./isle {line}\n{told.group(1) if told else ran.stdout}")
+        told = re.search(rf"^== {number:02}\n(.*?)^case={number:02} run=ended status=(\d+)", ran.stdout, re.S | re.M)
+        status = f"(status {told[2]})\n" if told and told[2] != "0" else ""
+        print(f"$ ./isle {line}\n{told[1] if told else ran.stdout}{status}")
     return 0 if ran.returncode in (0, 4, 5, 6) else ran.returncode
