@@ -8,6 +8,7 @@ use Rattle.isle_ast.specs.Tree.{Def}
 use Rattle.isle_sema.specs.Typing.{Typed}
 use Rattle.isle_sema.proofs.TypedOnce.{typed_once}
 use Rattle.isle_sema.proofs.ToldFaults.{untold}
+use Rattle.isle_types.specs.Single.{single}
 use Rattle.isle_checks.specs.CheckList.{IsCheckList, IsClean}
 use Rattle.isle_checks.proofs.ListOnce.{none_wrong}
 use Rattle.isle_recursion.specs.RuleErrors.{IsRecursionOf}
@@ -56,5 +57,5 @@ some_errors files errors h = of_texts h.cause
     of_definitions (of_recursion k) none = k.some none
 
     of_texts : HaveErrors files.file_texts errors → errors ≡ [] → ⊥
-    of_texts (of_parsing pos wrong k) none = let bad : error.ParseError k.words k.span ∷ [] ≡ [] = sym k.one ∙ none in cc
+    of_texts (of_parsing pos wrong k) none = let bad : error.ParseError k.words (single pos) ∷ [] ≡ [] = sym k.one ∙ none in cc
     of_texts (of_defs defs source once k) none = of_definitions k none

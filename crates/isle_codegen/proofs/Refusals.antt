@@ -33,6 +33,7 @@ use Rattle.isle_recursion.specs.RuleErrors.{AreUnmarkedTerms, IsRecursionOf}
 use Rattle.isle_core.specs.declared.TermId.{TermId}
 use Rattle.isle_core.specs.declared.types.Term.{Term}
 use Rattle.isle_core.specs.Terms.{with_rules}
+use Rattle.isle_types.specs.Single.{single}
 use Rattle.std.specs.List.{AllByRecursion}
 use Rattle.std.proofs.lemmas.Option.{same_Some}
 
@@ -52,9 +53,8 @@ of_read compile_error.Memory files h = tt
 pub parse_refusal : (e : CompileError) (files : Files) (pos : Pos) → length files.file_texts ≡ length files.file_names → TellsParseError e pos → GoesWrong 0 files.file_texts pos → IsTextRefusal e files
 parse_refusal compile_error.Memory files pos same h wrong = tt
 parse_refusal (compile_error.Errors errors) files pos same h wrong =
-    let lies : LiesIn files h.span.from = subst (λ (p : Pos). LiesIn files p) (sym h.begins) (wrong_placed files pos same wrong) in
     record {
-      placed = subst (λ es. All (IsPlaced files) es) (sym h.one) (All-from_recursion (IsPlaced files) (told_error.ParseError h.words h.span ∷ []) (lies, tt));
+      placed = subst (λ es. All (IsPlaced files) es) (sym h.one) (All-from_recursion (IsPlaced files) (told_error.ParseError h.words (single pos) ∷ []) (wrong_placed files pos same wrong, tt));
       cause = of_parsing pos wrong h;
     }
 parse_refusal (compile_error.Name name) files pos same h wrong = absurd h

@@ -4,13 +4,13 @@ use Rattle.isle_sema.specs.Typing.{Typed, fault}
 use Rattle.isle_core.specs.declared.errors.Error.{Error}
 use Rattle.isle_core.specs.declared.errors.Error.TheVariants as error
 use Rattle.isle_core.specs.declared.position.Pos.{Pos}
-use Rattle.isle_core.specs.declared.position.Span.{Span}
 use Rattle.isle_core.specs.declared.errors.Errors.{Errors as ErrorList}
 use Rattle.isle_core.specs.declared.files.Files.{Files}
 use Rattle.isle_core.specs.ErrorLines.{IsPlaced}
 use Rattle.isle_core.specs.Rule.{Environment}
 use Rattle.isle_ast.specs.Tree.{Def}
 use Rattle.isle_types.specs.Gathered.{TellsTyping}
+use Rattle.isle_types.specs.Single.{single}
 use Rattle.isle_checks.specs.CheckList.{IsCheckList, IsClean}
 use Rattle.isle_codegen.specs.declared.compile_error.CompileError.{CompileError}
 use Rattle.isle_codegen.specs.declared.compile_error.CompileError.TheVariants as compile_error
@@ -59,12 +59,10 @@ pub record IsNameError (names texts : List (List ℕ)) (e : NameError) : Type 0 
   pub once : (others : List Def) → Source 0 texts others → others ≡ defs
   pub error : HasNameError names defs e
 
--- the one error of the grammar, at this place
+-- the one error of the grammar, at this one place
 pub record IsParseError (pos : Pos) (errors : List Error) : Type 0 where
   pub words : List ℕ
-  pub span : Span
-  pub begins : span.from ≡ pos
-  pub one : errors ≡ error.ParseError words span ∷ []
+  pub one : errors ≡ error.ParseError words (single pos) ∷ []
 
 -- the definitions have a fault, which the one error tells
 pub record HasTypeError (defs : List Def) (errors : List Error) : Type 0 where

@@ -88,10 +88,7 @@ fn error_at(
     ensures { IfOk result (λ errors. IsParseError at errors) }
 {
     let msg = words_of(alloc, files, at, mismatch)?;
-    let span = Span {
-        from: at,
-        to: mismatch.to,
-    };
+    let span = Span::new_single(at);
     let error = Error::ParseError { msg, span };
     Ok(List::new(vec![in alloc; error]?))
 }
