@@ -15,5 +15,8 @@ pub mod SourceNames
 pub mod NamelessLines
 pub mod ServedCallees
 pub mod RightEntries
+pub mod PlacedOperands
+pub mod GivenConstants
+pub mod Wanted
 pub mod Complete
 pub mod OfRun
