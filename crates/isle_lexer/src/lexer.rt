@@ -1,9 +1,7 @@
-ghost use Rattle.std.specs.Prelude.{◌≡◌, [], ◌∷◌, IfOk, IfErr, IfSome, Some, None, length};
+ghost use Rattle.std.specs.Prelude.{◌≡◌, ⊤, [], ◌∷◌, IfOk, IfErr, IfSome, Some, None, length};
 ghost use Rattle.std.specs.Str.{IsUtf8};
+ghost use Rattle.std.proofs.Props.{props};
 ghost use Rattle.isle_lexer.specs.Token.{unclosed, IsClosed};
-ghost use Rattle.isle_lexer.specs.Lexeme.{lexemes};
-ghost use Rattle.isle_lexer.specs.Lexer.{lexer_file, lexer_text, lexer_left, IsUntaken};
-ghost use Rattle.isle_lexer.specs.TokenViews.{tokens_seen};
 
 use crate::finding::{Found, find};
 use crate::gathering::gathered;
@@ -25,16 +23,36 @@ fn unclosed(text: &[u8]) -> Option<usize>
     }
 }
 
-/// The tokens of a text, one by one.
-#[derive(Clone, Debug, Drop)]
+/// The tokens of a text, one by one. In each value every comment of the text ends.
+#[derive(Debug, Drop)]
 pub struct Lexer<'a> {
     file: usize,
     text: &'a str,
     /// The place behind the tokens that were taken.
     at: usize,
+    pub ghost closed: { IsClosed text.now } by { Prim.hlevel props },
+}
+
+impl<'a> Clone for Lexer<'a> {
+    // a copy has the file, the text and the place
+    ghost is_clone = { λ s r. (r.file ≡ s.file) × (r.text ≡ s.text) × (r.at ≡ s.at) };
+
+    ghost is_infallible = { λ _. ⊤ };
+
+    fn clone(&self) -> Result<Lexer<'a>, AllocError> {
+        Ok(Lexer {
+            file: self.file,
+            text: self.text,
+            at: self.at,
+        })
+    }
 }
 
 impl<'a> Lexer<'a> {
+    ghost use Rattle.isle_lexer.specs.Lexeme.{lexemes};
+    ghost use Rattle.isle_lexer.specs.Lexer.{lexer_file, lexer_text, lexer_left, IsUntaken};
+    ghost use Rattle.isle_lexer.specs.TokenViews.{tokens_seen};
+
     /// Returns the tokens of the text of the file of that number. Err gives the start of a nested comment that never
     /// ends, the outermost one's.
     pub fn new(file: usize, src: &'a str) -> Result<Lexer<'a>, Pos>

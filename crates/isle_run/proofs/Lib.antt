@@ -19,4 +19,3 @@ pub mod PlacedOperands
 pub mod GivenConstants
 pub mod Wanted
 pub mod Complete
-pub mod OfRun

@@ -4,8 +4,6 @@
 
 mod iterators;
 mod lists;
-#[cfg(test)]
-mod tests;
 mod wrapper;
 
 pub use iterators::{ContextIter, IntoContextIter};

@@ -1,6 +1,5 @@
 ghost use Rattle.std.specs.Prelude.{◌≡◌, ◌≤◌, ℕ, List, length, Err, IfOk};
 ghost use Rattle.isle_lexer.specs.Lexer.{lexer_file, lexer_text, IsUntaken};
-ghost use Rattle.isle_lexer.specs.Token.{IsClosed};
 ghost use Rattle.isle_lexer.specs.TokenViews.{tokens_seen};
 ghost use Rattle.isle_reading.specs.Nesting.{depth, most_open};
 ghost use Rattle.isle_reading.specs.Places.{IsFault, IsFaultAt, place_left};
@@ -95,7 +94,6 @@ fn of_tokens(
 /// Returns the definitions that the reader's text spells, in order (`specs/Grammar.antt`). `At` comes exactly where none
 /// are spelt, and gives the place where the text goes wrong.
 pub fn parse(alloc: Global, lexer: Lexer<'_>) -> Result<Vec<Def>, ParseFail>
-    requires closed { IsClosed (lexer_text lexer) }
     requires untaken { IsUntaken lexer }
     ensures ok { IfOk result (λ read. Spells (lexer_file lexer.entry) (lexer_text lexer.entry) (defs read.items)) }
     ensures only { IfOk result (λ read. (others : List PureDef) → Spells (lexer_file lexer.entry) (lexer_text lexer.entry) others → others ≡ defs read.items) }
