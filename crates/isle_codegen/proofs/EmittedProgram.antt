@@ -16,6 +16,7 @@ use Rattle.isle_checks.specs.CheckList.{IsClean}
 use Rattle.isle_rulesets.specs.Grouping.{AreRuleSets}
 use Rattle.isle_sema.specs.Typing.{Typed}
 use Rattle.isle_sema.proofs.TypedTerms.{typed_names, typed_types}
+use Rattle.isle_blocks.proofs.LawReturns.{tests_positions}
 use Rattle.isle_tree.specs.Program.{Function, Program}
 use Rattle.isle_tree.specs.WellFormed.{IsTraitFn, fn_names, declared_names, callables, IsFunction, IsTypeItem, IsWellFormed}
 use Rattle.isle_tree.specs.declared.tree.TraitFn.{TraitFn}
@@ -76,11 +77,13 @@ are_from_blocks logging files env (s ∷ sets) (f ∷ fs) stand h = (
     stands = stand.0;
     block = h.0.block;
     lawful = h.0.lawful;
+    single = h.0.single;
     means = h.0.means;
     shape = has_shape logging files env h.0.term s.1.bindings h.0.block f h.0.lawful h.0.single h.0.given;
     statements = h.0.given;
     lines = its_lines logging files env h.0.term s.1.bindings h.0.block f h.0.lawful h.0.single h.0.given;
-    returns = returns_of_rules env (paths_of s.1.bindings) (rules_of env s.0) s.1.rules 0 (return_positions h.0.block) stand.0.flat h.0.returns;
+    tests = h.0.tests;
+    returns = returns_of_rules env (paths_of s.1.bindings) (rules_of env s.0) s.1.rules 0 (return_positions h.0.block) stand.0.flat (tests_positions s.1 h.0.block h.0.tests);
     calls = λ callee c. bound_called env s.0 s.1 stand.0 callee (function_calls logging files env h.0.term s.1.bindings h.0.block f h.0.lawful h.0.single h.0.given callee c);
   },
   are_from_blocks logging files env sets fs stand.1 h.1,

@@ -4,6 +4,8 @@ pub mod Refusals
 pub mod EmittedNames
 pub mod EachPath
 pub mod NamedConstants
+pub mod Operands
+pub mod SpokenOperands
 pub mod ExtractedPaths
 pub mod CalledTerms
 pub mod RulePositions

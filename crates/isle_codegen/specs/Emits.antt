@@ -16,10 +16,10 @@ use Rattle.isle_core.specs.BlockRun.{block_outcome}
 use Rattle.isle_core.specs.BlockLawful.{IsLawfulBlock}
 use Rattle.isle_core.specs.Places.{LiesIn}
 use Rattle.isle_core.specs.Rule.{Environment}
-use Rattle.isle_core.specs.ReturnPositions.{return_positions, ArePositionsOf}
 use Rattle.isle_core.specs.Serializable.{IsSerializable}
 use Rattle.isle_core.specs.Setting.{setting}
 use Rattle.isle_core.specs.SingleArms.{HasSingleArms}
+use Rattle.isle_blocks.specs.RuleTests.{TestsRules}
 use Rattle.isle_blocks.specs.Several.{HasItsLists, AddsSeveral}
 use Rattle.isle_tree.specs.Program.{Function}
 use Rattle.isle_simulation.specs.TermFunction.{term_function}
@@ -50,8 +50,8 @@ pub record MeansSet (env : Environment) (t : Term) (s : RuleSet) (b : Block) : T
   pub once : is_several (kind_of t.kind) ≡ false → GivesSet env s b
   pub several : is_several (kind_of t.kind) ≡ true → AddsSeveral env s b
 
--- the function of the term, from a block that is lawful for its rule set, has one arm in each Match, returns at the positions of its
--- rules and means the set
+-- the function of the term, from a block that is lawful for its rule set, has one arm in each Match, tests and returns what its rules
+-- do, and means the set
 pub record IsEmitted (logging : Bool) (files : Files) (env : Environment) (id : TermId) (s : RuleSet) (f : Function) : Type 0 where
   pub term : Term
   pub found : slice_get env.terms id.0 ≡ Some term
@@ -59,7 +59,7 @@ pub record IsEmitted (logging : Bool) (files : Files) (env : Environment) (id : 
   pub lawful : IsLawfulBlock (setting env term s.bindings) block
   pub single : HasSingleArms block
   pub means : MeansSet env term s block
-  pub returns : ArePositionsOf s.rules (return_positions block)
+  pub tests : TestsRules s block
   pub given : term_function logging files (setting env term s.bindings) block ≡ Some f
 
 -- so of each term with its rule set, in order

@@ -103,7 +103,7 @@ module _ (options : CodegenOptions) (files : Files) (term : List ℕ) (ws : Writ
         let cases = cases_at c.env c.forms in
         let turns = turns_at c.env c.forms in
         let behind = all_back (λ f. goes_to callee (answers_for f) ≡ false) (as_entries (constants_at c.env c.forms)) (map Cases cases ++ map Turns turns) none in
-        c.answered callee (the_function.block.calls callee k)
+        wanted.answered the_function.function the_function.found callee k
         (cased_back callee cases (all_front (λ f. goes_to callee (answers_for f) ≡ false) (map Cases cases) (map Turns turns) behind))
         (answered_back callee turns (all_back (λ f. goes_to callee (answers_for f) ≡ false) (map Cases cases) (map Turns turns) behind));
     given = λ name ty k free none.

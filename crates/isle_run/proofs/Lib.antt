@@ -15,4 +15,7 @@ pub mod SourceNames
 pub mod NamelessLines
 pub mod ServedCallees
 pub mod RightEntries
+pub mod PlacedOperands
+pub mod GivenConstants
+pub mod Wanted
 pub mod Complete

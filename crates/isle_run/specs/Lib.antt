@@ -6,4 +6,5 @@ pub mod NoLines
 pub mod Ran
 pub mod Placed
 pub mod Valid
+pub mod RuleWants
 pub mod Compiled

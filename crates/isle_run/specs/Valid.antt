@@ -1,5 +1,5 @@
 -- When a term of a source may be run under the answers of a text.
-use Rattle.std.specs.Prelude.{◌≡◌, ℕ, List, [], ◌∷◌, ◌++◌, Bool, true, false, Some, slice_get}
+use Rattle.std.specs.Prelude.{◌≡◌, ℕ, List, [], ◌∷◌, ◌++◌, Bool, true, false, Some, Contains, slice_get}
 use Rattle.std.specs.List.{AllByRecursion}
 use Rattle.std.specs.Str.{bytes_eq}
 use Rattle.isle_core.specs.declared.Sym.{Sym}
@@ -24,6 +24,7 @@ use Rattle.isle_answers.specs.Form.{Form}
 use Rattle.isle_answers.specs.Spelling.{SpellsForms}
 use Rattle.isle_values.specs.Written.{Writtens}
 use Rattle.isle_simulation.specs.TraitFns.{func_of, extracted_of}
+use Rattle.isle_tree.specs.Calls.{body_calls}
 use Rattle.isle_tree.specs.Program.{Function, Program}
 use Rattle.isle_tree.specs.Run.{function_of}
 use Rattle.isle_naming.specs.Occurring.{occurs}
@@ -33,7 +34,6 @@ use Rattle.isle_places.specs.Places.{StandsAt}
 use Rattle.isle_run_inputs.specs.Requested.{requested_term, constant_type}
 use Rattle.isle_run_inputs.specs.Asked.{Asked, constructor_types, extractor_types}
 use Rattle.isle_run_inputs.specs.AnswersAt.{constants_at, cases_at, turns_at, answers_at}
-use Rattle.isle_codegen.specs.CalledBy.{IsCalledBy}
 use Rattle.isle_codegen.specs.Checked.{IsChecked}
 use Rattle.isle_run.specs.Attempt.{Attempt}
 use Rattle.isle_run.specs.Conforming.{Conforms}
@@ -115,18 +115,19 @@ abbrev pub AreRightConstants : Environment → (earlier later : List (List ℕ �
 AreRightConstants env earlier [] = Unit {0}
 AreRightConstants env earlier (c ∷ more) = IsRightConstant env earlier c × AreRightConstants env (earlier ++ c ∷ []) more
 
--- the constants with values are those that a program wants for a run of the term: each of them stands in a function of it, and has a
--- value of each type that its places there have, which no other constant of its type in the term's function has; and each that stands
--- in the term's function is one of them, by the program and by the source
+-- the answers are those that a program wants for a run of the term: each constant with a value stands in a function of it, and has a
+-- value of each type that its places there have, which no other constant of its type in the term's function has; each that stands
+-- in the term's function has a value, by the program and by the source; and so has each callee of that function cases or turns
 pub record AreWanted (a : Attempt) (m : Meaning) : Type 0 where
   pub stand : AllByRecursion (λ (c : List ℕ × Value). has_constant a.program c.0 ≡ true) m.consts
   pub fit : AllByRecursion (λ (c : List ℕ × Value). FitsPlaces a.program c.0 c.1) m.consts
   pub apart : (f : Function) → function_of a.term a.program.fns ≡ Some f → AllByRecursion (λ (c : List ℕ × Value). IsApart a.program f m c.0) m.consts
   pub given : (f : Function) → function_of a.term a.program.fns ≡ Some f → (name ty : List ℕ) → StandsAt a.program f name ty → occurs a.program name ≡ false → HasNoValue name m.consts → ⊥
   pub kept : leave_out a m ≡ false
+  pub answered : (f : Function) → function_of a.term a.program.fns ≡ Some f → (c : Callee) → Contains (body_calls f.body) c → HasNoCases c m.pure → HasNoTurns c m.turns → ⊥
 
--- the source was checked, the term has rules, the values are of its types, and the text spells forms that are right, one
--- for each callee of the term's rules, and for the constants of each program that conforms to the source
+-- the source was checked, the term has rules, the values are of its types, and the text spells forms that are right, and that
+-- each program wants which conforms to the source
 pub record CanRun (files : Files) (term : List ℕ) (ws : Writtens) (text : List ℕ) : Type 0 where
   pub env : Environment
   pub checked : IsChecked files env
@@ -141,4 +142,3 @@ pub record CanRun (files : Files) (term : List ℕ) (ws : Writtens) (text : List
   pub wanted : (options : CodegenOptions) (p : Program) → Conforms options files env p → AreWanted (record { program = p; env = env; term = term; args = args_given env term ws }) (answers_at env forms)
   pub extracted : AllCasesRight env [] (cases_at env forms)
   pub right : AllRight env (cases_at env forms) [] (turns_at env forms)
-  pub answered : (c : Callee) → IsCalledBy env id c → HasNoCases c (cases_at env forms) → HasNoTurns c (turns_at env forms) → ⊥

@@ -40,5 +40,5 @@ returns c =
       once = λ single m args kind. c.in_ok-block.ensures.means env m h.term args kind h.ready often single;
       several = λ several. c.in_ok-block.ensures.several env h.term h.ready often several h.lists;
     })
-    c.in_ok-block.ensures.returns
+    c.in_ok-block.ensures.tests
     (sym (ap (option_map function) (sym c.in-Some.is) ∙ c.in_ok-function.ensures ∙ ap (λ bs. term_function c.args.logging c.args.files.now (setting env x bs) b) c.as_slice-2.ensures))
