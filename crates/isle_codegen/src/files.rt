@@ -55,5 +55,8 @@ fn compiled(
         Ok(defs) => defs,
         Err(fail) => return Err(fail),
     };
-    compile(alloc, files, defs.as_slice(), options)
+    match compile(alloc, files, defs.as_slice(), options) {
+        Ok(text) => Ok(text),
+        Err(fail) => Err(fail),
+    }
 }
