@@ -3,11 +3,13 @@
 #![tactic(auto)]
 
 mod iterators;
+mod list_iter;
 mod lists;
 #[cfg(test)]
 mod tests;
 mod wrapper;
 
 pub use iterators::{ContextIter, IntoContextIter};
+pub use list_iter::ListIter;
 pub use lists::Length;
 pub use wrapper::ContextIterWrapper;
