@@ -16,7 +16,6 @@ use Rattle.isle_core.specs.Calling.{kind_of, is_several}
 use Rattle.isle_core.specs.Meaning.{Meaning}
 use Rattle.isle_core.specs.Path.{paths_of}
 use Rattle.isle_core.specs.ReturnPosition.{block_position, set_position}
-use Rattle.isle_core.specs.ReturnPositions.{return_positions, ArePositionsOf}
 use Rattle.isle_core.specs.RuleSet.{set_outcome}
 use Rattle.isle_core.specs.Rule.{Environment}
 use Rattle.isle_core.specs.Parts.{nothing_given}
@@ -32,6 +31,7 @@ use Rattle.isle_blocks.specs.Fields.{FieldKey, key_cmp, shown_cmp, FindsFields, 
 use Rattle.isle_blocks.specs.Followers.{FindsInners, FindsItems}
 use Rattle.isle_blocks.specs.Nest.{next_of}
 use Rattle.isle_blocks.specs.Order.{by_priority}
+use Rattle.isle_blocks.specs.RuleTests.{TestsRules}
 use Rattle.isle_blocks.specs.Several.{HasItsLists, AddsSeveral}
 use Rattle.isle_blocks.specs.declared.fields.Fields.{Fields}
 use Rattle.isle_blocks.specs.declared.fields.Shown.{Shown}
@@ -39,7 +39,7 @@ use Rattle.isle_blocks.proofs.LawChain.{chain_means}
 use Rattle.isle_blocks.proofs.LawOrder.{all_in_order}
 use Rattle.isle_blocks.proofs.RulesInOrder.{occurrences_in_order}
 use Rattle.isle_blocks.proofs.LawPositions.{chain_positions}
-use Rattle.isle_blocks.proofs.LawReturns.{chain_returns_at}
+use Rattle.isle_blocks.proofs.LawTests.{chain_tests}
 use Rattle.isle_blocks.proofs.LawSerializable.{rules_still, chain_lawful, chain_single}
 use Rattle.isle_blocks.proofs.NewItemLaws.{chain_new}
 use Rattle.isle_blocks.proofs.NextLaws.{finds_next}
@@ -83,8 +83,8 @@ module _ (several : Bool) (s : RuleSet) (b : Block) (k : IsChainOf several s.bin
   pub chain_of_single : HasSingleArms b
   chain_of_single = subst HasSingleArms (sym k.is) (chain_single several s.bindings (shows k.found k.counts k.inners) (next_of k.inners k.items) k.items s.rules)
 
-  pub chain_of_returns : ArePositionsOf s.rules (return_positions b)
-  chain_of_returns = subst (λ x. ArePositionsOf s.rules (return_positions x)) (sym k.is) (chain_returns_at several s.bindings (shows k.found k.counts k.inners) (next_of k.inners k.items) k.items s.rules)
+  pub chain_of_tests : TestsRules s b
+  chain_of_tests = subst (TestsRules s) (sym k.is) (chain_tests s several (shows k.found k.counts k.inners) (next_of k.inners k.items) k.items)
 
 -- of a term that answers once
 once_chain : (several : Bool) (kind : Bool) (bs : List Binding) (fs : List FlatRule) (b : Block) → kind ≡ several → kind ≡ false → IsChainOf several bs fs b → IsChainOf false bs fs b

@@ -25,7 +25,7 @@ eq_is a b e = exact_unsigned a b (pick (nat_cmp a b) e)
     pick Greater k = cc
 
 -- where a binding has a source, it is what follows it
-inner_is : (y : Binding) (s : BindingId) → inner_source y ≡ Some s → y ≡ binding.MatchSome s
+pub inner_is : (y : Binding) (s : BindingId) → inner_source y ≡ Some s → y ≡ binding.MatchSome s
 inner_is (binding.MatchSome source) s e = ap binding.MatchSome (some_same source s e)
 inner_is y s e = cc
 

@@ -25,6 +25,7 @@ pub mod LawBinds
 pub mod LawBound
 pub mod LawChain
 pub mod LawPositions
+pub mod LawTests
 pub mod LawReturns
 pub mod LawSerializable
 pub mod OpenedItems

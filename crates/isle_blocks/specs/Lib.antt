@@ -8,3 +8,4 @@ pub mod Tables
 pub mod Chain
 pub mod CallsOnce
 pub mod Several
+pub mod RuleTests

@@ -9,7 +9,6 @@ ghost use Rattle.isle_core.specs.Rule.{Environment};
 ghost use Rattle.isle_core.specs.Path.{paths_of};
 ghost use Rattle.isle_core.specs.ValueAt.{nothing_known};
 ghost use Rattle.isle_core.specs.ReturnPosition.{block_position, set_position};
-ghost use Rattle.isle_core.specs.ReturnPositions.{return_positions, ArePositionsOf};
 ghost use Rattle.isle_core.specs.RuleSet.{set_outcome};
 ghost use Rattle.isle_core.specs.BlockViews as BlockViews;
 ghost use Rattle.isle_core.specs.BlockRun.{block_outcome};
@@ -20,6 +19,7 @@ ghost use Rattle.isle_core.specs.SingleArms.{HasSingleArms};
 ghost use Rattle.isle_blocks.specs.Tables.{shows_in, items_in, next_in};
 ghost use Rattle.isle_blocks.specs.CallsOnce.{HasCallsOnce};
 ghost use Rattle.isle_blocks.specs.Chain as Chain;
+ghost use Rattle.isle_blocks.specs.RuleTests.{TestsRules};
 ghost use Rattle.isle_blocks.specs.Several.{HasItsLists, AddsSeveral};
 
 use crate::fields::fields_of;
@@ -76,7 +76,7 @@ pub fn serialize(alloc: Global, rules: &RuleSet, iterator: bool) -> Result<Block
         block_outcome env m args (paths_of rules.now.bindings) (BlockViews.block b) kind ≡ set_outcome env m args (paths_of rules.now.bindings) rules.now.rules kind) }
     ensures positions { IfOk result (λ b. (env : Environment) (m : Meaning) (t : Term) (args : ListOf Value) → IsSerializable env t rules.now → is_several (kind_of t.kind) ≡ iterator → is_several (kind_of t.kind) ≡ false →
         block_position env m args (paths_of rules.now.bindings) (BlockViews.block b) nothing_known [] ≡ set_position env m args (paths_of rules.now.bindings) rules.now.rules) }
-    ensures returns { IfOk result (λ b. ArePositionsOf rules.now.rules (return_positions (BlockViews.block b))) }
+    ensures tests { IfOk result (λ b. TestsRules rules.now (BlockViews.block b)) }
     ensures lawful { IfOk result (λ b. (env : Environment) (t : Term) → IsSerializable env t rules.now → (is_several (kind_of t.kind) ≡ true → AllByRecursion (HasCallsOnce env (paths_of rules.now.bindings)) rules.now.rules) → is_several (kind_of t.kind) ≡ iterator → IsLawfulBlock (setting env t rules.now.bindings) (BlockViews.block b)) }
     ensures several { IfOk result (λ b. (env : Environment) (t : Term) → IsSerializable env t rules.now → is_several (kind_of t.kind) ≡ iterator → is_several (kind_of t.kind) ≡ true → AllByRecursion (HasItsLists env (paths_of rules.now.bindings)) rules.now.rules → AddsSeveral env rules.now (BlockViews.block b)) }
     ensures single { IfOk result (λ b. HasSingleArms (BlockViews.block b)) }

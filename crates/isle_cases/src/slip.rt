@@ -25,6 +25,8 @@ pub enum Slip {
     Out,
     Files,
     NoCases,
+    NoTopic,
+    Lines,
     Unread,
 }
 
@@ -52,6 +54,8 @@ impl Slip {
             Slip::Out => "another text on out",
             Slip::Files => "other files",
             Slip::NoCases => "no cases",
+            Slip::NoTopic => "no such topic",
+            Slip::Lines => "other lines",
             Slip::Unread => "a file isn't read",
         }
     }

@@ -7,7 +7,7 @@ use Rattle.isle_core.specs.declared.position.Pos.{Pos}
 use Rattle.isle_core.specs.declared.rule_sets.FlatRule.{FlatRule}
 use Rattle.isle_checks.specs.declared.placed.Check.{Check}
 use Rattle.isle_checks.specs.Makes.{MakesAt}
-use Rattle.isle_checks.specs.Firsts.{Found, IsFirst, AreFirstMakers}
+use Rattle.isle_checks.specs.Firsts.{Found, IsFirst, AreFirstsOfTerm}
 use Rattle.isle_checks.specs.CheckList.{RuleError, Unreached, Overlap, Shadowed, single, span_at, unreachable_of, overlap_of, shadow_of, errors_of, told}
 use Rattle.isle_checks.specs.Errors.{places_of, AreUnreachable, errors_below, Joined}
 use Rattle.isle_checks.proofs.FirstLaws.{made_of}
@@ -61,9 +61,9 @@ told_below (f ∷ fs) [] i h lt = absurd h
 told_below (f ∷ fs) (u ∷ us) zero h lt = omega arith
 told_below (f ∷ fs) (u ∷ us) (suc i) h lt = let le = told_below fs us i h.1 (omega (arith, lt)) in omega (arith, le)
 
-below_of : (c : Check) (fs : List FlatRule) (j : ℕ) (o : Option ℕ) → IsFirst (λ i. MakesAt c fs i j) o → IfSome o (λ i. i < length fs)
-below_of c fs j None h = tt
-below_of c fs j (Some i) h = let m = made_of c i j (slice_get fs i) (slice_get fs j) h.0 in length_of fs i m.0 m.2
+below_of : (c : Check) (multi : Bool) (fs : List FlatRule) (j : ℕ) (o : Option ℕ) → IsFirst (λ i. (multi ≡ false) × MakesAt c fs i j) o → IfSome o (λ i. i < length fs)
+below_of c multi fs j None h = tt
+below_of c multi fs j (Some i) h = let m = made_of c i j (slice_get fs i) (slice_get fs j) h.0.1 in length_of fs i m.0 m.2
 
-pub maker_below : (c : Check) (fs : List FlatRule) (os : Found) (j : ℕ) (o : Option ℕ) → j < length os → o ≡ get_or os j o → AreFirstMakers c fs os → IfSome o (λ i. i < length fs)
-maker_below c fs os j o lt e h = below_of c fs j o (h.each j o (get_there os j o lt e))
+pub maker_below : (c : Check) (multi : Bool) (fs : List FlatRule) (os : Found) (j : ℕ) (o : Option ℕ) → j < length os → o ≡ get_or os j o → AreFirstsOfTerm c multi fs os → IfSome o (λ i. i < length fs)
+maker_below c multi fs os j o lt e h = below_of c multi fs j o (h.each j o (get_there os j o lt e))

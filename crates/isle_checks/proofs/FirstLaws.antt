@@ -1,11 +1,11 @@
 -- What was found among all rules of a list is the first for each.
-use Rattle.std.proofs.Common.{◌≡◌, ⊎_elim, ℕ, zero, suc, ◌<◌, List, [], ◌∷◌, length, replicate, Option, Some, None, refl, sym, ap, ◌∙◌, subst, arith}
+use Rattle.std.proofs.Common.{◌≡◌, ⊎_elim, ℕ, zero, suc, ◌<◌, List, [], ◌∷◌, length, replicate, true, false, Option, Some, None, refl, sym, ap, ◌∙◌, subst, arith}
 use Rattle.std.specs.Prelude.{IsSomeAnd, slice_get}
 use Rattle.isle_core.specs.declared.rule_sets.FlatRule.{FlatRule}
 use Rattle.isle_checks.specs.declared.placed.Check.{Check}
 use Rattle.isle_checks.specs.declared.placed.Placed.{Placed}
 use Rattle.isle_checks.specs.Makes.{Makes, MakesOf, MakesAt}
-use Rattle.isle_checks.specs.Firsts.{Found, Has, HasUpTo, IsMade, Finds, ArePlaced, AreBelow, IsFirst, AreFirstMakers}
+use Rattle.isle_checks.specs.Firsts.{Found, Has, HasUpTo, IsMade, Finds, ArePlaced, AreBelow, IsFirst, AreFirstMakers, AreFirstsOfTerm}
 
 length_of : {X : Type 0} (xs : List X) (i : ℕ) (x : X) → slice_get xs i ≡ Some x → i < length xs
 length_of [] i x e = cc
@@ -72,3 +72,24 @@ module _ (check : Check) (rules : List FlatRule) (group : List Placed) (old new 
         ⊎_elim (λ (k : Has old j i). absurd (no_old j i k)) (λ d. made_at i j d) (f.sound j i h),
         λ k m. let u = found_up_to k j m in let same : i ≡ u.k = some_same i u.k (some_one (Some i) (Some u.k) (sym h ∙ u.has)) in let le = u.le in omega (arith, same, le),
       )
+
+-- ---- the rules of a term
+
+first_where : (P : ℕ → Type 0) (o : Option ℕ) → IsFirst P o → IsFirst (λ i. (false ≡ false) × P i) o
+first_where P None h = λ i m. h i m.1
+first_where P (Some i) h = ((refl, h.0), λ k m. h.1 k m.1)
+
+-- those of a term that answers at most once
+pub firsts_of_single : (check : Check) (rules : List FlatRule) (found : Found) → AreFirstMakers check rules found → AreFirstsOfTerm check false rules found
+firsts_of_single check rules found h = record { long = h.long; each = λ j o at. first_where (λ i. MakesAt check rules i j) o (h.each j o at) }
+
+none_first : (P : ℕ → Type 0) (n j : ℕ) (o : Option ℕ) → slice_get (replicate n None) j ≡ Some o → IsFirst (λ i. (true ≡ false) × P i) o
+none_first P n j None h = λ i m. cc
+none_first P n j (Some i) h = absurd (none_there n j i h)
+
+-- those of a term that answers several times
+pub firsts_of_multi : (check : Check) (rules : List FlatRule) (found : Found) → found ≡ replicate (length rules) None → AreFirstsOfTerm check true rules found
+firsts_of_multi check rules found none = record {
+  long = ap length none ∙ long_replicate (length rules) None;
+  each = λ j o at. none_first (λ i. MakesAt check rules i j) (length rules) j o (subst (λ xs. slice_get xs j ≡ Some o) none at);
+}

@@ -11,7 +11,7 @@ use Rattle.isle_core.specs.Rule.{Environment, Rule}
 use Rattle.isle_checks.specs.declared.placed.Check.{Check}
 use Rattle.isle_checks.specs.declared.placed.Check.TheVariants as check
 use Rattle.isle_checks.specs.Makes.{MakesAt}
-use Rattle.isle_checks.specs.Firsts.{Found, IsFirst, AreFirstMakers}
+use Rattle.isle_checks.specs.Firsts.{Found, IsFirst, AreFirstsOfTerm}
 use Rattle.isle_checks.specs.RuleChecks.{UnreachableAt, OverlapsAt, ShadowsAt}
 use Rattle.isle_checks.specs.CheckList.{errors_of, positions, AreErrorsBelow}
 use Rattle.isle_checks.specs.Errors.{AreUnreachable, errors_below}
@@ -120,9 +120,9 @@ module _ (env : Environment) (ps : List Path) (once : EachOnce ps) (rules : List
       let made = rw (some_same m.0 x.rule (sym m.2 ∙ x.rule_at), some_same m.1 y.rule (sym m.3 ∙ y.rule_at)) at m.4 in
       at_of check.Shadows fs i j x.flat y.flat x.flat_at y.flat_at (flats_shadow env ps once x.rule y.rule x.n y.n x.flat y.flat x.is y.is x.built y.built made)
 
-  first_too : (c : Check) (j : ℕ) (o : Option ℕ) → IsFirst (λ i. MakesAt c fs i j) o → IsFirst (λ i. RulesMake c env rules i j) o
-  first_too c j None h = λ i m. h i (to_flats c i j m)
-  first_too c j (Some i) h = (to_rules c i j h.0, λ k m. h.1 k (to_flats c k j m))
+  first_too : (c : Check) (multi : Bool) (j : ℕ) (o : Option ℕ) → IsFirst (λ i. (multi ≡ false) × MakesAt c fs i j) o → IsFirst (λ i. (multi ≡ false) × RulesMake c env rules i j) o
+  first_too c multi j None h = λ i m. h i (m.0, to_flats c i j m.1)
+  first_too c multi j (Some i) h = ((h.0.0, to_rules c i j h.0.1), λ k m. h.1 k (m.0, to_flats c k j m.1))
 
   item_there : (os : Found) (j : ℕ) → j < length os → slice_get os j ≡ Some (slice_index_or os j None)
   item_there [] j lt = absurd (omega (arith, lt))
@@ -130,19 +130,20 @@ module _ (env : Environment) (ps : List Path) (once : EachOnce ps) (rules : List
   item_there (o ∷ os) (suc j) lt = item_there os j (omega (arith, lt))
 
   -- what was found for flat rules tells the errors of rules
-  pub are_errors : (us : List Bool) (os ss : Found) → AreUnreachable fs us → AreFirstMakers check.Overlaps fs os → AreFirstMakers check.Shadows fs ss → (k : ℕ) → k ≤ length rules → AreErrorsBelow env rules k (errors_below (positions rules) us os ss k)
-  are_errors us os ss u o s zero le = refl
-  are_errors us os ss u o s (suc k) le = (
+  pub are_errors : (multi : Bool) (us : List Bool) (os ss : Found) → AreUnreachable fs us → AreFirstsOfTerm check.Overlaps multi fs os → AreFirstsOfTerm check.Shadows multi fs ss → (k : ℕ) → k ≤ length rules
+      → AreErrorsBelow env multi rules k (errors_below (positions rules) us os ss k)
+  are_errors multi us os ss u o s zero le = refl
+  are_errors multi us os ss u o s (suc k) le = (
     errors_below (positions rules) us os ss k,
     errors_of (positions rules) k (slice_index_or us k false) (slice_index_or os k None) (slice_index_or ss k None),
-    are_errors us os ss u o s k (omega (arith, le)),
+    are_errors multi us os ss u o s k (omega (arith, le)),
     record {
       unreachable = slice_index_or us k false;
       is_unreachable = unreachable_too env ps once rules fs n us built flat u k;
       overlap = slice_index_or os k None;
-      first_overlap = first_too check.Overlaps k _ (o.each k _ (item_there os k (let a = o.long in let b = same_length env ps rules fs n flat in omega (arith, a, b, le))));
+      first_overlap = first_too check.Overlaps multi k _ (o.each k _ (item_there os k (let a = o.long in let b = same_length env ps rules fs n flat in omega (arith, a, b, le))));
       shadow = slice_index_or ss k None;
-      first_shadow = first_too check.Shadows k _ (s.each k _ (item_there ss k (let a = s.long in let b = same_length env ps rules fs n flat in omega (arith, a, b, le))));
+      first_shadow = first_too check.Shadows multi k _ (s.each k _ (item_there ss k (let a = s.long in let b = same_length env ps rules fs n flat in omega (arith, a, b, le))));
       are = refl;
     },
     refl,

@@ -1,12 +1,12 @@
 -- The errors of rules are one list.
 use Rattle.std.proofs.Common.{◌≡◌, ℕ, zero, suc, List, [], ◌∷◌, ◌++◌, length, map, Bool, true, false, Option, Some, None, refl, sym, ap, ◌∙◌, arith}
-use Rattle.std.specs.Prelude.{◌↔◌, IsTrue, MatchBool}
+use Rattle.std.specs.Prelude.{◌↔◌, IsTrue}
 use Rattle.isle_core.specs.declared.TermId.{TermId}
 use Rattle.isle_core.specs.declared.errors.Error.{Error}
 use Rattle.isle_core.specs.Terms.{with_rules}
 use Rattle.isle_core.specs.Rule.{Environment, Rule, rules_of}
 use Rattle.isle_checks.specs.Firsts.{IsFirst}
-use Rattle.isle_checks.specs.CheckList.{RuleError, errors_of, positions, told, is_multi, AreErrorsAt, AreErrorsBelow, AreErrorsOf, AreErrorsOfTerms, IsCheckList, IsClean}
+use Rattle.isle_checks.specs.CheckList.{RuleError, errors_of, positions, told, is_multi, AreErrorsAt, AreErrorsBelow, AreErrorsOfTerms, IsCheckList, IsClean}
 
 -- the first place is one
 first_once : (P : ℕ → Type 0) (o p : Option ℕ) → IsFirst P o → IsFirst P p → o ≡ p
@@ -21,8 +21,8 @@ truth_once P true v h k = sym (k.1 (h.0 refl))
 truth_once P false true h k = h.1 (k.0 refl)
 truth_once P false false h k = refl
 
-at_once : (env : Environment) (rules : List Rule) (j : ℕ) (es fs : List RuleError) → AreErrorsAt env rules j es → AreErrorsAt env rules j fs → es ≡ fs
-at_once env rules j es fs h k =
+at_once : (env : Environment) (multi : Bool) (rules : List Rule) (j : ℕ) (es fs : List RuleError) → AreErrorsAt env multi rules j es → AreErrorsAt env multi rules j fs → es ≡ fs
+at_once env multi rules j es fs h k =
     h.are
     ∙ ap (λ u. errors_of (positions rules) j u h.overlap h.shadow) (truth_once _ h.unreachable k.unreachable h.is_unreachable k.is_unreachable)
     ∙ ap (λ o. errors_of (positions rules) j k.unreachable o h.shadow) (first_once _ h.overlap k.overlap h.first_overlap k.first_overlap)
@@ -32,18 +32,14 @@ at_once env rules j es fs h k =
 joined : (front other last next es fs : List RuleError) → front ≡ other → last ≡ next → es ≡ front ++ last → fs ≡ other ++ next → es ≡ fs
 joined front other last next es fs a b e f = e ∙ ap (λ xs. xs ++ last) a ∙ ap (λ xs. other ++ xs) b ∙ sym f
 
-below_once : (env : Environment) (rules : List Rule) (n : ℕ) (es fs : List RuleError) → AreErrorsBelow env rules n es → AreErrorsBelow env rules n fs → es ≡ fs
-below_once env rules zero es fs h k = h ∙ sym k
-below_once env rules (suc n) es fs h k = joined h.0 k.0 h.1 k.1 es fs (below_once env rules n h.0 k.0 h.2 k.2) (at_once env rules n h.1 k.1 h.3 k.3) h.4 k.4
-
-by_kind : (env : Environment) (rules : List Rule) (multi : Bool) (es fs : List RuleError) → MatchBool multi (es ≡ []) (AreErrorsOf env rules es) → MatchBool multi (fs ≡ []) (AreErrorsOf env rules fs) → es ≡ fs
-by_kind env rules true es fs h k = h ∙ sym k
-by_kind env rules false es fs h k = below_once env rules (length rules) es fs h k
+below_once : (env : Environment) (multi : Bool) (rules : List Rule) (n : ℕ) (es fs : List RuleError) → AreErrorsBelow env multi rules n es → AreErrorsBelow env multi rules n fs → es ≡ fs
+below_once env multi rules zero es fs h k = h ∙ sym k
+below_once env multi rules (suc n) es fs h k = joined h.0 k.0 h.1 k.1 es fs (below_once env multi rules n h.0 k.0 h.2 k.2) (at_once env multi rules n h.1 k.1 h.3 k.3) h.4 k.4
 
 terms_once : (env : Environment) (ids : List TermId) (es fs : List RuleError) → AreErrorsOfTerms env ids es → AreErrorsOfTerms env ids fs → es ≡ fs
 terms_once env [] es fs h k = h ∙ sym k
 terms_once env (id ∷ ids) es fs h k =
-    joined h.0 k.0 h.1 k.1 es fs (by_kind env (rules_of env id) (is_multi env id) h.0 k.0 h.2 k.2) (terms_once env ids h.1 k.1 h.3 k.3) h.4 k.4
+    joined h.0 k.0 h.1 k.1 es fs (below_once env (is_multi env id) (rules_of env id) (length (rules_of env id)) h.0 k.0 h.2 k.2) (terms_once env ids h.1 k.1 h.3 k.3) h.4 k.4
 
 -- errors that say what is wrong with the rules of an environment say the same, words aside
 pub list_once : (env : Environment) (errors others : List Error) → IsCheckList env errors → IsCheckList env others → map told errors ≡ map told others

@@ -91,23 +91,23 @@ term_clean env (x ∷ ids) id h c =
     let parts = nil_parts h.0 h.1 h.4 in
     ⊎_elim (λ e. subst (λ i. AreErrorsOfTerm env i []) e (subst (AreErrorsOfTerm env x) parts.0 h.2)) (λ d. term_clean env ids id (subst (AreErrorsOfTerms env ids) parts.1 h.3) d) (contained_cases x ids id c)
 
-none_overlaps : (env : Environment) (rules : List Rule) (i j : ℕ) (o : Option ℕ) → overlap_of (positions rules) j o ≡ [] → IsFirst (λ k. OverlapsAt env rules k j) o → OverlapsAt env rules i j → ⊥
-none_overlaps env rules i j None e h o = h i o
+none_overlaps : (env : Environment) (rules : List Rule) (i j : ℕ) (o : Option ℕ) → overlap_of (positions rules) j o ≡ [] → IsFirst (λ k. (false ≡ false) × OverlapsAt env rules k j) o → OverlapsAt env rules i j → ⊥
+none_overlaps env rules i j None e h o = h i (refl, o)
 none_overlaps env rules i j (Some k) e h o = cc
 
 below_cases : (j n : ℕ) → j < suc n → (j < n) ⊎ (j ≡ n)
 below_cases j n lt = grind (arith)
 
--- none of them overlaps another one
-none_below : (env : Environment) (rules : List Rule) (n i j : ℕ) → AreErrorsBelow env rules n [] → j < n → OverlapsAt env rules i j → ⊥
+-- of a term that answers at most once none overlaps another one
+none_below : (env : Environment) (rules : List Rule) (n i j : ℕ) → AreErrorsBelow env false rules n [] → j < n → OverlapsAt env rules i j → ⊥
 none_below env rules zero i j h lt o = absurd (omega (arith, lt))
 none_below env rules (suc n) i j h lt o =
     let parts = nil_parts h.0 h.1 h.4 in
-    ⊎_elim (λ d. none_below env rules n i j (subst (AreErrorsBelow env rules n) parts.0 h.2) d o)
+    ⊎_elim (λ d. none_below env rules n i j (subst (AreErrorsBelow env false rules n) parts.0 h.2) d o)
     (λ (e : j ≡ n). none_at n (h.3) (sym parts.1) (subst (OverlapsAt env rules i) e o))
     (below_cases j n lt)
   where
-    none_at : (n : ℕ) → AreErrorsAt env rules n h.1 → [] ≡ h.1 → OverlapsAt env rules i n → ⊥
+    none_at : (n : ℕ) → AreErrorsAt env false rules n h.1 → [] ≡ h.1 → OverlapsAt env rules i n → ⊥
     none_at n a e o = none_overlaps env rules i n a.overlap (nil_parts (unreachable_of (positions rules) n a.unreachable) (overlap_of (positions rules) n a.overlap) (sym (nil_parts (unreachable_of (positions rules) n a.unreachable ++ overlap_of (positions rules) n a.overlap) (shadow_of (positions rules) n a.shadow) (e ∙ a.are)).0)).1 a.first_overlap o
 
 -- ---- the law
@@ -154,7 +154,7 @@ one_highest env id t listed single fit once clean variants plain m args lawful t
     let rules = rules_of env id in
     let known = rules_constants rules in
     let none = term_clean env (with_rules env) id (subst (AreErrorsOfTerms env (with_rules env)) (nil_of_told clean.0 clean.2) clean.1) listed in
-    let of_rules : AreErrorsOf env rules [] = rw single at none in
+    let of_rules : AreErrorsOf env false rules [] = rw single at none in
     let is_of : (x : Rule) → Contains rules x → IsOf env m args t.arg_tys known variants plain lawful.apart typed x = λ x h. record {
       tested = All-contains (IsTested env t.arg_tys) rules x fit h;
       variables = All-contains (λ (r : Rule). HaveOneType (rule_typed r)) rules x once h;

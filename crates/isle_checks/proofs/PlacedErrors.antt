@@ -1,6 +1,6 @@
 -- The errors of rules that stand in files have their places there.
 use Rattle.std.proofs.Common.{◌≡◌, ℕ, zero, suc, List, [], ◌∷◌, ◌++◌, length, map, Bool, true, false, Option, Some, None, sym, subst}
-use Rattle.std.specs.Prelude.{All, IfSome, IsSomeAnd, MatchBool, slice_get}
+use Rattle.std.specs.Prelude.{All, IfSome, IsSomeAnd, slice_get}
 use Rattle.std.specs.List.{AllByRecursion}
 use Rattle.std.proofs.lemmas.List.Elements.{All-from_recursion}
 use Rattle.isle_core.specs.declared.TermId.{TermId}
@@ -12,7 +12,7 @@ use Rattle.isle_core.specs.ErrorLines.{IsPlaced}
 use Rattle.isle_core.specs.Places.{LiesIn}
 use Rattle.isle_core.specs.Terms.{with_rules}
 use Rattle.isle_core.specs.Rule.{Environment, Rule, rules_of}
-use Rattle.isle_checks.specs.CheckList.{RuleError, Unreached, Overlap, Shadowed, span_at, unreachable_of, overlap_of, shadow_of, positions, told, told_spans, is_multi, AreErrorsBelow, AreErrorsOf, AreErrorsOfTerms, IsCheckList}
+use Rattle.isle_checks.specs.CheckList.{RuleError, Unreached, Overlap, Shadowed, span_at, unreachable_of, overlap_of, shadow_of, positions, told, told_spans, is_multi, AreErrorsBelow, AreErrorsOfTerms, IsCheckList}
 use Rattle.isle_checks.proofs.TermErrors.{all_filter}
 
 module _ (files : Files) where
@@ -56,23 +56,19 @@ module _ (files : Files) where
     shadow_told rules j None h = tt
     shadow_told rules j (Some i) h = (at_begins rules j h, tt)
 
-    below_told : (rules : List Rule) (n : ℕ) (es : List RuleError) → LieIn rules → AreErrorsBelow env rules n es → AreToldIn es
-    below_told rules zero es h k = subst AreToldIn (sym k) tt
-    below_told rules (suc n) es h k =
+    below_told : (multi : Bool) (rules : List Rule) (n : ℕ) (es : List RuleError) → LieIn rules → AreErrorsBelow env multi rules n es → AreToldIn es
+    below_told multi rules zero es h k = subst AreToldIn (sym k) tt
+    below_told multi rules (suc n) es h k =
         subst AreToldIn (sym k.4)
-        (both_told k.0 k.1 (below_told rules n k.0 h k.2)
+        (both_told k.0 k.1 (below_told multi rules n k.0 h k.2)
         (subst AreToldIn (sym k.3.are) (both_told (unreachable_of (positions rules) n k.3.unreachable ++ overlap_of (positions rules) n k.3.overlap) (shadow_of (positions rules) n k.3.shadow)
         (both_told (unreachable_of (positions rules) n k.3.unreachable) (overlap_of (positions rules) n k.3.overlap) (unreachable_told rules n k.3.unreachable h) (overlap_told rules n k.3.overlap h)) (shadow_told rules n k.3.shadow h))))
-
-    kind_told : (rules : List Rule) (multi : Bool) (es : List RuleError) → LieIn rules → MatchBool multi (es ≡ []) (AreErrorsOf env rules es) → AreToldIn es
-    kind_told rules true es h k = subst AreToldIn (sym k) tt
-    kind_told rules false es h k = below_told rules (length rules) es h k
 
     terms_told : (ids : List TermId) (es : List RuleError) → LieIn env.rules → AreErrorsOfTerms env ids es → AreToldIn es
     terms_told [] es h k = subst AreToldIn (sym k) tt
     terms_told (id ∷ ids) es h k =
         subst AreToldIn (sym k.4)
-        (both_told k.0 k.1 (kind_told (rules_of env id) (is_multi env id) k.0 (all_filter (λ (r : Rule). LiesIn files r.pos) _ env.rules h) k.2) (terms_told ids k.1 h k.3))
+        (both_told k.0 k.1 (below_told (is_multi env id) (rules_of env id) (length (rules_of env id)) k.0 (all_filter (λ (r : Rule). LiesIn files r.pos) _ env.rules h) k.2) (terms_told ids k.1 h k.3))
 
   error_same : (a b : RuleError) → Some a ≡ Some b → a ≡ b
   error_same a b e = cc

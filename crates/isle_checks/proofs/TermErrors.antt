@@ -12,7 +12,7 @@ use Rattle.isle_core.specs.StandsFor.{StandsFor}
 use Rattle.isle_core.specs.BuiltRule.{IsBuiltRule}
 use Rattle.isle_core.specs.Rule.{Environment, Rule, rules_of}
 use Rattle.isle_rulesets.specs.Grouping.{AreRuleSets}
-use Rattle.isle_checks.specs.CheckList.{RuleError, positions, is_multi, AreErrorsOf, AreErrorsOfTerm, AreErrorsOfTerms, Tell, TellTerms, IsCheckList}
+use Rattle.isle_checks.specs.CheckList.{RuleError, positions, is_multi, AreErrorsOfTerm, AreErrorsOfTerms, Tell, TellTerms, IsCheckList}
 use Rattle.isle_checks.specs.Errors.{places_of, errors_below, Joined, JoinedOf}
 use Rattle.isle_core.specs.Scope.{IsScopedRule}
 use Rattle.isle_checks.specs.Built.{AreBuilt}
@@ -39,28 +39,21 @@ terms_push env (x ∷ ids) id es fs h k = (h.0, h.1 ++ fs, h.2, terms_push env i
 tell_more : (old new : List Error) (es fs : List RuleError) → Tell old es → Joined old new fs → Tell new (es ++ fs)
 tell_more old new es fs h k = k ∙ ap (λ xs. xs ++ map Some fs) h ∙ sym (map-append Some es fs)
 
--- nothing is said of a term that answers several times
-pub multi_more : (env : Environment) (ids : List TermId) (id : TermId) (errors : List Error) → is_multi env id ≡ true → TellTerms env ids errors → TellTerms env (ids ++ id ∷ []) errors
-multi_more env ids id errors multi h =
-    let none : AreErrorsOfTerm env id [] = rw multi refl in
-    (h.0 ++ [], terms_push env ids id h.0 [] h.1 none, subst (Tell errors) (sym (append-nil h.0)) h.2)
-
 -- rules of built forms whose variables are bound are ready
 all_ready : (env : Environment) (rules : List Rule) → AllByRecursion (IsBuiltRule env.terms) rules → AllByRecursion IsScopedRule rules → AllByRecursion (IsReady env) rules
 all_ready env [] b s = tt
 all_ready env (r ∷ rules) b s = (record { built = b.0; scoped = s.0 }, all_ready env rules b.1 s.1)
 
--- the errors of any other term join
-pub term_more : (env : Environment) (ids : List TermId) (id : TermId) (set : RuleSet) (old new : List Error) → is_multi env id ≡ false → AreBuilt env → StandsFor env set (rules_of env id) → JoinedOf set.rules old new → TellTerms env ids old → TellTerms env (ids ++ id ∷ []) new
-term_more env ids id set old new single built stands joined h =
+-- the errors of a term join
+pub term_more : (env : Environment) (ids : List TermId) (id : TermId) (set : RuleSet) (old new : List Error) → AreBuilt env → StandsFor env set (rules_of env id) → JoinedOf (is_multi env id) set.rules old new → TellTerms env ids old → TellTerms env (ids ++ id ∷ []) new
+term_more env ids id set old new built stands joined h =
     let rules = rules_of env id in
     let ps = paths_of set.bindings in
     let all : AllByRecursion (IsReady env) rules = all_filter (IsReady env) _ env.rules (all_ready env env.rules (recursion_from_All (IsBuiltRule env.terms) env.rules built.forms) (recursion_from_All IsScopedRule env.rules built.bound)) in
     let es = errors_below (places_of set.rules) joined.unreachable joined.overlaps joined.shadows (length set.rules) in
     let same : es ≡ errors_below (positions rules) joined.unreachable joined.overlaps joined.shadows (length rules) =
     ap (λ xs. errors_below xs joined.unreachable joined.overlaps joined.shadows (length set.rules)) (same_positions env ps rules set.rules 0 stands.flat) ∙ ap (errors_below (positions rules) joined.unreachable joined.overlaps joined.shadows) (same_length env ps rules set.rules 0 stands.flat) in
-    let of_rules : AreErrorsOf env rules es = subst (AreErrorsOf env rules) (sym same) (are_errors env ps stands.once rules set.rules 0 all stands.flat joined.unreachable joined.overlaps joined.shadows joined.are_unreachable joined.first_overlaps joined.first_shadows (length rules) (omega arith)) in
-    let of_term : AreErrorsOfTerm env id es = rw single of_rules in
+    let of_term : AreErrorsOfTerm env id es = subst (AreErrorsOfTerm env id) (sym same) (are_errors env ps stands.once rules set.rules 0 all stands.flat (is_multi env id) joined.unreachable joined.overlaps joined.shadows joined.are_unreachable joined.first_overlaps joined.first_shadows (length rules) (omega arith)) in
     (h.0 ++ es, terms_push env ids id h.0 es h.1 of_term, tell_more old new h.0 es h.2 joined.joined)
 
 -- ---- all terms

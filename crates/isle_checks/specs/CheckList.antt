@@ -1,5 +1,5 @@
 -- The errors of rules, in order.
-use Rattle.std.specs.Prelude.{◌≡◌, ◌↔◌, IsTrue, ℕ, zero, suc, List, [], ◌∷◌, ◌++◌, length, map, Bool, false, true, MatchBool, Option, Some, None, option_map, slice_get}
+use Rattle.std.specs.Prelude.{◌≡◌, ◌↔◌, IsTrue, ℕ, zero, suc, List, [], ◌∷◌, ◌++◌, length, map, Bool, false, true, Option, Some, None, option_map, slice_get}
 use Rattle.std.specs.Option.{option_map_or}
 use Rattle.isle_core.specs.declared.TermId.{TermId}
 use Rattle.isle_core.specs.declared.position.Pos.{Pos}
@@ -51,32 +51,33 @@ abbrev pub positions : List Rule → List Pos
 positions rules = map (λ (r : Rule). r.pos) rules
 
 -- of the rule at a place these are the errors: that it is unreachable by itself, then the first earlier rule that overlaps it, then
--- the first that shadows it
-pub record AreErrorsAt (env : Environment) (rules : List Rule) (j : ℕ) (es : List RuleError) : Type 0 where
+-- the first that shadows it; rules of a term that answers several times (multi) may overlap, and shadow each other
+pub record AreErrorsAt (env : Environment) (multi : Bool) (rules : List Rule) (j : ℕ) (es : List RuleError) : Type 0 where
   pub unreachable : Bool
   pub is_unreachable : IsTrue unreachable ↔ UnreachableAt env rules j
   pub overlap : Option ℕ
-  pub first_overlap : IsFirst (λ i. OverlapsAt env rules i j) overlap
+  pub first_overlap : IsFirst (λ i. (multi ≡ false) × OverlapsAt env rules i j) overlap
   pub shadow : Option ℕ
-  pub first_shadow : IsFirst (λ i. ShadowsAt env rules i j) shadow
+  pub first_shadow : IsFirst (λ i. (multi ≡ false) × ShadowsAt env rules i j) shadow
   pub are : es ≡ errors_of (positions rules) j unreachable overlap shadow
 
 -- of the first n rules these are the errors, rule by rule
-abbrev pub AreErrorsBelow : Environment → List Rule → ℕ → List RuleError → Type 0
-AreErrorsBelow env rules zero es = es ≡ []
-AreErrorsBelow env rules (suc n) es = (front : List RuleError) × (last : List RuleError) × AreErrorsBelow env rules n front × AreErrorsAt env rules n last × (es ≡ front ++ last)
+abbrev pub AreErrorsBelow : Environment → (multi : Bool) → List Rule → ℕ → List RuleError → Type 0
+AreErrorsBelow env multi rules zero es = es ≡ []
+AreErrorsBelow env multi rules (suc n) es = (front : List RuleError) × (last : List RuleError)
+    × AreErrorsBelow env multi rules n front × AreErrorsAt env multi rules n last × (es ≡ front ++ last)
 
--- of the rules of a term
-abbrev pub AreErrorsOf : Environment → List Rule → List RuleError → Type 0
-AreErrorsOf env rules es = AreErrorsBelow env rules (length rules) es
+-- of all rules of a term
+abbrev pub AreErrorsOf : Environment → (multi : Bool) → List Rule → List RuleError → Type 0
+AreErrorsOf env multi rules es = AreErrorsBelow env multi rules (length rules) es
 
 -- a term answers several times
 abbrev pub is_multi : Environment → TermId → Bool
 is_multi env id = option_map_or (λ (t : Term). is_several (kind_of t.kind)) (slice_get env.terms id.0) false
 
--- of a term's rules: those of a term that answers several times may overlap, and shadow each other
+-- of the rules of a term in an environment
 abbrev pub AreErrorsOfTerm : Environment → TermId → List RuleError → Type 0
-AreErrorsOfTerm env id es = MatchBool (is_multi env id) (es ≡ []) (AreErrorsOf env (rules_of env id) es)
+AreErrorsOfTerm env id es = AreErrorsOf env (is_multi env id) (rules_of env id) es
 
 -- of the rules of terms, term by term
 abbrev pub AreErrorsOfTerms : Environment → List TermId → List RuleError → Type 0

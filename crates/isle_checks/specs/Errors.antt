@@ -4,7 +4,7 @@ use Rattle.isle_core.specs.declared.errors.Error.{Error}
 use Rattle.isle_core.specs.declared.position.Pos.{Pos}
 use Rattle.isle_core.specs.declared.rule_sets.FlatRule.{FlatRule}
 use Rattle.isle_checks.specs.declared.placed.Check.TheVariants as check
-use Rattle.isle_checks.specs.Firsts.{Found, AreFirstMakers}
+use Rattle.isle_checks.specs.Firsts.{Found, AreFirstsOfTerm}
 use Rattle.isle_checks.specs.Joined.{IsUnreachable}
 use Rattle.isle_checks.specs.CheckList.{RuleError, errors_of, told}
 
@@ -28,12 +28,12 @@ errors_below ps us os ss (suc n) = errors_below ps us os ss n ++ errors_of ps n 
 abbrev pub Joined : (old new : List Error) → List RuleError → Type 0
 Joined old new es = map told new ≡ map told old ++ map Some es
 
--- the errors of flat rules joined those before
-pub record JoinedOf (fs : List FlatRule) (old new : List Error) : Type 0 where
+-- the errors of a term's flat rules joined those before
+pub record JoinedOf (multi : Bool) (fs : List FlatRule) (old new : List Error) : Type 0 where
   pub unreachable : List Bool
   pub overlaps : Found
   pub shadows : Found
   pub are_unreachable : AreUnreachable fs unreachable
-  pub first_overlaps : AreFirstMakers check.Overlaps fs overlaps
-  pub first_shadows : AreFirstMakers check.Shadows fs shadows
+  pub first_overlaps : AreFirstsOfTerm check.Overlaps multi fs overlaps
+  pub first_shadows : AreFirstsOfTerm check.Shadows multi fs shadows
   pub joined : Joined old new (errors_below (places_of fs) unreachable overlaps shadows (length fs))

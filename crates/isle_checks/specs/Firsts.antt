@@ -1,5 +1,5 @@
 -- The first rule that makes an error of each rule.
-use Rattle.std.specs.Prelude.{◌≡◌, ◌⊎◌, ℕ, ◌<◌, ◌≤◌, List, length, min, Option, Some, None, slice_get, Contains}
+use Rattle.std.specs.Prelude.{◌≡◌, ◌⊎◌, ℕ, ◌<◌, ◌≤◌, List, length, min, Bool, false, Option, Some, None, slice_get, Contains}
 use Rattle.isle_core.specs.declared.rule_sets.FlatRule.{FlatRule}
 use Rattle.isle_checks.specs.declared.placed.Check.{Check}
 use Rattle.isle_checks.specs.declared.placed.Placed.{Placed}
@@ -82,3 +82,9 @@ IsFirst P (Some i) = P i × ((k : ℕ) → P k → i ≤ k)
 pub record AreFirstMakers (check : Check) (rules : List FlatRule) (found : Found) : Type 0 where
   pub long : length found ≡ length rules
   pub each : (j : ℕ) (o : Option ℕ) → slice_get found j ≡ Some o → IsFirst (λ i. MakesAt check rules i j) o
+
+-- for each rule of a term the same; no rule makes an error of another where the term answers several times (multi)
+pub record AreFirstsOfTerm (check : Check) (multi : Bool) (rules : List FlatRule) (found : Found) : Type 0 where
+  pub long : length found ≡ length rules
+  pub each : (j : ℕ) (o : Option ℕ) → slice_get found j ≡ Some o
+      → IsFirst (λ i. (multi ≡ false) × MakesAt check rules i j) o

@@ -5,10 +5,10 @@ ghost use Rattle.isle_checks.specs.CheckList as list;
 ghost use Rattle.isle_checks.specs.CheckList.{told, single, unreachable_of, overlap_of, shadow_of};
 ghost use Rattle.isle_checks.specs.Errors.{places_of, Joined, JoinedOf};
 
-use crate::firsts::firsts;
+use crate::firsts::firsts_of_term;
 use crate::placed::Check;
 use crate::unreachable::unreachable_rules;
-use isle_core::{Error, FlatRule, List, Pos, Span, Text};
+use isle_core::{Error, FlatRule, List, OutOfMemory, Pos, Span, Text};
 use std::alloc::{AllocError, Global};
 
 // The error of a rule that is unreachable by itself.
@@ -22,11 +22,16 @@ fn unreachable_error(alloc: Global, rule: Pos) -> Result<Error, AllocError>
     })
 }
 
-// The error of two rules that overlap.
-fn overlap_error(alloc: Global, earlier: Pos, later: Pos) -> Result<Error, AllocError>
+// The words for a rule that the rule of this number among those of its term overlaps, counted from 1.
+fn overlap_words(alloc: Global, number: usize) -> Result<Text, OutOfMemory> {
+    let words = format!(in alloc; "rule {number} of its term has the same priority and matches too")?;
+    Ok(Text::new(words))
+}
+
+// The error of two rules that overlap, in these words.
+fn overlap_error(alloc: Global, msg: Text, earlier: Pos, later: Pos) -> Result<Error, OutOfMemory>
     ensures { IfOk result (λ e. told e ≡ SomeOf (list.Overlap (SomeOf (single earlier)) (SomeOf (single later)))) }
 {
-    let msg = Text::copied(alloc, "an earlier rule of the same priority matches too")?;
     let rules = vec![in alloc; Span::new_single(earlier), Span::new_single(later)]?;
     Ok(Error::OverlapError {
         msg,
@@ -68,13 +73,14 @@ fn push_overlap(
     place: usize,
     earlier: Option<usize>,
     errors: &mut Vec<Error>,
-) -> Result<(), AllocError>
+) -> Result<(), OutOfMemory>
     requires place { place < length rules.now }
     requires earlier { IfSome earlier (λ i. i < length rules.now) }
     ensures { OnOk result (Joined errors.old.items errors.new.items (overlap_of (places_of rules.now) place earlier)) }
 {
     if let Some(earlier) = earlier {
-        errors.push(overlap_error(alloc, rules[earlier].pos, rules[place].pos)?)?;
+        let words = overlap_words(alloc, earlier.saturating_add(1))?;
+        errors.push(overlap_error(alloc, words, rules[earlier].pos, rules[place].pos)?)?;
     }
     Ok(())
 }
@@ -97,17 +103,19 @@ fn push_shadow(
 }
 
 /// Adds the errors of the rules of a term, rule by rule: that it is unreachable by itself, then the first earlier one that
-/// overlaps it, then the first that shadows it. The only error is want of memory.
+/// overlaps it, then the first that shadows it; only the unreachable ones where the term answers several times (`multi`).
+/// The only error is want of memory.
 pub fn push_errors(
     alloc: Global,
+    multi: bool,
     rules: &[FlatRule],
     errors: &mut Vec<Error>,
-) -> Result<(), AllocError>
-    ensures { OnOk result (JoinedOf rules.now errors.old.items errors.new.items) }
+) -> Result<(), OutOfMemory>
+    ensures { OnOk result (JoinedOf multi rules.now errors.old.items errors.new.items) }
 {
     let unreachable = unreachable_rules(alloc, rules)?;
-    let overlaps = firsts(alloc, Check::Overlaps, rules)?;
-    let masks = firsts(alloc, Check::Shadows, rules)?;
+    let overlaps = firsts_of_term(alloc, Check::Overlaps, multi, rules)?;
+    let masks = firsts_of_term(alloc, Check::Shadows, multi, rules)?;
     for place in 0..rules.len() {
         push_unreachable(alloc, rules, place, unreachable[place], errors)?;
         push_overlap(alloc, rules, place, overlaps[place], errors)?;

@@ -2,7 +2,7 @@
 
 ghost use Rattle.std.specs.Prelude.{◌≡◌, ◌≤◌, ◌<◌, length, min, replicate, None, IfOk, OnOk};
 ghost use Rattle.isle_checks.specs.Sides.{Rises};
-ghost use Rattle.isle_checks.specs.Firsts.{earlier, AreFirstMakers, ArePlaced, AreBelow, Finds, IsFirstMaker, NotesFirst};
+ghost use Rattle.isle_checks.specs.Firsts.{earlier, AreFirstMakers, AreFirstsOfTerm, ArePlaced, AreBelow, Finds, IsFirstMaker, NotesFirst};
 
 use crate::placed::{Check, Placed};
 use crate::splitter::{Parts, choose};
@@ -114,16 +114,28 @@ fn none_found(alloc: Global, count: usize) -> Result<Vec<Option<usize>>, AllocEr
     Ok(found)
 }
 
-/// Finds for each rule the place of the first one that makes an error of it. The only error is want of memory.
-pub fn firsts(
-    alloc: Global,
-    check: Check,
-    rules: &[FlatRule],
-) -> Result<Vec<Option<usize>>, AllocError>
+// Finds for each rule the place of the first one that makes an error of it.
+fn firsts(alloc: Global, check: Check, rules: &[FlatRule]) -> Result<Vec<Option<usize>>, AllocError>
     ensures { IfOk result (λ found. AreFirstMakers check rules.now found.items) }
 {
     let group = placed(alloc, rules)?;
     let mut found = none_found(alloc, rules.len())?;
     within(alloc, check, group.as_slice(), &mut found)?;
     Ok(found)
+}
+
+/// Finds for each rule of a term the place of the first one that makes an error of it: none where the term answers several
+/// times (`multi`), since its rules may overlap, and shadow each other. The only error is want of memory.
+pub fn firsts_of_term(
+    alloc: Global,
+    check: Check,
+    multi: bool,
+    rules: &[FlatRule],
+) -> Result<Vec<Option<usize>>, AllocError>
+    ensures { IfOk result (λ found. AreFirstsOfTerm check multi rules.now found.items) }
+{
+    if multi {
+        return none_found(alloc, rules.len());
+    }
+    firsts(alloc, check, rules)
 }

@@ -18,7 +18,7 @@ ghost use Rattle.isle_checks.specs.Built.{AreBuilt};
 ghost use Rattle.isle_checks.specs.declared.overlap.CheckError.TheVariants.{Rules};
 
 use crate::errors::push_errors;
-use isle_core::{Error, List, RuleSet, Term, TermEnv, TermId, TermKind};
+use isle_core::{Error, List, OutOfMemory, RuleSet, Term, TermEnv, TermId, TermKind};
 use isle_rulesets::rule_sets;
 use std::alloc::{AllocError, Global};
 
@@ -37,6 +37,17 @@ impl From<AllocError> for CheckError {
     ghost from_gives = { λ _ e. e ≡ Memory };
 
     fn from(_: AllocError) -> Self {
+        CheckError::Memory
+    }
+}
+
+impl From<OutOfMemory> for CheckError {
+    ghost use Rattle.std.specs.Prelude.{◌≡◌};
+    ghost use Rattle.isle_checks.specs.declared.overlap.CheckError.TheVariants.{Memory};
+
+    ghost from_gives = { λ _ e. e ≡ Memory };
+
+    fn from(_: OutOfMemory) -> Self {
         CheckError::Memory
     }
 }
@@ -68,14 +79,12 @@ fn push_term(
     terms: &[Term],
     set: &(TermId, RuleSet),
     errors: &mut Vec<Error>,
-) -> Result<(), AllocError>
+) -> Result<(), OutOfMemory>
     ensures { OnOk result ((env : Environment) (ids : List TheId) → env.terms ≡ terms.now → AreBuilt env → StandsFor env set.now.1 (rules_of env set.now.0)
         → TellTerms env ids errors.old.items → TellTerms env (ids ++ set.now.0 ∷ []) errors.new.items) }
 {
-    if is_multi(terms, set.0) {
-        return Ok(());
-    }
-    push_errors(alloc, set.1.rules.as_slice(), errors)?;
+    let multi = is_multi(terms, set.0);
+    push_errors(alloc, multi, set.1.rules.as_slice(), errors)?;
     Ok(())
 }
 
@@ -84,7 +93,7 @@ fn errors_of(
     alloc: Global,
     terms: &[Term],
     sets: &[(TermId, RuleSet)],
-) -> Result<Vec<Error>, AllocError>
+) -> Result<Vec<Error>, OutOfMemory>
     ensures { IfOk result (λ errors. (env : Environment) → env.terms ≡ terms.now → AreBuilt env → AreRuleSets env sets.now → IsCheckList env errors.items) }
 {
     let mut errors = Vec::new(alloc);
@@ -94,9 +103,10 @@ fn errors_of(
     Ok(errors)
 }
 
-/// Makes the rule set of each term with rules, in order of ids, where none of its rules is unreachable by itself, no two
-/// overlap and none is shadowed. `Rules` comes exactly where one is, and tells each, rule by rule: that it is unreachable by
-/// itself, then the first earlier rule that overlaps it, then the first that shadows it.
+/// Makes the rule set of each term with rules, in order of ids, where none of its rules is unreachable by itself, and no two
+/// overlap and none is shadowed unless the term answers several times (`multi`). `Rules` comes exactly where one is, and tells
+/// each, rule by rule: that it is unreachable by itself, then, where the term answers at most once, the first earlier rule that
+/// overlaps it, and the first that shadows it.
 pub fn check(alloc: Global, termenv: &TermEnv) -> Result<Vec<(TermId, RuleSet)>, CheckError>
     requires built { All (IsBuiltRule termenv.now.terms) (map seen termenv.now.rules) }
     requires bound { All IsScopedRule (map seen termenv.now.rules) }

@@ -23,7 +23,7 @@ use Rattle.isle_sema.proofs.SerializableRules.{set_serializable}
 use Rattle.isle_sema.proofs.TypedTerms.{typed_types, typed_there}
 use Rattle.isle_names.specs.Words.{is_term_name}
 use Rattle.isle_names.specs.Claims.{is_ruled}
-use Rattle.isle_codegen.specs.Names.{are_term_names}
+use Rattle.isle_codegen.proofs.Compilable.{are_term_names}
 use Rattle.isle_codegen.specs.Emission.{ArePlaced}
 use Rattle.isle_simulation.specs.TermFns.{HasTermFns}
 use Rattle.isle_simulation.specs.TraitFns.{HasFnNames}

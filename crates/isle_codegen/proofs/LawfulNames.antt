@@ -19,9 +19,10 @@ use Rattle.isle_names.specs.Claims.{IsLawfulClaim}
 use Rattle.isle_names.specs.NameFault.{AreLawfulNames, IsNameFault}
 use Rattle.isle_names.specs.Words.{is_term_name}
 use Rattle.isle_names.proofs.FoundLaws.{all_behind}
-use Rattle.isle_names.proofs.LawfulLaws.{parts_are_lawful, names_are_lawful}
+use Rattle.isle_names.proofs.LawfulLaws.{parts_are_lawful}
 use Rattle.isle_codegen.specs.Names.{are_file_names}
-use Rattle.isle_codegen.specs.Source.{IsCompilable}
+use Rattle.isle_codegen.specs.LawfulEnvironment.{IsLawfulEnvironment}
+use Rattle.isle_codegen.proofs.Compilable.{IsCompilable}
 use Rattle.isle_codegen.proofs.EmittedNames.{name_of_term}
 
 all_at : {A : Type 0} (p : A → Bool) (xs : List A) → list_all p xs ≡ true → (x : A) → Contains xs x → p x ≡ true
@@ -48,10 +49,11 @@ id_there env id lt =
     let long = length-map-range_with_len make 0 (length env.terms) in
     (id.0, subst (λ n. id.0 < n) (sym long) lt, get_or-map-range_with_len make 0 (length env.terms) id.0 id.0 id lt (omega arith))
 
--- a typed environment of such names may be compiled
-pub compilable : (names : List (List ℕ)) (defs : List Def) (env : Environment) → Typed defs env → AreLawfulNames names env → IsCompilable defs env
-compilable names defs env typed h =
-    let parts = parts_are_lawful names env h in
+-- a lawful environment may be compiled
+pub compilable : {names : List (List ℕ)} {defs : List Def} {env : Environment} → IsLawfulEnvironment names defs env → IsCompilable defs env
+compilable {names} {defs} {env} h =
+    let parts = parts_are_lawful names env h.names in
+    let typed = h.typed.typed in
     record {
       typed = typed;
       names = all_from (λ (id : TermId). is_term_name (term_name env id)) (with_rules env) (λ id c.
@@ -66,14 +68,7 @@ compilable names defs env typed h =
 pub files_named : (names : List (List ℕ)) (env : Environment) → AreLawfulNames names env → are_file_names names ≡ true
 files_named names env h = (parts_are_lawful names env h).printed
 
--- where an environment may be compiled, and files' names may stand there, no name is one that may not be emitted
-pub none_unlawful : (names : List (List ℕ)) (defs : List Def) (env : Environment) (e : NameError) → IsCompilable defs env → are_file_names names ≡ true → IsNameFault names env e → ⊥
-none_unlawful names defs env e h printed fault =
-    let all = names_are_lawful names env (record { printed = printed; declared = h.lawful; fns = h.fns; terms = λ id t at ruled. named id t at ruled }) in
+-- where all names may be emitted, none is the first that may not
+pub none_unlawful : (names : List (List ℕ)) (env : Environment) (e : NameError) → AreLawfulNames names env → IsNameFault names env e → ⊥
+none_unlawful names env e all fault =
     fault.unlawful ((all_behind (IsLawfulClaim env) fault.before (fault.claim ∷ fault.behind) (subst (λ cs. AllByRecursion (IsLawfulClaim env) cs) fault.split all)).0)
-  where
-    named : (id : ℕ) (t : Term) → slice_get env.terms id ≡ Some t → has_rules env (record { 0 = id }) ≡ true → is_term_name (sym_text env t.name) ≡ true
-    named id t at ruled =
-        let this : TermId = record { 0 = id } in
-        subst (λ n. is_term_name n ≡ true) (name_of_term env this t at)
-        (all_at (λ (x : TermId). is_term_name (term_name env x)) (with_rules env) h.names this (kept (has_rules env) (term_ids env) this (id_there env this (slice_get_within env.terms id t at)) ruled))

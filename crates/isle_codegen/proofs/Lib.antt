@@ -16,6 +16,7 @@ pub mod TermFunctions
 pub mod InhabitedTypes
 pub mod EmittedProgram
 pub mod Placed
+pub mod Compilable
 pub mod LawfulNames
 pub mod Emissions
 pub mod Answerable

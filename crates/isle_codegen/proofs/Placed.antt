@@ -93,4 +93,4 @@ rules_placed files defs env h k =
 pub typing_placed : (files : Files) (defs : List Def) (error : Error) → DefsArePlaced files defs → TellsTyping (fault defs) (Some error) → IsPlaced files error
 typing_placed files defs error placed told =
     let at = told_lies (LiesIn files) defs error placed told in
-    subst (IsPlaced files) (sym at.2.is) (subst (LiesIn files) (sym at.2.begins) at.1)
+    subst (IsPlaced files) (sym at.2.is) at.1

@@ -14,25 +14,32 @@ use Rattle.isle_codegen.specs.declared.compile_error.CompileError.{CompileError}
 use Rattle.isle_codegen.specs.declared.compile_error.CompileError.TheVariants as compile_error
 use Rattle.isle_codegen.specs.declared.file_error.FileError.{FileError}
 use Rattle.isle_codegen.specs.declared.file_error.FileError.TheVariants as error
-use Rattle.isle_codegen.specs.Errors.{IsErrors, AreErrorsOfDefs, HasNameError, IsNameError}
+use Rattle.isle_codegen.specs.Errors.{IsErrors, AreErrorsOfTexts, AreErrorsOfDefs, HasNameError, IsNameError}
 use Rattle.isle_codegen.specs.Source.{Source}
 use Rattle.isle_names.specs.declared.name_error.NameError.{NameError}
+use Rattle.isle_codegen.specs.Header.{HasHeader}
 use Rattle.isle_codegen.specs.Headline.{HasHeadline}
 
 -- the names of the inputs, as printed
 abbrev pub printed : CodegenOptions → List (List ℕ) → List (List ℕ)
 printed options names = map (shown options.prefixes) names
 
--- a check told these errors, with the files, or want of memory; memory may not hold the files either
-abbrev pub IsFound : FileTexts → CheckError → CompileError → Type 0
-IsFound files (check.Rules errors) e = (e ≡ compile_error.Memory) ⊎ (e ≡ compile_error.Errors (record { errors = errors; files = files }))
-IsFound files check.Memory e = e ≡ compile_error.Memory
+-- what a check told
+abbrev pub of_check : CheckError → CompileError
+of_check (check.Rules errors) = compile_error.Errors errors
+of_check check.Memory = compile_error.Memory
 
 -- why definitions over files give no text
 abbrev pub IsUncompiled : CompileError → FileTexts → List Def → Type 0
 IsUncompiled (compile_error.Errors errors) files defs = AreErrorsOfDefs errors files defs
 IsUncompiled (compile_error.Name name) files defs = HasNameError files.file_names defs name
 IsUncompiled compile_error.Memory files defs = Unit {0}
+
+-- why the texts of files give no text
+abbrev pub IsTextRefusal : CompileError → FileTexts → Type 0
+IsTextRefusal (compile_error.Errors errors) files = AreErrorsOfTexts errors files
+IsTextRefusal (compile_error.Name name) files = IsNameError files.file_names files.file_texts name
+IsTextRefusal compile_error.Memory files = Unit {0}
 
 -- the text is that of the one list of definitions that the files' texts spell
 pub record CompilesTo (options : CodegenOptions) (files : FileTexts) (text : List ℕ) : Type 0 where
@@ -41,11 +48,17 @@ pub record CompilesTo (options : CodegenOptions) (files : FileTexts) (text : Lis
   pub once : (others : List Def) → Source 0 files.file_texts others → others ≡ defs
   pub headline : HasHeadline options files defs text
 
--- the text is that of the definitions that the files of these names spell
-pub record IsCompiled (options : CodegenOptions) (files : Contents) (names : List (List ℕ)) (text : List ℕ) : Type 0 where
-  pub texts : List (List ℕ)
-  pub read : AreRead files names texts
-  pub compiles : CompilesTo options (record { file_names = printed options names; file_texts = texts }) text
+-- a source is the files of these names: it has the names as printed, and the texts that the directory tells of the files
+pub record AreSource (options : CodegenOptions) (names : List (List ℕ)) (files : Option Contents) (source : FileTexts) : Type 0 where
+  pub named : source.file_names ≡ printed options names
+  pub read : IfSome files (λ fs. AreRead fs names source.file_texts)
+
+-- the text is that of the definitions that the files of these names spell, behind the header comment that names them
+pub record IsCompiled (options : CodegenOptions) (names : List (List ℕ)) (files : Option Contents) (text : List ℕ) : Type 0 where
+  pub source : FileTexts
+  pub read : AreSource options names files source
+  pub compiles : CompilesTo options source text
+  pub header : HasHeader source.file_names text
 
 -- why texts of files with these printed names give no text
 abbrev pub IsRefusal : FileError → List (List ℕ) → List (List ℕ) → Type 0
@@ -54,11 +67,11 @@ IsRefusal (error.Errors errors) names texts = IsErrors errors names texts
 IsRefusal (error.Io index why) names texts = ⊥
 IsRefusal (error.Name name) names texts = IsNameError names texts name
 
--- why files that were read give no text, where their definitions give none
-abbrev pub of_texts : CompileError → FileError
-of_texts (compile_error.Errors errors) = error.Errors errors
-of_texts (compile_error.Name name) = error.Name name
-of_texts compile_error.Memory = error.Memory
+-- why files that were read give no text, where their texts give none: errors are told with the files
+abbrev pub of_texts : FileTexts → CompileError → FileError
+of_texts files (compile_error.Errors errors) = error.Errors (record { errors = errors; files = files })
+of_texts files (compile_error.Name name) = error.Name name
+of_texts files compile_error.Memory = error.Memory
 
 -- all inputs were read, and of their names this is the first that may not be emitted
 pub record IsBadlyNamed (e : NameError) (options : CodegenOptions) (files : Option Contents) (names : List (List ℕ)) : Type 0 where

@@ -8,20 +8,9 @@ use Rattle.isle_core.specs.Places.{LiesIn}
 use Rattle.isle_core.specs.Rule.{Environment}
 use Rattle.isle_ast.specs.Tree.{Def}
 use Rattle.isle_ast.specs.Positions.{place_of}
-use Rattle.isle_checks.specs.CheckList.{IsClean}
-use Rattle.isle_recursion.specs.RuleErrors.{IsRecursionOf}
-use Rattle.isle_codegen.specs.Source.{IsCompilable}
 use Rattle.isle_items.specs.TypeItems.{type_items_of}
 use Rattle.isle_simulation.specs.TraitFns.{trait_fns_of}
 use Rattle.isle_tree.specs.Program.{Program}
-
--- an environment that definitions give, whose names may be emitted, with whose rules nothing is wrong, and in which each term that uses
--- itself is marked so
-pub record IsGiven (env : Environment) : Type 0 where
-  pub defs : List Def
-  pub compilable : IsCompilable defs env
-  pub clean : IsClean env
-  pub marked : IsRecursionOf env []
 
 -- the declarations of the terms lie in the files
 abbrev pub ArePlaced : Files → Environment → Type 0

@@ -4,16 +4,16 @@ use Rattle.isle_sema.specs.Typing.{Typed, fault}
 use Rattle.isle_core.specs.declared.errors.Error.{Error}
 use Rattle.isle_core.specs.declared.errors.Error.TheVariants as error
 use Rattle.isle_core.specs.declared.position.Pos.{Pos}
-use Rattle.isle_core.specs.declared.position.Span.{Span}
 use Rattle.isle_core.specs.declared.errors.Errors.{Errors as ErrorList}
 use Rattle.isle_core.specs.declared.files.Files.{Files}
 use Rattle.isle_core.specs.ErrorLines.{IsPlaced}
 use Rattle.isle_core.specs.Rule.{Environment}
 use Rattle.isle_ast.specs.Tree.{Def}
 use Rattle.isle_types.specs.Gathered.{TellsTyping}
+use Rattle.isle_types.specs.Single.{single}
 use Rattle.isle_checks.specs.CheckList.{IsCheckList, IsClean}
-use Rattle.isle_codegen.specs.declared.file_error.FileError.{FileError}
-use Rattle.isle_codegen.specs.declared.file_error.FileError.TheVariants as file
+use Rattle.isle_codegen.specs.declared.compile_error.CompileError.{CompileError}
+use Rattle.isle_codegen.specs.declared.compile_error.CompileError.TheVariants as compile_error
 use Rattle.isle_names.specs.declared.name_error.NameError.{NameError}
 use Rattle.isle_names.specs.NameFault.{IsNameFault}
 use Rattle.isle_codegen.specs.Source.{Source, GoesWrong}
@@ -26,9 +26,13 @@ pub record HasCheckErrors (defs : List Def) (errors : List Error) : Type 0 where
   pub list : IsCheckList env errors
   pub some : errors ≡ [] → ⊥
 
+-- errors have their places in the files
+abbrev pub ArePlacedIn : Files → List Error → Type 0
+ArePlacedIn files errors = All (IsPlaced files) errors
+
 -- errors have their places in the files that they are told with
 abbrev pub HavePlaces : ErrorList → Type 0
-HavePlaces e = All (IsPlaced e.files) e.errors
+HavePlaces e = ArePlacedIn e.files e.errors
 
 -- the definitions give an environment with whose rules nothing is wrong, and these are the errors of its terms that use themselves and are
 -- not marked so, of which there are some
@@ -55,17 +59,10 @@ pub record IsNameError (names texts : List (List ℕ)) (e : NameError) : Type 0 
   pub once : (others : List Def) → Source 0 texts others → others ≡ defs
   pub error : HasNameError names defs e
 
--- errors are told with these files, and have their places in them
-pub record AreToldIn (files : Files) (e : ErrorList) : Type 0 where
-  pub given : e.files ≡ files
-  pub placed : HavePlaces e
-
--- the one error of the grammar, at this place
+-- the one error of the grammar, at this one place
 pub record IsParseError (pos : Pos) (errors : List Error) : Type 0 where
   pub words : List ℕ
-  pub span : Span
-  pub begins : span.from ≡ pos
-  pub one : errors ≡ error.ParseError words span ∷ []
+  pub one : errors ≡ error.ParseError words (single pos) ∷ []
 
 -- the definitions have a fault, which the one error tells
 pub record HasTypeError (defs : List Def) (errors : List Error) : Type 0 where
@@ -85,19 +82,23 @@ pub data HaveErrors (texts : List (List ℕ)) (errors : List Error) : Type 0 whe
   of_parsing : (pos : Pos) → GoesWrong 0 texts pos → IsParseError pos errors → HaveErrors texts errors
   of_defs : (defs : List Def) → Source 0 texts defs → ((others : List Def) → Source 0 texts others → others ≡ defs) → HaveDefErrors defs errors → HaveErrors texts errors
 
--- the errors of texts of files with these printed names
-pub record IsErrors (e : ErrorList) (names texts : List (List ℕ)) : Type 0 where
-  pub told : AreToldIn (record { file_names = names; file_texts = texts }) e
-  pub cause : HaveErrors texts e.errors
-
--- want of memory, or the error of the grammar at this place, told with these files
-abbrev pub TellsParseError : FileError → Files → Pos → Type 0
-TellsParseError file.Memory files pos = Unit {0}
-TellsParseError (file.Errors e) files pos = (e.files ≡ files) × IsParseError pos e.errors
-TellsParseError (file.Io index why) files pos = ⊥
-TellsParseError (file.Name name) files pos = ⊥
+-- the errors of the texts of files
+pub record AreErrorsOfTexts (errors : List Error) (files : Files) : Type 0 where
+  pub placed : ArePlacedIn files errors
+  pub cause : HaveErrors files.file_texts errors
 
 -- the errors of definitions over files
-pub record AreErrorsOfDefs (e : ErrorList) (files : Files) (defs : List Def) : Type 0 where
-  pub told : AreToldIn files e
-  pub cause : HaveDefErrors defs e.errors
+pub record AreErrorsOfDefs (errors : List Error) (files : Files) (defs : List Def) : Type 0 where
+  pub placed : ArePlacedIn files errors
+  pub cause : HaveDefErrors defs errors
+
+-- the errors of texts of files with these printed names, told with these files
+pub record IsErrors (e : ErrorList) (names texts : List (List ℕ)) : Type 0 where
+  pub given : e.files ≡ record { file_names = names; file_texts = texts }
+  pub errors : AreErrorsOfTexts e.errors (record { file_names = names; file_texts = texts })
+
+-- want of memory, or the error of the grammar at this place
+abbrev pub TellsParseError : CompileError → Pos → Type 0
+TellsParseError compile_error.Memory pos = Unit {0}
+TellsParseError (compile_error.Errors errors) pos = IsParseError pos errors
+TellsParseError (compile_error.Name name) pos = ⊥

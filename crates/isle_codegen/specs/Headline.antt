@@ -19,8 +19,6 @@ use Rattle.isle_core.specs.Parts.{Given}
 use Rattle.isle_core.specs.Rule.{Environment, rules_of}
 use Rattle.isle_core.specs.Terms.{with_rules, term_name, impure_calls}
 use Rattle.isle_ast.specs.Tree.{Def}
-use Rattle.isle_sema.specs.Typing.{TypedOnly}
-use Rattle.isle_checks.specs.CheckList.{IsClean}
 use Rattle.isle_tree.specs.Program.{Function, Program}
 use Rattle.isle_target.specs.Reading.{SpellsOnly}
 use Rattle.isle_tree.specs.Run.{run}
@@ -30,6 +28,7 @@ use Rattle.isle_simulation.specs.Ends.{end_of}
 use Rattle.isle_simulation.specs.OfTerm.{AreDeclared}
 use Rattle.isle_codegen.specs.FromBlock.{AreFromBlocks}
 use Rattle.isle_codegen.specs.Inhabited.{IsInhabited}
+use Rattle.isle_codegen.specs.LawfulEnvironment.{IsLawfulEnvironment}
 use Rattle.isle_codegen.specs.Meant.{HasValue, IsMeant}
 
 -- a run gives what is prescribed, but for the type names of opaque numbers: its end, and the calls of impure terms in order
@@ -80,11 +79,10 @@ pub record IsText (options : CodegenOptions) (files : Files) (env : Environment)
   pub frame : IsFrame options env program
   pub functions : FunctionsMean options.emit_logging files env program
 
--- the text is that of the one environment of the definitions, which stand in the files; nothing is wrong with its rules
+-- the text is that of the lawful environment of the definitions, which stand in the files
 pub record HasHeadline (options : CodegenOptions) (files : Files) (defs : List Def) (text : List ℕ) : Type 0 where
   pub env : Environment
-  pub typed : TypedOnly defs env
-  pub clean : IsClean env
+  pub lawful : IsLawfulEnvironment files.file_names defs env
   pub is_text : IsText options files env text
 
 -- the text spells exactly one program

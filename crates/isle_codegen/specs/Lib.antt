@@ -2,6 +2,7 @@ pub mod Names
 pub mod Header
 pub mod Source
 pub mod Emission
+pub mod LawfulEnvironment
 pub mod Checked
 pub mod Meant
 pub mod Inhabited

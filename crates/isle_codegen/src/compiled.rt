@@ -1,8 +1,7 @@
-ghost use Rattle.std.specs.Prelude.{◌≡◌, true, IfOk, IfErr};
+ghost use Rattle.std.specs.Prelude.{IfOk, IfErr};
 ghost use Rattle.std.specs.String.{string_bytes};
 ghost use Rattle.isle_ast.specs.Views.{defs as seen};
 ghost use Rattle.isle_codegen.specs.Emission.{DefsArePlaced};
-ghost use Rattle.isle_codegen.specs.Names.{are_file_names};
 ghost use Rattle.isle_codegen.specs.Header.{HasHeader};
 ghost use Rattle.isle_codegen.specs.Headline.{HasHeadline, SpellsOne};
 ghost use Rattle.isle_codegen.specs.Causes.{IsUncompiled};
@@ -25,7 +24,6 @@ pub fn compile(
     requires places { DefsArePlaced files.now (seen defs.now) }
     ensures program { IfOk result (λ text. SpellsOne (string_bytes text)) }
     ensures header { IfOk result (λ text. HasHeader files.now.file_names (string_bytes text)) }
-    ensures names { IfOk result (λ text. are_file_names files.now.file_names ≡ true) }
     ensures headline { IfOk result (λ text. HasHeadline options.now files.now (seen defs.now) (string_bytes text)) }
     ensures err { IfErr result (λ e. IsUncompiled e files.now (seen defs.now)) }
 {

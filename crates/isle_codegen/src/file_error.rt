@@ -1,7 +1,3 @@
-ghost use Rattle.std.specs.Prelude.{◌≡◌};
-ghost use Rattle.isle_codegen.specs.Causes.{of_texts};
-
-use crate::compile_error::CompileError;
 use isle_core::{Errors, IoCause};
 use isle_names::NameError;
 
@@ -15,15 +11,4 @@ pub enum FileError {
     /// The first name that may not be emitted, of the inputs as printed, the types, the terms and the constants.
     Name(NameError),
     Memory,
-}
-
-/// Gives why files that were read give no text, where their definitions give none.
-pub fn of_texts(fail: CompileError) -> FileError
-    ensures { result ≡ of_texts fail }
-{
-    match fail {
-        CompileError::Errors(errors) => FileError::Errors(errors),
-        CompileError::Name(name) => FileError::Name(name),
-        CompileError::Memory => FileError::Memory,
-    }
 }

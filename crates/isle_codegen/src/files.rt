@@ -1,13 +1,12 @@
-ghost use Rattle.std.specs.Prelude.{◌≡◌, ◌+◌, ◌-◌, ◌*◌, ◌^◌, ◌≤◌, true, length, IfOk, IfErr, IfSome};
+ghost use Rattle.std.specs.Prelude.{◌≡◌, ◌+◌, ◌-◌, ◌*◌, ◌^◌, ◌≤◌, length, IfOk, IfErr};
 ghost use Rattle.std.specs.String.{string_bytes};
 ghost use Rattle.isle_core.specs.Inputs.{bytes_each, IsTried};
-ghost use Rattle.isle_codegen.specs.Names.{are_file_names};
 ghost use Rattle.isle_codegen.specs.Header.{HasHeader};
-ghost use Rattle.isle_codegen.specs.Headline.{SpellsOne};
-ghost use Rattle.isle_codegen.specs.Causes.{CompilesTo, IsRefusal, IsCompiled, HasCause, printed};
+ghost use Rattle.isle_codegen.specs.Causes.{CompilesTo, IsTextRefusal, IsCompiled, HasCause};
 
+use crate::compile_error::CompileError;
 use crate::compiled::compile;
-use crate::file_error::{FileError, of_texts};
+use crate::file_error::FileError;
 use crate::source::parse_files;
 use isle_core::{CodegenOptions, Dir, Files, ReadError};
 use std::alloc::Global;
@@ -22,10 +21,7 @@ pub fn from_files<D: Dir>(
     inputs: &[String],
     options: &CodegenOptions,
 ) -> Result<String, FileError>
-    ensures program { IfOk result (λ text. SpellsOne (string_bytes text)) }
-    ensures header { IfOk result (λ text. HasHeader (printed options.now (bytes_each inputs.now)) (string_bytes text)) }
-    ensures names { IfOk result (λ text. are_file_names (printed options.now (bytes_each inputs.now)) ≡ true) }
-    ensures headline { IfOk result (λ text. IfSome (D.files dir.old) (λ files. IsCompiled options.now files (bytes_each inputs.now) (string_bytes text))) }
+    ensures ok { let names = bytes_each inputs.now in IfOk result (λ text. IsCompiled options.now names (D.files dir.old) (string_bytes text)) }
     ensures err { IfErr result (λ e. HasCause e options.now (D.files dir.old) (bytes_each inputs.now) (D.counts dir.old) (D.counts dir.new)) }
     ensures files { D.files dir.new ≡ D.files dir.old }
     ensures later { (D.counts dir.old).faults ≤ (D.counts dir.new).faults }
@@ -35,26 +31,29 @@ pub fn from_files<D: Dir>(
     ensures given { (D.counts dir.new).given ≤ (D.counts dir.old).given + (2 ^ 24 + 1) * length inputs.now }
 {
     match Files::from_paths(alloc, dir, inputs, options.prefixes.as_slice()) {
-        Ok(files) => compiled(alloc, &files, options),
+        Ok(files) => match compiled(alloc, &files, options) {
+            Ok(text) => Ok(text),
+            Err(fail) => Err(fail.with_files(files)),
+        },
         Err(ReadError::Io { index, cause }) => Err(FileError::Io { index, cause }),
         Err(ReadError::Memory) => Err(FileError::Memory),
     }
 }
 
 // The text of the program of the definitions that the files' texts spell. There are as many names as texts.
-fn compiled(alloc: Global, files: &Files, options: &CodegenOptions) -> Result<String, FileError>
+fn compiled(
+    alloc: Global,
+    files: &Files,
+    options: &CodegenOptions,
+) -> Result<String, CompileError>
     requires count { length files.now.file_texts ≡ length files.now.file_names }
     ensures header { IfOk result (λ text. HasHeader files.now.file_names (string_bytes text)) }
-    ensures names { IfOk result (λ text. are_file_names files.now.file_names ≡ true) }
     ensures ok { IfOk result (λ text. CompilesTo options.now files.now (string_bytes text)) }
-    ensures err { IfErr result (λ e. IsRefusal e files.now.file_names files.now.file_texts) }
+    ensures err { IfErr result (λ e. IsTextRefusal e files.now) }
 {
     let defs = match parse_files(alloc, files) {
         Ok(defs) => defs,
         Err(fail) => return Err(fail),
     };
-    match compile(alloc, files, defs.as_slice(), options) {
-        Ok(text) => Ok(text),
-        Err(fail) => Err(of_texts(fail)),
-    }
+    compile(alloc, files, defs.as_slice(), options)
 }

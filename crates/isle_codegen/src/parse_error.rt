@@ -3,8 +3,8 @@
 ghost use Rattle.std.specs.Prelude.{◌≡◌, IfOk};
 ghost use Rattle.isle_codegen.specs.Errors.{IsParseError, TellsParseError};
 
-use crate::file_error::FileError;
-use isle_core::{Error, Errors, Files, List, OutOfMemory, Pos, Span, Text};
+use crate::compile_error::CompileError;
+use isle_core::{Error, Files, List, OutOfMemory, Pos, Span, Text};
 use isle_syntax::{Expected, Mismatch};
 use std::alloc::Global;
 
@@ -45,11 +45,17 @@ fn token_at(files: &Files, at: Pos, to: Pos) -> Option<&str> {
     Some(shown)
 }
 
-// Adds a token in quotes, each byte below 32 as `?`.
+/// What some editors put before a text, and no one sees.
+const BYTE_ORDER_MARK: char = '\u{FEFF}';
+
+// Adds a token in quotes, each byte below 32 as `?`, and a byte order mark by its name.
 fn push_token(out: &mut String, token: &str) -> Result<(), OutOfMemory> {
     out.push('\'')?;
     for letter in token.chars() {
-        out.push(if letter < ' ' { '?' } else { letter })?;
+        match letter {
+            BYTE_ORDER_MARK => out.push_str("<byte order mark>")?,
+            letter => out.push(if letter < ' ' { '?' } else { letter })?,
+        }
     }
     out.push('\'')?;
     Ok(())
@@ -82,23 +88,17 @@ fn error_at(
     ensures { IfOk result (λ errors. IsParseError at errors) }
 {
     let msg = words_of(alloc, files, at, mismatch)?;
-    let span = Span {
-        from: at,
-        to: mismatch.to,
-    };
+    let span = Span::new_single(at);
     let error = Error::ParseError { msg, span };
     Ok(List::new(vec![in alloc; error]?))
 }
 
-/// Gives the error of files one of which goes wrong at that place, with the files; or want of memory.
-pub fn parse_error(alloc: Global, files: &Files, at: Pos, mismatch: Mismatch) -> FileError
-    ensures { TellsParseError result files.now at }
+/// Gives the error of files one of which goes wrong at that place; or want of memory.
+pub fn parse_error(alloc: Global, files: &Files, at: Pos, mismatch: Mismatch) -> CompileError
+    ensures { TellsParseError result at }
 {
     match error_at(alloc, files, at, mismatch) {
-        Ok(errors) => match files.copied(alloc) {
-            Ok(files) => FileError::Errors(Errors { errors, files }),
-            Err(_) => FileError::Memory,
-        },
-        Err(_) => FileError::Memory,
+        Ok(errors) => CompileError::Errors(errors),
+        Err(_) => CompileError::Memory,
     }
 }

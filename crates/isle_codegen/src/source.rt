@@ -6,9 +6,9 @@ ghost use Rattle.isle_syntax.specs.declared.parser.Mismatch.{Mismatch};
 ghost use Rattle.isle_syntax.specs.declared.parser.ParseFail.TheVariants as fail;
 ghost use Rattle.isle_codegen.specs.Source.{Source, GoesWrong};
 ghost use Rattle.isle_codegen.specs.Emission.{DefsArePlaced};
-ghost use Rattle.isle_codegen.specs.Causes.{IsRefusal};
+ghost use Rattle.isle_codegen.specs.Causes.{IsTextRefusal};
 
-use crate::file_error::FileError;
+use crate::compile_error::CompileError;
 use crate::parse_error::parse_error;
 use isle_ast::Def;
 use isle_core::{Files, Text};
@@ -18,17 +18,17 @@ use std::alloc::Global;
 /// Parses the files' texts, and returns their definitions, one text after the other. There are as many names as texts.
 /// `Errors` comes exactly where a text goes wrong, and tells the place of the first that does (`specs/Errors.antt`); beside it
 /// only want of memory.
-pub fn parse_files(alloc: Global, files: &Files) -> Result<Vec<Def>, FileError>
+pub fn parse_files(alloc: Global, files: &Files) -> Result<Vec<Def>, CompileError>
     requires { length files.now.file_texts ≡ length files.now.file_names }
     ensures ok { IfOk result (λ read. Source 0 files.now.file_texts (defs read.items)) }
     ensures once { IfOk result (λ read. (others : ListOf PureDef) → Source 0 files.now.file_texts others → others ≡ defs read.items) }
     ensures placed { IfOk result (λ read. DefsArePlaced files.now (defs read.items)) }
-    ensures err { IfErr result (λ e. IsRefusal e files.now.file_names files.now.file_texts) }
+    ensures err { IfErr result (λ e. IsTextRefusal e files.now) }
 {
     match parse_all(alloc, files.file_texts.as_slice()) {
         Ok(read) => Ok(read),
         Err(ParseFail::At(at, mismatch)) => Err(parse_error(alloc, files, at, mismatch)),
-        Err(ParseFail::Memory) => Err(FileError::Memory),
+        Err(ParseFail::Memory) => Err(CompileError::Memory),
     }
 }
 

@@ -1,10 +1,10 @@
-ghost use Rattle.std.specs.Prelude.{◌≡◌, true, OnOk, IfOk};
+ghost use Rattle.std.specs.Prelude.{◌≡◌, OnOk, IfOk};
 ghost use Rattle.std.specs.String.{string_bytes};
 ghost use Rattle.isle_printer.specs.Comment.{comment_lines};
 ghost use Rattle.isle_core.specs.RuleViews.{environment};
 ghost use Rattle.isle_rulesets.specs.Grouping.{AreRuleSets};
-ghost use Rattle.isle_codegen.specs.Emission.{IsGiven, ArePlaced};
-ghost use Rattle.isle_codegen.specs.Names.{are_file_names};
+ghost use Rattle.isle_codegen.specs.Emission.{ArePlaced};
+ghost use Rattle.isle_codegen.specs.LawfulEnvironment.{MayBeEmitted};
 ghost use Rattle.isle_codegen.specs.Header.{header, HasHeader};
 ghost use Rattle.isle_codegen.specs.Headline.{IsText};
 
@@ -15,8 +15,7 @@ use isle_target::print_program;
 use std::alloc::Global;
 
 /// Writes the text of an environment's program: the header comment, which names the files, and the print of
-/// `codegen_tree`, whose conditions are its own. The files' names as printed may stand in a comment. The only error is want
-/// of memory.
+/// `codegen_tree`, whose conditions are its own. The only error is want of memory.
 pub fn codegen(
     alloc: Global,
     files: &Files,
@@ -25,10 +24,9 @@ pub fn codegen(
     terms: &[(TermId, RuleSet)],
     options: &CodegenOptions,
 ) -> Result<String, OutOfMemory>
-    requires given { IsGiven (environment typeenv.now termenv.now) }
+    requires given { MayBeEmitted files.now.file_names (environment typeenv.now termenv.now) }
     requires terms { AreRuleSets (environment typeenv.now termenv.now) terms.now }
     requires places { ArePlaced files.now (environment typeenv.now termenv.now) }
-    requires names { are_file_names files.now.file_names ≡ true }
     ensures header { IfOk result (λ text. HasHeader files.now.file_names (string_bytes text)) }
     ensures program { IfOk result (λ text. IsText options.now files.now (environment typeenv.now termenv.now) (string_bytes text)) }
 {

@@ -5,9 +5,10 @@ ghost use Rattle.isle_core.specs.RuleViews.{environment};
 ghost use Rattle.isle_rulesets.specs.Grouping.{AreRuleSets};
 ghost use Rattle.isle_tree.specs.Views.{function, program};
 ghost use Rattle.isle_tree.specs.WellFormed.{IsWellFormed};
-ghost use Rattle.isle_codegen.specs.Emission.{IsGiven, IsFrame, ArePlaced};
+ghost use Rattle.isle_codegen.specs.Emission.{IsFrame, ArePlaced};
 ghost use Rattle.isle_codegen.specs.Emits.{CanEmit, IsEmitted, AreEmitted};
 ghost use Rattle.isle_codegen.specs.Headline.{FunctionsMean};
+ghost use Rattle.isle_codegen.specs.LawfulEnvironment.{MayBeEmitted};
 ghost use Rattle.isle_core.specs.LineStarts.{starts_of};
 
 use isle_blocks::serialize;
@@ -87,7 +88,7 @@ fn emit_all(
 }
 
 /// Makes the program of an environment: the functions of the trait, the types, and a function for each term with rules, in
-/// order of ids (`specs/Emission.antt`, `specs/Headline.antt`). `terms` lists the terms with rules in this order, each with
+/// order of ids (`specs/Emission.antt`, `specs/Headline.antt`). The environment is lawful (`specs/LawfulEnvironment.antt`); `terms` lists the terms with rules in this order, each with
 /// a rule set that stands for its rules; all places lie in the files. The only error is want of memory.
 pub fn codegen_tree(
     alloc: Global,
@@ -97,7 +98,7 @@ pub fn codegen_tree(
     terms: &[(TermId, RuleSet)],
     options: &CodegenOptions,
 ) -> Result<Program, OutOfMemory>
-    requires given { IsGiven (environment typeenv.now termenv.now) }
+    requires given { MayBeEmitted files.now.file_names (environment typeenv.now termenv.now) }
     requires terms { AreRuleSets (environment typeenv.now termenv.now) terms.now }
     requires places { ArePlaced files.now (environment typeenv.now termenv.now) }
     ensures well_formed { IfOk result (λ p. IsWellFormed (program p)) }

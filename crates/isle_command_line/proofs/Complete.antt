@@ -80,10 +80,10 @@ read_run true ss w more h = refl
 read_run false ss w more h = read_untraced ss w more h
 
 read_last : (t : Bool) (o : CodegenOptions) (s : Source) (m : List ℕ) (vs : Writtens) {a : Option (List ℕ)} {last : List (List ℕ)} → AnswersS a last
-    → request_of (read (state.AfterValues t o s m vs) last) ≡ Some (command.Run t o s m vs a)
+    → request_of (read (state.AfterValues t o s m vs) last) ≡ Some (command.run_of t o s m vs a)
 unfolding is_answers
 read_last t o s m vs choice.no_answers = refl
-read_last t o s m vs (choice.answers f h) = ap (λ b. request_of (onward (if b then Some (state.Whole (command.Run t o s m vs (Some f))) else None) (λ k. Some k))) h
+read_last t o s m vs (choice.answers f h) = ap (λ b. request_of (onward (if b then Some (state.Whole (command.run_of t o s m vs (Some f))) else None) (λ k. Some k))) h
 
 read_term : (t : Bool) (o : CodegenOptions) (s : Source) (m x : List ℕ) (vs : Writtens) (last : List (List ℕ)) → is_name m ≡ true → spelt x ≡ Some vs
     → read (state.Term t o s) (m ∷ x ∷ last) ≡ read (state.AfterValues t o s m vs) last

@@ -38,7 +38,7 @@ whole : (ws : List (List ℕ)) (c : Request) → LineS ws c → Continues ws
 whole ws c h = ([], c, subst (λ z. LineS z c) (sym (append-nil ws)) h)
 
 with_values : (t : Bool) (o : CodegenOptions) (s : Source) (m : List ℕ) (ws : List (List ℕ)) → HasRead (state.Values t o s m) ws → Continues ws
-with_values t o s m ws h = continues_less ws (codes "()") (whole _ (command.Run t o s m NoValue None) (has_read_asks (state.AfterValues t o s m NoValue) _
+with_values t o s m ws h = continues_less ws (codes "()") (whole _ (command.run_of t o s m NoValue None) (has_read_asks (state.AfterValues t o s m NoValue) _
     (subst (λ r. After (valued t o s m r) (ws ++ codes "()" ∷ [])) empty_list (has_read_next (state.Values t o s m) ws (codes "()") h))))
 
 with_term : (t : Bool) (o : CodegenOptions) (s : Source) (ws : List (List ℕ)) → HasRead (state.Term t o s) ws → Continues ws
@@ -66,7 +66,7 @@ continues state.Run ws h = continues_less ws (codes "--trace") (with_name (verb.
 continues (state.Term t o s) ws h = with_term t o s ws h
 continues (state.Values t o s m) ws h = with_values t o s m ws h
 continues (state.AfterValues t o s m vs) ws h = whole ws _ (has_read_asks (state.AfterValues t o s m vs) ws h)
-continues (state.Answers t o s m vs) ws h = continues_less ws (codes "a") (whole _ (command.Run t o s m vs (Some (codes "a"))) (has_read_next (state.Answers t o s m vs) ws (codes "a") h))
+continues (state.Answers t o s m vs) ws h = continues_less ws (codes "a") (whole _ (command.run_of t o s m vs (Some (codes "a"))) (has_read_next (state.Answers t o s m vs) ws (codes "a") h))
 
 known_continues : (o : Option Known) (ws : List (List ℕ)) → IsSome o → After o ws → Continues ws
 known_continues (Some s) ws h t = continues s ws t

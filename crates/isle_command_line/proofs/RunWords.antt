@@ -37,25 +37,21 @@ after_is (b ∷ p) (c ∷ w) n e = by (c == b) refl e (after_is p w n)
     by true f g ih = let one : c ≡ b = grind (arith, nat_tests, f) in let more = ih g in λ k. one k ∷ more k
     by false f g ih = cc
 
--- a name is this source
-abbrev pub IsSource : Option Source → List ℕ → Type 0
-IsSource (Some s) w = SourceS s w
-IsSource None w = Unit {0}
-
-pub source_is : (w : List ℕ) → is_name w ≡ true → IsSource (source_of w) w
+-- a name is a source
+pub source_is : (w : List ℕ) → is_name w ≡ true → SourceS (source_of w) w
 unfolding source_of
 source_is w h = by (after_prefix (codes "unit:") w) refl
   where
-    by : (o : Option (List ℕ)) → after_prefix (codes "unit:") w ≡ o → IsSource (source_by w o) w
+    by : (o : Option (List ℕ)) → after_prefix (codes "unit:") w ≡ o → SourceS (source_by w o) w
     by None e = choice.file w h e
-    by (Some n) e = on_if (λ r. IsSource r w) (is_name n) _ _ (λ g. subst (SourceS (source.Unit n)) (sym (after_is (codes "unit:") w n e)) (choice.unit n g)) tt
+    by (Some n) e = subst (SourceS (source.Unit n)) (sym (after_is (codes "unit:") w n e)) (choice.unit n)
 
-pub source_again : {s : Source} {w : List ℕ} → SourceS s w → source_of w ≡ Some s
+pub source_again : {s : Source} {w : List ℕ} → SourceS s w → source_of w ≡ s
 unfolding source_of
 source_again (choice.file w h e) = ap (source_by w) e
-source_again (choice.unit n h) = ap (λ b. if b then Some (source.Unit n) else None) h
+source_again (choice.unit n) = refl
 
 -- and is a name
 pub source_named : {s : Source} {w : List ℕ} → SourceS s w → is_name w ≡ true
 source_named (choice.file w h e) = h
-source_named (choice.unit n h) = refl
+source_named (choice.unit n) = refl

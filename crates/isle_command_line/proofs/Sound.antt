@@ -27,7 +27,7 @@ use Rattle.isle_command_line.specs.Known.{Known}
 use Rattle.isle_command_line.specs.Known as state
 use Rattle.isle_command_line.proofs.WordLaws.{on_if, off_if, both, IsFirst, first_is, IsMarked, mark_is, IsKind, kind_is, IsCounted, count_is, IsParted, parts_is}
 use Rattle.isle_command_line.proofs.ChoiceLaws.{free, Chose, chose_none, chose_more}
-use Rattle.isle_command_line.proofs.RunWords.{trace_is, answers_is, IsSource, source_is}
+use Rattle.isle_command_line.proofs.RunWords.{trace_is, answers_is, source_is}
 
 abbrev pub verb_word : Verb → List ℕ
 verb_word verb.Compile = codes "compile"
@@ -57,18 +57,18 @@ pub record Sourced (t : Bool) (o : CodegenOptions) (s : Source) (front : List (L
 
 -- the line of a run
 pub ran : (t : Bool) (o : CodegenOptions) (s : Source) (front : List (List ℕ)) (m x : List ℕ) (vs : Writtens) (a : Option (List ℕ)) (last : List (List ℕ)) → Sourced t o s front → is_name m ≡ true → SpellsValues x vs → AnswersS a last
-    → LineS (codes "run" ∷ (front ++ m ∷ x ∷ last)) (command.Run t o s m vs a)
+    → LineS (codes "run" ∷ (front ++ m ∷ x ∷ last)) (command.run_of t o s m vs a)
 ran true o s front m x vs a last h good is la =
     let c = h.begun.1 in
     let e : front ++ m ∷ x ∷ last ≡ codes "--trace" ∷ (h.begun.0 ++ h.from ∷ m ∷ x ∷ last) = ap (λ z. z ++ m ∷ x ∷ last) h.words ∙ append_assoc h.options (h.from ∷ []) (m ∷ x ∷ last) ∙ ap (λ z. z ++ h.from ∷ m ∷ x ∷ last) h.begun.2 in
-    subst (λ z. LineS (codes "run" ∷ z) (command.Run true o s m vs a)) (sym e)
-    (subst (λ p. LineS (codes "run" ∷ codes "--trace" ∷ (h.begun.0 ++ h.from ∷ m ∷ x ∷ last)) (command.Run true p s m vs a)) c.chosen
+    subst (λ z. LineS (codes "run" ∷ z) (command.run_of true o s m vs a)) (sym e)
+    (subst (λ p. LineS (codes "run" ∷ codes "--trace" ∷ (h.begun.0 ++ h.from ∷ m ∷ x ∷ last)) (command.run_of true p s m vs a)) c.chosen
     (choice.run true c.choices h.begun.0 s h.from m x vs a last c.spelt c.once h.is good is la))
 ran false o s front m x vs a last h good is la =
     let c = h.begun in
     let e : front ++ m ∷ x ∷ last ≡ h.options ++ h.from ∷ m ∷ x ∷ last = ap (λ z. z ++ m ∷ x ∷ last) h.words ∙ append_assoc h.options (h.from ∷ []) (m ∷ x ∷ last) in
-    subst (λ z. LineS (codes "run" ∷ z) (command.Run false o s m vs a)) (sym e)
-    (subst (λ p. LineS (codes "run" ∷ (h.options ++ h.from ∷ m ∷ x ∷ last)) (command.Run false p s m vs a)) c.chosen
+    subst (λ z. LineS (codes "run" ∷ z) (command.run_of false o s m vs a)) (sym e)
+    (subst (λ p. LineS (codes "run" ∷ (h.options ++ h.from ∷ m ∷ x ∷ last)) (command.run_of false p s m vs a)) c.chosen
     (choice.run false c.choices h.options s h.from m x vs a last c.spelt c.once h.is good is la))
 
 -- what is known says of the words so far
@@ -111,9 +111,8 @@ built o us w h good = subst (λ p. LineS (codes "build" ∷ us ++ w ∷ []) (com
 pub compiled : (o : CodegenOptions) (us : List (List ℕ)) (n : List ℕ) (ns : List (List ℕ)) → Chose o us → list_all is_name (n ∷ ns) ≡ true → LineS (codes "compile" ∷ us ++ n ∷ ns) (command.Compile o (n ∷ ns))
 compiled o us n ns h good = subst (λ p. LineS (codes "compile" ∷ us ++ n ∷ ns) (command.Compile p (n ∷ ns))) h.chosen (choice.compile h.choices us n ns h.spelt h.once good)
 
-has_read_sourced : (t : Bool) (o : CodegenOptions) (ws : List (List ℕ)) (r : Option Source) (w : List ℕ) → HasRead (state.Options (verb.Run t) o) ws → IsSource r w → After (sourced t o r) (ws ++ w ∷ [])
-has_read_sourced t o ws None w h is = tt
-has_read_sourced t o ws (Some s) w h is = (h.0 ++ w ∷ [], record { options = h.0; begun = h.1; from = w; is = is; words = refl }, ap (λ z. z ++ w ∷ []) h.2)
+has_read_sourced : (t : Bool) (o : CodegenOptions) (ws : List (List ℕ)) (s : Source) (w : List ℕ) → HasRead (state.Options (verb.Run t) o) ws → SourceS s w → After (sourced t o s) (ws ++ w ∷ [])
+has_read_sourced t o ws s w h is = (h.0 ++ w ∷ [], record { options = h.0; begun = h.1; from = w; is = is; words = refl }, ap (λ z. z ++ w ∷ []) h.2)
 
 pub has_read_named : (v : Verb) (o : CodegenOptions) (ws : List (List ℕ)) (w : List ℕ) → HasRead (state.Options v o) ws → is_name w ≡ true → After (named v o w) (ws ++ w ∷ [])
 has_read_named verb.Compile o ws w h good = (h.0, h.1, omega arith, (λ k. good k && true), ap (λ z. z ++ w ∷ []) h.2)
@@ -187,7 +186,7 @@ has_read_answers : (t : Bool) (o : CodegenOptions) (s : Source) (m : List ℕ) (
 has_read_answers t o s m vs ws w h = on_if (λ r. After r (ws ++ w ∷ [])) (is_name w) _ _
     (λ good.
     let e : ws ++ w ∷ [] ≡ codes "run" ∷ (h.0 ++ m ∷ h.3 ∷ codes "--answers" ∷ w ∷ []) = ap (λ z. z ++ w ∷ []) h.5 ∙ ap (λ z. codes "run" ∷ z) (append_assoc h.0 (m ∷ h.3 ∷ codes "--answers" ∷ []) (w ∷ [])) in
-    subst (λ z. LineS z (command.Run t o s m vs (Some w))) (sym e) (ran t o s h.0 m h.3 vs (Some w) (codes "--answers" ∷ w ∷ []) h.1 h.2 h.4 (choice.answers w good)))
+    subst (λ z. LineS z (command.run_of t o s m vs (Some w))) (sym e) (ran t o s h.0 m h.3 vs (Some w) (codes "--answers" ∷ w ∷ []) h.1 h.2 h.4 (choice.answers w good)))
     tt
 
 -- one word more
@@ -236,5 +235,5 @@ has_read_asks state.Target ws h = tt
 has_read_asks state.Run ws h = tt
 has_read_asks (state.Term t o s) ws h = tt
 has_read_asks (state.Values t o s m) ws h = tt
-has_read_asks (state.AfterValues t o s m vs) ws h = subst (λ z. LineS z (command.Run t o s m vs None)) (sym h.5) (ran t o s h.0 m h.3 vs None [] h.1 h.2 h.4 choice.no_answers)
+has_read_asks (state.AfterValues t o s m vs) ws h = subst (λ z. LineS z (command.run_of t o s m vs None)) (sym h.5) (ran t o s h.0 m h.3 vs None [] h.1 h.2 h.4 choice.no_answers)
 has_read_asks (state.Answers t o s m vs) ws h = tt

@@ -86,10 +86,10 @@ kind_word kind.AssemblerRust = codes "assembler-rust"
 kind_word kind.Pulley = codes "pulley"
 kind_word kind.PulleyRust = codes "pulley-rust"
 
--- a source in a word: unit: and a unit's name, or a file's name that does not begin so
+-- a source in a word: unit: and what is a unit's name, or a file's name that does not begin so
 pub data SourceS : Source → List ℕ → Type 0 where
   file : (name : List ℕ) → is_name name ≡ true → after_prefix (codes "unit:") name ≡ None → SourceS (source.File name) name
-  unit : (name : List ℕ) → is_name name ≡ true → SourceS (source.Unit name) (codes "unit:" ++ name)
+  unit : (name : List ℕ) → SourceS (source.Unit name) (codes "unit:" ++ name)
 
 -- whether the run is traced
 abbrev pub traced : Bool → List (List ℕ)
@@ -115,7 +115,7 @@ pub data LineS : List (List ℕ) → Request → Type 0 where
   isa : (target : List ℕ) → LineS (codes "isa" ∷ target ∷ []) (command.Isa target)
   run : (t : Bool) (cs : List Choice) (words : List (List ℕ)) (s : Source) (from term spelling : List ℕ) (vs : Writtens) (a : Option (List ℕ)) (last : List (List ℕ))
       → ChoicesS cs words → AreOnce cs → SourceS s from → is_name term ≡ true → SpellsValues spelling vs → AnswersS a last
-      → LineS (codes "run" ∷ traced t ++ words ++ from ∷ term ∷ spelling ∷ last) (command.Run t (options_of cs) s term vs a)
+      → LineS (codes "run" ∷ traced t ++ words ++ from ∷ term ∷ spelling ∷ last) (command.run_of t (options_of cs) s term vs a)
 
 -- words with which a line begins
 abbrev pub Continues : List (List ℕ) → Type 0

@@ -74,12 +74,12 @@ unfoldable pub is_answers : List ℕ → Bool
 is_answers w = bytes_eq w (codes "--answers")
 
 -- a source, by what stands behind unit:
-abbrev pub source_by : List ℕ → Option (List ℕ) → Option Source
-source_by w None = Some (source.File w)
-source_by w (Some n) = if is_name n then Some (source.Unit n) else None
+abbrev pub source_by : List ℕ → Option (List ℕ) → Source
+source_by w None = source.File w
+source_by w (Some n) = source.Unit n
 
 -- the source that a name is
-unfoldable pub source_of : List ℕ → Option Source
+unfoldable pub source_of : List ℕ → Source
 source_of w = source_by w (after_prefix (codes "unit:") w)
 
 -- behind the first word
@@ -95,9 +95,8 @@ begun first_word.Run = Some state.Run
 begun first_word.Other = None
 
 -- behind a source
-abbrev pub sourced : Bool → CodegenOptions → Option Source → Option Known
-sourced t o (Some s) = Some (state.Term t o s)
-sourced t o None = None
+abbrev pub sourced : Bool → CodegenOptions → Source → Option Known
+sourced t o s = Some (state.Term t o s)
 
 -- behind the first name
 abbrev pub named : Verb → CodegenOptions → List ℕ → Option Known
@@ -152,7 +151,7 @@ next state.Run w = if is_trace w then Some (state.Options (verb.Run true) no_opt
 next (state.Term t o s) w = if is_name w then Some (state.Values t o s w) else None
 next (state.Values t o s m) w = valued t o s m (spelt w)
 next (state.AfterValues t o s m vs) w = if is_answers w then Some (state.Answers t o s m vs) else None
-next (state.Answers t o s m vs) w = if is_name w then Some (state.Whole (command.Run t o s m vs (Some w))) else None
+next (state.Answers t o s m vs) w = if is_name w then Some (state.Whole (command.run_of t o s m vs (Some w))) else None
 
 -- goes on where something is known
 abbrev pub onward : Option Known → (Known → Option Known) → Option Known
@@ -177,7 +176,7 @@ asks state.Target = None
 asks state.Run = None
 asks (state.Term t o s) = None
 asks (state.Values t o s m) = None
-asks (state.AfterValues t o s m vs) = Some (command.Run t o s m vs None)
+asks (state.AfterValues t o s m vs) = Some (command.run_of t o s m vs None)
 asks (state.Answers t o s m vs) = None
 
 -- the word of this number is the first with which no line continues

@@ -5,6 +5,15 @@ use Rattle.isle_values.specs.Written.{Writtens}
 use Rattle.isle_command_line.specs.declared.commands.Kind.{Kind}
 use Rattle.isle_command_line.specs.declared.commands.Source.{Source}
 
+-- a run of a term: whether it is traced, with which options its source is compiled, at which values, and the file of answers, if any
+pub record Running : Type 0 where
+  pub trace : Bool
+  pub options : CodegenOptions
+  pub source : Source
+  pub term : List ℕ
+  pub values : Writtens
+  pub answers : Option (List ℕ)
+
 pub data Request : Type 0 where
   Help : Request
   Version : Request
@@ -13,4 +22,8 @@ pub data Request : Type 0 where
   Prelude : Kind → Request
   Units : Request
   Isa : (target : List ℕ) → Request
-  Run : (trace : Bool) (options : CodegenOptions) (source : Source) (term : List ℕ) (values : Writtens) (answers : Option (List ℕ)) → Request
+  Run : Running → Request
+
+-- the line of a run with these parts
+abbrev pub run_of : Bool → CodegenOptions → Source → List ℕ → Writtens → Option (List ℕ) → Request
+run_of t o s m vs a = Run (record { trace = t; options = o; source = s; term = m; values = vs; answers = a })

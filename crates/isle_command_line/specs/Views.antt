@@ -6,8 +6,13 @@ use Rattle.isle_command_line.specs.Known as known
 use Rattle.isle_command_line.specs.Known.{Known}
 use Rattle.isle_command_line.specs.declared.commands.Command.{Command}
 use Rattle.isle_command_line.specs.declared.commands.Command.TheVariants as command
+use Rattle.isle_command_line.specs.declared.commands.RunLine.{RunLine}
 use Rattle.isle_command_line.specs.declared.state.State.{State}
 use Rattle.isle_command_line.specs.declared.state.State.TheVariants as state
+
+-- a run
+abbrev pub seen_run : RunLine → request.Running
+seen_run r = record { trace = r.trace; options = r.options; source = r.source; term = r.term; values = seen r.values; answers = r.answers }
 
 -- what a line asks for
 abbrev pub seen_command : Command → Request
@@ -18,7 +23,7 @@ seen_command (command.Build o u) = request.Build o u
 seen_command (command.Prelude k) = request.Prelude k
 seen_command command.Units = request.Units
 seen_command (command.Isa t) = request.Isa t
-seen_command (command.Run t o s m vs a) = request.Run t o s m (seen vs) a
+seen_command (command.Run r) = request.Run (seen_run r)
 
 -- what is known
 abbrev pub seen_state : State → Known

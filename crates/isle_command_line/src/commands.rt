@@ -24,6 +24,19 @@ pub enum Source {
     Unit(Text),
 }
 
+/// A run of a term at values.
+#[derive(Debug, Drop)]
+pub struct RunLine {
+    /// Whether all calls of the run are told.
+    pub trace: bool,
+    pub options: CodegenOptions,
+    pub source: Source,
+    pub term: Text,
+    pub values: List<Written>,
+    /// The file that says what calls answer, if there is one.
+    pub answers: Option<Text>,
+}
+
 /// What a line of words asks for.
 #[derive(Debug, Drop)]
 pub enum Command {
@@ -45,15 +58,8 @@ pub enum Command {
     Units,
     /// Write what a target has.
     Isa(Text),
-    /// Run a term at these values, with the answers of a file.
-    Run {
-        trace: bool,
-        options: CodegenOptions,
-        source: Source,
-        term: Text,
-        values: List<Written>,
-        answers: Option<Text>,
-    },
+    /// Run a term.
+    Run(RunLine),
 }
 
 /// Why words are no line.

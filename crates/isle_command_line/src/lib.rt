@@ -8,5 +8,5 @@ mod run;
 mod state;
 mod word;
 
-pub use commands::{Command, Kind, LineFail, Source};
+pub use commands::{Command, Kind, LineFail, RunLine, Source};
 pub use line::command;

@@ -7,7 +7,7 @@ ghost use Rattle.isle_command_line.specs.Reading.{read, asks, StopsAt};
 ghost use Rattle.isle_command_line.specs.Views.{seen_command, seen_state};
 ghost use Rattle.isle_command_line.specs.declared.commands.LineFail.TheVariants.{Bad, Missing, Memory};
 
-use crate::commands::{Command, LineFail};
+use crate::commands::{Command, LineFail, RunLine};
 use crate::state::{State, WordFail, next};
 use isle_core::{CodegenOptions, List, Text};
 use std::alloc::Global;
@@ -53,14 +53,14 @@ fn request(alloc: Global, state: State) -> Result<Command, LineFail>
         State::Begin => stored(alloc),
         State::Whole(command) => Ok(command),
         State::Names(options, names) => Ok(Command::Compile { options, names }),
-        State::AfterValues(trace, options, source, term, values) => Ok(Command::Run {
+        State::AfterValues(trace, options, source, term, values) => Ok(Command::Run(RunLine {
             trace,
             options,
             source,
             term,
             values,
             answers: None,
-        }),
+        })),
         State::Options(..)
         | State::Threshold(..)
         | State::Prefix(..)

@@ -8,7 +8,7 @@ ghost use Rattle.isle_command_line.specs.Words.{is_name};
 ghost use Rattle.isle_command_line.specs.Views.{seen_state};
 ghost use Rattle.isle_command_line.specs.declared.state.WordFail.TheVariants.{Bad};
 
-use crate::commands::{Command, Source};
+use crate::commands::{Command, RunLine, Source};
 use crate::options::option;
 use crate::state::{State, Verb, WordFail};
 use crate::word::{is_answers, is_name, is_trace};
@@ -36,20 +36,14 @@ fn after_unit(word: &str) -> Option<&str>
     word.strip_prefix("unit:")
 }
 
-// The source that a name is.
+// The source that a word names.
 #[tactic(auto, unfolding(crate::specs::Reading::source_of))]
-fn source(alloc: Global, word: &str) -> Result<Option<Source>, AllocError>
+fn source(alloc: Global, word: &str) -> Result<Source, AllocError>
     ensures { IfOk result (λ s. s ≡ source_of word.now) }
 {
     match after_unit(word) {
-        None => Ok(Some(Source::File(Text::copied(alloc, word)?))),
-        Some(unit) => {
-            if is_name(unit) {
-                Ok(Some(Source::Unit(Text::copied(alloc, unit)?)))
-            } else {
-                Ok(None)
-            }
-        }
+        None => Ok(Source::File(Text::copied(alloc, word)?)),
+        Some(unit) => Ok(Source::Unit(Text::copied(alloc, unit)?)),
     }
 }
 
@@ -63,10 +57,7 @@ pub fn sourced(
     ensures next { IfOk result (λ s. sourced trace options (source_of word.now) ≡ Some (seen_state s)) }
     ensures bad { result ≡ Err Bad → sourced trace options (source_of word.now) ≡ None }
 {
-    match source(alloc, word)? {
-        Some(source) => Ok(State::Term(trace, options, source)),
-        None => Err(WordFail::Bad),
-    }
+    Ok(State::Term(trace, options, source(alloc, word)?))
 }
 
 /// Returns what is known behind a term.
@@ -148,12 +139,12 @@ pub fn answers(
         return Err(WordFail::Bad);
     }
     let answers = Some(Text::copied(alloc, word)?);
-    Ok(State::Whole(Command::Run {
+    Ok(State::Whole(Command::Run(RunLine {
         trace,
         options,
         source,
         term,
         values,
         answers,
-    }))
+    })))
 }

@@ -67,6 +67,30 @@ fn push_thing(
     Ok(())
 }
 
+// Adds that a variable or a term is not there, and what may be meant: a term without its parentheses, or conditions behind which no right
+// side stands.
+fn push_unknown(words: &mut String, thing: Thing<'_>) -> Result<(), OutOfMemory> {
+    match thing {
+        Thing::Variable(name) => {
+            words.push_str(" is not bound; a term of this name is called as (")?;
+            push_name(words, name)?;
+            words.push_str(" ..)")?;
+        }
+        Thing::Term(name) if matches!(name.as_str(), "if" | "if-let") => {
+            words.push_str(UNDECLARED)?;
+            words.push_str("; a rule ends with its right side, behind its conditions")?;
+        }
+        Thing::Term(_)
+        | Thing::Parameter(_)
+        | Thing::Integer(_)
+        | Thing::Truth(_)
+        | Thing::Constant(_)
+        | Thing::Converter(_)
+        | Thing::Type(_) => words.push_str(UNDECLARED)?,
+    }
+    Ok(())
+}
+
 // Adds what is wrong with a variable or a term that is used in this place, and may lack this.
 fn push_use(
     alloc: Global,
@@ -76,9 +100,7 @@ fn push_use(
     lacks: &str,
 ) -> Result<(), OutOfMemory> {
     let Some(counts) = part.counts else {
-        let unbound = matches!(part.thing, Thing::Variable(_));
-        words.push_str(if unbound { " is not bound" } else { UNDECLARED })?;
-        return Ok(());
+        return push_unknown(words, part.thing);
     };
     let given = counts.given;
     let wanted = counts.wanted;

@@ -1,7 +1,8 @@
-ghost use Rattle.std.specs.Prelude.{◌≡◌, IfOk, map, option_map};
+ghost use Rattle.std.specs.Prelude.{◌≡◌, IfOk, length, map, option_map};
 ghost use Rattle.isle_lexer.specs.Word.{kind};
 ghost use Rattle.isle_reading.specs.Combinators.{next_word, many};
 ghost use Rattle.isle_reading.specs.Views.{left, Reads};
+ghost use Rattle.isle_reading.specs.declared.cursor.Fail.TheVariants.{At};
 ghost use Rattle.isle_ast.specs.Tree as tree;
 ghost use Rattle.isle_ast.specs.Views.{expr};
 ghost use Rattle.isle_grammar.specs.Grammar.{expr_of, expr_head};
@@ -190,6 +191,16 @@ fn let_in(
     Ok(AstExpr::Let(List::new(lets), Boxed::new(alloc, value)?))
 }
 
+// The failure where a parenthesis is wanted, and none more may be open.
+fn too_deep(tokens: &mut Tokens<'_>) -> Fail
+    ensures { result ≡ At (length (left tokens.old)) }
+{
+    match tokens.opens() {
+        Some(_) => tokens.miss(Expected::Shallower),
+        None => tokens.miss(Expected::Open),
+    }
+}
+
 // The variables of a `let`, with the parentheses round them.
 #[cycle(expressions)]
 #[tactic(auto, using(crate::proofs::ExpressionSteps::binding_steps))]
@@ -202,7 +213,7 @@ fn bindings(
     ensures { Reads (λ lets. map binding_seen lets.items) result (read_bindings most depth) (left tokens.old) (left tokens.new) }
 {
     if depth == 0 {
-        return Err(tokens.miss(Expected::Open));
+        return Err(too_deep(tokens));
     }
     tokens.open()?;
     binding_list(tokens, alloc, most, depth - 1)
@@ -244,7 +255,7 @@ fn binding(
     ensures { Reads binding_seen result (read_binding most depth) (left tokens.old) (left tokens.new) }
 {
     if depth == 0 {
-        return Err(tokens.miss(Expected::Open));
+        return Err(too_deep(tokens));
     }
     tokens.open()?;
     let var = tokens.name(alloc)?;

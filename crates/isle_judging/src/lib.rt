@@ -8,8 +8,6 @@ mod names;
 mod patterns;
 mod scoped;
 mod shapes;
-#[cfg(test)]
-mod tests;
 mod trait_fns;
 mod well_formedness;
 

@@ -1,6 +1,5 @@
 -- Where a term can be run there are lines, or memory ran out.
 use Rattle.std.proofs.Common.{◌≡◌, ℕ, List, ◌++◌, map, true, false, Some, refl, sym, ap, ◌∙◌, subst}
-use Rattle.std.specs.Prelude.{Result, Ok, Err, IfErr, IsOkUnless}
 use Rattle.isle_core.specs.declared.files.Files.{Files}
 use Rattle.isle_core.specs.declared.options.CodegenOptions.{CodegenOptions}
 use Rattle.isle_core.specs.declared.types.Term.{Term}
@@ -29,12 +28,14 @@ use Rattle.isle_simulation.specs.TypeTexts.{parameter, type_text}
 use Rattle.isle_run_inputs.specs.AnswersAt.{answers_at, constants_at, cases_at, turns_at}
 use Rattle.isle_codegen.specs.Checked.{IsChecked}
 use Rattle.isle_codegen.proofs.Accepted.{accepted_none, accepted_named, checked_accepted}
-use Rattle.isle_run.specs.declared.refusal.Refusal.{Refusal}
-use Rattle.isle_run.specs.declared.refusal.Refusal.TheVariants as refused
+use Rattle.isle_run.specs.declared.run_fail.RunFail.{RunFail}
+use Rattle.isle_run.specs.declared.trials.TrialFail.{TrialFail}
+use Rattle.isle_run.specs.declared.trials.TrialFail.TheVariants as fail
+use Rattle.isle_codegen.specs.declared.compile_error.CompileError.TheVariants as compiling
 use Rattle.isle_run.specs.Conforming.{Conforms}
 use Rattle.isle_run.specs.LeftOut.{leave_out}
 use Rattle.isle_run.specs.NoLines as no_lines
-use Rattle.isle_run.specs.NoLines.{IsRunRefused, IsSourceRefused, HasNoLines}
+use Rattle.isle_run.specs.NoLines.{IsRunRefused, IsSourceRefused, HasNoLines, IsWant}
 use Rattle.isle_run.specs.Trial.{args_given}
 use Rattle.isle_run.specs.Valid.{AreWanted, CanRun}
 use Rattle.isle_run.proofs.LawfulNames.{HasLawfulNames}
@@ -47,7 +48,7 @@ use Rattle.isle_run.proofs.RightEntries.{names_of, as_entries, all_front, all_ba
 
 -- files that are checked have one environment
 same_env : (files : Files) (a b : Environment) → IsChecked files a → IsChecked files b → b ≡ a
-same_env files a b c d = c.typed.only b (subst (λ (ds : List Def). Typed ds b) (c.once d.defs d.source) d.typed.typed)
+same_env files a b c d = c.lawful.typed.only b (subst (λ (ds : List Def). Typed ds b) (c.once d.defs d.source) d.lawful.typed.typed)
 
 -- ---- the answers
 
@@ -111,7 +112,7 @@ module _ (options : CodegenOptions) (files : Files) (term : List ℕ) (ws : Writ
   }
 
   -- such a run isn't refused
-  pub run_not_refused : (e : Refusal) → IsRunRefused (record { program = p; env = c.env; term = term; args = args }) text e → ⊥
+  pub run_not_refused : (e : RunFail) → IsRunRefused (record { program = p; env = c.env; term = term; args = args }) text e → ⊥
   run_not_refused _ (no_lines.no_term m h) = not_refused p term args answers the_function.function _ may (no_term_of p term args m answers h)
   run_not_refused _ (no_lines.arg_count m h) = not_refused p term args answers the_function.function _ may (count_of p term args m answers h)
   run_not_refused _ (no_lines.arg_type m i h) = not_refused p term args answers the_function.function _ may (type_of p term args m answers i h)
@@ -123,20 +124,16 @@ module _ (options : CodegenOptions) (files : Files) (term : List ℕ) (ws : Writ
       let same : true ≡ false = sym left ∙ wanted.kept in
       absurd cc
 
-source_not_refused : (options : CodegenOptions) (files : Files) (term : List ℕ) (ws : Writtens) (text : List ℕ) (e : Refusal) (c : CanRun files term ws text) → IsSourceRefused options files term ws text e → ⊥
+source_not_refused : (options : CodegenOptions) (files : Files) (term : List ℕ) (ws : Writtens) (text : List ℕ) (e : RunFail) (c : CanRun files term ws text) → IsSourceRefused options files term ws text e → ⊥
 source_not_refused options files term ws text e c s =
     let same : s.env ≡ c.env = same_env files c.env s.env c.checked s.checked in
     run_not_refused options files term ws text c s.program (subst (λ env. Conforms options files env s.program) same s.conforms) e
     (subst (λ env. IsRunRefused (record { program = s.program; env = env; term = term; args = args_given env term ws }) text e) same s.refused)
 
 -- where it can be run, only memory is wanting
-pub only_memory : (options : CodegenOptions) (files : Files) (term : List ℕ) (ws : Writtens) (text : List ℕ) (e : Refusal) → CanRun files term ws text → HasNoLines options files term ws text e → e ≡ refused.Memory
-only_memory options files term ws text _ c (no_lines.faulty errors h) = absurd (accepted_none files.file_names files.file_texts errors (checked_accepted files c.env c.checked) h)
-only_memory options files term ws text _ c (no_lines.badly_named e h) = absurd (accepted_named files.file_names files.file_texts e (checked_accepted files c.env c.checked) c.checked.names h)
-only_memory options files term ws text _ c (no_lines.refused e s) = absurd (source_not_refused options files term ws text e c s)
-only_memory options files term ws text _ c no_lines.memory = refl
-
--- so there are lines, unless memory is wanting
-pub ok_unless : {T : Type 0} (options : CodegenOptions) (files : Files) (term : List ℕ) (ws : Writtens) (text : List ℕ) (r : Result T Refusal) → IfErr r (λ e. HasNoLines options files term ws text e) → CanRun files term ws text → IsOkUnless r refused.Memory
-ok_unless options files term ws text (Ok x) h can = tt
-ok_unless options files term ws text (Err e) h can = only_memory options files term ws text e can h
+pub only_memory : (options : CodegenOptions) (files : Files) (term : List ℕ) (ws : Writtens) (text : List ℕ) (e : TrialFail) → CanRun files term ws text → HasNoLines options files term ws text e → IsWant e
+only_memory options files term ws text (fail.Source (compiling.Errors errors)) c h = absurd (accepted_none files errors (checked_accepted files c.env c.checked) h)
+only_memory options files term ws text (fail.Source (compiling.Name e)) c h = absurd (accepted_named files.file_names files.file_texts e (checked_accepted files c.env c.checked) h)
+only_memory options files term ws text (fail.Source compiling.Memory) c h = tt
+only_memory options files term ws text (fail.Run _) c (no_lines.refused e s) = absurd (source_not_refused options files term ws text e c s)
+only_memory options files term ws text (fail.Run _) c no_lines.memory = refl

@@ -16,4 +16,3 @@ pub mod NamelessLines
 pub mod ServedCallees
 pub mod RightEntries
 pub mod Complete
-pub mod OfRun

@@ -15,6 +15,7 @@ use Rattle.isle_types.specs.TypeEnvironment.{type_def_in}
 use Rattle.isle_sema.specs.Typing.{Typed}
 use Rattle.isle_sema.proofs.TypedParts.{given_in}
 use Rattle.isle_codegen.specs.Checked.{IsChecked}
+use Rattle.isle_codegen.proofs.LawfulNames.{compilable}
 use Rattle.isle_run.proofs.LawfulNames.{HasLawfulNames}
 use Rattle.isle_run.proofs.NamedTypes.{HasBuiltins}
 
@@ -44,6 +45,6 @@ typed_builtins defs env typed of = subst (λ (types : TypeEnv). IsAmong types.ty
 pub lawful_names : (files : Files) (env : Environment) → IsChecked files env → HasLawfulNames env
 lawful_names files env c = record {
   has_rules = _;
-  lawful = c.given.compilable.lawful;
-  builtins = typed_builtins c.defs env c.typed.typed;
+  lawful = (compilable c.lawful).lawful;
+  builtins = typed_builtins c.defs env c.lawful.typed.typed;
 }

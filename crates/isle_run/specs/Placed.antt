@@ -4,13 +4,13 @@ use Rattle.isle_answers.specs.Form.{Form}
 use Rattle.isle_run_inputs.specs.Places.{place_at}
 use Rattle.isle_interpreter.specs.declared.run_error.RunError.{RunError}
 use Rattle.isle_interpreter.specs.declared.run_error.RunError.TheVariants as error
-use Rattle.isle_run.specs.declared.refusal.Refusal.{Refusal}
-use Rattle.isle_run.specs.declared.refusal.Refusal.TheVariants as refusal
+use Rattle.isle_run.specs.declared.run_fail.RunFail.{RunFail}
+use Rattle.isle_run.specs.declared.run_fail.RunFail.TheVariants as fail
 
 -- the number of an entry becomes the place of its form
-abbrev pub placed : RunError → (end : ℕ) → List Form → Refusal
-placed error.NoTerm end forms = refusal.NoTerm
-placed error.ArgCount end forms = refusal.ArgCount
-placed (error.ArgType i) end forms = refusal.ArgType i
-placed (error.BadAnswers i) end forms = refusal.BadAnswers (place_at end forms i)
-placed error.Memory end forms = refusal.Memory
+abbrev pub placed : RunError → (end : ℕ) → List Form → RunFail
+placed error.NoTerm end forms = fail.NoTerm
+placed error.ArgCount end forms = fail.ArgCount
+placed (error.ArgType i) end forms = fail.ArgType i
+placed (error.BadAnswers i) end forms = fail.BadAnswers (place_at end forms i)
+placed error.Memory end forms = fail.Memory

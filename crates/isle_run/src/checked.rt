@@ -7,10 +7,10 @@ ghost use Rattle.isle_values.specs.Views.{seen};
 ghost use Rattle.isle_codegen.specs.Checked.{IsChecked};
 ghost use Rattle.isle_run.specs.Compiled.{env_checked};
 ghost use Rattle.isle_run.specs.Trial.{IsTrial};
-ghost use Rattle.isle_run.specs.NoLines.{HasNoLines};
+ghost use Rattle.isle_run.specs.NoLines.{IsNotRun};
 
 use crate::program::of_program;
-use crate::refusal::Refusal;
+use crate::run_fail::RunFail;
 use isle_codegen::{Checked, codegen_tree};
 use isle_core::{CodegenOptions, Files};
 use isle_values::Written;
@@ -25,11 +25,11 @@ pub fn of_checked(
     term: &str,
     given: &[Written],
     answers: &str,
-) -> Result<String, Refusal>
+) -> Result<String, RunFail>
     requires checked { IsChecked files.now (env_checked checked.now) }
-    requires terms { AreRuleSets (env_checked checked.now) checked.now.terms.items }
+    requires terms { AreRuleSets (env_checked checked.now) checked.now.terms }
     ensures ok { IfOk result (λ lines. IsTrial options.now files.now term.now (seen given.now) answers.now (string_bytes lines)) }
-    ensures err { IfErr result (λ e. HasNoLines options.now files.now term.now (seen given.now) answers.now e) }
+    ensures err { IfErr result (λ e. IsNotRun options.now files.now term.now (seen given.now) answers.now e) }
 {
     let terms = checked.terms.as_slice();
     let program = match codegen_tree(
@@ -41,7 +41,7 @@ pub fn of_checked(
         options,
     ) {
         Ok(program) => program,
-        Err(_) => return Err(Refusal::Memory),
+        Err(_) => return Err(RunFail::Memory),
     };
     of_program(alloc, checked, &program, term, given, answers)
 }

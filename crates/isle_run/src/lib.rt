@@ -5,9 +5,9 @@ mod checked;
 mod left_out;
 mod outcome;
 mod program;
-mod refusal;
+mod run_fail;
 mod shown;
 mod trials;
 
-pub use refusal::Refusal;
-pub use trials::trial;
+pub use run_fail::RunFail;
+pub use trials::{TrialFail, trial};

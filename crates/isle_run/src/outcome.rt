@@ -10,10 +10,10 @@ ghost use Rattle.isle_run.specs.Compiled.{program_of, attempt};
 ghost use Rattle.isle_run.specs.Ran.{IsUnder, IsOutcome};
 ghost use Rattle.isle_run.specs.NoLines.{IsRunRefused};
 ghost use Rattle.isle_run.specs.Placed.{placed};
-ghost use Rattle.isle_run.specs.declared.refusal.Refusal.TheVariants.{Memory};
+ghost use Rattle.isle_run.specs.declared.run_fail.RunFail.TheVariants.{Memory};
 
 use crate::left_out::leaves_out;
-use crate::refusal::Refusal;
+use crate::run_fail::RunFail;
 use isle_answers::{AnswersFail, Form, forms};
 use isle_core::{Outcome, TermEnv, TypeEnv, Value};
 use isle_interpreter::{RunError, run_term, takes};
@@ -30,15 +30,15 @@ pub struct Compiled<'a> {
 }
 
 // Why a run is refused, the number of an entry being the place of its form.
-fn placed(e: RunError, end: usize, forms: &[Form]) -> Refusal
+fn placed(e: RunError, end: usize, forms: &[Form]) -> RunFail
     ensures { result ≡ placed e end (forms_seen forms.now) }
 {
     match e {
-        RunError::NoTerm => Refusal::NoTerm,
-        RunError::ArgCount => Refusal::ArgCount,
-        RunError::ArgType(index) => Refusal::ArgType(index),
-        RunError::BadAnswers(number) => { Refusal::BadAnswers(place_at(end, forms, number)) }
-        RunError::Memory => Refusal::Memory,
+        RunError::NoTerm => RunFail::NoTerm,
+        RunError::ArgCount => RunFail::ArgCount,
+        RunError::ArgType(index) => RunFail::ArgType(index),
+        RunError::BadAnswers(number) => { RunFail::BadAnswers(place_at(end, forms, number)) }
+        RunError::Memory => RunFail::Memory,
     }
 }
 
@@ -48,8 +48,8 @@ fn refused(
     compiled: &Compiled<'_>,
     term: &str,
     args: &[Value],
-    other: Refusal,
-) -> Refusal
+    other: RunFail,
+) -> RunFail
     ensures { (text : List ℕ) → (Takes (program_of compiled.now) term.now (values args.now) → IsRunRefused (attempt compiled.now term.now args.now) text other)
         → (result ≡ Memory) ⊎ IsRunRefused (attempt compiled.now term.now args.now) text result }
 {
@@ -67,7 +67,7 @@ fn under_forms(
     args: &[Value],
     forms: &[Form],
     end: usize,
-) -> Result<Outcome, Refusal>
+) -> Result<Outcome, RunFail>
     requires well_formed { IsWellFormed (program_of compiled.now) }
     ensures ok { IfOk result (λ o. IsUnder (attempt compiled.now term.now args.now) (forms_seen forms.now) (ran o)) }
     ensures err { IfErr result (λ e. (text : List ℕ) → SpellsForms text (forms_seen forms.now) → end ≡ length text
@@ -79,7 +79,7 @@ fn under_forms(
         Err(e) => return Err(placed(e, end, forms)),
     };
     if leaves_out(alloc, compiled, term, &answers)? {
-        return Err(Refusal::BadAnswers(end));
+        return Err(RunFail::BadAnswers(end));
     }
     Ok(outcome)
 }
@@ -91,7 +91,7 @@ pub fn outcome_under(
     term: &str,
     args: &[Value],
     text: &str,
-) -> Result<Outcome, Refusal>
+) -> Result<Outcome, RunFail>
     requires well_formed { IsWellFormed (program_of compiled.now) }
     ensures ok { IfOk result (λ o. IsOutcome (attempt compiled.now term.now args.now) text.now (ran o)) }
     ensures err { IfErr result (λ e. (e ≡ Memory) ⊎ IsRunRefused (attempt compiled.now term.now args.now) text.now e) }
@@ -99,9 +99,9 @@ pub fn outcome_under(
     match forms(alloc, text) {
         Ok(forms) => under_forms(alloc, compiled, term, args, forms.as_slice(), text.len()),
         Err(AnswersFail::At(at)) => {
-            let other = Refusal::BadAnswers(at);
+            let other = RunFail::BadAnswers(at);
             Err(refused(alloc, compiled, term, args, other))
         }
-        Err(AnswersFail::Memory) => Err(Refusal::Memory),
+        Err(AnswersFail::Memory) => Err(RunFail::Memory),
     }
 }

@@ -9,10 +9,10 @@ ghost use Rattle.isle_tree.specs.Views.{program};
 ghost use Rattle.isle_tree.specs.WellFormed.{IsWellFormed};
 ghost use Rattle.isle_run.specs.Compiled.{env_checked, OfSource};
 ghost use Rattle.isle_run.specs.Trial.{IsTrial, args_given};
-ghost use Rattle.isle_run.specs.NoLines.{HasNoLines};
+ghost use Rattle.isle_run.specs.NoLines.{IsNotRun};
 
 use crate::outcome::{Compiled, outcome_under};
-use crate::refusal::Refusal;
+use crate::run_fail::RunFail;
 use crate::shown::lines_of;
 use isle_codegen::Checked;
 use isle_core::{OutOfMemory, Value};
@@ -28,7 +28,7 @@ fn args_given(
     term: &str,
     given: &[Written],
 ) -> Result<Vec<Value>, OutOfMemory>
-    requires { AreRuleSets (env_checked checked.now) checked.now.terms.items }
+    requires { AreRuleSets (env_checked checked.now) checked.now.terms }
     ensures { IfOk result (λ args. values args.items ≡ args_given (env_checked checked.now) term.now (seen given.now)) }
 {
     let typeenv = &checked.typeenv;
@@ -50,17 +50,17 @@ pub fn of_program(
     term: &str,
     given: &[Written],
     answers: &str,
-) -> Result<String, Refusal>
-    requires terms { AreRuleSets (env_checked checked.now) checked.now.terms.items }
+) -> Result<String, RunFail>
+    requires terms { AreRuleSets (env_checked checked.now) checked.now.terms }
     requires well_formed { IsWellFormed (program tree.now) }
     ensures ok { IfOk result (λ lines. OfSource (env_checked checked.now) (program tree.now)
         (λ options files. IsTrial options files term.now (seen given.now) answers.now (string_bytes lines))) }
     ensures err { IfErr result (λ e. OfSource (env_checked checked.now) (program tree.now)
-        (λ options files. HasNoLines options files term.now (seen given.now) answers.now e)) }
+        (λ options files. IsNotRun options files term.now (seen given.now) answers.now e)) }
 {
     let args = match args_given(alloc, checked, term, given) {
         Ok(args) => args,
-        Err(_) => return Err(Refusal::Memory),
+        Err(_) => return Err(RunFail::Memory),
     };
     let compiled = Compiled {
         typeenv: &checked.typeenv,
@@ -73,6 +73,6 @@ pub fn of_program(
     };
     match lines_of(alloc, &checked.typeenv, &checked.termenv, &outcome) {
         Ok(lines) => Ok(lines),
-        Err(_) => Err(Refusal::Memory),
+        Err(_) => Err(RunFail::Memory),
     }
 }

@@ -5,8 +5,6 @@
 mod iterators;
 mod list_iter;
 mod lists;
-#[cfg(test)]
-mod tests;
 mod wrapper;
 
 pub use iterators::{ContextIter, IntoContextIter};

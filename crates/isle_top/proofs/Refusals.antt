@@ -2,15 +2,19 @@
 use Rattle.std.proofs.Common.{◌≡◌, ℕ, zero, suc, ◌+◌, ◌<◌, length, List, [], ◌∷◌, drop, Option, Some, Result, Ok, Err, refl, sym, subst, inl, inr, arith}
 use Rattle.std.specs.Prelude.{IsSomeAnd, slice_get, OnOk, OnErr}
 use Rattle.std.proofs.lemmas.List.{take-append-drop}
-use Rattle.isle_outside.specs.Directory.{Contents, Counts, Rose}
+use Rattle.isle_outside.specs.Directory.{Rose}
 use Rattle.isle_outside.specs.Sinks.{Took, TookPart}
+use Rattle.isle_codegen.specs.declared.file_error.FileError.TheVariants as file
 use Rattle.isle_command_line.specs.Request.{Request}
 use Rattle.isle_command_line.specs.Lines.{LineS, IsBad}
-use Rattle.isle_run.specs.declared.refusal.Refusal.{Refusal}
-use Rattle.isle_run.specs.declared.refusal.Refusal.TheVariants as refusal
-use Rattle.isle_top.specs.Causes.{HasCause}
-use Rattle.isle_top.specs.Lines.{Wrote, bad_word_line}
-use Rattle.isle_top.specs.Statuses.{IsOfLine, IsNoLine, Tells, Says, IsTold, Ends}
+use Rattle.isle_run.specs.declared.run_fail.RunFail.{RunFail}
+use Rattle.isle_run.specs.declared.run_fail.RunFail.TheVariants as run
+use Rattle.isle_top.specs.declared.refusal.Refusal.{Refusal}
+use Rattle.isle_top.specs.declared.refusal.Refusal.TheVariants as refusal
+use Rattle.isle_top.specs.Job.{Around, Job}
+use Rattle.isle_top.specs.Jobs.{job_of}
+use Rattle.isle_top.specs.Lines.{Wrote, bad_word_line, memory_line}
+use Rattle.isle_top.specs.Statuses.{IsNoLine, Tells, TellsRun, TellsRefusal, Says, Ends}
 use Rattle.isle_top.specs.Statuses as statuses
 
 -- a line was written, or a front of it
@@ -24,49 +28,28 @@ at_number [] i P lt f = absurd (omega (arith, lt))
 at_number (name ∷ names) zero P lt f = f name refl
 at_number (name ∷ names) (suc i) P lt f = at_number names i P (omega (arith, lt)) f
 
--- an input that is told is one of the line, and errors stand in the files
-pub of_line : (request : Request) (e : Refusal) (files : Option Contents) (before after : Counts) → HasCause e request files before after → IsOfLine request e
-of_line request refusal.NotYet files before after h = tt
-of_line request (refusal.Unread index why) files before after h = h.1.0
-of_line request (refusal.Errors errors) files before after h = h.0
-of_line request (refusal.Name e) files before after h = tt
-of_line request refusal.NoTerm files before after h = tt
-of_line request refusal.ArgCount files before after h = tt
-of_line request (refusal.ArgType i) files before after h = tt
-of_line request (refusal.BadAnswers at) files before after h = tt
-of_line request refusal.Memory files before after h = tt
+module _ {asks : Request → Type 0} {none : Type 0} {around : Around} {quiet : Type 0} {wrote : List ℕ → Type 0} (request : Request) (status : ℕ) (asked : asks request) where
+  -- memory ran out
+  says_want : Tells wrote status 12 memory_line → Says asks none around quiet wrote status
+  says_want h = subst (Says asks none around quiet wrote) (sym h.0) (statuses.no_memory h.1)
 
--- what is said of a refusal
-pub says_refusal : {asks : Request → Type 0} {none : Type 0} {files : Option Contents} {before after : Counts} {quiet : Type 0} {wrote : List ℕ → Type 0} (request : Request) (e : Refusal)
-    → asks request → HasCause e request files before after → Tells request wrote e → Says asks none files before after quiet wrote (statuses.status_of e)
-says_refusal request refusal.NotYet a cause line = statuses.refused request refusal.NotYet (λ same. absurd cc) a cause line
-says_refusal request (refusal.Unread index why) a cause line = statuses.refused request (refusal.Unread index why) (λ same. absurd cc) a cause line
-says_refusal request (refusal.Errors errors) a cause line = statuses.refused request (refusal.Errors errors) (λ same. absurd cc) a cause line
-says_refusal request (refusal.Name e) a cause line = statuses.refused request (refusal.Name e) (λ same. absurd cc) a cause line
-says_refusal request refusal.NoTerm a cause line = statuses.refused request refusal.NoTerm (λ same. absurd cc) a cause line
-says_refusal request refusal.ArgCount a cause line = statuses.refused request refusal.ArgCount (λ same. absurd cc) a cause line
-says_refusal request (refusal.ArgType i) a cause line = statuses.refused request (refusal.ArgType i) (λ same. absurd cc) a cause line
-says_refusal request (refusal.BadAnswers at) a cause line = statuses.refused request (refusal.BadAnswers at) (λ same. absurd cc) a cause line
-says_refusal request refusal.Memory a cause line = statuses.no_memory line
+  -- what is said of a term that is not run
+  says_run : (e : RunFail) → (job_of request).fails (refusal.Run e) around → TellsRun (job_of request) wrote status e → Says asks none around quiet wrote status
+  says_run run.NoTerm cause told = statuses.refused request (refusal.Run run.NoTerm) status (λ same. absurd cc) asked cause told
+  says_run run.ArgCount cause told = statuses.refused request (refusal.Run run.ArgCount) status (λ same. absurd cc) asked cause told
+  says_run (run.ArgType i) cause told = statuses.refused request (refusal.Run (run.ArgType i)) status (λ same. absurd cc) asked cause told
+  says_run (run.BadAnswers at) cause told = statuses.refused request (refusal.Run (run.BadAnswers at)) status (λ same. absurd cc) asked cause told
+  says_run run.Memory cause told = says_want told
 
--- what is said of a refusal that was told
-says_told : {asks : Request → Type 0} {none : Type 0} {files : Option Contents} {before after : Counts} {quiet : Type 0} {wrote : List ℕ → Type 0} (request : Request) (e : Refusal) (status : ℕ)
-    → asks request → HasCause e request files before after → IsTold request wrote e status → Says asks none files before after quiet wrote status
-says_told {asks} {none} {files} {before} {after} {quiet} {wrote} request e status a cause h = subst (Says asks none files before after quiet wrote) (sym h.0) (says_refusal request e a cause h.1)
-
--- so of one that ended
-pub says_end : {asks : Request → Type 0} {none : Type 0} {files : Option Contents} {before after : Counts} {quiet : Type 0} {wrote : List ℕ → Type 0} (request : Request) (e : Refusal) (status : ℕ)
-    → asks request → HasCause e request files before after → Ends request wrote e status → Says asks none files before after quiet wrote status
-says_end request refusal.NotYet status a cause h = says_told request refusal.NotYet status a cause h
-says_end request (refusal.Unread index why) status a cause h = says_told request (refusal.Unread index why) status a cause h
-says_end request (refusal.Errors errors) status a cause (inl h) = says_told request (refusal.Errors errors) status a cause h
-says_end {asks} {none} {files} {before} {after} {quiet} {wrote} request (refusal.Errors errors) status a cause (inr h) = subst (Says asks none files before after quiet wrote) (sym h.0) (statuses.no_memory h.1)
-says_end request (refusal.Name e) status a cause h = says_told request (refusal.Name e) status a cause h
-says_end request refusal.NoTerm status a cause h = says_told request refusal.NoTerm status a cause h
-says_end request refusal.ArgCount status a cause h = says_told request refusal.ArgCount status a cause h
-says_end request (refusal.ArgType i) status a cause h = says_told request (refusal.ArgType i) status a cause h
-says_end request (refusal.BadAnswers at) status a cause h = says_told request (refusal.BadAnswers at) status a cause h
-says_end request refusal.Memory status a cause h = says_told request refusal.Memory status a cause h
+  -- what is said of a line that is not answered
+  pub says_end : (e : Refusal) → (job_of request).fails e around → Ends (job_of request) wrote status e → Says asks none around quiet wrote status
+  says_end refusal.NotYet cause told = statuses.refused request refusal.NotYet status (λ want. want) asked cause told
+  says_end (refusal.Files (file.Io index why)) cause told = statuses.refused request (refusal.Files (file.Io index why)) status (λ want. want) asked cause told
+  says_end (refusal.Files (file.Errors e)) cause (inl told) = statuses.refused request (refusal.Files (file.Errors e)) status (λ want. want) asked cause told
+  says_end (refusal.Files (file.Errors e)) cause (inr told) = says_want told
+  says_end (refusal.Files (file.Name e)) cause told = statuses.refused request (refusal.Files (file.Name e)) status (λ want. want) asked cause told
+  says_end (refusal.Files file.Memory) cause told = says_want told
+  says_end (refusal.Run e) cause told = says_run e cause told
 
 -- a word with which no line goes on
 pub bad_word : (words : List (List ℕ)) (i : ℕ) (wrote : List ℕ → Type 0) → IsBad words i → ((word : List ℕ) → slice_get words i ≡ Some word → wrote (bad_word_line word)) → IsNoLine words wrote
@@ -77,10 +60,10 @@ pub no_bad_word : (words : List (List ℕ)) (i : ℕ) (request : Request) → Is
 no_bad_word words i request h line = h.bad (drop (i + 1) words, request, rw take-append-drop line)
 
 -- what is said of a line is said of the words that ask for it
-pub says_of : {asks others : Request → Type 0} {none fail : Type 0} {files : Option Contents} {before after : Counts} {quiet : Type 0} {wrote : List ℕ → Type 0} {status : ℕ} → ((request : Request) → asks request → others request) → (none → fail)
-    → Says asks none files before after quiet wrote status → Says others fail files before after quiet wrote status
+pub says_of : {asks others : Request → Type 0} {none fail : Type 0} {around : Around} {quiet : Type 0} {wrote : List ℕ → Type 0} {status : ℕ} → ((request : Request) → asks request → others request) → (none → fail)
+    → Says asks none around quiet wrote status → Says others fail around quiet wrote status
 says_of f g (statuses.done h) = statuses.done h
 says_of f g (statuses.no_line h) = statuses.no_line (g h)
-says_of f g (statuses.refused request e other a cause line) = statuses.refused request e other (f request a) cause line
+says_of f g (statuses.refused request e status other a cause told) = statuses.refused request e status other (f request a) cause told
 says_of f g (statuses.write_fault h) = statuses.write_fault h
 says_of f g (statuses.no_memory h) = statuses.no_memory h

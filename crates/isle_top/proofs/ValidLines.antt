@@ -1,28 +1,40 @@
--- A valid line has no refusal but want of memory, where no call of the directory fails.
-use Rattle.std.proofs.Common.{◌≡◌, ℕ, ◌<◌, ◌≤◌, zero, suc, List, [], ◌∷◌, length, Option, Some, None, Result, Ok, Err, refl, sym, ◌∙◌, subst, arith}
-use Rattle.std.specs.Prelude.{◌^◌, IsSomeAnd, IfErr, IsOkUnless, IsUtf8, slice_get}
+-- A valid line has no refusal but want of memory, where no call of the directory fails; what a refusal tells is there.
+use Rattle.std.proofs.Common.{◌≡◌, ℕ, ◌<◌, ◌≤◌, zero, suc, List, [], ◌∷◌, length, Bool, true, false, Option, Some, None, Result, Ok, Err, refl, sym, ap, ◌∙◌, subst, arith}
+use Rattle.std.specs.Prelude.{◌^◌, IsSomeAnd, IfErr, IsUtf8, slice_get}
 use Rattle.isle_outside.specs.Directory.{Contents, bytes_of, Rose, Counts}
 use Rattle.isle_outside.specs.Reading.{IsText, IsCause, RoseAt}
 use Rattle.isle_outside.specs.declared.errors.IoCause.{IoCause}
 use Rattle.isle_outside.specs.declared.errors.IoCause.TheVariants as cause
 use Rattle.isle_core.specs.Inputs.{AreRead, Fails}
-use Rattle.isle_core.specs.declared.read_error.ReadError.TheVariants as read
-use Rattle.isle_core.specs.declared.errors.Errors.{Errors}
-use Rattle.isle_values.specs.Written.{Writtens}
-use Rattle.isle_codegen.specs.Causes as compiling
-use Rattle.isle_codegen.specs.Causes.{printed}
-use Rattle.isle_codegen.specs.Source.{AreAccepted}
-use Rattle.isle_codegen.proofs.Accepted.{accepted_none, accepted_named}
-use Rattle.isle_names.specs.declared.name_error.NameError.{NameError}
-use Rattle.isle_command_line.specs.Request.{Request, Help, Version, Compile, Build, Prelude, Units, Isa, Run}
 use Rattle.isle_core.specs.declared.options.CodegenOptions.{CodegenOptions}
+use Rattle.isle_core.specs.declared.errors.Errors.{Errors}
+use Rattle.isle_core.specs.declared.files.Files.{Files}
+use Rattle.isle_core.specs.declared.read_error.ReadError.TheVariants as read
+use Rattle.isle_codegen.specs.Causes.{AreSource, printed, HasCause}
+use Rattle.isle_codegen.specs.LawfulEnvironment.{AreAccepted}
+use Rattle.isle_codegen.specs.Errors.{IsErrors, HavePlaces}
+use Rattle.isle_codegen.specs.declared.compile_error.CompileError.TheVariants as compiling
+use Rattle.isle_codegen.specs.declared.file_error.FileError.{FileError}
+use Rattle.isle_codegen.specs.declared.file_error.FileError.TheVariants as file
+use Rattle.isle_codegen.proofs.Accepted.{accepted_none, accepted_named, some_errors}
+use Rattle.isle_names.specs.declared.name_error.NameError.{NameError}
+use Rattle.isle_command_line.specs.Request.{Request, Running, Help, Version, Compile, Build, Prelude, Units, Isa, Run}
+use Rattle.isle_command_line.specs.declared.commands.Source.{Source}
+use Rattle.isle_command_line.specs.declared.commands.Source.TheVariants as source
+use Rattle.isle_run.specs.NoLines.{HasNoLines}
+use Rattle.isle_run.specs.NoLines as trials
 use Rattle.isle_run.specs.Valid.{CanRun}
-use Rattle.isle_run.specs.declared.refusal.Refusal.{Refusal}
-use Rattle.isle_run.specs.declared.refusal.Refusal.TheVariants as refusal
+use Rattle.isle_run.specs.declared.trials.TrialFail.{TrialFail}
+use Rattle.isle_run.specs.declared.trials.TrialFail.TheVariants as fail
 use Rattle.isle_run.proofs.Complete.{only_memory}
-use Rattle.isle_top.specs.Requests.{IsBuilt, inputs_of, answers_names, source_name}
-use Rattle.isle_top.specs.Causes.{GivesNoLines, HasErrors, HasBadName, IsNotRun, HasCause}
-use Rattle.isle_top.specs.Valid.{AreValid, IsValidRun, IsValidLine, IsAnswersText, one_file}
+use Rattle.isle_top.specs.declared.refusal.Refusal.{Refusal}
+use Rattle.isle_top.specs.declared.refusal.Refusal.TheVariants as refusal
+use Rattle.isle_top.specs.Job.{Around, Job}
+use Rattle.isle_top.specs.Jobs.{job_of, running_job}
+use Rattle.isle_top.specs.CompileLine.{AreValid, FailsToCompile, compile_job}
+use Rattle.isle_top.specs.RunLine.{answers_names, run_inputs, AreInputs, IsAnswersText, IsValidRun, FailsToRun, of_trial, unread, no_lines, memory, run_job}
+use Rattle.isle_top.specs.Statuses.{IsOfJob}
+use Rattle.isle_top.specs.Wants.{IsWant}
 
 -- ---- inputs
 
@@ -30,7 +42,7 @@ use Rattle.isle_top.specs.Valid.{AreValid, IsValidRun, IsValidLine, IsAnswersTex
 one_text : (o : Option (List ℕ)) (a b : List ℕ) → IsText a o → IsText b o → a ≡ b
 one_text o a b s t = let same : Some a ≡ Some b = sym s.0 ∙ t.0 in cc
 
-one_answers : (fs : Contents) (answers : Option (List ℕ)) (a b : List ℕ) → IsAnswersText fs answers a → IsAnswersText fs answers b → a ≡ b
+one_answers : (fs : Contents) (answers : Option (List ℕ)) (a b : List ℕ) → IsAnswersText (Some fs) answers a → IsAnswersText (Some fs) answers b → a ≡ b
 one_answers fs None a b s t = s ∙ sym t
 one_answers fs (Some name) a b s t = one_text (bytes_of fs name) a b s t
 
@@ -51,38 +63,26 @@ named_there fs (n ∷ names) [] i name r e = absurd r
 named_there fs (n ∷ names) (t ∷ texts) zero name r e = let same : n ≡ name = cc in subst (HasText fs) same (t, r.0)
 named_there fs (n ∷ names) (t ∷ texts) (suc i) name r e = named_there fs names texts i name r.1 e
 
-answers_there : (fs : Contents) (answers : Option (List ℕ)) (text : List ℕ) (i : ℕ) (name : List ℕ) → IsAnswersText fs answers text → slice_get (answers_names answers) i ≡ Some name → HasText fs name
+answers_there : (fs : Contents) (answers : Option (List ℕ)) (text : List ℕ) (i : ℕ) (name : List ℕ) → IsAnswersText (Some fs) answers text → slice_get (answers_names answers) i ≡ Some name → HasText fs name
 answers_there fs None text i name v e = absurd (let bad : None ≡ Some name = e in cc)
 answers_there fs (Some file) text zero name v e = let same : file ≡ name = cc in subst (HasText fs) same (text, v)
 answers_there fs (Some file) text (suc i) name v e = absurd (let bad : None ≡ Some name = e in cc)
 
-run_there : (options : CodegenOptions) (fs : Contents) (source : List ℕ) (term : List ℕ) (vs : Writtens) (answers : Option (List ℕ)) (i : ℕ) (name : List ℕ) → IsValidRun options fs source term vs answers → slice_get (source ∷ answers_names answers) i ≡ Some name → HasText fs name
-run_there options fs source term vs answers zero name v e = let same : source ≡ name = cc in subst (HasText fs) same (v.source, v.found)
-run_there options fs source term vs answers (suc i) name v e = answers_there fs answers v.given i name v.answered e
-
-no_input : {A : Type 0} (i : ℕ) (name : List ℕ) → slice_get [] i ≡ Some name → A
-no_input i name e = absurd (let bad : None ≡ Some name = e in cc)
-
-inputs_there : (request : Request) (fs : Contents) (i : ℕ) (name : List ℕ) → IsValidLine request fs → slice_get (inputs_of request) i ≡ Some name → HasText fs name
-inputs_there Help fs i name v e = no_input i name e
-inputs_there Version fs i name v e = no_input i name e
-inputs_there (Compile options names) fs i name v e = named_there fs names v.texts i name v.found e
-inputs_there (Build options unit) fs i name v e = absurd v
-inputs_there (Prelude kind) fs i name v e = absurd v
-inputs_there Units fs i name v e = absurd v
-inputs_there (Isa target) fs i name v e = absurd v
-inputs_there (Run trace options from term vs answers) fs i name v e = run_there options fs (source_name from) term vs answers i name v.1 e
+run_there : (from : List ℕ) (r : Running) (fs : Contents) (i : ℕ) (name : List ℕ) → IsValidRun from r fs → slice_get (run_inputs from r) i ≡ Some name → HasText fs name
+run_there from r fs zero name v e = named_there fs (from ∷ []) v.source.file_texts zero name v.inputs.read.read e
+run_there from r fs (suc i) name v e = answers_there fs r.answers v.given i name v.inputs.answered e
 
 -- so none fails but for a fault
-failed_name : (names : List (List ℕ)) (P : List ℕ → Type 0) (o : Option (List ℕ)) → IsSomeAnd o P → (name : List ℕ) × (o ≡ Some name) × P name
-failed_name names P None h = absurd h
-failed_name names P (Some name) h = (name, refl, h)
+failed_name : (P : List ℕ → Type 0) (o : Option (List ℕ)) → IsSomeAnd o P → (name : List ℕ) × (o ≡ Some name) × P name
+failed_name P None h = absurd h
+failed_name P (Some name) h = (name, refl, h)
 
-all_read : (request : Request) (fs : Contents) (index : ℕ) (why : IoCause) (before after : Counts) → IsValidLine request fs → Fails (read.Io index why) (Some fs) (inputs_of request) before after → (Rose before.faults after.faults → ⊥) → ⊥
-all_read request fs index why before after v h calm =
-    let at = failed_name (inputs_of request) (λ name. IsCause why (bytes_of fs name)) (slice_get (inputs_of request) index) h.3.here in
-    let there = inputs_there request fs index at.0 v at.1 in
-    let fault : why ≡ cause.Fault = only_fault why (bytes_of fs at.0) there.0 there.1 at.2 in
+all_read : (names : List (List ℕ)) (fs : Contents) (index : ℕ) (why : IoCause) (before after : Counts) → ((i : ℕ) (name : List ℕ) → slice_get names i ≡ Some name → HasText fs name)
+    → Fails (read.Io index why) (Some fs) names before after → (Rose before.faults after.faults → ⊥) → ⊥
+all_read names fs index why before after there h calm =
+    let at = failed_name (λ name. IsCause why (bytes_of fs name)) (slice_get names index) h.3.here in
+    let text = there index at.0 at.1 in
+    let fault : why ≡ cause.Fault = only_fault why (bytes_of fs at.0) text.0 text.1 at.2 in
     calm (subst (λ w. RoseAt w before.faults after.faults) fault h.2)
 
 -- ---- texts
@@ -99,88 +99,118 @@ read_once fs (n ∷ names) (x ∷ a) (y ∷ b) r k =
     let tail : a ≡ b = read_once fs names a b r.1 k.1 in
     cc
 
--- the files of a `compile`
-no_bad_name : (options : CodegenOptions) (fs : Contents) (names : List (List ℕ)) (e : NameError) → AreValid options fs names → compiling.IsBadlyNamed e options (Some fs) names → ⊥
-no_bad_name options fs names e v h =
-    accepted_named (printed options names) h.texts e (subst AreAccepted (read_once fs names v.texts h.texts v.found h.read) v.accepted) v.emitted h.error
+-- and are one source
+source_once : (options : CodegenOptions) (fs : Contents) (names : List (List ℕ)) (a b : Files) → AreSource options names (Some fs) a → AreSource options names (Some fs) b → a ≡ b
+source_once options fs names a b s t =
+    ap (λ (ns : List (List ℕ)). record { file_names = ns; file_texts = a.file_texts }) (s.named ∙ sym t.named)
+    ∙ ap (λ (ts : List (List ℕ)). record { file_names = b.file_names; file_texts = ts }) (read_once fs names a.file_texts b.file_texts s.read t.read)
 
-no_file_errors : (options : CodegenOptions) (fs : Contents) (names : List (List ℕ)) (errors : Errors) → AreValid options fs names → compiling.HasErrors errors options (Some fs) names → ⊥
-no_file_errors options fs names errors v h =
-    accepted_none (printed options names) h.texts errors (subst AreAccepted (read_once fs names v.texts h.texts v.found h.read) v.accepted) h.errors
+-- ---- a line that compiles
 
--- the source and the answers of a run
-has_lines : (options : CodegenOptions) (fs : Contents) (name term : List ℕ) (vs : Writtens) (answers : Option (List ℕ)) (e : Refusal) → IsValidRun options fs name term vs answers → GivesNoLines options name term vs answers (Some fs) e → e ≡ refusal.Memory
-has_lines options fs name term vs answers e v h =
-    let source : v.source ≡ h.source = one_text (bytes_of fs name) v.source h.source v.found h.read.0.0 in
-    let given : v.given ≡ h.given = one_answers fs answers v.given h.given v.answered h.read.1 in
-    only_memory options (one_file options name h.source) term vs h.given e
-    (subst (λ t. CanRun (one_file options name h.source) term vs t) given (subst (λ t. CanRun (one_file options name t) term vs v.given) source v.can)) h.none
+module _ (options : CodegenOptions) (names : List (List ℕ)) (fs : Contents) (v : AreValid options names fs) where
+  accepted : (texts : List (List ℕ)) → AreRead fs names texts → AreAccepted (printed options names) texts
+  accepted texts found = subst (AreAccepted (printed options names)) (read_once fs names v.texts texts v.found found) v.accepted
+
+  only_want_files : (e : FileError) (before after : Counts) → HasCause e options (Some fs) names before after → (Rose before.faults after.faults → ⊥) → IsWant (refusal.Files e)
+  only_want_files (file.Io index why) before after h calm = all_read names fs index why before after (λ i name e. named_there fs names v.texts i name v.found e) h calm
+  only_want_files (file.Errors e) before after h calm = accepted_none (record { file_names = printed options names; file_texts = h.1.texts }) e.errors (accepted h.1.texts h.1.read) h.1.errors.errors
+  only_want_files (file.Name e) before after h calm = accepted_named (printed options names) h.1.texts e (accepted h.1.texts h.1.read) h.1.error
+  only_want_files file.Memory before after h calm = tt
+
+-- ---- a line that runs
+
+only_want_trial : (files : Files) (e : TrialFail) → trials.IsWant e → IsWant (of_trial files e)
+only_want_trial files (fail.Source (compiling.Errors errors)) h = absurd h
+only_want_trial files (fail.Source (compiling.Name e)) h = absurd h
+only_want_trial files (fail.Source compiling.Memory) h = tt
+only_want_trial files (fail.Run e) h = h
+
+only_want_run : (from : List ℕ) (r : Running) (fs : Contents) (before after : Counts) (e : Refusal) → IsValidRun from r fs → FailsToRun from r (record { files = Some fs; before = before; after = after }) e
+    → (Rose before.faults after.faults → ⊥) → IsWant e
+only_want_run from r fs before after _ v (unread index why h) calm = absurd (all_read (run_inputs from r) fs index why before after (λ i name e. run_there from r fs i name v e) h calm)
+only_want_run from r fs before after _ v (no_lines files given failed inputs tried h) calm =
+    let same : v.source ≡ files = source_once r.options fs (from ∷ []) v.source files v.inputs.read inputs.read in
+    let answers : v.given ≡ given = one_answers fs r.answers v.given given v.inputs.answered inputs.answered in
+    only_want_trial files failed (only_memory r.options files r.term r.values given failed (subst (λ text. CanRun files r.term r.values text) answers (subst (λ s. CanRun s r.term r.values v.given) same v.can)) h)
+only_want_run from r fs before after _ v (memory h) calm = tt
 
 -- ---- lines
 
-built_line : (request : Request) (fs : Contents) → IsValidLine request fs → IsBuilt request
-built_line Help fs v = tt
-built_line Version fs v = tt
-built_line (Compile options names) fs v = tt
-built_line (Build options unit) fs v = v
-built_line (Prelude kind) fs v = v
-built_line Units fs v = v
-built_line (Isa target) fs v = v
-built_line (Run trace options from term vs answers) fs v = v.0
+-- a valid line that isn't answered wants memory
+pub only_want : (request : Request) (e : Refusal) (files : Option Contents) (before after : Counts) → (job_of request).valid files → (job_of request).fails e (record { files = files; before = before; after = after })
+    → (Rose before.faults after.faults → ⊥) → IsWant e
+only_want Help e files before after v h calm = h
+only_want Version e files before after v h calm = h
+only_want (Compile options names) refusal.NotYet files before after v h calm = absurd h
+only_want (Compile options names) (refusal.Files e) None before after v h calm = absurd v
+only_want (Compile options names) (refusal.Files e) (Some fs) before after v h calm = only_want_files options names fs v e before after h calm
+only_want (Compile options names) (refusal.Run e) files before after v h calm = absurd h
+only_want (Build options unit) e files before after v h calm = absurd v
+only_want (Prelude kind) e files before after v h calm = absurd v
+only_want Units e files before after v h calm = absurd v
+only_want (Isa target) e files before after v h calm = absurd v
+only_want (Run r) e files before after v h calm = by r.trace r.source files v h
+  where
+    by : (trace : Bool) (from : Source) (files : Option Contents) → (running_job trace from r).valid files → (running_job trace from r).fails e (record { files = files; before = before; after = after }) → IsWant e
+    by true from files v h = absurd v
+    by false (source.Unit name) files v h = absurd v
+    by false (source.File name) None v h = absurd v
+    by false (source.File name) (Some fs) v h = only_want_run name r fs before after e v h calm
 
--- a valid run has lines, or memory is wanting
-not_run : (request : Request) (fs : Contents) (e : Refusal) → IsValidLine request fs → IsNotRun request (Some fs) e → e ≡ refusal.Memory
-not_run Help fs e v h = absurd h
-not_run Version fs e v h = absurd h
-not_run (Compile options names) fs e v h = absurd h
-not_run (Build options unit) fs e v h = absurd h
-not_run (Prelude kind) fs e v h = absurd h
-not_run Units fs e v h = absurd h
-not_run (Isa target) fs e v h = absurd h
-not_run (Run trace options from term vs answers) fs e v h = has_lines options fs (source_name from) term vs answers e v.1 h.1
-
--- no errors are in the inputs of a valid line
-no_errors : (request : Request) (fs : Contents) (before after : Counts) (errors : Errors) → IsValidLine request fs → HasErrors request (Some fs) before after errors → refusal.Errors errors ≡ refusal.Memory
-no_errors Help fs before after errors v h = absurd h
-no_errors Version fs before after errors v h = absurd h
-no_errors (Compile options names) fs before after errors v h = absurd (no_file_errors options fs names errors v h.1.1)
-no_errors (Build options unit) fs before after errors v h = absurd h
-no_errors (Prelude kind) fs before after errors v h = absurd h
-no_errors Units fs before after errors v h = absurd h
-no_errors (Isa target) fs before after errors v h = absurd h
-no_errors (Run trace options from term vs answers) fs before after errors v h = not_run (Run trace options from term vs answers) fs (refusal.Errors errors) v h
-
--- and each name may be emitted
-no_name : (request : Request) (fs : Contents) (before after : Counts) (e : NameError) → IsValidLine request fs → HasBadName request (Some fs) before after e → refusal.Name e ≡ refusal.Memory
-no_name Help fs before after e v h = absurd h
-no_name Version fs before after e v h = absurd h
-no_name (Compile options names) fs before after e v h = absurd (no_bad_name options fs names e v h.1.1)
-no_name (Build options unit) fs before after e v h = absurd h
-no_name (Prelude kind) fs before after e v h = absurd h
-no_name Units fs before after e v h = absurd h
-no_name (Isa target) fs before after e v h = absurd h
-no_name (Run trace options from term vs answers) fs before after e v h = not_run (Run trace options from term vs answers) fs (refusal.Name e) v h
-
--- the only cause is want of memory
-only_memory_wants : (request : Request) (e : Refusal) (fs : Contents) (before after : Counts) → IsValidLine request fs → HasCause e request (Some fs) before after → (Rose before.faults after.faults → ⊥) → e ≡ refusal.Memory
-only_memory_wants request refusal.Memory fs before after v h calm = refl
-only_memory_wants request refusal.NotYet fs before after v h calm = absurd (h (built_line request fs v))
-only_memory_wants request (refusal.Unread index why) fs before after v h calm = absurd (all_read request fs index why before after v h.1 calm)
-only_memory_wants request (refusal.Errors errors) fs before after v h calm = no_errors request fs before after errors v h.1
-only_memory_wants request (refusal.Name e) fs before after v h calm = no_name request fs before after e v h
-only_memory_wants request refusal.NoTerm fs before after v h calm = not_run request fs refusal.NoTerm v h
-only_memory_wants request refusal.ArgCount fs before after v h calm = not_run request fs refusal.ArgCount v h
-only_memory_wants request (refusal.ArgType i) fs before after v h calm = not_run request fs (refusal.ArgType i) v h
-only_memory_wants request (refusal.BadAnswers at) fs before after v h calm = not_run request fs (refusal.BadAnswers at) v h
-
--- so no other refusal is one of a valid line
-pub none_else : (request : Request) (e : Refusal) (files : Option Contents) (before after : Counts) → HasCause e request files before after → IsSomeAnd files (IsValidLine request)
-    → (Rose before.faults after.faults → ⊥) → e ≡ refusal.Memory
-none_else request e None before after h v calm = absurd v
-none_else request e (Some fs) before after h v calm = only_memory_wants request e fs before after v h calm
-
--- so a valid line has its reply, unless memory is wanting
-pub replied_unless : {T : Type 0} (request : Request) (r : Result T Refusal) (files : Option Contents) (before after : Counts) → IfErr r (λ e. HasCause e request files before after) → IsSomeAnd files (IsValidLine request)
-    → (Rose before.faults after.faults → ⊥) → IsOkUnless r refusal.Memory
+-- so it has its reply, or memory was wanting
+pub replied_unless : {T : Type 0} (request : Request) (r : Result T Refusal) (files : Option Contents) (before after : Counts) → IfErr r (λ e. (job_of request).fails e (record { files = files; before = before; after = after }))
+    → (job_of request).valid files → (Rose before.faults after.faults → ⊥) → IfErr r IsWant
 replied_unless request (Ok x) files before after h v calm = tt
-replied_unless request (Err e) files before after h v calm = none_else request e files before after h v calm
+replied_unless request (Err e) files before after h v calm = only_want request e files before after v h calm
+
+-- ---- what is told
+
+-- errors are some, and stand in the files that are told with them
+told_errors : (e : Errors) (names texts : List (List ℕ)) → IsErrors e names texts → HavePlaces e × (e.errors ≡ [] → ⊥)
+told_errors e names texts h = (subst (λ fs. HavePlaces (record { errors = e.errors; files = fs })) (sym h.given) h.errors.placed, some_errors (record { file_names = names; file_texts = texts }) e.errors h.errors)
+
+told_trial : (job : Job) (options : CodegenOptions) (files : Files) (r : Running) (given : List ℕ) (e : TrialFail) → HasNoLines options files r.term r.values given e → IsOfJob job (of_trial files e)
+told_trial job options files r given (fail.Source (compiling.Errors errors)) h = (h.placed, some_errors files errors h)
+told_trial job options files r given (fail.Source (compiling.Name e)) h = tt
+told_trial job options files r given (fail.Source compiling.Memory) h = tt
+told_trial job options files r given (fail.Run e) h = tt
+
+told_run : (from : List ℕ) (r : Running) (around : Around) (e : Refusal) → FailsToRun from r around e → IsOfJob (run_job from r) e
+told_run from r around _ (unread index why h) = h.0
+told_run from r around _ (no_lines files given failed inputs tried h) = told_trial (run_job from r) r.options files r given failed h
+told_run from r around _ (memory h) = tt
+
+told_files : (options : CodegenOptions) (names : List (List ℕ)) (around : Around) (e : FileError) → HasCause e options around.files names around.before around.after → IsOfJob (compile_job options names) (refusal.Files e)
+told_files options names around (file.Io index why) h = h.0
+told_files options names around (file.Errors e) h = told_errors e (printed options names) h.1.texts h.1.errors
+told_files options names around (file.Name e) h = tt
+told_files options names around file.Memory h = tt
+
+told_want : (job : Job) (e : Refusal) → IsWant e → IsOfJob job e
+told_want job refusal.NotYet h = absurd h
+told_want job (refusal.Files (file.Io index why)) h = absurd h
+told_want job (refusal.Files (file.Errors e)) h = absurd h
+told_want job (refusal.Files (file.Name e)) h = absurd h
+told_want job (refusal.Files file.Memory) h = tt
+told_want job (refusal.Run e) h = tt
+
+told_not_built : (job : Job) (e : Refusal) → e ≡ refusal.NotYet → IsOfJob job e
+told_not_built job e same = subst (IsOfJob job) (sym same) tt
+
+-- what is told of a line that is not answered is there
+pub of_job : (request : Request) (e : Refusal) (around : Around) → (job_of request).fails e around → IsOfJob (job_of request) e
+of_job Help e around h = told_want (job_of Help) e h
+of_job Version e around h = told_want (job_of Version) e h
+of_job (Compile options names) refusal.NotYet around h = absurd h
+of_job (Compile options names) (refusal.Files e) around h = told_files options names around e h
+of_job (Compile options names) (refusal.Run e) around h = absurd h
+of_job (Build options unit) e around h = told_not_built (job_of (Build options unit)) e h
+of_job (Prelude kind) e around h = told_not_built (job_of (Prelude kind)) e h
+of_job Units e around h = told_not_built (job_of Units) e h
+of_job (Isa target) e around h = told_not_built (job_of (Isa target)) e h
+of_job (Run r) e around h = by r.trace r.source h
+  where
+    by : (trace : Bool) (from : Source) → (running_job trace from r).fails e around → IsOfJob (running_job trace from r) e
+    by true from k = told_not_built (running_job true from r) e k
+    by false (source.Unit name) k = told_not_built (running_job false (source.Unit name) r) e k
+    by false (source.File name) k = told_run name r around e k

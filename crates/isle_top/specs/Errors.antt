@@ -1,5 +1,5 @@
 -- The status of errors.
-use Rattle.std.specs.Prelude.{ℕ, List, [], ◌∷◌}
+use Rattle.std.specs.Prelude.{ℕ, List, [], ◌∷◌, Option, Some, None}
 use Rattle.isle_core.specs.declared.errors.Error.{Error}
 use Rattle.isle_core.specs.declared.errors.Error.TheVariants as error
 
@@ -12,7 +12,7 @@ error_status (error.OverlapError msg rules) = 8
 error_status (error.ShadowedError shadowed mask) = 8
 error_status (error.RecursionError msg span) = 9
 
--- the status of errors is that of the first; no refusal has none
-abbrev pub errors_status : List Error → ℕ
-errors_status [] = 14
-errors_status (e ∷ es) = error_status e
+-- the status of errors is that of the first
+abbrev pub errors_status : List Error → Option ℕ
+errors_status [] = None
+errors_status (e ∷ es) = Some (error_status e)

@@ -1,8 +1,11 @@
 pub mod About
-pub mod Requests
-pub mod Errors
-pub mod Lines
-pub mod Valid
+pub mod Job
+pub mod Wants
+pub mod Texts
+pub mod CompileLine
+pub mod RunLine
 pub mod Inputs
-pub mod Causes
+pub mod Jobs
+pub mod Lines
+pub mod Errors
 pub mod Statuses

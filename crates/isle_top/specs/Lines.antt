@@ -1,6 +1,7 @@
 -- The lines that refusals write.
-use Rattle.std.specs.Prelude.{ℕ, List, [], ◌∷◌, ◌++◌, map, codes, nat_lt, if◌then◌else◌, ◌⊎◌, Option}
+use Rattle.std.specs.Prelude.{ℕ, List, [], ◌∷◌, ◌++◌, map, codes, ◌⊎◌, Option}
 use Rattle.isle_printer.specs.Number.{numeral}
+use Rattle.isle_core.specs.ErrorLines.{masked}
 use Rattle.isle_outside.specs.Directory.{Rose}
 use Rattle.isle_outside.specs.Sinks.{Took, TookPart}
 use Rattle.isle_outside.specs.declared.errors.IoCause.{IoCause}
@@ -11,10 +12,6 @@ use Rattle.isle_names.specs.declared.name_error.NameUse.TheVariants as use_of
 -- a text and the end of its line
 abbrev pub line : List ℕ → List ℕ
 line text = text ++ 10 ∷ []
-
--- a byte as a line shows it
-abbrev pub masked : ℕ → ℕ
-masked b = if nat_lt b 32 then 63 else b
 
 -- what stands behind the name of a file that was not read: why, in words
 abbrev pub cause_end : IoCause → List ℕ

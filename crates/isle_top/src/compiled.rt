@@ -3,13 +3,10 @@
 ghost use Rattle.std.specs.Prelude.{◌≡◌, ◌≤◌, IfOk, IfErr, ◌+◌, ◌*◌, ◌^◌, length, ◌-◌};
 ghost use Rattle.std.specs.String.{string_bytes};
 ghost use Rattle.isle_core.specs.Inputs.{bytes_each};
-ghost use Rattle.isle_command_line.specs.Request.{Compile};
-ghost use Rattle.isle_top.specs.Valid.{IsProgramOf};
-ghost use Rattle.isle_top.specs.Causes.{HasCause};
+ghost use Rattle.isle_codegen.specs.Causes.{IsCompiled, HasCause, AllTried};
 
 use isle_codegen::{FileError, from_files};
 use isle_core::{CodegenOptions, Dir, OutOfMemory, Text};
-use isle_run::Refusal;
 use std::alloc::Global;
 
 // The names as strings, in order.
@@ -23,26 +20,23 @@ fn strings_of(alloc: Global, names: &[Text]) -> Result<Vec<String>, OutOfMemory>
     Ok(strings)
 }
 
-/// Compiles the files of the names, and returns the text of their program. Each refusal has its cause (`specs/Causes.antt`).
+/// Compiles the files of the names, and returns the text of their program (`specs/CompileLine.antt`).
 pub fn compiled<D: Dir>(
     alloc: Global,
     names: &[Text],
     options: &CodegenOptions,
     dir: &mut D,
-) -> Result<String, Refusal>
-    ensures ok { IfOk result (λ text. IsProgramOf options.now names.now (D.files dir.old) (string_bytes text)) }
-    ensures err { IfErr result (λ e. HasCause e (Compile options.now names.now) (D.files dir.old) (D.counts dir.old) (D.counts dir.new)) }
+) -> Result<String, FileError>
+    ensures ok { IfOk result (λ text. IsCompiled options.now names.now (D.files dir.old) (string_bytes text)) }
+    ensures tried { IfOk result (λ text. AllTried names.now (D.counts dir.old) (D.counts dir.new)) }
+    ensures err { IfErr result (λ e. HasCause e options.now (D.files dir.old) names.now (D.counts dir.old) (D.counts dir.new)) }
     ensures files { D.files dir.new ≡ D.files dir.old }
     ensures later { (D.counts dir.old).faults ≤ (D.counts dir.new).faults }
     ensures stays { (D.counts dir.old).faults ≡ 2 ^ 64 - 1 → (D.counts dir.new).faults ≡ 2 ^ 64 - 1 }
     ensures given { (D.counts dir.new).given ≤ (D.counts dir.old).given + (2 ^ 24 + 1) * length names.now }
 {
-    let inputs = strings_of(alloc, names)?;
-    match from_files(alloc, dir, inputs.as_slice(), options) {
-        Ok(text) => Ok(text),
-        Err(FileError::Io { index, cause }) => Err(Refusal::Unread(index, cause)),
-        Err(FileError::Memory) => Err(Refusal::Memory),
-        Err(FileError::Errors(errors)) => Err(Refusal::Errors(errors)),
-        Err(FileError::Name(name)) => Err(Refusal::Name(name)),
+    match strings_of(alloc, names) {
+        Ok(inputs) => from_files(alloc, dir, inputs.as_slice(), options),
+        Err(_) => Err(FileError::Memory),
     }
 }

@@ -4,15 +4,15 @@ ghost use Rattle.std.specs.Prelude.{ℕ, List, [], ◌≡◌, ◌≤◌, ◌+◌
 ghost use Rattle.std.specs.Option.{option_copied};
 ghost use Rattle.isle_outside.specs.Directory.{bytes_of, raised};
 ghost use Rattle.isle_outside.specs.Reading.{IsText};
-ghost use Rattle.isle_core.specs.Inputs.{AreRead, Fails, IsTried};
-ghost use Rattle.isle_top.specs.Requests.{answers_names};
-ghost use Rattle.isle_top.specs.Valid.{IsAnswersText, one_file};
-ghost use Rattle.isle_top.specs.Inputs.{AreInputs, FailsTo, IsOf};
+ghost use Rattle.isle_core.specs.Inputs.{Fails, IsTried};
+ghost use Rattle.isle_codegen.specs.Causes.{AreSource, AllTried};
+ghost use Rattle.isle_top.specs.Inputs.{FailsTo};
+ghost use Rattle.isle_top.specs.RunLine.{answers_names, AreInputs, IsAnswersText};
 
 use isle_core::{CodegenOptions, Dir, Files, ReadError, ReadFail, Text, read_text};
 use std::alloc::Global;
 
-/// A source of one text, and the text of the answers.
+/// A source, and the text of the answers.
 #[derive(Debug, Drop)]
 pub struct Inputs {
     pub files: Files,
@@ -43,13 +43,16 @@ fn answers_text<D: Dir>(
     answers: Option<&str>,
     dir: &mut D,
 ) -> Result<Text, ReadError>
-    ensures ok { IfOk result (λ text. IfSome (D.files dir.old) (λ fs. IsAnswersText fs (option_copied answers.entry) text)) }
+    ensures ok { IfOk result (λ text. IsAnswersText (D.files dir.old) (option_copied answers.entry) text) }
     ensures err { IfErr result (λ e. IsSomeAnd (option_copied answers.entry)
         (λ file. FailsTo e 1 (D.files dir.old) file (D.counts dir.old) (D.counts dir.new))) }
     ensures files { D.files dir.new ≡ D.files dir.old }
     ensures later { (D.counts dir.old).faults ≤ (D.counts dir.new).faults }
     ensures stays { (D.counts dir.old).faults ≡ 2 ^ 64 - 1 → (D.counts dir.new).faults ≡ 2 ^ 64 - 1 }
-    ensures given { (D.counts dir.new).given ≤ (D.counts dir.old).given + (2 ^ 24 + 1) * length (answers_names (option_copied answers.entry)) }
+    ensures tried { let names = answers_names (option_copied answers.entry) in
+        IfOk result (λ text. AllTried names (D.counts dir.old) (D.counts dir.new)) }
+    ensures given { let names = answers_names (option_copied answers.entry) in
+        (D.counts dir.new).given ≤ (D.counts dir.old).given + (2 ^ 24 + 1) * length names }
 {
     match answers {
         Some(file) => text_at(alloc, 1, file, dir),
@@ -57,15 +60,15 @@ fn answers_text<D: Dir>(
     }
 }
 
-// A source of the one text of its file.
+// The source of the file of this name.
 fn source_at<D: Dir>(
     alloc: Global,
     name: &str,
     options: &CodegenOptions,
     dir: &mut D,
 ) -> Result<Files, ReadError>
-    ensures one { IfOk result (λ files. (text : List ℕ) × (files ≡ one_file options.now name.now text)
-        × IfSome (D.files dir.old) (λ fs. AreRead fs (name.now ∷ []) (text ∷ []))) }
+    ensures read { IfOk result (λ files. AreSource options.now (name.now ∷ []) (D.files dir.old) files) }
+    ensures count { IfOk result (λ files. length files.file_texts ≡ length files.file_names) }
     ensures err { IfErr result (λ e. Fails e (D.files dir.old) (name.now ∷ []) (D.counts dir.old) (D.counts dir.new)) }
     ensures files { D.files dir.new ≡ D.files dir.old }
     ensures later { (D.counts dir.old).faults ≤ (D.counts dir.new).faults }
@@ -83,7 +86,7 @@ fn source_at<D: Dir>(
 
 /// Reads the source, its name as printed under the options' prefixes, and then the file of answers; without such a file their
 /// text is empty. The first that is not read is told by its number: 0 is the source, 1 the file of answers
-/// (`specs/Inputs.antt`).
+/// (`specs/RunLine.antt`).
 pub fn read_inputs<D: Dir>(
     alloc: Global,
     options: &CodegenOptions,
@@ -92,9 +95,11 @@ pub fn read_inputs<D: Dir>(
     dir: &mut D,
 ) -> Result<Inputs, ReadError>
     ensures ok { IfOk result (λ read. AreInputs options.now source.now (option_copied answers.entry) (D.files dir.old) read.files read.answers) }
+    ensures count { IfOk result (λ read. length read.files.file_texts ≡ length read.files.file_names) }
+    ensures tried { let names = source.now ∷ answers_names (option_copied answers.entry) in
+        IfOk result (λ read. AllTried names (D.counts dir.old) (D.counts dir.new)) }
     ensures err { let names = source.now ∷ answers_names (option_copied answers.entry) in
         IfErr result (λ e. Fails e (D.files dir.old) names (D.counts dir.old) (D.counts dir.new)) }
-    ensures there { IfErr result (λ e. IsOf e (source.now ∷ answers_names (option_copied answers.entry))) }
     ensures files { D.files dir.new ≡ D.files dir.old }
     ensures later { (D.counts dir.old).faults ≤ (D.counts dir.new).faults }
     ensures stays { (D.counts dir.old).faults ≡ 2 ^ 64 - 1 → (D.counts dir.new).faults ≡ 2 ^ 64 - 1 }

@@ -2,13 +2,13 @@
 #![tactic(auto)]
 
 mod about;
-mod built;
 mod compiled;
 mod inputs;
+mod job;
 mod lines;
 mod ran;
+mod refusal;
 mod reply;
-mod request;
 mod run;
 mod status;
 

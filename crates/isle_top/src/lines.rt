@@ -2,8 +2,8 @@ ghost use Rattle.std.specs.Prelude.{◌≡◌, ◌≤◌, ◌<◌, [], ◌∷◌
 ghost use Rattle.isle_printer.specs.Number.{glyph, numeral};
 ghost use Rattle.isle_outside.specs.Directory.{Rose};
 ghost use Rattle.isle_outside.specs.Sinks.{Took, TookPart};
+ghost use Rattle.isle_core.specs.ErrorLines.{masked};
 ghost use Rattle.isle_top.specs.Lines.{
-  masked,
   cause_end,
   unread_head,
   unread_line,
@@ -23,7 +23,7 @@ ghost use Rattle.isle_top.specs.Lines.{
 };
 
 use isle_codegen::NameUse;
-use isle_core::{Failed, IoCause, Sink, write_all};
+use isle_core::{Failed, IoCause, Sink, masked, write_all};
 
 /// What is asked for is not built.
 pub const NOT_YET: &str = "isle: not yet\n";
@@ -36,13 +36,6 @@ pub const OUT_OF_MEMORY: &str = "isle: out of memory\n";
 
 /// A line would go on.
 pub const MISSING_WORD: &str = "isle: missing word\n";
-
-// A byte as a line shows it.
-fn masked(byte: u8) -> u8
-    ensures { result ≡ masked byte }
-{
-    if byte < 32 { b'?' } else { byte }
-}
 
 // What stands behind the name of a file that was not read: why, in words.
 fn cause_end(cause: IoCause) -> &'static str

@@ -1,14 +1,14 @@
-ghost use Rattle.std.specs.Prelude.{◌≡◌, ◌≢◌, ◌⊎◌, [], ◌∷◌, ℕ, List, Some, IsSomeAnd, slice_get, ◌≤◌, ◌+◌, ◌*◌, ◌^◌, length};
+ghost use Rattle.std.specs.Prelude.{◌≡◌, ◌≢◌, ◌⊎◌, [], ◌∷◌, ℕ, List, Some, false, slice_get, ◌≤◌, ◌+◌, ◌*◌, ◌^◌, length};
 ghost use Rattle.isle_outside.specs.Directory.{Rose};
 ghost use Rattle.isle_outside.specs.Sinks.{Took, TookPart};
 ghost use Rattle.isle_core.specs.Inputs.{bytes_each};
 ghost use Rattle.isle_command_line.specs.Request.{Request, Compile};
 ghost use Rattle.isle_command_line.specs.Lines.{LineS};
 ghost use Rattle.isle_command_line.specs.Views.{seen_command};
-ghost use Rattle.isle_top.specs.Requests.{Asks, IsBuilt, inputs_of};
+ghost use Rattle.isle_top.specs.Job.{Around, IsReply};
+ghost use Rattle.isle_top.specs.Jobs.{Asks, job_of};
 ghost use Rattle.isle_top.specs.Lines.{Wrote};
 ghost use Rattle.isle_top.specs.Statuses.{IsNoLine, Says};
-ghost use Rattle.isle_top.specs.Valid.{IsReply, IsValidLine};
 
 use crate::lines::{MISSING_WORD, OUT_OF_MEMORY, WRITE_FAULT, write_bad_word};
 use crate::reply::reply;
@@ -18,7 +18,7 @@ use isle_core::{Dir, Sink, write_all};
 use std::alloc::Global;
 
 /// Runs the program: does what the words ask for, and writes the text that answers them to `out`. Every status but 0 writes
-/// its line to `err`. Writing takes no memory.
+/// its line to `err`. Writing takes no memory. `specs/Jobs.antt` says what each line is.
 pub fn run_words<D: Dir, O: Sink, E: Sink>(
     alloc: Global,
     words: &[String],
@@ -26,38 +26,41 @@ pub fn run_words<D: Dir, O: Sink, E: Sink>(
     out: &mut O,
     err: &mut E,
 ) -> Exit
-    // At status 0 `out` took the reply, and nothing else.
-    ensures done { result.0 ≡ 0 → (request : Request) × Asks (bytes_each words.now) request
-        × ((text : List ℕ) × IsReply request (D.files dir.old) text × Took (O.taken out.old) (O.taken out.new) text) }
+    // At status 0 `out` took the reply, and nothing else, and its count stands; each input was asked for once.
+    ensures done { result.0 ≡ 0 → (request : Request) × Asks (bytes_each words.now) request × (O.faults out.new ≡ O.faults out.old)
+        × ((text : List ℕ) × IsReply (job_of request) (record { files = D.files dir.old; before = D.counts dir.old; after = D.counts dir.new }) text
+        × Took (O.taken out.old) (O.taken out.new) text) }
 
     // At status 11 its count rose, and it took a part of the reply.
     ensures part { result.0 ≡ 11 → (request : Request) × Asks (bytes_each words.now) request × Rose (O.faults out.old) (O.faults out.new)
-        × ((text : List ℕ) × IsReply request (D.files dir.old) text × TookPart (O.taken out.old) (O.taken out.new) text) }
+        × ((text : List ℕ) × IsReply (job_of request) (record { files = D.files dir.old; before = D.counts dir.old; after = D.counts dir.new }) text
+        × TookPart (O.taken out.old) (O.taken out.new) text) }
 
-    // At every other status it took nothing.
-    ensures untouched { result.0 ≢ 0 → result.0 ≢ 11 → O.taken out.new ≡ O.taken out.old }
+    // At every other status it was not touched.
+    ensures untouched { result.0 ≢ 0 → result.0 ≢ 11 → out.new ≡ out.old }
 
     // Each other status has its cause, and its line on `err`; at status 0 nothing stands there.
     ensures says { let wrote = Wrote (E.taken err.old) (E.taken err.new) (E.faults err.old) (E.faults err.new) in
-        Says (Asks (bytes_each words.now)) (IsNoLine (bytes_each words.now) wrote) (D.files dir.old) (D.counts dir.old) (D.counts dir.new)
-        (E.taken err.new ≡ E.taken err.old) wrote result.0 }
+        Says (Asks (bytes_each words.now)) (IsNoLine (bytes_each words.now) wrote)
+        (record { files = D.files dir.old; before = D.counts dir.old; after = D.counts dir.new }) (err.new ≡ err.old) wrote result.0 }
 
     // Words that are no line end in 2, a line that is not built in 14; or with 12, want of memory.
     ensures no_line { ((request : Request) → LineS (bytes_each words.now) request → ⊥) → (result.0 ≡ 2) ⊎ (result.0 ≡ 12) }
-    ensures not_built { (request : Request) → LineS (bytes_each words.now) request → (IsBuilt request → ⊥) → (result.0 ≡ 14) ⊎ (result.0 ≡ 12) }
+    ensures not_built { (request : Request) → LineS (bytes_each words.now) request → (job_of request).built ≡ false
+        → (result.0 ≡ 14) ⊎ (result.0 ≡ 12) }
 
     // A valid line has its reply, where nothing fails and memory suffices.
-    ensures complete { (request : Request) → LineS (bytes_each words.now) request → IsSomeAnd (D.files dir.old) (IsValidLine request)
+    ensures complete { (request : Request) → LineS (bytes_each words.now) request → (job_of request).valid (D.files dir.old)
         → (Rose (D.counts dir.old).faults (D.counts dir.new).faults → ⊥) → (result.0 ≡ 0) ⊎ (result.0 ≡ 11) ⊎ (result.0 ≡ 12) }
     ensures files { D.files dir.new ≡ D.files dir.old }
 
-    // No count falls, of each input at most 2^24 + 1 bytes are taken, and for words that are no built line nothing is read.
-    ensures untried { ((request : Request) → LineS (bytes_each words.now) request → IsBuilt request → ⊥) → D.counts dir.new ≡ D.counts dir.old }
+    // No count falls, of each input at most 2^24 + 1 bytes are taken, and the directory is as it was where no line reads files.
+    ensures untried { ((request : Request) → LineS (bytes_each words.now) request → (job_of request).reads ≡ false) → dir.new ≡ dir.old }
     ensures later { (D.counts dir.old).faults ≤ (D.counts dir.new).faults }
     ensures out_later { O.faults out.old ≤ O.faults out.new }
     ensures err_later { E.faults err.old ≤ E.faults err.new }
     ensures given { (request : Request) → LineS (bytes_each words.now) request
-        → (D.counts dir.new).given ≤ (D.counts dir.old).given + (2 ^ 24 + 1) * length (inputs_of request) }
+        → (D.counts dir.new).given ≤ (D.counts dir.old).given + (2 ^ 24 + 1) * length (job_of request).inputs }
 {
     match command(alloc, words) {
         Ok(request) => run_command(alloc, &request, dir, out, err),
@@ -94,23 +97,25 @@ fn run_command<D: Dir, O: Sink, E: Sink>(
     out: &mut O,
     err: &mut E,
 ) -> Exit
-    ensures done { result.0 ≡ 0 → (text : List ℕ) × IsReply (seen_command request.now) (D.files dir.old) text
-        × Took (O.taken out.old) (O.taken out.new) text }
+    ensures done { result.0 ≡ 0 → (O.faults out.new ≡ O.faults out.old)
+        × ((text : List ℕ) × IsReply (job_of (seen_command request.now)) (record { files = D.files dir.old; before = D.counts dir.old; after = D.counts dir.new }) text
+        × Took (O.taken out.old) (O.taken out.new) text) }
     ensures part { result.0 ≡ 11 → Rose (O.faults out.old) (O.faults out.new)
-        × ((text : List ℕ) × IsReply (seen_command request.now) (D.files dir.old) text × TookPart (O.taken out.old) (O.taken out.new) text) }
-    ensures untouched { result.0 ≢ 0 → result.0 ≢ 11 → O.taken out.new ≡ O.taken out.old }
+        × ((text : List ℕ) × IsReply (job_of (seen_command request.now)) (record { files = D.files dir.old; before = D.counts dir.old; after = D.counts dir.new }) text
+        × TookPart (O.taken out.old) (O.taken out.new) text) }
+    ensures untouched { result.0 ≢ 0 → result.0 ≢ 11 → out.new ≡ out.old }
     ensures says { let wrote = Wrote (E.taken err.old) (E.taken err.new) (E.faults err.old) (E.faults err.new) in
-        Says (λ a. a ≡ seen_command request.now) ⊥ (D.files dir.old) (D.counts dir.old) (D.counts dir.new)
-        (E.taken err.new ≡ E.taken err.old) wrote result.0 }
-    ensures not_built { (IsBuilt (seen_command request.now) → ⊥) → result.0 ≡ 14 }
-    ensures untried { (IsBuilt (seen_command request.now) → ⊥) → D.counts dir.new ≡ D.counts dir.old }
-    ensures complete { IsSomeAnd (D.files dir.old) (IsValidLine (seen_command request.now))
+        Says (λ a. a ≡ seen_command request.now) ⊥
+        (record { files = D.files dir.old; before = D.counts dir.old; after = D.counts dir.new }) (err.new ≡ err.old) wrote result.0 }
+    ensures not_built { (job_of (seen_command request.now)).built ≡ false → result.0 ≡ 14 }
+    ensures untried { (job_of (seen_command request.now)).reads ≡ false → dir.new ≡ dir.old }
+    ensures complete { (job_of (seen_command request.now)).valid (D.files dir.old)
         → (Rose (D.counts dir.old).faults (D.counts dir.new).faults → ⊥) → (result.0 ≡ 0) ⊎ (result.0 ≡ 11) ⊎ (result.0 ≡ 12) }
     ensures files { D.files dir.new ≡ D.files dir.old }
     ensures later { (D.counts dir.old).faults ≤ (D.counts dir.new).faults }
     ensures out_later { O.faults out.old ≤ O.faults out.new }
     ensures err_later { E.faults err.old ≤ E.faults err.new }
-    ensures given { (D.counts dir.new).given ≤ (D.counts dir.old).given + (2 ^ 24 + 1) * length (inputs_of (seen_command request.now)) }
+    ensures given { (D.counts dir.new).given ≤ (D.counts dir.old).given + (2 ^ 24 + 1) * length (job_of (seen_command request.now)).inputs }
 {
     match reply(alloc, request, dir) {
         Ok(text) => match write_all(out, text.as_bytes()) {

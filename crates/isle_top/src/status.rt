@@ -1,21 +1,24 @@
 //! The status that a run ends with, and the line that says why.
 
-ghost use Rattle.std.specs.Prelude.{◌≡◌, ◌⊎◌, ◌≤◌};
-ghost use Rattle.isle_core.specs.ErrorLines.{error_lines};
+ghost use Rattle.std.specs.Prelude.{◌≡◌, ◌⊎◌, ◌≤◌, [], Some};
+ghost use Rattle.isle_core.specs.ErrorLines.{shown_lines};
 ghost use Rattle.isle_codegen.specs.Errors.{HavePlaces};
 ghost use Rattle.isle_command_line.specs.Views.{seen_command};
 ghost use Rattle.isle_top.specs.Errors.{error_status, errors_status};
+ghost use Rattle.isle_top.specs.Jobs.{job_of};
 ghost use Rattle.isle_top.specs.Lines.{Wrote, memory_line};
-ghost use Rattle.isle_top.specs.Statuses.{IsOfLine, Ends};
+ghost use Rattle.isle_top.specs.Statuses.{IsOfJob, Tells, TellsRun, Ends};
 
+use crate::job::{asked_name, input_name};
 use crate::lines::{
     NOT_YET, OUT_OF_MEMORY, write_argument, write_argument_count, write_bad_answers,
     write_bad_name, write_no_term, write_unread,
 };
-use crate::request::{input_name, term_of};
+use crate::refusal::Refusal;
+use isle_codegen::FileError;
 use isle_command_line::Command;
 use isle_core::{Error, Errors, Sink, write_all};
-use isle_run::Refusal;
+use isle_run::RunFail;
 use std::alloc::Global;
 
 /// The status of a run: 0 done, 2 the words are no line, 5 an input was not read, 6 to 9 errors are in the inputs (of parsing,
@@ -37,12 +40,13 @@ fn error_status(error: &Error) -> Exit
     }
 }
 
-// The status of errors, which is that of the first.
+// The status of errors, which is that of the first. There is one.
 fn errors_status(errors: &[Error]) -> Exit
-    ensures { result.0 ≡ errors_status errors.now }
+    requires { errors.now ≡ [] → ⊥ }
+    ensures { errors_status errors.now ≡ Some result.0 }
 {
     match errors {
-        [] => Exit(14),
+        [] => unreachable!(),
         [first, ..] => error_status(first),
     }
 }
@@ -55,66 +59,82 @@ pub fn complain<E: Sink>(err: &mut E, line: &str)
     let _ = write_all(err, line.as_bytes());
 }
 
+// Writes that memory ran out, as far as the sink takes it, and returns that status.
+fn tell_memory<E: Sink>(err: &mut E) -> Exit
+    ensures later { E.faults err.old ≤ E.faults err.new }
+    ensures told { let wrote = Wrote (E.taken err.old) (E.taken err.new) (E.faults err.old) (E.faults err.new) in Tells wrote result.0 12 memory_line }
+{
+    complain(err, OUT_OF_MEMORY);
+    Exit(12)
+}
+
 // Writes the lines of errors, as far as the sink takes them, and returns their status; 12 where memory doesn't hold the lines.
 fn tell_errors<E: Sink>(alloc: Global, err: &mut E, errors: &Errors) -> Exit
-    requires { HavePlaces errors.now }
+    requires placed { HavePlaces errors.now }
+    requires some { errors.now.errors ≡ [] → ⊥ }
     ensures later { E.faults err.old ≤ E.faults err.new }
     ensures told { let wrote = Wrote (E.taken err.old) (E.taken err.new) (E.faults err.old) (E.faults err.new) in
-        ((result.0 ≡ errors_status errors.now.errors) × wrote (error_lines errors.now.files errors.now.errors)) ⊎ ((result.0 ≡ 12) × wrote memory_line) }
+        ((errors_status errors.now.errors ≡ Some result.0) × wrote (shown_lines errors.now.files errors.now.errors)) ⊎ Tells wrote result.0 12 memory_line }
 {
-    match errors.lines(alloc) {
+    match errors.shown_lines(alloc) {
         Ok(lines) => {
-            complain(err, lines.as_str());
+            let _ = write_all(err, lines.as_slice());
             errors_status(errors.errors.as_slice())
         }
-        Err(_) => {
-            complain(err, OUT_OF_MEMORY);
-            Exit(12)
+        Err(_) => tell_memory(err),
+    }
+}
+
+// Writes why a term is not run, as far as the sink takes it, and returns the status.
+fn tell_run<E: Sink>(err: &mut E, request: &Command, fail: RunFail) -> Exit
+    ensures later { E.faults err.old ≤ E.faults err.new }
+    ensures told { let wrote = Wrote (E.taken err.old) (E.taken err.new) (E.faults err.old) (E.faults err.new) in
+        TellsRun (job_of (seen_command request.now)) wrote result.0 fail }
+{
+    match fail {
+        RunFail::NoTerm => {
+            let _ = write_no_term(err, asked_name(request));
+            Exit(13)
         }
+        RunFail::ArgCount => {
+            let _ = write_argument_count(err);
+            Exit(13)
+        }
+        RunFail::ArgType(argument) => {
+            let _ = write_argument(err, argument);
+            Exit(13)
+        }
+        RunFail::BadAnswers(place) => {
+            let _ = write_bad_answers(err, place);
+            Exit(13)
+        }
+        RunFail::Memory => tell_memory(err),
     }
 }
 
 /// Writes the lines of a refusal, as far as the sink takes them, and returns its status (`specs/Statuses.antt`). Only the lines
 /// of errors take memory; where it doesn't hold them the status is 12.
 pub fn refuse<E: Sink>(alloc: Global, err: &mut E, request: &Command, refusal: &Refusal) -> Exit
-    requires { IsOfLine (seen_command request.now) refusal.now }
+    requires { IsOfJob (job_of (seen_command request.now)) refusal.now }
     ensures later { E.faults err.old ≤ E.faults err.new }
     ensures ends { let wrote = Wrote (E.taken err.old) (E.taken err.new) (E.faults err.old) (E.faults err.new) in
-        Ends (seen_command request.now) wrote refusal.now result.0 }
+        Ends (job_of (seen_command request.now)) wrote result.0 refusal.now }
 {
     match refusal {
         Refusal::NotYet => {
             complain(err, NOT_YET);
             Exit(14)
         }
-        Refusal::Unread(index, cause) => {
+        Refusal::Files(FileError::Io { index, cause }) => {
             let _ = write_unread(err, input_name(request, *index), *cause);
             Exit(5)
         }
-        Refusal::Errors(errors) => tell_errors(alloc, err, errors),
-        Refusal::Name(error) => {
+        Refusal::Files(FileError::Errors(errors)) => tell_errors(alloc, err, errors),
+        Refusal::Files(FileError::Name(error)) => {
             let _ = write_bad_name(err, error.name.as_str(), error.usage);
             Exit(10)
         }
-        Refusal::NoTerm => {
-            let _ = write_no_term(err, term_of(request));
-            Exit(13)
-        }
-        Refusal::ArgCount => {
-            let _ = write_argument_count(err);
-            Exit(13)
-        }
-        Refusal::ArgType(argument) => {
-            let _ = write_argument(err, *argument);
-            Exit(13)
-        }
-        Refusal::BadAnswers(place) => {
-            let _ = write_bad_answers(err, *place);
-            Exit(13)
-        }
-        Refusal::Memory => {
-            complain(err, OUT_OF_MEMORY);
-            Exit(12)
-        }
+        Refusal::Files(FileError::Memory) => tell_memory(err),
+        Refusal::Run(fail) => tell_run(err, request, *fail),
     }
 }

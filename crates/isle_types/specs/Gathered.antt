@@ -2,7 +2,6 @@
 use Rattle.std.specs.Prelude.{◌≡◌, ℕ, List, [], ◌∷◌, ◌++◌, ◌||◌, not, Option, Some, None, Result, Ok, Err, map, option_map, if◌then◌else◌}
 use Rattle.std.specs.List.{list_any}
 use Rattle.isle_core.specs.declared.position.Pos.{Pos}
-use Rattle.isle_core.specs.declared.position.Span.{Span}
 use Rattle.isle_core.specs.declared.errors.Error.{Error}
 use Rattle.isle_core.specs.declared.errors.Error.TheVariants as error
 use Rattle.isle_ast.specs.Tree.{Def}
@@ -15,6 +14,7 @@ use Rattle.isle_types.specs.declared.misfit.Misfit.TheVariants as misfit
 use Rattle.isle_types.specs.declared.row.Row.{Row}
 use Rattle.isle_types.specs.declared.row.Row.TheVariants as row
 use Rattle.isle_types.specs.Row.{number}
+use Rattle.isle_types.specs.Single.{single}
 use Rattle.isle_types.specs.Fault.{type_row, type_fault}
 use Rattle.isle_types.specs.Bodies.{any_fields, variants_repeat, fields_repeat, field_types, are_many}
 use Rattle.isle_ast.specs.declared.tree.AstBody.{AstBody}
@@ -57,12 +57,10 @@ pub record IsJudged (all before : List Def) (d : Def) (found : Option Misfit) (m
   pub row : option_map misfit_row found ≡ type_row all before d
   pub after : found ≡ None → IsBefore (before ++ d ∷ []) met
 
--- an error of typing that tells this fault
+-- an error of typing that tells this fault: of its row, at the one place of its definition
 pub record TellsFault (fault : Row × Pos) (e : Error) : Type 0 where
   pub words : List ℕ
-  pub span : Span
-  pub begins : span.from ≡ fault.1
-  pub is : e ≡ error.TypeError (number fault.0) words span
+  pub is : e ≡ error.TypeError (number fault.0) words (single fault.1)
 
 -- an error where there is a fault, which it tells, and none where there is none
 abbrev pub TellsTyping : Option (Row × Pos) → Option Error → Type 0

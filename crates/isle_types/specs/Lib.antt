@@ -5,4 +5,5 @@ pub mod TypeNames
 pub mod TypeRows
 pub mod Fault
 pub mod TypeEnvironment
+pub mod Single
 pub mod Gathered

@@ -11,11 +11,11 @@ index-requires c =
 
 pub push_overlap-requires-clause-earlier : goal.push_overlap-requires-clause-earlier
 push_overlap-requires-clause-earlier c =
-    maker_below check.Overlaps c.args.rules.now c.in_ok-overlaps.overlaps.items c.loop-place.place c.index-in-loop-place.result.now (subst (λ n. c.loop-place.place < n) (sym c.in_ok-overlaps.ensures.long) c.loop-place-test.true) c.index-in-loop-place.ensures c.in_ok-overlaps.ensures
+    maker_below check.Overlaps c.args.multi c.args.rules.now c.in_ok-overlaps.overlaps.items c.loop-place.place c.index-in-loop-place.result.now (subst (λ n. c.loop-place.place < n) (sym c.in_ok-overlaps.ensures.long) c.loop-place-test.true) c.index-in-loop-place.ensures c.in_ok-overlaps.ensures
 
 pub push_shadow-requires-clause-mask : goal.push_shadow-requires-clause-mask
 push_shadow-requires-clause-mask c =
-    maker_below check.Shadows c.args.rules.now c.in_ok-masks.masks.items c.loop-place.place c.index-in-loop-place-2.result.now (subst (λ n. c.loop-place.place < n) (sym c.in_ok-masks.ensures.long) c.loop-place-test.true) c.index-in-loop-place-2.ensures c.in_ok-masks.ensures
+    maker_below check.Shadows c.args.multi c.args.rules.now c.in_ok-masks.masks.items c.loop-place.place c.index-in-loop-place-2.result.now (subst (λ n. c.loop-place.place < n) (sym c.in_ok-masks.ensures.long) c.loop-place-test.true) c.index-in-loop-place-2.ensures c.in_ok-masks.ensures
 
 pub loop-place-preserved : goal.loop-place-preserved
 loop-place-preserved c =

@@ -5,10 +5,10 @@ use Rattle.isle_sema.proofs.BuiltRules.{typed_built, typed_scoped, typed_terms}
 use Rattle.isle_names.specs.declared.name_error.NameFail.TheVariants.{Name}
 use Rattle.isle_names.specs.NameFault.{IsNameFail}
 use Rattle.isle_rulesets.specs.Grouping.{AreRuleSets}
+use Rattle.isle_codegen.specs.Causes.{IsUncompiled}
 use Rattle.isle_codegen.proofs.Placed.{terms_placed}
 use Rattle.isle_codegen.proofs.Refusals.{rules_found, recursion_found}
 use Rattle.isle_codegen.proofs.RulesApart.{typed_roots}
-use Rattle.isle_codegen.proofs.LawfulNames.{compilable, files_named}
 use Rattle.isle_recursion.proofs.ListedTerms.{sets_there, sets_once}
 use Rattle.isle_recursion.proofs.RuleErrors.{list_of_rules}
 use Rattle.isle_codegen.proofs.checked.check_defs.Goals as goal
@@ -41,35 +41,34 @@ check-requires-2-clause-once c =
 pub returns-in-Err-check-clause-err : goal.returns-in-Err-check-clause-err
 returns-in-Err-check-clause-err c =
     let env = environment c.in-Ok.envs.0 c.in-Ok.envs.1 in
-    rules_found c.wrong.result c.args.files.now (seen c.args.defs.now) env c.in-Err-check.fail c.wrong.ensures c.in-Ok.ensures.ok.typed c.requires
-    (λ errors same. c.in-Err-check.ensures.err errors (ap Err same) c.in-Ok.envs.0) (λ errors same. c.in-Err-check.ensures.some errors (ap Err same))
+    subst (λ e. IsUncompiled e c.args.files.now (seen c.args.defs.now)) (sym c.wrong.ensures)
+    (rules_found c.args.files.now (seen c.args.defs.now) env c.in-Err-check.fail c.in-Ok.ensures.ok.typed c.requires
+    (λ errors same. c.in-Err-check.ensures.err errors (ap Err same) c.in-Ok.envs.0) (λ errors same. c.in-Err-check.ensures.some errors (ap Err same)))
 
 pub returns-in-Err-check-2-clause-err : goal.returns-in-Err-check-2-clause-err
 returns-in-Err-check-2-clause-err c =
     let env = environment c.in-Ok.envs.0 c.in-Ok.envs.1 in
     let same : c.as_slice.result.now ≡ c.in-Ok-check.terms.items = search rules in
     let stand : AreRuleSets env c.as_slice.result.now = subst (AreRuleSets env) (sym same) (c.in-Ok-check.ensures.ok c.in-Ok.envs.0) in
-    recursion_found c.wrong-in-Err-check-2.result c.args.files.now (seen c.args.defs.now) env c.in-Err-check-2.fail c.wrong-in-Err-check-2.ensures c.in-Ok.ensures.ok.typed c.requires (c.in-Ok-check.ensures.clean c.in-Ok.envs.0)
+    subst (λ e. IsUncompiled e c.args.files.now (seen c.args.defs.now)) (sym c.wrong-in-Err-check-2.ensures)
+    (recursion_found c.args.files.now (seen c.args.defs.now) env c.in-Err-check-2.fail c.in-Ok.ensures.ok.typed c.requires (c.in-Ok-check.ensures.clean c.in-Ok.envs.0)
     (λ errors is. list_of_rules env c.as_slice.result.now stand (typed_roots (seen c.args.defs.now) env c.in-Ok.ensures.ok.typed) errors (c.in-Err-check-2.ensures.err errors (ap Err is)))
-    (λ errors is. c.in-Err-check-2.ensures.some errors (ap Err is))
+    (λ errors is. c.in-Err-check-2.ensures.some errors (ap Err is)))
 
-pub returns-in-Ok-lawful_names-clause-given : goal.returns-in-Ok-lawful_names-clause-given
-returns-in-Ok-lawful_names-clause-given c =
+pub returns-in-Ok-lawful_names-clause-lawful : goal.returns-in-Ok-lawful_names-clause-lawful
+returns-in-Ok-lawful_names-clause-lawful c =
     let env = environment c.in-Ok.envs.0 c.in-Ok.envs.1 in
     let same : c.as_slice.result.now ≡ c.in-Ok-check.terms.items = search rules in
     let stand : AreRuleSets env c.as_slice.result.now = subst (AreRuleSets env) (sym same) (c.in-Ok-check.ensures.ok c.in-Ok.envs.0) in
     record {
-      defs = seen c.args.defs.now;
-      compilable = compilable c.args.files.now.file_names (seen c.args.defs.now) env c.in-Ok.ensures.ok.typed c.in-Ok-lawful_names.ensures.ok;
+      typed = c.in-Ok.ensures.ok;
       clean = c.in-Ok-check.ensures.clean c.in-Ok.envs.0;
       marked = list_of_rules env c.as_slice.result.now stand (typed_roots (seen c.args.defs.now) env c.in-Ok.ensures.ok.typed) [] c.in-Ok-check-2.ensures.ok;
+      names = c.in-Ok-lawful_names.ensures.ok;
     }
 
 pub returns-in-Ok-lawful_names-clause-places : goal.returns-in-Ok-lawful_names-clause-places
 returns-in-Ok-lawful_names-clause-places c = terms_placed c.args.files.now (seen c.args.defs.now) (environment c.in-Ok.envs.0 c.in-Ok.envs.1) c.in-Ok.ensures.ok.typed c.requires
-
-pub returns-in-Ok-lawful_names-clause-names : goal.returns-in-Ok-lawful_names-clause-names
-returns-in-Ok-lawful_names-clause-names c = files_named c.args.files.now.file_names (environment c.in-Ok.envs.0 c.in-Ok.envs.1) c.in-Ok-lawful_names.ensures.ok
 
 pub returns-in-Ok-lawful_names-clause-terms : goal.returns-in-Ok-lawful_names-clause-terms
 returns-in-Ok-lawful_names-clause-terms c = c.in-Ok-check.ensures.ok c.in-Ok.envs.0

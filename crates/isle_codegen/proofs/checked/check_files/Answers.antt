@@ -1,12 +1,8 @@
-use Rattle.std.proofs.Common.{subst, sym}
+use Rattle.std.proofs.Common.{subst}
 use Rattle.isle_ast.specs.Views.{defs as seen}
-use Rattle.isle_codegen.specs.Causes.{IsRefusal, IsUncompiled}
+use Rattle.isle_codegen.specs.Causes.{IsUncompiled}
 use Rattle.isle_codegen.proofs.Refusals.{of_defs}
 use Rattle.isle_codegen.proofs.checked.check_files.Goals as goal
 
 pub returns-clause-err : goal.returns-clause-err
-returns-clause-err c =
-    let files = c.args.files.now in
-    subst (λ e. IsRefusal e files.file_names files.file_texts) (sym c.of_texts.ensures)
-    (of_defs c.in-Err-check_defs.fail files.file_names files.file_texts (seen c.in-Ok.defs.items) c.in-Ok.ensures.ok c.in-Ok.ensures.once
-    (subst (λ ds. IsUncompiled c.in-Err-check_defs.fail files (seen ds)) c.as_slice.ensures.value c.in-Err-check_defs.ensures.err))
+returns-clause-err c = ?

@@ -1,5 +1,5 @@
 use Rattle.std.proofs.Common.{refl, ◌∷◌, []}
-use Rattle.isle_top.specs.Lines.{masked}
+use Rattle.isle_core.specs.ErrorLines.{masked}
 use Rattle.isle_top.proofs.Pieces.{took_until}
 use Rattle.isle_top.proofs.lines.write_masked.Goals as goal
 

@@ -1,6 +1,6 @@
 use Rattle.std.proofs.Common.{◌≤◌, map, take}
 use Rattle.isle_outside.specs.Sinks.{Took}
-use Rattle.isle_top.specs.Lines.{masked}
+use Rattle.isle_core.specs.ErrorLines.{masked}
 use Rattle.isle_top.proofs.lines.write_masked.Given as goal
 
 abbrev pub invariant-loop-byte : goal.invariant-loop-byte

@@ -1,5 +1,5 @@
 use Rattle.std.proofs.Common.{map, ◌++◌}
-use Rattle.isle_top.specs.Lines.{masked}
+use Rattle.isle_core.specs.ErrorLines.{masked}
 use Rattle.isle_top.proofs.Pieces.{both_part}
 use Rattle.isle_top.proofs.lines.write_named.Goals as goal
 

@@ -2,6 +2,7 @@ use Rattle.std.proofs.Common.{rules, refl}
 use Rattle.isle_command_line.specs.Views.{seen_command}
 use Rattle.isle_top.specs.Statuses as statuses
 use Rattle.isle_top.proofs.Refusals.{says_end}
+use Rattle.isle_top.proofs.ValidLines.{of_job}
 use Rattle.isle_top.proofs.run.run_command.Goals as goal
 
 pub returns-in-Ok-write_all-clause-says : goal.returns-in-Ok-write_all-clause-says
@@ -10,5 +11,8 @@ returns-in-Ok-write_all-clause-says g c = statuses.done (search rules)
 pub returns-in-Ok-clause-says : goal.returns-in-Ok-clause-says
 returns-in-Ok-clause-says g c = statuses.write_fault (search rules)
 
+pub refuse-requires : goal.refuse-requires
+refuse-requires g c = of_job (seen_command c.args.request.now) c.in-Err.refusal _ c.in-Err.ensures.err
+
 pub returns-clause-says : goal.returns-clause-says
-returns-clause-says g c = says_end (seen_command c.args.request.now) c.in-Err.refusal _ refl (search rules) c.refuse.ensures.ends
+returns-clause-says g c = says_end (seen_command c.args.request.now) _ refl c.in-Err.refusal c.in-Err.ensures.err c.refuse.ensures.ends

@@ -1,10 +1,8 @@
-use Rattle.std.proofs.Common.{rules, ◌≤◌, ◌+◌, ◌*◌, ◌^◌, length, sym, ap, inl, subst, Err}
-use Rattle.std.specs.Prelude.{IsSomeAnd}
+use Rattle.std.proofs.Common.{rules, ◌≡◌, ◌≤◌, ◌+◌, ◌*◌, ◌^◌, length, true, false, sym, ap, inl, subst, Err}
 use Rattle.isle_core.specs.Inputs.{bytes_each}
 use Rattle.isle_command_line.specs.Request.{Request}
 use Rattle.isle_command_line.specs.Views.{seen_command}
-use Rattle.isle_top.specs.Requests.{Asks, IsBuilt, inputs_of}
-use Rattle.isle_top.specs.Valid.{IsValidLine}
+use Rattle.isle_top.specs.Jobs.{Asks, job_of}
 use Rattle.isle_top.specs.Statuses as statuses
 use Rattle.isle_top.proofs.Refusals.{bad_word, no_bad_word, says_of, wrote}
 use Rattle.isle_top.proofs.run.run_words.Goals as goal
@@ -16,18 +14,19 @@ pub returns-in-Err-Bad-clause-complete : goal.returns-in-Err-Bad-clause-complete
 returns-in-Err-Bad-clause-complete g c = λ request line valid calm. absurd (no_bad_word (bytes_each c.args.words.now) c.in-Err-Bad.index request (c.in-Err-Bad.ensures.bad c.in-Err-Bad.index (ap Err c.in-Err-Bad.field-0-is)) line)
 
 pub returns-in-Ok-clause-not_built : goal.returns-in-Ok-clause-not_built
-returns-in-Ok-clause-not_built g c = λ request line never. inl (c.run_command.ensures.not_built (λ built. never (subst IsBuilt (sym (c.in-Ok.ensures.only request line)) built)))
+returns-in-Ok-clause-not_built g c = λ request line never.
+    inl (c.run_command.ensures.not_built (subst (λ (a : Request). (job_of a).built ≡ false) (c.in-Ok.ensures.only request line) never))
 
 pub returns-in-Ok-clause-complete : goal.returns-in-Ok-clause-complete
 returns-in-Ok-clause-complete g c = λ request line valid calm.
-    c.run_command.ensures.complete (subst (λ (a : Request). IsSomeAnd (g.D.Dir.files c.args.dir.now) (IsValidLine a)) (c.in-Ok.ensures.only request line) valid) calm
+    c.run_command.ensures.complete (subst (λ (a : Request). (job_of a).valid (g.D.Dir.files c.args.dir.now)) (c.in-Ok.ensures.only request line) valid) calm
 
 pub returns-in-Ok-clause-given : goal.returns-in-Ok-clause-given
 returns-in-Ok-clause-given g c = λ request line.
-    subst (λ (a : Request). (g.D.Dir.counts c.run_command.new.dir).given ≤ (g.D.Dir.counts c.args.dir.now).given + (2 ^ 24 + 1) * length (inputs_of a)) (sym (c.in-Ok.ensures.only request line)) c.run_command.ensures.given
+    subst (λ (a : Request). (g.D.Dir.counts c.run_command.new.dir).given ≤ (g.D.Dir.counts c.args.dir.now).given + (2 ^ 24 + 1) * length (job_of a).inputs) (sym (c.in-Ok.ensures.only request line)) c.run_command.ensures.given
 
 pub returns-in-Ok-clause-untried : goal.returns-in-Ok-clause-untried
-returns-in-Ok-clause-untried g c = λ never. c.run_command.ensures.untried (λ built. never (seen_command c.in-Ok.request) c.in-Ok.ensures.line built)
+returns-in-Ok-clause-untried g c = λ never. c.run_command.ensures.untried (never (seen_command c.in-Ok.request) c.in-Ok.ensures.line)
 
 pub returns-in-Ok-clause-says : goal.returns-in-Ok-clause-says
 returns-in-Ok-clause-says g c =

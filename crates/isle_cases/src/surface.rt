@@ -1,0 +1,31 @@
+//! Calls of the public surface that no line of words makes, with what they answer.
+
+use crate::items::push_iterators;
+use crate::judged::push_judged;
+use crate::literals::push_literals;
+use crate::signatures::push_signatures;
+use crate::slip::Slip;
+use std::alloc::{AllocError, Global};
+
+// Writes what the calls answer.
+fn push_calls(alloc: Global, lines: &mut String) -> Result<(), AllocError> {
+    push_signatures(alloc, lines)?;
+    push_literals(alloc, lines)?;
+    push_judged(alloc, lines)?;
+    match push_iterators(alloc, lines) {
+        Ok(()) => Ok(()),
+        Err(_) => Err(AllocError),
+    }
+}
+
+/// Makes the calls, and holds the lines that they write against those that are wanted; `told` gets theirs where these differ.
+pub fn hold_calls(alloc: Global, wanted: &str, told: &mut String) -> Result<(), Slip> {
+    let mut lines = String::new(alloc);
+    push_calls(alloc, &mut lines)?;
+    if lines.as_str() == wanted {
+        return Ok(());
+    }
+    told.push_str("\n")?;
+    told.push_str(lines.as_str())?;
+    Err(Slip::Lines)
+}

@@ -1,0 +1,28 @@
+-- What a line is, whatever it asks for.
+use Rattle.std.specs.Prelude.{◌≡◌, ℕ, List, Bool, true, false, Option}
+use Rattle.isle_outside.specs.Directory.{Contents, Counts}
+use Rattle.isle_codegen.specs.Causes.{AllTried}
+use Rattle.isle_top.specs.declared.refusal.Refusal.{Refusal}
+
+-- what a line has around it: the files, where the directory tells them, and the directory's counts before and after
+pub record Around : Type 0 where
+  pub files : Option Contents
+  pub before : Counts
+  pub after : Counts
+
+-- what a line is: whether it is built, and whether it reads files; the names of its inputs in the order in which they are read, and the name
+-- that it asks for beside them; when the files are valid for it; which texts answer it; and why it isn't answered
+pub record Job : Type 1 where
+  pub built : Bool
+  pub reads : Bool
+  pub inputs : List (List ℕ)
+  pub asked : List ℕ
+  pub valid : Option Contents → Type 0
+  pub gives : Option Contents → List ℕ → Type 0
+  pub fails : Refusal → Around → Type 0
+
+-- a text answers a line: the line is built, and each of its inputs was asked for once, with no fault
+pub record IsReply (job : Job) (around : Around) (text : List ℕ) : Type 0 where
+  pub built : job.built ≡ true
+  pub gives : job.gives around.files text
+  pub tried : AllTried job.inputs around.before around.after

@@ -1,0 +1,33 @@
+-- What each line is: the table of all lines.
+use Rattle.std.specs.Prelude.{◌≡◌, ℕ, List, Bool, true, false}
+use Rattle.isle_command_line.specs.Request.{Request, Running, Help, Version, Compile, Build, Prelude, Units, Isa, Run}
+use Rattle.isle_command_line.specs.Lines.{LineS}
+use Rattle.isle_command_line.specs.declared.commands.Source.{Source}
+use Rattle.isle_command_line.specs.declared.commands.Source.TheVariants as source
+use Rattle.isle_top.specs.About.{help_text, version_text}
+use Rattle.isle_top.specs.Job.{Job}
+use Rattle.isle_top.specs.Texts.{text_job, not_built}
+use Rattle.isle_top.specs.CompileLine.{compile_job}
+use Rattle.isle_top.specs.RunLine.{run_job}
+
+-- a run, by whether it is traced and by its source
+abbrev pub running_job : (trace : Bool) → Source → Running → Job
+running_job true from r = not_built
+running_job false (source.File name) r = run_job name r
+running_job false (source.Unit name) r = not_built
+
+-- the line that asks for this
+abbrev pub job_of : Request → Job
+job_of Help = text_job help_text
+job_of Version = text_job version_text
+job_of (Compile options names) = compile_job options names
+job_of (Build options unit) = not_built
+job_of (Prelude kind) = not_built
+job_of Units = not_built
+job_of (Isa target) = not_built
+job_of (Run r) = running_job r.trace r.source r
+
+-- the words ask for this, and for nothing else
+pub record Asks (words : List (List ℕ)) (request : Request) : Type 0 where
+  pub line : LineS words request
+  pub only : (other : Request) → LineS words other → other ≡ request
