@@ -71,7 +71,9 @@ pub returns-in-Ok-lawful_names-clause-places : goal.returns-in-Ok-lawful_names-c
 returns-in-Ok-lawful_names-clause-places c = terms_placed c.args.files.now (seen c.args.defs.now) (environment c.in-Ok.envs.0 c.in-Ok.envs.1) c.in-Ok.ensures.ok.typed c.requires
 
 pub returns-in-Ok-lawful_names-clause-terms : goal.returns-in-Ok-lawful_names-clause-terms
-returns-in-Ok-lawful_names-clause-terms c = c.in-Ok-check.ensures.ok c.in-Ok.envs.0
+returns-in-Ok-lawful_names-clause-terms c =
+    let env = environment c.in-Ok.envs.0 c.in-Ok.envs.1 in
+    subst (AreRuleSets env) (sym c.new.ensures) (c.in-Ok-check.ensures.ok c.in-Ok.envs.0)
 
 pub returns-in-Err-Name-clause-err : goal.returns-in-Err-Name-clause-err
 returns-in-Err-Name-clause-err c =

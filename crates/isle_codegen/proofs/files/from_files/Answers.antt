@@ -8,8 +8,8 @@ use Rattle.isle_codegen.specs.Causes.{printed, IsRefusal}
 use Rattle.isle_codegen.proofs.Refusals.{of_read, read_cause}
 use Rattle.isle_codegen.proofs.files.from_files.Goals as goal
 
-pub returns-in-Ok-in-Ok-clause-ok : goal.returns-in-Ok-in-Ok-clause-ok
-returns-in-Ok-in-Ok-clause-ok g c = record {
+pub returns-in-Ok-compiled-clause-ok : goal.returns-in-Ok-compiled-clause-ok
+returns-in-Ok-compiled-clause-ok g c = record {
   source = c.in-Ok.files;
   read = record {
     named = c.in-Ok.ensures.names ∙ ap (λ ps. map (shown ps) (bytes_each c.args.inputs.now)) c.as_slice.ensures;
@@ -19,8 +19,8 @@ returns-in-Ok-in-Ok-clause-ok g c = record {
   header = c.in-Ok-compiled.ensures.header;
 }
 
-pub returns-in-Ok-in-Err-clause-err : goal.returns-in-Ok-in-Err-clause-err
-returns-in-Ok-in-Err-clause-err g c =
+pub returns-in-Err-clause-err : goal.returns-in-Err-clause-err
+returns-in-Err-clause-err g c =
     let files = c.in-Ok.files in
     let names : files.file_names ≡ printed c.args.options.now (bytes_each c.args.inputs.now) =
     c.in-Ok.ensures.names ∙ ap (λ ps. map (shown ps) (bytes_each c.args.inputs.now)) c.as_slice.ensures in
