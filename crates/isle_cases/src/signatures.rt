@@ -114,7 +114,18 @@ fn push_extractor(
     }
 }
 
-// Writes what a term has: which of its functions are external, that it is marked `rec`, and their signatures.
+// Writes which functions of a term are external, and that it is marked `rec` or isn't.
+fn push_marks(lines: &mut String, term: &Term) -> Result<(), AllocError> {
+    lines.push_str(": external ")?;
+    lines.push_str(yes_no(term.has_external_constructor()))?;
+    lines.push_str(" ")?;
+    lines.push_str(yes_no(term.has_external_extractor()))?;
+    lines.push_str(", rec ")?;
+    lines.push_str(yes_no(term.is_recursive()))?;
+    lines.push_str("\n")
+}
+
+// Writes what a term has: its marks, and the signatures of its functions.
 fn push_term(
     alloc: Global,
     lines: &mut String,
@@ -124,23 +135,8 @@ fn push_term(
     let TermKind::Decl { .. } = term.kind else {
         return Ok(());
     };
-    let made = yes_no(term.has_external_constructor());
-    let taken = yes_no(term.has_external_extractor());
-    let marked = yes_no(term.is_recursive());
-    let name = env.symbol(term.name);
-    push_all(
-        lines,
-        &[
-            name,
-            ": external ",
-            made,
-            " ",
-            taken,
-            ", rec ",
-            marked,
-            "\n",
-        ],
-    )?;
+    lines.push_str(env.symbol(term.name))?;
+    push_marks(lines, term)?;
     push_constructor(alloc, lines, env, term)?;
     push_extractor(alloc, lines, env, term)
 }
