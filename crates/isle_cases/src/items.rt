@@ -15,20 +15,18 @@ struct Context {
 
 // An iterator with no item.
 #[derive(Default, Drop)]
-struct Nothing {
-    calls: usize,
-}
+struct NoLetters;
 
-impl ContextIter for Nothing {
+impl ContextIter for NoLetters {
     type Context = Context;
 
     type Output = char;
 
-    ghost can_next = { λ nothing. ⊤ };
+    ghost can_next = { λ none. ⊤ };
 
-    ghost has_list = { λ nothing items. items ≡ [] };
+    ghost has_list = { λ none items. items ≡ [] };
 
-    ghost remaining = { λ nothing. at_most 0 };
+    ghost remaining = { λ none. at_most 0 };
 
     fn next(&mut self, ctx: &mut Context) -> Option<char> {
         ctx.asked = ctx.asked.saturating_add(1);
@@ -85,14 +83,20 @@ fn push_letters(lines: &mut String, letters: &[char]) -> Result<(), AllocError> 
     lines.push_str("\n")
 }
 
-// Writes how many items the wrapped list has, by the wrapper and by the list, and what its iterator hints at.
-fn push_counts(alloc: Global, lines: &mut String) -> Result<(), OutOfMemory> {
+// How many items the wrapped list has, by the wrapper and by the list, and what its iterator hints at: at least, and at most.
+fn counts(alloc: Global) -> Result<[usize; 4], OutOfMemory> {
     let list = wrapped(alloc)?;
-    let counts = (list.len(), list.inner().len());
+    let length = list.len();
+    let inside = list.inner().len();
     let hint = list.into_context_iter().size_hint();
-    let most = hint.1.unwrap_or(0);
-    push_all(lines, &["lengths ", digit(counts.0), " ", digit(counts.1)])?;
-    push_all(lines, &[", hint ", digit(hint.0), " ", digit(most), "\n"])?;
+    Ok([length, inside, hint.0, hint.1.unwrap_or(0)])
+}
+
+// Writes them.
+fn push_counts(alloc: Global, lines: &mut String) -> Result<(), OutOfMemory> {
+    let [length, inside, least, most] = counts(alloc)?;
+    push_all(lines, &["lengths ", digit(length), " ", digit(inside)])?;
+    push_all(lines, &[", hint ", digit(least), " ", digit(most), "\n"])?;
     Ok(())
 }
 
@@ -106,34 +110,20 @@ fn push_items(alloc: Global, lines: &mut String, ctx: &mut Context) -> Result<()
     Ok(())
 }
 
-// Writes what the iterator without items gives and hints at, and how often it was handed the context.
-fn push_nothing(lines: &mut String, ctx: &mut Context) -> Result<(), AllocError> {
-    let mut none = ContextIterWrapper::<Nothing, Context>::default();
-    let calls = none.inner().calls;
+// Whether the iterator without items gives one, and what it hints at.
+fn of_none(ctx: &mut Context) -> (bool, usize, bool) {
+    let mut none = ContextIterWrapper::<NoLetters, Context>::default();
     let given = none.inner_mut().next(ctx);
     let hint = none.inner().size_hint();
-    let hints = yes_no(hint.1.is_some());
-    push_all(
-        lines,
-        &[
-            "nothing: given ",
-            yes_no(given.is_some()),
-            ", calls ",
-            digit(calls),
-        ],
-    )?;
-    push_all(
-        lines,
-        &[
-            ", hint ",
-            digit(hint.0),
-            " ",
-            hints,
-            ", asked ",
-            digit(ctx.asked),
-            "\n",
-        ],
-    )
+    (given.is_some(), hint.0, hint.1.is_some())
+}
+
+// Writes it, and how often the context was handed in.
+fn push_nothing(lines: &mut String, ctx: &mut Context) -> Result<(), AllocError> {
+    let found = of_none(ctx);
+    push_all(lines, &["nothing: given ", yes_no(found.0)])?;
+    push_all(lines, &[", hint ", digit(found.1), " ", yes_no(found.2)])?;
+    push_all(lines, &[", asked ", digit(ctx.asked), "\n"])
 }
 
 // Writes what the iterators give over a context.

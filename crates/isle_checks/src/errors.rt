@@ -24,7 +24,9 @@ fn unreachable_error(alloc: Global, rule: Pos) -> Result<Error, AllocError>
 
 // The words for a rule that the rule of this number among those of its term overlaps, counted from 1.
 fn overlap_words(alloc: Global, number: usize) -> Result<Text, OutOfMemory> {
-    let words = format!(in alloc; "rule {number} of its term has the same priority and matches too")?;
+    let words = format!(in alloc;
+        "rule {number} of its term has the same priority and matches too"
+    )?;
     Ok(Text::new(words))
 }
 

@@ -243,9 +243,9 @@ module _ (env : Environment) (t : Term) (set : RuleSet) (rules : List Rule) (sta
   bound_expr_so bound b (Some (binding.MakeStruct of fields)) is =
       value_so bound (form env (MakesStruct of)) is.f fields is.found
       (λ none empty.
-          let bare : fields ≡ [] = no_parts bound (typed_fields env is.f.fields) fields is.parts empty in
-          let path : at (paths_in s) b ≡ MadeStruct of NoPath = is.path ∙ ap (λ (bs : List BindingId). MadeStruct of (at_all (paths_in s) bs)) bare in
-          unit_struct of is.f is.found (subst (IsSpoken env rules) path (spoken_at b (subst IsThere (sym path) tt)))) is.parts
+      let bare : fields ≡ [] = no_parts bound (typed_fields env is.f.fields) fields is.parts empty in
+      let path : at (paths_in s) b ≡ MadeStruct of NoPath = is.path ∙ ap (λ (bs : List BindingId). MadeStruct of (at_all (paths_in s) bs)) bare in
+      unit_struct of is.f is.found (subst (IsSpoken env rules) path (spoken_at b (subst IsThere (sym path) tt)))) is.parts
   bound_expr_so bound b o is = absurd is
 
   -- ---- statements
@@ -311,21 +311,24 @@ module _ (env : Environment) (t : Term) (set : RuleSet) (rules : List Rule) (sta
         let c = constraint.Variant of variant in
         let v = over_value s bound source c k.1.0 (λ e. cc) k.1.1 k.1.2.0 in
         let a = arm_pattern s source v.ty c places v.is k.1.2.1 tt in
-        let inside = block_body s (bound_within bound places) body Done in
-        (read_so true (is_reference_in s source) (written_operand s bound source) (ready_so bound source v.ty v.ready),
-        all_append So (pattern_operands (written_pattern (pattern_of env c places))) (body_operands inside) (pattern_so (pattern_of env c places) _ a.is (named_so a.f.ty a.f.variant (leaves_out (typed_fields env a.f.fields) places) a.binds)) (block_so body (bound_within bound places) made Done k.1.2.2 o w.1 tt))
+        let inside = block_body s (bound_within bound places) body Done in (
+          read_so true (is_reference_in s source) (written_operand s bound source) (ready_so bound source v.ty v.ready),
+          all_append So (pattern_operands (written_pattern (pattern_of env c places))) (body_operands inside) (pattern_so (pattern_of env c places) _ a.is (named_so a.f.ty a.f.variant (leaves_out (typed_fields env a.f.fields) places) a.binds)) (block_so body (bound_within bound places) made Done k.1.2.2 o w.1 tt),
+        )
     control_so (block.Match source (block.Arm (constraint.Struct of) places body block.NoArm)) bound made k o w =
         let c = constraint.Struct of in
         let v = over_value s bound source c k.1.0 (λ e. cc) k.1.1 k.1.2.0 in
         let a = arm_pattern s source v.ty c places v.is k.1.2.1 tt in
-        let inside = block_body s (bound_within bound places) body Done in
-        (read_so true (is_reference_in s source) (written_operand s bound source) (ready_so bound source v.ty v.ready),
-        all_append So (pattern_operands (written_pattern (pattern_of env c places))) (body_operands inside) (pattern_so (pattern_of env c places) _ a.is (named_so a.f.ty a.f.variant (leaves_out (typed_fields env a.f.fields) places) a.binds)) (block_so body (bound_within bound places) made Done k.1.2.2 o w.1 tt))
+        let inside = block_body s (bound_within bound places) body Done in (
+          read_so true (is_reference_in s source) (written_operand s bound source) (ready_so bound source v.ty v.ready),
+          all_append So (pattern_operands (written_pattern (pattern_of env c places))) (body_operands inside) (pattern_so (pattern_of env c places) _ a.is (named_so a.f.ty a.f.variant (leaves_out (typed_fields env a.f.fields) places) a.binds)) (block_so body (bound_within bound places) made Done k.1.2.2 o w.1 tt),
+        )
     control_so (block.Match source (block.Arm constraint.Some places body block.NoArm)) bound made k o w =
         let v = over_option s bound source k.1.0 k.1.1 k.1.2.0 in
-        let inside = block_body s (bound_within bound places) body Done in
-        (bound_so bound source v.1.bound',
-        all_append So (pattern_operands (written_pattern (pattern_of env constraint.Some places))) (body_operands inside) (pattern_so (pattern_of env constraint.Some places) _ (some_made places k.1.2.1.0).1 tt) (block_so body (bound_within bound places) made Done k.1.2.2 o w.1 tt))
+        let inside = block_body s (bound_within bound places) body Done in (
+          bound_so bound source v.1.bound',
+          all_append So (pattern_operands (written_pattern (pattern_of env constraint.Some places))) (body_operands inside) (pattern_so (pattern_of env constraint.Some places) _ (some_made places k.1.2.1.0).1 tt) (block_so body (bound_within bound places) made Done k.1.2.2 o w.1 tt),
+        )
     control_so (block.Match source (block.Arm c places body (block.Arm d others inside arms))) bound made k o w = absurd o
     control_so (block.Match source block.NoArm) bound made k o w = absurd o
     control_so (block.Equal x y body) bound made k o w = (ready_so bound x k.0.0 k.0.1, (ready_so bound y k.0.0 k.0.2, block_so body bound made Done k.1 o w.1 tt))

@@ -10,11 +10,11 @@ use Rattle.isle_codegen.specs.Source.{Source}
 
 -- the definitions have this environment and no other; nothing is wrong with its rules, each term that uses itself is marked so, and its
 -- names and those of the files, as printed, may be emitted
-pub record IsLawfulEnvironment (names : List (List ℕ)) (defs : List Def) (env : Environment) : Type 0 where
+pub record IsLawfulEnvironment (printed : List (List ℕ)) (defs : List Def) (env : Environment) : Type 0 where
   pub typed : TypedOnly defs env
   pub clean : IsClean env
   pub marked : IsRecursionOf env []
-  pub names : AreLawfulNames names env
+  pub names : AreLawfulNames printed env
 
 -- the environment is such a one of some definitions
 pub record MayBeEmitted (names : List (List ℕ)) (env : Environment) : Type 0 where

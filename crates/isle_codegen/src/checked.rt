@@ -42,7 +42,10 @@ pub fn check_files(alloc: Global, files: &Files) -> Result<Checked, CompileError
         Ok(defs) => defs,
         Err(fail) => return Err(fail),
     };
-    check_defs(alloc, files, defs.as_slice())
+    match check_defs(alloc, files, defs.as_slice()) {
+        Ok(checked) => Ok(checked),
+        Err(fail) => Err(fail),
+    }
 }
 
 /// Checks definitions that stand in the files: their typing, then their rules, then terms that use themselves, then names. The first check

@@ -41,11 +41,7 @@ pub fn from_files<D: Dir>(
 }
 
 // The text of the program of the definitions that the files' texts spell. There are as many names as texts.
-fn compiled(
-    alloc: Global,
-    files: &Files,
-    options: &CodegenOptions,
-) -> Result<String, CompileError>
+fn compiled(alloc: Global, files: &Files, options: &CodegenOptions) -> Result<String, CompileError>
     requires count { length files.now.file_texts ≡ length files.now.file_names }
     ensures header { IfOk result (λ text. HasHeader files.now.file_names (string_bytes text)) }
     ensures ok { IfOk result (λ text. CompilesTo options.now files.now (string_bytes text)) }
@@ -55,5 +51,8 @@ fn compiled(
         Ok(defs) => defs,
         Err(fail) => return Err(fail),
     };
-    compile(alloc, files, defs.as_slice(), options)
+    match compile(alloc, files, defs.as_slice(), options) {
+        Ok(text) => Ok(text),
+        Err(fail) => Err(fail),
+    }
 }

@@ -1,8 +1,7 @@
 -- The list of an iterator, along its calls.
-use Rattle.std.proofs.Common.{◌≡◌, List, [], ◌∷◌, ◌++◌, length, Option, Some, None, refl, ap, sym, ◌∙◌, subst, append-nil, arith}
+use Rattle.std.proofs.Common.{◌≡◌, List, [], ◌∷◌, ◌++◌, Option, Some, None, refl, ap, sym, ◌∙◌, subst, append-nil}
+use Rattle.std.specs.Prelude.{Result, Ok, Err, MatchResult, OnOk, OnErr}
 use Rattle.std.specs.Iterator.{Yields, Drains}
-use Rattle.std.specs.Vec.Iter.{into_iter_items, into_iter_len, into_iter_steps}
-use Rattle.std.specs.declared.vec.IntoIter.{IntoIter}
 use Rattle.isle_runtime.specs.Items.{AppendsFront, GivesFirst, HasList}
 
 module _ {S X : Type 0} (steps : S → Option X → S → Type 0) where
@@ -37,10 +36,19 @@ module _ {S X : Type 0} (steps : S → Option X → S → Type 0) where
   appends_front given items old new s t u same has run is =
       let left = gives_front given items t u (subst (λ (v : S). HasList steps v items) (sym same) has) run in (given, left.0, left.1, is)
 
--- the iterator that a list becomes has the list
-pub of_list : {X Z : Type 0} (items : List X) (s : IntoIter X Z) → into_iter_items s ≡ items → into_iter_len s ≡ length items → HasList (into_iter_steps {X = X} {Z = Z}) s items
-of_list [] s is counted = λ x t step. cc
-of_list (y ∷ ys) s is counted = (
-  λ t step. let none : into_iter_len s ≡ 0 = step.0 in cc,
-  λ x t step. (cc, of_list ys t (cc) (omega (arith, step.1, counted))),
-)
+  -- a call more gives an item more
+  pub yields_more : (given : List X) (x : X) (s t u : S) → Yields steps s given t → steps t (Some x) u → Yields steps s (given ++ x ∷ []) u
+  yields_more [] x s t u same step = (u, subst (λ (v : S). steps v (Some x) u) (sym same) step, refl)
+  yields_more (y ∷ ys) x s t u run step = (run.0, run.1, yields_more ys x run.0 t u run.2 step)
+
+  -- where all that calls give was appended, so were all items
+  pub extended_all : {E : Type 0} (r : Result (Unit {0}) E) (given old new : List X) (s t : S) → t ≡ s → new ≡ old ++ given → MatchResult r (λ _. Drains steps t given) (λ _. (u : S) × Yields steps t given u)
+      → OnOk r ((items : List X) → HasList steps s items → new ≡ old ++ items)
+  extended_all (Ok v) given old new s t same is ran = λ items has. appends_all given items old new s t same has ran is
+  extended_all (Err e) given old new s t same is ran = tt
+
+  -- where what some calls gave was appended, so was a front of the items
+  pub extended_front : {E : Type 0} (r : Result (Unit {0}) E) (given old new : List X) (s t : S) → t ≡ s → new ≡ old ++ given → MatchResult r (λ _. Drains steps t given) (λ _. (u : S) × Yields steps t given u)
+      → OnErr r ((items : List X) → HasList steps s items → AppendsFront old new items)
+  extended_front (Ok v) given old new s t same is ran = tt
+  extended_front (Err e) given old new s t same is ran = λ items has. appends_front given items old new s t ran.0 same has ran.1 is

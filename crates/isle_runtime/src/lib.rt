@@ -3,9 +3,11 @@
 #![tactic(auto)]
 
 mod iterators;
+mod list_iter;
 mod lists;
 mod wrapper;
 
 pub use iterators::{ContextIter, IntoContextIter};
+pub use list_iter::ListIter;
 pub use lists::Length;
 pub use wrapper::ContextIterWrapper;

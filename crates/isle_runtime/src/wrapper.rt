@@ -3,10 +3,10 @@ ghost use Rattle.std.specs.Iterator.{ExtendsWithItems, IsFinite, MakesProgress};
 ghost use Rattle.isle_runtime.specs.Items.{AppendsFront, GivesFirst, HasList};
 
 use crate::iterators::{ContextIter, IntoContextIter};
-use crate::lists::Length;
+use crate::list_iter::ListIter;
+use crate::lists::{Length, append};
 use isle_outside::OutOfMemory;
 use std::marker::{Model, PhantomData};
-use std::vec;
 
 /// An iterator or a list that stands where a context is handed in. Contracts see what is wrapped.
 #[derive(Drop)]
@@ -96,20 +96,17 @@ impl<I: Iterator, C> ContextIter for ContextIterWrapper<I, C> {
 }
 
 /// Of a list, whatever its items are.
-impl<T: Drop, C> IntoContextIter for ContextIterWrapper<Vec<T>, C> {
+impl<T, C> IntoContextIter for ContextIterWrapper<Vec<T>, C> {
     type Context = C;
 
     type Output = T;
 
-    type IntoIter = ContextIterWrapper<vec::IntoIter<T>, C>;
+    type IntoIter = ListIter<T, C>;
 
     ghost has_items = { λ wrapper items. wrapper.items ≡ items };
 
     fn into_context_iter(self) -> Self::IntoIter {
-        ContextIterWrapper {
-            iter: self.iter.into_iter(),
-            context: PhantomData,
-        }
+        ListIter::new(self.iter)
     }
 }
 
@@ -121,7 +118,7 @@ impl<L: Length, C> Length for ContextIterWrapper<L, C> {
     }
 }
 
-impl<T: Drop, C> ContextIterWrapper<Vec<T>, C> {
+impl<T, C> ContextIterWrapper<Vec<T>, C> {
     /// Appends the items in order. Where memory runs out, a front of them was appended.
     pub fn extend<It: Iterator<Item = T>>(&mut self, items: It) -> Result<(), OutOfMemory>
         requires can_next { It.can_next items }
@@ -132,7 +129,6 @@ impl<T: Drop, C> ContextIterWrapper<Vec<T>, C> {
         // The same, call by call: what the calls gave is what was appended.
         ensures ran { ExtendsWithItems (λ taken iter. iter ≡ taken) It.next_gives (λ old given new. new.items ≡ old.items ++ given) items self.old self.new result }
     {
-        self.iter.extend(items)?;
-        Ok(())
+        append(&mut self.iter, items)
     }
 }

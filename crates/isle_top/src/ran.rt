@@ -56,11 +56,21 @@ pub fn ran<D: Dir>(
 {
     let read = match read_inputs(alloc, &run.options, source, name_of(&run.answers), dir) {
         Ok(read) => read,
-        Err(ReadError::Io { index, cause }) => return Err(Refusal::Files(FileError::Io { index, cause })),
+        Err(ReadError::Io { index, cause }) => return Err(Refusal::Files(FileError::Io {
+            index,
+            cause,
+        })),
         Err(ReadError::Memory) => return Err(Refusal::Files(FileError::Memory)),
     };
     let values = run.values.as_slice();
-    match trial(alloc, &read.files, &run.options, run.term.as_str(), values, read.answers.as_str()) {
+    match trial(
+        alloc,
+        &read.files,
+        &run.options,
+        run.term.as_str(),
+        values,
+        read.answers.as_str(),
+    ) {
         Ok(lines) => Ok(lines),
         Err(fail) => Err(of_trial(read.files, fail)),
     }

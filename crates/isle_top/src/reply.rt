@@ -36,13 +36,19 @@ pub fn reply<D: Dir>(alloc: Global, command: &Command, dir: &mut D) -> Result<St
     match command {
         Command::Help => Ok(String::from_str(alloc, help())?),
         Command::Version => Ok(String::from_str(alloc, version())?),
-        Command::Compile { options, names } => match compiled(alloc, names.as_slice(), options, dir) {
+        Command::Compile { options, names } => match compiled(
+            alloc,
+            names.as_slice(),
+            options,
+            dir,
+        ) {
             Ok(text) => Ok(text),
             Err(e) => Err(Refusal::Files(e)),
         },
         Command::Run(run) => run_reply(alloc, run, dir),
-        Command::Build { .. } | Command::Prelude(_) | Command::Units | Command::Isa(_) =>
-            Err(Refusal::NotYet),
+        Command::Build { .. } | Command::Prelude(_) | Command::Units | Command::Isa(_) => Err(
+            Refusal::NotYet,
+        ),
     }
 }
 

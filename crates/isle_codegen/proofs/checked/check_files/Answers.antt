@@ -4,5 +4,8 @@ use Rattle.isle_codegen.specs.Causes.{IsUncompiled}
 use Rattle.isle_codegen.proofs.Refusals.{of_defs}
 use Rattle.isle_codegen.proofs.checked.check_files.Goals as goal
 
-pub returns-clause-err : goal.returns-clause-err
-returns-clause-err c = ?
+pub returns-in-Err-check_defs-clause-err : goal.returns-in-Err-check_defs-clause-err
+returns-in-Err-check_defs-clause-err c =
+    let files = c.args.files.now in
+    of_defs c.in-Err-check_defs.fail files (seen c.in-Ok.defs.items) c.in-Ok.ensures.ok c.in-Ok.ensures.once
+    (subst (λ ds. IsUncompiled c.in-Err-check_defs.fail files (seen ds)) c.as_slice.ensures.value c.in-Err-check_defs.ensures.err)

@@ -1,0 +1,13 @@
+//! Target programs as trees: judged, printed, and run under given answers. What their text is, and what a run does,
+//! stand in `docs/TARGET.md`.
+
+pub use isle_core::{
+    Answer, Answers, CallMade, Callee, End, Outcome, PureAnswers, TurnAnswers, Value,
+};
+pub use isle_interpreter::{RunError, run_term};
+pub use isle_judging::well_formed;
+pub use isle_target::{print_program, rust_int_literal};
+pub use isle_tree::{
+    Function, Operand, Program, Read, Stmt, TBind, TCall, TExpr, TFields, TPat, TraitFn, Ty,
+    TypeBody, TypeItem,
+};
