@@ -46,6 +46,7 @@ use Rattle.isle_simulation.specs.RustNames.{HasRustNames}
 use Rattle.isle_simulation.proofs.PathValues.{struct_unnamed}
 use Rattle.isle_codegen.specs.Checked.{IsChecked}
 use Rattle.isle_codegen.specs.Spoken.{IsSpoken}
+use Rattle.isle_codegen.proofs.LawfulNames.{compilable}
 use Rattle.isle_codegen.proofs.Operands.{body_operands}
 use Rattle.isle_codegen.proofs.SpokenOperands.{IsSpokenOperand, local, argument, unit_struct, truth, number, named, function_so}
 use Rattle.isle_codegen.proofs.TypedNames.{typed_parts}
@@ -137,7 +138,7 @@ module _ (options : CodegenOptions) (files : Files) (env : Environment) (checked
   So = IsSpokenOperand env rules
 
   names : HasRustNames env
-  names = has_rust_names _ env checked.given.compilable.lawful (typed_parts checked.defs env checked.typed.typed)
+  names = has_rust_names _ env (compilable checked.lawful).lawful (typed_parts checked.defs env checked.lawful.typed.typed)
 
   values : ValuesConstants env m
   values = values_declared env m right
