@@ -1,9 +1,13 @@
 -- What a refusal says and writes.
-use Rattle.std.proofs.Common.{◌≡◌, ℕ, zero, suc, ◌+◌, ◌<◌, length, List, [], ◌∷◌, drop, Option, Some, Result, Ok, Err, refl, sym, subst, inl, inr, arith}
+use Rattle.std.proofs.Common.{◌≡◌, ℕ, zero, suc, ◌+◌, ◌<◌, length, List, [], ◌∷◌, drop, Option, Some, None, Result, Ok, Err, refl, sym, subst, inl, inr, arith}
 use Rattle.std.specs.Prelude.{IsSomeAnd, slice_get, OnOk, OnErr}
 use Rattle.std.proofs.lemmas.List.{take-append-drop}
+use Rattle.std.proofs.lemmas.Option.{same_Some}
 use Rattle.isle_outside.specs.Directory.{Rose}
 use Rattle.isle_outside.specs.Sinks.{Took, TookPart}
+use Rattle.isle_outside.specs.declared.errors.IoCause.{IoCause}
+use Rattle.isle_core.specs.declared.errors.Error.{Error}
+use Rattle.isle_core.specs.declared.errors.Error.TheVariants as error
 use Rattle.isle_codegen.specs.declared.file_error.FileError.TheVariants as file
 use Rattle.isle_command_line.specs.Request.{Request}
 use Rattle.isle_command_line.specs.Lines.{LineS, IsBad}
@@ -13,9 +17,11 @@ use Rattle.isle_top.specs.declared.refusal.Refusal.{Refusal}
 use Rattle.isle_top.specs.declared.refusal.Refusal.TheVariants as refusal
 use Rattle.isle_top.specs.Job.{Around, Job}
 use Rattle.isle_top.specs.Jobs.{job_of}
-use Rattle.isle_top.specs.Lines.{Wrote, bad_word_line, memory_line}
+use Rattle.isle_top.specs.Errors.{error_status, errors_status}
+use Rattle.isle_top.specs.Lines.{Wrote, bad_word_line, memory_line, unread_line}
 use Rattle.isle_top.specs.Statuses.{IsNoLine, Tells, TellsRun, TellsRefusal, Says, Ends}
 use Rattle.isle_top.specs.Statuses as statuses
+use Rattle.isle_top.specs.Wants.{IsWant}
 
 -- a line was written, or a front of it
 pub wrote : {T E : Type 0} (r : Result T E) (old new : Option (List ℕ)) (before after : ℕ) (line : List ℕ) → OnOk r (Took old new line) → OnErr r (TookPart old new line) → OnErr r (Rose before after) → Wrote old new before after line
@@ -50,6 +56,74 @@ module _ {asks : Request → Type 0} {none : Type 0} {around : Around} {quiet : 
   says_end (refusal.Files (file.Name e)) cause told = statuses.refused request (refusal.Files (file.Name e)) status (λ want. want) asked cause told
   says_end (refusal.Files file.Memory) cause told = says_want told
   says_end (refusal.Run e) cause told = says_run e cause told
+
+-- a status is none of a line that is answered
+abbrev IsRefused : ℕ → Type 0
+IsRefused status = (status ≡ 0 → ⊥) × (status ≡ 11 → ⊥)
+
+told_refused : (status n : ℕ) → IsRefused n → status ≡ n → IsRefused status
+told_refused status n h e = subst IsRefused (sym e) h
+
+five : IsRefused 5
+five = ((λ e. cc), (λ e. cc))
+
+ten : IsRefused 10
+ten = ((λ e. cc), (λ e. cc))
+
+twelve : IsRefused 12
+twelve = ((λ e. cc), (λ e. cc))
+
+thirteen : IsRefused 13
+thirteen = ((λ e. cc), (λ e. cc))
+
+fourteen : IsRefused 14
+fourteen = ((λ e. cc), (λ e. cc))
+
+error_refused : (e : Error) → IsRefused (error_status e)
+error_refused (error.ParseError msg span) = ((λ e. cc), (λ e. cc))
+error_refused (error.TypeError row msg span) = ((λ e. cc), (λ e. cc))
+error_refused (error.UnreachableError msg span) = ((λ e. cc), (λ e. cc))
+error_refused (error.OverlapError msg rules) = ((λ e. cc), (λ e. cc))
+error_refused (error.ShadowedError shadowed mask) = ((λ e. cc), (λ e. cc))
+error_refused (error.RecursionError msg span) = ((λ e. cc), (λ e. cc))
+
+errors_refused : (es : List Error) (status : ℕ) → errors_status es ≡ Some status → IsRefused status
+errors_refused [] status h = absurd (let bad : None ≡ Some status = h in cc)
+errors_refused (e ∷ es) status h = told_refused status (error_status e) (error_refused e) (sym (same_Some (error_status e) status h))
+
+run_refused : (job : Job) (wrote : List ℕ → Type 0) (status : ℕ) (e : RunFail) → TellsRun job wrote status e → IsRefused status
+run_refused job wrote status run.NoTerm h = told_refused status 13 thirteen h.0
+run_refused job wrote status run.ArgCount h = told_refused status 13 thirteen h.0
+run_refused job wrote status (run.ArgType i) h = told_refused status 13 thirteen h.0
+run_refused job wrote status (run.BadAnswers at) h = told_refused status 13 thirteen h.0
+run_refused job wrote status run.Memory h = told_refused status 12 twelve h.0
+
+named_refused : (wrote : List ℕ → Type 0) (status : ℕ) (why : IoCause) (name : Option (List ℕ)) → IsSomeAnd name (λ n. Tells wrote status 5 (unread_line n why)) → IsRefused status
+named_refused wrote status why None h = absurd h
+named_refused wrote status why (Some name) h = told_refused status 5 five h.0
+
+-- a line that is not answered ends with another status than one that is
+pub end_refused : (job : Job) (wrote : List ℕ → Type 0) (status : ℕ) (e : Refusal) → Ends job wrote status e → IsRefused status
+end_refused job wrote status refusal.NotYet h = told_refused status 14 fourteen h.0
+end_refused job wrote status (refusal.Files (file.Io index why)) h = named_refused wrote status why (slice_get job.inputs index) h
+end_refused job wrote status (refusal.Files (file.Errors e)) (inl h) = errors_refused e.errors status h.0
+end_refused job wrote status (refusal.Files (file.Errors e)) (inr h) = told_refused status 12 twelve h.0
+end_refused job wrote status (refusal.Files (file.Name e)) h = told_refused status 10 ten h.0
+end_refused job wrote status (refusal.Files file.Memory) h = told_refused status 12 twelve h.0
+end_refused job wrote status (refusal.Run e) h = run_refused job wrote status e h
+
+-- one that is not built ends with its status
+pub end_not_built : (job : Job) (wrote : List ℕ → Type 0) (status : ℕ) (e : Refusal) → e ≡ refusal.NotYet → Ends job wrote status e → status ≡ 14
+end_not_built job wrote status e is h = (subst (Ends job wrote status) is h).0
+
+-- and want of memory with its
+pub end_want : (job : Job) (wrote : List ℕ → Type 0) (status : ℕ) (e : Refusal) → IsWant e → Ends job wrote status e → status ≡ 12
+end_want job wrote status refusal.NotYet want h = absurd want
+end_want job wrote status (refusal.Files (file.Io index why)) want h = absurd want
+end_want job wrote status (refusal.Files (file.Errors e)) want h = absurd want
+end_want job wrote status (refusal.Files (file.Name e)) want h = absurd want
+end_want job wrote status (refusal.Files file.Memory) want h = h.0
+end_want job wrote status (refusal.Run e) want h = (subst (TellsRun job wrote status) want h).0
 
 -- a word with which no line goes on
 pub bad_word : (words : List (List ℕ)) (i : ℕ) (wrote : List ℕ → Type 0) → IsBad words i → ((word : List ℕ) → slice_get words i ≡ Some word → wrote (bad_word_line word)) → IsNoLine words wrote

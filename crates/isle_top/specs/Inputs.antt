@@ -1,5 +1,5 @@
--- Why an input is not read.
-use Rattle.std.specs.Prelude.{◌≡◌, ℕ, List, Option, IfSome}
+-- Why an input is not read, and how often one is looked up.
+use Rattle.std.specs.Prelude.{◌≡◌, ℕ, List, Option, Some, None, IfSome}
 use Rattle.isle_outside.specs.Directory.{Contents, bytes_of, Counts, raised}
 use Rattle.isle_outside.specs.Reading.{IsCause, RoseAt}
 use Rattle.isle_core.specs.declared.read_error.ReadError.{ReadError}
@@ -10,3 +10,8 @@ abbrev pub FailsTo : ReadError → (index : ℕ) → Option Contents → List �
 FailsTo error.Memory index files name before after = after.faults ≡ before.faults
 FailsTo (error.Io at why) index files name before after =
     (at ≡ index) × (after.finds ≡ raised 1 before.finds) × RoseAt why before.faults after.faults × IfSome files (λ fs. IsCause why (bytes_of fs name))
+
+-- the name was looked up, if there is one
+abbrev pub LooksUp : Option (List ℕ) → (before after : Counts) → Type 0
+LooksUp None before after = after.finds ≡ before.finds
+LooksUp (Some name) before after = after.finds ≡ raised 1 before.finds

@@ -6,7 +6,7 @@ ghost use Rattle.isle_outside.specs.Directory.{bytes_of, raised};
 ghost use Rattle.isle_outside.specs.Reading.{IsText};
 ghost use Rattle.isle_core.specs.Inputs.{Fails, IsTried};
 ghost use Rattle.isle_codegen.specs.Causes.{AreSource, AllTried};
-ghost use Rattle.isle_top.specs.Inputs.{FailsTo};
+ghost use Rattle.isle_top.specs.Inputs.{FailsTo, LooksUp};
 ghost use Rattle.isle_top.specs.RunLine.{answers_names, AreInputs, IsAnswersText};
 
 use isle_core::{CodegenOptions, Dir, Files, ReadError, ReadFail, Text, read_text};
@@ -49,8 +49,8 @@ fn answers_text<D: Dir>(
     ensures files { D.files dir.new ≡ D.files dir.old }
     ensures later { (D.counts dir.old).faults ≤ (D.counts dir.new).faults }
     ensures stays { (D.counts dir.old).faults ≡ 2 ^ 64 - 1 → (D.counts dir.new).faults ≡ 2 ^ 64 - 1 }
-    ensures tried { let names = answers_names (option_copied answers.entry) in
-        IfOk result (λ text. AllTried names (D.counts dir.old) (D.counts dir.new)) }
+    ensures looks { IfOk result (λ text. LooksUp (option_copied answers.entry) (D.counts dir.old) (D.counts dir.new)) }
+    ensures steady { IfOk result (λ text. (D.counts dir.new).faults ≡ (D.counts dir.old).faults) }
     ensures given { let names = answers_names (option_copied answers.entry) in
         (D.counts dir.new).given ≤ (D.counts dir.old).given + (2 ^ 24 + 1) * length names }
 {

@@ -25,7 +25,7 @@ fn running_input(run: &RunLine, index: usize) -> &str
 {
     match (run.trace, &run.source) {
         (false, Source::File(name)) => run_input(name, &run.answers, index),
-        (true, Source::File(_)) | (_, Source::Unit(_)) => "",
+        (true, Source::File(_)) | (true, Source::Unit(_)) | (false, Source::Unit(_)) => "",
     }
 }
 
@@ -35,7 +35,7 @@ fn running_term(run: &RunLine) -> &str
 {
     match (run.trace, &run.source) {
         (false, Source::File(_)) => run.term.as_str(),
-        (true, Source::File(_)) | (_, Source::Unit(_)) => "",
+        (true, Source::File(_)) | (true, Source::Unit(_)) | (false, Source::Unit(_)) => "",
     }
 }
 

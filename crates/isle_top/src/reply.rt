@@ -68,6 +68,8 @@ fn run_reply<D: Dir>(alloc: Global, run: &RunLine, dir: &mut D) -> Result<String
 {
     match (run.trace, &run.source) {
         (false, Source::File(name)) => ran(alloc, name.as_str(), run, dir),
-        (true, Source::File(_)) | (_, Source::Unit(_)) => Err(Refusal::NotYet),
+        (true, Source::File(_)) | (true, Source::Unit(_)) | (false, Source::Unit(_)) => {
+            Err(Refusal::NotYet)
+        }
     }
 }

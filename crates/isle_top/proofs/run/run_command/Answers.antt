@@ -1,7 +1,8 @@
-use Rattle.std.proofs.Common.{rules, refl}
+use Rattle.std.proofs.Common.{rules, refl, ap, ◌∙◌, inr, sym}
 use Rattle.isle_command_line.specs.Views.{seen_command}
+use Rattle.isle_top.specs.Jobs.{job_of}
 use Rattle.isle_top.specs.Statuses as statuses
-use Rattle.isle_top.proofs.Refusals.{says_end}
+use Rattle.isle_top.proofs.Refusals.{says_end, end_refused, end_not_built, end_want}
 use Rattle.isle_top.proofs.ValidLines.{of_job}
 use Rattle.isle_top.proofs.run.run_command.Goals as goal
 
@@ -13,6 +14,12 @@ returns-in-Ok-clause-says g c = statuses.write_fault (search rules)
 
 pub refuse-requires : goal.refuse-requires
 refuse-requires g c = of_job (seen_command c.args.request.now) c.in-Err.refusal _ c.in-Err.ensures.err
+
+pub returns-clause-done : goal.returns-clause-done
+returns-clause-done g c = λ is. absurd ((end_refused (job_of (seen_command c.args.request.now)) _ _ c.in-Err.refusal c.refuse.ensures.ends).0 is)
+
+pub returns-clause-part : goal.returns-clause-part
+returns-clause-part g c = λ is. absurd ((end_refused (job_of (seen_command c.args.request.now)) _ _ c.in-Err.refusal c.refuse.ensures.ends).1 is)
 
 pub returns-clause-says : goal.returns-clause-says
 returns-clause-says g c = says_end (seen_command c.args.request.now) _ refl c.in-Err.refusal c.in-Err.ensures.err c.refuse.ensures.ends
