@@ -53,16 +53,16 @@ named_in env (c ∷ consts) name ty e = one (bytes_eq name (sym_text env c.0)) r
 -- a declared constant has a type
 pub typed_in : (consts : List (Sym × TypeId)) (c : Sym × TypeId) → Contains consts c → (ty : TypeId) × (type_in consts c.0 ≡ Some ty)
 typed_in [] c k = absurd (none_contained c k)
-typed_in (d ∷ consts) c k = one (d.0.0 == c.0.0) refl
+typed_in (d ∷ consts) c k = one (d.0.0 == c.0.0) refl (λ j. typed_in consts c j)
   where
     later : (x : Bool) → (d.0.0 == c.0.0) ≡ x → (d ≡ c) → x ≡ true
     later true is e = refl
     later false is e = let t : (d.0.0 == c.0.0) ≡ true = (Decides-eqb d.0.0 c.0.0).1 (ap (λ (y : Sym × TypeId). y.0.0) e) in cc
 
-    one : (x : Bool) → (d.0.0 == c.0.0) ≡ x → (ty : TypeId) × (type_in (d ∷ consts) c.0 ≡ Some ty)
-    one true is = (d.1, ap (first_or d consts c.0) is)
-    one false is =
-        let h = typed_in consts c (⊎_elim (λ e. absurd (let bad : false ≡ true = later false is e in cc)) (λ j. j) (contained_cases d consts c k)) in
+    one : (x : Bool) → (d.0.0 == c.0.0) ≡ x → (Contains consts c → (ty : TypeId) × (type_in consts c.0 ≡ Some ty)) → (ty : TypeId) × (type_in (d ∷ consts) c.0 ≡ Some ty)
+    one true is rest = (d.1, ap (first_or d consts c.0) is)
+    one false is rest =
+        let h = rest (⊎_elim (λ e. absurd (let bad : false ≡ true = later false is e in cc)) (λ j. j) (contained_cases d consts c k)) in
         (h.0, ap (first_or d consts c.0) is ∙ h.1)
 
 -- ---- values
@@ -70,14 +70,15 @@ typed_in (d ∷ consts) c k = one (d.0.0 == c.0.0) refl
 -- a value that is found is one of these
 value_in : (P : List ℕ × Value → Type 0) (consts : List (List ℕ × Value)) (name : List ℕ) (v : Value) → AllByRecursion P consts → option_map (λ (c : List ℕ × Value). c.1) (find (λ (c : List ℕ × Value). bytes_eq name c.0) consts) ≡ Some v → P (name, v)
 value_in P [] name v h e = absurd cc
-value_in P (c ∷ consts) name v h e = one (bytes_eq name c.0) refl e
+value_in P (c ∷ consts) name v h e = one (bytes_eq name c.0) refl (λ k. value_in P consts name v h.1 k) e
   where
-    one : (x : Bool) → bytes_eq name c.0 ≡ x → option_map (λ (d : List ℕ × Value). d.1) (cond x (Some c) (find (λ (d : List ℕ × Value). bytes_eq name d.0) consts)) ≡ Some v → P (name, v)
-    one true is here =
+    one : (x : Bool) → bytes_eq name c.0 ≡ x → (option_map (λ (d : List ℕ × Value). d.1) (find (λ (d : List ℕ × Value). bytes_eq name d.0) consts) ≡ Some v → P (name, v))
+        → option_map (λ (d : List ℕ × Value). d.1) (cond x (Some c) (find (λ (d : List ℕ × Value). bytes_eq name d.0) consts)) ≡ Some v → P (name, v)
+    one true is rest here =
         let text : c.0 ≡ name = sym ((bytes_eq-Decides name c.0).0 is) in
         let value : c.1 ≡ v = cc in
         subst (λ (n : List ℕ). P (n, v)) text (subst (λ (w : Value). P (c.0, w)) value h.0)
-    one false is here = value_in P consts name v h.1 here
+    one false is rest here = rest here
 
 -- of a declared constant, and of its type
 abbrev IsDeclaredValue : Environment → List ℕ × Value → Type 0
@@ -94,22 +95,23 @@ values_declared env m h name v e = value_in (IsDeclaredValue env) m.consts name 
 -- what has no value is given none
 pub none_given : (consts : List (List ℕ × Value)) (name : List ℕ) → option_map (λ (c : List ℕ × Value). c.1) (find (λ (c : List ℕ × Value). bytes_eq name c.0) consts) ≡ None → HasNoValue name consts
 none_given [] name e = tt
-none_given (c ∷ consts) name e = one (bytes_eq name c.0) refl e
+none_given (c ∷ consts) name e = one (bytes_eq name c.0) refl (λ k. none_given consts name k) e
   where
-    one : (x : Bool) → bytes_eq name c.0 ≡ x → option_map (λ (d : List ℕ × Value). d.1) (cond x (Some c) (find (λ (d : List ℕ × Value). bytes_eq name d.0) consts)) ≡ None → HasNoValue name (c ∷ consts)
-    one true is here = absurd cc
-    one false is here = (is, none_given consts name here)
+    one : (x : Bool) → bytes_eq name c.0 ≡ x → (option_map (λ (d : List ℕ × Value). d.1) (find (λ (d : List ℕ × Value). bytes_eq name d.0) consts) ≡ None → HasNoValue name consts)
+        → option_map (λ (d : List ℕ × Value). d.1) (cond x (Some c) (find (λ (d : List ℕ × Value). bytes_eq name d.0) consts)) ≡ None → HasNoValue name (c ∷ consts)
+    one true is rest here = absurd cc
+    one false is rest here = (is, rest here)
 
 -- ---- names
 
 -- what is among names is one of them
 pub among_of : (P : List ℕ → Type 0) (names : List (List ℕ)) (name : List ℕ) → AllByRecursion P names → is_among name names ≡ true → P name
 among_of P [] name h e = absurd cc
-among_of P (x ∷ names) name h e = one (bytes_eq name x) refl e
+among_of P (x ∷ names) name h e = one (bytes_eq name x) refl (λ k. among_of P names name h.1 k) e
   where
-    one : (b : Bool) → bytes_eq name x ≡ b → (b || is_among name names) ≡ true → P name
-    one true is here = subst P (sym ((bytes_eq-Decides name x).0 is)) h.0
-    one false is here = among_of P names name h.1 here
+    one : (b : Bool) → bytes_eq name x ≡ b → (is_among name names ≡ true → P name) → (b || is_among name names) ≡ true → P name
+    one true is rest here = subst P (sym ((bytes_eq-Decides name x).0 is)) h.0
+    one false is rest here = rest here
 
 -- a test that each fails holds of none
 pub none_holds : {X : Type 0} (test : X → Bool) (xs : List X) → ((x : X) → Contains xs x → test x ≡ false) → list_any test xs ≡ false

@@ -7,6 +7,6 @@ pub returns-in-Err-clause-complete : goal.returns-in-Err-clause-complete
 returns-in-Err-clause-complete c = λ can.
     only_memory c.args.options.now c.args.files.now c.args.term.now (seen c.args.given.now) c.args.answers.now (fail.Source c.in-Err.fail) can c.in-Err.ensures.err
 
-pub returns-in-Err-of_checked-clause-complete : goal.returns-in-Err-of_checked-clause-complete
-returns-in-Err-of_checked-clause-complete c = λ can.
+pub returns-clause-complete : goal.returns-clause-complete
+returns-clause-complete c = λ can.
     only_memory c.args.options.now c.args.files.now c.args.term.now (seen c.args.given.now) c.args.answers.now (fail.Run c.in-Err-of_checked.fail) can c.in-Err-of_checked.ensures.err
