@@ -164,7 +164,7 @@ fn push_checked(alloc: Global, lines: &mut String, checked: &Checked) -> Result<
     for term in checked.termenv.terms.as_slice() {
         push_term(alloc, lines, &checked.typeenv, term)?;
     }
-    for set in &checked.terms {
+    for set in checked.terms.as_slice() {
         push_bindings(lines, &set.1)?;
     }
     Ok(())

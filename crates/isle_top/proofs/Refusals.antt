@@ -1,5 +1,5 @@
 -- What a refusal says and writes.
-use Rattle.std.proofs.Common.{◌≡◌, ℕ, zero, suc, ◌+◌, ◌<◌, length, List, [], ◌∷◌, drop, Option, Some, None, Result, Ok, Err, refl, sym, subst, inl, inr, arith}
+use Rattle.std.proofs.Common.{◌≡◌, ◌∙◌, ℕ, zero, suc, ◌+◌, ◌<◌, length, List, [], ◌∷◌, drop, Option, Some, None, Result, Ok, Err, refl, sym, subst, inl, inr, arith}
 use Rattle.std.specs.Prelude.{IsSomeAnd, slice_get, OnOk, OnErr}
 use Rattle.std.proofs.lemmas.List.{take-append-drop}
 use Rattle.std.proofs.lemmas.Option.{same_Some}
@@ -111,6 +111,10 @@ end_refused job wrote status (refusal.Files (file.Errors e)) (inr h) = told_refu
 end_refused job wrote status (refusal.Files (file.Name e)) h = told_refused status 10 ten h.0
 end_refused job wrote status (refusal.Files file.Memory) h = told_refused status 12 twelve h.0
 end_refused job wrote status (refusal.Run e) h = run_refused job wrote status e h
+
+-- one fails as another, where the results are the same
+pub same_fail : {T : Type 0} (a b : Result T Refusal) (e f : Refusal) → a ≡ Err e → b ≡ Err f → a ≡ b → e ≡ f
+same_fail a b e f h k same = let both : Err e ≡ Err f = sym h ∙ same ∙ k in cc
 
 -- one that is not built ends with its status
 pub end_not_built : (job : Job) (wrote : List ℕ → Type 0) (status : ℕ) (e : Refusal) → e ≡ refusal.NotYet → Ends job wrote status e → status ≡ 14

@@ -1,0 +1,44 @@
+-- The reply to a line, by what the line asks for.
+use Rattle.std.proofs.Common.{◌≡◌, ℕ, List, Bool, false, Result, Ok, Err, refl, sym, subst}
+use Rattle.std.specs.Prelude.{IfOk, IfErr, String}
+use Rattle.std.specs.String.{string_bytes}
+use Rattle.std.specs.declared.alloc.Global.{Global}
+use Rattle.isle_core.specs.declared.options.CodegenOptions.{CodegenOptions}
+use Rattle.isle_codegen.specs.Causes.{AllTried, IsCompiled, HasCause}
+use Rattle.isle_codegen.specs.declared.file_error.FileError.{FileError}
+use Rattle.isle_command_line.specs.Request.{Request, Running, Compile, Run}
+use Rattle.isle_command_line.specs.declared.commands.Source.{Source}
+use Rattle.isle_command_line.specs.declared.commands.Source.TheVariants as source
+use Rattle.isle_top.specs.declared.refusal.Refusal.{Refusal}
+use Rattle.isle_top.specs.declared.refusal.Refusal.TheVariants as refusal
+use Rattle.isle_top.specs.Job.{Around, IsReply}
+use Rattle.isle_top.specs.Jobs.{job_of, running_job}
+use Rattle.isle_top.specs.RunLine.{GivesLines, run_inputs, run_job}
+
+-- the lines of a run of a file
+file_replies : {E : Type 0} (name : List ℕ) (r : Running) (around : Around) (result : Result (String Global) E) → IfOk result (λ lines. GivesLines name r around.files (string_bytes lines))
+    → IfOk result (λ lines. AllTried (run_inputs name r) around.before around.after) → IfOk result (λ text. IsReply (run_job name r) around (string_bytes text))
+file_replies name r around (Ok lines) gives tried = record { built = refl; gives = gives; tried = tried }
+file_replies name r around (Err e) gives tried = tt
+
+-- those of a run that isn't traced, and whose source is a file
+pub run_replies : {E : Type 0} (trace : Bool) (from : Source) (name : List ℕ) (r : Running) (around : Around) (result : Result (String Global) E) → trace ≡ false → from ≡ source.File name
+    → IfOk result (λ lines. GivesLines name r around.files (string_bytes lines)) → IfOk result (λ lines. AllTried (run_inputs name r) around.before around.after)
+    → IfOk result (λ text. IsReply (running_job trace from r) around (string_bytes text))
+run_replies trace from name r around result untraced file gives tried =
+    subst (λ t. IfOk result (λ text. IsReply (running_job t from r) around (string_bytes text))) (sym untraced)
+    (subst (λ s. IfOk result (λ text. IsReply (running_job false s r) around (string_bytes text))) (sym file) (file_replies name r around result gives tried))
+
+-- why a run gives none
+pub run_fails : {T : Type 0} (request : Request) (r : Running) (around : Around) (result : Result T Refusal) → request ≡ Run r → IfErr result (λ e. (running_job r.trace r.source r).fails e around)
+    → IfErr result (λ e. (job_of request).fails e around)
+run_fails request r around result is h = subst (λ q. IfErr result (λ e. (job_of q).fails e around)) (sym is) h
+
+module _ (request : Request) (options : CodegenOptions) (names : List (List ℕ)) (around : Around) (is : request ≡ Compile options names) where
+  -- the text of a program of files
+  pub compile_replies : (text : List ℕ) → IsCompiled options names around.files text → AllTried names around.before around.after → IsReply (job_of request) around text
+  compile_replies text gives tried = subst (λ q. IsReply (job_of q) around text) (sym is) (record { built = refl; gives = gives; tried = tried })
+
+  -- why there is none
+  pub compile_fails : (e : FileError) → HasCause e options around.files names around.before around.after → (job_of request).fails (refusal.Files e) around
+  compile_fails e h = subst (λ q. (job_of q).fails (refusal.Files e) around) (sym is) h
