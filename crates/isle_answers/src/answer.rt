@@ -1,7 +1,8 @@
 ghost use Rattle.std.specs.Prelude.{◌≡◌, IfOk, option_map};
 ghost use Rattle.isle_reading.specs.Combinators.{next_word};
 ghost use Rattle.isle_reading.specs.Views.{left, Reads};
-ghost use Rattle.isle_answers.specs.Reading.{answer_head_of, read_answer_head, read_answer_after, read_answer_list, read_answer};
+ghost use Rattle.isle_answers.specs.Reading.{answer_head_of, read_answer_head, read_answer_after};
+ghost use Rattle.isle_answers.specs.Reading.{read_answer_list, read_answer};
 ghost use Rattle.isle_answers.specs.Views.{answer_seen};
 ghost use Rattle.isle_answers.specs.HeadViews.{answer_head_seen};
 

@@ -3,7 +3,9 @@ ghost use Rattle.isle_reading.specs.Combinators.{next_word};
 ghost use Rattle.isle_reading.specs.Nesting.{most_open};
 ghost use Rattle.isle_reading.specs.Views.{left, Reads};
 ghost use Rattle.isle_answers.specs.Words.{count_of, callee_of};
-ghost use Rattle.isle_answers.specs.Reading.{form_head_of, read_form_head, read_count, read_callee, read_held, read_max, read_const, read_answers, read_turned, read_form_after, held_after, max_after, read_form, read_forms};
+ghost use Rattle.isle_answers.specs.Reading.{form_head_of, read_form_head, read_count, read_callee};
+ghost use Rattle.isle_answers.specs.Reading.{read_held, read_max, read_const, read_answers, read_turned};
+ghost use Rattle.isle_answers.specs.Reading.{read_form_after, held_after, max_after, read_form, read_forms};
 ghost use Rattle.isle_answers.specs.Views.{form_seen, forms_seen};
 ghost use Rattle.isle_answers.specs.HeadViews.{form_head_seen};
 

@@ -1,7 +1,8 @@
 ghost use Rattle.std.specs.Prelude.{◌≡◌, IfOk, map, option_map};
 ghost use Rattle.isle_reading.specs.Combinators.{next_word, many};
 ghost use Rattle.isle_reading.specs.Views.{left, Reads};
-ghost use Rattle.isle_answers.specs.Reading.{result_head_of, read_result_head, read_simple_result, read_result_after, read_result_list, read_result};
+ghost use Rattle.isle_answers.specs.Reading.{result_head_of, read_result_head, read_simple_result};
+ghost use Rattle.isle_answers.specs.Reading.{read_result_after, read_result_list, read_result};
 ghost use Rattle.isle_answers.specs.Views.{result_seen};
 ghost use Rattle.isle_answers.specs.HeadViews.{result_head_seen};
 

@@ -67,10 +67,11 @@ fn chained(alloc: Global, tables: &Tables<'_>, rules: &[FlatRule]) -> Result<Blo
     })
 }
 
-/// Makes the block of a rule set: a step for each rule, from the highest priority down, and equal ones in their order. Where the
-/// term isn't `multi`, rules are tried in turn until one holds (`isle_core/specs/BlockRun.antt`); `iterator` says that it is, and then each rule
-/// adds its results, its lists being gone through in loops of its own (`isle_core/specs/SeveralRun.antt`). A rule's calls are made behind its
-/// tests, in order. The only error is want of memory.
+/// Makes the block of a rule set: a step for each rule, from the highest priority down, and equal ones in their order.
+/// Where the term isn't `multi`, rules are tried in turn until one holds (`isle_core/specs/BlockRun.antt`); `iterator`
+/// says that it is, and then each rule adds its results, its lists being gone through in loops of its own
+/// (`isle_core/specs/SeveralRun.antt`). A rule's calls are made behind its tests, in order. The only error is want of
+/// memory.
 pub fn serialize(alloc: Global, rules: &RuleSet, iterator: bool) -> Result<Block, OutOfMemory>
     ensures means { IfOk result (λ b. (env : Environment) (m : Meaning) (t : Term) (args : ListOf Value) (kind : ReturnKind) → IsSerializable env t rules.now → is_several (kind_of t.kind) ≡ iterator → is_several (kind_of t.kind) ≡ false →
         block_outcome env m args (paths_of rules.now.bindings) (BlockViews.block b) kind ≡ set_outcome env m args (paths_of rules.now.bindings) rules.now.rules kind) }

@@ -122,8 +122,8 @@ impl Fields {
         Ok(places)
     }
 
-    /// Returns the bindings of the fields that a constraint shows, up to the last one that has one. The only error is want of
-    /// memory.
+    /// Returns the bindings of the fields that a constraint shows, up to the last one that has one. The only error is
+    /// want of memory.
     pub fn places(
         &self,
         alloc: Global,

@@ -1,5 +1,5 @@
-//! What is bound before bindings are read: calls that aren't bound yet, also of extractors, parts of their answers, items of lists, and
-//! the made values on the way to them.
+//! What is bound before bindings are read: calls that aren't bound yet, also of extractors, parts of their answers,
+//! items of lists, and the made values on the way to them.
 
 ghost use Rattle.std.specs.Prelude.{◌≡◌, OnOk, [], ◌∷◌, Some as Is, List as ListOf, option_map, slice_get};
 ghost use Rattle.isle_core.specs.declared.TypeId.{TypeId as TypeIdOf};

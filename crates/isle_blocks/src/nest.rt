@@ -268,8 +268,9 @@ fn matches_from(
     }
 }
 
-/// Makes the step of a rule: its tests, each round what follows, with what it shows bound, and inside them its lists, its calls and
-/// its result. What is needed to read a binding is bound where it is first read. The only error is want of memory.
+/// Makes the step of a rule: its tests, each round what follows, with what it shows bound, and inside them its lists,
+/// its calls and its result. What is needed to read a binding is bound where it is first read. The only error is want
+/// of memory.
 pub fn rule_step(
     alloc: Global,
     tables: &Tables<'_>,

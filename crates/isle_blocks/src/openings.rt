@@ -1,5 +1,5 @@
-//! Bind orders before what is done then: in terms that answer several times, items are gone through by Loops, and inner values are
-//! bound by Matches.
+//! Bind orders before what is done then: in terms that answer several times, items are gone through by Loops, and inner
+//! values are bound by Matches.
 
 ghost use Rattle.std.specs.Prelude.{◌≡◌, IfOk, [], reverse, slice_get};
 ghost use Rattle.isle_core.specs.BlockViews as BlockViews;

@@ -6,7 +6,8 @@ use isle_core::FlatRule;
 use std::alloc::{AllocError, Global};
 use std::cmp::Reverse;
 
-/// Sorts the rules as they are tried: highest priority first, equal ones in their order. The only error is want of memory.
+/// Sorts the rules as they are tried: highest priority first, equal ones in their order. The only error is want of
+/// memory.
 pub fn in_order(alloc: Global, rules: &[FlatRule]) -> Result<Vec<&FlatRule>, AllocError>
     ensures { IfOk result (λ order. map (λ f. f.now) order.items ≡ by_priority rules.now) }
 {

@@ -9,8 +9,8 @@ use isle_core::{Binding, BindingId, Constraint};
 use std::alloc::{AllocError, Global};
 use std::collections::BTreeMap;
 
-/// The bindings of a rule set, those of fields, the inner values of calls by the numbers of the calls and the items of lists by the
-/// numbers of the lists, and whether the rules are those of a term that answers several times.
+/// The bindings of a rule set, those of fields, the inner values of calls by the numbers of the calls and the items of
+/// lists by the numbers of the lists, and whether the rules are those of a term that answers several times.
 #[derive(Clone, Copy)]
 pub struct Tables<'s> {
     pub several: bool,
@@ -44,8 +44,8 @@ impl Tables<'_> {
         }
     }
 
-    /// Returns the bindings of what a constraint shows: the fields up to the last one that has one, or an inner value. The only
-    /// error is want of memory.
+    /// Returns the bindings of what a constraint shows: the fields up to the last one that has one, or an inner value.
+    /// The only error is want of memory.
     pub fn places(
         &self,
         alloc: Global,

@@ -104,9 +104,9 @@ fn push_shadow(
     Ok(())
 }
 
-/// Adds the errors of the rules of a term, rule by rule: that it is unreachable by itself, then the first earlier one that
-/// overlaps it, then the first that shadows it; only the unreachable ones where the term answers several times (`multi`).
-/// The only error is want of memory.
+/// Adds the errors of the rules of a term, rule by rule: that it is unreachable by itself, then the first earlier one
+/// that overlaps it, then the first that shadows it; only the unreachable ones where the term answers several times
+/// (`multi`). The only error is want of memory.
 pub fn push_errors(
     alloc: Global,
     multi: bool,

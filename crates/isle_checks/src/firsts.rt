@@ -2,7 +2,8 @@
 
 ghost use Rattle.std.specs.Prelude.{◌≡◌, ◌≤◌, ◌<◌, length, min, replicate, None, IfOk, OnOk};
 ghost use Rattle.isle_checks.specs.Sides.{Rises};
-ghost use Rattle.isle_checks.specs.Firsts.{earlier, AreFirstMakers, AreFirstsOfTerm, ArePlaced, AreBelow, Finds, IsFirstMaker, NotesFirst};
+ghost use Rattle.isle_checks.specs.Firsts.{earlier, AreFirstMakers, AreFirstsOfTerm, ArePlaced, AreBelow};
+ghost use Rattle.isle_checks.specs.Firsts.{Finds, IsFirstMaker, NotesFirst};
 
 use crate::placed::{Check, Placed};
 use crate::splitter::{Parts, choose};
@@ -124,8 +125,8 @@ fn firsts(alloc: Global, check: Check, rules: &[FlatRule]) -> Result<Vec<Option<
     Ok(found)
 }
 
-/// Finds for each rule of a term the place of the first one that makes an error of it: none where the term answers several
-/// times (`multi`), since its rules may overlap, and shadow each other. The only error is want of memory.
+/// Finds for each rule of a term the place of the first one that makes an error of it: none where the term answers
+/// several times (`multi`), since its rules may overlap, and shadow each other. The only error is want of memory.
 pub fn firsts_of_term(
     alloc: Global,
     check: Check,

@@ -103,10 +103,10 @@ fn errors_of(
     Ok(errors)
 }
 
-/// Makes the rule set of each term with rules, in order of ids, where none of its rules is unreachable by itself, and no two
-/// overlap and none is shadowed unless the term answers several times (`multi`). `Rules` comes exactly where one is, and tells
-/// each, rule by rule: that it is unreachable by itself, then, where the term answers at most once, the first earlier rule that
-/// overlaps it, and the first that shadows it.
+/// Makes the rule set of each term with rules, in order of ids, where none of its rules is unreachable by itself, and
+/// no two overlap and none is shadowed unless the term answers several times (`multi`). `Rules` comes exactly where one
+/// is, and tells each, rule by rule: that it is unreachable by itself, then, where the term answers at most once, the
+/// first earlier rule that overlaps it, and the first that shadows it.
 pub fn check(alloc: Global, termenv: &TermEnv) -> Result<Vec<(TermId, RuleSet)>, CheckError>
     requires built { All (IsBuiltRule termenv.now.terms) (map seen termenv.now.rules) }
     requires bound { All IsScopedRule (map seen termenv.now.rules) }

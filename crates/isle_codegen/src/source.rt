@@ -16,8 +16,8 @@ use isle_syntax::{ParseFail, parse_text};
 use std::alloc::Global;
 
 /// Parses the files' texts, and returns their definitions, one text after the other. There are as many names as texts.
-/// `Errors` comes exactly where a text goes wrong, and tells the place of the first that does (`specs/Errors.antt`); beside it
-/// only want of memory.
+/// `Errors` comes exactly where a text goes wrong, and tells the place of the first that does (`specs/Errors.antt`);
+/// beside it only want of memory.
 pub fn parse_files(alloc: Global, files: &Files) -> Result<Vec<Def>, CompileError>
     requires { length files.now.file_texts ≡ length files.now.file_names }
     ensures ok { IfOk result (λ read. Source 0 files.now.file_texts (defs read.items)) }
@@ -32,8 +32,8 @@ pub fn parse_files(alloc: Global, files: &Files) -> Result<Vec<Def>, CompileErro
     }
 }
 
-/// Parses the texts, and returns their definitions, one text after the other (`specs/Source.antt`). `At` comes exactly where
-/// one goes wrong, and tells the place of the first that does; beside it only want of memory.
+/// Parses the texts, and returns their definitions, one text after the other (`specs/Source.antt`). `At` comes exactly
+/// where one goes wrong, and tells the place of the first that does; beside it only want of memory.
 pub fn parse_all(alloc: Global, texts: &[Text]) -> Result<Vec<Def>, ParseFail>
     ensures ok { IfOk result (λ read. Source 0 texts.now (defs read.items)) }
     ensures once { IfOk result (λ read. (others : ListOf PureDef) → Source 0 texts.now others → others ≡ defs read.items) }

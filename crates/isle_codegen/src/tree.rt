@@ -32,8 +32,8 @@ fn is_several(kind: &TermKind) -> bool
     }
 }
 
-// The function of the term of this number, from the block of its rule set. The table is that of the files, and the constants
-// are those of the environment.
+// The function of the term of this number, from the block of its rule set. The table is that of the files, and the
+// constants are those of the environment.
 fn emit_one(
     alloc: Global,
     files: &Files,
@@ -87,9 +87,10 @@ fn emit_all(
     Ok(fns)
 }
 
-/// Makes the program of an environment: the functions of the trait, the types, and a function for each term with rules, in
-/// order of ids (`specs/Emission.antt`, `specs/Headline.antt`). The environment is lawful (`specs/LawfulEnvironment.antt`); `terms` lists the terms with rules in this order, each with
-/// a rule set that stands for its rules; all places lie in the files. The only error is want of memory.
+/// Makes the program of an environment: the functions of the trait, the types, and a function for each term with rules,
+/// in order of ids (`specs/Emission.antt`, `specs/Headline.antt`). The environment is lawful
+/// (`specs/LawfulEnvironment.antt`); `terms` lists the terms with rules in this order, each with a rule set that stands
+/// for its rules; all places lie in the files. The only error is want of memory.
 pub fn codegen_tree(
     alloc: Global,
     files: &Files,

@@ -2,7 +2,8 @@
 
 ghost use Rattle.std.specs.Prelude.{◌≡◌, ◌++◌, All, Some as SomeOf, IfOk, OnOk, IsSomeAnd, codes, map, option_copied};
 ghost use Rattle.std.specs.String.{string_bytes};
-ghost use Rattle.isle_core.specs.ErrorLines.{IsPlaced, kind_of, words_of, span_of, error_text, error_line, error_lines, masked, shown_line, shown_lines};
+ghost use Rattle.isle_core.specs.ErrorLines.{IsPlaced, kind_of, words_of, span_of, error_text, error_line};
+ghost use Rattle.isle_core.specs.ErrorLines.{error_lines, masked, shown_line, shown_lines};
 ghost use Rattle.isle_core.specs.LineStarts.{starts_of};
 
 use crate::files::Files;
@@ -173,9 +174,9 @@ pub struct Errors {
 }
 
 impl Errors {
-    /// Returns a line for each error, in order: `NAME:LINE:COLUMN: KIND: WORDS`, lines and columns counted from 1, columns in
-    /// bytes. The place is where the error's span begins; of an overlap that of the later rule, of a shadowed rule its own.
-    /// Fails for want of memory alone.
+    /// Returns a line for each error, in order: `NAME:LINE:COLUMN: KIND: WORDS`, lines and columns counted from 1,
+    /// columns in bytes. The place is where the error's span begins; of an overlap that of the later rule, of a
+    /// shadowed rule its own. Fails for want of memory alone.
     pub fn lines(&self, alloc: Global) -> Result<String, OutOfMemory>
         requires { All (IsPlaced self.now.files) self.now.errors }
         ensures { IfOk result (λ text. string_bytes text ≡ error_lines self.now.files self.now.errors) }
@@ -188,8 +189,8 @@ impl Errors {
         }
         Ok(out)
     }
-    /// Returns the bytes of the same lines as a terminal may be shown them: in each, a byte below 32 before its end is `?`, so
-    /// a name of a file neither breaks a line nor steers the terminal. Fails for want of memory alone.
+    /// Returns the bytes of the same lines as a terminal may be shown them: in each, a byte below 32 before its end is
+    /// `?`, so a name of a file neither breaks a line nor steers the terminal. Fails for want of memory alone.
     pub fn shown_lines(&self, alloc: Global) -> Result<Vec<u8>, OutOfMemory>
         requires { All (IsPlaced self.now.files) self.now.errors }
         ensures { IfOk result (λ bytes. bytes.items ≡ shown_lines self.now.files self.now.errors) }

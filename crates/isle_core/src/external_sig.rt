@@ -2,7 +2,8 @@
 
 ghost use Rattle.std.specs.Prelude.{◌≡◌, ◌++◌, ◌∷◌, [], IfOk, option_map};
 ghost use Rattle.isle_core.specs.Calling.{kind_by, extractor_kind};
-ghost use Rattle.isle_core.specs.ExternalSig.{has_external_extractor, has_external_constructor, is_recursive, extractor_sig, constructor_sig};
+ghost use Rattle.isle_core.specs.ExternalSig.{has_external_extractor, has_external_constructor, is_recursive};
+ghost use Rattle.isle_core.specs.ExternalSig.{extractor_sig, constructor_sig};
 
 use crate::types::{
     ConstructorKind, ExternalSig, ExtractorKind, ReturnKind, Term, TermKind, TypeEnv,
@@ -101,9 +102,9 @@ impl Term {
         }
     }
 
-    /// Returns the signature of the term's external extractor, if it has one: it takes the term's result and gives its arguments,
-    /// several times where the term is `multi`, once where the extractor is `infallible`, and at most once otherwise
-    /// (`specs/ExternalSig.antt`). Names are symbols of `env`. The only error is want of memory.
+    /// Returns the signature of the term's external extractor, if it has one: it takes the term's result and gives its
+    /// arguments, several times where the term is `multi`, once where the extractor is `infallible`, and at most once
+    /// otherwise (`specs/ExternalSig.antt`). Names are symbols of `env`. The only error is want of memory.
     pub fn extractor_sig(
         &self,
         alloc: Global,
@@ -129,9 +130,9 @@ impl Term {
         }))
     }
 
-    /// Returns the signature of the term's constructor, if it has an external one or rules: it takes the term's arguments and gives its
-    /// result, several times where the term is `multi`, at most once where it is `partial`, and once otherwise
-    /// (`specs/ExternalSig.antt`). Names are symbols of `env`. The only error is want of memory.
+    /// Returns the signature of the term's constructor, if it has an external one or rules: it takes the term's
+    /// arguments and gives its result, several times where the term is `multi`, at most once where it is `partial`, and
+    /// once otherwise (`specs/ExternalSig.antt`). Names are symbols of `env`. The only error is want of memory.
     pub fn constructor_sig(
         &self,
         alloc: Global,

@@ -1,4 +1,5 @@
-ghost use Rattle.std.specs.Prelude.{◌≡◌, ◌≤◌, ◌<◌, ◌+◌, ◌-◌, ◌*◌, ◌^◌, Some, None, length, map, IfOk, IfErr, IfSome, IsSomeAnd, slice_get};
+ghost use Rattle.std.specs.Prelude.{◌≡◌, ◌≤◌, ◌<◌, ◌+◌, ◌-◌, ◌*◌, ◌^◌, Some, None, length, map, IfOk, IfErr};
+ghost use Rattle.std.specs.Prelude.{IfSome, IsSomeAnd, slice_get};
 ghost use Rattle.std.specs.Option.{option_copied};
 ghost use Rattle.std.specs.String.{string_bytes};
 ghost use Rattle.isle_core.specs.Inputs.{bytes_each, AreRead, Fails, IsTried};
@@ -8,7 +9,7 @@ use crate::options::Prefix;
 use crate::read_error::ReadError;
 use isle_base::{List, Text};
 use isle_outside::{Dir, OutOfMemory, read_text};
-use std::alloc::{AllocError, Global};
+use std::alloc::Global;
 
 /// The inputs: the names as printed, and the texts, in order.
 #[derive(Debug, Drop)]
@@ -45,29 +46,6 @@ impl Files {
             file_texts: List::new(file_texts),
         })
     }
-
-    /// Copies the inputs: the names and texts stay the same. The only error is want of memory.
-    pub fn copied(&self, alloc: Global) -> Result<Files, AllocError>
-        ensures { IfOk result (λ copy. copy ≡ self.now) }
-    {
-        let file_names = all_copied(alloc, self.file_names.as_slice())?;
-        let file_texts = all_copied(alloc, self.file_texts.as_slice())?;
-        Ok(Files {
-            file_names: List::new(file_names),
-            file_texts: List::new(file_texts),
-        })
-    }
-}
-
-// Copies of the texts, in order.
-fn all_copied(alloc: Global, texts: &[Text]) -> Result<Vec<Text>, AllocError>
-    ensures { IfOk result (λ copies. copies.items ≡ texts.now) }
-{
-    let mut copies = Vec::new(alloc);
-    for text in texts {
-        copies.push(Text::copied(alloc, text.as_str())?)?;
-    }
-    Ok(copies)
 }
 
 // The texts of the files of these names, in order.

@@ -100,8 +100,8 @@ impl LineStarts {
         }
     }
 
-    /// Prints a place; the table is that of the files. Where its file is not there, its name is empty. Fails for want of memory
-    /// alone.
+    /// Prints a place; the table is that of the files. Where its file is not there, its name is empty. Fails for want
+    /// of memory alone.
     pub fn place(&self, alloc: Global, files: &Files, pos: Pos) -> Result<String, OutOfMemory>
         requires { self.now ≡ map starts_of files.now.file_texts }
         ensures { IfOk result (λ text. string_bytes text ≡ place_in files.now pos) }
@@ -111,8 +111,8 @@ impl LineStarts {
         Ok(format!(in alloc; "{name} line {line}")?)
     }
 
-    /// Prints what is said of a place, which lies in the files, as `NAME:LINE:COLUMN: ..`; the table is theirs. Fails for
-    /// want of memory alone.
+    /// Prints what is said of a place, which lies in the files, as `NAME:LINE:COLUMN: ..`; the table is theirs. Fails
+    /// for want of memory alone.
     pub fn told(
         &self,
         alloc: Global,

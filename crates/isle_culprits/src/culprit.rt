@@ -27,7 +27,8 @@ pub enum Flaw {
     Undeclared,
     /// A variable that is met again was bound at another type.
     MetOtherwise,
-    /// A variable is not bound, or a term that is called is not there, has another number of arguments, or has no constructor.
+    /// A variable is not bound, or a term that is called is not there, has another number of arguments, or has no
+    /// constructor.
     Unknown,
     /// A condition calls a term that is not `pure`.
     InCondition,
@@ -116,8 +117,9 @@ pub fn template_culprit<'d>(
     Ok(None)
 }
 
-/// Returns the part that breaks a row in a rule of a term of this name, on so many patterns, of which it wants so many: the head, or the first
-/// one in the patterns and the conditions, or else on the right side. What conditions call may be partial.
+/// Returns the part that breaks a row in a rule of a term of this name, on so many patterns, of which it wants so many:
+/// the head, or the first one in the patterns and the conditions, or else on the right side. What conditions call may
+/// be partial.
 pub fn rule_culprit<'d>(
     row: Row,
     wanted: usize,

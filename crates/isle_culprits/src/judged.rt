@@ -1,7 +1,7 @@
 //! Which rows the parts of a rule or of a template break.
 
-/// Which rows the parts of a rule or of a template that were met so far break, and whether one is a variable of a pattern that was
-/// not bound before; and of which terms, by their numbers, a pattern that uses them is `multi`.
+/// Which rows the parts of a rule or of a template that were met so far break, and whether one is a variable of a
+/// pattern that was not bound before; and of which terms, by their numbers, a pattern that uses them is `multi`.
 #[derive(Clone, Copy)]
 pub struct Judged<'m> {
     pub multis: &'m [bool],

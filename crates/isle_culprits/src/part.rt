@@ -25,7 +25,8 @@ pub struct Counts {
     pub wanted: usize,
 }
 
-/// A part with the type that is expected where it stands and its own, where they are known, and the counts of a term that is there.
+/// A part with the type that is expected where it stands and its own, where they are known, and the counts of a term
+/// that is there.
 #[derive(Clone, Copy)]
 pub struct Part<'d> {
     pub thing: Thing<'d>,

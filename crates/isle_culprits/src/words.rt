@@ -67,8 +67,8 @@ fn push_thing(
     Ok(())
 }
 
-// Adds that a variable or a term is not there, and what may be meant: a term without its parentheses, or conditions behind which no right
-// side stands.
+// Adds that a variable or a term is not there, and what may be meant: a term without its parentheses, or conditions
+// behind which no right side stands.
 fn push_unknown(words: &mut String, thing: Thing<'_>) -> Result<(), OutOfMemory> {
     match thing {
         Thing::Variable(name) => {
@@ -114,7 +114,8 @@ fn push_use(
     Ok(())
 }
 
-// Adds that a type is not declared, or else which type a part has, which one is expected, and what is to be said behind.
+// Adds that a type is not declared, or else which type a part has, which one is expected, and what is to be said
+// behind.
 fn push_mismatch(
     words: &mut String,
     types: &TypeEnv,

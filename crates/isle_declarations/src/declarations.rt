@@ -20,8 +20,8 @@ use isle_core::{List, Text};
 use std::alloc::{AllocError, Global};
 use std::marker::Model;
 
-/// The declarations, external constructors, extractors, and rules of definitions, with the numbers of their names. Contracts see the
-/// definitions.
+/// The declarations, external constructors, extractors, and rules of definitions, with the numbers of their names.
+/// Contracts see the definitions.
 #[derive(Drop)]
 pub struct Declarations<'d> {
     defs: &'d [Def],

@@ -270,8 +270,8 @@ fn found_in<'d>(alloc: Global, defs: &'d [Def]) -> Result<Definitions<'d>, Alloc
     })
 }
 
-/// Returns the definitions by their kinds, and their symbols; the terms that the types of each make are given. The only error
-/// is want of memory.
+/// Returns the definitions by their kinds, and their symbols; the terms that the types of each make are given. The only
+/// error is want of memory.
 pub fn definitions<'d>(
     alloc: Global,
     defs: &'d [Def],

@@ -1,5 +1,5 @@
-//! The declarations, external constructors, extractors, and rules among definitions, gathered and looked up by name; the types and
-//! constants that each declares, and the terms that types make; and whether names repeat.
+//! The declarations, external constructors, extractors, and rules among definitions, gathered and looked up by name;
+//! the types and constants that each declares, and the terms that types make; and whether names repeat.
 #![tactic(auto)]
 
 mod collected;

@@ -2,7 +2,8 @@
 
 ghost use Rattle.std.specs.Prelude.{◌≡◌, IfOk, map};
 ghost use Rattle.isle_declarations.specs.Collected.{AreAllNumbered};
-ghost use Rattle.isle_declarations.specs.Tables.{declared_names, external_names, extracting_names, ruled_names, HasFirsts};
+ghost use Rattle.isle_declarations.specs.Tables.{declared_names, external_names, extracting_names};
+ghost use Rattle.isle_declarations.specs.Tables.{ruled_names, HasFirsts};
 
 use crate::collected::{Definitions, Extern, ExtractorDef, RuleDef, Signature};
 use crate::first_places::{FirstPlaces, first_places};

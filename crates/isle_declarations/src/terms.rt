@@ -7,7 +7,8 @@ ghost use Rattle.isle_declarations.specs.DeclaredTypes.{variant_term, made_by, m
 ghost use Rattle.isle_declarations.specs.Symbols.{index_of, number_or, symbols};
 ghost use Rattle.isle_declarations.specs.Heads.{terms_of};
 ghost use Rattle.isle_declarations.specs.Tables.{HasFirsts, IsFirstPlace};
-ghost use Rattle.isle_declarations.specs.Terms.{made_signature, variant_signatures, body_signatures, terms_by, terms as all_terms};
+ghost use Rattle.isle_declarations.specs.Terms.{made_signature, variant_signatures, body_signatures};
+ghost use Rattle.isle_declarations.specs.Terms.{terms_by, terms as all_terms};
 ghost use Rattle.isle_declarations.specs.TermViews.{arg_types, term_def, AreTerms};
 ghost use Rattle.isle_ast.specs.declared.tree.AstVariant.{AstVariant as Variant};
 

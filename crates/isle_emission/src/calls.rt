@@ -103,8 +103,8 @@ pub fn call_of(
     Ok(call_on(borrow, callee, args))
 }
 
-/// Makes a call of the extractor of the term of this number on what it takes apart, behind a `&` where its one result is an
-/// enum or a struct.
+/// Makes a call of the extractor of the term of this number on what it takes apart, behind a `&` where its one result
+/// is an enum or a struct.
 pub fn extraction_of(
     alloc: Global,
     typed: &Typed<'_>,

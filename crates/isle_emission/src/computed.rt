@@ -1,4 +1,5 @@
-//! What bound locals compute: calls, the inner values of options, parts of tuples, made values, and what is read in place.
+//! What bound locals compute: calls, the inner values of options, parts of tuples, made values, and what is read in
+//! place.
 
 ghost use Rattle.std.specs.Prelude.{◌≡◌, Some as Is, IfOk};
 ghost use Rattle.isle_core.specs.Path.{at, paths_of};

@@ -66,9 +66,9 @@ fn term_stmts(
     root_stmts(alloc, files, starts, &typed, block, logging)
 }
 
-/// Makes the function of a term from its context and its block, where its forms are built; `logging` says whether a log line
-/// stands before each result. The table is that of the files, and the constants are those of the context. Fails for want of
-/// memory alone.
+/// Makes the function of a term from its context and its block, where its forms are built; `logging` says whether a log
+/// line stands before each result. The table is that of the files, and the constants are those of the context. Fails
+/// for want of memory alone.
 pub fn term_function(
     alloc: Global,
     files: &Files,
@@ -96,9 +96,9 @@ pub fn term_function(
     }))
 }
 
-/// Makes the function of the term of this number, whose rules have this block. It is well formed in every program with the
-/// functions of the trait and of terms that the environment gives, has the shape of the block, and runs as the block does. Fails
-/// for want of memory alone.
+/// Makes the function of the term of this number, whose rules have this block. It is well formed in every program with
+/// the functions of the trait and of terms that the environment gives, has the shape of the block, and runs as the
+/// block does. Fails for want of memory alone.
 pub fn emit_term(
     alloc: Global,
     files: &Files,

@@ -99,8 +99,8 @@ fn where_asked<'t, 'a>(logging: bool, told: &'t Telling<'a>) -> Option<&'t Telli
     if logging { Some(told) } else { None }
 }
 
-/// Makes the statements of a term's function, where its forms are built: those of its block, with log lines where `logging` asks for
-/// them, and the tail where the block can end without a result.
+/// Makes the statements of a term's function, where its forms are built: those of its block, with log lines where
+/// `logging` asks for them, and the tail where the block can end without a result.
 pub fn root_stmts(
     alloc: Global,
     files: &Files,

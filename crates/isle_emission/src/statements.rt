@@ -1,6 +1,7 @@
 //! The statements of a block.
 
-ghost use Rattle.std.specs.Prelude.{◌≡◌, ◌++◌, [], ◌∷◌, List as ListOf, ℕ, true, false, Some as Is, Option, map, option_map, IfOk, OnOk};
+ghost use Rattle.std.specs.Prelude.{◌≡◌, ◌++◌, [], ◌∷◌, List as ListOf, ℕ, true, false, Some as Is, Option};
+ghost use Rattle.std.specs.Prelude.{map, option_map, IfOk, OnOk};
 ghost use Rattle.isle_core.specs.ArmPlaces.{bound_within};
 ghost use Rattle.isle_core.specs.Block.{Equal, Loop};
 ghost use Rattle.isle_core.specs.BlockViews as BlockViews;

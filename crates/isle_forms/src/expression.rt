@@ -6,7 +6,8 @@ ghost use Rattle.isle_reading.specs.declared.cursor.Fail.TheVariants.{At};
 ghost use Rattle.isle_ast.specs.Tree as tree;
 ghost use Rattle.isle_ast.specs.Views.{expr};
 ghost use Rattle.isle_grammar.specs.Grammar.{expr_of, expr_head};
-ghost use Rattle.isle_grammar.specs.Reading.{constant_of, read_leaf, read_expr_head, read_expr, read_form_list, read_let, read_bindings, read_binding};
+ghost use Rattle.isle_grammar.specs.Reading.{constant_of, read_leaf, read_expr_head, read_expr};
+ghost use Rattle.isle_grammar.specs.Reading.{read_form_list, read_let, read_bindings, read_binding};
 ghost use Rattle.isle_forms.specs.ReadingViews.{expr_head_seen, binding_seen};
 
 use crate::words::constant_of;

@@ -4,7 +4,8 @@ ghost use Rattle.isle_reading.specs.Nesting.{most_open};
 ghost use Rattle.isle_reading.specs.Views.{left, Reads};
 ghost use Rattle.isle_ast.specs.Views.{iflet, expr};
 ghost use Rattle.isle_grammar.specs.Grammar.{if_head};
-ghost use Rattle.isle_grammar.specs.Reading.{read_if_head, if_behind, read_expr, read_iflet, read_form, settled, read_step, read_tail};
+ghost use Rattle.isle_grammar.specs.Reading.{read_if_head, if_behind, read_expr, read_iflet, read_form};
+ghost use Rattle.isle_grammar.specs.Reading.{settled, read_step, read_tail};
 ghost use Rattle.isle_forms.specs.ReadingViews.{if_head_seen, form_seen, step_seen};
 
 use crate::expression::expression;
@@ -193,7 +194,8 @@ fn next_step(tokens: &mut Tokens<'_>, alloc: Global, most: usize) -> Result<Step
     settled(tokens, form)
 }
 
-/// Reads a rule's conditions and its right side up to the closing parenthesis, which is taken, of at most `most` tokens.
+/// Reads a rule's conditions and its right side up to the closing parenthesis, which is taken, of at most `most`
+/// tokens.
 #[tactic(auto, using(crate::proofs::TailSteps::tails))]
 pub fn tail(
     tokens: &mut Tokens<'_>,

@@ -5,7 +5,9 @@ ghost use Rattle.isle_reading.specs.Nesting.{most_open};
 ghost use Rattle.isle_reading.specs.Views.{left, Reads};
 ghost use Rattle.isle_ast.specs.Views.{pattern, patterns_of};
 ghost use Rattle.isle_grammar.specs.Grammar.{pattern_head, listed};
-ghost use Rattle.isle_grammar.specs.Reading.{constant_of, constant_first, first_of, read_first, symbol_of, read_pattern_head, read_pattern, read_symbol, read_worded, read_listed, read_template, read_argument};
+ghost use Rattle.isle_grammar.specs.Reading.{constant_of, constant_first, first_of, read_first, symbol_of};
+ghost use Rattle.isle_grammar.specs.Reading.{read_pattern_head, read_pattern, read_symbol, read_worded};
+ghost use Rattle.isle_grammar.specs.Reading.{read_listed, read_template, read_argument};
 ghost use Rattle.isle_forms.specs.ReadingViews.{first_seen, pattern_head_seen};
 
 use crate::words::constant_of;

@@ -2,7 +2,8 @@ ghost use Rattle.std.specs.Prelude.{◌≡◌, option_map};
 ghost use Rattle.isle_lexer.specs.Word.{kind};
 ghost use Rattle.isle_reading.specs.Combinators.{next_word};
 ghost use Rattle.isle_reading.specs.Views.{left, Reads};
-ghost use Rattle.isle_grammar.specs.Reading.{read_rule_name, prio_of, read_prio, decl_name_of, read_decl_name, constant_of, read_constant};
+ghost use Rattle.isle_grammar.specs.Reading.{read_rule_name, prio_of, read_prio, decl_name_of};
+ghost use Rattle.isle_grammar.specs.Reading.{read_decl_name, constant_of, read_constant};
 
 use isle_core::Text;
 use isle_lexer::{Kind, is_flag, is_name, kind_of};

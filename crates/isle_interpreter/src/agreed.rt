@@ -67,7 +67,8 @@ fn by_name<'s>(
     Ok(found)
 }
 
-/// Gathers for each name the type that all its places have, of all functions of the program. The only error is want of memory.
+/// Gathers for each name the type that all its places have, of all functions of the program. The only error is want of
+/// memory.
 pub fn agreed_types<'s>(
     alloc: Global,
     signatures: &'s Signatures<'_>,

@@ -2,7 +2,8 @@
 
 ghost use Rattle.std.specs.Prelude.{◌≡◌, ◌++◌, ℕ, ℤ, List, IfOk, OnOk, Some, map, option_map, option_to_list};
 ghost use Rattle.isle_core.specs.ValueViews.{meaning};
-ghost use Rattle.isle_interpreter.specs.Clashes.{joined_owner, noted_owner, owner_at, at_key, is_only, unless_only, clash_of, clashes, held, FindsClashes};
+ghost use Rattle.isle_interpreter.specs.Clashes.{joined_owner, noted_owner, owner_at, at_key, is_only};
+ghost use Rattle.isle_interpreter.specs.Clashes.{unless_only, clash_of, clashes, held, FindsClashes};
 ghost use Rattle.isle_naming.specs.Sets.{has_name};
 ghost use Rattle.isle_tree.specs.Views.{function, program};
 
@@ -126,8 +127,8 @@ fn shared<'s>(alloc: Global, holders: &[Holder<'s>]) -> Result<Vec<&'s str>, All
     Ok(names)
 }
 
-/// Finds the names of the constants in a function whose values other constants of their types there have too, under these
-/// answers. The only error is want of memory.
+/// Finds the names of the constants in a function whose values other constants of their types there have too, under
+/// these answers. The only error is want of memory.
 pub fn clashing<'s>(
     alloc: Global,
     signatures: &'s Signatures<'_>,

@@ -16,7 +16,8 @@ use std::alloc::{AllocError, Global};
 use std::collections::{BTreeMap, BTreeSet};
 use std::marker::Model;
 
-/// The names that stand in the functions of a program, the types that occur in it, and the type that all places of a name have.
+/// The names that stand in the functions of a program, the types that occur in it, and the type that all places of a
+/// name have.
 #[derive(Drop)]
 pub struct Constants<'s> {
     program: &'s Program,
@@ -83,8 +84,8 @@ impl<'s> Constants<'s> {
         self.names.contains(name) && !self.occurring.contains(name)
     }
 
-    /// Tells whether a value is of each type that the program fixes for a place of the constant of this name. The only error is
-    /// want of memory.
+    /// Tells whether a value is of each type that the program fixes for a place of the constant of this name. The only
+    /// error is want of memory.
     pub fn fits(
         &self,
         alloc: Global,

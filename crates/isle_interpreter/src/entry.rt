@@ -74,7 +74,8 @@ fn turns_fit(
 }
 
 impl<'a> Entry<'a> {
-    /// Tells whether the answers of the entry fit the signature of what it answers for. The only error is want of memory.
+    /// Tells whether the answers of the entry fit the signature of what it answers for. The only error is want of
+    /// memory.
     pub fn fits(
         &self,
         alloc: Global,

@@ -1,6 +1,7 @@
 //! The constants that stand in a function with values.
 
-ghost use Rattle.std.specs.Prelude.{◌≡◌, ◌++◌, ℕ, List, IfOk, OnOk, Some, None, map, option_map, option_to_list, if◌then◌else◌};
+ghost use Rattle.std.specs.Prelude.{◌≡◌, ◌++◌, ℕ, List, IfOk, OnOk, Some, None, map, option_map};
+ghost use Rattle.std.specs.Prelude.{option_to_list, if◌then◌else◌};
 ghost use Rattle.isle_core.specs.Having.{const_of};
 ghost use Rattle.isle_core.specs.Meaning.{Meaning};
 ghost use Rattle.isle_core.specs.ValueViews.{value, const};

@@ -26,8 +26,8 @@ fn is_known(served: &Served<'_>, constants: &Constants<'_>, operand: &Operand) -
     }
 }
 
-/// Tells whether each name in a function that stands at a place whose type is fixed has a value, or is that of a type that
-/// occurs. The only error is want of memory.
+/// Tells whether each name in a function that stands at a place whose type is fixed has a value, or is that of a type
+/// that occurs. The only error is want of memory.
 pub fn are_known<'s>(
     alloc: Global,
     served: &Served<'_>,

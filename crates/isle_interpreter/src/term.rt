@@ -21,8 +21,8 @@ use isle_core::{Answers, Outcome, Value};
 use isle_tree::Program;
 use std::alloc::Global;
 
-/// Tells which of the first three refusals it is, where the function of a term doesn't take the arguments. Beside these, want
-/// of memory.
+/// Tells which of the first three refusals it is, where the function of a term doesn't take the arguments. Beside
+/// these, want of memory.
 pub fn takes(alloc: Global, p: &Program, term: &str, args: &[Value]) -> Result<(), RunError>
     ensures takes { OnOk result (Takes (program p.now) term.now (values args.now)) }
     ensures refused { IfErr result (λ e. (e ≡ Memory) ⊎ (IsEarly e × ((m : Meaning) → IsRefused (program p.now) term.now (values args.now) m e))) }
@@ -36,9 +36,9 @@ pub fn takes(alloc: Global, p: &Program, term: &str, args: &[Value]) -> Result<(
 /// Returns the run of the function of the term of this name under the answers.
 ///
 /// The errors in the order in which they are asked: the program has no function of the term; it takes another number of
-/// arguments; the first argument that is no value of its parameter's type; the first entry of the answers that is wrong, or
-/// the number of all entries where something that the function calls, or a constant in it at a place whose type the program
-/// fixes, has none. Beside these, want of memory.
+/// arguments; the first argument that is no value of its parameter's type; the first entry of the answers that is
+/// wrong, or the number of all entries where something that the function calls, or a constant in it at a place whose
+/// type the program fixes, has none. Beside these, want of memory.
 pub fn run_term(
     alloc: Global,
     p: &Program,

@@ -99,7 +99,8 @@ pub fn first_wrong(
     Ok(None)
 }
 
-/// Tells whether these are as many values as the function takes, each of its parameter's type. The only error is want of memory.
+/// Tells whether these are as many values as the function takes, each of its parameter's type. The only error is want
+/// of memory.
 pub fn takes(
     alloc: Global,
     types: &Types<'_>,

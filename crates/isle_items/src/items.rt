@@ -1,7 +1,8 @@
 //! The declared types.
 
 ghost use Rattle.std.specs.Prelude.{◌≡◌, ◌++◌, IfOk, OnOk, map, option_to_list, filter_map};
-ghost use Rattle.isle_items.specs.TypeItems.{text_at, named_field, named_shape, tuple_shape, fields_shape, variant_item, item_of, type_item, items_in};
+ghost use Rattle.isle_items.specs.TypeItems.{text_at, named_field, named_shape, tuple_shape, fields_shape};
+ghost use Rattle.isle_items.specs.TypeItems.{variant_item, item_of, type_item, items_in};
 
 use crate::texts::text_at;
 use isle_core::{Field, Fields, List, OutOfMemory, Sym, Text, TypeDef, TypeEnv, TypeId, Variant};

@@ -59,7 +59,8 @@ fn bind_pattern(
     }
 }
 
-/// Binds the locals of a pattern over what is read, and tells whether it may be read so. The only error is want of memory.
+/// Binds the locals of a pattern over what is read, and tells whether it may be read so. The only error is want of
+/// memory.
 pub fn enter(
     bound: &mut Table<Holds>,
     params: usize,

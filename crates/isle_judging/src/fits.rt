@@ -2,7 +2,8 @@
 
 ghost use Rattle.std.specs.Prelude.{◌≡◌, ◌↔◌, IsTrue};
 ghost use Rattle.isle_tree.specs.Views.{stmt, body};
-ghost use Rattle.isle_tree.specs.WellFormed.{FitsLet, IsReturned, GivesSeveral, FitsStmt, FitsBody, FitsTail, FitsLast, FitsEnding, FitsFunction};
+ghost use Rattle.isle_tree.specs.WellFormed.{FitsLet, IsReturned, GivesSeveral, FitsStmt, FitsBody, FitsTail};
+ghost use Rattle.isle_tree.specs.WellFormed.{FitsLast, FitsEnding, FitsFunction};
 
 use isle_core::{ReturnKind, Text};
 use isle_tree::{Stmt, TExpr};

@@ -2,7 +2,11 @@
 
 ghost use Rattle.std.specs.Prelude.{◌≡◌, ◌↔◌, IsTrue, Some, []};
 ghost use Rattle.isle_tree.specs.Views.{function};
-ghost use Rattle.isle_tree.specs.WellFormed.{local_holds, operand_holds, read_holds, is_value, are_values, are_field_values, made_holds, results_item, kind_holds, function_head, call_holds, head_holds, callee_holds, inner_holds, once_holds, list_holds, each_holds, called_holds, part_holds, expr_holds};
+ghost use Rattle.isle_tree.specs.WellFormed.{local_holds, operand_holds, read_holds, is_value, are_values};
+ghost use Rattle.isle_tree.specs.WellFormed.{are_field_values, made_holds, results_item, kind_holds};
+ghost use Rattle.isle_tree.specs.WellFormed.{function_head, call_holds, head_holds, callee_holds};
+ghost use Rattle.isle_tree.specs.WellFormed.{inner_holds, once_holds, list_holds, each_holds, called_holds};
+ghost use Rattle.isle_tree.specs.WellFormed.{part_holds, expr_holds};
 
 use isle_core::{Callee, ReturnKind, Text};
 use isle_scope::Table;

@@ -93,8 +93,8 @@ fn is_stmt_scoped(
     }
 }
 
-/// Tells whether each operand of the statements is in scope and holds what is asked of it. What is bound is the same after
-/// them. The only error is want of memory.
+/// Tells whether each operand of the statements is in scope and holds what is asked of it. What is bound is the same
+/// after them. The only error is want of memory.
 #[cycle(scoped)]
 pub fn is_body_scoped(
     callees: &Callables,

@@ -11,7 +11,8 @@ use isle_core::{List, Pattern};
 use isle_walks::order;
 use std::alloc::{AllocError, Global};
 
-// Of each term whether it is `multi` where a pattern uses it, by an order in which each comes behind those that its template uses.
+// Of each term whether it is `multi` where a pattern uses it, by an order in which each comes behind those that its
+// template uses.
 fn told(written: &[Option<Pattern>], flags: Vec<bool>, order: &[usize]) -> Vec<bool>
     requires order { IsOrder (uses (written_of written.now)) order.now }
     requires flags { length flags.items ≡ length written.now }
@@ -26,8 +27,8 @@ fn told(written: &[Option<Pattern>], flags: Vec<bool>, order: &[usize]) -> Vec<b
     table
 }
 
-/// Tells of each term whether it is `multi` where a pattern uses it, by the templates as they are written, by which of them use
-/// which, and by whether declarations say so (`specs/Multi.antt`). The only error is want of memory.
+/// Tells of each term whether it is `multi` where a pattern uses it, by the templates as they are written, by which of
+/// them use which, and by whether declarations say so (`specs/Multi.antt`). The only error is want of memory.
 pub fn multi_extractors(
     alloc: Global,
     graph: &[List<usize>],

@@ -50,7 +50,8 @@ fn uses_any(parts: &[Pattern], marks: &[bool]) -> bool
     false
 }
 
-/// Tells whether a term with this flag is `multi` where a pattern uses it, by the marks of the terms of its template, if it has one.
+/// Tells whether a term with this flag is `multi` where a pattern uses it, by the marks of the terms of its template,
+/// if it has one.
 pub fn multi_by(template: &Option<Pattern>, flag: bool, marks: &[bool]) -> bool
     ensures { result ≡ multi_by flag (marked marks.now) (option_map elaborated template.now) }
 {

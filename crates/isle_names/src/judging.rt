@@ -62,8 +62,9 @@ fn refused(alloc: Global, usage: NameUse, name: &str) -> NameFail
     }
 }
 
-/// Looks for names that may not be emitted: `Name` comes exactly where there is one, and tells the first, in the order of files as printed, types
-/// with their variants and fields, terms with their external functions, and constants (`specs/Claims.antt`); beside it only want of memory.
+/// Looks for names that may not be emitted: `Name` comes exactly where there is one, and tells the first, in the order
+/// of files as printed, types with their variants and fields, terms with their external functions, and constants
+/// (`specs/Claims.antt`); beside it only want of memory.
 pub fn lawful_names(
     alloc: Global,
     files: &Files,

@@ -136,7 +136,8 @@ fn in_terms<'a>(
     Ok(None)
 }
 
-/// Gives the first name of an external function or a term with rules that may not be emitted. The only error is want of memory.
+/// Gives the first name of an external function or a term with rules that may not be emitted. The only error is want of
+/// memory.
 pub fn unlawful_term<'a>(
     alloc: Global,
     types: &'a TypeEnv,

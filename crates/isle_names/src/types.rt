@@ -6,7 +6,8 @@ ghost use Rattle.isle_core.specs.Rule.{Environment};
 ghost use Rattle.isle_core.specs.Terms.{symbol_text};
 ghost use Rattle.isle_items.specs.LawfulNames.{emitted_name, emitted_names};
 ghost use Rattle.isle_items.specs.NameSet.{HasNames};
-ghost use Rattle.isle_names.specs.Claims.{OfType, OfVariant, OfField, is_ruled, field_claims, variant_claims, part_claims, type_claims};
+ghost use Rattle.isle_names.specs.Claims.{OfType, OfVariant, OfField, is_ruled, field_claims, variant_claims};
+ghost use Rattle.isle_names.specs.Claims.{part_claims, type_claims};
 ghost use Rattle.isle_names.specs.Judges.{Judges, JudgesBehind};
 
 use crate::name_error::NameUse;
@@ -123,8 +124,8 @@ fn in_type<'a>(
     Ok(in_parts(types, def))
 }
 
-/// Gives the first name of a type, a variant or a field that may not be emitted; where there is none, the set has the names of all types. It
-/// is empty before. The only error is want of memory.
+/// Gives the first name of a type, a variant or a field that may not be emitted; where there is none, the set has the
+/// names of all types. It is empty before. The only error is want of memory.
 pub fn unlawful_type<'a>(
     types: &'a TypeEnv,
     has_rules: bool,

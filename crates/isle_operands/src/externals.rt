@@ -124,8 +124,8 @@ fn push_constructor(
     Ok(())
 }
 
-/// Makes the functions of the environment's terms, in order: of each term that of its external extractor, then that of its
-/// external constructor. Fails for want of memory alone.
+/// Makes the functions of the environment's terms, in order: of each term that of its external extractor, then that of
+/// its external constructor. Fails for want of memory alone.
 pub fn trait_fns(
     alloc: Global,
     typeenv: &TypeEnv,

@@ -35,7 +35,8 @@ fn named(alloc: Global, context: &Context<'_>, name: Sym) -> Result<Operand, All
     Ok(Operand::Name(sym_name(alloc, context.typeenv, name)?))
 }
 
-// Makes what is read in place for a struct with these fields: its name where there are none, or else the local of this number.
+// Makes what is read in place for a struct with these fields: its name where there are none, or else the local of this
+// number.
 fn struct_operand(
     alloc: Global,
     context: &Context<'_>,

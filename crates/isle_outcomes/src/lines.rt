@@ -2,7 +2,8 @@
 
 ghost use Rattle.std.specs.Prelude.{◌≡◌, ◌++◌, [], ◌∷◌, OnOk, IfOk, map, string_bytes};
 ghost use Rattle.isle_core.specs.ValueViews.{values, end, made};
-ghost use Rattle.isle_outcomes.specs.Lines.{more_text, listed_text, end_text, args_text, call_line, call_lines, end_line};
+ghost use Rattle.isle_outcomes.specs.Lines.{more_text, listed_text, end_text, args_text, call_line};
+ghost use Rattle.isle_outcomes.specs.Lines.{call_lines, end_line};
 
 use crate::shown::{push_callee, push_value};
 use isle_core::{CallMade, End, OutOfMemory, Value};

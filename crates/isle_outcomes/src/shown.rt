@@ -4,7 +4,8 @@ ghost use Rattle.std.specs.Prelude.{◌≡◌, ◌++◌, OnOk, codes, string_byt
 ghost use Rattle.isle_core.specs.Value.{Variant, Struct};
 ghost use Rattle.isle_core.specs.ValueViews.{value};
 ghost use Rattle.isle_printer.specs.Number.{numeral};
-ghost use Rattle.isle_outcomes.specs.Shown.{truth_text, number_text, shown, variant_head, struct_head, value_text, fields_text, callee_text};
+ghost use Rattle.isle_outcomes.specs.Shown.{truth_text, number_text, shown, variant_head, struct_head};
+ghost use Rattle.isle_outcomes.specs.Shown.{value_text, fields_text, callee_text};
 ghost use Rattle.isle_outcomes.specs.Fields.{fields};
 
 use isle_core::{Callee, IntType, Text, Value};

@@ -1,6 +1,9 @@
-ghost use Rattle.std.specs.Prelude.{◌≡◌, ◌-◌, ◌^◌, ◌≤◌, ◌<◌, Option, None, Err, false, length, take, map, IfOk, OnOk, OnErr};
+ghost use Rattle.std.specs.Prelude.{◌≡◌, ◌-◌, ◌^◌, ◌≤◌, ◌<◌, Option, None, Err, false, length, take, map};
+ghost use Rattle.std.specs.Prelude.{IfOk, OnOk, OnErr};
 ghost use Rattle.std.specs.String.{string_bytes};
-ghost use Rattle.isle_outside.specs.Directory.{Contents, Current, Nothing, InFolder, Finds, IsReading, GivesNext, Lists, KeepsOthers, KeepsEntries, Holds, Counts, raised, Rose};
+ghost use Rattle.isle_outside.specs.Directory.{Contents, Current, Nothing, InFolder, Finds, IsReading};
+ghost use Rattle.isle_outside.specs.Directory.{GivesNext, Lists, KeepsOthers, KeepsEntries, Holds, Counts};
+ghost use Rattle.isle_outside.specs.Directory.{raised, Rose};
 ghost use Rattle.isle_outside.specs.Failures.{is_fault};
 
 use crate::errors::{DirFault, Failed};
@@ -70,8 +73,8 @@ pub trait Dir {
         ensures given { (counts self.new).given ≡ (counts self.old).given }
         ensures nothing { current self.new ≡ Nothing };
 
-    /// Makes the file of the name hold these bytes. After `Failed` that file may hold anything, after `Memory` all files are as
-    /// before.
+    /// Makes the file of the name hold these bytes. After `Failed` that file may hold anything, after `Memory` all
+    /// files are as before.
     fn write_file(&mut self, name: &str, bytes: &[u8]) -> Result<(), DirFault>
         ensures holds { OnOk result (Holds (files self.new) name.now bytes.now) }
         ensures others { KeepsOthers (files self.old) (files self.new) name.now }

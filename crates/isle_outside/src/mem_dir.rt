@@ -33,7 +33,8 @@ pub struct MemDir {
 impl MemDir {
     ghost use Rattle.std.specs.Prelude.{◌≤◌, true, false};
     ghost use Rattle.isle_outside.specs.Directory.{Nothing, Rose};
-    ghost use Rattle.isle_outside.specs.Memory.{IsCounted, IsUnused, current_in, faults_in, files_in, files_of, piece_in};
+    ghost use Rattle.isle_outside.specs.Memory.{IsCounted, IsUnused, current_in, faults_in, files_in};
+    ghost use Rattle.isle_outside.specs.Memory.{files_of, piece_in};
 
     /// Makes a directory of these files, in which nothing is current. The first call of a method of `Dir` has number 1.
     pub fn new(
@@ -99,7 +100,8 @@ impl MemDir {
 impl Dir for MemDir {
     ghost use Rattle.std.specs.Prelude.{◌≤◌, Some, Err, false, min, length, map, is_err, IfOk, OnOk, OnErr};
     ghost use Rattle.std.specs.String.{string_bytes};
-    ghost use Rattle.isle_outside.specs.Directory.{Nothing, InFolder, Finds, IsReading, GivesNext, Lists, KeepsOthers, KeepsEntries, Holds, raised, Rose};
+    ghost use Rattle.isle_outside.specs.Directory.{Nothing, InFolder, Finds, IsReading, GivesNext, Lists};
+    ghost use Rattle.isle_outside.specs.Directory.{KeepsOthers, KeepsEntries, Holds, raised, Rose};
     ghost use Rattle.isle_outside.specs.Failures.{is_fault};
     ghost use Rattle.isle_outside.specs.Memory.{IsCounted, counts_in, current_in, files_in, left_in, piece_in, written};
 

@@ -1,4 +1,6 @@
-ghost use Rattle.std.specs.Prelude.{◌≡◌, ◌≤◌, ◌<◌, ◌+◌, ◌-◌, ◌^◌, ◌&&◌, ◌||◌, ◌==◌, Some, [], length, take, min, nat_lt, true, is_err, IsOk, IfOk, OnOk, OnErr, vec_len, vec_capacity};
+ghost use Rattle.std.specs.Prelude.{◌≡◌, ◌≤◌, ◌<◌, ◌+◌, ◌-◌, ◌^◌, ◌&&◌, ◌||◌, ◌==◌, Some, [], length, take};
+ghost use Rattle.std.specs.Prelude.{min, nat_lt, true, is_err, IsOk, IfOk, OnOk, OnErr, vec_len};
+ghost use Rattle.std.specs.Prelude.{vec_capacity};
 ghost use Rattle.isle_outside.specs.Directory.{Rose};
 ghost use Rattle.isle_outside.specs.Failures.{counted, is_failing};
 ghost use Rattle.isle_outside.specs.Sinks.{Took};

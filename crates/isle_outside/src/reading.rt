@@ -10,7 +10,8 @@ use std::alloc::Global;
 /// The most bytes of an input.
 const MAX_BYTES: usize = 1 << 24;
 
-/// Reads the text of the file of a name. The name is looked up once, and at most 2^24 + 1 bytes are taken, at least one a turn.
+/// Reads the text of the file of a name. The name is looked up once, and at most 2^24 + 1 bytes are taken, at least one
+/// a turn.
 ///
 /// `Io` gives the cause; `Fault` comes only where the directory's count of faults rose, and at every other answer that
 /// count is what it was.

@@ -33,7 +33,8 @@ pub struct StdDir<R: Files> {
 }
 
 impl<R: Files + AllocGlobal + Clone + Drop> StdDir<R> {
-    /// Returns the directory below a folder of the machine; the empty name is the current folder. Nothing is opened yet.
+    /// Returns the directory below a folder of the machine; the empty name is the current folder. Nothing is opened
+    /// yet.
     pub fn new(rt: R, folder: String) -> StdDir<R>
         ensures root { result.root ≡ folder }
         ensures file { result.file ≡ None }

@@ -35,7 +35,8 @@ fn push_told<'s>(
     }
 }
 
-/// Appends an operand with its own type, or else with that of its place, where it is told. The only error is want of memory.
+/// Appends an operand with its own type, or else with that of its place, where it is told. The only error is want of
+/// memory.
 pub fn push_at<'s>(
     found: &mut Vec<(&'s Operand, &'s str)>,
     operand: &'s Operand,

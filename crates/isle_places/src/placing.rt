@@ -141,8 +141,8 @@ fn push_body<'s>(
     Ok(())
 }
 
-/// Appends what stands in a function at places whose types the program fixes, with these types, in order. The only error is
-/// want of memory.
+/// Appends what stands in a function at places whose types the program fixes, with these types, in order. The only
+/// error is want of memory.
 pub fn push_places<'s>(
     alloc: Global,
     signatures: &'s Signatures<'_>,

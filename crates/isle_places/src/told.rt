@@ -11,8 +11,8 @@ use isle_core::Text;
 use isle_scope::Table;
 use isle_tree::{Function, Operand, Read, TCall, TExpr, Ty};
 
-/// A value of the type of this name, a tuple of values of these types, an option of either, a list of either, or something whose type
-/// isn't told.
+/// A value of the type of this name, a tuple of values of these types, an option of either, a list of either, or
+/// something whose type isn't told.
 #[derive(Clone, Copy)]
 pub enum Told<'s> {
     AValue(&'s str),

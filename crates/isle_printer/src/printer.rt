@@ -1,8 +1,10 @@
 //! The printer. Its value is the list of the tokens printed so far: blanks, lines and comments are its own affair.
 
-ghost use Rattle.std.specs.Prelude.{◌≡◌, ◌<◌, ◌≤◌, ◌-◌, ◌++◌, [], ◌∷◌, OnOk, IsTrue, length, slice_index, string_bytes, codes};
+ghost use Rattle.std.specs.Prelude.{◌≡◌, ◌<◌, ◌≤◌, ◌-◌, ◌++◌, [], ◌∷◌, OnOk, IsTrue, length, slice_index};
+ghost use Rattle.std.specs.Prelude.{string_bytes, codes};
 ghost use Rattle.std.specs.List.{list_all};
-ghost use Rattle.isle_printer.specs.Token.{Word, Mark, Quoted, is_word, is_word_byte, is_blank, is_mark, goes_on, left_open, tokens_of, scan, Between, InWord};
+ghost use Rattle.isle_printer.specs.Token.{Word, Mark, Quoted, is_word, is_word_byte, is_blank, is_mark};
+ghost use Rattle.isle_printer.specs.Token.{goes_on, left_open, tokens_of, scan, Between, InWord};
 ghost use Rattle.isle_printer.specs.Glue.{Settles, Ends, EndsAtWord, meets, is_open, noted};
 ghost use Rattle.isle_printer.specs.Number.{numeral};
 
@@ -239,8 +241,8 @@ impl Printer {
         Ok(())
     }
 
-    /// Prints one word: a number with its type, as 0xff_u8, the prefix before the digits. What is printed after an error is
-    /// left open.
+    /// Prints one word: a number with its type, as 0xff_u8, the prefix before the digits. What is printed after an
+    /// error is left open.
     pub fn number(&mut self, prefix: &str, n: u128, base: u8, ty: &str) -> Result<(), AllocError>
         requires low { 2 ≤ base }
         requires high { base ≤ 16 }
@@ -288,8 +290,8 @@ impl Printer {
         Ok(())
     }
 
-    /// Prints a piece of text as it is: some tokens, and behind them a blank, or a mark of one byte as the last one. What
-    /// is printed after an error is left open.
+    /// Prints a piece of text as it is: some tokens, and behind them a blank, or a mark of one byte as the last one.
+    /// What is printed after an error is left open.
     pub fn piece(&mut self, piece: &str) -> Result<(), AllocError>
         requires begins { 0 < length piece.now }
         requires ends { (scan piece.now).state ≡ left_open (slice_index piece.now (length piece.now - 1)) }
@@ -333,7 +335,8 @@ impl Printer {
         Ok(())
     }
 
-    /// Begins lines four blanks further in from here on, up to 32 levels: a line deeper than that stands as far in as one of 32.
+    /// Begins lines four blanks further in from here on, up to 32 levels: a line deeper than that stands as far in as
+    /// one of 32.
     pub fn indent(&mut self)
         ensures { self.new ≡ self.old }
     {

@@ -50,8 +50,9 @@ fn errors_of(
     Ok(errors)
 }
 
-/// Looks for terms that use themselves, by themselves or through others, and are not marked with `rec`: `Rules` comes exactly where there is
-/// one, and has an error at the declaration of each, in order (`specs/Recursions.antt`). Each term is one of the environment, and listed once.
+/// Looks for terms that use themselves, by themselves or through others, and are not marked with `rec`: `Rules` comes
+/// exactly where there is one, and has an error at the declaration of each, in order (`specs/Recursions.antt`). Each
+/// term is one of the environment, and listed once.
 pub fn check(
     alloc: Global,
     terms: &[(TermId, RuleSet)],

@@ -1,6 +1,7 @@
 //! Which terms use which, as a graph of the places of their rule sets.
 
-ghost use Rattle.std.specs.Prelude.{◌≡◌, ◌<◌, ℕ, length, option_to_list, slice_get, slice_index_or, None as NoneOf, IfOk};
+ghost use Rattle.std.specs.Prelude.{◌≡◌, ◌<◌, ℕ, length, option_to_list, slice_get, slice_index_or};
+ghost use Rattle.std.specs.Prelude.{None as NoneOf, IfOk};
 ghost use Rattle.std.specs.List.{AllByRecursion};
 ghost use Rattle.isle_recursion.specs.ClosedWalks.{is_declared, used, used_by, uses_of};
 ghost use Rattle.isle_recursion.specs.Graph.{ArePlaces, IsGraph, ids_of, places_of};
@@ -110,8 +111,8 @@ fn places_of(
     Ok(places)
 }
 
-/// Makes the graph of rule sets, each of a term: each leads to the places of those of the terms that it uses (`specs/Graph.antt`).
-/// The only error is want of memory.
+/// Makes the graph of rule sets, each of a term: each leads to the places of those of the terms that it uses
+/// (`specs/Graph.antt`). The only error is want of memory.
 pub fn graph(
     alloc: Global,
     terms: &[Term],

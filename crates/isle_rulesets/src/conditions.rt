@@ -51,8 +51,8 @@ fn number_condition(
     number_pattern(alloc, terms, numbering, tests, &condition.lhs, value)
 }
 
-/// Numbers all in front of a rule's right side: its arguments and what their patterns take apart, and then its conditions in
-/// order; gathers the tests that they put. The only error is want of memory.
+/// Numbers all in front of a rule's right side: its arguments and what their patterns take apart, and then its
+/// conditions in order; gathers the tests that they put. The only error is want of memory.
 pub fn number_patterns(
     alloc: Global,
     terms: &[Term],

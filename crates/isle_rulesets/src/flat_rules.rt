@@ -51,7 +51,8 @@ fn flat_rule(
     })
 }
 
-/// Makes the rule set that stands for rules of one term (`isle_core/specs/StandsFor.antt`). The only error is want of memory.
+/// Makes the rule set that stands for rules of one term (`isle_core/specs/StandsFor.antt`). The only error is want of
+/// memory.
 pub fn rule_set(alloc: Global, terms: &[Term], rules: &[&Rule]) -> Result<RuleSet, AllocError>
     requires built { All (IsBuiltRule terms.now) (seen_all rules.now) }
     requires bound { All IsScopedRule (seen_all rules.now) }

@@ -38,7 +38,8 @@ fn group<'a>(
     Ok(groups)
 }
 
-/// Makes the rule set of each term with rules, in order of ids (`specs/Grouping.antt`). The only error is want of memory.
+/// Makes the rule set of each term with rules, in order of ids (`specs/Grouping.antt`). The only error is want of
+/// memory.
 pub fn rule_sets(alloc: Global, terms: &TermEnv) -> Result<Vec<(TermId, RuleSet)>, AllocError>
     requires built { All (IsBuiltRule terms.now.terms) (map seen terms.now.rules) }
     requires bound { All IsScopedRule (map seen terms.now.rules) }

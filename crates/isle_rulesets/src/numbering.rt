@@ -88,7 +88,8 @@ fn key_turn(late: &[bool], key: &Key) -> bool
     }
 }
 
-// Adds a binding behind the others, and whether its path has an impure call within it. The only error is want of memory.
+// Adds a binding behind the others, and whether its path has an impure call within it. The only error is want of
+// memory.
 fn push_binding(
     bindings: &mut Vec<Binding>,
     late: &mut Vec<bool>,
@@ -124,9 +125,9 @@ fn put(
     Ok(())
 }
 
-/// Bindings, each once, and the lists that the rule at hand met. The first bindings may be arguments in order, which are
-/// counted; of the others the map has the number by the key. Impure calls have no key, and are counted too. Beside each binding stands
-/// whether its path has an impure call within it.
+/// Bindings, each once, and the lists that the rule at hand met. The first bindings may be arguments in order, which
+/// are counted; of the others the map has the number by the key. Impure calls have no key, and are counted too. Beside
+/// each binding stands whether its path has an impure call within it.
 #[derive(Drop)]
 pub struct Numbering {
     bindings: Vec<Binding>,
@@ -183,7 +184,8 @@ impl Numbering {
         has_turn(self.late.as_slice(), number)
     }
 
-    /// Returns the number of the key's binding, and adds it where it is not there yet. The only error is want of memory.
+    /// Returns the number of the key's binding, and adds it where it is not there yet. The only error is want of
+    /// memory.
     pub fn intern(&mut self, alloc: Global, key: Key) -> Result<BindingId, AllocError>
         requires { HasParts (paths_of self.old.bindings) key }
         ensures { IfOk result (λ b. Numbers self.old self.new (key_path (paths_of self.old.bindings) key) b) }
@@ -237,8 +239,8 @@ impl Numbering {
         Ok(())
     }
 
-    /// Numbers the value of a call that has a number: its inner value where it may be nothing, an item where it answers several times, or
-    /// else itself; a list is met. The only error is want of memory.
+    /// Numbers the value of a call that has a number: its inner value where it may be nothing, an item where it answers
+    /// several times, or else itself; a list is met. The only error is want of memory.
     pub fn answered(
         &mut self,
         alloc: Global,

@@ -109,8 +109,8 @@ fn extract(
     })
 }
 
-/// Takes the path of a number apart by a term's pattern: tests what it must be, and numbers what the term's extractor gives. The
-/// only error is want of memory.
+/// Takes the path of a number apart by a term's pattern: tests what it must be, and numbers what the term's extractor
+/// gives. The only error is want of memory.
 pub fn open(
     alloc: Global,
     terms: &[Term],

@@ -1,4 +1,5 @@
-ghost use Rattle.std.specs.Prelude.{◌≡◌, Some, ◌∷◌, ◌++◌, [], if◌then◌else◌, IfOk, OnOk, IsSomeAnd, map, slice_get, Contains};
+ghost use Rattle.std.specs.Prelude.{◌≡◌, Some, ◌∷◌, ◌++◌, [], if◌then◌else◌, IfOk, OnOk, IsSomeAnd, map};
+ghost use Rattle.std.specs.Prelude.{slice_get, Contains};
 ghost use Rattle.std.specs.List.{AllByRecursion};
 ghost use Rattle.isle_core.specs.declared.types.Term.{Term as CodeTerm};
 ghost use Rattle.isle_core.specs.RuleViews.{expr as seen, exprs_of, bindings_of};
@@ -11,7 +12,8 @@ ghost use Rattle.isle_core.specs.Rule.{Environment};
 ghost use Rattle.isle_core.specs.Scope.{let_scope, IsInScope, AreInScope, AreLetsInScope};
 ghost use Rattle.isle_scope.specs.Table.{held};
 ghost use Rattle.isle_rulesets.specs.Keys.{IsThere};
-ghost use Rattle.isle_rulesets.specs.RightSides.{is_pure, pure_counts, names, bound, AreThere, NumbersTerm, Given, AllGiven, Binds};
+ghost use Rattle.isle_rulesets.specs.RightSides.{is_pure, pure_counts, names, bound, AreThere, NumbersTerm};
+ghost use Rattle.isle_rulesets.specs.RightSides.{Given, AllGiven, Binds};
 
 use crate::keys::Key;
 use crate::made::made_by;
@@ -88,8 +90,8 @@ fn counts(numbering: &Numbering, kind: ReturnKind, call: BindingId) -> bool
     }
 }
 
-// The number of the value of a call on numbered arguments. An impure one is new, and equal pure ones are one: of these only
-// those whose place counts join the calls before.
+// The number of the value of a call on numbered arguments. An impure one is new, and equal pure ones are one: of these
+// only those whose place counts join the calls before.
 fn number_call(
     alloc: Global,
     terms: &[Term],
@@ -134,8 +136,8 @@ fn number_term(
     }
 }
 
-/// Numbers an expression, and returns the number of its value; its calls join those before, each behind its arguments. The
-/// variables of a `let` are bound for as long as they count. The only error is want of memory.
+/// Numbers an expression, and returns the number of its value; its calls join those before, each behind its arguments.
+/// The variables of a `let` are bound for as long as they count. The only error is want of memory.
 #[cycle(right_side)]
 pub fn number_expr(
     alloc: Global,

@@ -87,7 +87,8 @@ fn function_leaves_out(
     Ok(any_left_out(typeenv, &standing, &given, typeenv.consts.as_slice()))
 }
 
-/// Tells whether answers leave out a constant of the source that stands in the function of the term. The only error is want of memory.
+/// Tells whether answers leave out a constant of the source that stands in the function of the term. The only error is
+/// want of memory.
 pub fn leaves_out(
     alloc: Global,
     compiled: &Compiled<'_>,

@@ -93,8 +93,8 @@ fn turns_of(
     }
 }
 
-/// Returns the turns that forms give, in order, their values at the types of what the callees answer; those of a callee to
-/// which no call of an impure term goes fit no function.
+/// Returns the turns that forms give, in order, their values at the types of what the callees answer; those of a callee
+/// to which no call of an impure term goes fit no function.
 pub fn turns_at(
     alloc: Global,
     makers: &Makers<'_>,

@@ -184,7 +184,8 @@ fn run_where(
     }
 }
 
-// Runs statements for an item of the list that a local holds, as a test of whether it is there, and leaves what was bound.
+// Runs statements for an item of the list that a local holds, as a test of whether it is there, and leaves what was
+// bound.
 #[cycle(running)]
 fn run_turn(
     alloc: Global,

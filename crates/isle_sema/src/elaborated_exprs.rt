@@ -10,8 +10,10 @@ ghost use Rattle.isle_terms.specs.Whole.{Whole, ret_type, number_of};
 ghost use Rattle.isle_terms.specs.Whole.{whole};
 ghost use Rattle.isle_sema.specs.Known.{MayBeCalled};
 ghost use Rattle.isle_variables.specs.Scope.{Local};
-ghost use Rattle.isle_sema.specs.ExprPass.{integer_tree, constant_tree, local_tree, call_tree, expr_within, expr_type, binding_tree, let_tree};
-ghost use Rattle.isle_sema.specs.ElaboratedAt.{expr_trees, seen_binding, binding_trees, IsExprAt, AreExprsAt, IsBindingAt, AreBindingsAt};
+ghost use Rattle.isle_sema.specs.ExprPass.{integer_tree, constant_tree, local_tree, call_tree, expr_within};
+ghost use Rattle.isle_sema.specs.ExprPass.{expr_type, binding_tree, let_tree};
+ghost use Rattle.isle_sema.specs.ElaboratedAt.{expr_trees, seen_binding, binding_trees, IsExprAt, AreExprsAt};
+ghost use Rattle.isle_sema.specs.ElaboratedAt.{IsBindingAt, AreBindingsAt};
 
 use crate::judging::Judging;
 use crate::known::{Called, Known, argument_types, result_type, within};
@@ -168,7 +170,8 @@ fn binding_of(number: usize, ty: Option<TypeId>, found: Option<Expr>) -> Option<
     })
 }
 
-/// Elaborates an expression where this type is expected: gives its tree, where its types are known (`specs/ExprPass.antt`).
+/// Elaborates an expression where this type is expected: gives its tree, where its types are known
+/// (`specs/ExprPass.antt`).
 #[cycle(exprs)]
 #[tactic(auto, using(isle_ast::proofs::Sees::expr_sees, isle_core::proofs::SeesRules::sees))]
 pub fn expr_at<'d>(

@@ -1,7 +1,8 @@
 //! Rules with types in them, their names as symbols and variables as numbers.
 
 ghost use Rattle.std.specs.Prelude.{◌≡◌, IfOk, Some, true, is_some, map};
-ghost use Rattle.isle_core.specs.RuleViews.{rule as elaborated_rule, pattern as elaborated_pattern, iflet as elaborated_iflet, expr as elaborated_expr};
+ghost use Rattle.isle_core.specs.RuleViews.{rule as elaborated_rule, pattern as elaborated_pattern};
+ghost use Rattle.isle_core.specs.RuleViews.{iflet as elaborated_iflet, expr as elaborated_expr};
 ghost use Rattle.isle_ast.specs.Views.{defs as seen_defs};
 ghost use Rattle.isle_declarations.specs.Symbols.{index_of};
 ghost use Rattle.isle_declarations.specs.Collected.{rule as seen, AreRules};
@@ -139,8 +140,8 @@ fn rule_at<'d>(
     }
 }
 
-/// Returns the first of these rules that breaks a row, with the lowest such row; or else the rules, numbered in order: nothing where
-/// one is not taken. The only error is want of memory.
+/// Returns the first of these rules that breaks a row, with the lowest such row; or else the rules, numbered in order:
+/// nothing where one is not taken. The only error is want of memory.
 pub fn rules_at<'d>(
     alloc: Global,
     known: &Known<'_, 'd>,

@@ -28,8 +28,8 @@ fn bind_each<'d>(
     Ok(())
 }
 
-/// Returns the type of an expression where none is expected (`specs/ExprType.antt`): it hangs on no fault of its parts. The variables
-/// of its `let`s are left in scope. The only error is want of memory.
+/// Returns the type of an expression where none is expected (`specs/ExprType.antt`): it hangs on no fault of its parts.
+/// The variables of its `let`s are left in scope. The only error is want of memory.
 #[cycle(types)]
 #[tactic(auto, using(isle_ast::proofs::Sees::expr_sees))]
 pub fn own_type<'d>(

@@ -8,7 +8,8 @@ use isle_culprits::{Culprit, push_culprit};
 use isle_types::{Row, push_name, told, type_error};
 use std::alloc::Global;
 
-/// The row that a template or a rule breaks, its place, the name of its term, and the part that breaks it, where one does.
+/// The row that a template or a rule breaks, its place, the name of its term, and the part that breaks it, where one
+/// does.
 #[derive(Clone, Copy)]
 pub struct Fault<'d> {
     pub row: Row,

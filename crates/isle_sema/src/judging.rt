@@ -3,7 +3,8 @@
 ghost use Rattle.std.specs.Prelude.{◌≡◌, [], Option, Some};
 ghost use Rattle.isle_declarations.specs.Signatures.{Signature};
 ghost use Rattle.isle_terms.specs.Whole.{Whole};
-ghost use Rattle.isle_sema.specs.Site.{IntegerAt, TruthAt, PartAt, MetAt, UsedAt, CalledAt, TakenAt, ConstantAt, BoundAt};
+ghost use Rattle.isle_sema.specs.Site.{IntegerAt, TruthAt, PartAt, MetAt, UsedAt, CalledAt, TakenAt};
+ghost use Rattle.isle_sema.specs.Site.{ConstantAt, BoundAt};
 ghost use Rattle.isle_sema.specs.RuleRows.{is_other_type};
 ghost use Rattle.isle_terms.specs.Whole.{whole_of};
 ghost use Rattle.isle_sema.specs.Known.{MayBeCalled};
@@ -17,8 +18,8 @@ use isle_culprits::{Counts, Firsts, Judged, Thing};
 use isle_multis::marked;
 use isle_terms::{takes_integers, takes_truths};
 
-/// Which rows the parts that were met so far break, and the first part that breaks each: nothing is said of the latter, which is
-/// for the words of a fault.
+/// Which rows the parts that were met so far break, and the first part that breaks each: nothing is said of the latter,
+/// which is for the words of a fault.
 #[derive(Clone, Copy)]
 pub struct Judging<'m, 'd> {
     pub rows: Judged<'m>,
@@ -35,7 +36,8 @@ fn is_other_type(bound: Option<Option<TypeId>>, expected: Option<TypeId>) -> boo
     }
 }
 
-// The rows look at the definitions at integers, truths and terms alone: elsewhere it is all one what definitions there are.
+// The rows look at the definitions at integers, truths and terms alone: elsewhere it is all one what definitions there
+// are.
 impl<'m, 'd> Judging<'m, 'd> {
     /// Begins with no part, over these marks of terms that are `multi` where a pattern uses them.
     pub fn new(multis: &'m [bool]) -> Judging<'m, 'd>

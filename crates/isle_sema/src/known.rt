@@ -15,8 +15,8 @@ use isle_terms::Converters;
 use isle_types::Before;
 use std::marker::Model;
 
-/// A term: its number, the types of its arguments and of its result, its flags, whether a type makes it, and whether it has
-/// an external constructor, an extractor, a template and a rule.
+/// A term: its number, the types of its arguments and of its result, its flags, whether a type makes it, and whether it
+/// has an external constructor, an extractor, a template and a rule.
 #[derive(Clone, Copy)]
 pub struct Called<'s> {
     pub term: TermId,

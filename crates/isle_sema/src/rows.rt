@@ -7,8 +7,8 @@ use crate::known::Called;
 use isle_culprits::Judged;
 use isle_types::Row;
 
-/// Returns the lowest row that an extractor with a template breaks, by whether its term reaches itself, whether a parameter does
-/// not stand in it, and what its parts are judged.
+/// Returns the lowest row that an extractor with a template breaks, by whether its term reaches itself, whether a
+/// parameter does not stand in it, and what its parts are judged.
 pub fn template_row(reaches_itself: bool, misses: bool, judged: &Judged) -> Option<Row>
     ensures { result ≡ lowest_of_template reaches_itself misses judged.now }
 {
@@ -29,8 +29,8 @@ pub fn template_row(reaches_itself: bool, misses: bool, judged: &Judged) -> Opti
     }
 }
 
-/// Returns the lowest row before that of its nodes that a rule of a term breaks, on so many patterns, by what its patterns with
-/// its conditions, and its right side, are judged.
+/// Returns the lowest row before that of its nodes that a rule of a term breaks, on so many patterns, by what its
+/// patterns with its conditions, and its right side, are judged.
 pub fn lowest_row(own: &Called, count: usize, left: &Judged, right: &Judged) -> Option<Row>
     ensures { result ≡ lowest own.now count left.now right.now }
 {

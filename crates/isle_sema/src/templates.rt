@@ -1,6 +1,7 @@
 //! The templates of internal extractors, with types in them, and the first that breaks a row of the typing table.
 
-ghost use Rattle.std.specs.Prelude.{◌≡◌, Option, Some, true, IfOk, is_some, map, option_map, option_and_then, slice_get};
+ghost use Rattle.std.specs.Prelude.{◌≡◌, Option, Some, true, IfOk, is_some, map, option_map, option_and_then};
+ghost use Rattle.std.specs.Prelude.{slice_get};
 ghost use Rattle.isle_ast.specs.Views.{pattern, defs as seen_defs};
 ghost use Rattle.isle_core.specs.RuleViews.{pattern as elaborated};
 ghost use Rattle.isle_declarations.specs.Collected.{extractor as seen, AreExtractors};
@@ -13,7 +14,8 @@ ghost use Rattle.isle_variables.specs.Scope.{no_variables};
 ghost use Rattle.isle_walks.specs.Walks.{AreClosedTold};
 ghost use Rattle.isle_sema.specs.Known.{MayBeCalled};
 ghost use Rattle.isle_sema.specs.Templates.{params_met, template_for, templates};
-ghost use Rattle.isle_sema.specs.TemplatesChecked.{tree_of, IsTried, AreTreesAt, AreTried, AreTaken, AreTemplatesChecked};
+ghost use Rattle.isle_sema.specs.TemplatesChecked.{tree_of, IsTried, AreTreesAt, AreTried, AreTaken};
+ghost use Rattle.isle_sema.specs.TemplatesChecked.{AreTemplatesChecked};
 ghost use Rattle.isle_sema.specs.TemplateUses.{template_uses};
 
 use crate::elaborated_patterns::pattern_at;
@@ -156,7 +158,8 @@ fn declared_multis(alloc: Global, terms: &[TermDef]) -> Result<Vec<bool>, AllocE
     Ok(flags)
 }
 
-/// What stands for terms in patterns: their templates, with those that they use replaced, and of each whether it is `multi` there.
+/// What stands for terms in patterns: their templates, with those that they use replaced, and of each whether it is
+/// `multi` there.
 #[derive(Drop)]
 pub struct Extractors {
     pub templates: Templates,
@@ -184,8 +187,8 @@ fn extractors_of(
     Ok(Extractors { templates, multis })
 }
 
-/// Looks for extractors that break a row of the typing table: tells the first that does, by the lowest row that it breaks
-/// (`specs/Fault.antt`); or else returns what stands for all terms. The only error is want of memory.
+/// Looks for extractors that break a row of the typing table: tells the first that does, by the lowest row that it
+/// breaks (`specs/Fault.antt`); or else returns what stands for all terms. The only error is want of memory.
 pub fn check_templates<'d>(
     alloc: Global,
     known: &Known<'_, 'd>,

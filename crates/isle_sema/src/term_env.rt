@@ -24,8 +24,8 @@ use isle_terms::{Converters, check_terms, terms_of};
 use isle_types::Before;
 use std::alloc::{AllocError, Global};
 
-// The rules of definitions over their terms, with their templates replaced, or what is wrong with a template or else with a rule: nothing
-// where one has no tree.
+// The rules of definitions over their terms, with their templates replaced, or what is wrong with a template or else
+// with a rule: nothing where one has no tree.
 fn rules_of<'d>(
     alloc: Global,
     declarations: &Declarations<'d>,
@@ -53,8 +53,8 @@ fn rules_of<'d>(
     rules_at(alloc, &known, &extractors, declarations.rules())
 }
 
-/// Returns the terms, rules and converters of definitions, whose types make these: `Typing` comes where a declaration, what names its
-/// term, a converter or a head is wrong, or else an extractor, or else a rule.
+/// Returns the terms, rules and converters of definitions, whose types make these: `Typing` comes where a declaration,
+/// what names its term, a converter or a head is wrong, or else an extractor, or else a rule.
 pub fn term_env<'d>(
     alloc: Global,
     declarations: &Declarations<'d>,

@@ -17,7 +17,8 @@ use std::alloc::{AllocError, Global};
 /// Why definitions give no environment.
 #[derive(Debug, Drop)]
 pub enum EnvError {
-    /// The first that is wrong, of types and constants, then of declarations, of extractors and of rules, by the lowest row that it breaks.
+    /// The first that is wrong, of types and constants, then of declarations, of extractors and of rules, by the lowest
+    /// row that it breaks.
     Typing(Error),
     Memory,
 }
@@ -96,8 +97,9 @@ fn gathered<'d>(
     }
 }
 
-/// Types the definitions' symbols, types and constants, of all forms (`specs/Typing.antt`). `Typing` comes exactly where one of
-/// their types or constants is wrong, and tells the first by the lowest row that it breaks; beside it only want of memory.
+/// Types the definitions' symbols, types and constants, of all forms (`specs/Typing.antt`). `Typing` comes exactly
+/// where one of their types or constants is wrong, and tells the first by the lowest row that it breaks; beside it only
+/// want of memory.
 pub fn type_env_from_ast(alloc: Global, defs: &[Def]) -> Result<TypeEnv, EnvError>
     ensures ok { IfOk result (λ env. TypesFrom (seen defs.now) env) }
     ensures err { IfErr result (λ e. IsUntyped (type_fault (seen defs.now)) e) }
@@ -107,9 +109,9 @@ pub fn type_env_from_ast(alloc: Global, defs: &[Def]) -> Result<TypeEnv, EnvErro
     built_types(alloc, &found.0, &found.1)
 }
 
-/// Types the terms, rules and converters of the definitions, whose types are given (`specs/Typing.antt`). `Typing` comes exactly
-/// where a declaration, what names its term, a converter or a rule's head is wrong, or else an extractor, or else a rule; it tells the
-/// first by the lowest row that it breaks. Beside it only want of memory.
+/// Types the terms, rules and converters of the definitions, whose types are given (`specs/Typing.antt`). `Typing`
+/// comes exactly where a declaration, what names its term, a converter or a rule's head is wrong, or else an extractor,
+/// or else a rule; it tells the first by the lowest row that it breaks. Beside it only want of memory.
 pub fn term_env_from_ast(alloc: Global, env: &TypeEnv, defs: &[Def]) -> Result<TermEnv, EnvError>
     requires { TypesFrom (seen defs.now) env.now }
     ensures ok { IfOk result (λ terms. TypedOnly (seen defs.now) (environment env.now terms)) }
@@ -120,8 +122,8 @@ pub fn term_env_from_ast(alloc: Global, env: &TypeEnv, defs: &[Def]) -> Result<T
     term_env(alloc, &found.0, &found.1, env, made.as_slice())
 }
 
-/// Types the definitions: returns their environment, as `type_env_from_ast` and `term_env_from_ast` give it, with types and
-/// constants judged, and names gathered, once for both. The errors are theirs.
+/// Types the definitions: returns their environment, as `type_env_from_ast` and `term_env_from_ast` give it, with types
+/// and constants judged, and names gathered, once for both. The errors are theirs.
 pub fn env_from_ast(alloc: Global, defs: &[Def]) -> Result<(TypeEnv, TermEnv), EnvError>
     ensures ok { IfOk result (λ envs. TypedOnly (seen defs.now) (environment envs.0 envs.1)) }
     ensures err { IfErr result (λ e. IsUntyped (fault (seen defs.now)) e) }

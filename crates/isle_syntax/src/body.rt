@@ -3,7 +3,8 @@ ghost use Rattle.isle_reading.specs.Combinators.{next_word, many};
 ghost use Rattle.isle_reading.specs.Names.{read_name};
 ghost use Rattle.isle_reading.specs.Views.{left, Reads};
 ghost use Rattle.isle_grammar.specs.Grammar.{body_head};
-ghost use Rattle.isle_grammar.specs.Reading.{read_field, read_shape, read_shaped, read_variant, read_body_head, body_behind, read_body};
+ghost use Rattle.isle_grammar.specs.Reading.{read_field, read_shape, read_shaped, read_variant};
+ghost use Rattle.isle_grammar.specs.Reading.{read_body_head, body_behind, read_body};
 ghost use Rattle.isle_syntax.specs.ReadingViews.{body_head_seen};
 
 use isle_ast::{AstBody, AstFields, AstVariant};

@@ -2,7 +2,9 @@ ghost use Rattle.std.specs.Prelude.{◌≡◌, ◌≤◌, length, map, IfOk, opt
 ghost use Rattle.isle_reading.specs.Combinators.{next_word, all};
 ghost use Rattle.isle_reading.specs.Views.{left, Reads};
 ghost use Rattle.isle_ast.specs.Views.{def, defs, pattern};
-ghost use Rattle.isle_grammar.specs.Reading.{read_type, read_declared, read_decl, read_extractor, read_convert, read_parts, read_rule, read_passed, head_of, read_head, read_behind, read_def, read_file};
+ghost use Rattle.isle_grammar.specs.Reading.{read_type, read_declared, read_decl, read_extractor};
+ghost use Rattle.isle_grammar.specs.Reading.{read_convert, read_parts, read_rule, read_passed, head_of};
+ghost use Rattle.isle_grammar.specs.Reading.{read_head, read_behind, read_def, read_file};
 ghost use Rattle.isle_syntax.specs.ReadingViews.{flags_seen, head_seen};
 
 use crate::body::{body, names};

@@ -2,7 +2,9 @@ ghost use Rattle.std.specs.Prelude.{◌≡◌, option_map, bytes_eq, codes};
 ghost use Rattle.isle_reading.specs.Combinators.{next_word};
 ghost use Rattle.isle_reading.specs.Views.{left, Reads};
 ghost use Rattle.isle_ast.specs.Views.{def};
-ghost use Rattle.isle_grammar.specs.Reading.{extern_head, read_extern_head, read_constructor, read_fallible, read_infallible, extractor_behind, read_extractor_function, read_const, extern_behind, read_extern};
+ghost use Rattle.isle_grammar.specs.Reading.{extern_head, read_extern_head, read_constructor, read_fallible};
+ghost use Rattle.isle_grammar.specs.Reading.{read_infallible, extractor_behind, read_extractor_function};
+ghost use Rattle.isle_grammar.specs.Reading.{read_const, extern_behind, read_extern};
 ghost use Rattle.isle_syntax.specs.ReadingViews.{extern_head_seen};
 
 use isle_ast::Def;

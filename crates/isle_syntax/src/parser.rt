@@ -91,8 +91,8 @@ fn of_tokens(
     }
 }
 
-/// Returns the definitions that the reader's text spells, in order (`specs/Grammar.antt`). `At` comes exactly where none
-/// are spelt, and gives the place where the text goes wrong.
+/// Returns the definitions that the reader's text spells, in order (`specs/Grammar.antt`). `At` comes exactly where
+/// none are spelt, and gives the place where the text goes wrong.
 pub fn parse(alloc: Global, lexer: Lexer<'_>) -> Result<Vec<Def>, ParseFail>
     requires untaken { IsUntaken lexer }
     ensures ok { IfOk result (λ read. Spells (lexer_file lexer.entry) (lexer_text lexer.entry) (defs read.items)) }

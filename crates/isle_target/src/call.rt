@@ -4,7 +4,8 @@ ghost use Rattle.std.specs.Prelude.{◌≡◌, ◌++◌, [], ◌∷◌, OnOk};
 ghost use Rattle.std.specs.List.{AllByRecursion};
 ghost use Rattle.isle_printer.specs.Token.{Word};
 ghost use Rattle.isle_spelling.specs.Identifier.{IsIdentifier};
-ghost use Rattle.isle_target.specs.StatementSpelling.{constructor_word, call_head, term_call_head, callee_head, args_tokens, call_tokens};
+ghost use Rattle.isle_target.specs.StatementSpelling.{constructor_word, call_head, term_call_head};
+ghost use Rattle.isle_target.specs.StatementSpelling.{callee_head, args_tokens, call_tokens};
 ghost use Rattle.isle_tree.specs.WellFormed.{IsTermName, IsRead, IsCallee, IsCall};
 
 use crate::operand::print_read;

@@ -38,8 +38,8 @@ fn print_functions(out: &mut Printer, p: &Program) -> Result<(), AllocError>
     Ok(())
 }
 
-/// Prints a well-formed program: the text spells it and no other, and no comment stands in it. The only error is want of
-/// memory.
+/// Prints a well-formed program: the text spells it and no other, and no comment stands in it. The only error is want
+/// of memory.
 pub fn print_program(alloc: Global, p: &Program) -> Result<String, OutOfMemory>
     requires { IsWellFormed (program p.now) }
     ensures spells { IfOk result (λ text. SpellsOnly (string_bytes text) (program p.now)) }

@@ -1,7 +1,9 @@
 //! The text of statements on several answers: lists, loops over them, and results that are appended.
 
 ghost use Rattle.std.specs.Prelude.{◌≡◌, ◌++◌, OnOk};
-ghost use Rattle.isle_target.specs.StatementSpelling.{let_mut_head, list_tokens, default_part, list_end, let_list_tokens, loop_head, extend_tokens, overflow_tokens};
+ghost use Rattle.isle_target.specs.StatementSpelling.{let_mut_head, list_tokens, default_part, list_end};
+ghost use Rattle.isle_target.specs.StatementSpelling.{let_list_tokens, loop_head, extend_tokens};
+ghost use Rattle.isle_target.specs.StatementSpelling.{overflow_tokens};
 ghost use Rattle.isle_tree.specs.WellFormed.{IsRead, IsCallee, IsCall};
 
 use crate::call::{print_args, print_callee};
@@ -88,8 +90,8 @@ pub fn print_extend(out: &mut Printer, read: &Read) -> Result<(), AllocError>
     out.piece("));")
 }
 
-/// Prints `if returns.len() >= MAX_ISLE_RETURNS { return; }`, or a `return true;` in it. What is printed after an error is left
-/// open.
+/// Prints `if returns.len() >= MAX_ISLE_RETURNS { return; }`, or a `return true;` in it. What is printed after an error
+/// is left open.
 #[tactic(auto, unfolding(isle_printer::specs::Token::step, isle_printer::specs::Token::begun))]
 pub fn print_overflow(out: &mut Printer, inside: bool) -> Result<(), AllocError>
     ensures { OnOk result (out.new ≡ out.old ++ overflow_tokens inside) }

@@ -47,8 +47,8 @@ impl Conditions {
     }
 }
 
-/// Conditions with templates in place of terms, in order, and how many nodes there are with so many others. The only error is
-/// want of memory.
+/// Conditions with templates in place of terms, in order, and how many nodes there are with so many others. The only
+/// error is want of memory.
 pub fn iflets_expanded(
     alloc: Global,
     iflets: Vec<IfLet>,

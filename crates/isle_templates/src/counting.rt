@@ -95,8 +95,8 @@ impl Parts {
         Ok(true)
     }
 
-    /// Takes what stands for a parameter that stands so often in a template, and says whether there are few enough nodes with
-    /// it. The only error is want of memory.
+    /// Takes what stands for a parameter that stands so often in a template, and says whether there are few enough
+    /// nodes with it. The only error is want of memory.
     pub fn push_argument(&mut self, times: usize, part: Option<Counted>) -> Result<bool, AllocError>
         ensures { IfOk result (λ taken. (base : ℕ) (of : ℕ → ℕ) (ps : List Tree) (p : Tree) → 0 < base → times ≡ of (length ps) → AreArguments base of ps self.old → IsCounted (needed_one times p) part → AreAccepted taken base of (ps ++ needed_one times p ∷ []) self.new) }
     {

@@ -1,5 +1,5 @@
-//! Patterns with templates in place of the terms that have them. No more nodes are made than a rule may have: they are counted
-//! before a template is copied.
+//! Patterns with templates in place of the terms that have them. No more nodes are made than a rule may have: they are
+//! counted before a template is copied.
 
 ghost use Rattle.std.specs.Prelude.{◌≤◌, List, Option, IfOk, map};
 ghost use Rattle.isle_core.specs.Pattern as pattern;
@@ -17,8 +17,8 @@ use crate::template::{Template, Whole};
 use isle_core::{Pattern, TermId, TypeId};
 use std::alloc::{AllocError, Global};
 
-/// A pattern with templates in place of terms, and its nodes; `None` where they are more than a rule may have. The only error is
-/// want of memory.
+/// A pattern with templates in place of terms, and its nodes; `None` where they are more than a rule may have. The only
+/// error is want of memory.
 #[cycle(expanding)]
 #[tactic(auto, using(isle_core::proofs::SeesRules::sees, crate::proofs::ExpansionSteps::parts_each))]
 pub fn expanded(
@@ -82,8 +82,8 @@ fn term_on(
     Ok(term_of(ty, term, parts))
 }
 
-/// Patterns with templates in place of terms, in order, and how many nodes there are with so many others. The only error is want
-/// of memory.
+/// Patterns with templates in place of terms, in order, and how many nodes there are with so many others. The only
+/// error is want of memory.
 #[cycle(expanding)]
 pub fn all_expanded(
     alloc: Global,

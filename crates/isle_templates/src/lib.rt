@@ -1,4 +1,5 @@
-//! Templates: what stands for the internal extractors that patterns use, and how a rule's variables are numbered behind it.
+//! Templates: what stands for the internal extractors that patterns use, and how a rule's variables are numbered behind
+//! it.
 #![tactic(auto)]
 
 mod base_nodes;

@@ -1,7 +1,8 @@
 //! Trees whose variables are numbered by an order.
 
 ghost use Rattle.std.specs.Prelude.{◌≡◌, IfOk, map};
-ghost use Rattle.isle_core.specs.RuleViews.{pattern as elaborated_pattern, expr as elaborated_expr, iflet as elaborated_iflet};
+ghost use Rattle.isle_core.specs.RuleViews.{pattern as elaborated_pattern, expr as elaborated_expr};
+ghost use Rattle.isle_core.specs.RuleViews.{iflet as elaborated_iflet};
 ghost use Rattle.isle_templates.specs.CodeBinding.{binding, binding_renamed};
 ghost use Rattle.isle_templates.specs.Renumbered.{renamed, expr_renamed, condition_renamed};
 

@@ -9,7 +9,8 @@ use crate::variables::order_of;
 use isle_core::{List, Rule};
 use std::alloc::{AllocError, Global};
 
-/// A copy of a rule whose variables are numbered as they stand first (`specs/Renumbered.antt`). The only error is want of memory.
+/// A copy of a rule whose variables are numbered as they stand first (`specs/Renumbered.antt`). The only error is want
+/// of memory.
 pub fn renumbered(alloc: Global, given: &Rule) -> Result<Rule, AllocError>
     ensures { IfOk result (λ r. rule r ≡ renumbered (rule given.now)) }
 {

@@ -48,8 +48,8 @@ fn rule_expanded(
     }))
 }
 
-/// Replaces the templates that a rule uses, and numbers its variables as they stand first (`specs/Elaborated.antt`); `None` where
-/// there are more nodes than a rule may have. The only error is want of memory.
+/// Replaces the templates that a rule uses, and numbers its variables as they stand first (`specs/Elaborated.antt`);
+/// `None` where there are more nodes than a rule may have. The only error is want of memory.
 pub fn elaborated(
     alloc: Global,
     templates: &Templates,

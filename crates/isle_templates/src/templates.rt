@@ -90,8 +90,8 @@ fn filled(
     Ok(table)
 }
 
-/// Replaces the templates that templates use; `None` where one uses itself, through others or not. The only error is want of
-/// memory.
+/// Replaces the templates that templates use; `None` where one uses itself, through others or not. The only error is
+/// want of memory.
 pub fn whole_templates(
     alloc: Global,
     written: &[Option<Pattern>],
@@ -115,8 +115,8 @@ impl Templates {
         self.table.as_slice()
     }
 
-    /// Replaces the templates that a pattern uses; `None` where there are more nodes than a rule may have. The only error is want of
-    /// memory.
+    /// Replaces the templates that a pattern uses; `None` where there are more nodes than a rule may have. The only
+    /// error is want of memory.
     pub fn expanded(&self, alloc: Global, p: &Pattern) -> Result<Option<Pattern>, AllocError>
         ensures { IfOk result (λ found. (written : List (Option Tree)) → AreWhole written self.now → IsExpanded (whole_templates written) (elaborated p.now) found) }
     {

@@ -1,9 +1,13 @@
 //! The variables of rules at the places that may bind them, from left to right.
 
 ghost use Rattle.std.specs.Prelude.{◌≡◌, IfOk, OnOk, fold, flat_map, map};
-ghost use Rattle.isle_core.specs.RuleViews.{pattern as elaborated_pattern, patterns_of, expr as elaborated_expr, exprs_of, bindings_of, iflet as elaborated_iflet, rule as elaborated_rule};
+ghost use Rattle.isle_core.specs.RuleViews.{pattern as elaborated_pattern, patterns_of};
+ghost use Rattle.isle_core.specs.RuleViews.{expr as elaborated_expr, exprs_of, bindings_of};
+ghost use Rattle.isle_core.specs.RuleViews.{iflet as elaborated_iflet, rule as elaborated_rule};
 ghost use Rattle.isle_templates.specs.CodeBinding.{binding};
-ghost use Rattle.isle_templates.specs.Renumbered.{pattern_variables, patterns_variables, bound_in, all_bound_in, bindings_bound_in, condition_variables, joined, order_of};
+ghost use Rattle.isle_templates.specs.Renumbered.{pattern_variables, patterns_variables, bound_in};
+ghost use Rattle.isle_templates.specs.Renumbered.{all_bound_in, bindings_bound_in, condition_variables};
+ghost use Rattle.isle_templates.specs.Renumbered.{joined, order_of};
 
 use crate::order::Order;
 use isle_core::{Expr, IfLet, LetBinding, Pattern, Rule};

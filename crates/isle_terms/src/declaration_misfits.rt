@@ -2,7 +2,8 @@
 
 ghost use Rattle.std.specs.Prelude.{◌≡◌, ℕ, ℤ, List, Bool, Option, IfOk, take, option_map};
 ghost use Rattle.isle_core.specs.declared.position.Pos.{Pos as Place};
-ghost use Rattle.isle_ast.specs.Tree.{Def as PureDef, Pattern, IfLet, Expr, ExternConstructor, ExternExtractor, Extractor, Converter, Rule};
+ghost use Rattle.isle_ast.specs.Tree.{Def as PureDef, Pattern, IfLet, Expr, ExternConstructor};
+ghost use Rattle.isle_ast.specs.Tree.{ExternExtractor, Extractor, Converter, Rule};
 ghost use Rattle.isle_ast.specs.Views.{defs as seen};
 ghost use Rattle.isle_declarations.specs.Heads.{terms_of, extern_terms, extractor_terms};
 ghost use Rattle.isle_declarations.specs.Signatures.{signatures, externs, extractors};
@@ -24,7 +25,8 @@ use std::alloc::{AllocError, Global};
 /// How many arguments a term may have.
 const MOST_ARGUMENTS: usize = 256;
 
-/// Returns what is wrong with a declaration that has so many before it, as another declaration or a type gives its term.
+/// Returns what is wrong with a declaration that has so many before it, as another declaration or a type gives its
+/// term.
 pub fn repeated<'d>(names: &Names<'_, 'd>, count: usize, term: &'d Text) -> Option<Misfit<'d>>
     requires { AreNames names.now }
     ensures { option_map misfit_row result ≡ repeated_row (seen names.now.declarations.now) (take count (terms_of (signatures (seen names.now.declarations.now)))) term.now }

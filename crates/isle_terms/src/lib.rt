@@ -1,5 +1,5 @@
-//! The terms and converters that definitions declare, with types in them, and what may be wrong with their declarations; and what
-//! may stand where a type is expected.
+//! The terms and converters that definitions declare, with types in them, and what may be wrong with their
+//! declarations; and what may stand where a type is expected.
 #![tactic(auto)]
 
 mod converters;

@@ -83,9 +83,9 @@ fn first_misfit<'d>(
     Ok(Ok(found))
 }
 
-/// Looks for declarations, external constructors, extractors, converters and heads that break a row of the typing table: gives
-/// the error of the first definition that does, by the lowest row that it breaks (`specs/TermFault.antt`); or else the converters.
-/// The only other error is want of memory.
+/// Looks for declarations, external constructors, extractors, converters and heads that break a row of the typing
+/// table: gives the error of the first definition that does, by the lowest row that it breaks (`specs/TermFault.antt`);
+/// or else the converters. The only other error is want of memory.
 pub fn check_terms<'k, 'd>(
     alloc: Global,
     declarations: &'k Declarations<'d>,

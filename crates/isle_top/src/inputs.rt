@@ -1,6 +1,7 @@
 //! The inputs of a run: its source, and its file of answers.
 
-ghost use Rattle.std.specs.Prelude.{ℕ, List, [], ◌≡◌, ◌≤◌, ◌+◌, ◌-◌, ◌*◌, ◌^◌, ◌∷◌, length, IfOk, IfErr, IfSome, IsSomeAnd};
+ghost use Rattle.std.specs.Prelude.{ℕ, List, [], ◌≡◌, ◌≤◌, ◌+◌, ◌-◌, ◌*◌, ◌^◌, ◌∷◌, length, IfOk, IfErr};
+ghost use Rattle.std.specs.Prelude.{IfSome, IsSomeAnd};
 ghost use Rattle.std.specs.Option.{option_copied};
 ghost use Rattle.isle_outside.specs.Directory.{bytes_of, raised};
 ghost use Rattle.isle_outside.specs.Reading.{IsText};
@@ -84,8 +85,8 @@ fn source_at<D: Dir>(
     }
 }
 
-/// Reads the source, its name as printed under the options' prefixes, and then the file of answers; without such a file their
-/// text is empty. The first that is not read is told by its number: 0 is the source, 1 the file of answers
+/// Reads the source, its name as printed under the options' prefixes, and then the file of answers; without such a file
+/// their text is empty. The first that is not read is told by its number: 0 is the source, 1 the file of answers
 /// (`specs/RunLine.antt`).
 pub fn read_inputs<D: Dir>(
     alloc: Global,

@@ -58,7 +58,8 @@ pub fn input_name(request: &Command, index: usize) -> &str
     }
 }
 
-/// Returns the name that a line asks for beside its inputs: the term of a run; of other lines it is empty (`specs/Jobs.antt`).
+/// Returns the name that a line asks for beside its inputs: the term of a run; of other lines it is empty
+/// (`specs/Jobs.antt`).
 pub fn asked_name(request: &Command) -> &str
     ensures { result.now ≡ (job_of (seen_command request.now)).asked }
 {

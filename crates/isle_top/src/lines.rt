@@ -188,7 +188,8 @@ fn write_count<S: Sink>(sink: &mut S, number: usize, end: &str) -> Result<(), Fa
     }
 }
 
-/// Writes a number's decimal digits, the highest first and with no zero before them; 0 is one digit. It takes no memory.
+/// Writes a number's decimal digits, the highest first and with no zero before them; 0 is one digit. It takes no
+/// memory.
 pub fn write_number<S: Sink>(sink: &mut S, number: usize) -> Result<(), Failed>
     ensures ok { OnOk result (Took (S.taken sink.old) (S.taken sink.new) (numeral 10 number)) }
     ensures part { OnErr result (TookPart (S.taken sink.old) (S.taken sink.new) (numeral 10 number)) }

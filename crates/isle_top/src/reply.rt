@@ -16,8 +16,8 @@ use isle_command_line::{Command, RunLine, Source};
 use isle_core::Dir;
 use std::alloc::Global;
 
-/// Returns the reply to a line (`specs/Jobs.antt`). Where the line is valid and no call of the directory fails, the only refusal is want
-/// of memory.
+/// Returns the reply to a line (`specs/Jobs.antt`). Where the line is valid and no call of the directory fails, the
+/// only refusal is want of memory.
 pub fn reply<D: Dir>(alloc: Global, command: &Command, dir: &mut D) -> Result<String, Refusal>
     ensures ok { let around : Around = record { files = D.files dir.old; before = D.counts dir.old; after = D.counts dir.new } in
         IfOk result (λ text. IsReply (job_of (seen_command command.now)) around (string_bytes text)) }

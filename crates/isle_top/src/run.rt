@@ -1,4 +1,5 @@
-ghost use Rattle.std.specs.Prelude.{◌≡◌, ◌≢◌, ◌⊎◌, [], ◌∷◌, ℕ, List, Some, false, slice_get, ◌≤◌, ◌+◌, ◌*◌, ◌^◌, length};
+ghost use Rattle.std.specs.Prelude.{◌≡◌, ◌≢◌, ◌⊎◌, [], ◌∷◌, ℕ, List, Some, false, slice_get, ◌≤◌, ◌+◌, ◌*◌};
+ghost use Rattle.std.specs.Prelude.{◌^◌, length};
 ghost use Rattle.isle_outside.specs.Directory.{Rose};
 ghost use Rattle.isle_outside.specs.Sinks.{Took, TookPart};
 ghost use Rattle.isle_core.specs.Inputs.{bytes_each};
@@ -17,8 +18,8 @@ use isle_command_line::{Command, LineFail, command};
 use isle_core::{Dir, Sink, write_all};
 use std::alloc::Global;
 
-/// Runs the program: does what the words ask for, and writes the text that answers them to `out`. Every status but 0 writes
-/// its line to `err`. Writing takes no memory. `specs/Jobs.antt` says what each line is.
+/// Runs the program: does what the words ask for, and writes the text that answers them to `out`. Every status but 0
+/// writes its line to `err`. Writing takes no memory. `specs/Jobs.antt` says what each line is.
 pub fn run_words<D: Dir, O: Sink, E: Sink>(
     alloc: Global,
     words: &[String],
@@ -54,7 +55,8 @@ pub fn run_words<D: Dir, O: Sink, E: Sink>(
         → (Rose (D.counts dir.old).faults (D.counts dir.new).faults → ⊥) → (result.0 ≡ 0) ⊎ (result.0 ≡ 11) ⊎ (result.0 ≡ 12) }
     ensures files { D.files dir.new ≡ D.files dir.old }
 
-    // No count falls, of each input at most 2^24 + 1 bytes are taken, and the directory is as it was where no line reads files.
+    // No count falls, of each input at most 2^24 + 1 bytes are taken, and the directory is as it was where no line
+    // reads files.
     ensures untried { ((request : Request) → LineS (bytes_each words.now) request → (job_of request).reads ≡ false) → dir.new ≡ dir.old }
     ensures later { (D.counts dir.old).faults ≤ (D.counts dir.new).faults }
     ensures out_later { O.faults out.old ≤ O.faults out.new }

@@ -21,9 +21,9 @@ use isle_core::{Error, Errors, Sink, write_all};
 use isle_run::RunFail;
 use std::alloc::Global;
 
-/// The status of a run: 0 done, 2 the words are no line, 5 an input was not read, 6 to 9 errors are in the inputs (of parsing,
-/// of typing, of rules, of recursion), 10 a name may not be emitted, 11 the output failed, 12 memory ran out, 13 a term is not run, 14 what is asked for is
-/// not built.
+/// The status of a run: 0 done, 2 the words are no line, 5 an input was not read, 6 to 9 errors are in the inputs (of
+/// parsing, of typing, of rules, of recursion), 10 a name may not be emitted, 11 the output failed, 12 memory ran out,
+/// 13 a term is not run, 14 what is asked for is not built.
 #[derive(Clone, Copy, Debug, PartialEq, Eq)]
 pub struct Exit(pub u8);
 
@@ -68,7 +68,8 @@ fn tell_memory<E: Sink>(err: &mut E) -> Exit
     Exit(12)
 }
 
-// Writes the lines of errors, as far as the sink takes them, and returns their status; 12 where memory doesn't hold the lines.
+// Writes the lines of errors, as far as the sink takes them, and returns their status; 12 where memory doesn't hold the
+// lines.
 fn tell_errors<E: Sink>(alloc: Global, err: &mut E, errors: &Errors) -> Exit
     requires placed { HavePlaces errors.now }
     requires some { errors.now.errors ≡ [] → ⊥ }
@@ -112,8 +113,8 @@ fn tell_run<E: Sink>(err: &mut E, request: &Command, fail: RunFail) -> Exit
     }
 }
 
-/// Writes the lines of a refusal, as far as the sink takes them, and returns its status (`specs/Statuses.antt`). Only the lines
-/// of errors take memory; where it doesn't hold them the status is 12.
+/// Writes the lines of a refusal, as far as the sink takes them, and returns its status (`specs/Statuses.antt`). Only
+/// the lines of errors take memory; where it doesn't hold them the status is 12.
 pub fn refuse<E: Sink>(alloc: Global, err: &mut E, request: &Command, refusal: &Refusal) -> Exit
     requires { IsOfJob (job_of (seen_command request.now)) refusal.now }
     ensures later { E.faults err.old ≤ E.faults err.new }

@@ -28,7 +28,8 @@ impl<'p> Model for Callables<'p> {
 }
 
 impl<'p> Callables<'p> {
-    /// Finds the functions of a trait by their names, and those of terms by their terms. The only error is want of memory.
+    /// Finds the functions of a trait by their names, and those of terms by their terms. The only error is want of
+    /// memory.
     pub fn new(
         alloc: Global,
         trait_fns: &'p [TraitFn],

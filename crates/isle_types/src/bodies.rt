@@ -7,7 +7,8 @@ ghost use Rattle.isle_ast.specs.declared.tree.AstFields.{AstFields as Fields};
 ghost use Rattle.isle_ast.specs.declared.tree.AstVariant.{AstVariant as Variant};
 ghost use Rattle.isle_declarations.specs.Symbols.{index_of, added};
 ghost use Rattle.isle_declarations.specs.Repeats.{repeats};
-ghost use Rattle.isle_types.specs.Bodies.{any_fields, field_names, field_types, variant_names, variants_repeat, fields_repeat, are_many};
+ghost use Rattle.isle_types.specs.Bodies.{any_fields, field_names, field_types, variant_names};
+ghost use Rattle.isle_types.specs.Bodies.{variants_repeat, fields_repeat, are_many};
 ghost use Rattle.isle_types.specs.TypeNames.{is_type};
 ghost use Rattle.isle_types.specs.Gathered.{AreKnown};
 

@@ -7,7 +7,8 @@ ghost use Rattle.isle_ast.specs.Positions.{place_of};
 ghost use Rattle.isle_ast.specs.Views.{def, defs as seen};
 ghost use Rattle.isle_declarations.specs.DeclaredTypes.{made_by, made_of};
 ghost use Rattle.isle_types.specs.Fault.{type_fault};
-ghost use Rattle.isle_types.specs.Gathered.{AreKnown, body_row, IsBefore, IsJudged, IsScanned, AreChecked, misfit_row, TellsFault};
+ghost use Rattle.isle_types.specs.Gathered.{AreKnown, body_row, IsBefore, IsJudged, IsScanned, AreChecked};
+ghost use Rattle.isle_types.specs.Gathered.{misfit_row, TellsFault};
 
 use crate::before::{Before, repeated_term};
 use crate::bodies::{meets, missing_type, repeated_field, repeated_variant, type_of_many};
@@ -134,8 +135,8 @@ pub fn type_error(row: Row, pos: Pos, msg: Text) -> Error
     }
 }
 
-// The first thing that is wrong with definitions whose types make these terms, with the place of its definition; or else
-// what they declare.
+// The first thing that is wrong with definitions whose types make these terms, with the place of its definition; or
+// else what they declare.
 fn first_misfit<'d>(
     alloc: Global,
     defs: &'d [Def],
@@ -157,9 +158,9 @@ fn first_misfit<'d>(
     Ok(Ok(before))
 }
 
-/// Looks for types and constants that break a row of the typing table, among definitions whose types make these terms: gives
-/// the error of the first definition that does, by the lowest row that it breaks (`specs/Fault.antt`); or else what the
-/// definitions declare. The only other error is want of memory.
+/// Looks for types and constants that break a row of the typing table, among definitions whose types make these terms:
+/// gives the error of the first definition that does, by the lowest row that it breaks (`specs/Fault.antt`); or else
+/// what the definitions declare. The only other error is want of memory.
 pub fn check_types<'d>(
     alloc: Global,
     defs: &'d [Def],

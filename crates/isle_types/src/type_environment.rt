@@ -4,7 +4,8 @@ ghost use Rattle.std.specs.Prelude.{◌≡◌, ◌++◌, IfOk, OnOk, map, option
 ghost use Rattle.isle_ast.specs.Views.{def, defs as seen};
 ghost use Rattle.isle_declarations.specs.DeclaredTypes.{constant_of, constants};
 ghost use Rattle.isle_types.specs.Builtins.{builtins};
-ghost use Rattle.isle_types.specs.TypeEnvironment.{sym_in, type_in, field_in, fields_in, variant_in, def_in, type_def_in, constant_in, type_env_of};
+ghost use Rattle.isle_types.specs.TypeEnvironment.{sym_in, type_in, field_in, fields_in, variant_in, def_in};
+ghost use Rattle.isle_types.specs.TypeEnvironment.{type_def_in, constant_in, type_env_of};
 ghost use Rattle.isle_types.specs.Gathered.{IsBefore, AreNames};
 
 use crate::before::Before;
@@ -247,8 +248,8 @@ fn constants_of(
     Ok(found)
 }
 
-/// Returns the symbols, types and constants of definitions that declare this (`specs/TypeEnvironment.antt`). The only error is
-/// want of memory.
+/// Returns the symbols, types and constants of definitions that declare this (`specs/TypeEnvironment.antt`). The only
+/// error is want of memory.
 pub fn type_env<'k, 'd>(
     alloc: Global,
     declarations: &'k Declarations<'d>,

@@ -76,8 +76,8 @@ impl<'d> Variables<'d> {
         }
     }
 
-    /// Meets a variable of a pattern, which is bound at this type where it is met first, with the next number; returns the
-    /// type that it was bound at before, where it was. Errors are want of memory or of numbers.
+    /// Meets a variable of a pattern, which is bound at this type where it is met first, with the next number; returns
+    /// the type that it was bound at before, where it was. Errors are want of memory or of numbers.
     pub fn meet(
         &mut self,
         name: &'d Text,

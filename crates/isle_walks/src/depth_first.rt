@@ -1,6 +1,7 @@
 //! An order in which each node leads only to earlier ones, by a search in depth that doesn't recurse.
 
-ghost use Rattle.std.specs.Prelude.{◌≡◌, ◌<◌, ◌≤◌, ◌++◌, ℕ, [], ◌∷◌, length, IfOk, MatchOption, slice_index, slice_index_or, slice_set, Contains, true, false};
+ghost use Rattle.std.specs.Prelude.{◌≡◌, ◌<◌, ◌≤◌, ◌++◌, ℕ, [], ◌∷◌, length, IfOk, MatchOption, slice_index};
+ghost use Rattle.std.specs.Prelude.{slice_index_or, slice_set, Contains, true, false};
 ghost use Rattle.isle_walks.specs.Walks.{AreNodes, IsOrderFound, next_of};
 ghost use Rattle.isle_walks.specs.Sound.{has, LeadsInto, IsSound, IsFinished};
 
@@ -73,8 +74,8 @@ impl DepthFirst {
         Ok(())
     }
 
-    // Puts a node behind the order once all is there that it leads to, and so on; or tells that a node is on a closed walk,
-    // since a path passes more nodes than there are.
+    // Puts a node behind the order once all is there that it leads to, and so on; or tells that a node is on a closed
+    // walk, since a path passes more nodes than there are.
     fn finish(
         &mut self,
         alloc: Global,
@@ -105,8 +106,8 @@ impl DepthFirst {
     }
 }
 
-/// Finds an order of all nodes of a graph in which each leads only to nodes before it; there is none where a node is on a
-/// closed walk. Fails for want of memory alone.
+/// Finds an order of all nodes of a graph in which each leads only to nodes before it; there is none where a node is on
+/// a closed walk. Fails for want of memory alone.
 pub fn order(alloc: Global, graph: &[List<usize>]) -> Result<Option<Vec<usize>>, AllocError>
     requires { AreNodes graph.now }
     ensures { IfOk result (λ found. IsOrderFound graph.now found) }

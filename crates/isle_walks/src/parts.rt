@@ -1,10 +1,12 @@
-//! Which nodes are on closed walks, by a search in depth that doesn't recurse, and that joins nodes that reach one another.
+//! Which nodes are on closed walks, by a search in depth that doesn't recurse, and that joins nodes that reach one
+//! another.
 
 ghost use Rattle.std.specs.Prelude.{◌≡◌, ◌≢◌, ◌<◌, ℕ, [], ◌∷◌, length, map, IfOk, Contains, true, false};
 ghost use Rattle.std.specs.List.{range_with_len};
 ghost use Rattle.isle_walks.specs.Walks.{AreNodes, AreClosedTold, next_of};
 ghost use Rattle.isle_walks.specs.Sound.{has};
-ghost use Rattle.isle_walks.specs.Parts.{mark_of, tells_closed, IsSearched, IsLast, IsNext, IsIdle, AreAllDone, left_of};
+ghost use Rattle.isle_walks.specs.Parts.{mark_of, tells_closed, IsSearched, IsLast, IsNext, IsIdle};
+ghost use Rattle.isle_walks.specs.Parts.{AreAllDone, left_of};
 ghost use Rattle.isle_walks.specs.declared.parts.Mark.TheVariants.{New};
 
 use isle_core::List;
@@ -147,7 +149,8 @@ impl Search {
         true
     }
 
-    // Looks at the last node that waits. Where it is on the path before the last part, that part joins the one before it.
+    // Looks at the last node that waits. Where it is on the path before the last part, that part joins the one before
+    // it.
     fn look(&mut self, graph: &[List<usize>], node: usize, last: Part) -> Result<(), AllocError>
         requires nodes { AreNodes graph.now }
         requires searched { IsSearched graph.now self.old }
