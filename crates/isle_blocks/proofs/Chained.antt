@@ -25,6 +25,7 @@ use Rattle.isle_core.specs.Setting.{setting}
 use Rattle.isle_core.specs.SingleArms.{HasSingleArms}
 use Rattle.isle_core.specs.Value.{Value}
 use Rattle.isle_core.specs.ValueAt.{nothing_known}
+use Rattle.isle_blocks.specs.AllTests.{MakesTests}
 use Rattle.isle_blocks.specs.CallsOnce.{HasCallsOnce}
 use Rattle.isle_blocks.specs.Chain.{chain}
 use Rattle.isle_blocks.specs.Fields.{FieldKey, key_cmp, shown_cmp, FindsFields, shows, places}
@@ -35,6 +36,7 @@ use Rattle.isle_blocks.specs.RuleTests.{TestsRules}
 use Rattle.isle_blocks.specs.Several.{HasItsLists, AddsSeveral}
 use Rattle.isle_blocks.specs.declared.fields.Fields.{Fields}
 use Rattle.isle_blocks.specs.declared.fields.Shown.{Shown}
+use Rattle.isle_blocks.proofs.LawAllTests.{chain_makes}
 use Rattle.isle_blocks.proofs.LawChain.{chain_means}
 use Rattle.isle_blocks.proofs.LawOrder.{all_in_order}
 use Rattle.isle_blocks.proofs.RulesInOrder.{occurrences_in_order}
@@ -85,6 +87,11 @@ module _ (several : Bool) (s : RuleSet) (b : Block) (k : IsChainOf several s.bin
 
   pub chain_of_tests : TestsRules s b
   chain_of_tests = subst (TestsRules s) (sym k.is) (chain_tests s several (shows k.found k.counts k.inners) (next_of k.inners k.items) k.items)
+
+  pub chain_of_makes : MakesTests several s b
+  chain_of_makes =
+      subst (MakesTests several s) (sym k.is)
+      (chain_makes s several (shows k.found k.counts k.inners) (next_of k.inners k.items) k.items)
 
 -- of a term that answers once
 once_chain : (several : Bool) (kind : Bool) (bs : List Binding) (fs : List FlatRule) (b : Block) → kind ≡ several → kind ≡ false → IsChainOf several bs fs b → IsChainOf false bs fs b

@@ -26,6 +26,7 @@ pub mod LawBound
 pub mod LawChain
 pub mod LawPositions
 pub mod LawTests
+pub mod LawAllTests
 pub mod LawReturns
 pub mod LawSerializable
 pub mod OpenedItems

@@ -9,3 +9,4 @@ pub mod Chain
 pub mod CallsOnce
 pub mod Several
 pub mod RuleTests
+pub mod AllTests

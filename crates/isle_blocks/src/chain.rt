@@ -20,6 +20,7 @@ ghost use Rattle.isle_blocks.specs.Tables.{shows_in, items_in, next_in};
 ghost use Rattle.isle_blocks.specs.CallsOnce.{HasCallsOnce};
 ghost use Rattle.isle_blocks.specs.Chain as Chain;
 ghost use Rattle.isle_blocks.specs.RuleTests.{TestsRules};
+ghost use Rattle.isle_blocks.specs.AllTests.{MakesTests};
 ghost use Rattle.isle_blocks.specs.Several.{HasItsLists, AddsSeveral};
 
 use crate::fields::fields_of;
@@ -43,7 +44,9 @@ fn chain_steps(
     tables: &Tables<'_>,
     rules: &[&FlatRule],
 ) -> Result<Vec<EvalStep>, AllocError>
-    ensures { IfOk result (λ steps. map BlockViews.step steps.items ≡ Chain.chain_steps tables.now.several tables.now.bindings.now (shows_in tables.now) (next_in tables.now) (items_in tables.now) (map (λ f. f.now) rules.now)) }
+    ensures { IfOk result (λ steps. map BlockViews.step steps.items ≡
+        Chain.chain_steps tables.now.several tables.now.bindings.now (shows_in tables.now) (next_in tables.now)
+        (items_in tables.now) (map (λ f. f.now) rules.now)) }
 {
     let mut steps = Vec::new(alloc);
     for rule in rules {
@@ -58,7 +61,9 @@ fn chain_steps(
 // The steps of the rules, highest priority first.
 #[tactic(auto, using(isle_core::proofs::SeesBlocks::sees_blocks))]
 fn chained(alloc: Global, tables: &Tables<'_>, rules: &[FlatRule]) -> Result<Block, AllocError>
-    ensures { IfOk result (λ b. BlockViews.block b ≡ Chain.chain tables.now.several tables.now.bindings.now (shows_in tables.now) (next_in tables.now) (items_in tables.now) rules.now) }
+    ensures { IfOk result (λ b. BlockViews.block b ≡
+        Chain.chain tables.now.several tables.now.bindings.now (shows_in tables.now) (next_in tables.now)
+        (items_in tables.now) rules.now) }
 {
     let order = in_order(alloc, rules)?;
     let steps = chain_steps(alloc, tables, order.as_slice())?;
@@ -73,13 +78,26 @@ fn chained(alloc: Global, tables: &Tables<'_>, rules: &[FlatRule]) -> Result<Blo
 /// (`isle_core/specs/SeveralRun.antt`). A rule's calls are made behind its tests, in order. The only error is want of
 /// memory.
 pub fn serialize(alloc: Global, rules: &RuleSet, iterator: bool) -> Result<Block, OutOfMemory>
-    ensures means { IfOk result (λ b. (env : Environment) (m : Meaning) (t : Term) (args : ListOf Value) (kind : ReturnKind) → IsSerializable env t rules.now → is_several (kind_of t.kind) ≡ iterator → is_several (kind_of t.kind) ≡ false →
-        block_outcome env m args (paths_of rules.now.bindings) (BlockViews.block b) kind ≡ set_outcome env m args (paths_of rules.now.bindings) rules.now.rules kind) }
-    ensures positions { IfOk result (λ b. (env : Environment) (m : Meaning) (t : Term) (args : ListOf Value) → IsSerializable env t rules.now → is_several (kind_of t.kind) ≡ iterator → is_several (kind_of t.kind) ≡ false →
-        block_position env m args (paths_of rules.now.bindings) (BlockViews.block b) nothing_known [] ≡ set_position env m args (paths_of rules.now.bindings) rules.now.rules) }
+    ensures means { IfOk result (λ b.
+        (env : Environment) (m : Meaning) (t : Term) (args : ListOf Value) (kind : ReturnKind) →
+        IsSerializable env t rules.now → is_several (kind_of t.kind) ≡ iterator → is_several (kind_of t.kind) ≡ false →
+        block_outcome env m args (paths_of rules.now.bindings) (BlockViews.block b) kind ≡
+        set_outcome env m args (paths_of rules.now.bindings) rules.now.rules kind) }
+    ensures positions { IfOk result (λ b. (env : Environment) (m : Meaning) (t : Term) (args : ListOf Value) →
+        IsSerializable env t rules.now → is_several (kind_of t.kind) ≡ iterator → is_several (kind_of t.kind) ≡ false →
+        block_position env m args (paths_of rules.now.bindings) (BlockViews.block b) nothing_known [] ≡
+        set_position env m args (paths_of rules.now.bindings) rules.now.rules) }
     ensures tests { IfOk result (λ b. TestsRules rules.now (BlockViews.block b)) }
-    ensures lawful { IfOk result (λ b. (env : Environment) (t : Term) → IsSerializable env t rules.now → (is_several (kind_of t.kind) ≡ true → AllByRecursion (HasCallsOnce env (paths_of rules.now.bindings)) rules.now.rules) → is_several (kind_of t.kind) ≡ iterator → IsLawfulBlock (setting env t rules.now.bindings) (BlockViews.block b)) }
-    ensures several { IfOk result (λ b. (env : Environment) (t : Term) → IsSerializable env t rules.now → is_several (kind_of t.kind) ≡ iterator → is_several (kind_of t.kind) ≡ true → AllByRecursion (HasItsLists env (paths_of rules.now.bindings)) rules.now.rules → AddsSeveral env rules.now (BlockViews.block b)) }
+    ensures makes { IfOk result (λ b. MakesTests iterator rules.now (BlockViews.block b)) }
+    ensures lawful { IfOk result (λ b. (env : Environment) (t : Term) → IsSerializable env t rules.now →
+        (is_several (kind_of t.kind) ≡ true →
+        AllByRecursion (HasCallsOnce env (paths_of rules.now.bindings)) rules.now.rules) →
+        is_several (kind_of t.kind) ≡ iterator →
+        IsLawfulBlock (setting env t rules.now.bindings) (BlockViews.block b)) }
+    ensures several { IfOk result (λ b. (env : Environment) (t : Term) → IsSerializable env t rules.now →
+        is_several (kind_of t.kind) ≡ iterator → is_several (kind_of t.kind) ≡ true →
+        AllByRecursion (HasItsLists env (paths_of rules.now.bindings)) rules.now.rules →
+        AddsSeveral env rules.now (BlockViews.block b)) }
     ensures single { IfOk result (λ b. HasSingleArms (BlockViews.block b)) }
 {
     let fields = fields_of(alloc, rules.bindings.as_slice())?;
