@@ -12,6 +12,8 @@ use Rattle.isle_core.specs.Block.{Block}
 use Rattle.isle_core.specs.BlockLawful.{IsLawfulBlock}
 use Rattle.isle_core.specs.declared.rule_sets.FlatRule.{FlatRule}
 use Rattle.isle_core.specs.Path.{paths_of}
+use Rattle.isle_core.specs.Calling.{is_several, kind_of}
+use Rattle.isle_blocks.specs.AllTests.{MakesTests}
 use Rattle.isle_blocks.specs.RuleTests.{TestsRules}
 use Rattle.isle_core.specs.Rule.{Environment}
 use Rattle.isle_core.specs.Setting.{setting}
@@ -45,8 +47,8 @@ calls_once files env id s h = each s.rules h.lists
 
 -- the function of a block of the rule set is emitted for it
 pub is_emitted : (logging : Bool) (files : Files) (env : Environment) (id : TermId) (s : RuleSet) (t : Term) (b : Block) (f : Function) → (h : CanEmit files env (id, s)) → slice_get env.terms id.0 ≡ Some t
-    → IsLawfulBlock (setting env h.term s.bindings) b → HasSingleArms b → MeansSet env h.term s b → TestsRules s b → term_function logging files (setting env t s.bindings) b ≡ Some f → IsEmitted logging files env id s f
-is_emitted logging files env id s t b f h there lawful single means tests given = record {
+    → IsLawfulBlock (setting env h.term s.bindings) b → HasSingleArms b → MeansSet env h.term s b → TestsRules s b → MakesTests (is_several (kind_of h.term.kind)) s b → term_function logging files (setting env t s.bindings) b ≡ Some f → IsEmitted logging files env id s f
+is_emitted logging files env id s t b f h there lawful single means tests makes given = record {
   term = h.term;
   found = h.found;
   block = b;
@@ -54,6 +56,7 @@ is_emitted logging files env id s t b f h there lawful single means tests given 
   single = single;
   means = means;
   tests = tests;
+  makes = makes;
   given = ap (λ (u : Term). term_function logging files (setting env u s.bindings) b) (sym (term_is files env id s t h there)) ∙ given;
 }
 

@@ -19,6 +19,7 @@ use Rattle.isle_core.specs.Rule.{Environment}
 use Rattle.isle_core.specs.Serializable.{IsSerializable}
 use Rattle.isle_core.specs.Setting.{setting}
 use Rattle.isle_core.specs.SingleArms.{HasSingleArms}
+use Rattle.isle_blocks.specs.AllTests.{MakesTests}
 use Rattle.isle_blocks.specs.RuleTests.{TestsRules}
 use Rattle.isle_blocks.specs.Several.{HasItsLists, AddsSeveral}
 use Rattle.isle_tree.specs.Program.{Function}
@@ -51,7 +52,7 @@ pub record MeansSet (env : Environment) (t : Term) (s : RuleSet) (b : Block) : T
   pub several : is_several (kind_of t.kind) ≡ true → AddsSeveral env s b
 
 -- the function of the term, from a block that is lawful for its rule set, has one arm in each Match, tests and returns what its rules
--- do, and means the set
+-- do, all tests of those that are tried, and means the set
 pub record IsEmitted (logging : Bool) (files : Files) (env : Environment) (id : TermId) (s : RuleSet) (f : Function) : Type 0 where
   pub term : Term
   pub found : slice_get env.terms id.0 ≡ Some term
@@ -60,6 +61,7 @@ pub record IsEmitted (logging : Bool) (files : Files) (env : Environment) (id : 
   pub single : HasSingleArms block
   pub means : MeansSet env term s block
   pub tests : TestsRules s block
+  pub makes : MakesTests (is_several (kind_of term.kind)) s block
   pub given : term_function logging files (setting env term s.bindings) block ≡ Some f
 
 -- so of each term with its rule set, in order

@@ -8,11 +8,13 @@ use Rattle.isle_core.specs.declared.types.Term.{Term}
 use Rattle.isle_core.specs.declared.values.Callee.{Callee}
 use Rattle.isle_core.specs.Block.{Block}
 use Rattle.isle_core.specs.BlockLawful.{IsLawfulBlock}
+use Rattle.isle_core.specs.Calling.{is_several, kind_of}
 use Rattle.isle_core.specs.ReturnPositions.{return_positions}
 use Rattle.isle_core.specs.Rule.{Environment, Rule, rules_of}
 use Rattle.isle_core.specs.Setting.{setting}
 use Rattle.isle_core.specs.SingleArms.{HasSingleArms}
 use Rattle.isle_core.specs.StandsFor.{StandsFor}
+use Rattle.isle_blocks.specs.AllTests.{MakesTests}
 use Rattle.isle_blocks.specs.RuleTests.{TestsRules}
 use Rattle.isle_simulation.specs.Shape.{HasShape}
 use Rattle.isle_simulation.specs.LogLines.{lines_of}
@@ -24,8 +26,9 @@ use Rattle.isle_codegen.specs.Emits.{MeansSet}
 
 -- the function is that of a block which is lawful for a rule set that stands for the term's rules, has one arm in each Match, and means it: it has
 -- the block's shape, its head, its statements and its tail are those of the block; its log lines are, where they are asked for, the term's
--- name with the place of each Return of the block, in order; the block tests nothing that no rule of the set tests, and each Return has
--- the position and the result of one rule, so that its position is that of one of the term's rules; its calls are those of the rules
+-- name with the place of each Return of the block, in order; the block tests nothing that no rule of the set tests, and all that those test which
+-- are tried; each Return has the position and the result of one rule, so that its position is that of one of the term's rules; its calls are
+-- those of the rules
 pub record IsFromBlock (logging : Bool) (files : Files) (env : Environment) (id : TermId) (f : Function) : Type 0 where
   pub term : Term
   pub found : slice_get env.terms id.0 ≡ Some term
@@ -39,6 +42,7 @@ pub record IsFromBlock (logging : Bool) (files : Files) (env : Environment) (id 
   pub statements : term_function logging files (setting env term set.bindings) block ≡ Some f
   pub lines : lines_of f.body ≡ log_lines logging files (setting env term set.bindings) block
   pub tests : TestsRules set block
+  pub makes : MakesTests (is_several (kind_of term.kind)) set block
   pub returns : AllByRecursion (Contains (map (λ (r : Rule). r.pos) (rules_of env id))) (return_positions block)
   pub calls : (callee : Callee) → Contains (body_calls f.body) callee → IsCalledBy env id callee
 

@@ -19,3 +19,11 @@ pub mod PlacedOperands
 pub mod GivenConstants
 pub mod Wanted
 pub mod Complete
+pub mod ToldTypes
+pub mod PlacedExprs
+pub mod PlacedTypes
+pub mod ConformingTypes
+pub mod NamedTests
+pub mod OccurringTypes
+pub mod StandingConstants
+pub mod BySource

@@ -63,7 +63,7 @@ found_passes test (y ∷ xs) x e = by (test y) refl e (found_passes test xs x)
     by false is h later = later h
 
 -- finding among what is made of items
-found_made : {A B : Type 0} (test : B → Bool) (f : A → B) (xs : List A) → find test (map f xs) ≡ option_map f (find (λ x. test (f x)) xs)
+pub found_made : {A B : Type 0} (test : B → Bool) (f : A → B) (xs : List A) → find test (map f xs) ≡ option_map f (find (λ x. test (f x)) xs)
 found_made test f [] = refl
 found_made test f (x ∷ xs) = by (test (f x)) (found_made test f xs)
   where
@@ -90,7 +90,7 @@ module _ (env : Environment) (has_rules : Bool) (lawful : AreLawful has_rules en
   name_of d = emitted_name env.types d
 
   -- a field's name with that of its type
-  abbrev field_text : List ℕ × TypeId → List ℕ × List ℕ
+  abbrev pub field_text : List ℕ × TypeId → List ℕ × List ℕ
   field_text f = (f.0, text_at env.types f.1)
 
   -- ---- names
@@ -122,7 +122,7 @@ module _ (env : Environment) (has_rules : Bool) (lawful : AreLawful has_rules en
   foreign_name : (i : ℕ) (d : TypeDef) → slice_get env.types.types i ≡ Some d → IsForeignDef d → is_foreign (name_of d) ≡ true
   foreign_name i d at foreign = both_true (not (same_bytes [] (name_of d))) (not (same_bytes (codes "bool") (name_of d))) (not (is_some (type_named (name_of d)))) (ap not (nonempty (name_of d) (there i d at).name.name.identifier.begins)) (no_bool i d at foreign) (no_integer i d at foreign)
 
-  item_is : (i : ℕ) (d : TypeDef) → slice_get env.types.types i ≡ Some d → asked.type_item items (name_of d) ≡ type_item env.types d
+  pub item_is : (i : ℕ) (d : TypeDef) → slice_get env.types.types i ≡ Some d → asked.type_item items (name_of d) ≡ type_item env.types d
   item_is i d at = found_item env.types env.types.types i d lawful.apart.types at
 
   -- ---- opaque numbers
@@ -188,7 +188,7 @@ module _ (env : Environment) (has_rules : Bool) (lawful : AreLawful has_rules en
       next : i + 1 ≡ suc i
       next = omega arith
 
-  shape_asked : (fs : Fields) → field_types (fields_shape env.types fs) ≡ map field_text (typed_fields env fs)
+  pub shape_asked : (fs : Fields) → field_types (fields_shape env.types fs) ≡ map field_text (typed_fields env fs)
   shape_asked fields.Unit = refl
   shape_asked (fields.Struct []) = refl
   shape_asked (fields.Struct (f ∷ fs)) = made_twice field_text (λ (x : FieldDef). (sym_text env x.name, x.ty)) (f ∷ fs)

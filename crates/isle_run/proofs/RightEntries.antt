@@ -89,7 +89,7 @@ given_back name (c ∷ consts) h = (h.0, given_back name consts h.1)
 some_with : {A : Type 0} (P : A → Type 0) (o : Option A) (x : A) → o ≡ Some x → P x → IsSomeAnd o P
 some_with P o x e h = subst (λ z. IsSomeAnd z P) (sym e) h
 
-module _ (options : CodegenOptions) (files : Files) (env : Environment) (names : HasLawfulNames env) (p : Program) (conforms : Conforms options files env p) (f : Function) (m : Meaning) where
+module _ (options : CodegenOptions) (files : Files) (env : Environment) (names : HasLawfulNames env) (p : Program) (conforms : Conforms options files env p) where
   -- ---- signatures
 
   -- an answer fits such a signature
@@ -120,7 +120,7 @@ module _ (options : CodegenOptions) (files : Files) (env : Environment) (names :
   distinct_names = subst (λ (fs : List TraitFn). IsDistinct bytes_eq (fn_names fs)) conforms.frame.trait_fns conforms.well_formed.trait_names
 
   -- the signature of what is served
-  served_signature : (c : Callee) (t : Term) → IsServed env c t → (s : Signature) × (signature_of p c ≡ Some s) × IsSignatureOf env (constructor_types t) (kind_of t.kind) s
+  pub served_signature : (c : Callee) (t : Term) → IsServed env c t → (s : Signature) × (signature_of p c ≡ Some s) × IsSignatureOf env (constructor_types t) (kind_of t.kind) s
   served_signature _ _ (external i t func at e) = (
     trait_signature (constructor_fn env t func),
     ap (option_map trait_signature) (ap (λ (fs : List TraitFn). trait_fn fs (sym_text env func)) conforms.frame.trait_fns ∙ served_fn env env.terms i t func distinct_names at e),
@@ -142,7 +142,7 @@ module _ (options : CodegenOptions) (files : Files) (env : Environment) (names :
       some_same a b e = cc
 
   -- the signature of what is asked by cases
-  asked_signature : (c : Callee) (a : Asked) (often : ReturnKind) → IsAsked env c a often → (s : Signature) × (signature_of p c ≡ Some s) × IsSignatureOf env a often s
+  pub asked_signature : (c : Callee) (a : Asked) (often : ReturnKind) → IsAsked env c a often → (s : Signature) × (signature_of p c ≡ Some s) × IsSignatureOf env a often s
   asked_signature _ _ _ (extractor i t func often at e) = (
     trait_signature (extractor_fn env t (func, often)),
     ap (option_map trait_signature) (ap (λ (fs : List TraitFn). trait_fn fs (sym_text env func)) conforms.frame.trait_fns ∙ extracted_fn env env.terms i t (func, often) distinct_names at e),
@@ -150,72 +150,73 @@ module _ (options : CodegenOptions) (files : Files) (env : Environment) (names :
   )
   asked_signature _ _ _ (constructor c t served pure) = served_signature c t served
 
-  -- ---- turns
+  module _ (f : Function) (m : Meaning) where
+    -- ---- turns
 
-  turns_right : (consts : List (List ℕ × Value)) (cases : List PureAnswers) (earlier : List TurnAnswers) (a : TurnAnswers) → AreRightTurns env cases earlier a → IsRight p f m ((as_entries consts ++ map Cases cases) ++ map Turns earlier) (Turns a)
-  turns_right consts cases earlier a h =
-      let s = served_signature a.callee h.term h.served in
-      let front = both_unanswered a.callee (as_entries consts) (map Cases cases) (no_constants a.callee consts) (uncased a.callee cases h.alone) in (
-        both_unanswered a.callee (as_entries consts ++ map Cases cases) (map Turns earlier) front (unanswered a.callee earlier h.first),
-        some_with (EntryFits p.types (Turns a)) (signature_of p a.callee) s.0 s.1
-            (subst (λ types. AllByRecursion (AnswerFits types s.0) a.turns × AnswerFits types s.0 a.rest) (sym conforms.frame.types) (answers_fit (constructor_types h.term) (kind_of h.term.kind) s.0 a.turns s.2 h.turns, answer_fits (constructor_types h.term) (kind_of h.term.kind) s.0 a.rest s.2 h.rest)),
-      )
+    turns_right : (consts : List (List ℕ × Value)) (cases : List PureAnswers) (earlier : List TurnAnswers) (a : TurnAnswers) → AreRightTurns env cases earlier a → IsRight p f m ((as_entries consts ++ map Cases cases) ++ map Turns earlier) (Turns a)
+    turns_right consts cases earlier a h =
+        let s = served_signature a.callee h.term h.served in
+        let front = both_unanswered a.callee (as_entries consts) (map Cases cases) (no_constants a.callee consts) (uncased a.callee cases h.alone) in (
+          both_unanswered a.callee (as_entries consts ++ map Cases cases) (map Turns earlier) front (unanswered a.callee earlier h.first),
+          some_with (EntryFits p.types (Turns a)) (signature_of p a.callee) s.0 s.1
+              (subst (λ types. AllByRecursion (AnswerFits types s.0) a.turns × AnswerFits types s.0 a.rest) (sym conforms.frame.types) (answers_fit (constructor_types h.term) (kind_of h.term.kind) s.0 a.turns s.2 h.turns, answer_fits (constructor_types h.term) (kind_of h.term.kind) s.0 a.rest s.2 h.rest)),
+        )
 
-  all_turns : (consts : List (List ℕ × Value)) (cases : List PureAnswers) (earlier later : List TurnAnswers) → AllRight env cases earlier later → AreRight p f m ((as_entries consts ++ map Cases cases) ++ map Turns earlier) (map Turns later)
-  all_turns consts cases earlier [] h = tt
-  all_turns consts cases earlier (a ∷ later) h =
-      let front = as_entries consts ++ map Cases cases in (
-        turns_right consts cases earlier a h.0,
-        subst (λ fs. AreRight p f m fs (map Turns later)) (ap (λ fs. front ++ fs) (map-append Turns earlier (a ∷ [])) ∙ sym (append_assoc front (map Turns earlier) (Turns a ∷ [])))
-            (all_turns consts cases (earlier ++ a ∷ []) later h.1),
-      )
+    all_turns : (consts : List (List ℕ × Value)) (cases : List PureAnswers) (earlier later : List TurnAnswers) → AllRight env cases earlier later → AreRight p f m ((as_entries consts ++ map Cases cases) ++ map Turns earlier) (map Turns later)
+    all_turns consts cases earlier [] h = tt
+    all_turns consts cases earlier (a ∷ later) h =
+        let front = as_entries consts ++ map Cases cases in (
+          turns_right consts cases earlier a h.0,
+          subst (λ fs. AreRight p f m fs (map Turns later)) (ap (λ fs. front ++ fs) (map-append Turns earlier (a ∷ [])) ∙ sym (append_assoc front (map Turns earlier) (Turns a ∷ [])))
+              (all_turns consts cases (earlier ++ a ∷ []) later h.1),
+        )
 
-  -- ---- cases
+    -- ---- cases
 
-  cases_right : (consts : List (List ℕ × Value)) (earlier : List PureAnswers) (a : PureAnswers) → AreRightCases env earlier a → IsRight p f m (as_entries consts ++ map Cases earlier) (Cases a)
-  cases_right consts earlier a h =
-      let s = asked_signature a.callee h.types h.kind h.asked in (
-        both_unanswered a.callee (as_entries consts) (map Cases earlier) (no_constants a.callee consts) (uncased a.callee earlier h.first),
-        some_with (EntryFits p.types (Cases a)) (signature_of p a.callee) s.0 s.1
-            (subst (λ types. AllByRecursion (CaseFits types s.0) a.cases × AnswerFits types s.0 a.rest) (sym conforms.frame.types)
-            (cases_fit h.types h.kind s.0 a.cases s.2 h.cases, answer_fits h.types h.kind s.0 a.rest s.2 h.rest)),
-      )
+    cases_right : (consts : List (List ℕ × Value)) (earlier : List PureAnswers) (a : PureAnswers) → AreRightCases env earlier a → IsRight p f m (as_entries consts ++ map Cases earlier) (Cases a)
+    cases_right consts earlier a h =
+        let s = asked_signature a.callee h.types h.kind h.asked in (
+          both_unanswered a.callee (as_entries consts) (map Cases earlier) (no_constants a.callee consts) (uncased a.callee earlier h.first),
+          some_with (EntryFits p.types (Cases a)) (signature_of p a.callee) s.0 s.1
+              (subst (λ types. AllByRecursion (CaseFits types s.0) a.cases × AnswerFits types s.0 a.rest) (sym conforms.frame.types)
+              (cases_fit h.types h.kind s.0 a.cases s.2 h.cases, answer_fits h.types h.kind s.0 a.rest s.2 h.rest)),
+        )
 
-  -- cases in front of what is right behind them all
-  all_cases : (consts : List (List ℕ × Value)) (earlier later : List PureAnswers) (rest : List Entry) → AllCasesRight env earlier later → AreRight p f m (as_entries consts ++ map Cases (earlier ++ later)) rest
-      → AreRight p f m (as_entries consts ++ map Cases earlier) (map Cases later ++ rest)
-  all_cases consts earlier [] rest h right = subst (λ cs. AreRight p f m (as_entries consts ++ map Cases cs) rest) (append-nil earlier) right
-  all_cases consts earlier (a ∷ later) rest h right = (
-    cases_right consts earlier a h.0,
-    subst (λ fs. AreRight p f m fs (map Cases later ++ rest)) (ap (λ fs. as_entries consts ++ fs) (map-append Cases earlier (a ∷ [])) ∙ sym (append_assoc (as_entries consts) (map Cases earlier) (Cases a ∷ [])))
-        (all_cases consts (earlier ++ a ∷ []) later rest h.1 (subst (λ cs. AreRight p f m (as_entries consts ++ map Cases cs) rest) (sym (append_assoc earlier (a ∷ []) later)) right)),
-  )
+    -- cases in front of what is right behind them all
+    all_cases : (consts : List (List ℕ × Value)) (earlier later : List PureAnswers) (rest : List Entry) → AllCasesRight env earlier later → AreRight p f m (as_entries consts ++ map Cases (earlier ++ later)) rest
+        → AreRight p f m (as_entries consts ++ map Cases earlier) (map Cases later ++ rest)
+    all_cases consts earlier [] rest h right = subst (λ cs. AreRight p f m (as_entries consts ++ map Cases cs) rest) (append-nil earlier) right
+    all_cases consts earlier (a ∷ later) rest h right = (
+      cases_right consts earlier a h.0,
+      subst (λ fs. AreRight p f m fs (map Cases later ++ rest)) (ap (λ fs. as_entries consts ++ fs) (map-append Cases earlier (a ∷ [])) ∙ sym (append_assoc (as_entries consts) (map Cases earlier) (Cases a ∷ [])))
+          (all_cases consts (earlier ++ a ∷ []) later rest h.1 (subst (λ cs. AreRight p f m (as_entries consts ++ map Cases cs) rest) (sym (append_assoc earlier (a ∷ []) later)) right)),
+    )
 
-  -- ---- constants
+    -- ---- constants
 
-  constant_right : (earlier : List (List ℕ × Value)) (c : List ℕ × Value) → IsRightConstant env earlier c → has_constant p c.0 ≡ true → FitsPlaces p c.0 c.1 → IsApart p f m c.0 → IsRight p f m (as_entries earlier) (Constant c.0 c.1)
-  constant_right earlier c h stands fits apart = record {
-    once = ungiven c.0 earlier h.first;
-    there = stands;
-    typed = value_typed env names.has_rules names.lawful names.builtins c.1 h.ty h.typed;
-    fits = fits;
-    apart = apart;
-  }
+    constant_right : (earlier : List (List ℕ × Value)) (c : List ℕ × Value) → IsRightConstant env earlier c → has_constant p c.0 ≡ true → FitsPlaces p c.0 c.1 → IsApart p f m c.0 → IsRight p f m (as_entries earlier) (Constant c.0 c.1)
+    constant_right earlier c h stands fits apart = record {
+      once = ungiven c.0 earlier h.first;
+      there = stands;
+      typed = value_typed env names.has_rules names.lawful names.builtins c.1 h.ty h.typed;
+      fits = fits;
+      apart = apart;
+    }
 
-  -- constants in front of what is right behind them all
-  constants_right : (earlier later : List (List ℕ × Value)) (rest : List Entry) → AreRightConstants env earlier later → AllByRecursion (λ (c : List ℕ × Value). has_constant p c.0 ≡ true) later → AllByRecursion (λ (c : List ℕ × Value). FitsPlaces p c.0 c.1) later → AllByRecursion (λ (c : List ℕ × Value). IsApart p f m c.0) later → AreRight p f m (as_entries (earlier ++ later)) rest
-      → AreRight p f m (as_entries earlier) (as_entries later ++ rest)
-  constants_right earlier [] rest h stand fit apart right = subst (λ cs. AreRight p f m (as_entries cs) rest) (append-nil earlier) right
-  constants_right earlier (c ∷ later) rest h stand fit apart right = (
-    constant_right earlier c h.0 stand.0 fit.0 apart.0,
-    subst (λ fs. AreRight p f m fs (as_entries later ++ rest)) (map-append (λ (x : List ℕ × Value). Constant x.0 x.1) earlier (c ∷ []))
-        (constants_right (earlier ++ c ∷ []) later rest h.1 stand.1 fit.1 apart.1 (subst (λ cs. AreRight p f m (as_entries cs) rest) (sym (append_assoc earlier (c ∷ []) later)) right)),
-  )
+    -- constants in front of what is right behind them all
+    constants_right : (earlier later : List (List ℕ × Value)) (rest : List Entry) → AreRightConstants env earlier later → AllByRecursion (λ (c : List ℕ × Value). has_constant p c.0 ≡ true) later → AllByRecursion (λ (c : List ℕ × Value). FitsPlaces p c.0 c.1) later → AllByRecursion (λ (c : List ℕ × Value). IsApart p f m c.0) later → AreRight p f m (as_entries (earlier ++ later)) rest
+        → AreRight p f m (as_entries earlier) (as_entries later ++ rest)
+    constants_right earlier [] rest h stand fit apart right = subst (λ cs. AreRight p f m (as_entries cs) rest) (append-nil earlier) right
+    constants_right earlier (c ∷ later) rest h stand fit apart right = (
+      constant_right earlier c h.0 stand.0 fit.0 apart.0,
+      subst (λ fs. AreRight p f m fs (as_entries later ++ rest)) (map-append (λ (x : List ℕ × Value). Constant x.0 x.1) earlier (c ∷ []))
+          (constants_right (earlier ++ c ∷ []) later rest h.1 stand.1 fit.1 apart.1 (subst (λ cs. AreRight p f m (as_entries cs) rest) (sym (append_assoc earlier (c ∷ []) later)) right)),
+    )
 
-  -- all entries
-  pub all_right : (consts : List (List ℕ × Value)) (cases : List PureAnswers) (turns : List TurnAnswers) → AreRightConstants env [] consts → AllByRecursion (λ (c : List ℕ × Value). has_constant p c.0 ≡ true) consts → AllByRecursion (λ (c : List ℕ × Value). FitsPlaces p c.0 c.1) consts → AllByRecursion (λ (c : List ℕ × Value). IsApart p f m c.0) consts → AllCasesRight env [] cases → AllRight env cases [] turns
-      → AreRight p f m [] (as_entries consts ++ (map Cases cases ++ map Turns turns))
-  all_right consts cases turns constants stand fit apart extracted right =
-      let of_turns = subst (λ fs. AreRight p f m fs (map Turns turns)) (append-nil (as_entries consts ++ map Cases cases)) (all_turns consts cases [] turns right) in
-      let of_cases = all_cases consts [] cases (map Turns turns) extracted of_turns in
-      constants_right [] consts (map Cases cases ++ map Turns turns) constants stand fit apart (subst (λ fs. AreRight p f m fs (map Cases cases ++ map Turns turns)) (append-nil (as_entries consts)) of_cases)
+    -- all entries
+    pub all_right : (consts : List (List ℕ × Value)) (cases : List PureAnswers) (turns : List TurnAnswers) → AreRightConstants env [] consts → AllByRecursion (λ (c : List ℕ × Value). has_constant p c.0 ≡ true) consts → AllByRecursion (λ (c : List ℕ × Value). FitsPlaces p c.0 c.1) consts → AllByRecursion (λ (c : List ℕ × Value). IsApart p f m c.0) consts → AllCasesRight env [] cases → AllRight env cases [] turns
+        → AreRight p f m [] (as_entries consts ++ (map Cases cases ++ map Turns turns))
+    all_right consts cases turns constants stand fit apart extracted right =
+        let of_turns = subst (λ fs. AreRight p f m fs (map Turns turns)) (append-nil (as_entries consts ++ map Cases cases)) (all_turns consts cases [] turns right) in
+        let of_cases = all_cases consts [] cases (map Turns turns) extracted of_turns in
+        constants_right [] consts (map Cases cases ++ map Turns turns) constants stand fit apart (subst (λ fs. AreRight p f m fs (map Cases cases ++ map Turns turns)) (append-nil (as_entries consts)) of_cases)

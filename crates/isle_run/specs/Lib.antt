@@ -7,4 +7,5 @@ pub mod Ran
 pub mod Placed
 pub mod Valid
 pub mod RuleWants
+pub mod ValidBySource
 pub mod Compiled

@@ -1,20 +1,26 @@
 -- What the rules of a term want of the constants that are given values, by the source alone.
-use Rattle.std.specs.Prelude.{◌≡◌, ℕ, List, Bool, false, Option, Some, None, slice_get, IsSomeAnd}
+use Rattle.std.specs.Prelude.{◌≡◌, ℕ, List, Bool, true, false, Option, Some, None, Contains, slice_get, IsSomeAnd}
 use Rattle.std.specs.List.{AllByRecursion}
+use Rattle.std.specs.Ordering.{int_cmp, is_lt}
 use Rattle.std.specs.Str.{bytes_eq}
 use Rattle.isle_core.specs.declared.Sym.{Sym}
 use Rattle.isle_core.specs.declared.TermId.{TermId}
 use Rattle.isle_core.specs.declared.TypeId.{TypeId}
+use Rattle.isle_core.specs.declared.rule_sets.Constraint.TheVariants as constraint
+use Rattle.isle_core.specs.declared.types.Term.{Term}
 use Rattle.isle_core.specs.declared.types.TypeDef.{TypeDef}
 use Rattle.isle_core.specs.declared.types.TypeDef.TheVariants as def
 use Rattle.isle_core.specs.declared.values.Callee.{Callee}
+use Rattle.isle_core.specs.Calling.{is_several, kind_of}
 use Rattle.isle_core.specs.Constants.{int_value}
 use Rattle.isle_core.specs.Having.{const_of}
 use Rattle.isle_core.specs.Meaning.{Meaning}
 use Rattle.isle_core.specs.Path.{Path, Nowhere, Arg, ConstBool, ConstInt, ConstPrim, Extracted, Called, Chosen, MadeVariant, MadeStruct, VariantField, StructField, Wrapped, Inner, Part, NoPath}
 use Rattle.isle_core.specs.Rule.{Environment, Rule, rules_of}
 use Rattle.isle_core.specs.SameInRun.{same_in_run}
-use Rattle.isle_core.specs.Terms.{sym_text}
+use Rattle.isle_core.specs.StandsFor.{IsTrivial}
+use Rattle.isle_core.specs.Terms.{sym_text, with_rules}
+use Rattle.isle_core.specs.Tests.{Is, rule_tests}
 use Rattle.isle_core.specs.Value.{Value, Truth}
 use Rattle.isle_codegen.specs.CalledBy.{IsCalledBy}
 use Rattle.isle_codegen.specs.Spoken.{IsSpoken}
@@ -76,3 +82,21 @@ pub record AreWantedBy (env : Environment) (id : TermId) (m : Meaning) : Type 0 
   pub apart : AllByRecursion (λ (c : List ℕ × Value). IsApartIn env (rules_of env id) m c.0) m.consts
   pub structs : (ty : TypeId) → IsSpoken env (rules_of env id) (MadeStruct ty NoPath) → IsSomeAnd (slice_get env.types.types ty.0) IsOwnStruct
   pub answered : (c : Callee) → IsCalledBy env id c → HasNoCases c m.pure → HasNoTurns c m.turns → ⊥
+
+-- a rule has a lower priority than another one
+abbrev pub is_below : Rule → Rule → Bool
+is_below g r = is_lt (int_cmp g.prio r.prio)
+
+-- a rule of a term tests for the constant of this name, and is tried: each rule of the term without tests has a lower priority, where
+-- the term answers at most once
+pub record IsTestedFor (env : Environment) (name : List ℕ) : Type 0 where
+  pub id : TermId
+  pub ruled : Contains (with_rules env) id
+  pub rule : Rule
+  pub there : Contains (rules_of env id) rule
+  pub path : Path
+  pub constant : Sym
+  pub tests : Contains (rule_tests env rule) (Is path (constraint.ConstPrim constant))
+  pub named : sym_text env constant ≡ name
+  pub tried : (t : Term) → slice_get env.terms id.0 ≡ Some t → is_several (kind_of t.kind) ≡ false → (g : Rule) → Contains (rules_of env id) g
+      → AllByRecursion IsTrivial (rule_tests env g) → is_below g rule ≡ true

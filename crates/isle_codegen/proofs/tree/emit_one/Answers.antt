@@ -1,10 +1,11 @@
-use Rattle.std.proofs.Common.{◌≡◌, get_or, sym, ap, ◌∙◌}
+use Rattle.std.proofs.Common.{◌≡◌, Bool, get_or, sym, ap, ◌∙◌, subst}
 use Rattle.std.specs.Prelude.{option_map}
 use Rattle.isle_core.specs.declared.types.Term.{Term}
 use Rattle.isle_core.specs.BlockViews.{block}
 use Rattle.isle_core.specs.Calling.{is_several, kind_of}
 use Rattle.isle_core.specs.RuleViews.{environment}
 use Rattle.isle_core.specs.Setting.{setting}
+use Rattle.isle_blocks.specs.AllTests.{MakesTests}
 use Rattle.isle_tree.specs.Views.{function}
 use Rattle.isle_simulation.specs.TermFunction.{term_function}
 use Rattle.isle_codegen.proofs.Emissions.{calls_once, is_emitted, is_given, at_place, term_is}
@@ -41,4 +42,5 @@ returns c =
       several = λ several. c.in_ok-block.ensures.several env h.term h.ready often several h.lists;
     })
     c.in_ok-block.ensures.tests
+    (subst (λ (several : Bool). MakesTests several c.args.rules.now b) (sym often) c.in_ok-block.ensures.makes)
     (sym (ap (option_map function) (sym c.in-Some.is) ∙ c.in_ok-function.ensures ∙ ap (λ bs. term_function c.args.logging c.args.files.now (setting env x bs) b) c.as_slice-2.ensures))

@@ -1,0 +1,268 @@
+-- A constant that a rule tests for stands in each program that conforms to the source.
+use Rattle.std.proofs.Common.{◌≡◌, ◌⊎◌, inl, inr, ⊎_elim, ℕ, zero, suc, ◌+◌, List, [], ◌∷◌, ◌++◌, map, Bool, true, false, cond, Option, Some, None, option_map, refl, sym, ap, ◌∙◌, subst}
+use Rattle.std.specs.Prelude.{◌==◌, ◌||◌, ◌&&◌, not, Contains, find, flat_map, slice_get}
+use Rattle.std.proofs.lemmas.Bool.Decides.{Decides-eqb}
+use Rattle.std.proofs.lemmas.Option.{slice_get-map}
+use Rattle.std.specs.List.{AllByRecursion, list_any}
+use Rattle.std.specs.Ordering.{int_cmp, is_lt}
+use Rattle.std.specs.Str.{bytes_eq}
+use Rattle.std.proofs.lemmas.List.Elements.{Contains-append_left, Contains-append_right}
+use Rattle.std.proofs.lemmas.Slice.Eq.{bytes_eq-Decides}
+use Rattle.isle_core.specs.declared.BindingId.{BindingId}
+use Rattle.isle_core.specs.declared.Sym.{Sym}
+use Rattle.isle_core.specs.declared.TermId.{TermId}
+use Rattle.isle_core.specs.declared.TypeId.{TypeId}
+use Rattle.isle_core.specs.declared.files.Files.{Files}
+use Rattle.isle_core.specs.declared.options.CodegenOptions.{CodegenOptions}
+use Rattle.isle_core.specs.declared.rule_sets.Constraint.{Constraint}
+use Rattle.isle_core.specs.declared.rule_sets.Constraint.TheVariants as constraint
+use Rattle.isle_core.specs.declared.rule_sets.FlatRule.{FlatRule}
+use Rattle.isle_core.specs.declared.types.Term.{Term}
+use Rattle.isle_core.specs.declared.types.TypeDef.{TypeDef}
+use Rattle.isle_core.specs.Calling.{is_several, kind_of}
+use Rattle.isle_core.specs.Constants.{const_type}
+use Rattle.isle_core.specs.NamesApart.{IsNameOf}
+use Rattle.isle_core.specs.Value.{Value}
+use Rattle.isle_core.specs.Path.{Path, at, paths_of}
+use Rattle.isle_core.specs.Rule.{Environment, Rule, rules_of}
+use Rattle.isle_core.specs.RuleSet.{is_test, equal_test, flat_tests}
+use Rattle.isle_core.specs.Setting.{setting}
+use Rattle.isle_core.specs.StandsFor.{IsFlat, AreFlat, IsTrivial}
+use Rattle.isle_core.specs.Terms.{sym_text, with_rules}
+use Rattle.isle_core.specs.Tests.{Test, Is, Equal, HasItem, rule_tests}
+use Rattle.isle_core.proofs.Contained.{head_contained, tail_contained, contained_cases, none_contained}
+use Rattle.isle_blocks.specs.AllTests.{IsTried, IsUntested}
+use Rattle.isle_items.specs.LawfulNames.{IsNoType, emitted_names}
+use Rattle.isle_items.proofs.HasRustNames.{has_rust_names}
+use Rattle.isle_spelling.specs.Identifier.{begins}
+use Rattle.isle_simulation.specs.RustNames.{HasRustNames}
+use Rattle.isle_naming.specs.Names.{body_names, function_names, is_among}
+use Rattle.isle_naming.specs.Occurring.{item_types, trait_types, function_types, param_types, all_types, program_types, occurs}
+use Rattle.isle_interpreter.specs.Entries.{has_constant}
+use Rattle.isle_simulation.specs.OfTerm.{AreDeclared}
+use Rattle.isle_simulation.specs.TermFunction.{tail_in}
+use Rattle.isle_simulation.specs.Telling.{telling_of}
+use Rattle.isle_simulation.specs.Completed.{completed}
+use Rattle.isle_simulation.specs.TypeTexts.{def_text, type_text, parameter}
+use Rattle.isle_simulation.proofs.Made.{function_made}
+use Rattle.isle_simulation.proofs.Written.{function_of}
+use Rattle.isle_tree.specs.declared.tree.TraitFn.{TraitFn}
+use Rattle.isle_tree.specs.declared.tree.TypeItem.{TypeItem}
+use Rattle.isle_tree.specs.Program.{Body, Function, Program}
+use Rattle.isle_codegen.specs.Checked.{IsChecked}
+use Rattle.isle_codegen.specs.FromBlock.{AreFromBlocks, IsFromBlock}
+use Rattle.isle_run.specs.Conforming.{Conforms}
+use Rattle.isle_run.specs.RuleWants.{is_below, IsTestedFor}
+use Rattle.isle_run.specs.Valid.{AreRightConstants}
+use Rattle.isle_run.proofs.GivenConstants.{each_declared}
+use Rattle.isle_run.proofs.LawfulNames.{HasLawfulNames}
+use Rattle.isle_run.proofs.NamedTests.{function_names_it}
+use Rattle.isle_run.proofs.OccurringTypes.{types_free, traits_free, block_free, tail_free, params_free}
+use Rattle.isle_run.proofs.PlacedExprs.{IsConstantValue}
+use Rattle.isle_run.proofs.SourceNames.{lawful_names}
+use Rattle.isle_codegen.proofs.TypedNames.{typed_parts}
+
+-- ---- the rules of a set
+
+-- the flat rule of a rule
+record FlatOf (env : Environment) (ps : List Path) (fs : List FlatRule) (r : Rule) : Type 0 where
+  flat : FlatRule
+  there : Contains fs flat
+  at_place : ℕ
+  is : IsFlat env ps r at_place flat
+
+flat_of : (env : Environment) (ps : List Path) (rs : List Rule) (fs : List FlatRule) (n : ℕ) (r : Rule) → AreFlat env ps rs n fs → Contains rs r → FlatOf env ps fs r
+flat_of env ps [] fs n r h c = absurd (none_contained r c)
+flat_of env ps (x ∷ rs) [] n r h c = absurd h
+flat_of env ps (x ∷ rs) (f ∷ fs) n r h c =
+    ⊎_elim
+    (λ (e : x ≡ r). subst (FlatOf env ps (f ∷ fs)) e (record { flat = f; there = head_contained f fs; at_place = n; is = h.0 }))
+    (λ d. let k = flat_of env ps rs fs _ r h.1 d in record { flat = k.flat; there = tail_contained f fs k.flat k.there; at_place = k.at_place; is = k.is })
+    (contained_cases x rs r c)
+
+-- the rule of a flat rule
+record RuleOf (env : Environment) (ps : List Path) (rs : List Rule) (f : FlatRule) : Type 0 where
+  rule : Rule
+  there : Contains rs rule
+  at_place : ℕ
+  is : IsFlat env ps rule at_place f
+
+rule_of : (env : Environment) (ps : List Path) (rs : List Rule) (fs : List FlatRule) (n : ℕ) (f : FlatRule) → AreFlat env ps rs n fs → Contains fs f → RuleOf env ps rs f
+rule_of env ps rs [] n f h c = absurd (none_contained f c)
+rule_of env ps [] (g ∷ fs) n f h c = absurd h
+rule_of env ps (r ∷ rs) (g ∷ fs) n f h c =
+    ⊎_elim
+    (λ (e : g ≡ f). subst (RuleOf env ps (r ∷ rs)) e (record { rule = r; there = head_contained r rs; at_place = n; is = h.0 }))
+    (λ d. let k = rule_of env ps rs fs _ f h.1 d in record { rule = k.rule; there = tail_contained r rs k.rule k.there; at_place = k.at_place; is = k.is })
+    (contained_cases g fs f c)
+
+-- the binding that a test of a constraint is on
+tested_at : (ps : List Path) (cs : List (BindingId × Constraint)) (p : Path) (c : Constraint) → Contains (map (is_test ps) cs) (Is p c) → (source : BindingId) × Contains cs (source, c)
+tested_at ps [] p c h = absurd (none_contained (Is p c) h)
+tested_at ps (x ∷ cs) p c h =
+    ⊎_elim
+    (λ (e : is_test ps x ≡ Is p c). (x.0, subst (λ (y : BindingId × Constraint). Contains (x ∷ cs) y) (one x e) (head_contained x cs)))
+    (λ d. let k = tested_at ps cs p c d in (k.0, tail_contained x cs (k.0, c) k.1))
+    (contained_cases (is_test ps x) (map (is_test ps) cs) (Is p c) h)
+  where
+    same_constraint : (q : Path) (d : Constraint) → Is q d ≡ Is p c → d ≡ c
+    same_constraint q d e = cc
+
+    one : (y : BindingId × Constraint) → is_test ps y ≡ Is p c → y ≡ (y.0, c)
+    one y e = ap (λ (d : Constraint). (y.0, d)) (same_constraint (at ps y.0) y.1 e)
+
+not_equal : (ps : List Path) (es : List (BindingId × BindingId)) (p : Path) (c : Constraint) → Contains (map (equal_test ps) es) (Is p c) → ⊥
+not_equal ps [] p c h = none_contained (Is p c) h
+not_equal ps (x ∷ es) p c h = ⊎_elim (λ (e : equal_test ps x ≡ Is p c). cc) (λ d. not_equal ps es p c d) (contained_cases (equal_test ps x) (map (equal_test ps) es) (Is p c) h)
+
+in_either : {A : Type 0} (xs ys : List A) (x : A) → Contains (xs ++ ys) x → Contains xs x ⊎ Contains ys x
+in_either [] ys x c = inr c
+in_either (y ∷ xs) ys x c = ⊎_elim (λ (e : y ≡ x). inl (subst (Contains (y ∷ xs)) e (head_contained y xs))) (λ d. ⊎_elim (λ k. inl (tail_contained y xs x k)) (λ k. inr k) (in_either xs ys x d)) (contained_cases y (xs ++ ys) x c)
+
+-- ---- names
+
+among_names : (xs : List (List ℕ)) (name : List ℕ) → Contains xs name → is_among name xs ≡ true
+among_names [] name c = absurd (none_contained name c)
+among_names (x ∷ xs) name c = one (bytes_eq name x) refl (contained_cases x xs name c)
+  where
+    one : (b : Bool) → bytes_eq name x ≡ b → (x ≡ name) ⊎ Contains xs name → (b || is_among name xs) ≡ true
+    one true is k = refl
+    one false is (inl e) = let t : bytes_eq name x ≡ true = (bytes_eq-Decides name x).1 (sym e) in absurd cc
+    one false is (inr d) = among_names xs name d
+
+none_among : (xs : List (List ℕ)) (name : List ℕ) → AllByRecursion (λ (x : List ℕ). bytes_eq name x ≡ false) xs → is_among name xs ≡ false
+none_among [] name h = refl
+none_among (x ∷ xs) name h = ap (λ (b : Bool). b || is_among name xs) h.0 ∙ none_among xs name h.1
+
+each_free : (xs : List (List ℕ)) (name : List ℕ) → list_any (bytes_eq name) xs ≡ false → (i : ℕ) (x : List ℕ) → slice_get xs i ≡ Some x → bytes_eq name x ≡ false
+each_free [] name h i x e = absurd cc
+each_free (y ∷ xs) name h i x e = one (bytes_eq name y) refl h i e
+  where
+    one : (b : Bool) → bytes_eq name y ≡ b → (b || list_any (bytes_eq name) xs) ≡ false → (j : ℕ) → slice_get (y ∷ xs) j ≡ Some x → bytes_eq name x ≡ false
+    one true is k j l = absurd cc
+    one false is k zero l = let same : y ≡ x = cc in subst (λ (z : List ℕ). bytes_eq name z ≡ false) same is
+    one false is k (suc j) l = each_free xs name k j x l
+
+module _ (options : CodegenOptions) (files : Files) (env : Environment) (checked : IsChecked files env) (p : Program) (conforms : Conforms options files env p) where
+  -- ---- the constant is in a function
+
+  tried_of : (id : TermId) (t : Term) (r : Rule) (ps : List Path) (fs : List FlatRule) (f : FlatRule) → AreFlat env ps (rules_of env id) 0 fs → f.prio ≡ r.prio
+      → (is_several (kind_of t.kind) ≡ false → (g : Rule) → Contains (rules_of env id) g → AllByRecursion IsTrivial (rule_tests env g) → is_below g r ≡ true) → IsTried (is_several (kind_of t.kind)) fs f
+  tried_of id t r ps fs f flat prio h = one (is_several (kind_of t.kind)) (λ e. h e)
+    where
+      all_from : (ts : List Test) → ((x : Test) → Contains ts x → IsTrivial x) → AllByRecursion IsTrivial ts
+      all_from [] k = tt
+      all_from (x ∷ ts) k = (k x (head_contained x ts), all_from ts (λ y c. k y (tail_contained x ts y c)))
+
+      one : (b : Bool) → (b ≡ false → (g : Rule) → Contains (rules_of env id) g → AllByRecursion IsTrivial (rule_tests env g) → is_below g r ≡ true) → IsTried b fs f
+      one true k = tt
+      one false k = λ g c untested.
+          let of = rule_of env ps (rules_of env id) fs 0 g flat c in
+          let none : flat_tests ps g ≡ [] = ap (λ (cs : List (BindingId × Constraint)). map (is_test ps) cs ++ map (equal_test ps) g.equals) untested.0 ∙ ap (map (equal_test ps)) untested.1 in
+          let trivial = all_from (rule_tests env of.rule) (λ x d. ⊎_elim (λ l. absurd (none_contained x (subst (λ (ts : List Test). Contains ts x) none l))) (λ l. l) (of.is.tested x d)) in
+          ap (λ (n : _). is_lt (int_cmp n f.prio)) of.is.prio ∙ ap (λ (n : _). is_lt (int_cmp of.rule.prio n)) prio ∙ k refl of.rule of.there trivial
+
+  in_function : (id : TermId) (f : Function) (r : Rule) (q : Path) (c : Sym) → IsFromBlock options.emit_logging files env id f → Contains (rules_of env id) r → Contains (rule_tests env r) (Is q (constraint.ConstPrim c))
+      → ((t : Term) → slice_get env.terms id.0 ≡ Some t → is_several (kind_of t.kind) ≡ false → (g : Rule) → Contains (rules_of env id) g → AllByRecursion IsTrivial (rule_tests env g) → is_below g r ≡ true) → Contains (body_names f.body) (sym_text env c)
+  in_function id f r q c b there tests below =
+      let ps = paths_of b.set.bindings in
+      let k = flat_of env ps (rules_of env id) b.set.rules 0 r b.stands.flat there in
+      let found = ⊎_elim (λ l. l) (λ l. absurd l) (k.is.tested (Is q (constraint.ConstPrim c)) tests) in
+      let source = ⊎_elim (λ l. tested_at ps k.flat.constraints q (constraint.ConstPrim c) l) (λ l. absurd (not_equal ps k.flat.equals q (constraint.ConstPrim c) l)) (in_either (map (is_test ps) k.flat.constraints) (map (equal_test ps) k.flat.equals) (Is q (constraint.ConstPrim c)) found) in
+      let tried = tried_of id b.term r ps b.set.rules k.flat b.stands.flat k.is.prio (λ e. below b.term b.found e) in
+      function_names_it env b.term b.set.bindings source.0 c options.emit_logging files b.block f b.lawful b.single (b.makes k.flat source.0 (constraint.ConstPrim c) k.there tried source.1) b.statements
+
+  -- the function of each term with rules is among the functions
+  with_function : (ids : List TermId) (fs : List Function) (id : TermId) (name : List ℕ) → AreFromBlocks options.emit_logging files env ids fs → Contains ids id → ((f : Function) → IsFromBlock options.emit_logging files env id f → Contains (body_names f.body) name) → Contains (function_names fs) name
+  with_function [] fs id name b c h = absurd (none_contained id c)
+  with_function (i ∷ ids) [] id name b c h = absurd b
+  with_function (i ∷ ids) (f ∷ fs) id name b c h =
+      ⊎_elim
+      (λ (e : i ≡ id). Contains-append_left (body_names f.body) (function_names fs) name (h f (subst (λ (j : TermId). IsFromBlock options.emit_logging files env j f) e b.0)))
+      (λ d. Contains-append_right (body_names f.body) (function_names fs) name (with_function ids fs id name b.1 d h))
+      (contained_cases i ids id c)
+
+  -- ---- no type that occurs has its name
+
+  module _ (name : List ℕ) (apart : list_any (bytes_eq name) (emitted_names env.types env.types.types) ≡ false) (some : bytes_eq name [] ≡ false) where
+    abbrev Free : List ℕ → Type 0
+    Free x = bytes_eq name x ≡ false
+
+    type_free : (ty : TypeId) → Free (type_text env ty)
+    type_free ty = one (slice_get env.types.types ty.0) refl
+      where
+        one : (o : Option TypeDef) → slice_get env.types.types ty.0 ≡ o → Free (def_text env.types o)
+        one None e = some
+        one (Some d) e = each_free (emitted_names env.types env.types.types) name apart ty.0 (def_text env.types (Some d)) (slice_get-map (λ (x : TypeDef). def_text env.types (Some x)) env.types.types ty.0 ∙ ap (option_map (λ (x : TypeDef). def_text env.types (Some x))) e)
+
+    both : (xs ys : List (List ℕ)) → AllByRecursion Free xs → AllByRecursion Free ys → AllByRecursion Free (xs ++ ys)
+    both [] ys h k = k
+    both (x ∷ xs) ys h k = (h.0, both xs ys h.1 k)
+
+    one_function : (a b : Function) → Some a ≡ Some b → a ≡ b
+    one_function a b e = cc
+
+    function_free : (id : TermId) (f : Function) → IsFromBlock options.emit_logging files env id f → AllByRecursion Free (function_types f)
+    function_free id f b =
+        let s = setting env b.term b.set.bindings in
+        let same : function_of options.emit_logging files env b.term b.set.bindings b.block ≡ f = one_function _ f (sym (function_made options.emit_logging files env b.term b.set.bindings b.block b.lawful b.single) ∙ b.statements) in
+        subst (λ (g : Function). AllByRecursion Free (function_types g)) same
+        (both (param_types (map (parameter env) b.term.arg_tys)) _ (params_free env Free type_free b.term.arg_tys)
+        (type_free b.term.ret_ty, block_free env Free type_free s refl (telling_of options.emit_logging files s) (completed s [] b.block) [] (tail_in files env b.term b.block) (tail_free env Free type_free _ _ _ b.block)))
+
+    functions_free : (ids : List TermId) (fs : List Function) → AreFromBlocks options.emit_logging files env ids fs → AllByRecursion Free (flat_map function_types fs)
+    functions_free [] [] b = tt
+    functions_free (id ∷ ids) (f ∷ fs) b = both (function_types f) (flat_map function_types fs) (function_free id f b.0) (functions_free ids fs b.1)
+    functions_free [] (f ∷ fs) b = absurd b
+    functions_free (id ∷ ids) [] b = absurd b
+
+    occurs_not : occurs p name ≡ false
+    occurs_not = none_among (program_types p) name
+        (both (flat_map item_types p.types) (flat_map trait_types p.trait_fns ++ flat_map function_types p.fns) (subst (λ (ts : List TypeItem). AllByRecursion Free (flat_map item_types ts)) (sym conforms.frame.types) (types_free env Free type_free))
+        (both (flat_map trait_types p.trait_fns) (flat_map function_types p.fns) (subst (λ (fs : List TraitFn). AllByRecursion Free (flat_map trait_types fs)) (sym conforms.frame.trait_fns) (traits_free env Free type_free env.terms))
+        (functions_free (with_rules env) p.fns conforms.functions.blocks)))
+
+  -- ---- constants
+
+  abbrev lawful : HasLawfulNames env
+  lawful = lawful_names files env checked
+
+  names : HasRustNames env
+  names = has_rust_names _ env lawful.lawful (typed_parts checked.defs env checked.lawful.typed.typed)
+
+  -- no type has the name of a declared constant
+  no_type : (consts : List (Sym × TypeId)) (s : Sym) (ty : TypeId) → AllByRecursion (IsNoType env.types) consts → option_map (λ (c : Sym × TypeId). c.1) (find (λ (c : Sym × TypeId). c.0.0 == s.0) consts) ≡ Some ty
+      → list_any (bytes_eq (sym_text env s)) (emitted_names env.types env.types.types) ≡ false
+  no_type [] s ty h e = absurd cc
+  no_type (c ∷ consts) s ty h e = one (c.0.0 == s.0) refl (λ k. no_type consts s ty h.1 k) e
+    where
+      one : (x : Bool) → (c.0.0 == s.0) ≡ x → (option_map (λ (d : Sym × TypeId). d.1) (find (λ (d : Sym × TypeId). d.0.0 == s.0) consts) ≡ Some ty → list_any (bytes_eq (sym_text env s)) (emitted_names env.types env.types.types) ≡ false)
+          → option_map (λ (d : Sym × TypeId). d.1) (cond x (Some c) (find (λ (d : Sym × TypeId). d.0.0 == s.0) consts)) ≡ Some ty → list_any (bytes_eq (sym_text env s)) (emitted_names env.types env.types.types) ≡ false
+      one true is later here = subst (λ (n : ℕ). list_any (bytes_eq (sym_text env (record { 0 = n }))) (emitted_names env.types env.types.types) ≡ false) ((Decides-eqb c.0.0 s.0).0 is) h.0
+      one false is later here = later here
+
+  nonempty : (w : List ℕ) → begins w ≡ true → bytes_eq w [] ≡ false
+  nonempty [] h = absurd cc
+  nonempty (b ∷ bs) h = refl
+
+  both_true : (a b : Bool) → a ≡ true → b ≡ false → (a && not b) ≡ true
+  both_true a b e k = rw (e, k) refl
+
+  -- a declared constant that a rule tests for, which is tried, stands in the program
+  tested_stands : (name : List ℕ) (ty : TypeId) → IsNameOf env ty name → IsTestedFor env name → has_constant p name ≡ true
+  tested_stands name ty named tested =
+      let s = named.0 in
+      let text : sym_text env s ≡ name = named.2 in
+      let free = subst (λ (n : List ℕ). list_any (bytes_eq n) (emitted_names env.types env.types.types) ≡ false) text (no_type env.types.consts s ty lawful.lawful.apart.constants named.1) in
+      let some = subst (λ (n : List ℕ). bytes_eq n [] ≡ false) text (nonempty (sym_text env s) (names.constants s ty named.1).identifier.begins) in
+      let there = with_function (with_rules env) p.fns tested.id name conforms.functions.blocks tested.ruled
+      (λ f b. subst (Contains (body_names f.body)) tested.named (in_function tested.id f tested.rule tested.path tested.constant b tested.there tested.tests tested.tried)) in
+      both_true (is_among name (function_names p.fns)) (occurs p name) (among_names (function_names p.fns) name there) (occurs_not name free some)
+
+  -- so do all that are right
+  pub tested_stand : (consts : List (List ℕ × Value)) → AreRightConstants env [] consts → AllByRecursion (λ (c : List ℕ × Value). IsTestedFor env c.0) consts → AllByRecursion (λ (c : List ℕ × Value). has_constant p c.0 ≡ true) consts
+  tested_stand consts right tested = all_stand consts (each_declared env [] consts right) tested
+    where
+      all_stand : (cs : List (List ℕ × Value)) → AllByRecursion (λ (c : List ℕ × Value). IsConstantValue env c.0 c.1) cs → AllByRecursion (λ (c : List ℕ × Value). IsTestedFor env c.0) cs → AllByRecursion (λ (c : List ℕ × Value). has_constant p c.0 ≡ true) cs
+      all_stand [] h k = tt
+      all_stand (c ∷ cs) h k = (tested_stands c.0 h.0.0 h.0.1 k.0, all_stand cs h.1 k.1)
