@@ -2,6 +2,8 @@
 use Rattle.std.specs.Prelude.{◌≡◌, ℕ, List, Bool, true, false}
 use Rattle.isle_command_line.specs.Request.{Request, Running, Help, Version, Compile, Build, Prelude, Units, Isa, Run}
 use Rattle.isle_command_line.specs.Lines.{LineS}
+use Rattle.isle_command_line.specs.Views.{seen_run}
+use Rattle.isle_command_line.specs.declared.commands.RunLine.{RunLine}
 use Rattle.isle_command_line.specs.declared.commands.Source.{Source}
 use Rattle.isle_command_line.specs.declared.commands.Source.TheVariants as source
 use Rattle.isle_top.specs.About.{help_text, version_text}
@@ -15,6 +17,10 @@ abbrev pub running_job : (trace : Bool) → Source → Running → Job
 running_job true from r = not_built
 running_job false (source.File name) r = run_job name r
 running_job false (source.Unit name) r = not_built
+
+-- the line of a run as contracts see it
+abbrev pub job_of_run : RunLine → Job
+job_of_run r = running_job r.trace r.source (seen_run r)
 
 -- the line that asks for this
 abbrev pub job_of : Request → Job
