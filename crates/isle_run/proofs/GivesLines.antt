@@ -70,18 +70,20 @@ are_lines options files env p term ws f r answers kept conforms may runs =
     let h = both_found files env term (with_rules env) p.fns f conforms.functions.declared may.found in
     let types = types_fit files env p.types term ws f h may.typed in
     record {
-      id = h.id;
-      requested = h.requested;
-      declared = h.declared.term;
-      found = h.declared.found;
-      typed = types;
-      means = means options files env p term (args_given env term ws) answers f r h.id h.declared.term kept conforms may runs h.among (declared_name files env h.id f h.declared ∙ sym h.named) h.declared.found h.declared.of_term.kind types;
       program = p;
-      conforms = conforms;
-      fits = record { function = f; may = may };
       ran = r;
-      runs = runs;
+      is_run = record {
+        id = h.id;
+        requested = h.requested;
+        declared = h.declared.term;
+        found = h.declared.found;
+        typed = types;
+        conforms = conforms;
+        fits = record { function = f; may = may };
+        runs = runs;
+      };
       shown = refl;
+      means = means options files env p term (args_given env term ws) answers f r h.id h.declared.term kept conforms may runs h.among (declared_name files env h.id f h.declared ∙ sym h.named) h.declared.found h.declared.of_term.kind types;
     }
 
 -- what a run under the answers of a text gives is a trial

@@ -1,4 +1,5 @@
 pub mod Conforming
+pub mod RunOf
 pub mod Trial
 pub mod Attempt
 pub mod LeftOut

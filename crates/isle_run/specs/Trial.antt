@@ -1,5 +1,5 @@
 -- The lines that a run of a compiled term gives.
-use Rattle.std.specs.Prelude.{◌≡◌, ℕ, List, [], Option, Some, IsSomeAnd, option_map, slice_get}
+use Rattle.std.specs.Prelude.{◌≡◌, ℕ, List, [], Option, IsSomeAnd, option_map}
 use Rattle.isle_core.specs.Terms.{impure_calls}
 use Rattle.isle_core.specs.declared.TermId.{TermId}
 use Rattle.isle_core.specs.declared.options.CodegenOptions.{CodegenOptions}
@@ -11,7 +11,6 @@ use Rattle.isle_core.specs.Value.{Value, Ran}
 use Rattle.isle_core.specs.Meaning.{Meaning}
 use Rattle.isle_core.specs.Cut.{cut_run}
 use Rattle.isle_core.specs.Having.{HasAnswers}
-use Rattle.isle_core.specs.HasType.{HaveTypes}
 use Rattle.isle_core.specs.Lawful.{IsLawful}
 use Rattle.isle_core.specs.Outcome.{Prescription, Prescribed, kind_of}
 use Rattle.isle_core.specs.Pairs.{PrescribesSeveral}
@@ -21,17 +20,16 @@ use Rattle.isle_values.specs.Written.{Writtens}
 use Rattle.isle_answers.specs.Form.{Form}
 use Rattle.isle_answers.specs.Spelling.{SpellsForms}
 use Rattle.isle_run_inputs.specs.ValuesAt.{values_at}
-use Rattle.isle_run_inputs.specs.Requested.{requested_term, requested_types}
+use Rattle.isle_run_inputs.specs.Requested.{requested_types}
 use Rattle.isle_run_inputs.specs.AnswersAt.{answers_at}
 use Rattle.isle_tree.specs.Program.{Program}
-use Rattle.isle_tree.specs.Run.{run, room}
+use Rattle.isle_tree.specs.Run.{room}
 use Rattle.isle_tree.specs.WellFormed.{GivesSeveral}
-use Rattle.isle_interpreter.specs.Judged.{Runs}
 use Rattle.isle_outcomes.specs.Lines.{run_lines}
 use Rattle.isle_simulation.specs.Ends.{end_of}
 use Rattle.isle_simulation.specs.Emitted.{ran_with}
 use Rattle.isle_codegen.specs.Checked.{IsChecked}
-use Rattle.isle_run.specs.Conforming.{Conforms}
+use Rattle.isle_run.specs.RunOf.{IsRunOf}
 
 -- the arguments: the values as they are written, at the types of the term that has rules and this name
 abbrev pub args_given : Environment → List ℕ → Writtens → List Value
@@ -65,22 +63,15 @@ ArePrescribed return_kind.Plain env id t args m lines = AreOutcome env id t args
 ArePrescribed return_kind.Option env id t args m lines = AreOutcome env id t args m lines
 ArePrescribed return_kind.Iterator env id t args m lines = AreFirst env id args m lines
 
--- the lines of a run of the term at these arguments, under answers: under every lawful meaning that has the answers, and the same room for several
--- results, they are what the rules prescribe; and in any case the term, the arguments and the answers fit the function of a program that conforms to
--- the source, and the lines are those of its run
+-- the lines of a run of the term at these arguments, under answers: those of the run of a program; and under every lawful meaning that has
+-- the answers, and the same room for several results, what the rules prescribe
 pub record AreLines (options : CodegenOptions) (files : Files) (env : Environment) (term : List ℕ) (args : List Value) (answers : Meaning) (lines : List ℕ) : Type 0 where
-  pub id : TermId
-  pub requested : requested_term env term ≡ Some id
-  pub declared : Term
-  pub found : slice_get env.terms id.0 ≡ Some declared
-  pub typed : HaveTypes env args declared.arg_tys
-  pub means : (m : Meaning) → IsLawful env id m → HasAnswers m answers → (GivesSeveral (kind_of declared.kind) → room m ≡ room answers) → ArePrescribed (kind_of declared.kind) env id declared args m lines
   pub program : Program
-  pub conforms : Conforms options files env program
-  pub fits : Runs program term args answers
   pub ran : Ran
-  pub runs : run program term args answers ≡ Some ran
+  pub is_run : IsRunOf options files env term args answers program ran
   pub shown : lines ≡ run_lines (shown_run env ran)
+  pub means : (m : Meaning) → IsLawful env is_run.id m → HasAnswers m answers → (GivesSeveral (kind_of is_run.declared.kind) → room m ≡ room answers)
+      → ArePrescribed (kind_of is_run.declared.kind) env is_run.id is_run.declared args m lines
 
 -- the lines are those of a run of the source's term at the values, under the answers of the forms that a text spells
 pub record IsTrial (options : CodegenOptions) (files : Files) (term : List ℕ) (ws : Writtens) (text : List ℕ) (lines : List ℕ) : Type 0 where

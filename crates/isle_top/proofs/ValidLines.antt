@@ -34,6 +34,7 @@ use Rattle.isle_top.specs.Jobs.{job_of, running_job}
 use Rattle.isle_top.specs.CompileLine.{AreValid, FailsToCompile, compile_job}
 use Rattle.isle_top.specs.RunLine.{answers_names, run_inputs, AreInputs, IsAnswersText, IsValidRun, FailsToRun, of_trial, unread, no_lines, memory, run_job}
 use Rattle.isle_top.specs.Statuses.{IsOfJob}
+use Rattle.isle_top.specs.Texts.{not_built}
 use Rattle.isle_top.specs.Wants.{IsWant}
 
 -- ---- inputs
@@ -152,8 +153,8 @@ only_want (Isa target) e files before after v h calm = absurd v
 only_want (Run r) e files before after v h calm = by r.trace r.source files v h
   where
     by : (trace : Bool) (from : Source) (files : Option Contents) → (running_job trace from r).valid files → (running_job trace from r).fails e (record { files = files; before = before; after = after }) → IsWant e
-    by true from files v h = absurd v
-    by false (source.Unit name) files v h = absurd v
+    by trace (source.Unit name) files v h = absurd v
+    by true (source.File name) files v h = absurd v
     by false (source.File name) None v h = absurd v
     by false (source.File name) (Some fs) v h = only_want_run name r fs before after e v h calm
 
@@ -211,6 +212,6 @@ of_job (Isa target) e around h = told_not_built (job_of (Isa target)) e h
 of_job (Run r) e around h = by r.trace r.source h
   where
     by : (trace : Bool) (from : Source) → (running_job trace from r).fails e around → IsOfJob (running_job trace from r) e
-    by true from k = told_not_built (running_job true from r) e k
-    by false (source.Unit name) k = told_not_built (running_job false (source.Unit name) r) e k
+    by trace (source.Unit name) k = told_not_built not_built e k
+    by true (source.File name) k = told_not_built not_built e k
     by false (source.File name) k = told_run name r around e k

@@ -2,6 +2,8 @@
 use Rattle.std.specs.Prelude.{◌≡◌, ℕ, List, Bool, true, false}
 use Rattle.isle_command_line.specs.Request.{Request, Running, Help, Version, Compile, Build, Prelude, Units, Isa, Run}
 use Rattle.isle_command_line.specs.Lines.{LineS}
+use Rattle.isle_command_line.specs.Views.{seen_run}
+use Rattle.isle_command_line.specs.declared.commands.RunLine.{RunLine}
 use Rattle.isle_command_line.specs.declared.commands.Source.{Source}
 use Rattle.isle_command_line.specs.declared.commands.Source.TheVariants as source
 use Rattle.isle_top.specs.About.{help_text, version_text}
@@ -10,11 +12,23 @@ use Rattle.isle_top.specs.Texts.{text_job, not_built}
 use Rattle.isle_top.specs.CompileLine.{compile_job}
 use Rattle.isle_top.specs.RunLine.{run_job}
 
+-- what a source is to a line that has a job for its file: that job, or not built
+abbrev pub of_source : Source → (List ℕ → Job) → Job
+of_source (source.File name) job = job name
+of_source (source.Unit name) job = not_built
+
+-- a run of the term of a file, by whether it is traced
+abbrev pub of_file : (trace : Bool) → Running → List ℕ → Job
+of_file false r name = run_job name r
+of_file true r name = not_built
+
 -- a run, by whether it is traced and by its source
 abbrev pub running_job : (trace : Bool) → Source → Running → Job
-running_job true from r = not_built
-running_job false (source.File name) r = run_job name r
-running_job false (source.Unit name) r = not_built
+running_job trace from r = of_source from (of_file trace r)
+
+-- the line of a run as contracts see it
+abbrev pub job_of_run : RunLine → Job
+job_of_run r = running_job r.trace r.source (seen_run r)
 
 -- the line that asks for this
 abbrev pub job_of : Request → Job

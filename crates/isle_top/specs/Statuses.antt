@@ -1,6 +1,7 @@
 -- The statuses that a run ends with, and what each says.
 use Rattle.std.specs.Prelude.{◌≡◌, ◌⊎◌, ℕ, ◌<◌, List, [], length, Some, IsSomeAnd, slice_get}
 use Rattle.isle_core.specs.ErrorLines.{shown_lines}
+use Rattle.isle_core.specs.declared.errors.Errors.{Errors}
 use Rattle.isle_codegen.specs.Errors.{HavePlaces}
 use Rattle.isle_codegen.specs.declared.file_error.FileError.TheVariants as file
 use Rattle.isle_command_line.specs.Request.{Request}
@@ -28,6 +29,10 @@ IsOfJob job (refusal.Run e) = Unit {0}
 abbrev pub Tells : (wrote : List ℕ → Type 0) → (status : ℕ) → ℕ → List ℕ → Type 0
 Tells wrote status n line = (status ≡ n) × wrote line
 
+-- what is told of errors: the status of the first, and the lines of all
+abbrev pub TellsErrors : (wrote : List ℕ → Type 0) → (status : ℕ) → Errors → Type 0
+TellsErrors wrote status e = (errors_status e.errors ≡ Some status) × wrote (shown_lines e.files e.errors)
+
 -- what is told of a term that is not run
 abbrev pub TellsRun : Job → (wrote : List ℕ → Type 0) → (status : ℕ) → RunFail → Type 0
 TellsRun job wrote status run.NoTerm = Tells wrote status 13 (no_term_line job.asked)
@@ -40,7 +45,7 @@ TellsRun job wrote status run.Memory = Tells wrote status 12 memory_line
 abbrev pub TellsRefusal : Job → (wrote : List ℕ → Type 0) → (status : ℕ) → Refusal → Type 0
 TellsRefusal job wrote status refusal.NotYet = Tells wrote status 14 not_yet_line
 TellsRefusal job wrote status (refusal.Files (file.Io index why)) = IsSomeAnd (slice_get job.inputs index) (λ name. Tells wrote status 5 (unread_line name why))
-TellsRefusal job wrote status (refusal.Files (file.Errors e)) = (errors_status e.errors ≡ Some status) × wrote (shown_lines e.files e.errors)
+TellsRefusal job wrote status (refusal.Files (file.Errors e)) = TellsErrors wrote status e
 TellsRefusal job wrote status (refusal.Files (file.Name e)) = Tells wrote status 10 (bad_name_line e.name e.usage)
 TellsRefusal job wrote status (refusal.Files file.Memory) = Tells wrote status 12 memory_line
 TellsRefusal job wrote status (refusal.Run e) = TellsRun job wrote status e

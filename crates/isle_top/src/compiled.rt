@@ -27,9 +27,11 @@ pub fn compiled<D: Dir>(
     options: &CodegenOptions,
     dir: &mut D,
 ) -> Result<String, FileError>
-    ensures ok { IfOk result (λ text. IsCompiled options.now names.now (D.files dir.old) (string_bytes text)) }
+    ensures ok { IfOk result (λ text.
+        IsCompiled options.now names.now (D.files dir.old) (string_bytes text)) }
     ensures tried { IfOk result (λ text. AllTried names.now (D.counts dir.old) (D.counts dir.new)) }
-    ensures err { IfErr result (λ e. HasCause e options.now (D.files dir.old) names.now (D.counts dir.old) (D.counts dir.new)) }
+    ensures err { IfErr result (λ e.
+        HasCause e options.now (D.files dir.old) names.now (D.counts dir.old) (D.counts dir.new)) }
     ensures files { D.files dir.new ≡ D.files dir.old }
     ensures later { (D.counts dir.old).faults ≤ (D.counts dir.new).faults }
     ensures stays { (D.counts dir.old).faults ≡ 2 ^ 64 - 1 → (D.counts dir.new).faults ≡ 2 ^ 64 - 1 }

@@ -23,7 +23,8 @@ pub struct Inputs {
 // The text of the input of this number and name.
 fn text_at<D: Dir>(alloc: Global, index: usize, name: &str, dir: &mut D) -> Result<Text, ReadError>
     ensures ok { IfOk result (λ text. IfSome (D.files dir.old) (λ fs. IsText text (bytes_of fs name.now))) }
-    ensures err { IfErr result (λ e. FailsTo e index (D.files dir.old) name.now (D.counts dir.old) (D.counts dir.new)) }
+    ensures err { IfErr result (λ e.
+        FailsTo e index (D.files dir.old) name.now (D.counts dir.old) (D.counts dir.new)) }
     ensures files { D.files dir.new ≡ D.files dir.old }
     ensures later { (D.counts dir.old).faults ≤ (D.counts dir.new).faults }
     ensures stays { (D.counts dir.old).faults ≡ 2 ^ 64 - 1 → (D.counts dir.new).faults ≡ 2 ^ 64 - 1 }
@@ -50,7 +51,8 @@ fn answers_text<D: Dir>(
     ensures files { D.files dir.new ≡ D.files dir.old }
     ensures later { (D.counts dir.old).faults ≤ (D.counts dir.new).faults }
     ensures stays { (D.counts dir.old).faults ≡ 2 ^ 64 - 1 → (D.counts dir.new).faults ≡ 2 ^ 64 - 1 }
-    ensures looks { IfOk result (λ text. LooksUp (option_copied answers.entry) (D.counts dir.old) (D.counts dir.new)) }
+    ensures looks { IfOk result (λ text.
+        LooksUp (option_copied answers.entry) (D.counts dir.old) (D.counts dir.new)) }
     ensures steady { IfOk result (λ text. (D.counts dir.new).faults ≡ (D.counts dir.old).faults) }
     ensures given { let names = answers_names (option_copied answers.entry) in
         (D.counts dir.new).given ≤ (D.counts dir.old).given + (2 ^ 24 + 1) * length names }
@@ -70,7 +72,8 @@ fn source_at<D: Dir>(
 ) -> Result<Files, ReadError>
     ensures read { IfOk result (λ files. AreSource options.now (name.now ∷ []) (D.files dir.old) files) }
     ensures count { IfOk result (λ files. length files.file_texts ≡ length files.file_names) }
-    ensures err { IfErr result (λ e. Fails e (D.files dir.old) (name.now ∷ []) (D.counts dir.old) (D.counts dir.new)) }
+    ensures err { IfErr result (λ e.
+        Fails e (D.files dir.old) (name.now ∷ []) (D.counts dir.old) (D.counts dir.new)) }
     ensures files { D.files dir.new ≡ D.files dir.old }
     ensures later { (D.counts dir.old).faults ≤ (D.counts dir.new).faults }
     ensures stays { (D.counts dir.old).faults ≡ 2 ^ 64 - 1 → (D.counts dir.new).faults ≡ 2 ^ 64 - 1 }
@@ -95,7 +98,9 @@ pub fn read_inputs<D: Dir>(
     answers: Option<&str>,
     dir: &mut D,
 ) -> Result<Inputs, ReadError>
-    ensures ok { IfOk result (λ read. AreInputs options.now source.now (option_copied answers.entry) (D.files dir.old) read.files read.answers) }
+    ensures ok { let file = option_copied answers.entry in
+        IfOk result (λ read.
+        AreInputs options.now source.now file (D.files dir.old) read.files read.answers) }
     ensures count { IfOk result (λ read. length read.files.file_texts ≡ length read.files.file_names) }
     ensures tried { let names = source.now ∷ answers_names (option_copied answers.entry) in
         IfOk result (λ read. AllTried names (D.counts dir.old) (D.counts dir.new)) }

@@ -1,8 +1,8 @@
 //! The inputs of a line, and the name that it asks for.
 
 ghost use Rattle.std.specs.Prelude.{◌≡◌, ◌∷◌, ℕ, List, Some, slice_get};
-ghost use Rattle.isle_command_line.specs.Views.{seen_command, seen_run};
-ghost use Rattle.isle_top.specs.Jobs.{job_of, running_job};
+ghost use Rattle.isle_command_line.specs.Views.{seen_command};
+ghost use Rattle.isle_top.specs.Jobs.{job_of, job_of_run};
 ghost use Rattle.isle_top.specs.RunLine.{answers_names};
 
 use isle_command_line::{Command, RunLine, Source};
@@ -10,7 +10,8 @@ use isle_core::Text;
 
 // The name of this number, of that of a source and that of a file of answers behind it.
 fn run_input<'c>(source: &'c Text, answers: &'c Option<Text>, index: usize) -> &'c str
-    ensures { (name : List ℕ) → slice_get (source.now ∷ answers_names answers.now) index ≡ Some name → result.now ≡ name }
+    ensures { (name : List ℕ) → slice_get (source.now ∷ answers_names answers.now) index ≡ Some name
+        → result.now ≡ name }
 {
     match answers {
         Some(name) if index == 1 => name.as_str(),
@@ -20,8 +21,7 @@ fn run_input<'c>(source: &'c Text, answers: &'c Option<Text>, index: usize) -> &
 
 // The name of this number among a run's inputs.
 fn running_input(run: &RunLine, index: usize) -> &str
-    ensures { let job = running_job run.now.trace run.now.source (seen_run run.now) in
-        (name : List ℕ) → slice_get job.inputs index ≡ Some name → result.now ≡ name }
+    ensures { (name : List ℕ) → slice_get (job_of_run run.now).inputs index ≡ Some name → result.now ≡ name }
 {
     match (run.trace, &run.source) {
         (false, Source::File(name)) => run_input(name, &run.answers, index),
@@ -31,7 +31,7 @@ fn running_input(run: &RunLine, index: usize) -> &str
 
 // The term that a run asks for.
 fn running_term(run: &RunLine) -> &str
-    ensures { result.now ≡ (running_job run.now.trace run.now.source (seen_run run.now)).asked }
+    ensures { result.now ≡ (job_of_run run.now).asked }
 {
     match (run.trace, &run.source) {
         (false, Source::File(_)) => run.term.as_str(),
@@ -41,7 +41,8 @@ fn running_term(run: &RunLine) -> &str
 
 /// Returns the name of the line's input of this number, or any where there is none (`specs/Jobs.antt`).
 pub fn input_name(request: &Command, index: usize) -> &str
-    ensures { (name : List ℕ) → slice_get (job_of (seen_command request.now)).inputs index ≡ Some name → result.now ≡ name }
+    ensures { (name : List ℕ) → slice_get (job_of (seen_command request.now)).inputs index ≡ Some name
+        → result.now ≡ name }
 {
     match request {
         Command::Compile { names, .. } => match names.as_slice().get(index) {

@@ -69,7 +69,8 @@ fn write_masked<S: Sink>(sink: &mut S, name: &str) -> Result<(), Failed>
 // Writes a name, each byte below 32 as `?`, and what stands behind it. It takes no memory.
 fn write_name<S: Sink>(sink: &mut S, name: &str, end: &str) -> Result<(), Failed>
     ensures ok { OnOk result (Took (S.taken sink.old) (S.taken sink.new) (map masked name.now ++ end.now)) }
-    ensures part { OnErr result (TookPart (S.taken sink.old) (S.taken sink.new) (map masked name.now ++ end.now)) }
+    ensures part { OnErr result
+        (TookPart (S.taken sink.old) (S.taken sink.new) (map masked name.now ++ end.now)) }
     ensures failed { OnErr result (Rose (S.faults sink.old) (S.faults sink.new)) }
     ensures later { S.faults sink.old ≤ S.faults sink.new }
 {
@@ -82,7 +83,8 @@ fn write_name<S: Sink>(sink: &mut S, name: &str, end: &str) -> Result<(), Failed
 /// Writes the line of a file that was not read. It takes no memory.
 pub fn write_unread<S: Sink>(sink: &mut S, name: &str, cause: IoCause) -> Result<(), Failed>
     ensures ok { OnOk result (Took (S.taken sink.old) (S.taken sink.new) (unread_line name.now cause)) }
-    ensures part { OnErr result (TookPart (S.taken sink.old) (S.taken sink.new) (unread_line name.now cause)) }
+    ensures part { OnErr result
+        (TookPart (S.taken sink.old) (S.taken sink.new) (unread_line name.now cause)) }
     ensures failed { OnErr result (Rose (S.faults sink.old) (S.faults sink.new)) }
     ensures later { S.faults sink.old ≤ S.faults sink.new }
 {
@@ -92,7 +94,8 @@ pub fn write_unread<S: Sink>(sink: &mut S, name: &str, cause: IoCause) -> Result
 /// Writes the line of a name that may not be emitted, and of what it stands for. It takes no memory.
 pub fn write_bad_name<S: Sink>(sink: &mut S, name: &str, usage: NameUse) -> Result<(), Failed>
     ensures ok { OnOk result (Took (S.taken sink.old) (S.taken sink.new) (bad_name_line name.now usage)) }
-    ensures part { OnErr result (TookPart (S.taken sink.old) (S.taken sink.new) (bad_name_line name.now usage)) }
+    ensures part { OnErr result
+        (TookPart (S.taken sink.old) (S.taken sink.new) (bad_name_line name.now usage)) }
     ensures failed { OnErr result (Rose (S.faults sink.old) (S.faults sink.new)) }
     ensures later { S.faults sink.old ≤ S.faults sink.new }
 {
@@ -151,8 +154,10 @@ pub fn write_bad_answers<S: Sink>(sink: &mut S, place: usize) -> Result<(), Fail
 
 // Writes a fixed text, a name with each byte below 32 as `?`, and what stands behind it. It takes no memory.
 fn write_named<S: Sink>(sink: &mut S, head: &str, name: &str, end: &str) -> Result<(), Failed>
-    ensures ok { OnOk result (Took (S.taken sink.old) (S.taken sink.new) (head.now ++ (map masked name.now ++ end.now))) }
-    ensures part { OnErr result (TookPart (S.taken sink.old) (S.taken sink.new) (head.now ++ (map masked name.now ++ end.now))) }
+    ensures ok { OnOk result
+        (Took (S.taken sink.old) (S.taken sink.new) (head.now ++ (map masked name.now ++ end.now))) }
+    ensures part { OnErr result
+        (TookPart (S.taken sink.old) (S.taken sink.new) (head.now ++ (map masked name.now ++ end.now))) }
     ensures failed { OnErr result (Rose (S.faults sink.old) (S.faults sink.new)) }
     ensures later { S.faults sink.old ≤ S.faults sink.new }
 {
@@ -164,8 +169,10 @@ fn write_named<S: Sink>(sink: &mut S, head: &str, name: &str, end: &str) -> Resu
 
 // Writes a number between two fixed texts. It takes no memory.
 fn write_numbered<S: Sink>(sink: &mut S, head: &str, number: usize, end: &str) -> Result<(), Failed>
-    ensures ok { OnOk result (Took (S.taken sink.old) (S.taken sink.new) (head.now ++ (numeral 10 number ++ end.now))) }
-    ensures part { OnErr result (TookPart (S.taken sink.old) (S.taken sink.new) (head.now ++ (numeral 10 number ++ end.now))) }
+    ensures ok { OnOk result
+        (Took (S.taken sink.old) (S.taken sink.new) (head.now ++ (numeral 10 number ++ end.now))) }
+    ensures part { OnErr result
+        (TookPart (S.taken sink.old) (S.taken sink.new) (head.now ++ (numeral 10 number ++ end.now))) }
     ensures failed { OnErr result (Rose (S.faults sink.old) (S.faults sink.new)) }
     ensures later { S.faults sink.old ≤ S.faults sink.new }
 {
@@ -178,7 +185,8 @@ fn write_numbered<S: Sink>(sink: &mut S, head: &str, number: usize, end: &str) -
 // Writes a number, and what stands behind it. It takes no memory.
 fn write_count<S: Sink>(sink: &mut S, number: usize, end: &str) -> Result<(), Failed>
     ensures ok { OnOk result (Took (S.taken sink.old) (S.taken sink.new) (numeral 10 number ++ end.now)) }
-    ensures part { OnErr result (TookPart (S.taken sink.old) (S.taken sink.new) (numeral 10 number ++ end.now)) }
+    ensures part { OnErr result
+        (TookPart (S.taken sink.old) (S.taken sink.new) (numeral 10 number ++ end.now)) }
     ensures failed { OnErr result (Rose (S.faults sink.old) (S.faults sink.new)) }
     ensures later { S.faults sink.old ≤ S.faults sink.new }
 {

@@ -6,7 +6,7 @@ ghost use Rattle.std.specs.String.{string_bytes};
 ghost use Rattle.isle_codegen.specs.Causes.{AllTried};
 ghost use Rattle.isle_command_line.specs.Views.{seen_run};
 ghost use Rattle.isle_top.specs.RunLine.{run_inputs, of_trial, GivesLines, FailsToRun};
-ghost use Rattle.isle_top.specs.Job.{Around};
+ghost use Rattle.isle_top.specs.Job.{surroundings};
 
 use crate::inputs::read_inputs;
 use crate::refusal::Refusal;
@@ -43,10 +43,11 @@ pub fn ran<D: Dir>(
     run: &RunLine,
     dir: &mut D,
 ) -> Result<String, Refusal>
-    ensures ok { IfOk result (λ lines. GivesLines source.now (seen_run run.now) (D.files dir.old) (string_bytes lines)) }
+    ensures ok { IfOk result (λ lines.
+        GivesLines source.now (seen_run run.now) (D.files dir.old) (string_bytes lines)) }
     ensures tried { let names = run_inputs source.now (seen_run run.now) in
         IfOk result (λ lines. AllTried names (D.counts dir.old) (D.counts dir.new)) }
-    ensures err { let around : Around = record { files = D.files dir.old; before = D.counts dir.old; after = D.counts dir.new } in
+    ensures err { let around = surroundings (D.files dir.old) (D.counts dir.old) (D.counts dir.new) in
         IfErr result (FailsToRun source.now (seen_run run.now) around) }
     ensures files { D.files dir.new ≡ D.files dir.old }
     ensures later { (D.counts dir.old).faults ≤ (D.counts dir.new).faults }

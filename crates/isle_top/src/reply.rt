@@ -3,9 +3,9 @@
 ghost use Rattle.std.specs.Prelude.{◌≡◌, ◌≤◌, false, Err, IfOk, IfErr, ◌+◌, ◌*◌, ◌^◌, length, ◌-◌};
 ghost use Rattle.std.specs.String.{string_bytes};
 ghost use Rattle.isle_outside.specs.Directory.{Rose};
-ghost use Rattle.isle_command_line.specs.Views.{seen_command, seen_run};
-ghost use Rattle.isle_top.specs.Job.{Around, IsReply};
-ghost use Rattle.isle_top.specs.Jobs.{job_of, running_job};
+ghost use Rattle.isle_command_line.specs.Views.{seen_command};
+ghost use Rattle.isle_top.specs.Job.{surroundings, IsReply};
+ghost use Rattle.isle_top.specs.Jobs.{job_of, job_of_run};
 ghost use Rattle.isle_top.specs.Wants.{IsWant};
 
 use crate::about::{help, version};
@@ -19,9 +19,9 @@ use std::alloc::Global;
 /// Returns the reply to a line (`specs/Jobs.antt`). Where the line is valid and no call of the directory fails, the
 /// only refusal is want of memory.
 pub fn reply<D: Dir>(alloc: Global, command: &Command, dir: &mut D) -> Result<String, Refusal>
-    ensures ok { let around : Around = record { files = D.files dir.old; before = D.counts dir.old; after = D.counts dir.new } in
+    ensures ok { let around = surroundings (D.files dir.old) (D.counts dir.old) (D.counts dir.new) in
         IfOk result (λ text. IsReply (job_of (seen_command command.now)) around (string_bytes text)) }
-    ensures err { let around : Around = record { files = D.files dir.old; before = D.counts dir.old; after = D.counts dir.new } in
+    ensures err { let around = surroundings (D.files dir.old) (D.counts dir.old) (D.counts dir.new) in
         IfErr result (λ e. (job_of (seen_command command.now)).fails e around) }
     ensures not_built { (job_of (seen_command command.now)).built ≡ false → result ≡ Err Refusal.NotYet }
     ensures untried { (job_of (seen_command command.now)).reads ≡ false → dir.new ≡ dir.old }
@@ -54,16 +54,16 @@ pub fn reply<D: Dir>(alloc: Global, command: &Command, dir: &mut D) -> Result<St
 
 // The reply to a run.
 fn run_reply<D: Dir>(alloc: Global, run: &RunLine, dir: &mut D) -> Result<String, Refusal>
-    ensures ok { let around : Around = record { files = D.files dir.old; before = D.counts dir.old; after = D.counts dir.new } in
-        IfOk result (λ text. IsReply (running_job run.now.trace run.now.source (seen_run run.now)) around (string_bytes text)) }
-    ensures err { let around : Around = record { files = D.files dir.old; before = D.counts dir.old; after = D.counts dir.new } in
-        IfErr result (λ e. (running_job run.now.trace run.now.source (seen_run run.now)).fails e around) }
-    ensures not_built { (running_job run.now.trace run.now.source (seen_run run.now)).built ≡ false → result ≡ Err Refusal.NotYet }
-    ensures untried { (running_job run.now.trace run.now.source (seen_run run.now)).reads ≡ false → dir.new ≡ dir.old }
+    ensures ok { let around = surroundings (D.files dir.old) (D.counts dir.old) (D.counts dir.new) in
+        IfOk result (λ text. IsReply (job_of_run run.now) around (string_bytes text)) }
+    ensures err { let around = surroundings (D.files dir.old) (D.counts dir.old) (D.counts dir.new) in
+        IfErr result (λ e. (job_of_run run.now).fails e around) }
+    ensures not_built { (job_of_run run.now).built ≡ false → result ≡ Err Refusal.NotYet }
+    ensures untried { (job_of_run run.now).reads ≡ false → dir.new ≡ dir.old }
     ensures files { D.files dir.new ≡ D.files dir.old }
     ensures later { (D.counts dir.old).faults ≤ (D.counts dir.new).faults }
     ensures stays { (D.counts dir.old).faults ≡ 2 ^ 64 - 1 → (D.counts dir.new).faults ≡ 2 ^ 64 - 1 }
-    ensures given { let names = (running_job run.now.trace run.now.source (seen_run run.now)).inputs in
+    ensures given { let names = (job_of_run run.now).inputs in
         (D.counts dir.new).given ≤ (D.counts dir.old).given + (2 ^ 24 + 1) * length names }
 {
     match (run.trace, &run.source) {

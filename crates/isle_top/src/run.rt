@@ -1,12 +1,11 @@
 ghost use Rattle.std.specs.Prelude.{◌≡◌, ◌≢◌, ◌⊎◌, [], ◌∷◌, ℕ, List, Some, false, slice_get, ◌≤◌, ◌+◌, ◌*◌};
 ghost use Rattle.std.specs.Prelude.{◌^◌, length};
 ghost use Rattle.isle_outside.specs.Directory.{Rose};
-ghost use Rattle.isle_outside.specs.Sinks.{Took, TookPart};
 ghost use Rattle.isle_core.specs.Inputs.{bytes_each};
 ghost use Rattle.isle_command_line.specs.Request.{Request, Compile};
 ghost use Rattle.isle_command_line.specs.Lines.{LineS};
 ghost use Rattle.isle_command_line.specs.Views.{seen_command};
-ghost use Rattle.isle_top.specs.Job.{Around, IsReply};
+ghost use Rattle.isle_top.specs.Job.{surroundings, TookReply, TookPartOfReply};
 ghost use Rattle.isle_top.specs.Jobs.{Asks, job_of};
 ghost use Rattle.isle_top.specs.Lines.{Wrote};
 ghost use Rattle.isle_top.specs.Statuses.{IsNoLine, Says};
@@ -28,41 +27,49 @@ pub fn run_words<D: Dir, O: Sink, E: Sink>(
     err: &mut E,
 ) -> Exit
     // At status 0 `out` took the reply, and nothing else, and its count stands; each input was asked for once.
-    ensures done { result.0 ≡ 0 → (request : Request) × Asks (bytes_each words.now) request × (O.faults out.new ≡ O.faults out.old)
-        × ((text : List ℕ) × IsReply (job_of request) (record { files = D.files dir.old; before = D.counts dir.old; after = D.counts dir.new }) text
-        × Took (O.taken out.old) (O.taken out.new) text) }
+    ensures done { let around = surroundings (D.files dir.old) (D.counts dir.old) (D.counts dir.new) in
+        result.0 ≡ 0 → (request : Request) × Asks (bytes_each words.now) request
+        × (O.faults out.new ≡ O.faults out.old)
+        × TookReply (job_of request) around (O.taken out.old) (O.taken out.new) }
 
     // At status 11 its count rose, and it took a part of the reply.
-    ensures part { result.0 ≡ 11 → (request : Request) × Asks (bytes_each words.now) request × Rose (O.faults out.old) (O.faults out.new)
-        × ((text : List ℕ) × IsReply (job_of request) (record { files = D.files dir.old; before = D.counts dir.old; after = D.counts dir.new }) text
-        × TookPart (O.taken out.old) (O.taken out.new) text) }
+    ensures part { let around = surroundings (D.files dir.old) (D.counts dir.old) (D.counts dir.new) in
+        result.0 ≡ 11 → (request : Request) × Asks (bytes_each words.now) request
+        × Rose (O.faults out.old) (O.faults out.new)
+        × TookPartOfReply (job_of request) around (O.taken out.old) (O.taken out.new) }
 
     // At every other status it was not touched.
     ensures untouched { result.0 ≢ 0 → result.0 ≢ 11 → out.new ≡ out.old }
 
     // Each other status has its cause, and its line on `err`; at status 0 nothing stands there.
-    ensures says { let wrote = Wrote (E.taken err.old) (E.taken err.new) (E.faults err.old) (E.faults err.new) in
-        Says (Asks (bytes_each words.now)) (IsNoLine (bytes_each words.now) wrote)
-        (record { files = D.files dir.old; before = D.counts dir.old; after = D.counts dir.new }) (err.new ≡ err.old) wrote result.0 }
+    ensures says { let around = surroundings (D.files dir.old) (D.counts dir.old) (D.counts dir.new) in
+        let wrote = Wrote (E.taken err.old) (E.taken err.new) (E.faults err.old) (E.faults err.new) in
+        Says (Asks (bytes_each words.now)) (IsNoLine (bytes_each words.now) wrote) around (err.new ≡ err.old)
+        wrote result.0 }
 
     // Words that are no line end in 2, a line that is not built in 14; or with 12, want of memory.
-    ensures no_line { ((request : Request) → LineS (bytes_each words.now) request → ⊥) → (result.0 ≡ 2) ⊎ (result.0 ≡ 12) }
-    ensures not_built { (request : Request) → LineS (bytes_each words.now) request → (job_of request).built ≡ false
-        → (result.0 ≡ 14) ⊎ (result.0 ≡ 12) }
+    ensures no_line { ((request : Request) → LineS (bytes_each words.now) request → ⊥)
+        → (result.0 ≡ 2) ⊎ (result.0 ≡ 12) }
+    ensures not_built { (request : Request) → LineS (bytes_each words.now) request
+        → (job_of request).built ≡ false → (result.0 ≡ 14) ⊎ (result.0 ≡ 12) }
 
     // A valid line has its reply, where nothing fails and memory suffices.
-    ensures complete { (request : Request) → LineS (bytes_each words.now) request → (job_of request).valid (D.files dir.old)
-        → (Rose (D.counts dir.old).faults (D.counts dir.new).faults → ⊥) → (result.0 ≡ 0) ⊎ (result.0 ≡ 11) ⊎ (result.0 ≡ 12) }
+    ensures complete { (request : Request) → LineS (bytes_each words.now) request
+        → (job_of request).valid (D.files dir.old)
+        → (Rose (D.counts dir.old).faults (D.counts dir.new).faults → ⊥)
+        → (result.0 ≡ 0) ⊎ (result.0 ≡ 11) ⊎ (result.0 ≡ 12) }
     ensures files { D.files dir.new ≡ D.files dir.old }
 
     // No count falls, of each input at most 2^24 + 1 bytes are taken, and the directory is as it was where no line
     // reads files.
-    ensures untried { ((request : Request) → LineS (bytes_each words.now) request → (job_of request).reads ≡ false) → dir.new ≡ dir.old }
+    ensures untried { ((request : Request) → LineS (bytes_each words.now) request
+        → (job_of request).reads ≡ false) → dir.new ≡ dir.old }
     ensures later { (D.counts dir.old).faults ≤ (D.counts dir.new).faults }
     ensures out_later { O.faults out.old ≤ O.faults out.new }
     ensures err_later { E.faults err.old ≤ E.faults err.new }
     ensures given { (request : Request) → LineS (bytes_each words.now) request
-        → (D.counts dir.new).given ≤ (D.counts dir.old).given + (2 ^ 24 + 1) * length (job_of request).inputs }
+        → (D.counts dir.new).given
+        ≤ (D.counts dir.old).given + (2 ^ 24 + 1) * length (job_of request).inputs }
 {
     match command(alloc, words) {
         Ok(request) => run_command(alloc, &request, dir, out, err),
@@ -99,25 +106,27 @@ fn run_command<D: Dir, O: Sink, E: Sink>(
     out: &mut O,
     err: &mut E,
 ) -> Exit
-    ensures done { result.0 ≡ 0 → (O.faults out.new ≡ O.faults out.old)
-        × ((text : List ℕ) × IsReply (job_of (seen_command request.now)) (record { files = D.files dir.old; before = D.counts dir.old; after = D.counts dir.new }) text
-        × Took (O.taken out.old) (O.taken out.new) text) }
-    ensures part { result.0 ≡ 11 → Rose (O.faults out.old) (O.faults out.new)
-        × ((text : List ℕ) × IsReply (job_of (seen_command request.now)) (record { files = D.files dir.old; before = D.counts dir.old; after = D.counts dir.new }) text
-        × TookPart (O.taken out.old) (O.taken out.new) text) }
+    ensures done { let around = surroundings (D.files dir.old) (D.counts dir.old) (D.counts dir.new) in
+        result.0 ≡ 0 → (O.faults out.new ≡ O.faults out.old)
+        × TookReply (job_of (seen_command request.now)) around (O.taken out.old) (O.taken out.new) }
+    ensures part { let around = surroundings (D.files dir.old) (D.counts dir.old) (D.counts dir.new) in
+        result.0 ≡ 11 → Rose (O.faults out.old) (O.faults out.new)
+        × TookPartOfReply (job_of (seen_command request.now)) around (O.taken out.old) (O.taken out.new) }
     ensures untouched { result.0 ≢ 0 → result.0 ≢ 11 → out.new ≡ out.old }
-    ensures says { let wrote = Wrote (E.taken err.old) (E.taken err.new) (E.faults err.old) (E.faults err.new) in
-        Says (λ a. a ≡ seen_command request.now) ⊥
-        (record { files = D.files dir.old; before = D.counts dir.old; after = D.counts dir.new }) (err.new ≡ err.old) wrote result.0 }
+    ensures says { let around = surroundings (D.files dir.old) (D.counts dir.old) (D.counts dir.new) in
+        let wrote = Wrote (E.taken err.old) (E.taken err.new) (E.faults err.old) (E.faults err.new) in
+        Says (λ a. a ≡ seen_command request.now) ⊥ around (err.new ≡ err.old) wrote result.0 }
     ensures not_built { (job_of (seen_command request.now)).built ≡ false → result.0 ≡ 14 }
     ensures untried { (job_of (seen_command request.now)).reads ≡ false → dir.new ≡ dir.old }
     ensures complete { (job_of (seen_command request.now)).valid (D.files dir.old)
-        → (Rose (D.counts dir.old).faults (D.counts dir.new).faults → ⊥) → (result.0 ≡ 0) ⊎ (result.0 ≡ 11) ⊎ (result.0 ≡ 12) }
+        → (Rose (D.counts dir.old).faults (D.counts dir.new).faults → ⊥)
+        → (result.0 ≡ 0) ⊎ (result.0 ≡ 11) ⊎ (result.0 ≡ 12) }
     ensures files { D.files dir.new ≡ D.files dir.old }
     ensures later { (D.counts dir.old).faults ≤ (D.counts dir.new).faults }
     ensures out_later { O.faults out.old ≤ O.faults out.new }
     ensures err_later { E.faults err.old ≤ E.faults err.new }
-    ensures given { (D.counts dir.new).given ≤ (D.counts dir.old).given + (2 ^ 24 + 1) * length (job_of (seen_command request.now)).inputs }
+    ensures given { let names = (job_of (seen_command request.now)).inputs in
+        (D.counts dir.new).given ≤ (D.counts dir.old).given + (2 ^ 24 + 1) * length names }
 {
     match reply(alloc, request, dir) {
         Ok(text) => match write_all(out, text.as_bytes()) {

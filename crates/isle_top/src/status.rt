@@ -1,13 +1,12 @@
 //! The status that a run ends with, and the line that says why.
 
 ghost use Rattle.std.specs.Prelude.{◌≡◌, ◌⊎◌, ◌≤◌, [], Some};
-ghost use Rattle.isle_core.specs.ErrorLines.{shown_lines};
 ghost use Rattle.isle_codegen.specs.Errors.{HavePlaces};
 ghost use Rattle.isle_command_line.specs.Views.{seen_command};
 ghost use Rattle.isle_top.specs.Errors.{error_status, errors_status};
 ghost use Rattle.isle_top.specs.Jobs.{job_of};
 ghost use Rattle.isle_top.specs.Lines.{Wrote, memory_line};
-ghost use Rattle.isle_top.specs.Statuses.{IsOfJob, Tells, TellsRun, Ends};
+ghost use Rattle.isle_top.specs.Statuses.{IsOfJob, Tells, TellsErrors, TellsRun, Ends};
 
 use crate::job::{asked_name, input_name};
 use crate::lines::{
@@ -62,7 +61,9 @@ pub fn complain<E: Sink>(err: &mut E, line: &str)
 // Writes that memory ran out, as far as the sink takes it, and returns that status.
 fn tell_memory<E: Sink>(err: &mut E) -> Exit
     ensures later { E.faults err.old ≤ E.faults err.new }
-    ensures told { let wrote = Wrote (E.taken err.old) (E.taken err.new) (E.faults err.old) (E.faults err.new) in Tells wrote result.0 12 memory_line }
+    ensures told { let wrote = Wrote (E.taken err.old) (E.taken err.new)
+        (E.faults err.old) (E.faults err.new) in
+        Tells wrote result.0 12 memory_line }
 {
     complain(err, OUT_OF_MEMORY);
     Exit(12)
@@ -74,8 +75,9 @@ fn tell_errors<E: Sink>(alloc: Global, err: &mut E, errors: &Errors) -> Exit
     requires placed { HavePlaces errors.now }
     requires some { errors.now.errors ≡ [] → ⊥ }
     ensures later { E.faults err.old ≤ E.faults err.new }
-    ensures told { let wrote = Wrote (E.taken err.old) (E.taken err.new) (E.faults err.old) (E.faults err.new) in
-        ((errors_status errors.now.errors ≡ Some result.0) × wrote (shown_lines errors.now.files errors.now.errors)) ⊎ Tells wrote result.0 12 memory_line }
+    ensures told { let wrote = Wrote (E.taken err.old) (E.taken err.new)
+        (E.faults err.old) (E.faults err.new) in
+        TellsErrors wrote result.0 errors.now ⊎ Tells wrote result.0 12 memory_line }
 {
     match errors.shown_lines(alloc) {
         Ok(lines) => {
@@ -89,7 +91,8 @@ fn tell_errors<E: Sink>(alloc: Global, err: &mut E, errors: &Errors) -> Exit
 // Writes why a term is not run, as far as the sink takes it, and returns the status.
 fn tell_run<E: Sink>(err: &mut E, request: &Command, fail: RunFail) -> Exit
     ensures later { E.faults err.old ≤ E.faults err.new }
-    ensures told { let wrote = Wrote (E.taken err.old) (E.taken err.new) (E.faults err.old) (E.faults err.new) in
+    ensures told { let wrote = Wrote (E.taken err.old) (E.taken err.new)
+        (E.faults err.old) (E.faults err.new) in
         TellsRun (job_of (seen_command request.now)) wrote result.0 fail }
 {
     match fail {
@@ -118,7 +121,8 @@ fn tell_run<E: Sink>(err: &mut E, request: &Command, fail: RunFail) -> Exit
 pub fn refuse<E: Sink>(alloc: Global, err: &mut E, request: &Command, refusal: &Refusal) -> Exit
     requires { IsOfJob (job_of (seen_command request.now)) refusal.now }
     ensures later { E.faults err.old ≤ E.faults err.new }
-    ensures ends { let wrote = Wrote (E.taken err.old) (E.taken err.new) (E.faults err.old) (E.faults err.new) in
+    ensures ends { let wrote = Wrote (E.taken err.old) (E.taken err.new)
+        (E.faults err.old) (E.faults err.new) in
         Ends (job_of (seen_command request.now)) wrote result.0 refusal.now }
 {
     match refusal {
