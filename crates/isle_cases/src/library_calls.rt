@@ -1,4 +1,4 @@
-//! Calls of the public surface that no line of words makes, with what they answer.
+//! Calls of the library that no line of words makes, with what they answer.
 
 use crate::items::push_iterators;
 use crate::judged::push_judged;
