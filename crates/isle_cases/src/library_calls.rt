@@ -18,8 +18,8 @@ fn push_calls(alloc: Global, lines: &mut String) -> Result<(), AllocError> {
     }
 }
 
-/// Makes the calls, and holds the lines that they write against those that are wanted; `told` gets theirs where these
-/// differ.
+/// Makes the calls, and holds the lines that they write against those that are wanted; `told` gets theirs
+/// where these differ.
 pub fn hold_calls(alloc: Global, wanted: &str, told: &mut String) -> Result<(), Slip> {
     let mut lines = String::new(alloc);
     push_calls(alloc, &mut lines)?;

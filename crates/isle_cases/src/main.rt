@@ -1,5 +1,5 @@
-//! Cases: words, files and what the program gives them, read from data, run in memory and compared; and calls that no
-//! words make.
+//! Cases: words, files and what the program gives them, read from data, run in memory and compared; and calls
+//! that no words make.
 #![tactic(auto)]
 
 mod case;
