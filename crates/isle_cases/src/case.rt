@@ -135,7 +135,8 @@ impl Case {
         Ok(())
     }
 
-    /// Returns the one line with this key and this name, if there is one. A key without names has the empty one.
+    /// Returns the one line with this key and this name, if there is one. A key without names has the empty
+    /// one.
     pub fn only(&self, key: Key, name: &str) -> Result<Option<&Entry>, Slip> {
         let mut found = None;
         for entry in &self.entries {

@@ -1,5 +1,5 @@
-//! Context iterators, as a user of the emitted text has them: over a list, over an iterator of std, and one written by
-//! hand.
+//! Context iterators, as a user of the emitted text has them: over a list, over an iterator of std, and one
+//! written by hand.
 
 ghost use Rattle.std.specs.Prelude.{◌≡◌, List, [], IfOk, ⊤};
 ghost use Rattle.std.specs.Iterator.{IsFinite, at_most};
@@ -84,8 +84,8 @@ fn push_letters(lines: &mut String, letters: &[char]) -> Result<(), AllocError> 
     lines.push_str("\n")
 }
 
-// How many items the wrapped list has, by the wrapper and by the list, and what its iterator hints at: at least, and at
-// most.
+// How many items the wrapped list has, by the wrapper and by the list, and what its iterator hints at: at
+// least, and at most.
 fn counts(alloc: Global) -> Result<[usize; 4], OutOfMemory> {
     let list = wrapped(alloc)?;
     let length = list.len();

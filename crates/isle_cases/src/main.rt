@@ -1,18 +1,18 @@
-//! Cases: words, files and what the program gives them, read from data, run in memory and compared; and calls that no
-//! words make.
+//! Cases: words, files and what the program gives them, read from data, run in memory and compared; and calls
+//! that no words make.
 #![tactic(auto)]
 
 mod case;
 mod held;
 mod items;
 mod judged;
+mod library_calls;
 mod literals;
 mod report;
 mod shown;
 mod signatures;
 mod slip;
 mod spelling;
-mod surface;
 mod tokens;
 mod topics;
 mod wanted;

@@ -5,8 +5,8 @@ ghost use Rattle.std.specs.Prelude.{◌≡◌, length, IfOk};
 use crate::shown::{digit, push_all, yes_no};
 use isle_codegen::{Checked, check_files};
 use isle_core::{
-    Binding, BindingId, BuiltinType, ExternalSig, Files, List, ReturnKind, RuleSet, Term, TermKind,
-    Text, TypeDef, TypeEnv, TypeId,
+    Binding, BindingId, BuiltinType, ExternalSig, Files, List, OutOfMemory, ReturnKind, RuleSet,
+    Term, TermKind, Text, TypeDef, TypeEnv, TypeId,
 };
 use std::alloc::{AllocError, Global};
 
@@ -74,42 +74,17 @@ fn push_sig(lines: &mut String, env: &TypeEnv, sig: &ExternalSig) -> Result<(), 
     push_all(lines, &[" ", kind_name(sig.ret_kind), "\n"])
 }
 
-// Does so for a signature that may not be there.
-fn push_found(
+// Writes the signature of one of a term's functions, where it has that function.
+fn push_function(
     lines: &mut String,
     env: &TypeEnv,
-    sig: &Option<ExternalSig>,
+    function: &str,
+    sig: Result<Option<ExternalSig>, OutOfMemory>,
 ) -> Result<(), AllocError> {
+    push_all(lines, &["  ", function, " "])?;
     match sig {
-        Some(sig) => push_sig(lines, env, sig),
-        None => lines.push_str("none\n"),
-    }
-}
-
-// Writes the signature of a term's constructor.
-fn push_constructor(
-    alloc: Global,
-    lines: &mut String,
-    env: &TypeEnv,
-    term: &Term,
-) -> Result<(), AllocError> {
-    lines.push_str("  constructor ")?;
-    match term.constructor_sig(alloc, env) {
-        Ok(sig) => push_found(lines, env, &sig),
-        Err(_) => Err(AllocError),
-    }
-}
-
-// Writes the signature of a term's extractor.
-fn push_extractor(
-    alloc: Global,
-    lines: &mut String,
-    env: &TypeEnv,
-    term: &Term,
-) -> Result<(), AllocError> {
-    lines.push_str("  extractor ")?;
-    match term.extractor_sig(alloc, env) {
-        Ok(sig) => push_found(lines, env, &sig),
+        Ok(Some(sig)) => push_sig(lines, env, &sig),
+        Ok(None) => lines.push_str("none\n"),
         Err(_) => Err(AllocError),
     }
 }
@@ -137,8 +112,8 @@ fn push_term(
     };
     lines.push_str(env.symbol(term.name))?;
     push_marks(lines, term)?;
-    push_constructor(alloc, lines, env, term)?;
-    push_extractor(alloc, lines, env, term)
+    push_function(lines, env, "constructor", term.constructor_sig(alloc, env))?;
+    push_function(lines, env, "extractor", term.extractor_sig(alloc, env))
 }
 
 // Writes a place, or that there is none, behind a blank.

@@ -2,15 +2,15 @@
 
 use crate::case::{Case, cases_of};
 use crate::held::{hold, run, words};
+use crate::library_calls::hold_calls;
 use crate::report::Report;
 use crate::slip::Slip;
-use crate::surface::hold_calls;
 use crate::wanted::Shelf;
 use isle_outside::{Dir, Found, StdDir, read_text};
 use std::alloc::Global;
 
 /// The file of the lines that calls are to write, a topic of its own.
-const CALLS: &str = "surface.lines";
+const CALLS: &str = "library_calls.lines";
 
 // The names of the files in the current folder, in order.
 fn names<D: Dir>(alloc: Global, dir: &mut D) -> Result<Vec<String>, Slip> {
@@ -108,13 +108,13 @@ fn count_topic(
 fn count_calls(alloc: Global, wanted: &str, report: &mut Report) -> Result<(), Slip> {
     let mut told = String::new(alloc);
     let held = hold_calls(alloc, wanted, &mut told);
-    count(alloc, "surface", "calls", held, told.as_str(), report)
+    count(alloc, "library_calls", "calls", held, told.as_str(), report)
 }
 
 // The topic that a file is.
 fn topic_of(file: &str) -> Option<&str> {
     if file == CALLS {
-        return Some("surface");
+        return Some("library_calls");
     }
     file.strip_suffix(".cases")
 }

@@ -125,8 +125,9 @@ fn firsts(alloc: Global, check: Check, rules: &[FlatRule]) -> Result<Vec<Option<
     Ok(found)
 }
 
-/// Finds for each rule of a term the place of the first one that makes an error of it: none where the term answers
-/// several times (`multi`), since its rules may overlap, and shadow each other. The only error is want of memory.
+/// Finds for each rule of a term the place of the first one that makes an error of it: none where the term
+/// answers several times (`multi`), since its rules may overlap, and shadow each other. The only error is
+/// want of memory.
 pub fn firsts_of_term(
     alloc: Global,
     check: Check,

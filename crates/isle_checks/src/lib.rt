@@ -5,6 +5,7 @@ mod bears;
 mod classes;
 mod errors;
 mod firsts;
+mod names;
 pub mod overlap;
 mod placed;
 mod splitter;

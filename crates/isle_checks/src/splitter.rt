@@ -165,8 +165,9 @@ fn middle_constraint(
     Ok(constraints.get(constraints.len() / 2).copied())
 }
 
-/// Chooses by what the rules of a group are told apart: their priorities where these tell apart what is looked for, or
-/// else the binding on which most have constraints that differ. The only error is want of memory.
+/// Chooses by what the rules of a group are told apart: their priorities where these tell apart what is
+/// looked for, or else the binding on which most have constraints that differ. The only error is want of
+/// memory.
 pub fn choose(
     alloc: Global,
     check: Check,

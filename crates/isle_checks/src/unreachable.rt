@@ -28,7 +28,8 @@ fn note(
     class: BindingId,
     constraint: Constraint,
 ) -> Result<bool, AllocError>
-    ensures agrees { IfOk result (λ agrees. IsTrue agrees ↔ IfSome (get binding_cmp seen.old class) (λ c. c ≡ constraint)) }
+    ensures agrees { let before = get binding_cmp seen.old class in
+        IfOk result (λ agrees. IsTrue agrees ↔ IfSome before (λ c. c ≡ constraint)) }
     ensures noted { OnOk result (Updates binding_cmp seen.old seen.new class (SomeOf constraint)) }
 {
     match seen.insert(class, constraint)? {
@@ -43,7 +44,8 @@ fn have_clash(
     classes: &Classes,
     constraints: &[(BindingId, Constraint)],
 ) -> Result<bool, AllocError>
-    ensures { IfOk result (λ found. IsTrue found ↔ HaveClash (representative classes.now.representatives) constraints.now) }
+    ensures { let class = representative classes.now.representatives in
+        IfOk result (λ found. IsTrue found ↔ HaveClash class constraints.now) }
 {
     let mut seen = BTreeMap::new(alloc);
     for x in constraints {

@@ -64,7 +64,7 @@ pub fn check_defs(alloc: Global, files: &Files, defs: &[Def]) -> Result<Checked,
         Ok(envs) => envs,
         Err(fail) => return Err(untyped(alloc, fail)),
     };
-    let terms = match overlap::check(alloc, &termenv) {
+    let terms = match overlap::check_named(alloc, &typeenv, &termenv) {
         Ok(terms) => terms,
         Err(fail) => return Err(wrong(fail)),
     };

@@ -21,7 +21,8 @@ pub trait ContextIter {
     /// Gives the first of the items still to come and leaves the others, or `None` where there is none.
     fn next(&mut self, ctx: &mut Self::Context) -> Option<Self::Output>
         requires { can_next self.old }
-        ensures first { (items : List Self.Output) → has_list self.old items → GivesFirst result items (has_list self.new) }
+        ensures first { (items : List Self.Output) → has_list self.old items
+            → GivesFirst result items (has_list self.new) }
         ensures goes { MakesProgress can_next remaining self.old result self.new };
 
     /// Returns bounds on how many items are left, the second where there is one.
@@ -47,6 +48,8 @@ pub trait IntoContextIter {
     /// Makes an iterator that has the items still to come.
     fn into_context_iter(self) -> Self::IntoIter
         ensures can_next { Self.IntoIter.can_next result }
-        ensures list { (items : List Self.Output) → has_items self items → Self.IntoIter.has_list result items }
-        ensures ends { (items : List Self.Output) → has_items self items → IsFinite (Self.IntoIter.remaining result) };
+        ensures list { (items : List Self.Output) → has_items self items
+            → Self.IntoIter.has_list result items }
+        ensures ends { (items : List Self.Output) → has_items self items
+            → IsFinite (Self.IntoIter.remaining result) };
 }

@@ -1,5 +1,5 @@
-//! Context iterators: what gives items one at a time and is handed a context for each, and a wrapper that makes one of
-//! any iterator.
+//! Context iterators: what gives items one at a time and is handed a context for each, and a wrapper that
+//! makes one of any iterator.
 #![tactic(auto)]
 
 mod iterators;

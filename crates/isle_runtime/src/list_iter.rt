@@ -33,7 +33,8 @@ impl<T, C> ContextIter for ListIter<T, C> {
 
     ghost can_next = { λ iter. ⊤ };
 
-    ghost has_list = { λ iter items. (into_iter_items iter.rest ≡ items) × (into_iter_len iter.rest ≡ length items) };
+    ghost has_list = { λ iter items.
+        (into_iter_items iter.rest ≡ items) × (into_iter_len iter.rest ≡ length items) };
 
     ghost remaining = { λ iter. at_most (into_iter_len iter.rest) };
 

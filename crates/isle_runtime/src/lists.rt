@@ -21,14 +21,16 @@ impl<T> Length for Vec<T> {
     }
 }
 
-/// Appends the items in order. Room is made before an item is asked for, so that none is lost where memory runs out.
+/// Appends the items in order. Room is made before an item is asked for, so that none is lost where memory
+/// runs out.
 pub(crate) fn append<T, It: Iterator<Item = T>>(
     list: &mut Vec<T>,
     mut items: It,
 ) -> Result<(), OutOfMemory>
     requires can_next { It.can_next items }
     requires ends { IsFinite (It.remaining items) }
-    ensures ran { ExtendsWithItems (λ taken iter. iter ≡ taken) It.next_gives (λ old given new. new.items ≡ old.items ++ given) items list.old list.new result }
+    ensures ran { ExtendsWithItems (λ taken iter. iter ≡ taken) It.next_gives
+        (λ old given new. new.items ≡ old.items ++ given) items list.old list.new result }
 {
     loop {
         list.reserve(1)?;

@@ -80,7 +80,8 @@ impl<I: Iterator, C> ContextIter for ContextIterWrapper<I, C> {
 
     fn next(&mut self, ctx: &mut C) -> Option<I::Item>
         requires { I.can_next self.old }
-        ensures first { (items : List I.Item) → HasList I.next_gives self.old items → GivesFirst result items (HasList I.next_gives self.new) }
+        ensures first { (items : List I.Item) → HasList I.next_gives self.old items
+            → GivesFirst result items (HasList I.next_gives self.new) }
         ensures goes { MakesProgress I.can_next I.remaining self.old result self.new }
 
         // It does what the iterator does, and nothing to the context.
@@ -123,11 +124,14 @@ impl<T, C> ContextIterWrapper<Vec<T>, C> {
     pub fn extend<It: Iterator<Item = T>>(&mut self, items: It) -> Result<(), OutOfMemory>
         requires can_next { It.can_next items }
         requires ends { IsFinite (It.remaining items) }
-        ensures all { OnOk result ((list : List T) → HasList It.next_gives items list → self.new.items ≡ self.old.items ++ list) }
-        ensures front { OnErr result ((list : List T) → HasList It.next_gives items list → AppendsFront self.old.items self.new.items list) }
+        ensures all { OnOk result ((list : List T) → HasList It.next_gives items list
+            → self.new.items ≡ self.old.items ++ list) }
+        ensures front { OnErr result ((list : List T) → HasList It.next_gives items list
+            → AppendsFront self.old.items self.new.items list) }
 
         // The same, call by call: what the calls gave is what was appended.
-        ensures ran { ExtendsWithItems (λ taken iter. iter ≡ taken) It.next_gives (λ old given new. new.items ≡ old.items ++ given) items self.old self.new result }
+        ensures ran { ExtendsWithItems (λ taken iter. iter ≡ taken) It.next_gives
+            (λ old given new. new.items ≡ old.items ++ given) items self.old self.new result }
     {
         append(&mut self.iter, items)
     }

@@ -1,4 +1,4 @@
-//! Calls of the public surface that no line of words makes, with what they answer.
+//! Calls of the library that no line of words makes, with what they answer.
 
 use crate::items::push_iterators;
 use crate::judged::push_judged;
@@ -18,8 +18,8 @@ fn push_calls(alloc: Global, lines: &mut String) -> Result<(), AllocError> {
     }
 }
 
-/// Makes the calls, and holds the lines that they write against those that are wanted; `told` gets theirs where these
-/// differ.
+/// Makes the calls, and holds the lines that they write against those that are wanted; `told` gets theirs
+/// where these differ.
 pub fn hold_calls(alloc: Global, wanted: &str, told: &mut String) -> Result<(), Slip> {
     let mut lines = String::new(alloc);
     push_calls(alloc, &mut lines)?;

@@ -6,7 +6,7 @@ use Rattle.isle_core.specs.RuleViews.{environment}
 use Rattle.isle_checks.specs.CheckList.{IsCheckList}
 use Rattle.isle_checks.specs.declared.overlap.CheckError.{CheckError}
 use Rattle.isle_checks.specs.declared.overlap.CheckError.TheVariants.{Rules}
-use Rattle.isle_checks.proofs.overlap.check.Goals as goal
+use Rattle.isle_checks.proofs.overlap.checked.Goals as goal
 
 nil_of : {X : Type 0} (xs : List X) → length xs ≡ 0 → xs ≡ []
 nil_of [] e = refl
