@@ -1,11 +1,8 @@
 -- A run that is valid by its source alone is one that each program wants which conforms to the source.
 use Rattle.std.proofs.Common.{List, ℕ}
 use Rattle.isle_core.specs.declared.files.Files.{Files}
-use Rattle.isle_core.specs.declared.options.CodegenOptions.{CodegenOptions}
 use Rattle.isle_values.specs.Written.{Writtens}
-use Rattle.isle_tree.specs.Program.{Program}
 use Rattle.isle_run_inputs.specs.AnswersAt.{constants_at, answers_at}
-use Rattle.isle_run.specs.Conforming.{Conforms}
 use Rattle.isle_run.specs.Trial.{args_given}
 use Rattle.isle_run.specs.Valid.{CanRun}
 use Rattle.isle_run.specs.ValidBySource.{IsValidBySource}

@@ -1,6 +1,6 @@
 -- What a conforming program tells of types is of the types of its source, and so constants fit the places where they stand.
 use Rattle.std.proofs.Common.{◌≡◌, ◌⊎◌, inl, inr, ⊎_elim, ℕ, zero, suc, List, [], ◌∷◌, map, Bool, true, false, cond, Option, Some, None, option_map, refl, sym, ap, ◌∙◌, subst}
-use Rattle.std.specs.Prelude.{◌||◌, Contains, find, if◌then◌else◌, option_and_then, slice_get}
+use Rattle.std.specs.Prelude.{Contains, find, if◌then◌else◌, option_and_then, slice_get}
 use Rattle.std.specs.List.{AllByRecursion, IsDistinct}
 use Rattle.std.specs.Option.{option_map_or}
 use Rattle.std.specs.Str.{bytes_eq}
@@ -13,7 +13,6 @@ use Rattle.isle_core.specs.declared.files.Files.{Files}
 use Rattle.isle_core.specs.declared.options.CodegenOptions.{CodegenOptions}
 use Rattle.isle_core.specs.declared.types.ConstructorKind.{ConstructorKind}
 use Rattle.isle_core.specs.declared.types.ConstructorKind.TheVariants as constructor
-use Rattle.isle_core.specs.declared.types.ExtractorKind.{ExtractorKind}
 use Rattle.isle_core.specs.declared.types.ExtractorKind.TheVariants as extractor
 use Rattle.isle_core.specs.declared.types.ReturnKind.{ReturnKind}
 use Rattle.isle_core.specs.declared.types.Term.{Term}
@@ -24,50 +23,46 @@ use Rattle.isle_core.specs.declared.types.TypeDef.TheVariants as def
 use Rattle.isle_core.specs.declared.types.Variant.{Variant as VariantDef}
 use Rattle.isle_core.specs.declared.values.Callee.{Callee}
 use Rattle.isle_core.specs.declared.values.Callee.TheVariants.{External, Internal}
-use Rattle.isle_core.specs.Calling.{Calling, ByTurns, ByCases, NoCall, calling, calling_by, calling_of, extracting, extracting_kind, extracting_of, extractor_kind, kind_of, pure_callee}
+use Rattle.isle_core.specs.Calling.{calling, calling_by, calling_of, extracting, extracting_kind, extracting_of, extractor_kind, kind_of, pure_callee}
 use Rattle.isle_core.specs.ExternalCall.{IsCall, IsExtraction}
-use Rattle.isle_core.specs.Form.{Form, form, form_of_variant, struct_form, variant_form}
+use Rattle.isle_core.specs.Form.{Form, form_name, form_of_variant, struct_form, variant_form}
 use Rattle.isle_core.specs.HasType.{HasType, typed_fields}
-use Rattle.isle_core.specs.Making.{Making, MakesVariant, MakesStruct}
-use Rattle.isle_core.specs.NamesApart.{IsNameOf}
-use Rattle.isle_core.specs.PatternType.{form_name}
+use Rattle.isle_core.specs.Making.{MakesVariant, MakesStruct}
 use Rattle.isle_core.specs.Rule.{Environment}
-use Rattle.isle_core.specs.Setting.{setting}
 use Rattle.isle_core.specs.Terms.{callee_by, impure_callee, sym_text, term_name, with_rules}
 use Rattle.isle_core.specs.Value.{Value}
-use Rattle.isle_core.proofs.Contained.{head_contained, tail_contained, contained_cases, none_contained}
+use Rattle.isle_core.proofs.Contained.{contained_cases, none_contained}
 use Rattle.isle_tree.specs.declared.tree.TFields.{TFields}
-use Rattle.isle_tree.specs.declared.tree.Operand.{Operand}
 use Rattle.isle_tree.specs.declared.tree.Operand.TheVariants as operand
 use Rattle.isle_tree.specs.declared.tree.TypeItem.{TypeItem}
 use Rattle.isle_tree.specs.Program.{Function, Program}
 use Rattle.isle_items.specs.LawfulNames.{emitted_name}
-use Rattle.isle_items.specs.TypeItems.{items_in, type_item, type_items_of, variant_item}
+use Rattle.isle_items.specs.TypeItems.{type_item, variant_item}
 use Rattle.isle_items.proofs.HasRustNames.{has_rust_names}
 use Rattle.isle_simulation.specs.RustNames.{HasRustNames}
 use Rattle.isle_simulation.specs.TypeTexts.{parameter, type_text}
 use Rattle.isle_simulation.proofs.Written.{callee_of}
 use Rattle.isle_places.specs.DeclaredTypes as asked
-use Rattle.isle_places.specs.DeclaredTypes.{Asked, These, Anything, Nowhere, is_foreign, foreign_asked, of_fields, second_named, struct_asked, struct_by, variant_asked, variant_by}
-use Rattle.isle_places.specs.Places.{Place, places, StandsAt}
+use Rattle.isle_places.specs.DeclaredTypes.{Asked, These, Anything, Nowhere, is_foreign, foreign_asked, of_fields, struct_asked, struct_by, variant_asked, variant_by}
+use Rattle.isle_places.specs.Places.{Place, places}
 use Rattle.isle_places.specs.Signatures.{Signature, signature_of}
-use Rattle.isle_places.specs.Told.{AValue, Untold, field_told, typed_told}
+use Rattle.isle_places.specs.Told.{AValue, field_told, typed_told}
 use Rattle.isle_printer.specs.Bytes.{same_bytes}
 use Rattle.isle_printer.proofs.Bytes.{same_bytes_refl}
 use Rattle.isle_interpreter.specs.Entries.{FitsPlaces}
 use Rattle.isle_interpreter.specs.Named.{IsNamed}
 use Rattle.isle_codegen.specs.Checked.{IsChecked}
-use Rattle.isle_codegen.specs.FromBlock.{AreFromBlocks, IsFromBlock}
+use Rattle.isle_codegen.specs.FromBlock.{AreFromBlocks}
 use Rattle.isle_codegen.proofs.EmittedNames.{distinct_names}
 use Rattle.isle_codegen.proofs.LawfulNames.{compilable}
 use Rattle.isle_codegen.proofs.TermFunctions.{term_fns}
 use Rattle.isle_codegen.proofs.TypedNames.{typed_parts}
 use Rattle.isle_sema.proofs.TypedTerms.{typed_names}
-use Rattle.isle_simulation.specs.OfTerm.{AreDeclared, IsDeclared}
+use Rattle.isle_simulation.specs.OfTerm.{AreDeclared}
 use Rattle.isle_simulation.specs.TermFns.{HasTermFns, IsRuled}
 use Rattle.isle_simulation.specs.TraitFns.{extracted_of, func_by, func_of}
 use Rattle.isle_run.specs.Conforming.{Conforms}
-use Rattle.isle_run.specs.Valid.{IsServed, external, internal, IsAsked, IsRightConstant, AreRightConstants}
+use Rattle.isle_run.specs.Valid.{IsServed, external, internal, IsAsked, AreRightConstants}
 use Rattle.isle_run.specs.Valid as valid
 use Rattle.isle_run_inputs.specs.Asked.{extractor_types}
 use Rattle.isle_run_inputs.specs.Requested.{requested_term}
@@ -76,7 +71,7 @@ use Rattle.isle_run.proofs.LawfulNames.{HasLawfulNames}
 use Rattle.isle_run.proofs.NamedTypes.{are_named, field_text, found_made, item_is, shape_asked}
 use Rattle.isle_run.proofs.PlacedExprs.{IsConstantValue, AreFieldsTold, TellsTypes}
 use Rattle.isle_run.proofs.PlacedTypes.{function_fits}
-use Rattle.isle_run.proofs.RightEntries.{IsSignatureOf, served_signature, asked_signature}
+use Rattle.isle_run.proofs.RightEntries.{served_signature, asked_signature}
 use Rattle.isle_run.proofs.SourceNames.{lawful_names}
 use Rattle.isle_run.proofs.ToldTypes.{IsSignature}
 
@@ -104,7 +99,7 @@ found_at test (y ∷ xs) x e = by (test y) refl e (found_at test xs x)
 first_is : {A : Type 0} (name : A → List ℕ) (xs : List A) (x : A) → IsDistinct bytes_eq (map name xs) → Contains xs x → find (λ (y : A). bytes_eq (name x) (name y)) xs ≡ Some x
 unfolding IsDistinct
 first_is name [] x d c = absurd (none_contained x c)
-first_is name (y ∷ xs) x d c = by (bytes_eq (name x) (name y)) refl (contained_cases y xs x c)
+first_is name (y ∷ xs) x d c = by (bytes_eq (name x) (name y)) refl (contained_cases y xs x c) (λ k. first_is name xs x d.1 k)
   where
     among : (zs : List _) → Contains zs x → AllByRecursion (λ w. bytes_eq (name y) w ≡ false) (map name zs) → bytes_eq (name y) (name x) ≡ false
     among [] k h = absurd (none_contained x k)
@@ -113,11 +108,11 @@ first_is name (y ∷ xs) x d c = by (bytes_eq (name x) (name y)) refl (contained
     never : bytes_eq (name y) (name x) ≡ false → name x ≡ name y → ⊥
     never e same = let t : bytes_eq (name y) (name x) ≡ true = (bytes_eq-Decides (name y) (name x)).1 (sym same) in cc
 
-    by : (b : Bool) → bytes_eq (name x) (name y) ≡ b → (y ≡ x) ⊎ Contains xs x → cond b (Some y) (find (λ w. bytes_eq (name x) (name w)) xs) ≡ Some x
-    by true is (inl e) = ap Some e
-    by true is (inr k) = absurd (never (among xs k d.0) ((bytes_eq-Decides (name x) (name y)).0 is))
-    by false is (inl e) = let t : bytes_eq (name x) (name y) ≡ true = (bytes_eq-Decides (name x) (name y)).1 (ap name (sym e)) in absurd cc
-    by false is (inr k) = first_is name xs x d.1 k
+    by : (b : Bool) → bytes_eq (name x) (name y) ≡ b → (y ≡ x) ⊎ Contains xs x → (Contains xs x → find (λ w. bytes_eq (name x) (name w)) xs ≡ Some x) → cond b (Some y) (find (λ w. bytes_eq (name x) (name w)) xs) ≡ Some x
+    by true is (inl e) later = ap Some e
+    by true is (inr k) later = absurd (never (among xs k d.0) ((bytes_eq-Decides (name x) (name y)).0 is))
+    by false is (inl e) later = let t : bytes_eq (name x) (name y) ≡ true = (bytes_eq-Decides (name x) (name y)).1 (ap name (sym e)) in absurd cc
+    by false is (inr k) later = later k
 
 module _ (options : CodegenOptions) (files : Files) (env : Environment) (checked : IsChecked files env) (p : Program) (conforms : Conforms options files env p) where
   abbrev lawful : HasLawfulNames env
@@ -234,11 +229,11 @@ module _ (options : CodegenOptions) (files : Files) (env : Environment) (checked
 
   -- no field is told of a type that isn't declared in the text
   foreign_told : (name : List ℕ) (all : List (List ℕ × TypeId)) → AreFieldsTold env (foreign_asked name) all
-  foreign_told name all = all_of _ all (λ i x at_i ty e. one (is_foreign name) x.0 ty e)
+  foreign_told name all = all_of _ all (λ i x at_i ty e. absurd (one (is_foreign name) x.0 ty e))
     where
-      one : (b : Bool) (f ty : List ℕ) → field_told (if b then Anything else Nowhere) f ≡ AValue ty → ty ≡ _
-      one true f ty e = absurd cc
-      one false f ty e = absurd cc
+      one : (b : Bool) (f ty : List ℕ) → field_told (if b then Anything else Nowhere) f ≡ AValue ty → ⊥
+      one true f ty e = cc
+      one false f ty e = cc
 
   none_told : (all : List (List ℕ × TypeId)) → AreFieldsTold env Nowhere all
   none_told all = all_of _ all (λ i x at_i ty e. absurd cc)

@@ -81,10 +81,10 @@ value_in P (c ∷ consts) name v h e = one (bytes_eq name c.0) refl (λ k. value
     one false is rest here = rest here
 
 -- of a declared constant, and of its type
-abbrev IsDeclaredValue : Environment → List ℕ × Value → Type 0
+abbrev pub IsDeclaredValue : Environment → List ℕ × Value → Type 0
 IsDeclaredValue env c = (ty : TypeId) × IsNameOf env ty c.0 × HasType env c.1 ty
 
-each_declared : (env : Environment) (earlier later : List (List ℕ × Value)) → AreRightConstants env earlier later → AllByRecursion (IsDeclaredValue env) later
+pub each_declared : (env : Environment) (earlier later : List (List ℕ × Value)) → AreRightConstants env earlier later → AllByRecursion (IsDeclaredValue env) later
 each_declared env earlier [] h = tt
 each_declared env earlier (c ∷ later) h = ((h.0.ty, named_in env env.types.consts c.0 h.0.ty h.0.named, h.0.typed), each_declared env (earlier ++ c ∷ []) later h.1)
 

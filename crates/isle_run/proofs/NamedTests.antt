@@ -1,6 +1,6 @@
 -- A constant that a block tests for stands in its function.
-use Rattle.std.proofs.Common.{◌≡◌, ◌⊎◌, inl, inr, ℕ, List, [], ◌∷◌, ◌++◌, Bool, true, false, Option, Some, None, refl, sym, ap, ◌∙◌, subst}
-use Rattle.std.specs.Prelude.{Contains, slice_get}
+use Rattle.std.proofs.Common.{◌≡◌, inl, inr, ℕ, List, [], ◌∷◌, ◌++◌, Bool, true, false, Option, Some, None, sym, ◌∙◌, subst}
+use Rattle.std.specs.Prelude.{Contains}
 use Rattle.std.proofs.lemmas.List.Elements.{Contains-append_left, Contains-append_right}
 use Rattle.isle_core.specs.declared.BindingId.{BindingId}
 use Rattle.isle_core.specs.declared.Sym.{Sym}
@@ -20,13 +20,13 @@ use Rattle.isle_core.specs.SingleArms.{HasSingleArms, IsSingle}
 use Rattle.isle_core.specs.Terms.{sym_text}
 use Rattle.isle_core.proofs.Contained.{head_contained}
 use Rattle.isle_blocks.specs.AllTests.{HoldsTest, DoesTest}
-use Rattle.isle_tree.specs.Program.{Stmt, Body, Done, Then, Function}
+use Rattle.isle_tree.specs.Program.{Body, Done, Then, Function}
 use Rattle.isle_simulation.specs.Completed.{completed, completed_control, step_binds}
 use Rattle.isle_simulation.specs.Telling.{Telling, telling_of}
 use Rattle.isle_simulation.specs.TermFunction.{tail_in, term_function}
 use Rattle.isle_simulation.proofs.CompletedRuns.{completed_single}
 use Rattle.isle_simulation.proofs.Made.{function_made}
-use Rattle.isle_simulation.proofs.Written.{written_operand, written_test, arm_stmt, bound_stmt, lets, stop_before, told_before, told_body, told_control, function_of}
+use Rattle.isle_simulation.proofs.Written.{written_operand, arm_stmt, bound_stmt, lets, stop_before, told_before, told_body, told_control, function_of}
 use Rattle.isle_naming.specs.Names.{operand_names, stmt_names, body_names}
 
 module _ (env : Environment) (t : Term) (bs : List Binding) (source : BindingId) (c : Sym) where

@@ -1,11 +1,10 @@
 -- What names a type in a program is the name of a type of the source.
-use Rattle.std.proofs.Common.{◌≡◌, ℕ, zero, suc, List, [], ◌∷◌, ◌++◌, map, Bool, true, false, Option, Some, None, option_map, refl, sym, ap, ◌∙◌, subst}
+use Rattle.std.proofs.Common.{◌≡◌, ℕ, zero, suc, List, [], ◌∷◌, ◌++◌, map, Bool, true, false, Option, Some, None, option_map, refl, sym, subst}
 use Rattle.std.specs.Prelude.{filter_map, flat_map, slice_get}
 use Rattle.std.specs.List.{AllByRecursion, cons_option}
 use Rattle.isle_core.specs.declared.BindingId.{BindingId}
 use Rattle.isle_core.specs.declared.Sym.{Sym}
 use Rattle.isle_core.specs.declared.TypeId.{TypeId}
-use Rattle.isle_core.specs.declared.files.Files.{Files}
 use Rattle.isle_core.specs.declared.rule_sets.Binding.{Binding}
 use Rattle.isle_core.specs.declared.rule_sets.Binding.TheVariants as binding
 use Rattle.isle_core.specs.declared.rule_sets.Constraint.{Constraint}
@@ -33,20 +32,19 @@ use Rattle.isle_core.specs.Setting.{Setting, gives_several}
 use Rattle.isle_core.specs.Terms.{sym_text}
 use Rattle.isle_tree.specs.declared.tree.Read.{Read}
 use Rattle.isle_tree.specs.declared.tree.TBind.{TBind}
-use Rattle.isle_tree.specs.declared.tree.TExpr.{TExpr}
 use Rattle.isle_tree.specs.declared.tree.TraitFn.{TraitFn}
-use Rattle.isle_tree.specs.Program.{Stmt, Let, Body, Done, Then}
-use Rattle.isle_tree.specs.Walk.{of_stmt, of_body}
+use Rattle.isle_tree.specs.Program.{Body, Done, Then}
+use Rattle.isle_tree.specs.Walk.{of_stmt}
 use Rattle.isle_items.specs.TypeItems.{fields_shape, items_in, type_item, variant_item}
 use Rattle.isle_simulation.specs.Patterns.{field_binds, form_pattern, leaves_out, pattern_named, pattern_of, some_pattern}
-use Rattle.isle_simulation.specs.Statements.{binds_list, local_stmt, made_named}
+use Rattle.isle_simulation.specs.Statements.{binds_list, made_named}
 use Rattle.isle_simulation.specs.Telling.{Telling}
 use Rattle.isle_simulation.specs.TermFunction.{ends_in_return, mark_of, tail_body, tail_of}
-use Rattle.isle_simulation.specs.TraitFns.{constructor_fn, constructor_fn_of, extractor_fn, extractor_fn_of, extracted_of, func_of, trait_fns_in}
+use Rattle.isle_simulation.specs.TraitFns.{constructor_fn, constructor_fn_of, extractor_fn, extracted_of, func_of, trait_fns_in}
 use Rattle.isle_simulation.specs.TypeTexts.{def_text, type_text, parameter}
 use Rattle.isle_simulation.proofs.LocalStmts.{local_by}
 use Rattle.isle_simulation.proofs.Written.{written_pattern, callee_of, call_expr, extraction_expr, field_reads, made_expr, bound_expr, bound_stmt, lets, result_stmt, stop_before, arm_stmt, told_before, told_body, told_control}
-use Rattle.isle_naming.specs.Occurring.{second_names, shape_types, variants_types, body_types, item_types, param_types, trait_types, expr_types, pattern_types, own_types, all_types}
+use Rattle.isle_naming.specs.Occurring.{second_names, shape_types, variants_types, item_types, param_types, trait_types, expr_types, pattern_types, own_types, all_types}
 use Rattle.isle_run.proofs.PlacedExprs.{named_enum, named_struct}
 
 module _ (env : Environment) (Free : List ℕ → Type 0) (free : (ty : TypeId) → Free (type_text env ty)) where
@@ -103,7 +101,7 @@ module _ (env : Environment) (Free : List ℕ → Type 0) (free : (ty : TypeId) 
 
   -- ---- functions of the trait
 
-  params_free : (tys : List TypeId) → AllFree (param_types (map (parameter env) tys))
+  pub params_free : (tys : List TypeId) → AllFree (param_types (map (parameter env) tys))
   params_free [] = tt
   params_free (ty ∷ tys) = (free ty, params_free tys)
 

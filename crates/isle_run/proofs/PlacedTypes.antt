@@ -1,11 +1,9 @@
 -- Constants stand at places of their own types in the function of a lawful block.
-use Rattle.std.proofs.Common.{◌≡◌, ⊎_elim, ℕ, zero, suc, ℤ, ◌+◌, ◌≤◌, length, arith, List, [], ◌∷◌, ◌++◌, map, Bool, true, false, Option, Some, None, option_map, refl, sym, ap, ◌∙◌, subst}
-use Rattle.std.specs.Prelude.{option_and_then, IsSomeAnd, slice_get}
-use Rattle.std.specs.List.{AllByRecursion}
+use Rattle.std.proofs.Common.{◌≡◌, ℕ, zero, suc, ◌+◌, ◌≤◌, length, arith, List, [], ◌∷◌, ◌++◌, map, Bool, true, false, Option, Some, None, option_map, refl, sym, ap, ◌∙◌, subst}
+use Rattle.std.specs.Prelude.{IsSomeAnd, slice_get}
 use Rattle.std.proofs.lemmas.Option.{slice_get-map}
 use Rattle.isle_core.specs.declared.BindingId.{BindingId}
 use Rattle.isle_core.specs.declared.Sym.{Sym}
-use Rattle.isle_core.specs.declared.TermId.{TermId}
 use Rattle.isle_core.specs.declared.TypeId.{TypeId}
 use Rattle.isle_core.specs.declared.VariantId.{VariantId}
 use Rattle.isle_core.specs.declared.files.Files.{Files}
@@ -13,27 +11,20 @@ use Rattle.isle_core.specs.declared.rule_sets.Binding.{Binding}
 use Rattle.isle_core.specs.declared.rule_sets.Binding.TheVariants as binding
 use Rattle.isle_core.specs.declared.rule_sets.Constraint.{Constraint}
 use Rattle.isle_core.specs.declared.rule_sets.Constraint.TheVariants as constraint
-use Rattle.isle_core.specs.declared.types.BuiltinType.TheVariants as builtin
 use Rattle.isle_core.specs.declared.types.ReturnKind.{ReturnKind}
 use Rattle.isle_core.specs.declared.types.ReturnKind.TheVariants as kind
 use Rattle.isle_core.specs.declared.types.Term.{Term}
-use Rattle.isle_core.specs.declared.types.TypeDef.{TypeDef}
-use Rattle.isle_core.specs.declared.types.TypeDef.TheVariants as def
-use Rattle.isle_core.specs.declared.types.Variant.{Variant as VariantDef}
 use Rattle.isle_core.specs.ArmPlaces.{AreParts, bound_within}
-use Rattle.isle_core.specs.Bindable.{IsPlain, bound_by}
+use Rattle.isle_core.specs.Bindable.{bound_by}
 use Rattle.isle_core.specs.Block as block
 use Rattle.isle_core.specs.Block.{Block, Stop, Step, Control}
-use Rattle.isle_core.specs.BlockLawful.{Source, AValue as OfValue, AnOption as OfOption, IsLawfulBlock}
-use Rattle.isle_core.specs.Calling.{calling, extracting, kind_of}
-use Rattle.isle_core.specs.Constants.{int_of_def, int_value}
+use Rattle.isle_core.specs.BlockLawful.{IsLawfulBlock}
+use Rattle.isle_core.specs.Calling.{kind_of}
 use Rattle.isle_core.specs.ConstraintType.{IsConstraintOf}
-use Rattle.isle_core.specs.ExternalCall.{IsCall, IsExtraction}
-use Rattle.isle_core.specs.Form.{Form, form, form_of_variant, form_types, variant_form, struct_form}
-use Rattle.isle_core.specs.HasType.{HasType, typed_fields}
-use Rattle.isle_core.specs.Making.{Making, MakesVariant, MakesStruct}
-use Rattle.isle_core.specs.NamesApart.{IsNameOf}
-use Rattle.isle_core.specs.Path.{Path, Paths, Nowhere, Arg, ConstBool, ConstInt, ConstPrim, Extracted, Called, MadeVariant, MadeStruct, VariantField, StructField, Chosen, Inner, Part, NoPath, APath, at, at_all}
+use Rattle.isle_core.specs.Form.{Form, form, form_types}
+use Rattle.isle_core.specs.HasType.{typed_fields}
+use Rattle.isle_core.specs.Making.{MakesVariant, MakesStruct}
+use Rattle.isle_core.specs.Path.{Path, Nowhere, ConstBool, ConstInt, ConstPrim, VariantField, StructField, Chosen, Inner, at}
 use Rattle.isle_core.specs.PathType.{IsPathOf}
 use Rattle.isle_core.specs.Rule.{Environment}
 use Rattle.isle_core.specs.Setting.{Setting, setting, gives_several, paths_in}
@@ -42,43 +33,36 @@ use Rattle.isle_core.specs.Terms.{sym_text}
 use Rattle.isle_core.specs.Value.{Value}
 use Rattle.isle_core.proofs.BindingPaths.{path_at}
 use Rattle.isle_tree.specs.declared.tree.Operand.{Operand}
-use Rattle.isle_tree.specs.declared.tree.Operand.TheVariants as operand
 use Rattle.isle_tree.specs.declared.tree.Read.{Read}
 use Rattle.isle_tree.specs.declared.tree.Read.TheVariants as read
 use Rattle.isle_tree.specs.declared.tree.TBind.{TBind}
 use Rattle.isle_tree.specs.declared.tree.TCall.{TCall}
-use Rattle.isle_tree.specs.declared.tree.TExpr.{TExpr}
 use Rattle.isle_tree.specs.declared.tree.TExpr.TheVariants as expr
 use Rattle.isle_tree.specs.declared.tree.TPat.{TPat}
-use Rattle.isle_tree.specs.declared.tree.TPat.TheVariants as pattern
-use Rattle.isle_tree.specs.Program.{Stmt, Let, LetList, IfEq, IfLet, Loop, Return, Extend, Overflow, Log, Tail, Body, Done, Then, Function, Program}
+use Rattle.isle_tree.specs.Program.{Stmt, IfEq, IfLet, Loop, Return, Body, Done, Then, Function, Program}
 use Rattle.isle_simulation.specs.Completed.{completed}
-use Rattle.isle_simulation.specs.Operands.{constant, in_place, is_bound}
+use Rattle.isle_simulation.specs.Operands.{in_place, is_bound}
 use Rattle.isle_simulation.specs.Patterns.{bind_before, field_binds, form_pattern, leaves_out, pattern_named, pattern_of, some_pattern}
-use Rattle.isle_simulation.specs.References.{is_declared, is_reference_in, read_as}
 use Rattle.isle_simulation.specs.RustNames.{HasRustNames}
-use Rattle.isle_simulation.specs.Statements.{binds_list, list_local, local_stmt, looped_local, made_named}
-use Rattle.isle_simulation.specs.Telling.{Telling, line_before, telling_of}
-use Rattle.isle_simulation.specs.TermFunction.{ends_in_return, function_with, mark_of, tail_body, tail_of, tail_in, term_function}
-use Rattle.isle_simulation.specs.TypeTexts.{def_text, type_text, parameter}
+use Rattle.isle_simulation.specs.Statements.{binds_list, list_local, looped_local}
+use Rattle.isle_simulation.specs.Telling.{Telling, telling_of}
+use Rattle.isle_simulation.specs.TermFunction.{ends_in_return, mark_of, tail_body, tail_of, tail_in, term_function}
+use Rattle.isle_simulation.specs.TypeTexts.{type_text, parameter}
 use Rattle.isle_simulation.proofs.ArmsRun.{arm_pattern}
-use Rattle.isle_simulation.proofs.BoundTests.{found}
 use Rattle.isle_simulation.proofs.CompletedReady.{completed_ready}
 use Rattle.isle_simulation.proofs.LocalStmts.{local_by}
 use Rattle.isle_simulation.proofs.Made.{over_value, over_option, function_made}
-use Rattle.isle_simulation.proofs.OneBind.{spelled}
 use Rattle.isle_simulation.proofs.PathTypes.{one_type}
-use Rattle.isle_simulation.proofs.PathValues.{IsConstant}
-use Rattle.isle_simulation.proofs.Ready.{IsSpelled, IsReady, AreReady, IsReadyBind, AreReadyBinds, IsLoopReady, IsReadyFrom, IsReadyControl, AreReadyArms}
-use Rattle.isle_simulation.proofs.Written.{written, written_test, written_operand, written_place, written_read, written_pattern, written_list, callee_of, reads, call_expr, extraction_expr, field_reads, made_expr, bound_expr, bound_stmt, lets, result_stmt, stop_before, arm_stmt, told_before, told_body, told_control, function_of}
+use Rattle.isle_simulation.proofs.Ready.{IsSpelled, IsReady, IsReadyBind, AreReadyBinds, IsReadyFrom, IsReadyControl}
+use Rattle.isle_simulation.proofs.Written.{written, written_test, written_operand, written_read, written_pattern, written_list, bound_expr, bound_stmt, lets, result_stmt, stop_before, told_before, told_body, told_control, function_of}
 use Rattle.isle_places.specs.DeclaredTypes.{Asked, These, Anything, Nowhere as NoFields, variant_asked, struct_asked}
 use Rattle.isle_places.specs.Places as placing
-use Rattle.isle_places.specs.Places.{Place, own_or, where_told, reads_places, params_of, call_places, fields_places, expr_places, plain_told, option_told, returned, both_places, pattern_places, told_after, stmt_places, body_places, places}
-use Rattle.isle_places.specs.Signatures.{Signature, signature_of}
-use Rattle.isle_places.specs.Told.{Told, AValue, AnOption, ATuple, AnOptionalTuple, AList, AListOfTuples, Untold, Tells, typed_told, within, look_told, list_told, operand_of, operand_told, expr_told, read_told, field_told, binds_told, some_told, pattern_told}
-use Rattle.isle_run.proofs.ToldTypes.{IsSignature, IsRight, told_type, right_over, called_right, called_list, extracted_right, extracted_list, within_right, item_right, part_right, place_right, AreRight, look_right}
+use Rattle.isle_places.specs.Places.{Place, expr_places, plain_told, option_told, both_places, told_after, stmt_places, body_places, places}
+use Rattle.isle_places.specs.Signatures.{signature_of}
+use Rattle.isle_places.specs.Told.{Told, AValue, AnOption, ATuple, AnOptionalTuple, AList, AListOfTuples, Untold, Tells, typed_told, within, look_told, list_told, operand_of, operand_told, expr_told, field_told, binds_told}
+use Rattle.isle_run.proofs.ToldTypes.{IsRight, right_over, within_right, item_right, place_right, look_right}
 use Rattle.isle_run.proofs.PlacedExprs as exprs
-use Rattle.isle_run.proofs.PlacedExprs.{TellsTypes, AreFieldsTold, all_append, value_eq, named_enum, named_struct, variant_named, struct_unnamed}
+use Rattle.isle_run.proofs.PlacedExprs.{TellsTypes, AreFieldsTold, all_append, named_enum, named_struct, variant_named, struct_unnamed}
 
 module _ (env : Environment) (t : Term) (bs : List Binding) (p : Program) (Named : List ℕ → Value → Type 0) (names : HasRustNames env) (tells_types : TellsTypes env p Named) (f : Function) (params : f.params ≡ map (parameter env) t.arg_tys) (result : f.result ≡ type_text env t.ret_ty) where
   abbrev s : Setting

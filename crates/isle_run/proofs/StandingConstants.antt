@@ -20,7 +20,6 @@ use Rattle.isle_core.specs.declared.rule_sets.FlatRule.{FlatRule}
 use Rattle.isle_core.specs.declared.types.Term.{Term}
 use Rattle.isle_core.specs.declared.types.TypeDef.{TypeDef}
 use Rattle.isle_core.specs.Calling.{is_several, kind_of}
-use Rattle.isle_core.specs.Constants.{const_type}
 use Rattle.isle_core.specs.NamesApart.{IsNameOf}
 use Rattle.isle_core.specs.Value.{Value}
 use Rattle.isle_core.specs.Path.{Path, at, paths_of}
@@ -29,17 +28,16 @@ use Rattle.isle_core.specs.RuleSet.{is_test, equal_test, flat_tests}
 use Rattle.isle_core.specs.Setting.{setting}
 use Rattle.isle_core.specs.StandsFor.{IsFlat, AreFlat, IsTrivial}
 use Rattle.isle_core.specs.Terms.{sym_text, with_rules}
-use Rattle.isle_core.specs.Tests.{Test, Is, Equal, HasItem, rule_tests}
+use Rattle.isle_core.specs.Tests.{Test, Is, rule_tests}
 use Rattle.isle_core.proofs.Contained.{head_contained, tail_contained, contained_cases, none_contained}
-use Rattle.isle_blocks.specs.AllTests.{IsTried, IsUntested}
+use Rattle.isle_blocks.specs.AllTests.{IsTried}
 use Rattle.isle_items.specs.LawfulNames.{IsNoType, emitted_names}
 use Rattle.isle_items.proofs.HasRustNames.{has_rust_names}
 use Rattle.isle_spelling.specs.Identifier.{begins}
 use Rattle.isle_simulation.specs.RustNames.{HasRustNames}
 use Rattle.isle_naming.specs.Names.{body_names, function_names, is_among}
-use Rattle.isle_naming.specs.Occurring.{item_types, trait_types, function_types, param_types, all_types, program_types, occurs}
+use Rattle.isle_naming.specs.Occurring.{item_types, trait_types, function_types, param_types, program_types, occurs}
 use Rattle.isle_interpreter.specs.Entries.{has_constant}
-use Rattle.isle_simulation.specs.OfTerm.{AreDeclared}
 use Rattle.isle_simulation.specs.TermFunction.{tail_in}
 use Rattle.isle_simulation.specs.Telling.{telling_of}
 use Rattle.isle_simulation.specs.Completed.{completed}
@@ -48,7 +46,7 @@ use Rattle.isle_simulation.proofs.Made.{function_made}
 use Rattle.isle_simulation.proofs.Written.{function_of}
 use Rattle.isle_tree.specs.declared.tree.TraitFn.{TraitFn}
 use Rattle.isle_tree.specs.declared.tree.TypeItem.{TypeItem}
-use Rattle.isle_tree.specs.Program.{Body, Function, Program}
+use Rattle.isle_tree.specs.Program.{Function, Program}
 use Rattle.isle_codegen.specs.Checked.{IsChecked}
 use Rattle.isle_codegen.specs.FromBlock.{AreFromBlocks, IsFromBlock}
 use Rattle.isle_run.specs.Conforming.{Conforms}
@@ -123,12 +121,12 @@ in_either (y ∷ xs) ys x c = ⊎_elim (λ (e : y ≡ x). inl (subst (Contains (
 
 among_names : (xs : List (List ℕ)) (name : List ℕ) → Contains xs name → is_among name xs ≡ true
 among_names [] name c = absurd (none_contained name c)
-among_names (x ∷ xs) name c = one (bytes_eq name x) refl (contained_cases x xs name c)
+among_names (x ∷ xs) name c = one (bytes_eq name x) refl (contained_cases x xs name c) (λ d. among_names xs name d)
   where
-    one : (b : Bool) → bytes_eq name x ≡ b → (x ≡ name) ⊎ Contains xs name → (b || is_among name xs) ≡ true
-    one true is k = refl
-    one false is (inl e) = let t : bytes_eq name x ≡ true = (bytes_eq-Decides name x).1 (sym e) in absurd cc
-    one false is (inr d) = among_names xs name d
+    one : (b : Bool) → bytes_eq name x ≡ b → (x ≡ name) ⊎ Contains xs name → (Contains xs name → is_among name xs ≡ true) → (b || is_among name xs) ≡ true
+    one true is k later = refl
+    one false is (inl e) later = let t : bytes_eq name x ≡ true = (bytes_eq-Decides name x).1 (sym e) in absurd cc
+    one false is (inr d) later = later d
 
 none_among : (xs : List (List ℕ)) (name : List ℕ) → AllByRecursion (λ (x : List ℕ). bytes_eq name x ≡ false) xs → is_among name xs ≡ false
 none_among [] name h = refl
@@ -136,12 +134,13 @@ none_among (x ∷ xs) name h = ap (λ (b : Bool). b || is_among name xs) h.0 ∙
 
 each_free : (xs : List (List ℕ)) (name : List ℕ) → list_any (bytes_eq name) xs ≡ false → (i : ℕ) (x : List ℕ) → slice_get xs i ≡ Some x → bytes_eq name x ≡ false
 each_free [] name h i x e = absurd cc
-each_free (y ∷ xs) name h i x e = one (bytes_eq name y) refl h i e
+each_free (y ∷ xs) name h i x e = one (bytes_eq name y) refl h i e (λ k j l. each_free xs name k j x l)
   where
-    one : (b : Bool) → bytes_eq name y ≡ b → (b || list_any (bytes_eq name) xs) ≡ false → (j : ℕ) → slice_get (y ∷ xs) j ≡ Some x → bytes_eq name x ≡ false
-    one true is k j l = absurd cc
-    one false is k zero l = let same : y ≡ x = cc in subst (λ (z : List ℕ). bytes_eq name z ≡ false) same is
-    one false is k (suc j) l = each_free xs name k j x l
+    one : (b : Bool) → bytes_eq name y ≡ b → (b || list_any (bytes_eq name) xs) ≡ false → (j : ℕ) → slice_get (y ∷ xs) j ≡ Some x
+        → (list_any (bytes_eq name) xs ≡ false → (k : ℕ) → slice_get xs k ≡ Some x → bytes_eq name x ≡ false) → bytes_eq name x ≡ false
+    one true is k j l later = absurd cc
+    one false is k zero l later = let same : y ≡ x = cc in subst (λ (z : List ℕ). bytes_eq name z ≡ false) same is
+    one false is k (suc j) l later = later k j l
 
 module _ (options : CodegenOptions) (files : Files) (env : Environment) (checked : IsChecked files env) (p : Program) (conforms : Conforms options files env p) where
   -- ---- the constant is in a function

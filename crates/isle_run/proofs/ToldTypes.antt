@@ -1,10 +1,9 @@
 -- What a program tells of a path's local and of a spelled path is of the path's types.
-use Rattle.std.proofs.Common.{◌≡◌, ⊎_elim, ℕ, ℤ, List, [], ◌∷◌, ◌++◌, map, Bool, true, false, Option, Some, None, option_map, refl, sym, ap, ◌∙◌, subst}
+use Rattle.std.proofs.Common.{◌≡◌, ℕ, ℤ, List, [], ◌∷◌, map, Bool, true, false, Option, Some, None, option_map, refl, sym, ap, ◌∙◌, subst}
 use Rattle.std.specs.Prelude.{◌==◌, codes, fold, if◌then◌else◌, IsSomeAnd, slice_get}
 use Rattle.std.specs.List.{AllByRecursion}
 use Rattle.std.proofs.lemmas.Bool.Decides.{Decides-eqb}
 use Rattle.std.proofs.lemmas.Option.{slice_get-map}
-use Rattle.isle_core.specs.declared.BindingId.{BindingId}
 use Rattle.isle_core.specs.declared.TermId.{TermId}
 use Rattle.isle_core.specs.declared.TypeId.{TypeId}
 use Rattle.isle_core.specs.declared.types.BuiltinType.TheVariants as builtin
@@ -13,22 +12,19 @@ use Rattle.isle_core.specs.declared.types.ReturnKind.TheVariants as kind
 use Rattle.isle_core.specs.declared.types.Term.{Term}
 use Rattle.isle_core.specs.declared.types.TypeDef.{TypeDef}
 use Rattle.isle_core.specs.declared.types.TypeDef.TheVariants as def
-use Rattle.isle_core.specs.Calling.{calling, extracting}
 use Rattle.isle_core.specs.Constants.{int_of_def}
-use Rattle.isle_core.specs.ExternalCall.{IsCall, IsExtraction}
 use Rattle.isle_core.specs.Form.{Form, form}
-use Rattle.isle_core.specs.HasType.{HasType, IsOfDef}
+use Rattle.isle_core.specs.HasType.{IsOfDef}
 use Rattle.isle_core.specs.Making.{MakesStruct}
-use Rattle.isle_core.specs.Path.{Path, Paths, Nowhere, Arg, ConstBool, ConstInt, ConstPrim, Extracted, Called, Chosen, MadeStruct, Inner, Part, NoPath, APath, at}
-use Rattle.isle_core.specs.PathType.{AreTuple, IsPathOf, IsTupleOf, IsOptionOf, IsListOf, ArePathsOf}
+use Rattle.isle_core.specs.Path.{Path, Paths, Arg, ConstBool, ConstInt, ConstPrim, Extracted, Called, Chosen, MadeStruct, Inner, Part, NoPath, APath}
+use Rattle.isle_core.specs.PathType.{IsPathOf, IsTupleOf, IsOptionOf, IsListOf, ArePathsOf}
 use Rattle.isle_core.specs.Rule.{Environment}
 use Rattle.isle_core.specs.Terms.{sym_text}
 use Rattle.isle_core.specs.Value.{Truth}
 use Rattle.isle_core.proofs.BindingPaths.{HasParts, typed_parts, option_parts, list_parts, tuple_parts}
-use Rattle.isle_tree.specs.declared.tree.Operand.{Operand}
 use Rattle.isle_tree.specs.declared.tree.Operand.TheVariants as operand
 use Rattle.isle_tree.specs.declared.tree.Ty.{Ty}
-use Rattle.isle_tree.specs.Program.{Program, Function}
+use Rattle.isle_tree.specs.Program.{Function}
 use Rattle.isle_simulation.specs.Operands.{constant, in_place}
 use Rattle.isle_simulation.specs.TypeTexts.{def_text, type_text, parameter}
 use Rattle.isle_simulation.proofs.Ready.{IsSpelled}
