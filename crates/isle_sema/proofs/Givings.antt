@@ -26,11 +26,9 @@ use Rattle.isle_core.specs.declared.errors.Error.{Error}
 use Rattle.isle_types.specs.Gathered.{TellsFault, TellsTyping}
 use Rattle.isle_sema.specs.Typing.{Typed, TypedOnly, fault}
 use Rattle.isle_sema.proofs.TypedOnce.{typed_only}
-use Rattle.isle_sema.specs.Taken.{taken_rules}
 use Rattle.isle_sema.specs.Templates.{are_treed}
 use Rattle.isle_sema.proofs.Firsts.{none_stages}
 use Rattle.isle_sema.proofs.DeclaredWell.{terms_made}
-use Rattle.isle_sema.proofs.RuleLaws.{taken_are}
 
 -- ---- faults
 
@@ -60,10 +58,9 @@ unmade ds types declared none =
 
 -- definitions that no test refuses give what is made of them
 pub given_typed : (ds : List Def) (t : TermEnv) → type_fault ds ≡ None → term_fault (whole_of ds) ≡ None → terms_pass (whole_of ds) (terms ds) ≡ Some t.terms
-    → later_fault (whole_of ds) ≡ None → are_treed (whole_of ds) ≡ true → taken_rules (whole_of ds) 0 (rule_defs ds) ≡ Some (map elaborated_rule t.rules) → taken_converters (whole_of ds) [] (converters ds) ≡ Some t.converters → Typed ds (environment (type_env_of ds) t)
+    → later_fault (whole_of ds) ≡ None → are_treed (whole_of ds) ≡ true → rules_pass (whole_of ds) 0 (rule_defs ds) ≡ Some (map elaborated_rule t.rules) → taken_converters (whole_of ds) [] (converters ds) ≡ Some t.converters → Typed ds (environment (type_env_of ds) t)
 given_typed ds t types declared given sound treed rules converting =
     let w = whole_of ds in
-    let k = taken_are w 0 (rule_defs ds) (map elaborated_rule t.rules) rules in
     let c = converters_are w [] (converters ds) t.converters converting in
     record {
       sound = none_stages (fault_in OfTypes w) (or_later (fault_in OfTerms w) (later_fault w)) types (none_stages (fault_in OfTerms w) (later_fault w) declared sound);
@@ -71,7 +68,7 @@ given_typed ds t types declared given sound treed rules converting =
           ap (λ b. cond b (option_and_then (env_with w) (terms_pass w (terms ds))) None) treed
           ∙ ap (option_and_then (env_with w)) given
           ∙ ap (λ o. option_and_then (λ (cs : List (TypeId × TypeId × TermId)). option_map (env_over (type_env_of ds) t.terms cs) (rules_pass w 0 (rule_defs ds))) o) c.1
-          ∙ ap (option_map (env_over (type_env_of ds) t.terms t.converters)) k.trees;
+          ∙ ap (option_map (env_over (type_env_of ds) t.terms t.converters)) rules;
     }
 
 -- terms over the types of definitions

@@ -23,7 +23,6 @@ pub rules_behind : (w : Whole) (o : Option (Row × Pos)) → fault_in OfExtracto
 rules_behind w o none h = ap (λ x. or_later x (fault_in OfRules w)) none ∙ rules_fault_is w [] w.defs ∙ h
 
 -- what is found of rules, behind templates that are taken
-pub rules_given : (w : Whole) (taken : Extractors) (found : Result (Option (Vec CodeRule)) Fault) → AreTaken w taken → AreRulesFound w found → AreRulesAt w found
+pub rules_given : (w : Whole) (taken : Extractors) (found : Result (Vec CodeRule) Fault) → AreTaken w taken → AreRulesFound w (rule_defs w.defs) found → AreRulesAt w found
 rules_given w taken (Err fault) t h = rules_behind w (Some (fault.row, fault.pos)) t.sound h
-rules_given w taken (Ok None) t h = record { sound = rules_behind w None t.sound h.0; left = h.1 }
-rules_given w taken (Ok (Some rules)) t h = record { sound = rules_behind w None t.sound h.0; treed = t.treed; taken = sym h.1 }
+rules_given w taken (Ok rules) t h = record { sound = rules_behind w None t.sound h.sound; treed = t.treed; made = h.made }

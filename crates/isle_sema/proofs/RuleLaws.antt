@@ -1,9 +1,10 @@
--- The rules that are taken break no row, and have trees.
+-- What the code finds of rules: the rows that they break, and their trees.
 use denote.Ref.{Bor}
 use Rattle.std.proofs.Common.{◌≡◌, ℕ, zero, suc, ◌+◌, ◌<◌, ◌≤◌, length, arith, Bool, true, false, cond, List, [], ◌∷◌, ◌++◌, map, Option, Some, None, Result, Ok, Err, refl, sym, ap, ◌∙◌}
 use Rattle.std.specs.Prelude.{IfOk, not, nat_le, is_some, option_map, option_and_then, slice_get}
 use Rattle.std.specs.List.{list_any}
 use Rattle.std.proofs.lemmas.List.{length-map}
+use Rattle.std.proofs.lemmas.Option.{same_Some}
 use Rattle.std.proofs.lemmas.List.Sums.{fold-append}
 use Rattle.isle_core.specs.declared.rules.Expr.{Expr as CodeExpr}
 use Rattle.isle_core.specs.RuleViews.{expr as elaborated_expr}
@@ -27,10 +28,9 @@ use Rattle.isle_variables.specs.Scope.{Scope, no_variables}
 use Rattle.isle_terms.specs.Whole.{Whole, arg_types, ret_type}
 use Rattle.isle_sema.specs.PatternPass.{PatternsPass, patterns_pass}
 use Rattle.isle_sema.specs.ExprPass.{ExprPass, expr_pass}
-use Rattle.isle_sema.specs.RulePass.{ConditionsPass, patterns_of, conditions_pass, conditions_of, right_side_of, left_of, rule_from, written_pass, rule_pass, rules_pass}
+use Rattle.isle_sema.specs.RulePass.{ConditionsPass, patterns_of, conditions_pass, conditions_of, right_side_of, left_of, rule_from, written_from, written_pass}
 use Rattle.isle_sema.specs.RuleRows.{is_large}
 use Rattle.isle_sema.specs.RulesFound.{found_rule, IsRuleFound, rules_fault}
-use Rattle.isle_sema.specs.declared.elaborated_rules.Found.TheVariants.{Unbuilt}
 use Rattle.isle_sema.specs.Templates.{templates}
 use Rattle.isle_core.specs.declared.rules.Rule.{Rule as CodeRule}
 use Rattle.isle_templates.specs.Elaborated.{rule_expanded, elaborated}
@@ -40,18 +40,17 @@ use Rattle.isle_templates.specs.Substituted.{whole_templates}
 use Rattle.isle_sema.specs.Fault.{OfRules, broken_in, fault_after}
 use Rattle.isle_sema.specs.Judging.{unjudged, judge, judge_all, lowest}
 use Rattle.isle_sema.specs.Known.{IsHead, MayBeCalled}
-use Rattle.isle_sema.specs.ElaboratedAt.{ArePatternsAt, AreConditionsAt, IsExprOver, AreSides}
+use Rattle.isle_sema.specs.ElaboratedAt.{pattern_trees, condition_trees, ArePatternsAt, AreConditionsAt, IsExprOver, AreSides}
 use Rattle.isle_culprits.specs.declared.judged.Judged.{Judged}
 use Rattle.isle_sema.specs.declared.sides.Sides.{Sides}
 use Rattle.isle_sema.specs.declared.known.Called.{Called}
 use Rattle.isle_declarations.specs.Symbols.{index_of}
 use Rattle.isle_declarations.specs.Heads.{terms_of}
-use Rattle.isle_sema.specs.Taken.{row_of, taken_rule, taken_rules}
+use Rattle.isle_sema.specs.Taken.{row_of}
 use Rattle.isle_sema.proofs.Firsts.{later_none, none_later}
 use Rattle.isle_sema.proofs.Judgements.{AreMultis, lowest_is}
 use Rattle.isle_declarations.proofs.LookUps.{at_place, named_at, named_is}
 use Rattle.isle_declarations.proofs.SymbolLaws.{index_below}
-use Rattle.isle_terms.proofs.MadeTerms.{first_there, before_both}
 
 -- a rule breaks a row
 abbrev pub is_broken : Whole → RuleDef → Bool
@@ -159,13 +158,6 @@ sides_are w r own multis sides old bound vars next found before middle first h n
       right = e.sites ∙ ap (λ (x : ExprPass). judge_all w first x.sites) right ∙ ap (λ (j : Judged). judge_all w j (right_side_of w r).sites) again;
     }
 
-untreed : (w : Whole) (i : ℕ) (r : RuleDef) → written_pass w i r ≡ None → None ≡ taken_rule w i r
-untreed w i r h = by (is_broken w r)
-  where
-    by : (b : Bool) → None ≡ cond b None (rule_pass w i r)
-    by true = refl
-    by false = sym (ap (option_map (elaborated (templates w))) h)
-
 -- what the code finds is a row that the rule breaks, before that of its nodes
 pub lowest_found : (w : Whole) (r : RuleDef) (own : Called) (multis : Bor (List Bool)) (sides : Sides) (found : Option Row) (count : ℕ) → AreMultis w multis.now → IsHead w r.term own → AreSides w r multis sides → count ≡ length r.args → found ≡ lowest own count sides.left.rows sides.right.rows → or_later found (cond (is_large w r) (Some row.ManyNodes) None) ≡ row_of w r
 lowest_found w r own multis sides found count marks h p as_many f =
@@ -175,52 +167,48 @@ lowest_found w r own multis sides found count marks h p as_many f =
 
 -- the tree of a rule of these parts
 abbrev made : Whole → ℕ → RuleDef → Option TermId → Option (List CorePattern) → Option (List CoreIfLet) → Option CoreExpr → Option CoreRule
-made w i r term trees cs e = option_and_then (λ (term : TermId). option_and_then (λ (args : List CorePattern). option_and_then (λ (iflets : List CoreIfLet). option_map (rule_from w i r term args iflets) e) cs) trees) term
+made w i r term trees cs e = option_and_then (λ (term : TermId). written_from w i r term trees cs e) term
+
+-- whether it is there does not hang on the rule's number
+never_made : (w : Whole) (i n : ℕ) (r : RuleDef) (term : Option TermId) (trees : Option (List CorePattern)) (cs : Option (List CoreIfLet)) (e : Option CoreExpr) → made w i r term trees cs e ≡ None → made w n r term trees cs e ≡ None
+never_made w i n r None trees cs e h = refl
+never_made w i n r (Some term) None cs e h = refl
+never_made w i n r (Some term) (Some args) None e h = refl
+never_made w i n r (Some term) (Some args) (Some iflets) None h = refl
+never_made w i n r (Some term) (Some args) (Some iflets) (Some rhs) h = absurd cc
 
 -- a rule that has no tree breaks no row by its nodes
-untreed_row : (w : Whole) (r : RuleDef) → or_later None (cond (is_large w r) (Some row.ManyNodes) None) ≡ row_of w r → written_pass w 0 r ≡ None → row_of w r ≡ None
-untreed_row w r lowest none = sym lowest ∙ ap (λ b. cond b (Some row.ManyNodes) None) (ap (λ o. on o (λ (x : CoreRule). not (nat_le (rule_nodes (rule_expanded (whole_templates (templates w)) x)) 4096))) none)
+pub untreed_row : (w : Whole) (i : ℕ) (r : RuleDef) → or_later None (cond (is_large w r) (Some row.ManyNodes) None) ≡ row_of w r → written_pass w i r ≡ None → row_of w r ≡ None
+untreed_row w i r lowest none =
+    let first : written_pass w 0 r ≡ None = never_made w i 0 r (term_named (terms w.defs) r.term) (patterns_of w r).trees (conditions_of w r).trees (right_side_of w r).tree none in
+    sym lowest ∙ ap (λ b. cond b (Some row.ManyNodes) None) (ap (λ o. on o (λ (x : CoreRule). not (nat_le (rule_nodes (rule_expanded (whole_templates (templates w)) x)) 4096))) first)
 
--- so it is not taken
-not_treed : (w : Whole) (i : ℕ) (r : RuleDef) → or_later None (cond (is_large w r) (Some row.ManyNodes) None) ≡ row_of w r → ((n : ℕ) → written_pass w n r ≡ None) → IsRuleFound w i r Unbuilt
-not_treed w i r row none = (untreed_row w r row (none 0), untreed w i r (none i))
-
--- a rule without trees
-pub without_trees : (w : Whole) (i : ℕ) (r : RuleDef) → or_later None (cond (is_large w r) (Some row.ManyNodes) None) ≡ row_of w r → (patterns_of w r).trees ≡ None → IsRuleFound w i r Unbuilt
-without_trees w i r row h = not_treed w i r row (λ n. ap (λ o. made w n r (term_named (terms w.defs) r.term) o (conditions_of w r).trees (right_side_of w r).tree) h ∙ by n (term_named (terms w.defs) r.term))
-  where
-    by : (n : ℕ) (o : Option TermId) → made w n r o None (conditions_of w r).trees (right_side_of w r).tree ≡ None
-    by n None = refl
-    by n (Some term) = refl
-
--- a rule whose conditions have none
-pub without_conditions : (w : Whole) (i : ℕ) (r : RuleDef) → or_later None (cond (is_large w r) (Some row.ManyNodes) None) ≡ row_of w r → (conditions_of w r).trees ≡ None → IsRuleFound w i r Unbuilt
-without_conditions w i r row h = not_treed w i r row (λ n. ap (λ o. made w n r (term_named (terms w.defs) r.term) (patterns_of w r).trees o (right_side_of w r).tree) h ∙ by n (term_named (terms w.defs) r.term) (patterns_of w r).trees)
-  where
-    by : (n : ℕ) (o : Option TermId) (trees : Option (List CorePattern)) → made w n r o trees None (right_side_of w r).tree ≡ None
-    by n None trees = refl
-    by n (Some term) None = refl
-    by n (Some term) (Some args) = refl
-
--- a rule whose right side has none
-pub without_tree : (w : Whole) (i : ℕ) (r : RuleDef) → or_later None (cond (is_large w r) (Some row.ManyNodes) None) ≡ row_of w r → (right_side_of w r).tree ≡ None → IsRuleFound w i r Unbuilt
-without_tree w i r row h = not_treed w i r row (λ n. ap (made w n r (term_named (terms w.defs) r.term) (patterns_of w r).trees (conditions_of w r).trees) h ∙ by n (term_named (terms w.defs) r.term) (patterns_of w r).trees (conditions_of w r).trees)
-  where
-    by : (n : ℕ) (term : Option TermId) (trees : Option (List CorePattern)) (cs : Option (List CoreIfLet)) → made w n r term trees cs None ≡ None
-    by n None trees cs = refl
-    by n (Some term) None cs = refl
-    by n (Some term) (Some args) None = refl
-    by n (Some term) (Some args) (Some iflets) = refl
-
--- the rule as it is written, of these parts
-written_made : (w : Whole) (i : ℕ) (r : RuleDef) (own : Called) (args : List CorePattern) (iflets : List CoreIfLet) (rhs : CoreExpr) → IsHead w r.term own
-    → (patterns_of w r).trees ≡ Some args → (conditions_of w r).trees ≡ Some iflets → (right_side_of w r).tree ≡ Some rhs → written_pass w i r ≡ Some (rule_from w i r own.term args iflets rhs)
-written_made w i r own args iflets rhs h trees cs tree =
+-- the rule of the parts that the code finds is the rule as it is written
+pub written_is : (w : Whole) (i : ℕ) (r : RuleDef) (own : Called) (multis : Bor (List Bool)) (sides : Sides) → IsHead w r.term own → AreSides w r multis sides
+    → written_from w i r own.term (pattern_trees sides.args) (condition_trees sides.iflets) (option_map elaborated_expr sides.rhs) ≡ written_pass w i r
+written_is w i r own multis sides h p =
     let number : term_named (terms w.defs) r.term ≡ Some own.term = ap (term_named (terms w.defs)) (sym (named_is (terms w.defs) r.term h.signature h.there)) ∙ h.called.term in
-    ap (λ o. made w i r o (patterns_of w r).trees (conditions_of w r).trees (right_side_of w r).tree) number
-    ∙ ap (λ o. made w i r (Some own.term) o (conditions_of w r).trees (right_side_of w r).tree) trees
-    ∙ ap (λ o. made w i r (Some own.term) (Some args) o (right_side_of w r).tree) cs
-    ∙ ap (λ o. made w i r (Some own.term) (Some args) (Some iflets) o) tree
+    ap (λ o. written_from w i r own.term o (condition_trees sides.iflets) (option_map elaborated_expr sides.rhs)) p.trees
+    ∙ ap (λ o. written_from w i r own.term (patterns_of w r).trees o (option_map elaborated_expr sides.rhs)) p.conditions
+    ∙ ap (written_from w i r own.term (patterns_of w r).trees (conditions_of w r).trees) p.tree
+    ∙ ap (λ o. made w i r o (patterns_of w r).trees (conditions_of w r).trees (right_side_of w r).tree) (sym number)
+
+-- the parts of a rule that is there, whatever its number
+pub record IsMadeOf (w : Whole) (i : ℕ) (r : RuleDef) (o : Option TermId) (trees : Option (List CorePattern)) (cs : Option (List CoreIfLet)) (e : Option CoreExpr) (x : CoreRule) : Type 0 where
+  pub term : TermId
+  pub args : List CorePattern
+  pub iflets : List CoreIfLet
+  pub rhs : CoreExpr
+  pub is : rule_from w i r term args iflets rhs ≡ x
+  pub each : (n : ℕ) → made w n r o trees cs e ≡ Some (rule_from w n r term args iflets rhs)
+
+made_of : (w : Whole) (i : ℕ) (r : RuleDef) (o : Option TermId) (trees : Option (List CorePattern)) (cs : Option (List CoreIfLet)) (e : Option CoreExpr) (x : CoreRule) → made w i r o trees cs e ≡ Some x → IsMadeOf w i r o trees cs e x
+made_of w i r None trees cs e x h = absurd cc
+made_of w i r (Some term) None cs e x h = absurd cc
+made_of w i r (Some term) (Some args) None e x h = absurd cc
+made_of w i r (Some term) (Some args) (Some iflets) None x h = absurd cc
+made_of w i r (Some term) (Some args) (Some iflets) (Some rhs) x h =
+    record { term = term; args = args; iflets = iflets; rhs = rhs; is = same_Some (rule_from w i r term args iflets rhs) x h; each = λ n. refl }
 
 above : (m n : ℕ) → n < m → nat_le m n ≡ false
 above m n lt = by (nat_le m n) refl
@@ -229,29 +217,25 @@ above m n lt = by (nat_le m n) refl
     by true k = absurd (let le = leb-true m n k in omega (arith, le, lt))
     by false k = refl
 
--- a rule of few nodes is taken, with templates replaced; one of more breaks the row of nodes
-pub found_made : (w : Whole) (i : ℕ) (r : RuleDef) (own : Called) (args : List CorePattern) (iflets : List CoreIfLet) (rhs : CoreExpr) (found : Option CodeRule) → IsHead w r.term own → or_later None (cond (is_large w r) (Some row.ManyNodes) None) ≡ row_of w r
-    → (patterns_of w r).trees ≡ Some args → (conditions_of w r).trees ≡ Some iflets → (right_side_of w r).tree ≡ Some rhs → IsElaborated (templates w) (rule_from w i r own.term args iflets rhs) found → IsRuleFound w i r (found_rule found)
-found_made w i r own args iflets rhs found h lowest trees cs tree e = by found e
+-- a rule of few nodes is elaborated; one of more breaks the row of nodes
+pub found_made : (w : Whole) (i : ℕ) (r : RuleDef) (x : CoreRule) (found : Option CodeRule) → or_later None (cond (is_large w r) (Some row.ManyNodes) None) ≡ row_of w r → written_pass w i r ≡ Some x → IsElaborated (templates w) x found → IsRuleFound w i r (found_rule found)
+found_made w i r x found lowest written e = by found e
   where
-    x : CoreRule
-    x = rule_from w i r own.term args iflets rhs
+    m : IsMadeOf w i r (term_named (terms w.defs) r.term) (patterns_of w r).trees (conditions_of w r).trees (right_side_of w r).tree x
+    m = made_of w i r (term_named (terms w.defs) r.term) (patterns_of w r).trees (conditions_of w r).trees (right_side_of w r).tree x written
 
-    nodes : ℕ
-    nodes = rule_nodes (rule_expanded (whole_templates (templates w)) x)
+    count : CoreRule → ℕ
+    count = λ y. rule_nodes (rule_expanded (whole_templates (templates w)) y)
 
-    large : is_large w r ≡ not (nat_le nodes 4096)
-    large = ap (λ o. on o (λ (y : CoreRule). not (nat_le (rule_nodes (rule_expanded (whole_templates (templates w)) y)) 4096))) (written_made w 0 r own args iflets rhs h trees cs tree)
+    large : is_large w r ≡ not (nat_le (count x) 4096)
+    large = ap (λ o. on o (λ (y : CoreRule). not (nat_le (count y) 4096))) (m.each 0) ∙ ap (λ y. not (nat_le (count y) 4096)) m.is
 
-    few : nodes ≤ 4096 → row_of w r ≡ None
-    few le = sym lowest ∙ ap (λ b. cond b (Some row.ManyNodes) None) (large ∙ ap not (le-leb nodes 4096 le))
+    few : count x ≤ 4096 → row_of w r ≡ None
+    few le = sym lowest ∙ ap (λ b. cond b (Some row.ManyNodes) None) (large ∙ ap not (le-leb (count x) 4096 le))
 
     by : (o : Option CodeRule) → IsElaborated (templates w) x o → IsRuleFound w i r (found_rule o)
-    by None more = sym lowest ∙ ap (λ b. cond b (Some row.ManyNodes) None) (large ∙ ap not (above nodes 4096 more))
-    by (Some y) is = (
-      few is.1,
-      sym (ap (λ b. cond b None (rule_pass w i r)) (ap is_some (few is.1)) ∙ ap (option_map (elaborated (templates w))) (written_made w i r own args iflets rhs h trees cs tree) ∙ ap Some (sym is.0)),
-    )
+    by None more = sym lowest ∙ ap (λ b. cond b (Some row.ManyNodes) None) (large ∙ ap not (above (count x) 4096 more))
+    by (Some y) is = record { sound = few is.1; made = ap (option_map (elaborated (templates w))) written ∙ ap Some (sym is.0) }
 
 -- what holds of each good answer
 pub ok_map : {X E : Type 0} {P Q : X → Type 0} (r : Result X E) → ((x : X) → P x → Q x) → IfOk r P → IfOk r Q
@@ -266,37 +250,3 @@ no_term (Some s) none there = cc
 pub none_called : (w : Whole) (o : Option Signature) → MayBeCalled w o None → o ≡ None
 none_called w None h = refl
 none_called w (Some s) h = absurd h
-
--- ---- the rules that are taken
-
--- no rule breaks a row, and these are the trees
-pub record AreTaken (w : Whole) (i : ℕ) (rules : List RuleDef) (xs : List CoreRule) : Type 0 where
-  pub kept : list_any (is_broken w) rules ≡ false
-  pub trees : rules_pass w i rules ≡ Some xs
-
-refused_first : {X : Type 0} (b : Bool) (o : Option X) (x : X) → cond b None o ≡ Some x → (b ≡ false) × (o ≡ Some x)
-refused_first true o x h = absurd cc
-refused_first false o x h = (refl, h)
-
-pub taken_are : (w : Whole) (i : ℕ) (rules : List RuleDef) (xs : List CoreRule) → taken_rules w i rules ≡ Some xs → AreTaken w i rules xs
-taken_are w i [] xs h = record { kept = refl; trees = h }
-taken_are w i (r ∷ rules) xs h =
-    let f = first_there (taken_rule w i r) (taken_rules w (i + 1) rules) xs h in
-    let own = refused_first (is_broken w r) (rule_pass w i r) f.first f.here in
-    let rest = taken_are w (i + 1) rules f.others f.found in
-    record {
-      kept = or_from (is_broken w r) (list_any (is_broken w) rules) own.0 rest.kept;
-      trees = before_both (rule_pass w i r) (rules_pass w (i + 1) rules) f.first f.others own.1 rest.trees ∙ ap Some (sym f.all);
-    }
-
-kept_rule : {X : Type 0} (b : Bool) (o : Option X) → b ≡ false → cond b None o ≡ o
-kept_rule true o h = absurd cc
-kept_rule false o h = refl
-
-pub are_taken : (w : Whole) (i : ℕ) (rules : List RuleDef) (xs : List CoreRule) → AreTaken w i rules xs → taken_rules w i rules ≡ Some xs
-are_taken w i [] xs t = t.trees
-are_taken w i (r ∷ rules) xs t =
-    let f = first_there (rule_pass w i r) (rules_pass w (i + 1) rules) xs t.trees in
-    let k = or_parts (is_broken w r) (list_any (is_broken w) rules) t.kept in
-    let own : taken_rule w i r ≡ Some f.first = kept_rule (is_broken w r) (rule_pass w i r) k.0 ∙ f.here in
-    before_both (taken_rule w i r) (taken_rules w (i + 1) rules) f.first f.others own (are_taken w (i + 1) rules f.others (record { kept = k.1; trees = f.found })) ∙ ap Some (sym f.all)

@@ -11,23 +11,20 @@ use Rattle.isle_ast.specs.Tree.{Def}
 use Rattle.isle_declarations.specs.Signatures.{RuleDef, rule_defs}
 use Rattle.isle_declarations.specs.Terms.{terms}
 use Rattle.isle_templates.specs.Elaborated.{elaborated}
-use Rattle.isle_terms.specs.TermFault.{term_fault}
 use Rattle.isle_terms.specs.TermPass.{terms_pass}
 use Rattle.isle_terms.specs.Whole.{whole_of}
 use Rattle.isle_terms.proofs.MadeTerms.{before_both}
-use Rattle.isle_types.specs.Fault.{type_fault}
 use Rattle.isle_sema.specs.Environment.{env_over, env_with}
 use Rattle.isle_sema.specs.Fault.{OfTypes, OfTerms, OfExtractors, OfRules, or_later, fault_in, later_fault}
 use Rattle.isle_sema.specs.RulePass.{rule_pass, rules_pass}
 use Rattle.isle_sema.specs.Taken.{row_of}
-use Rattle.isle_sema.specs.TakenAt.{HaveUnbuilt}
 use Rattle.isle_sema.specs.Templates.{templates, are_treed}
 use Rattle.isle_sema.specs.Typing.{fault, SomeTyped}
 use Rattle.isle_sema.proofs.DeclaredWell.{AreDeclaredWell, terms_made}
 use Rattle.isle_sema.proofs.ExtractorLaws.{kept_in}
 use Rattle.isle_sema.proofs.Firsts.{stages_none}
 use Rattle.isle_sema.proofs.MadeConverters.{converters_made}
-use Rattle.isle_sema.proofs.RuleLaws.{is_broken, none_fault, none_is, are_taken}
+use Rattle.isle_sema.proofs.RuleLaws.{is_broken, none_fault, none_is}
 use Rattle.isle_sema.proofs.TreedRules.{rule_treed}
 use Rattle.isle_sema.proofs.TreedTemplates.{all_treed}
 
@@ -42,17 +39,6 @@ rules_made defs i (r ∷ rules) d among h =
     let first = elaborated (templates w) written.0 in
     let rest = rules_made defs (i + 1) rules d (λ x c. among x (tail_contained r rules x c)) k.1 in
     (first ∷ rest.0, before_both (rule_pass w i r) (rules_pass w (i + 1) rules) first rest.0 (ap (option_map (elaborated (templates w))) written.1) rest.1)
-
--- where extractors and rules have no fault either, their rules are taken
-pub none_untaken : (defs : List Def) → type_fault defs ≡ None → term_fault (whole_of defs) ≡ None → HaveUnbuilt (whole_of defs) → ⊥
-none_untaken defs types declared u =
-    let w = whole_of defs in
-    let d : AreDeclaredWell defs = record { types = types; terms = declared } in
-    let later = stages_none (fault_in OfExtractors w) (fault_in OfRules w) u.sound in
-    let kept = none_fault w [] defs later.1 in
-    let rs = rules_made defs 0 (rule_defs defs) d (λ r c. c) kept in
-    let bad : None ≡ Some rs.0 = u.left ∙ are_taken w 0 (rule_defs defs) rs.0 (record { kept = kept; trees = rs.1 }) in
-    cc
 
 -- definitions without a fault give an environment
 pub sound_typed : (defs : List Def) → fault defs ≡ None → SomeTyped defs

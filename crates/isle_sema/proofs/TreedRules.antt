@@ -1,5 +1,5 @@
 -- A rule that breaks no row has a tree, where no definition breaks a row of types or of terms.
-use Rattle.std.proofs.Common.{◌≡◌, ℕ, ◌+◌, false, List, [], ◌∷◌, ◌++◌, length, map, Option, Some, None, refl, sym, ap, ◌∙◌, subst}
+use Rattle.std.proofs.Common.{◌≡◌, ℕ, ◌+◌, false, cond, List, [], ◌∷◌, ◌++◌, length, map, Option, Some, None, refl, sym, ap, ◌∙◌, subst}
 use Rattle.std.specs.Prelude.{◌==◌, not, is_some, Contains, option_map, option_and_then}
 use Rattle.std.specs.List.{list_any}
 use Rattle.std.proofs.lemmas.Bool.{or_parts, eqb-true, not-false}
@@ -16,6 +16,8 @@ use Rattle.isle_variables.specs.Locals.{of_patterns}
 use Rattle.isle_variables.specs.NewVariables.{new_count}
 use Rattle.isle_variables.specs.Scope.{Scope, no_variables}
 use Rattle.isle_types.specs.TypeRows.{on}
+use Rattle.isle_types.specs.Fault.{or_later}
+use Rattle.isle_types.specs.declared.row.Row.TheVariants as row
 use Rattle.isle_terms.specs.TypeNames.{type_named}
 use Rattle.isle_terms.specs.Whole.{Whole, whole_of, declared, termed, arg_types}
 use Rattle.isle_terms.proofs.MadeTerms.{before_both}
@@ -24,13 +26,14 @@ use Rattle.isle_sema.specs.ExprType.{own_type}
 use Rattle.isle_sema.proofs.TypesOwned.{type_is}
 use Rattle.isle_sema.specs.PatternPass.{count_of, pattern_pass}
 use Rattle.isle_sema.specs.RulePass.{ConditionsPass, iflet_tree, condition_expr, condition_pattern, condition_pass, conditions_pass, patterns_of, conditions_of, right_side_of, left_of, rule_from, written_pass}
-use Rattle.isle_sema.specs.RuleRows.{is_untaken, is_mistaken, is_misplaced, is_undeclared, is_met_otherwise, is_unknown, is_mistyped}
+use Rattle.isle_sema.specs.RuleRows.{is_untaken, is_mistaken, is_misplaced, is_undeclared, is_met_otherwise, is_unknown, is_mistyped, is_large}
 use Rattle.isle_sema.specs.RulesFound.{AreHeadsDeclared}
 use Rattle.isle_sema.specs.Taken.{row_of}
 use Rattle.isle_sema.proofs.DeclaredWell.{AreDeclaredWell, declarations_kept, knows_types, declared_term}
 use Rattle.isle_sema.proofs.Firsts.{any_parts}
 use Rattle.isle_sema.proofs.Judgements.{row_fails}
 use Rattle.isle_sema.proofs.NamedExtractors.{fails_at}
+use Rattle.isle_sema.proofs.RuleLaws.{untreed_row}
 use Rattle.isle_sema.proofs.TermFaults.{is_headless}
 use Rattle.isle_sema.proofs.TreedExprs.{AreUsedWell, used_parts, patterns_typed, expr_treed}
 use Rattle.isle_sema.proofs.TreedPatterns.{KnowsTypes, numbered, AreTypedIn, none_typed, AreExpected, as_many_expected, pattern_treed, patterns_treed}
@@ -102,12 +105,9 @@ heads_declared defs d r c =
     let head = or_parts (not (is_some (declared (whole_of defs) r.term))) (is_some (func_named (externs defs) r.term)) (fails_at (is_headless defs) (rule_defs defs) r (declarations_kept defs d).heads c) in
     ap is_some (declared_term defs r.term d head.0).there
 
--- a rule that breaks no row has a tree
-pub rule_treed : (defs : List Def) (i : ℕ) (r : RuleDef) → AreDeclaredWell defs → Contains (rule_defs defs) r → row_of (whole_of defs) r ≡ None → (x : CoreRule) × (written_pass (whole_of defs) i r ≡ Some x)
-rule_treed defs i r d c row =
-    let w = whole_of defs in
-    let head = or_parts (not (is_some (declared w r.term))) (is_some (func_named (externs defs) r.term)) (fails_at (is_headless defs) (rule_defs defs) r (declarations_kept defs d).heads c) in
-    let s = declared_term defs r.term d head.0 in
+-- a rule of a term that is there has a tree where it breaks no row
+row_treed : (w : Whole) (i : ℕ) (r : RuleDef) (s : Signature) → KnowsTypes w → termed w r.term ≡ Some s → row_of w r ≡ None → (x : CoreRule) × (written_pass w i r ≡ Some x)
+row_treed w i r s knows there row =
     let f = row_fails w r row in
     let rs = (right_side_of w r).sites in
     let a = or_parts (on (termed w r.term) (λ (y : Signature). not (length r.args == length y.args))) (list_any (is_untaken w) (left_of w r ++ rs)) f.arity in
@@ -115,7 +115,22 @@ rule_treed defs i r d c row =
     let u = any_parts (is_unknown w) (left_of w r) rs f.name in
     let v = any_parts (is_mistyped w) (left_of w r) rs f.typing in
     let k = any_parts is_undeclared (left_of w r) rs f.constants in
-    let arity : not (length r.args == length s.signature.args) ≡ false = ap (λ (o : Option Signature). on o (λ (y : Signature). not (length r.args == length y.args))) (sym s.there) ∙ a.0 in
+    let arity : not (length r.args == length s.args) ≡ false = ap (λ (o : Option Signature). on o (λ (y : Signature). not (length r.args == length y.args))) (sym there) ∙ a.0 in
     let taken : AreTakenWell w (left_of w r) = record { taken = (any_parts (is_untaken w) (left_of w r) rs a.1).0; types = (any_parts (is_mistaken w) (left_of w r) rs f.taken).0; placed = p.0; declared = k.0; again = (any_parts is_met_otherwise (left_of w r) rs f.met).0 } in
-    parts_treed w i r s.signature (knows_types defs d) s.there (eqb-true (length r.args) (length s.signature.args) (not-false (length r.args == length s.signature.args) arity)) taken
+    parts_treed w i r s knows there (eqb-true (length r.args) (length s.args) (not-false (length r.args == length s.args) arity)) taken
     (record { placed = p.0; known = u.0; typed = v.0; declared = k.0 }) (record { placed = p.1; known = u.1; typed = v.1; declared = k.1 })
+
+-- so a rule that breaks no row before that of its nodes has one
+pub never_untreed : (defs : List Def) (i : ℕ) (r : RuleDef) (s : Signature) → AreDeclaredWell defs → termed (whole_of defs) r.term ≡ Some s → or_later None (cond (is_large (whole_of defs) r) (Some row.ManyNodes) None) ≡ row_of (whole_of defs) r → written_pass (whole_of defs) i r ≡ None → ⊥
+never_untreed defs i r s d there lowest none =
+    let w = whole_of defs in
+    let treed = row_treed w i r s (knows_types defs d) there (untreed_row w i r lowest none) in
+    let bad : None ≡ Some treed.0 = sym none ∙ treed.1 in
+    cc
+
+-- and so has one of definitions that breaks no row
+pub rule_treed : (defs : List Def) (i : ℕ) (r : RuleDef) → AreDeclaredWell defs → Contains (rule_defs defs) r → row_of (whole_of defs) r ≡ None → (x : CoreRule) × (written_pass (whole_of defs) i r ≡ Some x)
+rule_treed defs i r d c row =
+    let head = or_parts (not (is_some (declared (whole_of defs) r.term))) (is_some (func_named (externs defs) r.term)) (fails_at (is_headless defs) (rule_defs defs) r (declarations_kept defs d).heads c) in
+    let s = declared_term defs r.term d head.0 in
+    row_treed (whole_of defs) i r s.signature (knows_types defs d) s.there row

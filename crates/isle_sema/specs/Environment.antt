@@ -22,6 +22,6 @@ env_over types terms converters rules = record { types = types; terms = terms; r
 abbrev pub env_with : Whole → List Term → Option Environment
 env_with w typed = option_and_then (λ (cs : List (TypeId × TypeId × TermId)). option_map (env_over w.types typed cs) (rules_pass w 0 (rule_defs w.defs))) (converters_pass w (converters w.defs))
 
--- the environment of definitions, where their forms are built and their types are known
+-- the environment of definitions, where their types are known and their templates and rules have trees
 abbrev pub env_of : List Def → Option Environment
 env_of defs = if are_treed (whole_of defs) then option_and_then (env_with (whole_of defs)) (terms_pass (whole_of defs) (terms defs)) else None

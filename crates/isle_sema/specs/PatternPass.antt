@@ -20,7 +20,7 @@ use Rattle.isle_terms.specs.Converters.{conversion, within}
 use Rattle.isle_terms.specs.TermPass.{tree_before}
 use Rattle.isle_terms.specs.Whole.{Whole, termed, arg_types, ret_type, number_of, constant_type}
 
--- a pattern's tree, where its form is built and its types are known; the variables after it; and its parts
+-- a pattern's tree, where its types are known; the variables after it; and its parts
 pub record PatternPass : Type 0 where
   pub tree : Option CorePattern
   pub scope : Scope

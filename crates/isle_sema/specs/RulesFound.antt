@@ -4,37 +4,45 @@ use Rattle.std.specs.Global.{Vec}
 use Rattle.isle_core.specs.declared.position.Pos.{Pos}
 use Rattle.isle_core.specs.declared.rules.Rule.{Rule as CodeRule}
 use Rattle.isle_core.specs.RuleViews.{rule as elaborated_rule}
+use Rattle.isle_culprits.specs.declared.culprit.Breach.{Breach}
 use Rattle.isle_declarations.specs.Signatures.{RuleDef, rule_defs}
 use Rattle.isle_types.specs.declared.row.Row.{Row}
 use Rattle.isle_types.specs.declared.row.Row.TheVariants.{ManyNodes}
 use Rattle.isle_types.specs.Fault.{or_later}
 use Rattle.isle_terms.specs.Whole.{Whole, termed}
-use Rattle.isle_sema.specs.declared.elaborated_rules.Found.{Found}
-use Rattle.isle_sema.specs.declared.elaborated_rules.Found.TheVariants.{Broken, Unbuilt, Taken}
 use Rattle.isle_sema.specs.declared.fault.Fault.{Fault}
-use Rattle.isle_sema.specs.Taken.{row_of, taken_rule, taken_rules}
+use Rattle.isle_sema.specs.RulePass.{rule_pass, rules_pass}
+use Rattle.isle_sema.specs.Taken.{row_of}
 
 -- what is found of a rule that breaks no row before that of its nodes, by its elaborated rule
-abbrev pub found_rule : Option CodeRule → Found
-found_rule None = Broken (record { row = ManyNodes; culprit = None })
-found_rule (Some rule) = Taken rule
+abbrev pub found_rule : Option CodeRule → Result CodeRule Breach
+found_rule None = Err (record { row = ManyNodes; culprit = None })
+found_rule (Some rule) = Ok rule
 
--- the row that a rule breaks; or it breaks none, and is not taken; or it is taken so
-abbrev pub IsRuleFound : Whole → ℕ → RuleDef → Found → Type 0
-IsRuleFound w i r (Broken breach) = row_of w r ≡ Some breach.row
-IsRuleFound w i r Unbuilt = (row_of w r ≡ None) × (None ≡ taken_rule w i r)
-IsRuleFound w i r (Taken rule) = (row_of w r ≡ None) × (Some (elaborated_rule rule) ≡ taken_rule w i r)
+-- a rule that breaks no row, with its elaborated rule
+pub record IsRuleMade (w : Whole) (i : ℕ) (r : RuleDef) (rule : CodeRule) : Type 0 where
+  pub sound : row_of w r ≡ None
+  pub made : rule_pass w i r ≡ Some (elaborated_rule rule)
+
+-- so, or the row that it breaks
+abbrev pub IsRuleFound : Whole → ℕ → RuleDef → Result CodeRule Breach → Type 0
+IsRuleFound w i r (Ok rule) = IsRuleMade w i r rule
+IsRuleFound w i r (Err breach) = row_of w r ≡ Some breach.row
 
 -- the first of rules that breaks a row, with the row and its place
 abbrev pub rules_fault : Whole → List RuleDef → Option (Row × Pos)
 rules_fault w [] = None
 rules_fault w (r ∷ rs) = or_later (option_map (λ (row : Row). (row, r.pos)) (row_of w r)) (rules_fault w rs)
 
--- the fault of the rules; or they have none, and one is not taken, or these are taken
-abbrev pub AreRulesFound : Whole → Result (Option (Vec CodeRule)) Fault → Type 0
-AreRulesFound w (Err fault) = rules_fault w (rule_defs w.defs) ≡ Some (fault.row, fault.pos)
-AreRulesFound w (Ok None) = (rules_fault w (rule_defs w.defs) ≡ None) × (None ≡ taken_rules w 0 (rule_defs w.defs))
-AreRulesFound w (Ok (Some rules)) = (rules_fault w (rule_defs w.defs) ≡ None) × (Some (map elaborated_rule rules.items) ≡ taken_rules w 0 (rule_defs w.defs))
+-- rules that break no row, with their elaborated rules
+pub record AreRulesMade (w : Whole) (rs : List RuleDef) (rules : List CodeRule) : Type 0 where
+  pub sound : rules_fault w rs ≡ None
+  pub made : rules_pass w 0 rs ≡ Some (map elaborated_rule rules)
+
+-- so, or the first that breaks one
+abbrev pub AreRulesFound : Whole → List RuleDef → Result (Vec CodeRule) Fault → Type 0
+AreRulesFound w rs (Ok rules) = AreRulesMade w rs rules.items
+AreRulesFound w rs (Err fault) = rules_fault w rs ≡ Some (fault.row, fault.pos)
 
 -- the term of each rule is there
 abbrev pub AreHeadsDeclared : Whole → Type 0

@@ -1,4 +1,4 @@
--- Extractors that break a row beside that they reach themselves, and the rules that are taken: they break no row, and have a tree.
+-- Extractors that break a row beside that they reach themselves, and the row that a rule breaks.
 use Rattle.std.specs.Prelude.{ℕ, ◌+◌, List, [], ◌∷◌, Bool, ◌||◌, Option, Some, None, is_some, if◌then◌else◌}
 use Rattle.std.specs.List.{list_any}
 use Rattle.isle_core.specs.Rule.{Rule as CoreRule}
@@ -28,12 +28,3 @@ def_of r = Rule r.name r.prio r.term r.args r.iflets r.rhs r.pos
 -- the row that it breaks, the lowest first; none hangs on the definitions before it
 abbrev pub row_of : Whole → RuleDef → Option Row
 row_of w r = broken_in OfRules (record { whole = w; before = [] }) (def_of r)
-
--- the rule of that number
-abbrev pub taken_rule : Whole → ℕ → RuleDef → Option CoreRule
-taken_rule w i r = if is_some (row_of w r) then None else rule_pass w i r
-
--- rules, from that number on, where all are taken
-abbrev pub taken_rules : Whole → ℕ → List RuleDef → Option (List CoreRule)
-taken_rules w i [] = Some []
-taken_rules w i (r ∷ rs) = tree_before (taken_rule w i r) (taken_rules w (i + 1) rs)

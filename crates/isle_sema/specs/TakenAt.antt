@@ -1,5 +1,5 @@
 -- What the code gives of templates and of rules.
-use Rattle.std.specs.Prelude.{◌≡◌, true, List, map, Option, Some, None, Result, Ok, Err}
+use Rattle.std.specs.Prelude.{◌≡◌, true, List, map, Some, None, Result, Ok, Err}
 use Rattle.std.specs.Global.{Vec}
 use Rattle.isle_core.specs.declared.rules.Rule.{Rule as CodeRule}
 use Rattle.isle_core.specs.Rule.{Rule as CoreRule}
@@ -7,23 +7,17 @@ use Rattle.isle_core.specs.RuleViews.{rule as elaborated_rule}
 use Rattle.isle_declarations.specs.Signatures.{rule_defs}
 use Rattle.isle_sema.specs.declared.fault.Fault.{Fault}
 use Rattle.isle_sema.specs.Fault.{later_fault}
-use Rattle.isle_sema.specs.Taken.{taken_rules}
+use Rattle.isle_sema.specs.RulePass.{rules_pass}
 use Rattle.isle_sema.specs.Templates.{are_treed}
 use Rattle.isle_terms.specs.Whole.{Whole}
 
--- no extractor and no rule breaks a row, each template has a tree, and these are the rules, which are taken
+-- no extractor and no rule breaks a row, each template has a tree, and these are the rules
 pub record HaveRules (w : Whole) (rules : List CoreRule) : Type 0 where
   pub sound : later_fault w ≡ None
   pub treed : are_treed w ≡ true
-  pub taken : taken_rules w 0 (rule_defs w.defs) ≡ Some rules
-
--- no extractor and no rule breaks a row, and a rule is not taken
-pub record HaveUnbuilt (w : Whole) : Type 0 where
-  pub sound : later_fault w ≡ None
-  pub left : None ≡ taken_rules w 0 (rule_defs w.defs)
+  pub made : rules_pass w 0 (rule_defs w.defs) ≡ Some rules
 
 -- the fault of extractors and rules, or what they give
-abbrev pub AreRulesAt : Whole → Result (Option (Vec CodeRule)) Fault → Type 0
+abbrev pub AreRulesAt : Whole → Result (Vec CodeRule) Fault → Type 0
 AreRulesAt w (Err fault) = later_fault w ≡ Some (fault.row, fault.pos)
-AreRulesAt w (Ok None) = HaveUnbuilt w
-AreRulesAt w (Ok (Some rules)) = HaveRules w (map elaborated_rule rules.items)
+AreRulesAt w (Ok rules) = HaveRules w (map elaborated_rule rules.items)

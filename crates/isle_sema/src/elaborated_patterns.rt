@@ -119,7 +119,7 @@ fn converted(
     Ok(made_of(converter, Some(parts)))
 }
 
-/// A pattern where this type is expected: its tree, where its form is built and its types are known.
+/// A pattern where this type is expected: its tree, where its types are known.
 #[cycle(patterns)]
 #[tactic(auto, using(isle_ast::proofs::Sees::pattern_sees, isle_core::proofs::SeesRules::sees))]
 pub fn pattern_at<'d>(

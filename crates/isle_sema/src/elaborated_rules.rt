@@ -1,13 +1,17 @@
 //! Rules with types in them, their names as symbols and variables as numbers.
 
-ghost use Rattle.std.specs.Prelude.{◌≡◌, IfOk, Some, true, is_some, map};
+ghost use Rattle.std.specs.Prelude.{◌≡◌, IfOk, Some, None, true, is_some, map, option_map};
 ghost use Rattle.isle_core.specs.RuleViews.{rule as elaborated_rule, pattern as elaborated_pattern};
 ghost use Rattle.isle_core.specs.RuleViews.{iflet as elaborated_iflet, expr as elaborated_expr};
 ghost use Rattle.isle_ast.specs.Views.{defs as seen_defs};
 ghost use Rattle.isle_declarations.specs.Symbols.{index_of};
 ghost use Rattle.isle_declarations.specs.Collected.{rule as seen, AreRules};
-ghost use Rattle.isle_sema.specs.RulePass.{rule_from};
+ghost use Rattle.isle_declarations.specs.Signatures.{rule_defs};
+ghost use Rattle.isle_sema.specs.ElaboratedAt.{pattern_trees, condition_trees};
+ghost use Rattle.isle_sema.specs.RulePass.{rule_from, written_from};
+ghost use Rattle.isle_terms.specs.TermFault.{term_fault};
 ghost use Rattle.isle_terms.specs.Whole.{whole, termed};
+ghost use Rattle.isle_types.specs.Fault.{type_fault};
 ghost use Rattle.isle_sema.specs.Known.{IsHead};
 ghost use Rattle.isle_sema.specs.RulesFound.{found_rule, IsRuleFound, AreRulesFound, AreHeadsDeclared};
 ghost use Rattle.isle_sema.specs.RuleRows.{declared_multis};
@@ -55,28 +59,38 @@ fn rule_from(
     }
 }
 
-/// What is found of a rule: the row that it breaks; or it breaks none, and has no tree; or the elaborated rule.
-#[derive(Drop)]
-pub enum Found<'d> {
-    Broken(Breach<'d>),
-    Unbuilt,
-    Taken(Rule),
+// The rule of that number, of this term with these parts, where each has a tree.
+fn written_from(
+    known: &Known,
+    own: &Called,
+    number: usize,
+    given: &RuleDef,
+    args: Option<Vec<Pattern>>,
+    iflets: Option<Vec<IfLet>>,
+    rhs: Option<Expr>,
+) -> Option<Rule>
+    ensures { option_map elaborated_rule result ≡ written_from (whole known.now) number (seen given.now) own.now.term (pattern_trees args) (condition_trees iflets) (option_map elaborated_expr rhs) }
+{
+    let args = args?;
+    let iflets = iflets?;
+    let rhs = rhs?;
+    Some(rule_from(known, own, number, given, args, iflets, rhs))
 }
 
 // An elaborated rule, unless it has too many nodes.
-fn found_rule<'d>(elaborated: Option<Rule>) -> Found<'d>
+fn found_rule<'d>(elaborated: Option<Rule>) -> Result<Rule, Breach<'d>>
     ensures { result ≡ found_rule elaborated }
 {
     match elaborated {
-        None => Found::Broken(Breach {
+        None => Err(Breach {
             row: Row::ManyNodes,
             culprit: None,
         }),
-        Some(rule) => Found::Taken(rule),
+        Some(rule) => Ok(rule),
     }
 }
 
-// What is found of the rule of that number, of this term, with its templates replaced.
+// The rule of that number, of this term, with its templates replaced; or the row that it breaks.
 fn rule_of<'d>(
     alloc: Global,
     known: &Known,
@@ -84,8 +98,10 @@ fn rule_of<'d>(
     own: &Called,
     number: usize,
     given: &RuleDef<'d>,
-) -> Result<Found<'d>, AllocError>
+) -> Result<Result<Rule, Breach<'d>>, AllocError>
     requires own { IsHead (whole known.now) given.now.term.now own.now }
+    requires types { type_fault (seen_defs known.now) ≡ None }
+    requires terms { term_fault (whole known.now) ≡ None }
     requires templates { AreWhole (written (whole known.now)) extractors.now.templates }
     requires multis { AreMultisTold (written (whole known.now)) (declared_multis (whole known.now)) extractors.now.multis.items }
     ensures { IfOk result (λ found. IsRuleFound (whole known.now) number (seen given.now) found) }
@@ -104,61 +120,61 @@ fn rule_of<'d>(
             &sides.left.firsts,
             &sides.right.firsts,
         );
-        return Ok(Found::Broken(Breach { row, culprit }));
+        return Ok(Err(Breach { row, culprit }));
     }
-    let Some(args) = args else {
-        return Ok(Found::Unbuilt);
+    let Some(written) = written_from(known, own, number, given, args, iflets, rhs) else {
+        unreachable!();
     };
-    let Some(iflets) = iflets else {
-        return Ok(Found::Unbuilt);
-    };
-    let Some(rhs) = rhs else {
-        return Ok(Found::Unbuilt);
-    };
-    let written = rule_from(known, own, number, given, args, iflets, rhs);
     let found = elaborated(alloc, &extractors.templates, written)?;
     Ok(found_rule(found))
 }
 
-// What is found of the rule of that number, whose term is declared.
+// The same of a rule whose term is declared.
 fn rule_at<'d>(
     alloc: Global,
     known: &Known,
     extractors: &Extractors,
     number: usize,
     given: &RuleDef<'d>,
-) -> Result<Found<'d>, AllocError>
+) -> Result<Result<Rule, Breach<'d>>, AllocError>
     requires number { index_of (whole known.now).types.syms given.now.term.now ≡ Some given.now.number }
     requires declared { is_some (termed (whole known.now) given.now.term.now) ≡ true }
+    requires types { type_fault (seen_defs known.now) ≡ None }
+    requires terms { term_fault (whole known.now) ≡ None }
     requires templates { AreWhole (written (whole known.now)) extractors.now.templates }
     requires multis { AreMultisTold (written (whole known.now)) (declared_multis (whole known.now)) extractors.now.multis.items }
     ensures { IfOk result (λ found. IsRuleFound (whole known.now) number (seen given.now) found) }
 {
     match known.at(given.number) {
         Some(own) => rule_of(alloc, known, extractors, &own, number, given),
-        None => Ok(Found::Unbuilt),
+        None => Ok(Err(Breach {
+            row: Row::HeadMisfit,
+            culprit: None,
+        })),
     }
 }
 
-/// Returns the first of these rules that breaks a row, with the lowest such row; or else the rules, numbered in order:
-/// nothing where one is not taken. The only error is want of memory.
+/// Returns the rules, numbered in order; or else the first that breaks a row, with the lowest such row. The only error
+/// is want of memory.
 pub fn rules_at<'d>(
     alloc: Global,
     known: &Known<'_, 'd>,
     extractors: &Extractors,
     given: &[RuleDef<'d>],
-) -> Result<Result<Option<Vec<Rule>>, Fault<'d>>, AllocError>
+) -> Result<Result<Vec<Rule>, Fault<'d>>, AllocError>
     requires rules { AreRules (seen_defs known.now) given.now }
     requires declared { AreHeadsDeclared (whole known.now) }
+    requires types { type_fault (seen_defs known.now) ≡ None }
+    requires terms { term_fault (whole known.now) ≡ None }
     requires templates { AreWhole (written (whole known.now)) extractors.now.templates }
     requires multis { AreMultisTold (written (whole known.now)) (declared_multis (whole known.now)) extractors.now.multis.items }
-    ensures { IfOk result (λ found. AreRulesFound (whole known.now) found) }
+    ensures { IfOk result (λ found. AreRulesFound (whole known.now) (rule_defs (seen_defs known.now)) found) }
 {
     let mut rules = Vec::with_capacity(alloc, given.len())?;
-    let mut complete = true;
     for (number, rule) in given.iter().enumerate() {
         match rule_at(alloc, known, extractors, number, rule)? {
-            Found::Broken(breach) => {
+            Ok(found) => rules.push(found)?,
+            Err(breach) => {
                 return Ok(Err(Fault {
                     row: breach.row,
                     pos: rule.pos,
@@ -166,9 +182,7 @@ pub fn rules_at<'d>(
                     culprit: breach.culprit,
                 }));
             }
-            Found::Unbuilt => complete = false,
-            Found::Taken(found) => rules.push(found)?,
         }
     }
-    Ok(Ok(if complete { Some(rules) } else { None }))
+    Ok(Ok(rules))
 }

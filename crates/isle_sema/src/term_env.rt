@@ -25,7 +25,7 @@ use isle_types::Before;
 use std::alloc::{AllocError, Global};
 
 // The rules of definitions over their terms, with their templates replaced, or what is wrong with a template or else
-// with a rule: nothing where one has no tree.
+// with a rule.
 fn rules_of<'d>(
     alloc: Global,
     declarations: &Declarations<'d>,
@@ -34,7 +34,7 @@ fn rules_of<'d>(
     terms: &Terms<'d>,
     typed: &[Term],
     converters: &Converters,
-) -> Result<Result<Option<Vec<Rule>>, Fault<'d>>, AllocError>
+) -> Result<Result<Vec<Rule>, Fault<'d>>, AllocError>
     requires { AreKnown declarations.now before.now types.now terms.now typed.now converters.now }
     ensures { IfOk result (λ rules. AreRulesAt (whole declarations.now) rules) }
 {
@@ -87,8 +87,7 @@ pub fn term_env<'d>(
         &converters,
     )?;
     let rules = match found {
-        Ok(Some(rules)) => rules,
-        Ok(None) => unreachable!(),
+        Ok(rules) => rules,
         Err(fault) => return Err(EnvError::Typing(fault.error(alloc, types)?)),
     };
     Ok(TermEnv {

@@ -9,9 +9,8 @@ use Rattle.isle_terms.specs.TermPass.{terms_pass}
 use Rattle.isle_terms.specs.Whole.{whole_of}
 use Rattle.isle_types.specs.Gathered.{TellsTyping}
 use Rattle.isle_sema.specs.Fault.{later_fault}
-use Rattle.isle_sema.specs.TakenAt.{HaveRules, HaveUnbuilt}
+use Rattle.isle_sema.specs.TakenAt.{HaveRules}
 use Rattle.isle_sema.proofs.Givings.{told_behind, told_last, unmade, given_typed, over_types}
-use Rattle.isle_sema.proofs.SoundTyped.{none_untaken}
 use Rattle.isle_sema.proofs.term_env.term_env.Goals as goal
 
 pub returns-in-Err-clause-err : goal.returns-in-Err-clause-err
@@ -27,13 +26,6 @@ unreachable-requires c =
     let none : None ≡ terms_pass (whole_of defs) (terms defs) = search rules in
     unmade defs c.requires.sound declared none
 
-pub unreachable-requires-in-Ok-None : goal.unreachable-requires-in-Ok-None
-unreachable-requires-in-Ok-None c =
-    let defs = seen c.args.declarations.now in
-    let declared : term_fault (whole_of defs) ≡ None = search rules in
-    let unbuilt : HaveUnbuilt (whole_of defs) = search rules in
-    none_untaken defs c.requires.sound declared unbuilt
-
 pub returns-in-Err-found-clause-err : goal.returns-in-Err-found-clause-err
 returns-in-Err-found-clause-err c =
     let defs = seen c.args.declarations.now in
@@ -46,12 +38,12 @@ returns-clause-ok c =
     let defs = seen c.args.declarations.now in
     let declared : term_fault (whole_of defs) ≡ None = search rules in
     let made : Some c.new.result ≡ terms_pass (whole_of defs) (terms defs) = search rules in
-    let given : HaveRules (whole_of defs) (map elaborated_rule c.in-Ok-Some.rules.items) = search rules in
-    let items : c.new-2.result ≡ c.in-Ok-Some.rules.items = search rules in
+    let given : HaveRules (whole_of defs) (map elaborated_rule c.in-Ok-found.rules.items) = search rules in
+    let items : c.new-2.result ≡ c.in-Ok-found.rules.items = search rules in
     let converting : taken_converters (whole_of defs) [] (converters defs) ≡ Some c.in-Ok.found.listed.items = search rules in
     let listed : c.new-3.result ≡ c.in-Ok.found.listed.items = search rules in
     over_types _ c.requires.types
-    (given_typed defs _ c.requires.sound declared (sym made) given.sound given.treed (given.taken ∙ sym (ap (λ rs. Some (map elaborated_rule rs)) items)) (converting ∙ ap Some (sym listed)))
+    (given_typed defs _ c.requires.sound declared (sym made) given.sound given.treed (given.made ∙ sym (ap (λ rs. Some (map elaborated_rule rs)) items)) (converting ∙ ap Some (sym listed)))
 
 pub rules_of-requires : goal.rules_of-requires
 rules_of-requires c =
