@@ -4,6 +4,7 @@ use Rattle.std.specs.Prelude.{slice_get}
 use Rattle.std.specs.List.{AllByRecursion}
 use Rattle.std.proofs.lemmas.List.{take_more}
 use Rattle.std.proofs.lemmas.Option.{slice_get_within, slice_get-get_or}
+use Rattle.isle_core.specs.declared.options.CodegenOptions.{CodegenOptions}
 use Rattle.isle_core.specs.declared.TermId.{TermId}
 use Rattle.isle_core.specs.declared.files.Files.{Files}
 use Rattle.isle_core.specs.declared.rule_sets.RuleSet.{RuleSet}
@@ -46,9 +47,9 @@ calls_once files env id s h = each s.rules h.lists
     each (f ∷ fs) k = (k.0.ordered, each fs k.1)
 
 -- the function of a block of the rule set is emitted for it
-pub is_emitted : (logging : Bool) (files : Files) (env : Environment) (id : TermId) (s : RuleSet) (t : Term) (b : Block) (f : Function) → (h : CanEmit files env (id, s)) → slice_get env.terms id.0 ≡ Some t
-    → IsLawfulBlock (setting env h.term s.bindings) b → HasSingleArms b → MeansSet env h.term s b → TestsRules s b → MakesTests (is_several (kind_of h.term.kind)) s b → term_function logging files (setting env t s.bindings) b ≡ Some f → IsEmitted logging files env id s f
-is_emitted logging files env id s t b f h there lawful single means tests makes given = record {
+pub is_emitted : (options : CodegenOptions) (files : Files) (env : Environment) (id : TermId) (s : RuleSet) (t : Term) (b : Block) (f : Function) → (h : CanEmit files env (id, s)) → slice_get env.terms id.0 ≡ Some t
+    → IsLawfulBlock (setting env h.term s.bindings) b → HasSingleArms b → MeansSet env h.term s b → TestsRules s b → MakesTests (is_several (kind_of h.term.kind)) s b → term_function options files (setting env t s.bindings) b ≡ Some f → IsEmitted options files env id s f
+is_emitted options files env id s t b f h there lawful single means tests makes given = record {
   term = h.term;
   found = h.found;
   block = b;
@@ -57,26 +58,26 @@ is_emitted logging files env id s t b f h there lawful single means tests makes 
   means = means;
   tests = tests;
   makes = makes;
-  given = ap (λ (u : Term). term_function logging files (setting env u s.bindings) b) (sym (term_is files env id s t h there)) ∙ given;
+  given = ap (λ (u : Term). term_function options files (setting env u s.bindings) b) (sym (term_is files env id s t h there)) ∙ given;
 }
 
 -- and its function is there
-pub is_given : (logging : Bool) (files : Files) (env : Environment) (id : TermId) (s : RuleSet) (t : Term) (b : Block) → (h : CanEmit files env (id, s)) → slice_get env.terms id.0 ≡ Some t
-    → IsLawfulBlock (setting env h.term s.bindings) b → HasSingleArms b → None ≡ term_function logging files (setting env t s.bindings) b → ⊥
-is_given logging files env id s t b h there lawful single none =
-    let made = function_made logging files env h.term s.bindings b lawful single in
-    let bad : None ≡ Some (function_of logging files env h.term s.bindings b) = none ∙ ap (λ (u : Term). term_function logging files (setting env u s.bindings) b) (term_is files env id s t h there) ∙ made in
+pub is_given : (options : CodegenOptions) (files : Files) (env : Environment) (id : TermId) (s : RuleSet) (t : Term) (b : Block) → (h : CanEmit files env (id, s)) → slice_get env.terms id.0 ≡ Some t
+    → IsLawfulBlock (setting env h.term s.bindings) b → HasSingleArms b → None ≡ term_function options files (setting env t s.bindings) b → ⊥
+is_given options files env id s t b h there lawful single none =
+    let made = function_made options files env h.term s.bindings b lawful single in
+    let bad : None ≡ Some (function_of options files env h.term s.bindings b) = none ∙ ap (λ (u : Term). term_function options files (setting env u s.bindings) b) (term_is files env id s t h there) ∙ made in
     cc
 
-both_emitted : (logging : Bool) (files : Files) (env : Environment) (ss ts : List (TermId × RuleSet)) (fs gs : List Function) → AreEmitted logging files env ss fs → AreEmitted logging files env ts gs → AreEmitted logging files env (ss ++ ts) (fs ++ gs)
-both_emitted logging files env [] ts [] gs h k = k
-both_emitted logging files env (s ∷ ss) ts (f ∷ fs) gs h k = (h.0, both_emitted logging files env ss ts fs gs h.1 k)
-both_emitted logging files env [] ts (f ∷ fs) gs h k = absurd h
-both_emitted logging files env (s ∷ ss) ts [] gs h k = absurd h
+both_emitted : (options : CodegenOptions) (files : Files) (env : Environment) (ss ts : List (TermId × RuleSet)) (fs gs : List Function) → AreEmitted options files env ss fs → AreEmitted options files env ts gs → AreEmitted options files env (ss ++ ts) (fs ++ gs)
+both_emitted options files env [] ts [] gs h k = k
+both_emitted options files env (s ∷ ss) ts (f ∷ fs) gs h k = (h.0, both_emitted options files env ss ts fs gs h.1 k)
+both_emitted options files env [] ts (f ∷ fs) gs h k = absurd h
+both_emitted options files env (s ∷ ss) ts [] gs h k = absurd h
 
 -- one function more
-pub emitted_more : (logging : Bool) (files : Files) (env : Environment) (sets : List (TermId × RuleSet)) (i : ℕ) (s : TermId × RuleSet) (fs : List Function) (f : Function) → i < length sets → s ≡ get_or sets i s
-    → AreEmitted logging files env (take i sets) fs → IsEmitted logging files env s.0 s.1 f → AreEmitted logging files env (take (i + 1) sets) (fs ++ f ∷ [])
-emitted_more logging files env sets i s fs f lt is h k =
+pub emitted_more : (options : CodegenOptions) (files : Files) (env : Environment) (sets : List (TermId × RuleSet)) (i : ℕ) (s : TermId × RuleSet) (fs : List Function) (f : Function) → i < length sets → s ≡ get_or sets i s
+    → AreEmitted options files env (take i sets) fs → IsEmitted options files env s.0 s.1 f → AreEmitted options files env (take (i + 1) sets) (fs ++ f ∷ [])
+emitted_more options files env sets i s fs f lt is h k =
     let all : take (i + 1) sets ≡ take i sets ++ s ∷ [] = take_more sets i s lt ∙ ap (λ y. take i sets ++ y ∷ []) (sym is) in
-    subst (λ xs. AreEmitted logging files env xs (fs ++ f ∷ [])) (sym all) (both_emitted logging files env (take i sets) (s ∷ []) fs (f ∷ []) h (k, tt))
+    subst (λ xs. AreEmitted options files env xs (fs ++ f ∷ [])) (sym all) (both_emitted options files env (take i sets) (s ∷ []) fs (f ∷ []) h (k, tt))

@@ -4,6 +4,7 @@ use Rattle.std.specs.Prelude.{filter, slice_get}
 use Rattle.std.specs.Option.{option_map_or}
 use Rattle.std.specs.List.{AllByRecursion, IsDistinct, range_with_len}
 use Rattle.std.specs.Str.{bytes_eq}
+use Rattle.isle_core.specs.declared.options.CodegenOptions.{CodegenOptions}
 use Rattle.isle_core.specs.declared.TermId.{TermId}
 use Rattle.isle_core.specs.declared.files.Files.{Files}
 use Rattle.isle_core.specs.declared.rule_sets.RuleSet.{RuleSet}
@@ -19,16 +20,16 @@ pub name_of_term : (env : Environment) (id : TermId) (t : Term) → slice_get en
 name_of_term env id t e = ap (λ (o : Option Term). option_map_or (λ (u : Term). sym_text env u.name) o []) e
 
 -- a function has the name of its term
-pub emitted_name : (logging : Bool) (files : Files) (env : Environment) (id : TermId) (s : RuleSet) (f : Function) → IsEmitted logging files env id s f → f.term ≡ term_name env id
-emitted_name logging files env id s f h = (of_its_term logging files env h.term s.bindings h.block f h.lawful h.single h.given).name ∙ sym (name_of_term env id h.term h.found)
+pub emitted_name : (options : CodegenOptions) (files : Files) (env : Environment) (id : TermId) (s : RuleSet) (f : Function) → IsEmitted options files env id s f → f.term ≡ term_name env id
+emitted_name options files env id s f h = (of_its_term options files env h.term s.bindings h.block f h.lawful h.single h.given).name ∙ sym (name_of_term env id h.term h.found)
 
 -- and so have all
-pub emitted_names : (logging : Bool) (files : Files) (env : Environment) (sets : List (TermId × RuleSet)) (fs : List Function) → AreEmitted logging files env sets fs
+pub emitted_names : (options : CodegenOptions) (files : Files) (env : Environment) (sets : List (TermId × RuleSet)) (fs : List Function) → AreEmitted options files env sets fs
     → map (λ (f : Function). f.term) fs ≡ map (term_name env) (map (λ (s : TermId × RuleSet). s.0) sets)
-emitted_names logging files env [] [] h = refl
-emitted_names logging files env (s ∷ sets) (f ∷ fs) h = rw (emitted_name logging files env s.0 s.1 f h.0, emitted_names logging files env sets fs h.1) refl
-emitted_names logging files env [] (f ∷ fs) h = absurd h
-emitted_names logging files env (s ∷ sets) [] h = absurd h
+emitted_names options files env [] [] h = refl
+emitted_names options files env (s ∷ sets) (f ∷ fs) h = rw (emitted_name options files env s.0 s.1 f h.0, emitted_names options files env sets fs h.1) refl
+emitted_names options files env [] (f ∷ fs) h = absurd h
+emitted_names options files env (s ∷ sets) [] h = absurd h
 
 -- ---- no two terms with rules have one name
 

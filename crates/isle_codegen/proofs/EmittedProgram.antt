@@ -4,6 +4,7 @@ use Rattle.std.specs.Prelude.{All, Contains, slice_get}
 use Rattle.std.specs.List.{AllByRecursion, IsDistinct}
 use Rattle.std.specs.Str.{bytes_eq}
 use Rattle.std.proofs.lemmas.List.Elements.{recursion_from_All}
+use Rattle.isle_core.specs.declared.options.CodegenOptions.{CodegenOptions}
 use Rattle.isle_core.specs.declared.TermId.{TermId}
 use Rattle.isle_core.specs.declared.files.Files.{Files}
 use Rattle.isle_core.specs.declared.rule_sets.RuleSet.{RuleSet}
@@ -52,24 +53,24 @@ use Rattle.isle_core.specs.Path.{paths_of}
 use Rattle.isle_core.specs.ReturnPositions.{return_positions}
 
 -- each function is of its term
-are_declared : (logging : Bool) (files : Files) (env : Environment) (sets : List (TermId × RuleSet)) (fs : List Function) → AreEmitted logging files env sets fs → AreDeclared files env (map (λ (s : TermId × RuleSet). s.0) sets) fs
-are_declared logging files env [] [] h = tt
-are_declared logging files env (s ∷ sets) (f ∷ fs) h = (
+are_declared : (options : CodegenOptions) (files : Files) (env : Environment) (sets : List (TermId × RuleSet)) (fs : List Function) → AreEmitted options files env sets fs → AreDeclared files env (map (λ (s : TermId × RuleSet). s.0) sets) fs
+are_declared options files env [] [] h = tt
+are_declared options files env (s ∷ sets) (f ∷ fs) h = (
   record {
     term = h.0.term;
     found = h.0.found;
-    of_term = of_its_term logging files env h.0.term s.1.bindings h.0.block f h.0.lawful h.0.single h.0.given;
+    of_term = of_its_term options files env h.0.term s.1.bindings h.0.block f h.0.lawful h.0.single h.0.given;
   },
-  are_declared logging files env sets fs h.1,
+  are_declared options files env sets fs h.1,
 )
-are_declared logging files env [] (f ∷ fs) h = absurd h
-are_declared logging files env (s ∷ sets) [] h = absurd h
+are_declared options files env [] (f ∷ fs) h = absurd h
+are_declared options files env (s ∷ sets) [] h = absurd h
 
 -- each function is made from a block
-are_from_blocks : (logging : Bool) (files : Files) (env : Environment) (sets : List (TermId × RuleSet)) (fs : List Function) → AllByRecursion (λ (s : TermId × RuleSet). StandsFor env s.1 (rules_of env s.0)) sets → AreEmitted logging files env sets fs
-    → AreFromBlocks logging files env (map (λ (s : TermId × RuleSet). s.0) sets) fs
-are_from_blocks logging files env [] [] stand h = tt
-are_from_blocks logging files env (s ∷ sets) (f ∷ fs) stand h = (
+are_from_blocks : (options : CodegenOptions) (files : Files) (env : Environment) (sets : List (TermId × RuleSet)) (fs : List Function) → AllByRecursion (λ (s : TermId × RuleSet). StandsFor env s.1 (rules_of env s.0)) sets → AreEmitted options files env sets fs
+    → AreFromBlocks options files env (map (λ (s : TermId × RuleSet). s.0) sets) fs
+are_from_blocks options files env [] [] stand h = tt
+are_from_blocks options files env (s ∷ sets) (f ∷ fs) stand h = (
   record {
     term = h.0.term;
     found = h.0.found;
@@ -79,32 +80,32 @@ are_from_blocks logging files env (s ∷ sets) (f ∷ fs) stand h = (
     lawful = h.0.lawful;
     single = h.0.single;
     means = h.0.means;
-    shape = has_shape logging files env h.0.term s.1.bindings h.0.block f h.0.lawful h.0.single h.0.given;
+    shape = has_shape options files env h.0.term s.1.bindings h.0.block f h.0.lawful h.0.single h.0.given;
     statements = h.0.given;
-    lines = its_lines logging files env h.0.term s.1.bindings h.0.block f h.0.lawful h.0.single h.0.given;
+    lines = its_lines options files env h.0.term s.1.bindings h.0.block f h.0.lawful h.0.single h.0.given;
     tests = h.0.tests;
     makes = h.0.makes;
     returns = returns_of_rules env (paths_of s.1.bindings) (rules_of env s.0) s.1.rules 0 (return_positions h.0.block) stand.0.flat (tests_positions s.1 h.0.block h.0.tests);
-    calls = λ callee c. bound_called env s.0 s.1 stand.0 callee (function_calls logging files env h.0.term s.1.bindings h.0.block f h.0.lawful h.0.single h.0.given callee c);
+    calls = λ callee c. bound_called env s.0 s.1 stand.0 callee (function_calls options files env h.0.term s.1.bindings h.0.block f h.0.lawful h.0.single h.0.given callee c);
   },
-  are_from_blocks logging files env sets fs stand.1 h.1,
+  are_from_blocks options files env sets fs stand.1 h.1,
 )
-are_from_blocks logging files env [] (f ∷ fs) stand h = absurd h
-are_from_blocks logging files env (s ∷ sets) [] stand h = absurd h
+are_from_blocks options files env [] (f ∷ fs) stand h = absurd h
+are_from_blocks options files env (s ∷ sets) [] stand h = absurd h
 
 some_same : (a b : Term) → Some a ≡ Some b → a ≡ b
 some_same a b e = cc
 
 -- each is well formed
-are_well_formed : (logging : Bool) (files : Files) (env : Environment) (p : Program) (sets : List (TermId × RuleSet)) (fs : List Function) → callables p ≡ callables_of env → AllByRecursion (CanEmit files env) sets → AreEmitted logging files env sets fs → AllByRecursion (IsFunction p) fs
-are_well_formed logging files env p [] [] same c h = tt
-are_well_formed logging files env p (s ∷ sets) (f ∷ fs) same c h =
+are_well_formed : (options : CodegenOptions) (files : Files) (env : Environment) (p : Program) (sets : List (TermId × RuleSet)) (fs : List Function) → callables p ≡ callables_of env → AllByRecursion (CanEmit files env) sets → AreEmitted options files env sets fs → AllByRecursion (IsFunction p) fs
+are_well_formed options files env p [] [] same c h = tt
+are_well_formed options files env p (s ∷ sets) (f ∷ fs) same c h =
     let e : IsEmittable env h.0.term = subst (IsEmittable env) (some_same c.0.term h.0.term (sym c.0.found ∙ h.0.found)) c.0.emittable in (
-      emitted_well_formed logging files env h.0.term s.1.bindings h.0.block f h.0.lawful h.0.single h.0.given e c.0.names c.0.fns c.0.term_fns p same,
-      are_well_formed logging files env p sets fs same c.1 h.1,
+      emitted_well_formed options files env h.0.term s.1.bindings h.0.block f h.0.lawful h.0.single h.0.given e c.0.names c.0.fns c.0.term_fns p same,
+      are_well_formed options files env p sets fs same c.1 h.1,
     )
-are_well_formed logging files env p [] (f ∷ fs) same c h = absurd h
-are_well_formed logging files env p (s ∷ sets) [] same c h = absurd h
+are_well_formed options files env p [] (f ∷ fs) same c h = absurd h
+are_well_formed options files env p (s ∷ sets) [] same c h = absurd h
 
 -- the types of all terms have names of Rust
 named_types : (defs : List Def) (env : Environment) → Typed defs env → AreLawful (is_ruled env.rules) env.types → AllByRecursion (HasNamedTypes env) env.terms
@@ -114,16 +115,16 @@ named_types defs env typed lawful = each env.terms (λ i t e. texts_are (is_rule
     each [] h = tt
     each (t ∷ ts) h = (h 0 t refl, each ts (λ i u e. h (suc i) u e))
 
-module _ (defs : List Def) (logging : Bool) (files : Files) (env : Environment) (typed : Typed defs env) (clean : IsClean env) (sets : List (TermId × RuleSet)) (stand : AreRuleSets env sets) (fs : List Function) (emitted : AreEmitted logging files env sets fs) where
+module _ (defs : List Def) (options : CodegenOptions) (files : Files) (env : Environment) (typed : Typed defs env) (clean : IsClean env) (sets : List (TermId × RuleSet)) (stand : AreRuleSets env sets) (fs : List Function) (emitted : AreEmitted options files env sets fs) where
   names_of : map (λ (f : Function). f.term) fs ≡ map (term_name env) (with_rules env)
-  names_of = emitted_names logging files env sets fs emitted ∙ ap (map (term_name env)) stand.ids
+  names_of = emitted_names options files env sets fs emitted ∙ ap (map (term_name env)) stand.ids
 
   distinct : IsDistinct bytes_eq (map (λ (f : Function). f.term) fs)
   distinct = subst (IsDistinct bytes_eq) (sym names_of) (distinct_names env (typed_names defs env typed))
 
   -- the functions of a program that are these
   declared_in : (p : Program) → p.fns ≡ fs → AreDeclared files env (with_rules env) p.fns
-  declared_in p e = subst (λ (xs : List Function). AreDeclared files env (with_rules env) xs) (sym e) (subst (λ (ids : List TermId). AreDeclared files env ids fs) stand.ids (are_declared logging files env sets fs emitted))
+  declared_in p e = subst (λ (xs : List Function). AreDeclared files env (with_rules env) xs) (sym e) (subst (λ (ids : List TermId). AreDeclared files env ids fs) stand.ids (are_declared options files env sets fs emitted))
 
   -- a program of these functions, those of the trait and the declared types is well formed
   pub program_well_formed : (p : Program) → HasFnNames env → AreLawful (is_ruled env.rules) env.types → p.trait_fns ≡ trait_fns_of env → p.types ≡ type_items_of env → p.fns ≡ fs → AllByRecursion (CanEmit files env) sets → IsWellFormed p
@@ -131,16 +132,16 @@ module _ (defs : List Def) (logging : Bool) (files : Files) (env : Environment) 
       record {
         trait_fns = subst (AllByRecursion IsTraitFn) (sym a) (fns_are env env.terms names.identifiers (named_types defs env typed lawful));
         types = subst (AllByRecursion IsTypeItem) (sym b) (items_are (is_ruled env.rules) env.types lawful (typed_parts defs env typed).types);
-        fns = subst (AllByRecursion (IsFunction p)) (sym e) (are_well_formed logging files env p sets fs (callables_are files env p a (declared_in p e)) c emitted);
+        fns = subst (AllByRecursion (IsFunction p)) (sym e) (are_well_formed options files env p sets fs (callables_are files env p a (declared_in p e)) c emitted);
         distinct = subst (λ (xs : List Function). IsDistinct bytes_eq (map (λ (f : Function). f.term) xs)) (sym e) distinct;
         trait_names = subst (λ (xs : List TraitFn). IsDistinct bytes_eq (fn_names xs)) (sym a) names.distinct;
         type_names = subst (λ (xs : List TypeItem). IsDistinct bytes_eq (declared_names xs)) (sym b) (items_apart (is_ruled env.rules) env.types lawful);
       }
 
   -- the function of each term with rules
-  function_for : (id : TermId) → Contains (with_rules env) id → HasFunction logging files env fs id
+  function_for : (id : TermId) → Contains (with_rules env) id → HasFunction options files env fs id
   function_for id c =
-      has_function logging files env sets fs id emitted (recursion_from_All (λ (s : TermId × RuleSet). StandsFor env s.1 (rules_of env s.0)) sets stand.stand) distinct
+      has_function options files env sets fs id emitted (recursion_from_All (λ (s : TermId × RuleSet). StandsFor env s.1 (rules_of env s.0)) sets stand.stand) distinct
       (subst (λ (ids : List TermId). Contains ids id) (sym stand.ids) c)
 
   -- there is something to say of each term
@@ -156,13 +157,13 @@ module _ (defs : List Def) (logging : Bool) (files : Files) (env : Environment) 
       of_rules P k = recursion_from_All P (rules_of env id) (of_term P env id k)
 
   -- and its functions mean the rules
-  pub program_means : (p : Program) → HasFnNames env → HasTermFns env → AreLawful (is_ruled env.rules) env.types → p.fns ≡ fs → FunctionsMean logging files env p
+  pub program_means : (p : Program) → HasFnNames env → HasTermFns env → AreLawful (is_ruled env.rules) env.types → p.fns ≡ fs → FunctionsMean options files env p
   program_means p names term_fns lawful e =
       record {
         names = ap (map (λ (f : Function). f.term)) e ∙ names_of;
         declared = declared_in p e;
-        blocks = subst (λ (xs : List Function). AreFromBlocks logging files env (with_rules env) xs) (sym e) (subst (λ (ids : List TermId). AreFromBlocks logging files env ids fs) stand.ids (are_from_blocks logging files env sets fs (recursion_from_All (λ (s : TermId × RuleSet). StandsFor env s.1 (rules_of env s.0)) sets stand.stand) emitted));
-        mean = λ id c. means_rules defs logging files env p id typed clean (has_rust_names (is_ruled env.rules) env lawful (typed_parts defs env typed)) names term_fns c (subst (λ (xs : List Function). HasFunction logging files env xs id) (sym e) (function_for id c));
+        blocks = subst (λ (xs : List Function). AreFromBlocks options files env (with_rules env) xs) (sym e) (subst (λ (ids : List TermId). AreFromBlocks options files env ids fs) stand.ids (are_from_blocks options files env sets fs (recursion_from_All (λ (s : TermId × RuleSet). StandsFor env s.1 (rules_of env s.0)) sets stand.stand) emitted));
+        mean = λ id c. means_rules defs options files env p id typed clean (has_rust_names (is_ruled env.rules) env lawful (typed_parts defs env typed)) names term_fns c (subst (λ (xs : List Function). HasFunction options files env xs id) (sym e) (function_for id c));
         meant = λ id c. meant_of names id (function_for id c).emitted.term (function_for id c).emitted.found;
         values = inhabited_valued env (typed_parts defs env typed).variants;
       }

@@ -5,6 +5,7 @@ use Rattle.std.proofs.lemmas.List.Elements.{All-from_recursion, recursion_from_A
 use Rattle.std.proofs.lemmas.Slice.Eq.{bytes_eq-Decides}
 use Rattle.std.specs.List.{AllByRecursion, IsDistinct}
 use Rattle.std.specs.Str.{bytes_eq}
+use Rattle.isle_core.specs.declared.options.CodegenOptions.{CodegenOptions}
 use Rattle.isle_core.specs.declared.TermId.{TermId}
 use Rattle.isle_core.specs.declared.files.Files.{Files}
 use Rattle.isle_core.specs.declared.rule_sets.RuleSet.{RuleSet}
@@ -58,11 +59,11 @@ use Rattle.isle_codegen.proofs.EmittedNames.{name_of_term, emitted_name}
 -- ---- the function of a term is found by its name
 
 -- the function that is found by a term's name is emitted for a rule set that stands for the term's rules
-pub record HasFunction (logging : Bool) (files : Files) (env : Environment) (fs : List Function) (id : TermId) : Type 0 where
+pub record HasFunction (options : CodegenOptions) (files : Files) (env : Environment) (fs : List Function) (id : TermId) : Type 0 where
   pub set : RuleSet
   pub stands : StandsFor env set (rules_of env id)
   pub function : Function
-  pub emitted : IsEmitted logging files env id set function
+  pub emitted : IsEmitted options files env id set function
   pub found : function_of (term_name env id) fs ≡ Some function
   pub among : Contains (map (λ (f : Function). f.term) fs) (term_name env id)
 
@@ -81,18 +82,18 @@ later_found name f g fs true e differ h =
     differs : (x : List ℕ) → bytes_eq x x ≡ false → ⊥
     differs x k = let same : bytes_eq x x ≡ true = (bytes_eq-Decides x x).1 refl in cc
 
-module _ (logging : Bool) (files : Files) (env : Environment) (f : Function) (fs : List Function) (id : TermId) where
-  here_found : (s : TermId × RuleSet) → IsEmitted logging files env s.0 s.1 f → StandsFor env s.1 (rules_of env s.0) → s.0 ≡ id → HasFunction logging files env (f ∷ fs) id
-  here_found s e st same = subst (HasFunction logging files env (f ∷ fs)) same (record {
+module _ (options : CodegenOptions) (files : Files) (env : Environment) (f : Function) (fs : List Function) (id : TermId) where
+  here_found : (s : TermId × RuleSet) → IsEmitted options files env s.0 s.1 f → StandsFor env s.1 (rules_of env s.0) → s.0 ≡ id → HasFunction options files env (f ∷ fs) id
+  here_found s e st same = subst (HasFunction options files env (f ∷ fs)) same (record {
     set = s.1;
     stands = st;
     function = f;
     emitted = e;
-    found = first_found (term_name env s.0) f fs (emitted_name logging files env s.0 s.1 f e);
-    among = subst (Contains (map (λ (g : Function). g.term) (f ∷ fs))) (emitted_name logging files env s.0 s.1 f e) (head_contained f.term (map (λ (g : Function). g.term) fs));
+    found = first_found (term_name env s.0) f fs (emitted_name options files env s.0 s.1 f e);
+    among = subst (Contains (map (λ (g : Function). g.term) (f ∷ fs))) (emitted_name options files env s.0 s.1 f e) (head_contained f.term (map (λ (g : Function). g.term) fs));
   })
 
-  behind_found : AllByRecursion (λ y. bytes_eq f.term y ≡ false) (map (λ (g : Function). g.term) fs) → HasFunction logging files env fs id → HasFunction logging files env (f ∷ fs) id
+  behind_found : AllByRecursion (λ y. bytes_eq f.term y ≡ false) (map (λ (g : Function). g.term) fs) → HasFunction options files env fs id → HasFunction options files env (f ∷ fs) id
   behind_found d h = record {
     set = h.set;
     stands = h.stands;
@@ -103,16 +104,16 @@ module _ (logging : Bool) (files : Files) (env : Environment) (f : Function) (fs
   }
 
 -- the function of each term that is listed is found
-pub has_function : (logging : Bool) (files : Files) (env : Environment) (sets : List (TermId × RuleSet)) (fs : List Function) (id : TermId) → AreEmitted logging files env sets fs
+pub has_function : (options : CodegenOptions) (files : Files) (env : Environment) (sets : List (TermId × RuleSet)) (fs : List Function) (id : TermId) → AreEmitted options files env sets fs
     → AllByRecursion (λ (s : TermId × RuleSet). StandsFor env s.1 (rules_of env s.0)) sets → IsDistinct bytes_eq (map (λ (f : Function). f.term) fs)
-    → Contains (map (λ (s : TermId × RuleSet). s.0) sets) id → HasFunction logging files env fs id
+    → Contains (map (λ (s : TermId × RuleSet). s.0) sets) id → HasFunction options files env fs id
 unfolding IsDistinct
-has_function logging files env [] [] id e st d c = absurd (none_contained id c)
-has_function logging files env (s ∷ sets) (f ∷ fs) id e st d c =
-    ⊎_elim (here_found logging files env f fs id s e.0 st.0) (λ k. behind_found logging files env f fs id d.0 (has_function logging files env sets fs id e.1 st.1 d.1 k))
+has_function options files env [] [] id e st d c = absurd (none_contained id c)
+has_function options files env (s ∷ sets) (f ∷ fs) id e st d c =
+    ⊎_elim (here_found options files env f fs id s e.0 st.0) (λ k. behind_found options files env f fs id d.0 (has_function options files env sets fs id e.1 st.1 d.1 k))
     (contained_cases s.0 (map (λ (x : TermId × RuleSet). x.0) sets) id c)
-has_function logging files env [] (f ∷ fs) id e st d c = absurd e
-has_function logging files env (s ∷ sets) [] id e st d c = absurd e
+has_function options files env [] (f ∷ fs) id e st d c = absurd e
+has_function options files env (s ∷ sets) [] id e st d c = absurd e
 
 -- ---- it gives what the rules prescribe
 
@@ -151,7 +152,7 @@ answers_once return_kind.Plain h = tt
 answers_once return_kind.Option h = tt
 answers_once return_kind.Iterator h = absurd (true≢false h)
 
-module _ (defs : List Def) (logging : Bool) (files : Files) (env : Environment) (p : Program) (id : TermId) (typed : Typed defs env) (clean : IsClean env) (names : HasRustNames env) (fns : HasFnNames env) (term_fns : HasTermFns env) (listed : Contains (with_rules env) id) (h : HasFunction logging files env p.fns id) where
+module _ (defs : List Def) (options : CodegenOptions) (files : Files) (env : Environment) (p : Program) (id : TermId) (typed : Typed defs env) (clean : IsClean env) (names : HasRustNames env) (fns : HasFnNames env) (term_fns : HasTermFns env) (listed : Contains (with_rules env) id) (h : HasFunction options files env p.fns id) where
   abbrev the_term : Term
   the_term = h.emitted.term
 
@@ -195,7 +196,7 @@ module _ (defs : List Def) (logging : Bool) (files : Files) (env : Environment) 
     runs : AreSameRuns env (run p (term_name env id) args m) (ran_of the_term (outcome_of env m args (rules_of env id) kind []))
     runs =
         ap (λ (n : List ℕ). option_map (λ (q : Ran). nameless_ran (impure_ran env q)) (run p n args m)) its_name
-        ∙ runs_as_block logging files env the_term h.set.bindings h.emitted.block h.function h.emitted.lawful h.emitted.single h.emitted.given once names fns term_fns p args m
+        ∙ runs_as_block options files env the_term h.set.bindings h.emitted.block h.function h.emitted.lawful h.emitted.single h.emitted.given once names fns term_fns p args m
         by_name types (bindings_answered env id h.set h.stands m lawful) lawful.declared
         ∙ ap (λ (o : Prescription). option_map nameless_ran (ran_of the_term o)) same_outcome
 
@@ -219,7 +220,7 @@ module _ (defs : List Def) (logging : Bool) (files : Files) (env : Environment) 
     prescribed = several_prescribes env m args the_term.arg_tys h.set h.emitted.block (rules_of env id) (h.emitted.means.several several) h.stands (served m lawful) names.apart.variants types;
     runs =
         ap (λ (n : List ℕ). option_map (λ (q : Ran). nameless_ran (impure_ran env q)) (run p n args m)) its_name
-        ∙ runs_as_several logging files env the_term h.set.bindings h.emitted.block h.function h.emitted.lawful h.emitted.single h.emitted.given several h.emitted.lawful.items names fns term_fns p args m
+        ∙ runs_as_several options files env the_term h.set.bindings h.emitted.block h.function h.emitted.lawful h.emitted.single h.emitted.given several h.emitted.lawful.items names fns term_fns p args m
         by_name types (bindings_answered env id h.set h.stands m lawful) lawful.declared;
   }
 

@@ -3,6 +3,7 @@ use Rattle.std.proofs.Common.{◌≡◌, ⊎_elim, ℕ, ℤ, ◌+◌, List, [], 
 use Rattle.std.specs.Prelude.{Contains, IsSomeAnd, option_and_then, slice_get}
 use Rattle.std.specs.List.{AllByRecursion}
 use Rattle.std.proofs.lemmas.List.Elements.{Contains-append_left, Contains-append_right}
+use Rattle.isle_core.specs.declared.options.CodegenOptions.{CodegenOptions}
 use Rattle.isle_core.specs.declared.BindingId.{BindingId}
 use Rattle.isle_core.specs.declared.Sym.{Sym}
 use Rattle.isle_core.specs.declared.TypeId.{TypeId}
@@ -353,8 +354,8 @@ module _ (env : Environment) (t : Term) (set : RuleSet) (rules : List Rule) (sta
   one_function f g e = cc
 
   -- each operand of the function of a block that tests what the rules test
-  pub function_so : (logging : Bool) (files : Files) (b : Block) (f : Function) → IsLawfulBlock s b → HasSingleArms b → TestsRules set b → term_function logging files s b ≡ Some f → AllSo (body_operands f.body)
-  function_so logging files b f lawful single tests given =
-      subst (λ (g : Function). AllSo (body_operands g.body)) (sym (told_is logging files env t set.bindings b lawful single) ∙ one_function (function_of logging files env t set.bindings b) f (sym (function_made logging files env t set.bindings b lawful single) ∙ given))
-      (subst AllSo (sym (logged_of own_operands operands_own (written_body files env t set.bindings b) (log_lines logging files s b)))
+  pub function_so : (options : CodegenOptions) (files : Files) (b : Block) (f : Function) → IsLawfulBlock s b → HasSingleArms b → TestsRules set b → term_function options files s b ≡ Some f → AllSo (body_operands f.body)
+  function_so options files b f lawful single tests given =
+      subst (λ (g : Function). AllSo (body_operands g.body)) (sym (told_is options files env t set.bindings b lawful single) ∙ one_function (function_of options files env t set.bindings b) f (sym (function_made options files env t set.bindings b lawful single) ∙ given))
+      (subst AllSo (sym (logged_of own_operands operands_own (written_body files env t set.bindings b) (log_lines options files s b)))
       (block_so (completed s [] b) [] [] (tail_in files env t b) (completed_ready s b lawful) (completed_single s [] b single) (completed_tests set s [] b single tests) (tail_so _ _ _ b)))

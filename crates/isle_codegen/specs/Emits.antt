@@ -1,6 +1,7 @@
 -- When functions are emitted for rule sets.
 use Rattle.std.specs.Prelude.{◌≡◌, List, Bool, [], ◌∷◌, true, false, Some, slice_get}
 use Rattle.std.specs.List.{AllByRecursion}
+use Rattle.isle_core.specs.declared.options.CodegenOptions.{CodegenOptions}
 use Rattle.isle_core.specs.declared.types.ReturnKind.{ReturnKind}
 use Rattle.isle_core.specs.declared.TermId.{TermId}
 use Rattle.isle_core.specs.declared.files.Files.{Files}
@@ -53,7 +54,7 @@ pub record MeansSet (env : Environment) (t : Term) (s : RuleSet) (b : Block) : T
 
 -- the function of the term, from a block that is lawful for its rule set, has one arm in each Match, tests and returns what its rules
 -- do, all tests of those that are tried, and means the set
-pub record IsEmitted (logging : Bool) (files : Files) (env : Environment) (id : TermId) (s : RuleSet) (f : Function) : Type 0 where
+pub record IsEmitted (options : CodegenOptions) (files : Files) (env : Environment) (id : TermId) (s : RuleSet) (f : Function) : Type 0 where
   pub term : Term
   pub found : slice_get env.terms id.0 ≡ Some term
   pub block : Block
@@ -62,11 +63,11 @@ pub record IsEmitted (logging : Bool) (files : Files) (env : Environment) (id : 
   pub means : MeansSet env term s block
   pub tests : TestsRules s block
   pub makes : MakesTests (is_several (kind_of term.kind)) s block
-  pub given : term_function logging files (setting env term s.bindings) block ≡ Some f
+  pub given : term_function options files (setting env term s.bindings) block ≡ Some f
 
 -- so of each term with its rule set, in order
-abbrev pub AreEmitted : (logging : Bool) → Files → Environment → List (TermId × RuleSet) → List Function → Type 0
-AreEmitted logging files env [] [] = Unit {0}
-AreEmitted logging files env (s ∷ sets) (f ∷ fs) = IsEmitted logging files env s.0 s.1 f × AreEmitted logging files env sets fs
-AreEmitted logging files env [] (f ∷ fs) = ⊥
-AreEmitted logging files env (s ∷ sets) [] = ⊥
+abbrev pub AreEmitted : (options : CodegenOptions) → Files → Environment → List (TermId × RuleSet) → List Function → Type 0
+AreEmitted options files env [] [] = Unit {0}
+AreEmitted options files env (s ∷ sets) (f ∷ fs) = IsEmitted options files env s.0 s.1 f × AreEmitted options files env sets fs
+AreEmitted options files env [] (f ∷ fs) = ⊥
+AreEmitted options files env (s ∷ sets) [] = ⊥

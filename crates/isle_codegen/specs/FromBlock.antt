@@ -1,6 +1,7 @@
 -- The functions of a program, each made from a block of its term's rules.
 use Rattle.std.specs.Prelude.{◌≡◌, List, Bool, [], ◌∷◌, map, Some, Contains, slice_get}
 use Rattle.std.specs.List.{AllByRecursion}
+use Rattle.isle_core.specs.declared.options.CodegenOptions.{CodegenOptions}
 use Rattle.isle_core.specs.declared.TermId.{TermId}
 use Rattle.isle_core.specs.declared.files.Files.{Files}
 use Rattle.isle_core.specs.declared.rule_sets.RuleSet.{RuleSet}
@@ -29,7 +30,7 @@ use Rattle.isle_codegen.specs.Emits.{MeansSet}
 -- name with the place of each Return of the block, in order; the block tests nothing that no rule of the set tests, and all that those test which
 -- are tried; each Return has the position and the result of one rule, so that its position is that of one of the term's rules; its calls are
 -- those of the rules
-pub record IsFromBlock (logging : Bool) (files : Files) (env : Environment) (id : TermId) (f : Function) : Type 0 where
+pub record IsFromBlock (options : CodegenOptions) (files : Files) (env : Environment) (id : TermId) (f : Function) : Type 0 where
   pub term : Term
   pub found : slice_get env.terms id.0 ≡ Some term
   pub set : RuleSet
@@ -39,16 +40,16 @@ pub record IsFromBlock (logging : Bool) (files : Files) (env : Environment) (id 
   pub single : HasSingleArms block
   pub means : MeansSet env term set block
   pub shape : HasShape (setting env term set.bindings) f.body block
-  pub statements : term_function logging files (setting env term set.bindings) block ≡ Some f
-  pub lines : lines_of f.body ≡ log_lines logging files (setting env term set.bindings) block
+  pub statements : term_function options files (setting env term set.bindings) block ≡ Some f
+  pub lines : lines_of f.body ≡ log_lines options files (setting env term set.bindings) block
   pub tests : TestsRules set block
   pub makes : MakesTests (is_several (kind_of term.kind)) set block
   pub returns : AllByRecursion (Contains (map (λ (r : Rule). r.pos) (rules_of env id))) (return_positions block)
   pub calls : (callee : Callee) → Contains (body_calls f.body) callee → IsCalledBy env id callee
 
 -- so of each term, in order
-abbrev pub AreFromBlocks : (logging : Bool) → Files → Environment → List TermId → List Function → Type 0
-AreFromBlocks logging files env [] [] = Unit {0}
-AreFromBlocks logging files env (id ∷ ids) (f ∷ fs) = IsFromBlock logging files env id f × AreFromBlocks logging files env ids fs
-AreFromBlocks logging files env [] (f ∷ fs) = ⊥
-AreFromBlocks logging files env (id ∷ ids) [] = ⊥
+abbrev pub AreFromBlocks : (options : CodegenOptions) → Files → Environment → List TermId → List Function → Type 0
+AreFromBlocks options files env [] [] = Unit {0}
+AreFromBlocks options files env (id ∷ ids) (f ∷ fs) = IsFromBlock options files env id f × AreFromBlocks options files env ids fs
+AreFromBlocks options files env [] (f ∷ fs) = ⊥
+AreFromBlocks options files env (id ∷ ids) [] = ⊥

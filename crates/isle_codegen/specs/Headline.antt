@@ -64,10 +64,10 @@ MeansRules env p id = IsSomeAnd (slice_get env.terms id.0) (λ (t : Term).
 -- the functions of the program are the terms with rules, in order of ids, each as its term is declared, made from a block
 -- of its rules, and with their meaning, which says something: there are arguments and lawful meanings where types have values,
 -- as inhabited ones do
-pub record FunctionsMean (logging : Bool) (files : Files) (env : Environment) (p : Program) : Type 0 where
+pub record FunctionsMean (options : CodegenOptions) (files : Files) (env : Environment) (p : Program) : Type 0 where
   pub names : map (λ (f : Function). f.term) p.fns ≡ map (term_name env) (with_rules env)
   pub declared : AreDeclared files env (with_rules env) p.fns
-  pub blocks : AreFromBlocks logging files env (with_rules env) p.fns
+  pub blocks : AreFromBlocks options files env (with_rules env) p.fns
   pub mean : (id : TermId) → Contains (with_rules env) id → MeansRules env p id
   pub meant : (id : TermId) → Contains (with_rules env) id → IsMeant env id
   pub values : (ty : TypeId) → IsInhabited env ty → HasValue env ty
@@ -77,7 +77,7 @@ pub record IsText (options : CodegenOptions) (files : Files) (env : Environment)
   pub program : Program
   pub spells : SpellsOnly text program
   pub frame : IsFrame options env program
-  pub functions : FunctionsMean options.emit_logging files env program
+  pub functions : FunctionsMean options files env program
 
 -- the text is that of the lawful environment of the definitions, which stand in the files
 pub record HasHeadline (options : CodegenOptions) (files : Files) (defs : List Def) (text : List ℕ) : Type 0 where

@@ -43,12 +43,12 @@ fn emit_one(
     termenv: &TermEnv,
     term: TermId,
     rules: &RuleSet,
-    logging: bool,
+    options: &CodegenOptions,
 ) -> Result<Function, OutOfMemory>
     requires starts { starts.now ≡ map starts_of files.now.file_texts }
     requires consts { consts.now ≡ typeenv.now.consts }
     requires can { CanEmit files.now (environment typeenv.now termenv.now) (term, rules.now) }
-    ensures { IfOk result (λ f. IsEmitted logging files.now (environment typeenv.now termenv.now) term rules.now (function f)) }
+    ensures { IfOk result (λ f. IsEmitted options.now files.now (environment typeenv.now termenv.now) term rules.now (function f)) }
 {
     let declared = &termenv.terms.as_slice()[term.index()];
     let block = serialize(alloc, rules, is_several(&declared.kind))?;
@@ -58,7 +58,7 @@ fn emit_one(
         term: declared,
         bindings: rules.bindings.as_slice(),
     };
-    match term_function(alloc, files, starts, consts, &context, &block, logging)? {
+    match term_function(alloc, files, starts, consts, &context, &block, options)? {
         Some(function) => Ok(function),
         None => unreachable!(),
     }
@@ -71,17 +71,17 @@ fn emit_all(
     typeenv: &TypeEnv,
     termenv: &TermEnv,
     terms: &[(TermId, RuleSet)],
-    logging: bool,
+    options: &CodegenOptions,
 ) -> Result<Vec<Function>, OutOfMemory>
     requires { AllByRecursion (CanEmit files.now (environment typeenv.now termenv.now)) terms.now }
-    ensures { IfOk result (λ fns. AreEmitted logging files.now (environment typeenv.now termenv.now) terms.now (map function fns.items)) }
+    ensures { IfOk result (λ fns. AreEmitted options.now files.now (environment typeenv.now termenv.now) terms.now (map function fns.items)) }
 {
     let starts = LineStarts::new(alloc, files)?;
     let consts = ConstTypes::new(alloc, typeenv.consts.as_slice())?;
     let mut fns = Vec::new(alloc);
     for (term, rules) in terms {
         fns.push(emit_one(
-            alloc, files, &starts, &consts, typeenv, termenv, *term, rules, logging,
+            alloc, files, &starts, &consts, typeenv, termenv, *term, rules, options,
         )?)?;
     }
     Ok(fns)
@@ -104,11 +104,11 @@ pub fn codegen_tree(
     requires places { ArePlaced files.now (environment typeenv.now termenv.now) }
     ensures well_formed { IfOk result (λ p. IsWellFormed (program p)) }
     ensures frame { IfOk result (λ p. IsFrame options.now (environment typeenv.now termenv.now) (program p)) }
-    ensures functions { IfOk result (λ p. FunctionsMean options.now.emit_logging files.now (environment typeenv.now termenv.now) (program p)) }
+    ensures functions { IfOk result (λ p. FunctionsMean options.now files.now (environment typeenv.now termenv.now) (program p)) }
 {
     let signatures = trait_fns(alloc, typeenv, termenv)?;
     let types = type_items(alloc, typeenv)?;
-    let fns = emit_all(alloc, files, typeenv, termenv, terms, options.emit_logging)?;
+    let fns = emit_all(alloc, files, typeenv, termenv, terms, options)?;
     Ok(Program {
         allow: !options.exclude_global_allow_pragmas,
         trait_fns: List::new(signatures),

@@ -1,6 +1,7 @@
 -- What holds of an emitted function.
 use Rattle.std.proofs.Common.{◌≡◌, ◌<◌, ℕ, zero, suc, [], ◌∷◌, length, get_or, slice_get, List, Bool, Option, Some, None, refl, subst, sym, ap, arith}
 use Rattle.std.specs.Prelude.{IsSomeAnd}
+use Rattle.isle_core.specs.declared.options.CodegenOptions.{CodegenOptions}
 use Rattle.isle_core.specs.declared.types.ReturnKind.{ReturnKind}
 use Rattle.isle_core.specs.declared.types.ReturnKind.TheVariants as kind
 use Rattle.isle_core.specs.declared.types.Term.{Term}
@@ -10,9 +11,10 @@ use Rattle.isle_tree.specs.Program.{Function}
 use Rattle.isle_tree.specs.WellFormed.{IsFunction}
 use Rattle.isle_emission.specs.Origin.{Origin, InSetting}
 use Rattle.isle_emission.specs.MayEmit.{MayEmit, MayEmitTerm}
-use Rattle.isle_emission.specs.EmittedTerm.{IsGiven, HasLogLines, IsWellFormedIn, HasBlockShape, RunsAs, RunsAsItsBlock}
+use Rattle.isle_emission.specs.EmittedTerm.{IsGiven, HasLogLines, IsWellFormedIn, HasBlockShape, RunsAs, RunsAsItsBlock, RunsUnderAll}
+use Rattle.isle_simulation.specs.Emitted.{RunAlike}
 use Rattle.isle_simulation.specs.TermFunction.{term_function}
-use Rattle.isle_simulation.proofs.GivenFunctions.{emitted_well_formed, has_shape, runs_as_block, runs_as_several, its_lines}
+use Rattle.isle_simulation.proofs.GivenFunctions.{emitted_well_formed, has_shape, runs_as_block, runs_as_several, its_lines, run_alike}
 use Rattle.isle_simulation.proofs.Made.{function_made}
 
 -- what is so of an item is so of the item of its number
@@ -38,36 +40,44 @@ both : {A : Type 0} (o : Option A) (P Q R : A → Type 0) → ((x : A) → P x �
 both (Some x) P Q R f h k = f x h k
 both None P Q R f h k = absurd h
 
-pub is_well_formed : (logging : Bool) (o : Origin) (f : Function) → MayEmitTerm o → IsGiven logging o f → IsWellFormedIn o f
-is_well_formed logging o f h e p fns = one (slice_get o.env.terms o.id.0) h e
+pub is_well_formed : (options : CodegenOptions) (o : Origin) (f : Function) → MayEmitTerm o → IsGiven options o f → IsWellFormedIn o f
+is_well_formed options o f h e p fns = one (slice_get o.env.terms o.id.0) h e
   where
-    one : (t : Option Term) → IsSomeAnd t (λ u. MayEmit o.files (setting o.env u o.bindings) o.block) → IsSomeAnd t (λ u. term_function logging o.files (setting o.env u o.bindings) o.block ≡ Some f) → IsFunction p f
-    one (Some t) may is = emitted_well_formed logging o.files o.env t o.bindings o.block f may.lawful may.single is may.emittable may.names may.fns may.term_fns p fns
+    one : (t : Option Term) → IsSomeAnd t (λ u. MayEmit o.files (setting o.env u o.bindings) o.block) → IsSomeAnd t (λ u. term_function options o.files (setting o.env u o.bindings) o.block ≡ Some f) → IsFunction p f
+    one (Some t) may is = emitted_well_formed options o.files o.env t o.bindings o.block f may.lawful may.single is may.emittable may.names may.fns may.term_fns p fns
     one None may is = absurd may
 
-pub is_shaped : (logging : Bool) (o : Origin) (f : Function) → MayEmitTerm o → IsGiven logging o f → HasBlockShape o f
-is_shaped logging o f h e = both (slice_get o.env.terms o.id.0) _ _ _ (λ t may is. has_shape logging o.files o.env t o.bindings o.block f may.lawful may.single is) h e
+pub is_shaped : (options : CodegenOptions) (o : Origin) (f : Function) → MayEmitTerm o → IsGiven options o f → HasBlockShape o f
+is_shaped options o f h e = both (slice_get o.env.terms o.id.0) _ _ _ (λ t may is. has_shape options o.files o.env t o.bindings o.block f may.lawful may.single is) h e
 
 -- it runs as the block of its kind of term
-runs_so : (logging : Bool) (o : Origin) (f : Function) (t : Term) → MayEmit o.files (setting o.env t o.bindings) o.block → term_function logging o.files (setting o.env t o.bindings) o.block ≡ Some f
+runs_so : (options : CodegenOptions) (o : Origin) (f : Function) (t : Term) → MayEmit o.files (setting o.env t o.bindings) o.block → term_function options o.files (setting o.env t o.bindings) o.block ≡ Some f
     → RunsAs (is_several (kind_of t.kind)) (setting o.env t o.bindings) o.block f
-runs_so logging o f t may is = of (kind_of t.kind) refl
+runs_so options o f t may is = of (kind_of t.kind) refl
   where
     of : (k : ReturnKind) → kind_of t.kind ≡ k → RunsAs (is_several k) (setting o.env t o.bindings) o.block f
-    of kind.Plain e = runs_as_block logging o.files o.env t o.bindings o.block f may.lawful may.single is (subst AnswersOnce (sym e) tt) may.names may.fns may.term_fns
-    of kind.Option e = runs_as_block logging o.files o.env t o.bindings o.block f may.lawful may.single is (subst AnswersOnce (sym e) tt) may.names may.fns may.term_fns
-    of kind.Iterator e = let several = ap is_several e in runs_as_several logging o.files o.env t o.bindings o.block f may.lawful may.single is several may.lawful.items may.names may.fns may.term_fns
+    of kind.Plain e = runs_as_block options o.files o.env t o.bindings o.block f may.lawful may.single is (subst AnswersOnce (sym e) tt) may.names may.fns may.term_fns
+    of kind.Option e = runs_as_block options o.files o.env t o.bindings o.block f may.lawful may.single is (subst AnswersOnce (sym e) tt) may.names may.fns may.term_fns
+    of kind.Iterator e = let several = ap is_several e in runs_as_several options o.files o.env t o.bindings o.block f may.lawful may.single is several may.lawful.items may.names may.fns may.term_fns
 
-pub is_run : (logging : Bool) (o : Origin) (f : Function) → MayEmitTerm o → IsGiven logging o f → RunsAsItsBlock o f
-is_run logging o f h e = both (slice_get o.env.terms o.id.0) _ _ _ (runs_so logging o f) h e
+pub is_run : (options : CodegenOptions) (o : Origin) (f : Function) → MayEmitTerm o → IsGiven options o f → RunsAsItsBlock o f
+is_run options o f h e = both (slice_get o.env.terms o.id.0) _ _ _ (runs_so options o f) h e
 
-pub is_logged : (logging : Bool) (o : Origin) (f : Function) → MayEmitTerm o → IsGiven logging o f → HasLogLines logging o f
-is_logged logging o f h e = both (slice_get o.env.terms o.id.0) _ _ _ (λ t may is. its_lines logging o.files o.env t o.bindings o.block f may.lawful may.single is) h e
+pub is_logged : (options : CodegenOptions) (o : Origin) (f : Function) → MayEmitTerm o → IsGiven options o f → HasLogLines options o f
+is_logged options o f h e = both (slice_get o.env.terms o.id.0) _ _ _ (λ t may is. its_lines options o.files o.env t o.bindings o.block f may.lawful may.single is) h e
+
+pub is_alike : (options : CodegenOptions) (o : Origin) (f : Function) → MayEmitTerm o → IsGiven options o f → RunsUnderAll o f
+is_alike options o f h e other g k = one (slice_get o.env.terms o.id.0) h e k
+  where
+    one : (t : Option Term) → IsSomeAnd t (λ u. MayEmit o.files (setting o.env u o.bindings) o.block) → IsSomeAnd t (λ u. term_function options o.files (setting o.env u o.bindings) o.block ≡ Some f)
+        → IsSomeAnd t (λ u. term_function other o.files (setting o.env u o.bindings) o.block ≡ Some g) → RunAlike f g
+    one (Some t) may is also = run_alike options other o.files o.env t o.bindings o.block f g may.lawful may.single is also
+    one None may is also = absurd may
 
 -- and it is there
-pub is_made : (logging : Bool) (o : Origin) → MayEmitTerm o → InSetting o (λ (s : Setting). None ≡ term_function logging o.files s o.block) → ⊥
-is_made logging o h e = one (slice_get o.env.terms o.id.0) h e
+pub is_made : (options : CodegenOptions) (o : Origin) → MayEmitTerm o → InSetting o (λ (s : Setting). None ≡ term_function options o.files s o.block) → ⊥
+is_made options o h e = one (slice_get o.env.terms o.id.0) h e
   where
-    one : (t : Option Term) → IsSomeAnd t (λ u. MayEmit o.files (setting o.env u o.bindings) o.block) → IsSomeAnd t (λ u. None ≡ term_function logging o.files (setting o.env u o.bindings) o.block) → ⊥
-    one (Some t) may none = let made = function_made logging o.files o.env t o.bindings o.block may.lawful may.single in cc
+    one : (t : Option Term) → IsSomeAnd t (λ u. MayEmit o.files (setting o.env u o.bindings) o.block) → IsSomeAnd t (λ u. None ≡ term_function options o.files (setting o.env u o.bindings) o.block) → ⊥
+    one (Some t) may none = let made = function_made options o.files o.env t o.bindings o.block may.lawful may.single in cc
     one None may none = may

@@ -1,23 +1,24 @@
 -- What the function is that is emitted for a term.
 use Rattle.std.specs.Prelude.{◌≡◌, Bool, true, false, Some}
+use Rattle.isle_core.specs.declared.options.CodegenOptions.{CodegenOptions}
 use Rattle.isle_core.specs.Block.{Block}
 use Rattle.isle_core.specs.Setting.{Setting, gives_several}
 use Rattle.isle_tree.specs.Program.{Function, Program}
 use Rattle.isle_tree.specs.WellFormed.{callables, IsFunction}
 use Rattle.isle_emission.specs.Origin.{Origin, InSetting}
-use Rattle.isle_simulation.specs.Emitted.{RunsAsBlock, RunsAsSeveral}
+use Rattle.isle_simulation.specs.Emitted.{RunAlike, RunsAsBlock, RunsAsSeveral}
 use Rattle.isle_simulation.specs.Shape.{HasShape}
 use Rattle.isle_simulation.specs.LogLines.{lines_of}
 use Rattle.isle_simulation.specs.TermFunction.{log_lines, term_function}
 use Rattle.isle_simulation.specs.TermFns.{callables_of}
 
 -- the function is that of the term, with log lines where they are asked for
-abbrev pub IsGiven : (logging : Bool) → Origin → Function → Type 0
-IsGiven logging o f = InSetting o (λ (s : Setting). term_function logging o.files s o.block ≡ Some f)
+abbrev pub IsGiven : (options : CodegenOptions) → Origin → Function → Type 0
+IsGiven options o f = InSetting o (λ (s : Setting). term_function options o.files s o.block ≡ Some f)
 
 -- its log lines are, where they are asked for, one for each Return of the block, in order
-abbrev pub HasLogLines : (logging : Bool) → Origin → Function → Type 0
-HasLogLines logging o f = InSetting o (λ (s : Setting). lines_of f.body ≡ log_lines logging o.files s o.block)
+abbrev pub HasLogLines : (options : CodegenOptions) → Origin → Function → Type 0
+HasLogLines options o f = InSetting o (λ (s : Setting). lines_of f.body ≡ log_lines options o.files s o.block)
 
 -- it is well formed in every program in which the functions may be called that the environment gives: those of the trait, and those of
 -- terms with rules
@@ -36,3 +37,7 @@ RunsAs false s b f = RunsAsBlock s.env s.term s.bindings b f
 -- it runs as its block does
 abbrev pub RunsAsItsBlock : Origin → Function → Type 0
 RunsAsItsBlock o f = InSetting o (λ (s : Setting). RunsAs (gives_several s) s o.block f)
+
+-- it runs like each function that the block gives under other options: everywhere to the same end, with the same calls, also of pure terms
+abbrev pub RunsUnderAll : Origin → Function → Type 0
+RunsUnderAll o f = (other : CodegenOptions) (g : Function) → IsGiven other o g → RunAlike f g

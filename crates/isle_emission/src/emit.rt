@@ -7,7 +7,8 @@ ghost use Rattle.isle_core.specs.Terms.{sym_text};
 ghost use Rattle.isle_tree.specs.Views as Views;
 ghost use Rattle.isle_operands.specs.Contexts.{env_of, setting_of};
 ghost use Rattle.isle_core.specs.LineStarts.{starts_of};
-ghost use Rattle.isle_emission.specs.EmittedTerm.{IsGiven, HasLogLines, IsWellFormedIn, HasBlockShape, RunsAsItsBlock};
+ghost use Rattle.isle_emission.specs.EmittedTerm.{IsGiven, HasLogLines, IsWellFormedIn, HasBlockShape};
+ghost use Rattle.isle_emission.specs.EmittedTerm.{RunsAsItsBlock, RunsUnderAll};
 ghost use Rattle.isle_emission.specs.MayEmit.{MayEmitTerm};
 ghost use Rattle.isle_emission.specs.Origin.{origin};
 ghost use Rattle.isle_emission.specs.Views.{body_in};
@@ -51,24 +52,23 @@ fn term_stmts(
     consts: &ConstTypes<'_>,
     context: &Context<'_>,
     block: &Block,
-    logging: bool,
+    options: &CodegenOptions,
 ) -> Result<Option<Vec<Stmt>>, OutOfMemory>
     requires starts { starts.now ≡ map starts_of files.now.file_texts }
     requires consts { consts.now ≡ context.now.typeenv.now.consts }
     requires place { LiesIn files.now context.now.term.now.decl_pos }
-    ensures { IfOk result (λ stmts. body_in stmts ≡ TermFunction.root_body logging files.now (setting_of context.now) (BlockViews.block block.now)) }
+    ensures { IfOk result (λ stmts. body_in stmts ≡ TermFunction.root_body options.now files.now (setting_of context.now) (BlockViews.block block.now)) }
 {
     let types = binding_types(alloc, context, consts)?;
     let typed = Typed {
         context: *context,
         types: types.as_slice(),
     };
-    root_stmts(alloc, files, starts, &typed, block, logging)
+    root_stmts(alloc, files, starts, &typed, block, options)
 }
 
-/// Makes the function of a term from its context and its block, where its forms are built; `logging` says whether a log
-/// line stands before each result. The table is that of the files, and the constants are those of the context. Fails
-/// for want of memory alone.
+/// Makes the function of a term from its context and its block, where its forms are built, as the options ask
+/// for it. The table is that of the files, and the constants are those of the context. Fails for want of memory alone.
 pub fn term_function(
     alloc: Global,
     files: &Files,
@@ -76,14 +76,14 @@ pub fn term_function(
     consts: &ConstTypes<'_>,
     context: &Context<'_>,
     block: &Block,
-    logging: bool,
+    options: &CodegenOptions,
 ) -> Result<Option<Function>, OutOfMemory>
     requires starts { starts.now ≡ map starts_of files.now.file_texts }
     requires consts { consts.now ≡ context.now.typeenv.now.consts }
     requires place { LiesIn files.now context.now.term.now.decl_pos }
-    ensures { IfOk result (λ f. option_map Views.function f ≡ TermFunction.term_function logging files.now (setting_of context.now) (BlockViews.block block.now)) }
+    ensures { IfOk result (λ f. option_map Views.function f ≡ TermFunction.term_function options.now files.now (setting_of context.now) (BlockViews.block block.now)) }
 {
-    let Some(body) = term_stmts(alloc, files, starts, consts, context, block, logging)? else {
+    let Some(body) = term_stmts(alloc, files, starts, consts, context, block, options)? else {
         return Ok(None);
     };
     let (term, params, result) = head(alloc, context)?;
@@ -98,7 +98,7 @@ pub fn term_function(
 
 /// Makes the function of the term of this number, whose rules have this block. It is well formed in every program with
 /// the functions of the trait and of terms that the environment gives, has the shape of the block, and runs as the
-/// block does. Fails for want of memory alone.
+/// block does, and alike under all options. Fails for want of memory alone.
 pub fn emit_term(
     alloc: Global,
     files: &Files,
@@ -110,11 +110,13 @@ pub fn emit_term(
     options: &CodegenOptions,
 ) -> Result<Function, OutOfMemory>
     requires term { MayEmitTerm (origin files.now typeenv.now termenv.now term rules.now block.now) }
-    ensures emitted { IfOk result (λ f. IsGiven options.now.emit_logging (origin files.now typeenv.now termenv.now term rules.now block.now) (Views.function f)) }
-    ensures logs { IfOk result (λ f. HasLogLines options.now.emit_logging (origin files.now typeenv.now termenv.now term rules.now block.now) (Views.function f)) }
+    ensures emitted { IfOk result (λ f. IsGiven options.now (origin files.now typeenv.now termenv.now term rules.now block.now) (Views.function f)) }
+    ensures logs { IfOk result (λ f. HasLogLines options.now (origin files.now typeenv.now termenv.now term rules.now block.now) (Views.function f)) }
     ensures well_formed { IfOk result (λ f. IsWellFormedIn (origin files.now typeenv.now termenv.now term rules.now block.now) (Views.function f)) }
     ensures shape { IfOk result (λ f. HasBlockShape (origin files.now typeenv.now termenv.now term rules.now block.now) (Views.function f)) }
     ensures run { IfOk result (λ f. RunsAsItsBlock (origin files.now typeenv.now termenv.now term rules.now block.now) (Views.function f)) }
+    ensures options { IfOk result (λ f.
+        RunsUnderAll (origin files.now typeenv.now termenv.now term rules.now block.now) (Views.function f)) }
 {
     let starts = LineStarts::new(alloc, files)?;
     let context = Context {
@@ -124,15 +126,7 @@ pub fn emit_term(
         bindings: rules.bindings.as_slice(),
     };
     let consts = ConstTypes::new(alloc, typeenv.consts.as_slice())?;
-    match term_function(
-        alloc,
-        files,
-        &starts,
-        &consts,
-        &context,
-        block,
-        options.emit_logging,
-    )? {
+    match term_function(alloc, files, &starts, &consts, &context, block, options)? {
         Some(function) => Ok(function),
         None => unreachable!(),
     }

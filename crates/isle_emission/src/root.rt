@@ -17,7 +17,9 @@ ghost use Rattle.isle_emission.specs.Views.{body_in};
 
 use crate::statements::block_stmts;
 use crate::telling::Telling;
-use isle_core::{Block, ControlFlow, Files, LineStarts, OutOfMemory, ReturnKind, Text};
+use isle_core::{
+    Block, CodegenOptions, ControlFlow, Files, LineStarts, OutOfMemory, ReturnKind, Text,
+};
 use isle_operands::{Context, Typed, kind_of, sym_name};
 use isle_scope::Scope;
 use isle_tree::Stmt;
@@ -93,28 +95,32 @@ fn with_tail(
 }
 
 // Returns what is told, where logging is asked for.
-fn where_asked<'t, 'a>(logging: bool, told: &'t Telling<'a>) -> Option<&'t Telling<'a>>
-    ensures { (s : Setting) → telling_in s result ≡ telling_of logging told.now.files.now s }
+fn where_asked<'t, 'a>(options: &CodegenOptions, told: &'t Telling<'a>) -> Option<&'t Telling<'a>>
+    ensures { (s : Setting) → telling_in s result ≡ telling_of options.now told.now.files.now s }
 {
-    if logging { Some(told) } else { None }
+    if options.emit_logging {
+        Some(told)
+    } else {
+        None
+    }
 }
 
 /// Makes the statements of a term's function, where its forms are built: those of its block, with log lines where
-/// `logging` asks for them, and the tail where the block can end without a result.
+/// the options ask for them, and the tail where the block can end without a result.
 pub fn root_stmts(
     alloc: Global,
     files: &Files,
     starts: &LineStarts,
     typed: &Typed<'_>,
     block: &Block,
-    logging: bool,
+    options: &CodegenOptions,
 ) -> Result<Option<Vec<Stmt>>, OutOfMemory>
     requires starts { starts.now ≡ map starts_of files.now.file_texts }
     requires place { LiesIn files.now typed.now.context.term.now.decl_pos }
-    ensures { IfOk result (λ stmts. body_in stmts ≡ TermFunction.root_body logging files.now (setting_in typed.now) (BlockViews.block block.now)) }
+    ensures { IfOk result (λ stmts. body_in stmts ≡ TermFunction.root_body options.now files.now (setting_in typed.now) (BlockViews.block block.now)) }
 {
     let told = Telling { files, starts };
-    let telling = where_asked(logging, &told);
+    let telling = where_asked(options, &told);
     let mut bound = Scope::new(alloc);
     let Some(stmts) = block_stmts(alloc, typed, telling, &mut bound, block)? else {
         return Ok(None);

@@ -80,8 +80,8 @@ module _ (options : CodegenOptions) (files : Files) (term : List ℕ) (ws : Writ
   abbrev args : List Value
   args = args_given c.env term ws
 
-  abbrev the_function : HasFunction options.emit_logging files c.env term p.fns c.id
-  the_function = requested_function options.emit_logging files c.env term (with_rules c.env) p.fns c.id conforms.functions.declared conforms.functions.blocks c.requested
+  abbrev the_function : HasFunction options files c.env term p.fns c.id
+  the_function = requested_function options files c.env term (with_rules c.env) p.fns c.id conforms.functions.declared conforms.functions.blocks c.requested
 
   some_same : (a b : Term) → Some a ≡ Some b → a ≡ b
   some_same a b e = cc

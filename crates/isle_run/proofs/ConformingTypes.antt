@@ -335,7 +335,7 @@ module _ (options : CodegenOptions) (files : Files) (env : Environment) (checked
   one_term a b e = cc
 
   -- of each function
-  each_fits : (ids : List TermId) (fs : List Function) → AreDeclared files env ids fs → AreFromBlocks options.emit_logging files env ids fs → (g : Function) → Contains fs g → AllByRecursion FitsAt (places p g)
+  each_fits : (ids : List TermId) (fs : List Function) → AreDeclared files env ids fs → AreFromBlocks options files env ids fs → (g : Function) → Contains fs g → AllByRecursion FitsAt (places p g)
   each_fits [] [] d b g c = absurd (none_contained g c)
   each_fits [] (f ∷ fs) d b g c = absurd d
   each_fits (id ∷ ids) [] d b g c = absurd d
@@ -346,7 +346,7 @@ module _ (options : CodegenOptions) (files : Files) (env : Environment) (checked
 
       here : AllByRecursion FitsAt (places p f)
       here = function_fits env b.0.term b.0.set.bindings p Named names tells_types f (d.0.of_term.params ∙ ap (λ (t : Term). map (parameter env) t.arg_tys) same) (d.0.of_term.result ∙ ap (λ (t : Term). type_text env t.ret_ty) same)
-          options.emit_logging files b.0.block b.0.lawful b.0.single b.0.statements
+          options files b.0.block b.0.lawful b.0.single b.0.statements
 
   of_place : (xs : List Place) (x : Place) → AllByRecursion FitsAt xs → Contains xs x → FitsAt x
   of_place [] x h c = absurd (none_contained x c)

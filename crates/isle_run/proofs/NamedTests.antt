@@ -2,6 +2,7 @@
 use Rattle.std.proofs.Common.{◌≡◌, inl, inr, ℕ, List, [], ◌∷◌, ◌++◌, Bool, true, false, Option, Some, None, sym, ◌∙◌, subst}
 use Rattle.std.specs.Prelude.{Contains}
 use Rattle.std.proofs.lemmas.List.Elements.{Contains-append_left, Contains-append_right}
+use Rattle.isle_core.specs.declared.options.CodegenOptions.{CodegenOptions}
 use Rattle.isle_core.specs.declared.BindingId.{BindingId}
 use Rattle.isle_core.specs.declared.Sym.{Sym}
 use Rattle.isle_core.specs.declared.files.Files.{Files}
@@ -125,7 +126,7 @@ module _ (env : Environment) (t : Term) (bs : List Binding) (source : BindingId)
   one_function a b e = cc
 
   -- so of the function of a block
-  pub function_names_it : (logging : Bool) (files : Files) (b : Block) (f : Function) → IsLawfulBlock s b → HasSingleArms b → HoldsTest source Test b → term_function logging files s b ≡ Some f → IsNamedIn f.body
-  function_names_it logging files b f lawful single holds given =
-      subst (λ (g : Function). IsNamedIn g.body) (one_function (function_of logging files env t bs b) f (sym (function_made logging files env t bs b lawful single) ∙ given))
-      (block_names_it (telling_of logging files s) (completed s [] b) [] (tail_in files env t b) (completed_single s [] b single) (completed_holds [] b single holds))
+  pub function_names_it : (options : CodegenOptions) (files : Files) (b : Block) (f : Function) → IsLawfulBlock s b → HasSingleArms b → HoldsTest source Test b → term_function options files s b ≡ Some f → IsNamedIn f.body
+  function_names_it options files b f lawful single holds given =
+      subst (λ (g : Function). IsNamedIn g.body) (one_function (function_of options files env t bs b) f (sym (function_made options files env t bs b lawful single) ∙ given))
+      (block_names_it (telling_of options files s) (completed s [] b) [] (tail_in files env t b) (completed_single s [] b single) (completed_holds [] b single holds))

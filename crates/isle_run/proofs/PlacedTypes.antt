@@ -2,6 +2,7 @@
 use Rattle.std.proofs.Common.{◌≡◌, ℕ, zero, suc, ◌+◌, ◌≤◌, length, arith, List, [], ◌∷◌, ◌++◌, map, Bool, true, false, Option, Some, None, option_map, refl, sym, ap, ◌∙◌, subst}
 use Rattle.std.specs.Prelude.{IsSomeAnd, slice_get}
 use Rattle.std.proofs.lemmas.Option.{slice_get-map}
+use Rattle.isle_core.specs.declared.options.CodegenOptions.{CodegenOptions}
 use Rattle.isle_core.specs.declared.BindingId.{BindingId}
 use Rattle.isle_core.specs.declared.Sym.{Sym}
 use Rattle.isle_core.specs.declared.TypeId.{TypeId}
@@ -445,8 +446,8 @@ module _ (env : Environment) (t : Term) (bs : List Binding) (p : Program) (Named
   one_function a b e = cc
 
   -- the function of a lawful block
-  pub function_fits : (logging : Bool) (files : Files) (b : Block) → IsLawfulBlock s b → HasSingleArms b → term_function logging files s b ≡ Some f → PlacesFit (places p f)
-  function_fits logging files b lawful single given =
-      let same : function_of logging files env t bs b ≡ f = one_function (function_of logging files env t bs b) f (sym (function_made logging files env t bs b lawful single) ∙ given) in
+  pub function_fits : (options : CodegenOptions) (files : Files) (b : Block) → IsLawfulBlock s b → HasSingleArms b → term_function options files s b ≡ Some f → PlacesFit (places p f)
+  function_fits options files b lawful single given =
+      let same : function_of options files env t bs b ≡ f = one_function (function_of options files env t bs b) f (sym (function_made options files env t bs b lawful single) ∙ given) in
       subst (λ (body : Body). PlacesFit (body_places p f [] body)) (ap (λ (g : Function). g.body) same)
-      (block_fits (telling_of logging files s) (completed s [] b) [] [] (tail_in files env t b) (completed_ready s b lawful) (tail_fits _ _ _ b) [] tt)
+      (block_fits (telling_of options files s) (completed s [] b) [] [] (tail_in files env t b) (completed_ready s b lawful) (tail_fits _ _ _ b) [] tt)

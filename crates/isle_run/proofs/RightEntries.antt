@@ -127,7 +127,7 @@ module _ (options : CodegenOptions) (files : Files) (env : Environment) (names :
     record { params = sym (names_of env t.arg_tys); results = refl; kind = refl },
   )
   served_signature _ _ (internal name id t requested at) =
-      let h = requested_function options.emit_logging files env name (with_rules env) p.fns id conforms.functions.declared conforms.functions.blocks requested in
+      let h = requested_function options files env name (with_rules env) p.fns id conforms.functions.declared conforms.functions.blocks requested in
       let same : h.declared.term ≡ t = some_same h.declared.term t (sym h.declared.found ∙ at) in (
         term_signature h.function,
         ap (option_map term_signature) h.found,

@@ -161,7 +161,7 @@ module _ (options : CodegenOptions) (files : Files) (env : Environment) (checked
           let trivial = all_from (rule_tests env of.rule) (λ x d. ⊎_elim (λ l. absurd (none_contained x (subst (λ (ts : List Test). Contains ts x) none l))) (λ l. l) (of.is.tested x d)) in
           ap (λ (n : _). is_lt (int_cmp n f.prio)) of.is.prio ∙ ap (λ (n : _). is_lt (int_cmp of.rule.prio n)) prio ∙ k refl of.rule of.there trivial
 
-  in_function : (id : TermId) (f : Function) (r : Rule) (q : Path) (c : Sym) → IsFromBlock options.emit_logging files env id f → Contains (rules_of env id) r → Contains (rule_tests env r) (Is q (constraint.ConstPrim c))
+  in_function : (id : TermId) (f : Function) (r : Rule) (q : Path) (c : Sym) → IsFromBlock options files env id f → Contains (rules_of env id) r → Contains (rule_tests env r) (Is q (constraint.ConstPrim c))
       → ((t : Term) → slice_get env.terms id.0 ≡ Some t → is_several (kind_of t.kind) ≡ false → (g : Rule) → Contains (rules_of env id) g → AllByRecursion IsTrivial (rule_tests env g) → is_below g r ≡ true) → Contains (body_names f.body) (sym_text env c)
   in_function id f r q c b there tests below =
       let ps = paths_of b.set.bindings in
@@ -169,15 +169,15 @@ module _ (options : CodegenOptions) (files : Files) (env : Environment) (checked
       let found = ⊎_elim (λ l. l) (λ l. absurd l) (k.is.tested (Is q (constraint.ConstPrim c)) tests) in
       let source = ⊎_elim (λ l. tested_at ps k.flat.constraints q (constraint.ConstPrim c) l) (λ l. absurd (not_equal ps k.flat.equals q (constraint.ConstPrim c) l)) (in_either (map (is_test ps) k.flat.constraints) (map (equal_test ps) k.flat.equals) (Is q (constraint.ConstPrim c)) found) in
       let tried = tried_of id b.term r ps b.set.rules k.flat b.stands.flat k.is.prio (λ e. below b.term b.found e) in
-      function_names_it env b.term b.set.bindings source.0 c options.emit_logging files b.block f b.lawful b.single (b.makes k.flat source.0 (constraint.ConstPrim c) k.there tried source.1) b.statements
+      function_names_it env b.term b.set.bindings source.0 c options files b.block f b.lawful b.single (b.makes k.flat source.0 (constraint.ConstPrim c) k.there tried source.1) b.statements
 
   -- the function of each term with rules is among the functions
-  with_function : (ids : List TermId) (fs : List Function) (id : TermId) (name : List ℕ) → AreFromBlocks options.emit_logging files env ids fs → Contains ids id → ((f : Function) → IsFromBlock options.emit_logging files env id f → Contains (body_names f.body) name) → Contains (function_names fs) name
+  with_function : (ids : List TermId) (fs : List Function) (id : TermId) (name : List ℕ) → AreFromBlocks options files env ids fs → Contains ids id → ((f : Function) → IsFromBlock options files env id f → Contains (body_names f.body) name) → Contains (function_names fs) name
   with_function [] fs id name b c h = absurd (none_contained id c)
   with_function (i ∷ ids) [] id name b c h = absurd b
   with_function (i ∷ ids) (f ∷ fs) id name b c h =
       ⊎_elim
-      (λ (e : i ≡ id). Contains-append_left (body_names f.body) (function_names fs) name (h f (subst (λ (j : TermId). IsFromBlock options.emit_logging files env j f) e b.0)))
+      (λ (e : i ≡ id). Contains-append_left (body_names f.body) (function_names fs) name (h f (subst (λ (j : TermId). IsFromBlock options files env j f) e b.0)))
       (λ d. Contains-append_right (body_names f.body) (function_names fs) name (with_function ids fs id name b.1 d h))
       (contained_cases i ids id c)
 
@@ -201,15 +201,15 @@ module _ (options : CodegenOptions) (files : Files) (env : Environment) (checked
     one_function : (a b : Function) → Some a ≡ Some b → a ≡ b
     one_function a b e = cc
 
-    function_free : (id : TermId) (f : Function) → IsFromBlock options.emit_logging files env id f → AllByRecursion Free (function_types f)
+    function_free : (id : TermId) (f : Function) → IsFromBlock options files env id f → AllByRecursion Free (function_types f)
     function_free id f b =
         let s = setting env b.term b.set.bindings in
-        let same : function_of options.emit_logging files env b.term b.set.bindings b.block ≡ f = one_function _ f (sym (function_made options.emit_logging files env b.term b.set.bindings b.block b.lawful b.single) ∙ b.statements) in
+        let same : function_of options files env b.term b.set.bindings b.block ≡ f = one_function _ f (sym (function_made options files env b.term b.set.bindings b.block b.lawful b.single) ∙ b.statements) in
         subst (λ (g : Function). AllByRecursion Free (function_types g)) same
         (both (param_types (map (parameter env) b.term.arg_tys)) _ (params_free env Free type_free b.term.arg_tys)
-        (type_free b.term.ret_ty, block_free env Free type_free s refl (telling_of options.emit_logging files s) (completed s [] b.block) [] (tail_in files env b.term b.block) (tail_free env Free type_free _ _ _ b.block)))
+        (type_free b.term.ret_ty, block_free env Free type_free s refl (telling_of options files s) (completed s [] b.block) [] (tail_in files env b.term b.block) (tail_free env Free type_free _ _ _ b.block)))
 
-    functions_free : (ids : List TermId) (fs : List Function) → AreFromBlocks options.emit_logging files env ids fs → AllByRecursion Free (flat_map function_types fs)
+    functions_free : (ids : List TermId) (fs : List Function) → AreFromBlocks options files env ids fs → AllByRecursion Free (flat_map function_types fs)
     functions_free [] [] b = tt
     functions_free (id ∷ ids) (f ∷ fs) b = both (function_types f) (flat_map function_types fs) (function_free id f b.0) (functions_free ids fs b.1)
     functions_free [] (f ∷ fs) b = absurd b

@@ -125,8 +125,8 @@ named_item (x ∷ items) t c = ⊎_elim (λ (e : x ≡ t). any_left (bytes_eq t.
     first y e = rw ((bytes_eq-Decides t.name y.name).1 (sym (ap (λ (z : TypeItem). z.name) e))) refl
 
 module _ (options : CodegenOptions) (files : Files) (env : Environment) (checked : IsChecked files env) (p : Program) (conforms : Conforms options files env p) (term : List ℕ) (id : TermId) (requested : requested_term env term ≡ Some id) (args : List Value) (m : Meaning) (right : AreRightConstants env [] m.consts) (w : AreWantedBy env id m) where
-  abbrev the_function : HasFunction options.emit_logging files env term p.fns id
-  the_function = requested_function options.emit_logging files env term (with_rules env) p.fns id conforms.functions.declared conforms.functions.blocks requested
+  abbrev the_function : HasFunction options files env term p.fns id
+  the_function = requested_function options files env term (with_rules env) p.fns id conforms.functions.declared conforms.functions.blocks requested
 
   abbrev f : Function
   f = the_function.function
@@ -159,7 +159,7 @@ module _ (options : CodegenOptions) (files : Files) (env : Environment) (checked
   operands : AllByRecursion So (body_operands f.body)
   operands =
       let b = the_function.block in
-      function_so env b.term b.set rules b.stands options.emit_logging files b.block f b.lawful b.single b.tests b.statements
+      function_so env b.term b.set rules b.stands options files b.block f b.lawful b.single b.tests b.statements
 
   placed : AllByRecursion (λ (x : Place). So x.0) (places p f)
   placed = body_so So f.body p f [] formed operands

@@ -11,4 +11,4 @@ use Rattle.isle_codegen.specs.Headline.{FunctionsMean}
 pub record Conforms (options : CodegenOptions) (files : Files) (env : Environment) (p : Program) : Type 0 where
   pub well_formed : IsWellFormed p
   pub frame : IsFrame options env p
-  pub functions : FunctionsMean options.emit_logging files env p
+  pub functions : FunctionsMean options files env p

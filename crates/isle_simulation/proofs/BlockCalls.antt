@@ -2,6 +2,7 @@
 use Rattle.std.proofs.Common.{◌≡◌, ⊎_elim, ◌⊎◌, inl, inr, ℕ, List, [], ◌∷◌, ◌++◌, Bool, true, false, Option, Some, None, refl, ap, ◌∙◌, subst, sym}
 use Rattle.std.specs.Prelude.{Contains, slice_get}
 use Rattle.std.proofs.lemmas.List.Elements.{Contains-append_cases}
+use Rattle.isle_core.specs.declared.options.CodegenOptions.{CodegenOptions}
 use Rattle.isle_core.specs.declared.BindingId.{BindingId}
 use Rattle.isle_core.specs.declared.Sym.{Sym}
 use Rattle.isle_core.specs.declared.TermId.{TermId}
@@ -176,9 +177,9 @@ calls_own : IsOwn own_calls
 calls_own = record { if_eq = λ a b x y. refl; if_let = λ pat r x y. refl; arms = λ r x y. refl; loop = λ list item x y. refl; split = λ within x y. refl; log = λ term place. refl }
 
 -- each call of a term's function is among the bindings of its block
-pub written_calls : (logging : Bool) (files : Files) (env : Environment) (t : Term) (bs : List Binding) (b : Block) (callee : Callee) → IsLawfulBlock (setting env t bs) b → HasSingleArms b
-    → Contains (body_calls (logged_function logging files env t bs b).body) callee → IsBoundCall env bs callee
-written_calls logging files env t bs b callee h o c =
+pub written_calls : (options : CodegenOptions) (files : Files) (env : Environment) (t : Term) (bs : List Binding) (b : Block) (callee : Callee) → IsLawfulBlock (setting env t bs) b → HasSingleArms b
+    → Contains (body_calls (logged_function options files env t bs b).body) callee → IsBoundCall env bs callee
+written_calls options files env t bs b callee h o c =
     let s = setting env t bs in
     ⊎_elim (λ x. x) (λ x. absurd (tail_calls _ _ _ b callee x)) (block_calls (completed s [] b) s [] [] _ callee (completed_ready s b h) (completed_single s [] b o)
-    (subst (λ cs. Contains cs callee) (logged_of own_calls calls_own (written_body files env t bs b) (log_lines logging files s b)) c))
+    (subst (λ cs. Contains cs callee) (logged_of own_calls calls_own (written_body files env t bs b) (log_lines options files s b)) c))

@@ -2,6 +2,7 @@
 use Rattle.std.proofs.Common.{append_assoc, ◌≡◌, ℕ, zero, suc, ◌+◌, List, [], ◌∷◌, ◌++◌, length, map, Bool, true, false, cond, Option, Some, None, refl, sym, ap, ◌∙◌, arith}
 use Rattle.std.specs.Prelude.{take, drop, slice_get}
 use Rattle.std.proofs.lemmas.List.{append-nil, length-append, length-map, map-append}
+use Rattle.isle_core.specs.declared.options.CodegenOptions.{CodegenOptions}
 use Rattle.isle_core.specs.declared.BindingId.{BindingId}
 use Rattle.isle_core.specs.declared.files.Files.{Files}
 use Rattle.isle_core.specs.declared.position.Pos.{Pos}
@@ -314,23 +315,24 @@ logging_lines true files s ps n e = ap (λ k. take k (map (log_line files s) ps)
 logging_lines false files s ps n e = take_none n
 
 -- the log lines of the statements that a lawful block gives
-pub written_lines : (logging : Bool) (files : Files) (env : Environment) (t : Term) (bs : List Binding) (b : Block) → IsLawfulBlock (setting env t bs) b → HasSingleArms b
-    → lines_of (logged (log_lines logging files (setting env t bs) b) (block_body (setting env t bs) [] (completed (setting env t bs) [] b) (tail_in files env t b))) ≡ log_lines logging files (setting env t bs) b
-written_lines logging files env t bs b h o =
+pub written_lines : (options : CodegenOptions) (files : Files) (env : Environment) (t : Term) (bs : List Binding) (b : Block) → IsLawfulBlock (setting env t bs) b → HasSingleArms b
+    → lines_of (logged (log_lines options files (setting env t bs) b) (block_body (setting env t bs) [] (completed (setting env t bs) [] b) (tail_in files env t b))) ≡ log_lines options files (setting env t bs) b
+written_lines options files env t bs b h o =
     let s = setting env t bs in
     let c = completed s [] b in
     let ready = completed_ready s b h in
     let single = completed_single s [] b o in
     let end = tail_in files env t b in
-    let lines = log_lines logging files s b in
+    let lines = log_lines options files s b in
     let count : results_of (block_body s [] c end) ≡ length (return_positions b) =
     block_results c s [] [] end ready single ∙ ap (λ n. length (return_positions c) + n) (tail_results (mark_in files env t) (ends_in_return b)) ∙ omega arith ∙ ap length (completed_positions b s []) in
     logged_lines (block_body s [] c end) lines (block_lines c s [] [] end ready single ∙ tail_lines (mark_in files env t) (ends_in_return b))
-    ∙ logging_lines logging files s (return_positions b) (results_of (block_body s [] c end)) count
+    ∙ logging_lines options.emit_logging files s (return_positions b) (results_of (block_body s [] c end)) count
 
--- the function of a term, with a line before each Return, is that with these lines
-pub told_is : (logging : Bool) (files : Files) (env : Environment) (t : Term) (bs : List Binding) (b : Block) → IsLawfulBlock (setting env t bs) b → HasSingleArms b → function_of logging files env t bs b ≡ logged_function logging files env t bs b
-told_is true files env t bs b h o =
+told_by : (logging : Bool) (files : Files) (env : Environment) (t : Term) (bs : List Binding) (b : Block) → IsLawfulBlock (setting env t bs) b → HasSingleArms b
+    → function_with env t (told_body (cond logging (Some (log_line files (setting env t bs))) None) (setting env t bs) [] (completed (setting env t bs) [] b) (tail_in files env t b))
+    ≡ function_with env t (logged (cond logging (map (log_line files (setting env t bs)) (return_positions b)) []) (written_body files env t bs b))
+told_by true files env t bs b h o =
     let s = setting env t bs in
     let c = completed s [] b in
     let end = tail_in files env t b in
@@ -338,4 +340,8 @@ told_is true files env t bs b h o =
     ap (function_with env t)
     (ap (told_body (Some line) s [] c) (sym (logged_none end)) ∙ told_logged c line s [] [] end [] (completed_ready s b h) (completed_single s [] b o)
     ∙ ap (λ ls. logged ls (block_body s [] c end)) (append-nil (map line (return_positions c)) ∙ ap (map line) (completed_positions b s [])))
-told_is false files env t bs b h o = ap (function_with env t) (sym (logged_none (written_body files env t bs b)))
+told_by false files env t bs b h o = ap (function_with env t) (sym (logged_none (written_body files env t bs b)))
+
+-- the function of a term, with a line before each Return, is that with these lines
+pub told_is : (options : CodegenOptions) (files : Files) (env : Environment) (t : Term) (bs : List Binding) (b : Block) → IsLawfulBlock (setting env t bs) b → HasSingleArms b → function_of options files env t bs b ≡ logged_function options files env t bs b
+told_is options files env t bs b h o = told_by options.emit_logging files env t bs b h o

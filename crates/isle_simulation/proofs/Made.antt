@@ -2,6 +2,7 @@
 use Rattle.std.proofs.Common.{◌≡◌, ◌≤◌, ⊎_elim, ℕ, ℤ, List, [], ◌∷◌, ◌++◌, length, map, Bool, true, false, Option, Some, None, refl, sym, ap, ◌∙◌, arith}
 use Rattle.std.specs.Option.{option_map_or}
 use Rattle.std.specs.Prelude.{IsSomeAnd, option_map, slice_get}
+use Rattle.isle_core.specs.declared.options.CodegenOptions.{CodegenOptions}
 use Rattle.isle_core.specs.declared.BindingId.{BindingId}
 use Rattle.isle_core.specs.declared.TypeId.{TypeId}
 use Rattle.isle_core.specs.declared.files.Files.{Files}
@@ -258,7 +259,7 @@ mutual
 
 -- ---- functions
 
-pub function_made : (logging : Bool) (files : Files) (env : Environment) (t : Term) (bs : List Binding) (b : Block) → IsLawfulBlock (setting env t bs) b → HasSingleArms b → term_function logging files (setting env t bs) b ≡ Some (function_of logging files env t bs b)
-function_made logging files env t bs b h o =
+pub function_made : (options : CodegenOptions) (files : Files) (env : Environment) (t : Term) (bs : List Binding) (b : Block) → IsLawfulBlock (setting env t bs) b → HasSingleArms b → term_function options files (setting env t bs) b ≡ Some (function_of options files env t bs b)
+function_made options files env t bs b h o =
     let s = setting env t bs in
-    ap (option_map (function_with env t)) (block_made (telling_of logging files s) (completed s [] b) s [] [] (tail_in files env t b) (completed_ready s b h) (completed_single s [] b o))
+    ap (option_map (function_with env t)) (block_made (telling_of options files s) (completed s [] b) s [] [] (tail_in files env t b) (completed_ready s b h) (completed_single s [] b o))

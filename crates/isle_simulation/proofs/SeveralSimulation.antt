@@ -6,6 +6,7 @@ use Rattle.std.specs.List.{AllByRecursion}
 use Rattle.std.proofs.lemmas.List.{length-map}
 use Rattle.std.proofs.lemmas.List.Elements.{Contains-append_left}
 use Rattle.std.proofs.lemmas.Option.{slice_get-map, same_Some}
+use Rattle.isle_core.specs.declared.options.CodegenOptions.{CodegenOptions}
 use Rattle.isle_core.specs.Answered.{Item, item_of}
 use Rattle.isle_core.specs.Calling.{Calling, ByTurns, ByCases, NoCall, calling, kind_of, is_several, may_be_nothing}
 use Rattle.isle_core.specs.declared.BindingId.{BindingId}
@@ -461,11 +462,11 @@ several_flow files env t bs b several names pure pure_made h o n p args m k answ
     ∙ ap (λ x. Some (nameless_ran (cut_run m x))) (several_same s m args b [] nothing_known nothing_given)
 
 -- so the function of the term, with its log lines
-pub written_several : (logging : Bool) (files : Files) (env : Environment) (t : Term) (bs : List Binding) (b : Block) → is_several (kind_of t.kind) ≡ true → HasRustNames env → HasPureExtractors env bs → HasPureConstructors env → IsLawfulBlock (setting env t bs) b → HasSingleArms b → HasNewItems (setting env t bs) b
-    → RunsAsSeveral env t bs b (logged_function logging files env t bs b)
-written_several logging files env t bs b several names pure pure_made h o n p args m e k answers values =
-    let f = logged_function logging files env t bs b in
+pub written_several : (options : CodegenOptions) (files : Files) (env : Environment) (t : Term) (bs : List Binding) (b : Block) → is_several (kind_of t.kind) ≡ true → HasRustNames env → HasPureExtractors env bs → HasPureConstructors env → IsLawfulBlock (setting env t bs) b → HasSingleArms b → HasNewItems (setting env t bs) b
+    → RunsAsSeveral env t bs b (logged_function options files env t bs b)
+written_several options files env t bs b several names pure pure_made h o n p args m e k answers values =
+    let f = logged_function options files env t bs b in
     let w = around p m args (Some (room m)) f in
     ap (λ g. option_map (λ (q : Ran). nameless_ran (impure_ran env q)) (function_run p m args g)) e
-    ∙ ap (λ x. option_map (λ (q : Ran). nameless_ran (impure_ran env q)) (ended (kind_of t.kind) x)) (logged_runs (written_body files env t bs b) (log_lines logging files (setting env t bs) b) w [] nothing_done)
+    ∙ ap (λ x. option_map (λ (q : Ran). nameless_ran (impure_ran env q)) (ended (kind_of t.kind) x)) (logged_runs (written_body files env t bs b) (log_lines options files (setting env t bs) b) w [] nothing_done)
     ∙ several_flow files env t bs b several names pure pure_made h o n p args m k answers values f

@@ -1,6 +1,7 @@
 -- The function of a term has the shape of its block.
 use Rattle.std.proofs.Common.{◌≡◌, ℕ, List, [], ◌∷◌, ◌++◌, Bool, true, false, cond, Option, Some, None, refl, sym, ap, ◌∙◌, subst}
 use Rattle.std.specs.Prelude.{option_map, slice_get}
+use Rattle.isle_core.specs.declared.options.CodegenOptions.{CodegenOptions}
 use Rattle.isle_core.specs.Calling.{kind_of}
 use Rattle.isle_core.specs.declared.BindingId.{BindingId}
 use Rattle.isle_core.specs.declared.Sym.{Sym}
@@ -164,7 +165,7 @@ tail_bare mark true = refl
 tail_bare mark false = mark_bare mark
 
 -- the statements of a term's function are its block's steps
-pub written_shape : (logging : Bool) (files : Files) (env : Environment) (t : Term) (bs : List Binding) (b : Block) → IsLawfulBlock (setting env t bs) b → HasSingleArms b → HasShape (setting env t bs) (logged_function logging files env t bs b).body b
-written_shape logging files env t bs b h o =
-    subst (λ (body : Body). AreSteps (setting env t bs) [] body b) (sym (logged_bare (written_body files env t bs b) (log_lines logging files (setting env t bs) b)))
+pub written_shape : (options : CodegenOptions) (files : Files) (env : Environment) (t : Term) (bs : List Binding) (b : Block) → IsLawfulBlock (setting env t bs) b → HasSingleArms b → HasShape (setting env t bs) (logged_function options files env t bs b).body b
+written_shape options files env t bs b h o =
+    subst (λ (body : Body). AreSteps (setting env t bs) [] body b) (sym (logged_bare (written_body files env t bs b) (log_lines options files (setting env t bs) b)))
     (block_shape b (setting env t bs) [] [] [] _ (adds_none (setting env t bs) []) (completed_ready (setting env t bs) b h) o (tail_bare (mark_of (kind_of t.kind) (sym_text env t.name) (place_in files t.decl_pos)) (ends_in_return b)))

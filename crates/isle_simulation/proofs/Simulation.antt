@@ -1,6 +1,7 @@
 -- The function of a term runs as its block, but for calls of pure terms and the type names of opaque numbers.
 use Rattle.std.proofs.Common.{◌≡◌, ℕ, List, [], ◌++◌, map, Bool, true, false, cond, Option, Some, refl, sym, ap, ◌∙◌, subst}
 use Rattle.std.specs.Prelude.{option_map}
+use Rattle.isle_core.specs.declared.options.CodegenOptions.{CodegenOptions}
 use Rattle.isle_core.specs.Answered.{item_of}
 use Rattle.isle_core.specs.Calling.{kind_of, is_several, AnswersOnce}
 use Rattle.isle_core.specs.declared.BindingId.{BindingId}
@@ -386,11 +387,11 @@ written_flow files env t bs b once names pure pure_made h o p args m k answers v
     ∙ ap (λ x. option_map nameless_ran (option_map (ran_with outcome.calls) x)) (sym (ends_as kind once outcome.result))
 
 -- so the function of a term, with its log lines
-pub written_runs : (logging : Bool) (files : Files) (env : Environment) (t : Term) (bs : List Binding) (b : Block) → AnswersOnce (kind_of t.kind) → HasRustNames env → HasPureExtractors env bs → HasPureConstructors env → IsLawfulBlock (setting env t bs) b → HasSingleArms b
-    → RunsAsBlock env t bs b (logged_function logging files env t bs b)
-written_runs logging files env t bs b once names pure pure_made h o p args m e k answers values =
-    let f = logged_function logging files env t bs b in
+pub written_runs : (options : CodegenOptions) (files : Files) (env : Environment) (t : Term) (bs : List Binding) (b : Block) → AnswersOnce (kind_of t.kind) → HasRustNames env → HasPureExtractors env bs → HasPureConstructors env → IsLawfulBlock (setting env t bs) b → HasSingleArms b
+    → RunsAsBlock env t bs b (logged_function options files env t bs b)
+written_runs options files env t bs b once names pure pure_made h o p args m e k answers values =
+    let f = logged_function options files env t bs b in
     let w = around p m args (Some (room m)) f in
     ap (λ g. option_map (λ (q : Ran). nameless_ran (impure_ran env q)) (function_run p m args g)) e
-    ∙ ap (λ x. option_map (λ (q : Ran). nameless_ran (impure_ran env q)) (ended (kind_of t.kind) x)) (logged_runs (written_body files env t bs b) (log_lines logging files (setting env t bs) b) w [] nothing_done)
+    ∙ ap (λ x. option_map (λ (q : Ran). nameless_ran (impure_ran env q)) (ended (kind_of t.kind) x)) (logged_runs (written_body files env t bs b) (log_lines options files (setting env t bs) b) w [] nothing_done)
     ∙ written_flow files env t bs b once names pure pure_made h o p args m k answers values (Some (room m)) f

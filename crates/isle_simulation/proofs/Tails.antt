@@ -2,6 +2,7 @@
 use Rattle.std.proofs.Common.{◌≡◌, ℕ, List, [], ◌∷◌, ◌++◌, Bool, true, false, cond, Option, Some, None, refl, sym, ap, subst, ◌∙◌}
 use Rattle.std.specs.List.{AllByRecursion}
 use Rattle.std.specs.Prelude.{slice_get}
+use Rattle.isle_core.specs.declared.options.CodegenOptions.{CodegenOptions}
 use Rattle.isle_core.specs.declared.BindingId.{BindingId}
 use Rattle.isle_core.specs.declared.files.Files.{Files}
 use Rattle.isle_core.specs.declared.rule_sets.Binding.{Binding}
@@ -91,8 +92,8 @@ marks_own : IsOwn own_marks
 marks_own = record { if_eq = λ a b x y. refl; if_let = λ pat r x y. refl; arms = λ r x y. refl; loop = λ list item x y. refl; split = λ within x y. refl; log = λ term place. refl }
 
 -- the function of a term has its name, its types and its kind, and says where it is declared
-pub written_of_term : (logging : Bool) (files : Files) (env : Environment) (t : Term) (bs : List Binding) (b : Block) → IsLawfulBlock (setting env t bs) b → HasSingleArms b → IsOfTerm files env t (logged_function logging files env t bs b)
-written_of_term logging files env t bs b h o =
+pub written_of_term : (options : CodegenOptions) (files : Files) (env : Environment) (t : Term) (bs : List Binding) (b : Block) → IsLawfulBlock (setting env t bs) b → HasSingleArms b → IsOfTerm files env t (logged_function options files env t bs b)
+written_of_term options files env t bs b h o =
     let s = setting env t bs in
     record {
       name = refl;
@@ -101,6 +102,6 @@ written_of_term logging files env t bs b h o =
       kind = refl;
       tails =
           subst (AllByRecursion (λ (m : Option (List ℕ × List ℕ)). Some m ≡ mark_in files env t))
-          (sym (logged_of own_marks marks_own (written_body files env t bs b) (log_lines logging files s b) ∙ block_marks (completed s [] b) s [] [] (tail_in files env t b) (completed_ready s b h) (completed_single s [] b o)))
+          (sym (logged_of own_marks marks_own (written_body files env t bs b) (log_lines options files s b) ∙ block_marks (completed s [] b) s [] [] (tail_in files env t b) (completed_ready s b h) (completed_single s [] b o)))
           (tail_marks (mark_in files env t) (ends_in_return b));
     }

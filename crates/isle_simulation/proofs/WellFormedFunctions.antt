@@ -1,6 +1,7 @@
 -- The function of a term is well formed in every program.
 use Rattle.std.proofs.Common.{◌≡◌, ℕ, List, [], length, map, Bool, true, false, cond, Option, Some, None, sym, subst}
 use Rattle.std.proofs.lemmas.List.{length-map}
+use Rattle.isle_core.specs.declared.options.CodegenOptions.{CodegenOptions}
 use Rattle.isle_core.specs.Calling.{kind_of}
 use Rattle.isle_core.specs.declared.files.Files.{Files}
 use Rattle.isle_core.specs.declared.types.Term.{Term}
@@ -46,8 +47,8 @@ tail_scoped (Some mark) false fns kind params locals = (tt, tt)
 tail_scoped None false fns kind params locals = tt
 
 -- the function of a term that may be emitted and whose block is lawful, in a program with the functions that the environment gives
-pub written_well_formed : (logging : Bool) (files : Files) (env : Environment) (t : Term) (bs : List Binding) (b : Block) → IsEmittable env t → HasRustNames env → IsLawfulBlock (setting env t bs) b → HasSingleArms b → HasCallees env → (p : Program) → callables p ≡ callables_of env → IsFunction p (logged_function logging files env t bs b)
-written_well_formed logging files env t bs b h names k o fns p same =
+pub written_well_formed : (options : CodegenOptions) (files : Files) (env : Environment) (t : Term) (bs : List Binding) (b : Block) → IsEmittable env t → HasRustNames env → IsLawfulBlock (setting env t bs) b → HasSingleArms b → HasCallees env → (p : Program) → callables p ≡ callables_of env → IsFunction p (logged_function options files env t bs b)
+written_well_formed options files env t bs b h names k o fns p same =
     let s = setting env t bs in
     let kind = kind_of t.kind in
     let name = sym_text env t.name in
@@ -57,7 +58,7 @@ written_well_formed logging files env t bs b h names k o fns p same =
     let ready = completed_ready s b k in
     let single = completed_single s [] b o in
     let body = written_body files env t bs b in
-    let lines = log_lines logging files s b in
+    let lines = log_lines options files s b in
     record {
       names = has_names env t (logged lines body) h;
       forms = logged_is body lines (block_is c s [] [] (tail_of kind name place b) names fns ready single (tail_is mark (ends_in_return b)));

@@ -2,6 +2,7 @@
 -- that are not built is never reached: `Made` says so.
 use Rattle.std.specs.Option.{option_map_or}
 use Rattle.std.specs.Prelude.{ℕ, pos, List, [], ◌∷◌, ◌++◌, Bool, true, false, Option, Some, None, slice_get}
+use Rattle.isle_core.specs.declared.options.CodegenOptions.{CodegenOptions}
 use Rattle.isle_core.specs.declared.BindingId.{BindingId}
 use Rattle.isle_core.specs.declared.TypeId.{TypeId}
 use Rattle.isle_core.specs.declared.files.Files.{Files}
@@ -171,12 +172,12 @@ abbrev pub written_body : Files → Environment → Term → List Binding → Bl
 written_body files env t bs b = block_body (setting env t bs) [] (completed (setting env t bs) [] b) (tail_in files env t b)
 
 -- its statements with its log lines before its results
-abbrev pub logged_function : (logging : Bool) → Files → Environment → Term → List Binding → Block → Function
-logged_function logging files env t bs b = function_with env t (logged (log_lines logging files (setting env t bs) b) (written_body files env t bs b))
+abbrev pub logged_function : (options : CodegenOptions) → Files → Environment → Term → List Binding → Block → Function
+logged_function options files env t bs b = function_with env t (logged (log_lines options files (setting env t bs) b) (written_body files env t bs b))
 
-abbrev pub function_of : (logging : Bool) → Files → Environment → Term → List Binding → Block → Function
-function_of logging files env t bs b =
-    function_with env t (told_body (telling_of logging files (setting env t bs)) (setting env t bs) [] (completed (setting env t bs) [] b) (tail_in files env t b))
+abbrev pub function_of : (options : CodegenOptions) → Files → Environment → Term → List Binding → Block → Function
+function_of options files env t bs b =
+    function_with env t (told_body (telling_of options files (setting env t bs)) (setting env t bs) [] (completed (setting env t bs) [] b) (tail_in files env t b))
 
 abbrev pub end_of : ReturnKind → Result → End
 end_of return_kind.Plain (Value' v) = Gives v

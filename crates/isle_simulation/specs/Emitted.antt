@@ -29,7 +29,7 @@ use Rattle.isle_core.specs.Nameless.{nameless_ran}
 use Rattle.isle_spelling.specs.Identifier.{IsIdentifier}
 use Rattle.isle_simulation.specs.TypeTexts.{type_text}
 use Rattle.isle_tree.specs.Program.{Function, Program}
-use Rattle.isle_tree.specs.Run.{run, function_of}
+use Rattle.isle_tree.specs.Run.{Around, ended, function_of, nothing_done, run, run_body}
 use Rattle.isle_simulation.specs.Ends.{end_of}
 use Rattle.isle_simulation.specs.Statements.{callee_of}
 
@@ -93,3 +93,11 @@ abbrev pub RunsAsSeveral : Environment → Term → List Binding → Block → F
 RunsAsSeveral env t bs b f = (p : Program) (args : List Value) (m : Meaning)
     → function_of (sym_text env t.name) p.fns ≡ Some f → HaveTypes env args t.arg_tys → AnswersBindings env m bs → ValuesConstants env m
     → AreSameRuns env (run p (sym_text env t.name) args m) (Some (cut_run m (several_outcome env m args (paths_of bs) b)))
+
+-- what a function gives in its surroundings: its end, and all calls that it makes
+abbrev pub body_run : Around → Function → Option Ran
+body_run w f = ended f.kind (run_body w f.body [] nothing_done)
+
+-- two functions run alike: everywhere they have the same end, and make the same calls
+abbrev pub RunAlike : Function → Function → Type 0
+RunAlike f g = (w : Around) → body_run w f ≡ body_run w g

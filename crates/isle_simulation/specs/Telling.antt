@@ -1,5 +1,6 @@
 -- Where log lines stand.
 use Rattle.std.specs.Prelude.{Option, Some, None, Bool, if◌then◌else◌, option_map}
+use Rattle.isle_core.specs.declared.options.CodegenOptions.{CodegenOptions}
 use Rattle.isle_core.specs.declared.files.Files.{Files}
 use Rattle.isle_core.specs.declared.position.Pos.{Pos}
 use Rattle.isle_core.specs.Block.{Control, Match, Equal, Loop, Return}
@@ -30,5 +31,5 @@ abbrev pub log_line : Files → Setting → Pos → LogLine
 log_line files s pos = (sym_text s.env s.term.name, place_in files pos)
 
 -- each is told, where logging is asked for
-abbrev pub telling_of : (logging : Bool) → Files → Setting → Telling
-telling_of logging files s = if logging then Some (log_line files s) else None
+abbrev pub telling_of : (options : CodegenOptions) → Files → Setting → Telling
+telling_of options files s = if options.emit_logging then Some (log_line files s) else None

@@ -1,5 +1,6 @@
 -- The function of a term.
 use Rattle.std.specs.Prelude.{ℕ, List, [], Bool, true, false, Option, Some, None, if◌then◌else◌, map, option_map}
+use Rattle.isle_core.specs.declared.options.CodegenOptions.{CodegenOptions}
 use Rattle.isle_core.specs.declared.files.Files.{Files}
 use Rattle.isle_core.specs.declared.types.ReturnKind.{ReturnKind}
 use Rattle.isle_core.specs.declared.types.ReturnKind.TheVariants as kind
@@ -56,8 +57,8 @@ abbrev pub tail_in : Files → Environment → Term → Block → Body
 tail_in files env t b = tail_of (kind_of t.kind) (sym_text env t.name) (place_in files t.decl_pos) b
 
 -- the statements of a term's function, with log lines where they are asked for
-abbrev pub root_body : (logging : Bool) → Files → Setting → Block → Option Body
-root_body logging files s b = told_body (telling_of logging files s) s [] (completed s [] b) (Some (tail_in files s.env s.term b))
+abbrev pub root_body : (options : CodegenOptions) → Files → Setting → Block → Option Body
+root_body options files s b = told_body (telling_of options files s) s [] (completed s [] b) (Some (tail_in files s.env s.term b))
 
 -- the function of a term with these statements
 abbrev pub function_with : Environment → Term → Body → Function
@@ -70,9 +71,9 @@ function_with env t body = record {
 }
 
 -- the function of a term whose block is this, where its forms are built; the files have the place of its declaration, and those of its rules
-abbrev pub term_function : (logging : Bool) → Files → Setting → Block → Option Function
-term_function logging files s b = option_map (function_with s.env s.term) (root_body logging files s b)
+abbrev pub term_function : (options : CodegenOptions) → Files → Setting → Block → Option Function
+term_function options files s b = option_map (function_with s.env s.term) (root_body options files s b)
 
 -- the log lines of a term's function, where logging is asked for: one for each Return of its block, in order
-abbrev pub log_lines : (logging : Bool) → Files → Setting → Block → List LogLine
-log_lines logging files s b = if logging then map (log_line files s) (return_positions b) else []
+abbrev pub log_lines : (options : CodegenOptions) → Files → Setting → Block → List LogLine
+log_lines options files s b = if options.emit_logging then map (log_line files s) (return_positions b) else []

@@ -9,7 +9,7 @@ use Rattle.isle_codegen.proofs.tree.emit_all.Goals as goal
 pub loop-term-preserved : goal.loop-term-preserved
 loop-term-preserved c =
     let env = environment c.args.typeenv.now c.args.termenv.now in
-    subst (λ fs. AreEmitted c.args.logging c.args.files.now env (take (c.loop-term.term-index + 1) c.args.terms.now) fs)
+    subst (λ fs. AreEmitted c.args.options.now c.args.files.now env (take (c.loop-term.term-index + 1) c.args.terms.now) fs)
     (sym (ap (map function) c.in_ok-push.ensures.items ∙ map-append function c.loop-term.fns.items (c.in_ok-emit_one.field-0 ∷ [])))
-    (emitted_more c.args.logging c.args.files.now env c.args.terms.now c.loop-term.term-index c.loop-term-item.result (map function c.loop-term.fns.items) (function c.in_ok-emit_one.field-0)
+    (emitted_more c.args.options.now c.args.files.now env c.args.terms.now c.loop-term.term-index c.loop-term-item.result (map function c.loop-term.fns.items) (function c.in_ok-emit_one.field-0)
     c.loop-term-test.true c.loop-term-item.is c.loop-term.invariant c.in_ok-emit_one.ensures)

@@ -5,4 +5,4 @@ use Rattle.isle_codegen.specs.Emits.{AreEmitted}
 use Rattle.isle_codegen.proofs.tree.emit_all.Given as goal
 
 abbrev pub invariant-loop-term : goal.invariant-loop-term
-invariant-loop-term l = AreEmitted l.fn.logging l.fn.files (environment l.fn.typeenv l.fn.termenv) (take l.term-index l.fn.terms) (map function l.fns.items)
+invariant-loop-term l = AreEmitted l.fn.options l.fn.files (environment l.fn.typeenv l.fn.termenv) (take l.term-index l.fn.terms) (map function l.fns.items)

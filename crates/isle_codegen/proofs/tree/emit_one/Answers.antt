@@ -21,9 +21,9 @@ unreachable-requires c =
     let env = environment c.args.typeenv.now c.args.termenv.now in
     let b = block c.in_ok-block.block in
     let often : is_several (kind_of h.term.kind) ≡ c.is_several.result = ap (λ (t : Term). is_several (kind_of t.kind)) (sym (term_is c.args.files.now env c.args.term c.args.rules.now x h there)) ∙ sym c.is_several.ensures in
-    is_given c.args.logging c.args.files.now env c.args.term c.args.rules.now x b h there
+    is_given c.args.options.now c.args.files.now env c.args.term c.args.rules.now x b h there
     (c.in_ok-block.ensures.lawful env h.term h.ready (λ several. calls_once c.args.files.now env c.args.term c.args.rules.now h) often) c.in_ok-block.ensures.single
-    (ap (option_map function) (sym c.in-None.is) ∙ c.in_ok-function.ensures ∙ ap (λ bs. term_function c.args.logging c.args.files.now (setting env x bs) b) c.as_slice-2.ensures)
+    (ap (option_map function) (sym c.in-None.is) ∙ c.in_ok-function.ensures ∙ ap (λ bs. term_function c.args.options.now c.args.files.now (setting env x bs) b) c.as_slice-2.ensures)
 
 pub returns : goal.returns
 returns c =
@@ -35,7 +35,7 @@ returns c =
     let env = environment c.args.typeenv.now c.args.termenv.now in
     let b = block c.in_ok-block.block in
     let often : is_several (kind_of h.term.kind) ≡ c.is_several.result = ap (λ (t : Term). is_several (kind_of t.kind)) (sym (term_is c.args.files.now env c.args.term c.args.rules.now x h there)) ∙ sym c.is_several.ensures in
-    is_emitted c.args.logging c.args.files.now env c.args.term c.args.rules.now x b (function c.in-Some.function) h there
+    is_emitted c.args.options.now c.args.files.now env c.args.term c.args.rules.now x b (function c.in-Some.function) h there
     (c.in_ok-block.ensures.lawful env h.term h.ready (λ several. calls_once c.args.files.now env c.args.term c.args.rules.now h) often) c.in_ok-block.ensures.single
     (record {
       once = λ single m args kind. c.in_ok-block.ensures.means env m h.term args kind h.ready often single;
@@ -43,4 +43,4 @@ returns c =
     })
     c.in_ok-block.ensures.tests
     (subst (λ (several : Bool). MakesTests several c.args.rules.now b) (sym often) c.in_ok-block.ensures.makes)
-    (sym (ap (option_map function) (sym c.in-Some.is) ∙ c.in_ok-function.ensures ∙ ap (λ bs. term_function c.args.logging c.args.files.now (setting env x bs) b) c.as_slice-2.ensures))
+    (sym (ap (option_map function) (sym c.in-Some.is) ∙ c.in_ok-function.ensures ∙ ap (λ bs. term_function c.args.options.now c.args.files.now (setting env x bs) b) c.as_slice-2.ensures))

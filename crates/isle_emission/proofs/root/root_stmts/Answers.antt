@@ -13,9 +13,9 @@ returns c =
     let s = setting_in c.args.typed.now in
     let b = block c.args.block.now in
     let end = Some (tail_in c.args.files.now s.env s.term b) in
-    let told : telling_in s c.where_asked-telling.result ≡ telling_of c.args.logging c.args.files.now s = c.where_asked-telling.ensures s in
+    let told : telling_in s c.where_asked-telling.result ≡ telling_of c.args.options.now c.args.files.now s = c.where_asked-telling.ensures s in
     c.in_ok-with_tail.ensures
     ∙ ap (λ o. onto (stmts_of o) end) (sym c.in-Some.is)
     ∙ c.in_ok-stmts.ensures.stmts end
     ∙ ap (λ y. made_body y s c.new-bound.result b end) told
-    ∙ ap (λ ls. made_body (telling_of c.args.logging c.args.files.now s) s ls b end) c.new-bound.ensures
+    ∙ ap (λ ls. made_body (telling_of c.args.options.now c.args.files.now s) s ls b end) c.new-bound.ensures
