@@ -162,7 +162,8 @@ pub fn check(alloc: Global, termenv: &TermEnv) -> Result<Vec<(TermId, RuleSet)>,
     checked(alloc, None, termenv)
 }
 
-/// Does what `check` does, and tells the names of terms and rules in the words of overlaps.
+/// Does what `check` does, and tells the names of terms and rules in the words of overlaps. Where there are errors, they
+/// are looked for twice.
 pub fn check_named(
     alloc: Global,
     types: &TypeEnv,
@@ -179,6 +180,12 @@ pub fn check_named(
     ensures err { (errors : List Error) → result ≡ Err (Rules errors) → (types : TheTypes)
         → IsCheckList (environment types termenv.now) errors }
 {
-    let names = Names::new(alloc, types, termenv)?;
-    checked(alloc, Some(&names), termenv)
+    match checked(alloc, None, termenv) {
+        Err(CheckError::Rules(_)) => {
+            // Names are looked for only where words tell them: most rules have no error.
+            let names = Names::new(alloc, types, termenv)?;
+            checked(alloc, Some(&names), termenv)
+        }
+        found => found,
+    }
 }
