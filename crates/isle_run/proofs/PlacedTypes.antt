@@ -10,7 +10,6 @@ use Rattle.isle_core.specs.declared.VariantId.{VariantId}
 use Rattle.isle_core.specs.declared.files.Files.{Files}
 use Rattle.isle_core.specs.declared.rule_sets.Binding.{Binding}
 use Rattle.isle_core.specs.declared.rule_sets.Binding.TheVariants as binding
-use Rattle.isle_core.specs.declared.rule_sets.Constraint.{Constraint}
 use Rattle.isle_core.specs.declared.rule_sets.Constraint.TheVariants as constraint
 use Rattle.isle_core.specs.declared.types.ReturnKind.{ReturnKind}
 use Rattle.isle_core.specs.declared.types.ReturnKind.TheVariants as kind
@@ -25,7 +24,7 @@ use Rattle.isle_core.specs.ConstraintType.{IsConstraintOf}
 use Rattle.isle_core.specs.Form.{Form, form, form_types}
 use Rattle.isle_core.specs.HasType.{typed_fields}
 use Rattle.isle_core.specs.Making.{MakesVariant, MakesStruct}
-use Rattle.isle_core.specs.Path.{Path, Nowhere, ConstBool, ConstInt, ConstPrim, VariantField, StructField, Chosen, Inner, at}
+use Rattle.isle_core.specs.Path.{Path, ConstBool, ConstInt, ConstPrim, VariantField, StructField, Chosen, Inner, at}
 use Rattle.isle_core.specs.PathType.{IsPathOf}
 use Rattle.isle_core.specs.Rule.{Environment}
 use Rattle.isle_core.specs.Setting.{Setting, setting, gives_several, paths_in}
@@ -173,15 +172,6 @@ module _ (env : Environment) (t : Term) (bs : List Binding) (p : Program) (Named
 
   -- ---- tests for constants
 
-  -- a constraint as the path of what it tests for
-  abbrev tested_path : TypeId → Constraint → Path
-  tested_path ty (constraint.ConstBool val) = ConstBool ty val
-  tested_path ty (constraint.ConstInt val of) = ConstInt of val
-  tested_path ty (constraint.ConstPrim val) = ConstPrim val
-  tested_path ty (constraint.Variant of variant) = Nowhere
-  tested_path ty (constraint.Struct of) = Nowhere
-  tested_path ty constraint.Some = Nowhere
-
   test_fits : (bound : List ℕ) (tells : Tells) (source : BindingId) (ty : TypeId) (o : Operand) (q : Path) (inside : Body) → Right tells → IsReady s bound source ty → IsPathOf env t q ty → IsSpelled q → o ≡ written (in_place env 0 q)
       → BodyFits inside → StmtFits tells (IfEq (written_operand s bound source) o inside)
   test_fits bound tells source ty o q inside r ready is spells e i =
@@ -276,11 +266,12 @@ module _ (env : Environment) (t : Term) (bs : List Binding) (p : Program) (Named
         )
     binds_right i [] (b ∷ places) binds told there parts e = absurd cc
 
-    start_there : (j : ℕ) → slice_get all j ≡ slice_get all (zero + j)
-    start_there j = ap (slice_get all) same
-      where
-        same : j ≡ zero + j
-        same = omega arith
+  -- all of a list are those from the first on
+  from_the_first : (fields : List (List ℕ × TypeId)) (j : ℕ) → slice_get fields j ≡ slice_get fields (zero + j)
+  from_the_first fields j = ap (slice_get fields) same
+    where
+      same : j ≡ zero + j
+      same = omega arith
 
   -- a match of a form, which binds fields
   form_arm : (bound : List ℕ) (tells : Tells) (source : BindingId) (ty : TypeId) (g : Form) (binds : List TBind) (more : Bool) (o : Option TPat) (inside : Body) → Right tells → IsReady s bound source ty → o ≡ Some (pattern_named env g.ty g.variant more binds)
@@ -318,14 +309,8 @@ module _ (env : Environment) (t : Term) (bs : List Binding) (p : Program) (Named
       (λ name k. binds_right (variant_asked p.types (sym_text env g.0.ty) (sym_text env g.0.ty) (sym_text env name)) (λ j. binding.MatchVariant source variant (record { 0 = j })) (λ j. VariantField variant j q) g.0
       (λ j x at_x u y h. right_over env t (at (paths_in s) x) (VariantField variant j q) y (λ has. path_at s.bindings x (binding.MatchVariant source variant (record { 0 = j })) at_x has) h)
       (λ j x h. types_at (form env (MakesVariant h.0 variant)) g.0 j x (ap (λ y. form env (MakesVariant y variant)) (one_type env t q h.0 ty h.1 ready.path ∙ sym is.0) ∙ g.1) h.2)
-      0 (typed_fields env g.0.fields) places b.0 (tells_types.variants of variant g.0 name g.1 k) (start_there_of g.0) parts b.1)
+      0 (typed_fields env g.0.fields) places b.0 (tells_types.variants of variant g.0 name g.1 k) (from_the_first (typed_fields env g.0.fields)) parts b.1)
       (λ none. absurd (variant_named (slice_get env.types.types of.0) variant g.0 g.1 none)) i
-    where
-      start_there_of : (g : Form) (j : ℕ) → slice_get (typed_fields env g.fields) j ≡ slice_get (typed_fields env g.fields) (zero + j)
-      start_there_of g j = ap (slice_get (typed_fields env g.fields)) same
-        where
-          same : j ≡ zero + j
-          same = omega arith
 
   struct_arm : (bound : List ℕ) (tells : Tells) (source : BindingId) (ty of : TypeId) (places : List (Option BindingId)) (pat : TPat) (inside : Body) → Right tells → IsReady s bound source ty
       → IsConstraintOf env (constraint.Struct of) ty → AreParts s (λ i. binding.ExtractStruct source (record { 0 = i })) 0 places → pattern_of env (constraint.Struct of) places ≡ Some pat → BodyFits inside
@@ -339,13 +324,7 @@ module _ (env : Environment) (t : Term) (bs : List Binding) (p : Program) (Named
       (λ none. binds_right (struct_asked p.types (sym_text env g.0.ty) (sym_text env g.0.ty)) (λ j. binding.ExtractStruct source (record { 0 = j })) (λ j. StructField j q) g.0
       (λ j x at_x u y h. right_over env t (at (paths_in s) x) (StructField j q) y (λ has. path_at s.bindings x (binding.ExtractStruct source (record { 0 = j })) at_x has) h)
       (λ j x h. types_at (form env (MakesStruct h.0)) g.0 j x (ap (λ y. form env (MakesStruct y)) (one_type env t q h.0 ty h.1 ready.path ∙ sym is.0) ∙ g.1) h.2)
-      0 (typed_fields env g.0.fields) places b.0 (tells_types.structs of g.0 g.1) (start_there_of g.0) parts b.1) i
-    where
-      start_there_of : (g : Form) (j : ℕ) → slice_get (typed_fields env g.fields) j ≡ slice_get (typed_fields env g.fields) (zero + j)
-      start_there_of g j = ap (slice_get (typed_fields env g.fields)) same
-        where
-          same : j ≡ zero + j
-          same = omega arith
+      0 (typed_fields env g.0.fields) places b.0 (tells_types.structs of g.0 g.1) (from_the_first (typed_fields env g.0.fields)) parts b.1) i
 
   -- a match of an option, which binds what is within
   some_arm : (bound : List ℕ) (tells : Tells) (source : BindingId) (places : List (Option BindingId)) (inside : Body) → Right tells → is_bound bound source ≡ true → length places ≤ 1 → AreParts s (λ i. binding.MatchSome source) 0 places → BodyFits inside
