@@ -22,7 +22,7 @@ use Rattle.isle_answers.proofs.ResultLaws.{ResultAfterS, ResultListS, SimpleResu
 abbrev NoAnswerS : AnswerForm → List Lexeme → List Lexeme → Type 0
 NoAnswerS = Then CloseS (λ c. Nothing form.Nothing)
 
--- behind the first word of a list
+-- after the first word of a list
 abbrev AnswerAfterS : AnswerHead → AnswerForm → List Lexeme → List Lexeme → Type 0
 AnswerAfterS SomeHead = Then ResultS (λ r. Then CloseS (λ c. Nothing (Found r)))
 AnswerAfterS NoneHead = NoAnswerS

@@ -46,7 +46,7 @@ CaseS = Then PlainS (λ args. Then AnswerS (λ a. Then CloseS (λ c. Nothing (re
 abbrev RestAfterS : AnswerForm → List Lexeme → List Lexeme → Type 0
 RestAfterS = Then AnswerS (λ a. Then CloseS (λ c. Then CloseS (λ e. Nothing a)))
 
--- cases behind those that were read, and the rest
+-- cases after those that were read, and the rest
 abbrev pub OntoS : List CaseForm → Cases → List Lexeme → List Lexeme → Type 0
 OntoS done x ts rest = (others : List CaseForm) × CasesS others x.1 ts rest × (x.0 ≡ done ++ others)
 

@@ -6,7 +6,7 @@ use Rattle.std.specs.List.{list_all}
 use Rattle.std.proofs.Math.Nat.{pow-le-pow_right}
 use Rattle.isle_lexer.specs.Integer.{is_decimal}
 
--- behind a number, digits that are left
+-- after a number, digits that are left
 abbrev pub counted : ℕ → List ℕ → Option ℕ
 counted n ds = if list_all is_decimal ds then Some (fold (λ n b. n * 10 + digit_value b) n ds) else None
 

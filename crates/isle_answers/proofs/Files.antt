@@ -16,7 +16,7 @@ use Rattle.isle_answers.specs.Reading.{Still, still_after, read_form, read_forms
 use Rattle.isle_answers.specs.Spelling.{FormsS, no_form, a_form, held_form, max_form, SpellsTokens}
 use Rattle.isle_answers.proofs.FormLaws.{OneS, one_forms, form_one, held_one, max_one, one_some, law_form}
 
--- forms up to the end, and nothing behind them
+-- forms up to the end, and nothing after them
 abbrev WholeS : List Form → List Lexeme → List Lexeme → Type 0
 WholeS fs ts rest = FormsS true true fs ts × (rest ≡ [])
 

@@ -20,7 +20,7 @@ use Rattle.isle_answers.proofs.HeadWords.{result_head_is, made_head, tuple_head}
 
 -- ---- the same said by parts
 
--- behind the first word of a list
+-- after the first word of a list
 abbrev pub ResultAfterS : ResultHead → ResultForm → List Lexeme → List Lexeme → Type 0
 ResultAfterS TupleHead = Then (Many ValueS) (λ vs. Nothing (Tuple vs))
 ResultAfterS (MadeHead w) = Then (Many ValueS) (λ vs. Nothing (One (Made w (in_order vs))))
@@ -88,7 +88,7 @@ pub law_simple_result : (n k : ℕ) → k ≤ most_open → Law (Opened k) (λ r
 unfolding read_simple_result read_simple
 law_simple_result n k l = law_next _ _ (law_word word_value a_simple (opened_word k word_value l)) (λ v. law_ret _ (λ q p. p))
 
--- behind the first word, where the parenthesis is open
+-- after the first word, where the parenthesis is open
 pub law_result_after : (n k d : ℕ) → suc k + d ≡ most_open → (h : ResultHead) → Law (Opened (suc k)) (λ r. Opened k) Anything n (ResultAfterS h) (read_result_after n d h)
 unfolding read_result_after
 law_result_after n k d e TupleHead = law_next _ _ (law_values n k (read_value n d) (omega (arith, e)) (law_value n k d e)) (λ vs. law_ret _ (λ q p. p))

@@ -33,7 +33,7 @@ next_turn (Some x) next (Less k ∷ ts) none e = refl
 next_turn (Some x) next (Greater k ∷ ts) none e = refl
 next_turn (Some x) next (Word k w ∷ ts) none e = refl
 
--- one closes behind the rest
+-- one closes after the rest
 closed_turn : (o : Option Turned) (x : Turned) (next : Reader Turned) (at : ℕ) (ts us : List Lexeme) → o ≡ Some x → Some at ≡ closes ts → us ≡ drop 1 ts → run (read_ended o next) ts ≡ Got x us
 unfolding run bind read_close
 closed_turn None x next at ts us o e f = cc

@@ -53,7 +53,7 @@ read_answer_head = read_word answer_head_of
 unfoldable pub read_simple_result : Reader ResultForm
 read_simple_result = bind read_simple (λ v. Ret (One v))
 
--- behind the first word of a result's list, its values' parentheses nesting at most d deep
+-- after the first word of a result's list, its values' parentheses nesting at most d deep
 unfoldable pub read_result_after : ℕ → ℕ → ResultHead → Reader ResultForm
 read_result_after n d TupleHead = bind (many n (read_value n d)) (λ vs. Ret (Tuple vs))
 read_result_after n d (MadeHead w) = bind (many n (read_value n d)) (λ vs. Ret (One (Made w (in_order vs))))
@@ -67,7 +67,7 @@ unfoldable pub read_result : ℕ → ℕ → Reader ResultForm
 read_result n zero = Peek is_open Halt read_simple_result
 read_result n (suc d) = Peek is_open (read_result_list n d) read_simple_result
 
--- behind the first word of an answer's list
+-- after the first word of an answer's list
 unfoldable pub read_answer_after : ℕ → ℕ → AnswerHead → Reader AnswerForm
 read_answer_after n d SomeHead = bind (read_result n d) (λ r. bind read_close (λ c. Ret (Found r)))
 read_answer_after n d NoneHead = bind read_close (λ c. Ret Nothing)
@@ -117,12 +117,12 @@ read_rest n d = bind (read_answer n d) (λ a. bind read_close (λ c. bind read_c
 abbrev pub Cases : Type 0
 Cases = List CaseForm × AnswerForm
 
--- a case behind those that were read and what stands behind it, or the rest
+-- a case after those that were read and what stands after it, or the rest
 unfoldable pub read_part : ℕ → ℕ → (List CaseForm → Reader Cases) → List CaseForm → PartHead → Reader Cases
 read_part n d more done CaseHead = bind (read_case n d) (λ c. more (done ++ c ∷ []))
 read_part n d more done RestHead = bind (read_rest n d) (λ a. Ret (done, a))
 
--- cases behind those that were read, the rest, and the parenthesis behind it, of at most m tokens
+-- cases after those that were read, the rest, and the parenthesis after it, of at most m tokens
 unfoldable pub read_cases : ℕ → ℕ → ℕ → List CaseForm → Reader Cases
 read_cases n d zero done = End refuse Halt
 read_cases n d (suc m) done = bind read_open (λ o. bind read_part_head (λ h. read_part n d (read_cases n d m) done h))
@@ -206,12 +206,12 @@ abbrev pub ended : List AnswerForm → Option Turned
 ended [] = None
 ended (last ∷ before) = option_map (λ a. (reverse before, a)) (rest_is last)
 
--- the parenthesis behind the turns, where the last one is a rest, or more of them
+-- the parenthesis after the turns, where the last one is a rest, or more of them
 abbrev pub read_ended : Option Turned → Reader Turned → Reader Turned
 read_ended None more = more
 read_ended (Some turns) more = Peek is_close (bind read_close (λ c. Ret turns)) more
 
--- turns behind those that were read, the rest, and the parenthesis behind it, of at most m tokens
+-- turns after those that were read, the rest, and the parenthesis after it, of at most m tokens
 unfoldable pub read_turns : ℕ → ℕ → ℕ → List AnswerForm → Reader Turned
 read_turns n d zero done = End refuse Halt
 read_turns n d (suc m) done = read_ended (ended done) (bind (read_answer n d) (λ a. read_turns n d m (a ∷ done)))
@@ -268,7 +268,7 @@ read_answers n d at = bind read_callee (λ callee. bind (read_cases n (d - 1) n 
 unfoldable pub read_turned : ℕ → ℕ → ℕ → Reader Form
 read_turned n d at = bind read_callee (λ callee. bind (read_turns n d n []) (λ x. Ret (form.Turns callee x.0 x.1 at)))
 
--- behind the first word of the form at that place
+-- after the first word of the form at that place
 abbrev pub read_form_after : ℕ → ℕ → ℕ → FormHead → Reader Form
 read_form_after n d at HeldHead = read_held at
 read_form_after n d at MaxHead = read_max at
@@ -284,7 +284,7 @@ Still = Bool × Bool
 unfoldable pub read_form : ℕ → ℕ → Still → Reader Form
 read_form n d still = bind read_open (λ at. bind (read_form_head still.0 still.1) (λ h. read_form_after n d at h))
 
--- whether `held` may still stand behind the form
+-- whether `held` may still stand after the form
 abbrev pub held_after : Bool → Form → Bool
 held_after held (form.Held count at) = false
 held_after held (form.Max count at) = held
@@ -292,7 +292,7 @@ held_after held (form.Const name v at) = held
 held_after held (form.Answers callee cases rest at) = held
 held_after held (form.Turns callee turns rest at) = held
 
--- whether `max` may still stand behind the form
+-- whether `max` may still stand after the form
 abbrev pub max_after : Bool → Form → Bool
 max_after max (form.Held count at) = max
 max_after max (form.Max count at) = false
@@ -300,7 +300,7 @@ max_after max (form.Const name v at) = max
 max_after max (form.Answers callee cases rest at) = max
 max_after max (form.Turns callee turns rest at) = max
 
--- what may still stand behind the form
+-- what may still stand after the form
 abbrev pub still_after : Still → Form → Still
 still_after still f = (held_after still.0 f, max_after still.1 f)
 

@@ -1,4 +1,4 @@
--- When a text spells an answers file: what the tokens begin with, and which tokens stand behind it.
+-- When a text spells an answers file: what the tokens begin with, and which tokens stand after it.
 use Rattle.std.specs.Prelude.{◌≡◌, ◌≤◌, ℕ, List, [], ◌∷◌, Bool, true, false, Some, codes}
 use Rattle.std.specs.Str.{IsUtf8}
 use Rattle.isle_core.specs.declared.values.Callee.{Callee}
@@ -36,7 +36,7 @@ pub data AnswerS : AnswerForm → List Lexeme → List Lexeme → Type 0 where
   several : (at h : ℕ) (w : List ℕ) (rs : List ResultForm) (ts rest : List Lexeme) → w ≡ codes "list" → Many ResultS rs ts rest
       → AnswerS (Several rs) (Open at ∷ Word h w ∷ ts) rest
 
--- ( rest A ) and the parenthesis behind it
+-- ( rest A ) and the parenthesis after it
 pub data RestS : AnswerForm → List Lexeme → List Lexeme → Type 0 where
   rest_of : (at h c e : ℕ) (w : List ℕ) (a : AnswerForm) (ts rest : List Lexeme) → w ≡ codes "rest" → AnswerS a ts (Close c ∷ Close e ∷ rest)
       → RestS a (Open at ∷ Word h w ∷ ts) rest

@@ -15,7 +15,7 @@ abbrev pub some_name : Option (List ℕ) → Option (List ℕ)
 some_name None = None
 some_name (Some name) = if length name == 0 then None else Some name
 
--- what stands behind the prefix of a word that is longer
+-- what stands after the prefix of a word that is longer
 abbrev pub name_after : List ℕ → List ℕ → Option (List ℕ)
 name_after prefix w = some_name (after_prefix prefix w)
 

@@ -24,7 +24,8 @@ pub enum AnswerHead {
 // What an answer's list is, by the word that is next.
 #[tactic(auto, using(isle_reading::proofs::Steps::next))]
 fn next_head(tokens: &Tokens<'_>, alloc: Global) -> Result<Option<AnswerHead>, AllocError>
-    ensures { IfOk result (λ next. option_map answer_head_seen next ≡ next_word answer_head_of (left tokens.now)) }
+    ensures { IfOk result (λ next.
+        option_map answer_head_seen next ≡ next_word answer_head_of (left tokens.now)) }
 {
     let Some(word) = tokens.word() else {
         return Ok(None);
@@ -54,7 +55,7 @@ fn answer_head(tokens: &mut Tokens<'_>, alloc: Global) -> Result<AnswerHead, Fai
     }
 }
 
-// What stands behind the first word of an answer's list.
+// What stands after the first word of an answer's list.
 #[tactic(auto, using(isle_reading::proofs::Steps::chain), unfolding(crate::specs::Reading::read_answer_after))]
 fn answer_after(
     tokens: &mut Tokens<'_>,
@@ -63,7 +64,8 @@ fn answer_after(
     depth: usize,
     head: AnswerHead,
 ) -> Result<AnswerForm, Fail>
-    ensures { Reads answer_seen result (read_answer_after most depth (answer_head_seen head)) (left tokens.old) (left tokens.new) }
+    ensures { Reads answer_seen result (read_answer_after most depth (answer_head_seen head))
+        (left tokens.old) (left tokens.new) }
 {
     match head {
         AnswerHead::Some => {
@@ -93,7 +95,8 @@ fn answer_list(
     most: usize,
     depth: usize,
 ) -> Result<AnswerForm, Fail>
-    ensures { Reads answer_seen result (read_answer_list most depth) (left tokens.old) (left tokens.new) }
+    ensures { Reads answer_seen result (read_answer_list most depth) (left tokens.old)
+        (left tokens.new) }
 {
     tokens.open()?;
     let head = answer_head(tokens, alloc)?;
@@ -108,7 +111,8 @@ pub fn answer(
     most: usize,
     depth: usize,
 ) -> Result<AnswerForm, Fail>
-    ensures { Reads answer_seen result (read_answer most depth) (left tokens.old) (left tokens.new) }
+    ensures { Reads answer_seen result (read_answer most depth) (left tokens.old)
+        (left tokens.new) }
 {
     match tokens.opens() {
         None => Ok(AnswerForm::Plain(simple_result(tokens)?)),

@@ -61,7 +61,7 @@ fn case(
     Ok((List::new(args), found))
 }
 
-// The answer of the rest, whose closing parenthesis is taken, and the one behind it.
+// The answer of the rest, whose closing parenthesis is taken, and the one after it.
 #[tactic(auto, using(isle_reading::proofs::Steps::chain), unfolding(crate::specs::Reading::read_rest))]
 fn rest(
     tokens: &mut Tokens<'_>,
@@ -77,7 +77,7 @@ fn rest(
     Ok(found)
 }
 
-/// Reads cases, the rest, and the closing parenthesis behind it, of at most `most` tokens.
+/// Reads cases, the rest, and the closing parenthesis after it, of at most `most` tokens.
 #[tactic(auto, using(crate::proofs::CaseSteps::cases_steps))]
 pub fn cases(
     tokens: &mut Tokens<'_>,
@@ -85,7 +85,8 @@ pub fn cases(
     most: usize,
     depth: usize,
 ) -> Result<(Vec<(List<Written>, AnswerForm)>, AnswerForm), Fail>
-    ensures { Reads (λ read. (map case_seen read.0.items, answer_seen read.1)) result (read_cases most depth most [])
+    ensures { Reads (λ read. (map case_seen read.0.items, answer_seen read.1)) result
+        (read_cases most depth most [])
         (left tokens.old) (left tokens.new) }
 {
     let mut cases = Vec::new(alloc);

@@ -31,7 +31,8 @@ enum FormHead {
 // What the form is that is next, where `held` and `max` may still stand or may not.
 #[tactic(auto, using(isle_reading::proofs::Steps::next))]
 fn next_head(tokens: &Tokens<'_>, held: bool, max: bool) -> Option<FormHead>
-    ensures { option_map form_head_seen result ≡ next_word (form_head_of held max) (left tokens.now) }
+    ensures { option_map form_head_seen result
+        ≡ next_word (form_head_of held max) (left tokens.now) }
 {
     match tokens.word()? {
         "held" if held => Some(FormHead::Held),
@@ -46,7 +47,8 @@ fn next_head(tokens: &Tokens<'_>, held: bool, max: bool) -> Option<FormHead>
 // What a form is.
 #[tactic(auto, using(isle_reading::proofs::Steps::words), unfolding(crate::specs::Reading::read_form_head))]
 fn head(tokens: &mut Tokens<'_>, held: bool, max: bool) -> Result<FormHead, Fail>
-    ensures { Reads form_head_seen result (read_form_head held max) (left tokens.old) (left tokens.new) }
+    ensures { Reads form_head_seen result (read_form_head held max) (left tokens.old)
+        (left tokens.new) }
 {
     match next_head(tokens, held, max) {
         Some(head) => {
@@ -79,7 +81,7 @@ fn count(tokens: &mut Tokens<'_>) -> Result<usize, Fail>
     }
 }
 
-// The count of `held` at that place, and the closing parenthesis behind it.
+// The count of `held` at that place, and the closing parenthesis after it.
 #[tactic(auto, using(isle_reading::proofs::Steps::chain), unfolding(crate::specs::Reading::read_held))]
 fn held_form(tokens: &mut Tokens<'_>, at: usize) -> Result<Form, Fail>
     ensures { Reads form_seen result (read_held at) (left tokens.old) (left tokens.new) }
@@ -89,7 +91,7 @@ fn held_form(tokens: &mut Tokens<'_>, at: usize) -> Result<Form, Fail>
     Ok(Form::Held { count, at })
 }
 
-// The count of `max` at that place, and the closing parenthesis behind it.
+// The count of `max` at that place, and the closing parenthesis after it.
 #[tactic(auto, using(isle_reading::proofs::Steps::chain), unfolding(crate::specs::Reading::read_max))]
 fn max_form(tokens: &mut Tokens<'_>, at: usize) -> Result<Form, Fail>
     ensures { Reads form_seen result (read_max at) (left tokens.old) (left tokens.new) }
@@ -124,7 +126,7 @@ fn callee(tokens: &mut Tokens<'_>, alloc: Global) -> Result<Callee, Fail>
     }
 }
 
-// What stands behind the word of the constant at that place.
+// What stands after the word of the constant at that place.
 #[tactic(auto, using(isle_reading::proofs::Steps::chain), unfolding(crate::specs::Reading::read_const))]
 fn constant(
     tokens: &mut Tokens<'_>,
@@ -133,7 +135,8 @@ fn constant(
     depth: usize,
     at: usize,
 ) -> Result<Form, Fail>
-    ensures { Reads form_seen result (read_const most depth at) (left tokens.old) (left tokens.new) }
+    ensures { Reads form_seen result (read_const most depth at) (left tokens.old)
+        (left tokens.new) }
 {
     let name = tokens.name(alloc)?;
     let value = value(tokens, alloc, most, depth)?;
@@ -150,7 +153,8 @@ fn answered(
     depth: usize,
     at: usize,
 ) -> Result<Form, Fail>
-    ensures { Reads form_seen result (read_answers most depth at) (left tokens.old) (left tokens.new) }
+    ensures { Reads form_seen result (read_answers most depth at) (left tokens.old)
+        (left tokens.new) }
 {
     let callee = callee(tokens, alloc)?;
     let (cases, rest) = cases(tokens, alloc, most, depth.saturating_sub(1))?;
@@ -171,7 +175,8 @@ fn turned(
     depth: usize,
     at: usize,
 ) -> Result<Form, Fail>
-    ensures { Reads form_seen result (read_turned most depth at) (left tokens.old) (left tokens.new) }
+    ensures { Reads form_seen result (read_turned most depth at) (left tokens.old)
+        (left tokens.new) }
 {
     let callee = callee(tokens, alloc)?;
     let (turns, rest) = turns(tokens, alloc, most, depth)?;
@@ -183,7 +188,7 @@ fn turned(
     })
 }
 
-// What stands behind the first word of the form at that place.
+// What stands after the first word of the form at that place.
 fn form_after(
     tokens: &mut Tokens<'_>,
     alloc: Global,
@@ -192,7 +197,8 @@ fn form_after(
     at: usize,
     head: FormHead,
 ) -> Result<Form, Fail>
-    ensures { Reads form_seen result (read_form_after most depth at (form_head_seen head)) (left tokens.old) (left tokens.new) }
+    ensures { Reads form_seen result (read_form_after most depth at (form_head_seen head))
+        (left tokens.old) (left tokens.new) }
 {
     match head {
         FormHead::Held => held_form(tokens, at),
@@ -212,14 +218,15 @@ fn form(
     held: bool,
     max: bool,
 ) -> Result<Form, Fail>
-    ensures { Reads form_seen result (read_form most (most_open - 1) (held, max)) (left tokens.old) (left tokens.new) }
+    ensures { Reads form_seen result (read_form most (most_open - 1) (held, max)) (left tokens.old)
+        (left tokens.new) }
 {
     let at = tokens.open()?;
     let head = head(tokens, held, max)?;
     form_after(tokens, alloc, most, most_inside(), at, head)
 }
 
-// Whether `held` may still stand behind the form.
+// Whether `held` may still stand after the form.
 fn held_after(held: bool, form: &Form) -> bool
     ensures { result ≡ held_after held (form_seen form.now) }
 {
@@ -229,7 +236,7 @@ fn held_after(held: bool, form: &Form) -> bool
     }
 }
 
-// Whether `max` may still stand behind the form.
+// Whether `max` may still stand after the form.
 fn max_after(max: bool, form: &Form) -> bool
     ensures { result ≡ max_after max (form_seen form.now) }
 {
@@ -242,7 +249,8 @@ fn max_after(max: bool, form: &Form) -> bool
 /// Reads the forms of a file of at most `most` tokens, up to its end.
 #[tactic(auto, using(isle_reading::proofs::ListSteps::alls), unfolding(crate::specs::Reading::read_forms))]
 pub fn all_forms(tokens: &mut Tokens<'_>, alloc: Global, most: usize) -> Result<Vec<Form>, Fail>
-    ensures { Reads (λ read. forms_seen read.items) result (read_forms most) (left tokens.old) (left tokens.new) }
+    ensures { Reads (λ read. forms_seen read.items) result (read_forms most) (left tokens.old)
+        (left tokens.new) }
 {
     let mut forms = Vec::new(alloc);
     let mut held = true;

@@ -37,7 +37,8 @@ pub fn result_head_of(alloc: Global, word: &str) -> Result<Option<ResultHead>, A
 // What a result's list is, by the word that is next.
 #[tactic(auto, using(isle_reading::proofs::Steps::next))]
 fn next_head(tokens: &Tokens<'_>, alloc: Global) -> Result<Option<ResultHead>, AllocError>
-    ensures { IfOk result (λ next. option_map result_head_seen next ≡ next_word result_head_of (left tokens.now)) }
+    ensures { IfOk result (λ next.
+        option_map result_head_seen next ≡ next_word result_head_of (left tokens.now)) }
 {
     match tokens.word() {
         Some(word) => result_head_of(alloc, word),
@@ -67,7 +68,7 @@ pub fn simple_result(tokens: &mut Tokens<'_>) -> Result<ResultForm, Fail>
     Ok(ResultForm::One(simple(tokens)?))
 }
 
-/// Reads what stands behind the first word of a result's list.
+/// Reads what stands after the first word of a result's list.
 #[tactic(auto, using(isle_reading::proofs::Steps::chain, isle_values::proofs::Sees::sees), unfolding(crate::specs::Reading::read_result_after))]
 pub fn result_after(
     tokens: &mut Tokens<'_>,
@@ -76,7 +77,8 @@ pub fn result_after(
     depth: usize,
     head: ResultHead,
 ) -> Result<ResultForm, Fail>
-    ensures { Reads result_seen result (read_result_after most depth (result_head_seen head)) (left tokens.old) (left tokens.new) }
+    ensures { Reads result_seen result (read_result_after most depth (result_head_seen head))
+        (left tokens.old) (left tokens.new) }
 {
     let values = List::new(parts(tokens, alloc, most, depth)?);
     match head {
@@ -93,7 +95,8 @@ fn result_list(
     most: usize,
     depth: usize,
 ) -> Result<ResultForm, Fail>
-    ensures { Reads result_seen result (read_result_list most depth) (left tokens.old) (left tokens.new) }
+    ensures { Reads result_seen result (read_result_list most depth) (left tokens.old)
+        (left tokens.new) }
 {
     tokens.open()?;
     let head = result_head(tokens, alloc)?;
@@ -108,7 +111,8 @@ pub fn result(
     most: usize,
     depth: usize,
 ) -> Result<ResultForm, Fail>
-    ensures { Reads result_seen result (read_result most depth) (left tokens.old) (left tokens.new) }
+    ensures { Reads result_seen result (read_result most depth) (left tokens.old)
+        (left tokens.new) }
 {
     match tokens.opens() {
         None => simple_result(tokens),
@@ -129,7 +133,8 @@ pub fn results(
     most: usize,
     depth: usize,
 ) -> Result<Vec<ResultForm>, Fail>
-    ensures { Reads (λ read. map result_seen read.items) result (many most (read_result most depth)) (left tokens.old) (left tokens.new) }
+    ensures { Reads (λ read. map result_seen read.items) result (many most (read_result most depth))
+        (left tokens.old) (left tokens.new) }
 {
     let mut results = Vec::new(alloc);
     for _ in 0..most {

@@ -25,8 +25,10 @@ pub enum AnswersFail {
 
 // The forms that these tokens of a text of that length spell.
 fn of_tokens(alloc: Global, tokens: &[Token<'_>], end: usize) -> Result<Vec<Form>, AnswersFail>
-    ensures spelt { IfOk result (λ read. SpellsTokens (tokens_seen tokens.now) (forms_seen read.items)) }
-    ensures fault { (at : ℕ) → result ≡ Err (At at) → IsFaultAt AreForms (tokens_seen tokens.now) end at }
+    ensures spelt { IfOk result (λ read.
+        SpellsTokens (tokens_seen tokens.now) (forms_seen read.items)) }
+    ensures fault { (at : ℕ) → result ≡ Err (At at)
+        → IsFaultAt AreForms (tokens_seen tokens.now) end at }
 {
     let mut cursor = Tokens::new(tokens);
     match all_forms(&mut cursor, alloc, tokens.len()) {
@@ -40,7 +42,8 @@ fn of_tokens(alloc: Global, tokens: &[Token<'_>], end: usize) -> Result<Vec<Form
 /// the place where it goes wrong.
 pub fn forms(alloc: Global, text: &str) -> Result<List<Form>, AnswersFail>
     ensures spelt { IfOk result (λ read. SpellsForms text.now (forms_seen read)) }
-    ensures only { IfOk result (λ read. (others : List PureForm) → SpellsForms text.now others → others ≡ forms_seen read) }
+    ensures only { IfOk result (λ read.
+        (others : List PureForm) → SpellsForms text.now others → others ≡ forms_seen read) }
     ensures fault { (at : ℕ) → result ≡ Err (At at) → IsFault text.now at }
 {
     match tokens(alloc, text) {

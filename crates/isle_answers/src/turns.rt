@@ -52,7 +52,8 @@ fn only(parts: List<Written>) -> Option<Written>
 
 // The results that values are.
 fn results_are(alloc: Global, parts: List<Written>) -> Result<Option<Vec<ResultForm>>, AllocError>
-    ensures { IfOk result (λ read. option_map (λ rs. map result_seen rs.items) read ≡ results_are (seen parts)) }
+    ensures { IfOk result (λ read.
+        option_map (λ rs. map result_seen rs.items) read ≡ results_are (seen parts)) }
 {
     let mut results = Vec::new(alloc);
     for value in parts.into_vec() {
@@ -120,7 +121,8 @@ fn rest_is(alloc: Global, turn: AnswerForm) -> Result<Option<AnswerForm>, AllocE
 
 // The answer in the last turn, which is taken out, where that is a rest.
 fn ended(alloc: Global, turns: &mut Vec<AnswerForm>) -> Result<Option<AnswerForm>, AllocError>
-    ensures { IfOk result (λ read. option_map (λ a. (map answer_seen turns.new.items, answer_seen a)) read
+    ensures { IfOk result (λ read.
+        option_map (λ a. (map answer_seen turns.new.items, answer_seen a)) read
         ≡ ended (reverse (map answer_seen turns.old.items))) }
 {
     match turns.pop() {
@@ -129,7 +131,7 @@ fn ended(alloc: Global, turns: &mut Vec<AnswerForm>) -> Result<Option<AnswerForm
     }
 }
 
-/// Reads turns, the rest, and the closing parenthesis behind it, of at most `most` tokens.
+/// Reads turns, the rest, and the closing parenthesis after it, of at most `most` tokens.
 #[tactic(auto, using(crate::proofs::TurnSteps::turns_steps))]
 pub fn turns(
     tokens: &mut Tokens<'_>,
@@ -137,7 +139,8 @@ pub fn turns(
     most: usize,
     depth: usize,
 ) -> Result<(Vec<AnswerForm>, AnswerForm), Fail>
-    ensures { Reads (λ read. (map answer_seen read.0.items, answer_seen read.1)) result (read_turns most depth most [])
+    ensures { Reads (λ read. (map answer_seen read.0.items, answer_seen read.1)) result
+        (read_turns most depth most [])
         (left tokens.old) (left tokens.new) }
 {
     let mut turns = Vec::new(alloc);

@@ -29,7 +29,7 @@ pub fn count_of(word: &str) -> Option<usize>
     Some(count)
 }
 
-// What stands behind the prefix of a word that is longer.
+// What stands after the prefix of a word that is longer.
 fn name_after<'a>(word: &'a str, prefix: &str) -> Option<&'a str>
     ensures { option_copied result ≡ name_after prefix.now word.now }
 {

@@ -1,4 +1,4 @@
--- What is bound behind tests and calls.
+-- What is bound after tests and calls.
 use Rattle.std.proofs.Common.{◌≡◌, ◌⊎◌, inl, inr, ⊎_elim, ℕ, zero, suc, ◌<◌, List, [], ◌∷◌, ◌++◌, Option, Some, sym, ap, ◌∙◌, subst, arith}
 use Rattle.std.specs.Prelude.{slice_get, Contains}
 use Rattle.std.proofs.lemmas.List.Elements.{Contains-push}
@@ -83,7 +83,7 @@ same_test p q c d e = (cc, cc)
 last_bound : (bound : List ℕ) (a b : ℕ) → a ≡ b → Contains (bound ++ a ∷ []) b
 last_bound bound a b e = subst (λ n. Contains (bound ++ a ∷ []) n) e (Contains-push bound a)
 
--- behind one test more, within its arm
+-- after one test more, within its arm
 pub behind_test : (bs : List Binding) (found : FieldKey → Option BindingId) (counts : Shown → Option ℕ) (inners : ℕ → Option BindingId) → FindsFields bs found counts → FindsInners bs inners → EachOnce (paths_of bs) → (tests : List Test) (bound : List ℕ) (c : BindingId × Constraint) → IsThere (at (paths_of bs) c.0)
     → IsBehind (paths_of bs) tests [] bound → IsBehind (paths_of bs) (is_test (paths_of bs) c ∷ tests) [] (bound_within bound (shows found counts inners c.0 c.1))
 behind_test bs found counts inners f g once tests bound c there h = record {
@@ -128,11 +128,11 @@ behind_test bs found counts inners f g once tests bound c there h = record {
         subst (λ d. Contains (bound_within bound (shows found counts inners c.0 d)) q.0) (sym same.1)
         (field_bound bs found counts f once bound (shown.Struct c.0) field q stands (subst (λ (s : BindingId). s.0 < q.0) source is.4))
 
--- what is bound behind a call, and what stands behind it
+-- what is bound after a call, and what stands after it
 abbrev Adds : List Path → BindingId → Path → List ℕ → Type 0
 Adds ps c p more = (q : BindingId) → at ps q ≡ p → Contains more q.0
 
--- behind a call, where its inner value and its item are bound, if they stand anywhere
+-- after a call, where its inner value and its item are bound, if they stand anywhere
 pub behind_next : (ps : List Path) (tests : List Test) (done : List Path) (bound more : List ℕ) (c : BindingId) → EachOnce ps → IsThere (at ps c) → Keeps bound more → Contains more c.0 → Adds ps c (Inner (at ps c)) more → Adds ps c (Chosen (at ps c)) more
     → IsBehind ps tests done bound → IsBehind ps tests (at ps c ∷ done) more
 behind_next ps tests done bound more c once there keeps call inner item h = record {

@@ -1,4 +1,4 @@
--- The items behind ordered calls are new.
+-- The items after ordered calls are new.
 use Rattle.std.proofs.Common.{◌≡◌, ◌⊎◌, inl, inr, ⊎_elim, ℕ, List, [], ◌∷◌, ◌++◌, Bool, true, false, Option, Some, None, map, refl, sym, ap, ◌∙◌, subst, arith}
 use Rattle.std.specs.Prelude.{slice_get, Contains}
 use Rattle.std.specs.List.{AllByRecursion}
@@ -75,7 +75,7 @@ early_push : (env : Environment) (bs : List Binding) (done : List Path) (bound :
     → ((source : BindingId) → slice_get bs c.0 ≡ Some (binding.Iterator source) → (holds_impure env (at (paths_of bs) source) ≡ false) ⊎ Contains done (at (paths_of bs) source)) → AreEarly env bs done bound → AreEarly env bs done (bound ++ c.0 ∷ [])
 early_push env bs done bound c one h b source e k = ⊎_elim (λ j. h b source e j) (λ (same : c.0 ≡ b.0). one source (ap (slice_get bs) same ∙ e)) (Contains-push_cases bound c.0 b.0 k)
 
--- behind more calls
+-- after more calls
 early_more : (env : Environment) (bs : List Binding) (done : List Path) (p : Path) (bound : List ℕ) → AreEarly env bs done bound → AreEarly env bs (p ∷ done) bound
 early_more env bs done p bound h b source e k = ⊎_elim (λ j. inl j) (λ j. inr (tail_contained p done (at (paths_of bs) source) j)) (h b source e k)
 
@@ -97,11 +97,11 @@ early_within env bs done (Some b ∷ places) bound plain h = early_within env bs
 
 -- ---- calls in order
 
--- behind no tests and no calls
+-- after no tests and no calls
 pub behind_start : (ps : List Path) (bound : List ℕ) → IsBehind ps [] [] bound
 behind_start ps bound = behind_grows ps [] [] [] bound (λ n k. absurd (none_contained n k)) (behind_none ps)
 
--- a bind order opens new items, and behind it these calls were made
+-- a bind order opens new items, and after it these calls were made
 pub record BindsAnew (bs : List Binding) (bound : List ℕ) (made : List Path) (order : List BindingId) : Type 0 where
   pub items : AreAnew OfAny bs bound order
   pub behind : IsBehind (paths_of bs) [] made (bound_by bound order)
@@ -124,7 +124,7 @@ module _ (env : Environment) (t : Term) (bs : List Binding) (tests : List Test) 
         plain = ap list_before is.1;
       }
 
-  -- what stands behind a call, where its item is not bound yet
+  -- what stands after a call, where its item is not bound yet
   next_anew : (c : BindingId) (bound : List ℕ) (kind : ReturnKind) → list_before (slice_get bs c.0) ≡ None → HasNext bs next c kind → (kind ≡ return_kind.Iterator → (b : BindingId) → slice_get bs b.0 ≡ Some (binding.Iterator c) → Contains bound b.0 → ⊥) → AreAnew OfAny bs bound (with_inner (next c.0) c)
   next_anew c bound return_kind.Plain plain (has_none e no_inner no_item) new = subst (λ o. AreAnew OfAny bs bound (with_inner o c)) (sym e) (plain_anew OfAny bs bound c plain, tt)
   next_anew c bound return_kind.Option plain (has_inner b e is path no_item) new =

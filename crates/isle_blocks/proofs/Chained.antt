@@ -9,6 +9,7 @@ use Rattle.isle_core.specs.declared.rule_sets.FlatRule.{FlatRule}
 use Rattle.isle_core.specs.declared.rule_sets.RuleSet.{RuleSet}
 use Rattle.isle_core.specs.declared.types.ReturnKind.{ReturnKind}
 use Rattle.isle_core.specs.declared.types.Term.{Term}
+use Rattle.isle_core.specs.ApartTests.{AreTestsApart}
 use Rattle.isle_core.specs.Block.{Block}
 use Rattle.isle_core.specs.BlockLawful.{IsLawfulBlock}
 use Rattle.isle_core.specs.BlockRun.{block_outcome}
@@ -25,6 +26,7 @@ use Rattle.isle_core.specs.Setting.{setting}
 use Rattle.isle_core.specs.SingleArms.{HasSingleArms}
 use Rattle.isle_core.specs.Value.{Value}
 use Rattle.isle_core.specs.ValueAt.{nothing_known}
+use Rattle.isle_blocks.specs.Added.{AddsSeveral}
 use Rattle.isle_blocks.specs.AllTests.{MakesTests}
 use Rattle.isle_blocks.specs.CallsOnce.{HasCallsOnce}
 use Rattle.isle_blocks.specs.Chain.{chain}
@@ -33,7 +35,7 @@ use Rattle.isle_blocks.specs.Followers.{FindsInners, FindsItems}
 use Rattle.isle_blocks.specs.Nest.{next_of}
 use Rattle.isle_blocks.specs.Order.{by_priority}
 use Rattle.isle_blocks.specs.RuleTests.{TestsRules}
-use Rattle.isle_blocks.specs.Several.{HasItsLists, AddsSeveral}
+use Rattle.isle_blocks.specs.Several.{HasItsLists, GivesSeveral}
 use Rattle.isle_blocks.specs.declared.fields.Fields.{Fields}
 use Rattle.isle_blocks.specs.declared.fields.Shown.{Shown}
 use Rattle.isle_blocks.proofs.LawAllTests.{chain_makes}
@@ -45,6 +47,7 @@ use Rattle.isle_blocks.proofs.LawTests.{chain_tests}
 use Rattle.isle_blocks.proofs.LawSerializable.{rules_still, chain_lawful, chain_single}
 use Rattle.isle_blocks.proofs.NewItemLaws.{chain_new}
 use Rattle.isle_blocks.proofs.NextLaws.{finds_next}
+use Rattle.isle_blocks.proofs.ServedWorks.{several_prescribes}
 use Rattle.isle_blocks.proofs.SeveralChain.{lists_of, chain_run, each_early}
 
 -- the block is the chain of the rules, by tables of the bindings
@@ -98,16 +101,16 @@ once_chain : (several : Bool) (kind : Bool) (bs : List Binding) (fs : List FlatR
 once_chain several kind bs fs b e answers_once k = subst (λ x. IsChainOf x bs fs b) (sym e ∙ answers_once) k
 
 pub chain_of_means : (several : Bool) (s : RuleSet) (b : Block) → IsChainOf several s.bindings s.rules b → (env : Environment) (m : Meaning) (t : Term) (args : List Value) (kind : ReturnKind) → IsSerializable env t s → is_several (kind_of t.kind) ≡ several → is_several (kind_of t.kind) ≡ false
-    → block_outcome env m args (paths_of s.bindings) b kind ≡ set_outcome env m args (paths_of s.bindings) s.rules kind
-chain_of_means several s b chained env m t args kind h is answers_once =
+    → AreTestsApart env m args s → block_outcome env m args (paths_of s.bindings) b kind ≡ set_outcome env m args (paths_of s.bindings) s.rules kind
+chain_of_means several s b chained env m t args kind h is answers_once apart =
     let k = once_chain several (is_several (kind_of t.kind)) s.bindings s.rules b is answers_once chained in
     let next = finds_next s.bindings k.inners k.items k.found_inners k.found_items in
     let still = rules_still false env t s.bindings k.found k.counts k.inners (next_of k.inners k.items) k.items answers_once k.finds k.found_inners k.found_items next h.once h.fields h.items s.rules h.rules in
     ap (λ x. block_outcome env m args (paths_of s.bindings) x kind) k.is ∙ chain_means (shows k.found k.counts k.inners) env t answers_once m args s.bindings (next_of k.inners k.items) k.items kind next h.once s.rules h.rules still
 
 pub chain_of_positions : (several : Bool) (s : RuleSet) (b : Block) → IsChainOf several s.bindings s.rules b → (env : Environment) (m : Meaning) (t : Term) (args : List Value) → IsSerializable env t s → is_several (kind_of t.kind) ≡ several → is_several (kind_of t.kind) ≡ false
-    → block_position env m args (paths_of s.bindings) b nothing_known [] ≡ set_position env m args (paths_of s.bindings) s.rules
-chain_of_positions several s b chained env m t args h is answers_once =
+    → AreTestsApart env m args s → block_position env m args (paths_of s.bindings) b nothing_known [] ≡ set_position env m args (paths_of s.bindings) s.rules
+chain_of_positions several s b chained env m t args h is answers_once apart =
     let k = once_chain several (is_several (kind_of t.kind)) s.bindings s.rules b is answers_once chained in
     let next = finds_next s.bindings k.inners k.items k.found_inners k.found_items in
     let still = rules_still false env t s.bindings k.found k.counts k.inners (next_of k.inners k.items) k.items answers_once k.finds k.found_inners k.found_items next h.once h.fields h.items s.rules h.rules in
@@ -117,9 +120,10 @@ chain_of_positions several s b chained env m t args h is answers_once =
 several_chain : (several kind : Bool) (bs : List Binding) (fs : List FlatRule) (b : Block) → kind ≡ several → kind ≡ true → IsChainOf several bs fs b → IsChainOf true bs fs b
 several_chain several kind bs fs b e often k = subst (λ x. IsChainOf x bs fs b) (sym e ∙ often) k
 
-pub chain_of_several : (several : Bool) (s : RuleSet) (b : Block) → IsChainOf several s.bindings s.rules b → (env : Environment) (t : Term) → IsSerializable env t s → is_several (kind_of t.kind) ≡ several → is_several (kind_of t.kind) ≡ true
+-- its rules add one after the other
+chain_adds : (several : Bool) (s : RuleSet) (b : Block) → IsChainOf several s.bindings s.rules b → (env : Environment) (t : Term) → IsSerializable env t s → is_several (kind_of t.kind) ≡ several → is_several (kind_of t.kind) ≡ true
     → AllByRecursion (HasItsLists env (paths_of s.bindings)) s.rules → AddsSeveral env s b
-chain_of_several several s b chained env t h is often lists =
+chain_adds several s b chained env t h is often lists =
     let bs = s.bindings in
     let ps = paths_of bs in
     let k = several_chain several (is_several (kind_of t.kind)) bs s.rules b is often chained in
@@ -135,3 +139,7 @@ chain_of_several several s b chained env t h is often lists =
           ∙ chain_run env t bs k.found k.counts k.inners next k.items often k.finds k.found_inners k.found_items finds h.once h.fields h.items in_order [] in_order refl
           (all_in_order (IsSerializableRule env t ps) s.rules h.rules) (all_in_order (HasItsLists env ps) s.rules lists) (occurrences_in_order env ps s.rules h.apart) m args anew nothing_known nothing_given (record { answers = λ n a e. cc; choice = refl });
     }
+
+pub chain_of_several : (several : Bool) (s : RuleSet) (b : Block) → IsChainOf several s.bindings s.rules b → (env : Environment) (t : Term) → IsSerializable env t s → is_several (kind_of t.kind) ≡ several → is_several (kind_of t.kind) ≡ true
+    → AllByRecursion (HasItsLists env (paths_of s.bindings)) s.rules → GivesSeveral env s b
+chain_of_several several s b chained env t h is often lists m args tys rules set = several_prescribes env m args tys s b rules (chain_adds several s b chained env t h is often lists) set

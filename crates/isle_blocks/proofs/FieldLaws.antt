@@ -130,7 +130,7 @@ longer_cases (Some m) field n e = pick (ltb m (suc field)) e
 
 -- ---- one binding more
 
--- it is no field behind its source
+-- it is no field after its source
 other_fields : (bs : List Binding) (x : Binding) (found : FieldKey → Option BindingId) (counts : Shown → Option ℕ) → field_at (length bs) x ≡ None → FindsFields bs found counts → FindsFields (bs ++ x ∷ []) found counts
 other_fields bs x found counts none h = record {
   is_field = λ s field b e. (get_push bs x b.0 (part_of s field) (h.is_field s field b e).0, (h.is_field s field b e).1);

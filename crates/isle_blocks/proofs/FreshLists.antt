@@ -1,4 +1,4 @@
--- What is bound for a rule opens each item directly behind its list.
+-- What is bound for a rule opens each item directly after its list.
 use Rattle.std.proofs.Common.{◌≡◌, ◌⊎◌, inl, inr, ⊎_elim, ℕ, zero, suc, List, [], ◌∷◌, ◌++◌, length, Bool, true, false, cond, Option, Some, None, map, refl, sym, ap, ◌∙◌, subst}
 use Rattle.std.specs.Prelude.{slice_get, Contains}
 use Rattle.std.specs.List.{AllByRecursion}
@@ -39,7 +39,7 @@ plain_fresh bs b none = λ fresh. pick fresh (list_before (slice_get bs b.0)) (o
     pick fresh None (Some source) e = tt
     pick fresh (Some list) option e = cc
 
--- what stands directly behind a call, and is its item if it is one
+-- what stands directly after a call, and is its item if it is one
 pair_fresh : (bs : List Binding) (c b : BindingId) → IsPlainAt bs c → (list_before (slice_get bs b.0) ≡ None) ⊎ (list_before (slice_get bs b.0) ≡ Some c) → AlwaysFresh bs (c ∷ b ∷ [])
 pair_fresh bs c b plain which = λ fresh. pick fresh (list_before (slice_get bs c.0)) (option_before (slice_get bs c.0)) (list_before (slice_get bs b.0)) (option_before (slice_get bs b.0)) plain.no_item plain.no_inner which
   where

@@ -1,4 +1,4 @@
--- The paths of items, and of the lists that they stand behind.
+-- The paths of items, and of the lists that they stand after.
 use Rattle.std.proofs.Common.{◌≡◌, ℕ, ◌<◌, zero, suc, List, [], ◌∷◌, get_or, take, Some, refl, sym, ap, ◌∙◌, subst, arith}
 use Rattle.std.specs.Prelude.{slice_get}
 use Rattle.std.proofs.lemmas.List.{get_or-take}
@@ -8,7 +8,7 @@ use Rattle.isle_core.specs.declared.rule_sets.Binding.TheVariants as binding
 use Rattle.isle_core.specs.Path.{Path, Nowhere, Chosen, at, path_over, paths_of}
 use Rattle.isle_core.proofs.BindingPaths.{IsThere, at_before, binding_at}
 
--- an item behind its list
+-- an item after its list
 pub item_path : (bs : List Binding) (source b : BindingId) → slice_get bs b.0 ≡ Some (binding.Iterator source) → source.0 < b.0 → at (paths_of bs) b ≡ Chosen (at (paths_of bs) source)
 item_path bs source b e lt = at_before bs b (binding.Iterator source) e ∙ ap Chosen (get_or-take b.0 (paths_of bs) source.0 Nowhere lt)
 

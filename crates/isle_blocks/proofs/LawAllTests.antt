@@ -43,7 +43,7 @@ tried_among : (several : Bool) (fs gs : List FlatRule) (f : FlatRule) → ((g : 
 tried_among true fs gs f has h = tt
 tried_among false fs gs f has h = λ g c untested. h g (has g c) untested
 
--- behind a rule that one that is tried isn't above, nothing is left out
+-- after a rule that one that is tried isn't above, nothing is left out
 goes_on : (several : Bool) (g : FlatRule) (fs : List FlatRule) (f : FlatRule) → IsTried several (g ∷ fs) f
     → is_above f g ≡ false → (not several && no_tests g.constraints g.equals) ≡ false
 goes_on true g fs f h below = refl

@@ -91,7 +91,7 @@ then_kept : (w : Went) (P : Known → List Made → Type 0) (f g : Known → Lis
 then_kept (Goes known made) P f g p h = h known made p
 then_kept (Ends o) P f g p h = refl
 
--- a call with what stands behind it, before others
+-- a call with what stands after it, before others
 one_run : (env : Environment) (m : Meaning) (args : List Value) (bs : List Binding) (next : ℕ → Option BindingId) (c : BindingId) (term : TermId) (parameters : Paths) (instance : ℕ) (rest : List BindingId) (more : List Path) (choice : Choice)
     → at (paths_of bs) c ≡ Called term parameters instance
     → ((known : Known) (made : List Made) → Chooses choice known made → bind_all env m args (paths_of bs) rest known made ≡ run_calls env m args more known made)
@@ -208,7 +208,7 @@ binds_run env t answers_once tests m args bs next f once all start tested (c ∷
         (more behind k.1)
         call.kind (once_kind env t tests ps done (at ps c) call answers_once) call.external (has_next env t tests bs next done c f once call) known made chooses
 
--- so with what a result is read with behind them
+-- so with what a result is read with after them
 pub last_binds_run : (env : Environment) (t : Term) (answers_once : is_several (kind_of t.kind) ≡ false) (m : Meaning) (args : List Value) (bs : List Binding) (next : ℕ → Option BindingId) → FindsNext bs next → EachOnce (paths_of bs)
     → (f : FlatRule) (bound : List ℕ) → all_hold env m (value_at env m args nothing_known) (constraint_tests (paths_of bs) f) ≡ true → AreSerializableCalls env t (constraint_tests (paths_of bs) f) (paths_of bs) [] (map (at (paths_of bs)) f.ordered)
     → StillBehind env bs next f bound → (known : Known) (made : List Made) → Chooses first_items known made → bind_all env m args (paths_of bs) (behind_lists bs next bound f) known made ≡ run_calls env m args (map (at (paths_of bs)) f.ordered) known made

@@ -1,4 +1,4 @@
--- Calls that are ready may be bound in order, each behind what it is made on.
+-- Calls that are ready may be bound in order, each after what it is made on.
 use Rattle.std.proofs.Common.{◌≡◌, ◌⊎◌, inl, inr, ⊎_elim, ℕ, List, [], ◌∷◌, ◌++◌, Bool, true, false, IsTrue, Option, Some, map, refl, sym, ap, ◌∙◌, subst}
 use Rattle.std.specs.Prelude.{slice_get, IsSomeAnd, Contains}
 use Rattle.std.proofs.lemmas.List.Elements.{Contains-push}
@@ -34,7 +34,7 @@ use Rattle.isle_blocks.proofs.StillRules.{StillBinds}
 
 -- ---- what may be bound
 
--- a call behind what it is made on
+-- a call after what it is made on
 pub record BindsCall (env : Environment) (t : Term) (bs : List Binding) (bound : List ℕ) (c : BindingId) (parameters : Paths) (needed : List BindingId) : Type 0 where
   pub needed' : AreOpenable (setting env t bs) bound needed
   pub still : AreStill env (paths_of bs) needed
@@ -94,7 +94,7 @@ item_opened env t bs tests done bound c b h is there path k =
 
 -- ---- calls in order
 
--- the items that came, behind these
+-- the items that came, after these
 abbrev pub came_behind : {A : Type 0} → List A → List A → List A
 came_behind done [] = done
 came_behind done (p ∷ ps) = came_behind (p ∷ done) ps
@@ -105,7 +105,7 @@ came_holds done [] p (inr k) = absurd (none_in p k)
 came_holds done (q ∷ ps) p (inl k) = came_holds (q ∷ done) ps p (inl (cons_later q p done k))
 came_holds done (q ∷ ps) p (inr k) = came_holds (q ∷ done) ps p (⊎_elim (λ e. inl (cons_here q p done e)) (λ j. inr j) (cons_cases q p ps k))
 
--- ---- behind more calls
+-- ---- after more calls
 
 within_more : (tests : List Test) (done more : List Path) → ((p : Path) → Contains done p → Contains more p) → (p : Path) → StandsWithin tests done p → StandsWithin tests more p
 within_more tests done more h (Called term ps instance) s = ⊎_elim (λ made. inl (h (Called term ps instance) made)) (λ test. inr test) s
@@ -141,16 +141,16 @@ pub came_from : {A : Type 0} (done ps : List A) (p : A) → Contains (came_behin
 came_from done [] p k = inl k
 came_from done (q ∷ ps) p k = ⊎_elim (λ j. ⊎_elim (λ e. inr (cons_here q p ps e)) (λ i. inl i) (cons_cases q p done j)) (λ j. inr (cons_later q p ps j)) (came_from (q ∷ done) ps p k)
 
--- a bind order may stand there, and behind it these calls were made
+-- a bind order may stand there, and after it these calls were made
 pub record BindsAll (env : Environment) (t : Term) (bs : List Binding) (tests : List Test) (bound : List ℕ) (made : List Path) (order : List BindingId) : Type 0 where
   pub bindable : AreOpenable (setting env t bs) bound order
   pub behind : IsBehind (paths_of bs) tests made (bound_by bound order)
 
--- so of two behind one another
+-- so of two after one another
 binds_both : (env : Environment) (t : Term) (bs : List Binding) (tests : List Test) (bound : List ℕ) (made : List Path) (xs ys : List BindingId) → AreOpenable (setting env t bs) bound xs → BindsAll env t bs tests (bound_by bound xs) made ys → BindsAll env t bs tests bound made (xs ++ ys)
 binds_both env t bs tests bound made xs ys h k = record { bindable = openable_append (setting env t bs) xs ys bound h k.bindable; behind = subst (IsBehind (paths_of bs) tests made) (sym (bound_append bound xs ys)) k.behind }
 
--- a call that may be bound, and what stands behind it
+-- a call that may be bound, and what stands after it
 next_binds : (env : Environment) (t : Term) (bs : List Binding) (tests : List Test) (next : ℕ → Option BindingId) (done : List Path) (bound : List ℕ) (c : BindingId) → EachOnce (paths_of bs) → IsBehind (paths_of bs) tests done bound
     → IsOpenable (setting env t bs) bound (at (paths_of bs) c) (slice_get bs c.0) → (h : IsSerializableCall env t tests (paths_of bs) done (at (paths_of bs) c))
     → HasNext bs next c h.kind → BindsAll env t bs tests bound (at (paths_of bs) c ∷ done) (with_inner (next c.0) c)
@@ -203,7 +203,7 @@ module _ (env : Environment) (t : Term) (bs : List Binding) (fits : (p : Path) �
       → IsBehind (paths_of bs) tests (at (paths_of bs) c ∷ done) bound
   skips_one start c done bound keeps k h e = behind_bound tests done bs next start bound c h.kind once (subst IsThere (sym h.path) tt) (has_next env t tests bs next done c f once h) e keeps k
 
-  -- those that weren't are bound, and behind them all calls were made
+  -- those that weren't are bound, and after them all calls were made
   pub binds_all : (start : List ℕ) (cs : List BindingId) (done : List Path) (bound : List ℕ) → Keeps start bound → IsBehind (paths_of bs) tests done bound → AreSerializableCalls env t tests (paths_of bs) done (map (at (paths_of bs)) cs)
       → BindsAll env t bs tests bound (came_behind done (map (at (paths_of bs)) cs)) (binds bs next bound (left_calls next start cs))
   binds_all start [] done bound keeps k h = record { bindable = tt; behind = k }

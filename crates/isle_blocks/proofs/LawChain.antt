@@ -99,7 +99,7 @@ untested_holds [] [] env m args ps e = refl
 untested_holds [] (x ∷ es) env m args ps e = cc
 untested_holds (x ∷ cs) es env m args ps e = cc
 
--- nothing is reached behind a result
+-- nothing is reached after a result
 result_ends : (w : Went) (env : Environment) (m : Meaning) (args : List Value) (p : Path) (more : Known → List Made → Went) → then_go (then_go w (returns env m args p)) more ≡ then_go w (returns env m args p)
 result_ends (Goes known made) env m args p more = refl
 result_ends (Ends o) env m args p more = refl

@@ -104,7 +104,7 @@ rule_returns shows env t answers_once m args bs next items f found once h still 
 
 -- ---- a chain
 
--- nothing is reached behind a result
+-- nothing is reached after a result
 none_after : (w : Went) (env : Environment) (m : Meaning) (args : List Value) (p : Path) (more : Known → List Made → Option Pos) → then_position (then_go w (returns env m args p)) more ≡ None
 none_after (Goes known made) env m args p more = refl
 none_after (Ends o) env m args p more = refl

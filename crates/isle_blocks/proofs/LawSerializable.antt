@@ -104,7 +104,7 @@ list_there env t p tys h = tt
 
 -- ---- rules
 
--- a test that may stand behind what its source is read with
+-- a test that may stand after what its source is read with
 pub record IsTestReady (env : Environment) (t : Term) (bs : List Binding) (bound : List ℕ) (source : BindingId) (c : Constraint) (places : List (Option BindingId)) : Type 0 where
   pub binds : AreOpenable (setting env t bs) bound (needs bs bound (source ∷ []))
   pub still : AreStill env (paths_of bs) (needs bs bound (source ∷ []))
@@ -234,7 +234,7 @@ module _ (several : Bool) (env : Environment) (t : Term) (bs : List Binding) (fo
         loops = opened_loops s several whole (Return f.pos f.result) (last_fresh several bs next items found_next f bound (ordered_plain env t tests bs f.ordered h.calls)) (λ fresh. tt);
       }
 
-  -- what stands inside tests, behind which these are bound
+  -- what stands inside tests, after which these are bound
   abbrev IsGoodBehind : FlatRule → List ℕ → List Test → Behind → Type 0
   IsGoodBehind f made tests inner = (bound : List ℕ) → IsWithin env (paths_of bs) tests bound → IsGoodStep f made bound (inner bound)
 

@@ -41,4 +41,5 @@ pub mod PartRuns
 pub mod RuleLists
 pub mod RuleRuns
 pub mod SeveralChain
+pub mod ServedWorks
 pub mod Chained

@@ -83,7 +83,7 @@ abbrev pub loops : List Binding → List BindingId → List Path
 loops bs [] = []
 loops bs (b ∷ order) = loop_of bs (list_before (slice_get bs b.0)) ++ loops bs order
 
--- lists in order behind one another
+-- lists in order after one another
 pub order_append : (before qs rs : List Path) → AreListsInOrder before qs → AreListsInOrder (came_behind before qs) rs → AreListsInOrder before (qs ++ rs)
 order_append before [] rs h k = k
 order_append before (q ∷ qs) rs h k = (h.0, h.1, order_append (q ∷ before) qs rs h.2 k)
@@ -171,7 +171,7 @@ module _ (env : Environment) (t : Term) (bs : List Binding) where
     open_within b (Some (binding.Iterator source)) e none one = cc
     open_within b o e none one = absurd one
 
-  -- behind an order: its lists are in order behind those that were opened, and each is one of these
+  -- after an order: its lists are in order after those that were opened, and each is one of these
   pub record OpensOrder (qs : List Path) (bound : List ℕ) (opened : List Path) (order : List BindingId) : Type 0 where
     pub opens : HasOpened bs (bound_by bound order) (came_behind opened (loops bs order))
     pub order' : AreListsInOrder opened (loops bs order)

@@ -42,7 +42,7 @@ pub record BindsTested (env : Environment) (ps : List Path) (tests : List Test) 
 tested_none : (env : Environment) (ps : List Path) (tests : List Test) → BindsTested env ps tests []
 tested_none env ps tests = record { uncalled = λ q k. absurd (none_in q.0 k); shown = λ q p k e. absurd (none_in q.0 k) }
 
--- so behind more tests
+-- so after more tests
 tested_more : (env : Environment) (ps : List Path) (tests more : List Test) (bound : List ℕ) → ((x : Test) → Contains tests x → Contains more x) → BindsTested env ps tests bound → BindsTested env ps more bound
 tested_more env ps tests more bound k h = record { uncalled = h.uncalled; shown = λ q p c e. k (Is p constraint.Some) (h.shown q p c e) }
 
@@ -111,7 +111,7 @@ tested_places env t bs found counts inners f tests bound source c places h = by_
     by_form (constraint.ConstInt val ty) are k = k
     by_form (constraint.ConstPrim val) are k = k
 
--- ---- behind tests
+-- ---- after tests
 
 -- what they show is bound, and of calls and inner values nothing else
 pub record IsWithin (env : Environment) (ps : List Path) (tests : List Test) (bound : List ℕ) : Type 0 where
@@ -147,18 +147,18 @@ call_there next bound c e = pick (next c.0) e
     pick None is = contained bound c.0 is
     pick (Some b) is = contained bound c.0 (both_true (is_bound bound c) (is_bound bound b) is).0
 
--- and what stands behind it
+-- and what stands after it
 pub next_there : (next : ℕ → Option BindingId) (bound : List ℕ) (c b : BindingId) → next c.0 ≡ Some b → was_bound next bound c ≡ true → Contains bound b.0
 next_there next bound c b has e = contained bound b.0 (both_true (is_bound bound c) (is_bound bound b) (sym (ap (bound_with bound c) has) ∙ e)).1
 
--- behind tests such a call was tested
+-- after tests such a call was tested
 pub was_tested : (env : Environment) (bs : List Binding) (next : ℕ → Option BindingId) (tests : List Test) (bound : List ℕ) → BindsTested env (paths_of bs) tests bound → AreTested env bs next tests bound
 was_tested env bs next tests bound h c e = record {
   uncalled = h.uncalled c (call_there next bound c e);
   found = λ b has is. h.shown b (at (paths_of bs) c) (next_there next bound c b has e) is;
 }
 
--- behind such a call
+-- after such a call
 pub behind_bound : (tests : List Test) (done : List Path) (bs : List Binding) (next : ℕ → Option BindingId) (start bound : List ℕ) (c : BindingId) (kind : ReturnKind) → EachOnce (paths_of bs) → IsThere (at (paths_of bs) c) → HasNext bs next c kind
     → was_bound next start c ≡ true → Keeps start bound → IsBehind (paths_of bs) tests done bound → IsBehind (paths_of bs) tests (at (paths_of bs) c ∷ done) bound
 behind_bound tests done bs next start bound c kind once there has e keeps h = pick kind has

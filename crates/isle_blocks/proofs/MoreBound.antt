@@ -23,7 +23,7 @@ Keeps bound more = (n : ℕ) → Contains bound n → Contains more n
 keeps_push : (bound more : List ℕ) (k : ℕ) → Keeps bound more → Keeps (bound ++ k ∷ []) (more ++ k ∷ [])
 keeps_push bound more k h n c = ⊎_elim (λ j. Contains-append_left more (k ∷ []) n (h n j)) (λ e. subst (Contains (more ++ k ∷ [])) e (Contains-push more k)) (Contains-push_cases bound k n c)
 
--- behind a bind order
+-- after a bind order
 pub by_kept : (bs : List BindingId) (bound : List ℕ) → Keeps bound (bound_by bound bs)
 by_kept [] bound n c = c
 by_kept (b ∷ bs) bound n c = by_kept bs (bound ++ b.0 ∷ []) n (Contains-append_left bound (b.0 ∷ []) n c)
@@ -96,7 +96,7 @@ all_still_bindable s [] bound more h k = tt
 all_still_bindable s (b ∷ bs) bound more h k =
     (still_bindable s bound more (at (paths_in s) b) (slice_get s.bindings b.0) h k.0, all_still_bindable s bs (bound ++ b.0 ∷ []) (more ++ b.0 ∷ []) (keeps_push bound more b.0 h) k.1)
 
--- bind orders behind one another
+-- bind orders after one another
 pub bindable_append : (s : Setting) (xs ys : List BindingId) (bound : List ℕ) → AreBindable s bound xs → AreBindable s (bound_by bound xs) ys → AreBindable s bound (xs ++ ys)
 bindable_append s [] ys bound h k = k
 bindable_append s (x ∷ xs) ys bound h k = (h.0, bindable_append s xs ys (bound ++ x.0 ∷ []) h.1 k)

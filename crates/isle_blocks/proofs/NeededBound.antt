@@ -84,7 +84,7 @@ all_within bs (b ∷ reads) h = (within bs b h.0, all_within bs reads h.1)
 
 -- ---- what a bind order gives
 
--- it may stand there, and behind it this binding is bound
+-- it may stand there, and after it this binding is bound
 pub record BindsOne (s : Setting) (bound : List ℕ) (b : BindingId) (order : List BindingId) : Type 0 where
   pub binds : AreOpenable s bound order
   pub still : AreStill s.env (paths_in s) order
@@ -154,7 +154,7 @@ parts_typed env t (Some f) ps h = (form_types env f, h)
 abbrev unbound_from : List Binding → (List ℕ → BindingId → List BindingId) → List ℕ → (source b : BindingId) → Option Binding → List BindingId
 unbound_from bs one bound source b o = with_parts one bound (source ∷ b ∷ []) (parts_of_list o)
 
--- ---- behind tests and calls
+-- ---- after tests and calls
 
 module _ (env : Environment) (t : Term) (bs : List Binding) (tests : List Test) (done : List Path) (fits : (p : Path) → Contains (paths_of bs) (Chosen p) → is_several (kind_of t.kind) ≡ true) where
   -- what makes a binding readable that stands on them
@@ -263,7 +263,7 @@ module _ (env : Environment) (t : Term) (bs : List Binding) (tests : List Test) 
   same_list : (x y : BindingId) → Some (binding.Iterator x) ≡ Some (binding.Iterator y) → x ≡ y
   same_list x y e = cc
 
-  -- behind its list, an item
+  -- after its list, an item
   behind_list : (depth : ℕ) (bound : List ℕ) (b source : BindingId) (tys : List TypeId) (order : List BindingId) → slice_get bs b.0 ≡ Some (binding.Iterator source) → at (paths_of bs) b ≡ Chosen (at (paths_of bs) source) → IsListOf env t (at (paths_of bs) source) tys
       → unbound bs (needed bs depth) bound b (Some (binding.Iterator source)) ≡ order ++ b ∷ [] → source.0 < b.0 → is_bound bound b ≡ false → BindsOne (setting env t bs) bound source order → BindsOne (setting env t bs) bound b (unbound bs (needed bs depth) bound b (slice_get bs b.0))
   behind_list depth bound b source tys order e p h is low free r =

@@ -1,4 +1,4 @@
--- The items that are needed: none is bound yet, each stands behind its list, and no list holds an impure call.
+-- The items that are needed: none is bound yet, each stands after its list, and no list holds an impure call.
 use Rattle.std.proofs.Common.{◌≡◌, ◌⊎◌, inl, inr, ⊎_elim, ℕ, zero, suc, ◌<◌, List, [], ◌∷◌, ◌++◌, length, get_or, take, Bool, true, false, cond, IsTrue, Option, Some, None, refl, sym, ap, ◌∙◌, subst, arith}
 use Rattle.std.specs.Prelude.{slice_get, IsSomeAnd, Contains}
 use Rattle.std.specs.List.{AllByRecursion}
@@ -28,7 +28,7 @@ use Rattle.isle_blocks.proofs.PushedLists.{some_same}
 
 -- ---- new items
 
--- a binding that is no item, or that of a list of which this holds, behind which it stands, and is not bound yet
+-- a binding that is no item, or that of a list of which this holds, after which it stands, and is not bound yet
 abbrev pub IsAnew : (Path → Type 0) → List Binding → (bound : List ℕ) → BindingId → Type 0
 IsAnew P bs bound b = (source : BindingId) → slice_get bs b.0 ≡ Some (binding.Iterator source) → P (at (paths_of bs) source) × (at (paths_of bs) b ≡ Chosen (at (paths_of bs) source)) × (Contains bound b.0 → ⊥)
 
@@ -52,7 +52,7 @@ plain_anew P bs bound b none = λ source e. let bad = sym none ∙ ap list_befor
 
 -- ---- what may be needed
 
--- what is needed for a path is somewhere, but for what is behind a call that was made, and a list that holds an impure call was made
+-- what is needed for a path is somewhere, but for what is after a call that was made, and a list that holds an impure call was made
 abbrev mutual
   pub IsNeedable : Environment → (done : List Path) → Path → Type 0
   IsNeedable env done (Called term ps instance) = Contains done (Called term ps instance) ⊎ AreNeedable env done ps

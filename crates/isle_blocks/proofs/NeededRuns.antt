@@ -1,4 +1,4 @@
--- What is bound before bindings are read makes no call, and a run goes on behind it.
+-- What is bound before bindings are read makes no call, and a run goes on after it.
 use Rattle.std.proofs.Common.{◌≡◌, ℕ, List, [], ◌∷◌, ◌++◌, refl, sym, ap, ◌∙◌, subst, append_assoc}
 use Rattle.std.specs.List.{AllByRecursion}
 use Rattle.isle_core.specs.declared.BindingId.{BindingId}
@@ -79,7 +79,7 @@ pub then_same : (w : Went) (f g : Known → List Made → Went) → ((known : Kn
 then_same (Goes known made) f g h = h known made
 then_same (Ends o) f g h = refl
 
--- bind orders behind one another
+-- bind orders after one another
 bind_append : (env : Environment) (m : Meaning) (args : List Value) (ps : List Path) (xs ys : List BindingId) (known : Known) (made : List Made) → bind_all env m args ps (xs ++ ys) known made ≡ then_go (bind_all env m args ps xs known made) (bind_all env m args ps ys)
 bind_append env m args ps [] ys known made = refl
 bind_append env m args ps (x ∷ xs) ys known made =
@@ -92,7 +92,7 @@ pub before_still : (env : Environment) (m : Meaning) (args : List Value) (ps : L
 before_still env m args ps ns more known made h =
     bind_append env m args ps ns more known made ∙ ap (λ w. then_go w (bind_all env m args ps more)) (needs_still env m args ps ns known made h)
 
--- and behind them
+-- and after them
 pub behind_still : (env : Environment) (m : Meaning) (args : List Value) (ps : List Path) (more ns : List BindingId) (known : Known) (made : List Made) → AreStill env ps ns
     → bind_all env m args ps (more ++ ns) known made ≡ bind_all env m args ps more known made
 behind_still env m args ps more ns known made h =

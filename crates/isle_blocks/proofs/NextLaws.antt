@@ -1,4 +1,4 @@
--- What stands directly behind an ordered call: its inner value, or its item.
+-- What stands directly after an ordered call: its inner value, or its item.
 use Rattle.std.proofs.Common.{◌≡◌, ◌↔◌, ◌⊎◌, inl, inr, ⊎_elim, ℕ, ◌<◌, List, false, IsTrue, Option, Some, None, refl, sym, ap, ◌∙◌, subst}
 use Rattle.std.specs.Prelude.{slice_get, Contains}
 use Rattle.isle_core.specs.Calling.{may_be_nothing, is_several}
@@ -18,7 +18,7 @@ use Rattle.isle_blocks.specs.Followers.{FindsInners, FindsItems}
 use Rattle.isle_blocks.specs.Nest.{next_of, or_later}
 use Rattle.isle_blocks.proofs.ItemPaths.{item_path, item_at}
 
--- by the number of a call, the number of its inner value or of its item, where there is one behind it
+-- by the number of a call, the number of its inner value or of its item, where there is one after it
 pub record FindsNext (bs : List Binding) (next : ℕ → Option BindingId) : Type 0 where
   pub found : (c b : BindingId) → next c.0 ≡ Some b → ((slice_get bs b.0 ≡ Some (binding.MatchSome c)) ⊎ (slice_get bs b.0 ≡ Some (binding.Iterator c))) × (c.0 < b.0)
   pub inner : (source b : BindingId) → slice_get bs b.0 ≡ Some (binding.MatchSome source) → source.0 < b.0 → (e : BindingId) × (next source.0 ≡ Some e)

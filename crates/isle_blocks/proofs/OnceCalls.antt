@@ -1,6 +1,6 @@
 -- The ordered calls of a rule set that stands for rules: none stands twice, and those that answer several times hold an impure call.
-use Rattle.std.proofs.Common.{◌≡◌, ⊎_elim, ℕ, ◌+◌, List, [], ◌∷◌, ◌++◌, Bool, true, false, cond, refl, sym, ap, ◌∙◌, subst}
-use Rattle.std.specs.Prelude.{◌||◌, ◌&&◌, Contains}
+use Rattle.std.proofs.Common.{◌≡◌, ⊎_elim, ℕ, ◌+◌, List, [], ◌∷◌, ◌++◌, Bool, true, false, cond, refl, ap, ◌∙◌, subst}
+use Rattle.std.specs.Prelude.{◌||◌, ◌&&◌}
 use Rattle.std.specs.List.{AllByRecursion}
 use Rattle.std.proofs.lemmas.List.Elements.{Contains-append_cases}
 use Rattle.isle_core.specs.declared.TermId.{TermId}
@@ -18,28 +18,12 @@ use Rattle.isle_core.specs.OrderedCalls.{if_ordered, calls, calls_all, calls_bin
 use Rattle.isle_core.specs.Path.{Path, Called, Paths, paths_of}
 use Rattle.isle_core.specs.RightSide.{Places, term_path, call_path, path, paths, let_places}
 use Rattle.isle_core.specs.Rule.{Environment, Rule}
-use Rattle.isle_core.specs.StandsFor.{EachOnce, AreFirsts, no_more, again, first, IsFlat, AreFlat, StandsFor}
+use Rattle.isle_core.specs.StandsFor.{IsFlat, AreFlat, StandsFor}
 use Rattle.isle_core.specs.Tests.{rule_places}
-use Rattle.isle_core.proofs.Contained.{head_contained, tail_contained, contained_cases, none_contained}
+use Rattle.isle_core.proofs.Contained.{contained_cases, none_contained}
+use Rattle.isle_core.proofs.FirstItems.{among_firsts, firsts_once}
 use Rattle.isle_blocks.specs.CallsOnce.{HasCallsOnce}
 use Rattle.isle_blocks.proofs.CalledItems.{AreLate}
-
--- ---- firsts
-
-firsts_from : {seen xs ys : List Path} (p : Path) → AreFirsts seen xs ys → Contains ys p → Contains xs p
-firsts_from p (no_more seen) k = k
-firsts_from p (again seen x xs ys c h) k = tail_contained x xs p (firsts_from p h k)
-firsts_from p (first seen x xs ys c h) k = ⊎_elim (λ (e : x ≡ p). subst (Contains (x ∷ xs)) e (head_contained x xs)) (λ j. tail_contained x xs p (firsts_from p h j)) (contained_cases x ys p k)
-
-firsts_new : {seen xs ys : List Path} (p : Path) → AreFirsts seen xs ys → Contains ys p → Contains seen p → ⊥
-firsts_new p (no_more seen) k j = none_contained p k
-firsts_new p (again seen x xs ys c h) k j = firsts_new p h k j
-firsts_new p (first seen x xs ys c h) k j = ⊎_elim (λ (e : x ≡ p). c (subst (Contains seen) (sym e) j)) (λ i. firsts_new p h i (tail_contained x seen p j)) (contained_cases x ys p k)
-
-firsts_once : {seen xs ys : List Path} → AreFirsts seen xs ys → EachOnce ys
-firsts_once (no_more seen) = tt
-firsts_once (again seen x xs ys c h) = firsts_once h
-firsts_once (first seen x xs ys c h) = (λ k. firsts_new x h k (head_contained x seen), firsts_once h)
 
 -- ---- right sides
 
@@ -97,7 +81,7 @@ mutual
 -- ---- rule sets
 
 rule_once : (env : Environment) (ps : List Path) (r : Rule) (n : ℕ) (f : FlatRule) → IsFlat env ps r n f → HasCallsOnce env ps f
-rule_once env ps r n f h = record { once = firsts_once h.ordered; late = λ q k. calls_late env r.rhs (rule_places env r) n q (firsts_from q h.ordered k) }
+rule_once env ps r n f h = record { once = firsts_once h.ordered; late = λ q k. calls_late env r.rhs (rule_places env r) n q (among_firsts q h.ordered k) }
 
 rules_once : (env : Environment) (ps : List Path) (rs : List Rule) (n : ℕ) (fs : List FlatRule) → AreFlat env ps rs n fs → AllByRecursion (HasCallsOnce env ps) fs
 rules_once env ps [] n [] h = tt

@@ -40,7 +40,7 @@ abbrev pub AreOpenable : Setting → List ℕ → List BindingId → Type 0
 AreOpenable s bound [] = Unit {0}
 AreOpenable s bound (b ∷ more) = IsOpenable s bound (at (paths_in s) b) (slice_get s.bindings b.0) × AreOpenable s (bound ++ b.0 ∷ []) more
 
--- orders behind one another
+-- orders after one another
 pub openable_append : (s : Setting) (xs ys : List BindingId) (bound : List ℕ) → AreOpenable s bound xs → AreOpenable s (bound_by bound xs) ys → AreOpenable s bound (xs ++ ys)
 openable_append s [] ys bound h k = k
 openable_append s (x ∷ xs) ys bound h k = (h.0, openable_append s xs ys (bound ++ x.0 ∷ []) h.1 k)

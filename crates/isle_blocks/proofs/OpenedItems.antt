@@ -60,7 +60,7 @@ pub record IsNewStep (s : Setting) (bound : List ℕ) (step : SeenStep) : Type 0
   pub items : (more : List ℕ) → Covers s.bindings bound more → HasNewItemsFrom s more (alone step)
   pub plain : AreNoItems s.bindings step.0
 
--- so of what is done behind an order
+-- so of what is done after an order
 abbrev pub DoesAnew : Setting → (bound : List ℕ) → Control → Type 0
 DoesAnew s bound c = (more : List ℕ) → Covers s.bindings bound more → ControlNewItems s more c
 

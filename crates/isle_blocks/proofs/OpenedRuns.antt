@@ -76,7 +76,7 @@ module _ (env : Environment) (m : Meaning) (args : List Value) where
   reads_more : (before : List Path) (q : Path) (test : Known → Bool) → ReadsOnly before test → ReadsOnly (q ∷ before) test
   reads_more before q test h r place known new = h r place known (λ c. new (cons_later q r before c))
 
-  -- lists in order behind those leave it alone
+  -- lists in order after those leave it alone
   pub order_free : (qs before : List Path) (test : Known → Bool) → AreListsInOrder before qs → ReadsOnly before test → IsFree env m args qs test
   order_free [] before test order h = tt
   order_free (q ∷ qs) before test order h = (λ known place. h q place known order.1, order_free qs (q ∷ before) test order.2 (reads_more before q test h))

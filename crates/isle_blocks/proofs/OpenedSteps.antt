@@ -61,7 +61,7 @@ within_second P xs ys h k c = h k (Contains-append_right xs ys k c)
 abbrev pub MakesOnly : (several : Bool) → Environment → List Path → (ℕ → Type 0) → SeenStep → Type 0
 MakesOnly several env ps P s = (made : List ℕ) → Within P made → Within P (after_control several env ps (made ++ occurrences env ps s.0) s.1)
 
--- so of what is done behind an order
+-- so of what is done after an order
 abbrev pub DoesOnly : (several : Bool) → Environment → List Path → (ℕ → Type 0) → Control → Type 0
 DoesOnly several env ps P c = (made : List ℕ) → Within P made → Within P (after_control several env ps made c)
 
@@ -137,7 +137,7 @@ module _ (s : Setting) where
       open_lawful (slice_get s.bindings b.0) bound made (calls order) b (opening s.bindings order c) refl h.0 new
       (opening_lawful order c (bound ++ b.0 ∷ []) (made ++ first) h.1 (new_first made first (calls order) new) (subst (λ ks. IsLawfulControl s (bound_by (bound ++ b.0 ∷ []) order) ks c Stop) (sym (append_assoc made first (calls order))) k))
 
-  -- what may be opened, before what is lawful behind it
+  -- what may be opened, before what is lawful after it
   pub opened_lawful : (several : Bool) → gives_several s ≡ several → (order : List BindingId) (c : Control) (bound made : List ℕ) → AreOpenable s bound order → AreNew made (calls order) → IsLawfulControl s (bound_by bound order) (made ++ calls order) c Stop
       → IsLawfulAlone s bound made (opened several s.bindings order c)
   opened_lawful true is order c bound made h new k = opening_lawful order c bound made h new k

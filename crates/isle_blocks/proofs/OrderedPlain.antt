@@ -53,7 +53,7 @@ PlainBinds bs next (c ∷ cs) bound = NoItems bs (needs bs bound (parameters_of 
 -- each item that is read has a list that was opened, or that is a call that was made
 module _ (env : Environment) (t : Term) (bs : List Binding) (fits : (p : Path) → Contains (paths_of bs) (Chosen p) → is_several (kind_of t.kind) ≡ true) (tests : List Test) (next : ℕ → Option BindingId) (f : FindsNext bs next) (once : EachOnce (paths_of bs)) (all opened : List Path)
     (early : (q : Path) → Contains all q → holds_impure env q ≡ false → Contains opened q) (start : List ℕ) (items : ItemsBound bs opened start) where
-  -- behind the calls that were made
+  -- after the calls that were made
   pub items_made : (done : List Path) (bound : List ℕ) → Keeps start bound → IsBehind (paths_of bs) tests done bound → ItemsBound bs (opened ++ done) bound
   items_made done bound keeps k = λ q c b e. ⊎_elim (λ j. keeps b.0 (items q j b e)) (λ j. k.item b q e j) (Contains-append_cases opened done q c)
 

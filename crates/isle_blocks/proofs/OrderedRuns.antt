@@ -72,7 +72,7 @@ behind_given : (w : Went) (g : Given) (made : List Made) (next : Known → Given
 behind_given (Goes known calls) g made next = refl
 behind_given (Ends o) g made next = refl
 
--- calls behind one another
+-- calls after one another
 pub behind_then : (w : Went) (go : Known → List Made → Went) (g : Given) (next : Known → Given → Given) → behind_calls (then_go w go) g next ≡ behind_calls w g (λ k so. behind_calls (go k so.calls) so next)
 behind_then (Goes known made) go g next = behind_given (go known made) g made next
 behind_then (Ends o) go g next = refl

@@ -1,4 +1,4 @@
--- Bind orders behind one another.
+-- Bind orders after one another.
 use Rattle.std.proofs.Common.{◌≡◌, ℕ, ◌+◌, ◌<◌, zero, suc, List, [], ◌∷◌, ◌++◌, length, drop, get_or, true, false, cond, Option, Some, refl, sym, ap, ◌∙◌, append_assoc, subst}
 use Rattle.std.specs.Prelude.{slice_get}
 use Rattle.std.proofs.lemmas.List.{drop_more, append-nil}
@@ -49,7 +49,7 @@ pub needed_none : (bs : List Binding) (depth : ℕ) (bound : List ℕ) (b : Bind
 needed_none bs zero bound b is = refl
 needed_none bs (suc depth) bound b is = ap (λ c. cond c [] (unbound bs (needed bs depth) bound b (slice_get bs b.0))) is
 
--- ---- loops: what is left to be put, behind what was
+-- ---- loops: what is left to be put, after what was
 
 abbrev pub Left : (all left : List BindingId) → (first old : List ℕ) → (begun before : List BindingId) → Type 0
 Left all left first old begun before = (new : List ℕ) (after : List BindingId) → Pushes left old new before after → Pushes all first new begun after

@@ -39,7 +39,8 @@ use Rattle.isle_blocks.specs.declared.fields.Shown.{Shown}
 use Rattle.isle_blocks.specs.Fields.{FieldKey, FindsFields, shows}
 use Rattle.isle_blocks.specs.Needed.{is_bound, needs}
 use Rattle.isle_blocks.specs.Nest.{Behind, alone, opening, opened, binds, left_calls, left_item, items_left, left_items, behind_lists, last_step, all_matched, all_equated, rule_step}
-use Rattle.isle_blocks.specs.Several.{HasItsLists, AreEarlyLists}
+use Rattle.isle_blocks.specs.Added.{AreEarlyLists}
+use Rattle.isle_blocks.specs.Several.{HasItsLists}
 use Rattle.isle_blocks.proofs.FieldPlaces.{AreFieldsTyped}
 use Rattle.isle_blocks.proofs.FreshLists.{ordered_plain}
 use Rattle.isle_blocks.proofs.ItemPaths.{item_path}
@@ -59,7 +60,7 @@ use Rattle.isle_blocks.proofs.OrderedPlain.{no_items, items_made, early_made, la
 use Rattle.isle_blocks.proofs.PartRuns.{ordered_run}
 use Rattle.isle_blocks.proofs.RuleLists.{Within, last_lists, equated_lists, matched_lists, rule_lists, early_of, early_in, early_from, all_opened}
 
--- tests behind one another
+-- tests after one another
 and_cond : (a b : Bool) (x g : Given) → cond a (cond b x g) g ≡ cond (a && b) x g
 and_cond true b x g = refl
 and_cond false b x g = refl
@@ -93,7 +94,7 @@ module _ (env : Environment) (t : Term) (bs : List Binding) (found : FieldKey �
   abbrev all_at : Meaning → List Value → Known → List Test → Bool
   all_at m args known xs = all_hold env m (value_at env m args known) xs
 
-  -- a step loops over these lists behind those that were opened, and adds there where these tests hold what the rule's part adds
+  -- a step loops over these lists after those that were opened, and adds there where these tests hold what the rule's part adds
   pub record Adds (opened' : List Path) (step : SeenStep) (left : List Test) (qs : List Path) : Type 0 where
     pub adds : Meaning → List Value → Known → Given → Given
     pub run : (m : Meaning) (args : List Value) (known : Known) (g : Given) → several_run env m args ps (alone step) known g ≡ each_choice env m args qs known g (λ now so. cond (all_at m args now left) (adds m args now so) so)
@@ -106,7 +107,7 @@ module _ (env : Environment) (t : Term) (bs : List Binding) (found : FieldKey �
   all_both [] ys a b = b
   all_both (x ∷ xs) ys a b = (a.0, all_both xs ys a.1 b)
 
-  -- behind what is needed for a test, the test, and inside it what adds so
+  -- after what is needed for a test, the test, and inside it what adds so
   test_adds : (bound : List ℕ) (opened' : List Path) (ns : List BindingId) (c : Control) (inner : SeenStep) (x : Test) (left : List Test) (qs : List Path) → AreOpenable (setting env t bs) bound ns → AreStill env ps ns → OpensOrder env t bs early bound opened' ns
       → ((m : Meaning) (args : List Value) (known : Known) (g : Given) → several_control env m args ps c known g ≡ cond (holds_at m args known x) (several_run env m args ps (alone inner) known g) g)
       → ((m : Meaning) (args : List Value) → ReadsOnly env m args (came_behind opened' (loops bs ns)) (λ known. holds_at m args known x))
@@ -140,7 +141,7 @@ module _ (env : Environment) (t : Term) (bs : List Binding) (found : FieldKey �
       ap (λ v. equal_held v (value_at env m args (choosing known q place) (at ps b))) (choosing_within env m args (at ps a) opened' q place known new one)
       ∙ ap (equal_held (value_at env m args known (at ps a))) (choosing_within env m args (at ps b) opened' q place known new other)
 
-  -- behind these tests
+  -- after these tests
   pub record IsAt (behind : List Test) (bound : List ℕ) (opened' : List Path) : Type 0 where
     pub within : IsWithin env ps behind bound
     pub opens : HasOpened bs bound opened'
@@ -153,11 +154,11 @@ module _ (env : Environment) (t : Term) (bs : List Binding) (found : FieldKey �
   each_came : (opened' qs : List Path) → ((q : Path) → Contains opened' q → Contains early q) → AllByRecursion (Contains early) qs → (q : Path) → Contains (came_behind opened' qs) q → Contains early q
   each_came opened' qs e k q c = ⊎_elim (λ j. e q j) (λ j. all_contained qs k q j) (came_from opened' qs q c)
 
-  -- behind an order
+  -- after an order
   at_order : (behind : List Test) (bound : List ℕ) (opened' : List Path) (ns : List BindingId) → IsAt behind bound opened' → AreStill env ps ns → OpensOrder env t bs early bound opened' ns → IsAt behind (bound_by bound ns) (came_behind opened' (loops bs ns))
   at_order behind bound opened' ns k still opens = record { within = within_needs env ps behind ns bound still k.within; opens = opens.opens; each = each_came opened' (loops bs ns) k.each opens.each }
 
-  -- what is needed at a path that is read behind tests
+  -- what is needed at a path that is read after tests
   needed_at : (behind : List Test) (p : Path) → StandsOn env behind [] p → ListsWithin all p → NeedLists env early p
   needed_at behind p stands within = need_lists env behind [] all early (λ q c e. early_in env all q c e) (λ q c. absurd (none_contained q c)) p stands within
 
@@ -266,7 +267,7 @@ module _ (env : Environment) (t : Term) (bs : List Binding) (found : FieldKey �
       (item_needed l k.0 (among (at ps l) (head_contained (at ps l) (map (at ps) ls))) within.0 called refl (items l.0) refl)
       (items_needed_at ls k.1 (λ q c. among q (tail_contained (at ps l) (map (at ps) ls) q c)) within.1)
 
-  -- behind them the rule's part
+  -- after them the rule's part
   part_same : (bound : List ℕ) (opened' : List Path) → IsAt tests bound opened' → ((q : Path) → Contains early q → Contains opened' q) → (m : Meaning) (args : List Value) (known : Known) (g : Given) → all_at m args known tests ≡ true
       → several_run env m args ps (alone (opening bs (behind_lists bs next bound f) (Return f.pos f.result))) known g ≡ flat_part env m args ps f known g
   part_same bound opened' k ends m args known g holds' =

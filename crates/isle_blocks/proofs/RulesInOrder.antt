@@ -110,7 +110,7 @@ in_order_keeps (g ∷ fs) f c = insert_keeps g f (by_priority fs) (⊎_elim (λ 
 
 -- rules with something beside each, in the order of the rules
 module _ {A : Type 0} (rule_of : A → FlatRule) where
-  -- one behind the higher ones, and before all others
+  -- one after the higher ones, and before all others
   abbrev pub insert_by : A → List A → List A
   insert_by x [] = x ∷ []
   insert_by x (y ∷ ys) = cond (is_above (rule_of y) (rule_of x)) (y ∷ insert_by x ys) (x ∷ y ∷ ys)
@@ -133,7 +133,7 @@ module _ {A : Type 0} (rule_of : A → FlatRule) where
   order_of [] = refl
   order_of (x ∷ xs) = insert_of x (order_by xs) ∙ ap (insert_rule (rule_of x)) (order_of xs)
 
-  insert_by_has : (x y : A) (ys : List A) → Contains (insert_by x ys) y → (x ≡ y) ⊎ Contains ys y
+  pub insert_by_has : (x y : A) (ys : List A) → Contains (insert_by x ys) y → (x ≡ y) ⊎ Contains ys y
   insert_by_has x y [] c = contained_cases x [] y c
   insert_by_has x y (z ∷ ys) c = pick (is_above (rule_of z) (rule_of x)) c (λ j. insert_by_has x y ys j)
     where

@@ -37,7 +37,8 @@ use Rattle.isle_blocks.specs.Fields.{FieldKey, FindsFields, shows}
 use Rattle.isle_blocks.specs.Needed.{list_before, needs}
 use Rattle.isle_blocks.specs.Nest.{Shows, Behind, alone, option_before, open_by, opening, last_binds, last_step, all_matched, all_equated, rule_step}
 use Rattle.isle_blocks.specs.Chain.{chain_steps}
-use Rattle.isle_blocks.specs.Several.{HasItsLists, AreEarlyLists, flats_add, KnowsOnly, AddAnew}
+use Rattle.isle_blocks.specs.Added.{AreEarlyLists, flats_add, KnowsOnly, AddAnew}
+use Rattle.isle_blocks.specs.Several.{HasItsLists}
 use Rattle.isle_blocks.proofs.FieldPlaces.{AreFieldsTyped}
 use Rattle.isle_blocks.proofs.LawSerializable.{rule_good}
 use Rattle.isle_blocks.proofs.NextLaws.{FindsNext}
@@ -46,7 +47,7 @@ use Rattle.isle_blocks.proofs.OpenedSteps.{Within, only_none}
 use Rattle.isle_blocks.proofs.RuleLists.{rule_lists}
 use Rattle.isle_blocks.proofs.RuleRuns.{rule_run, rule_early}
 
--- ---- what is known behind bindings
+-- ---- what is known after bindings
 
 -- a run goes on, and then this holds
 abbrev WentOn : (Known → Type 0) → Went → Type 0
@@ -98,7 +99,7 @@ module _ (env : Environment) (m : Meaning) (args : List Value) where
       (λ k d p. check_knows (at ps b) k d ks other.0 p))
       (λ k d p. bind_knows ps order k d ks other.1 (λ n c. w n (Contains-append_right (occurrence_at env (at ps b)) (occurrences env ps order) n c)) p)
 
-  -- what a step adds, and then what the steps behind it add
+  -- what a step adds, and then what the steps after it add
   step_then : (P : Known → Type 0) (w : Went) (g : Given) (one rest : Known → Given → Given) (goal : Given → Given) → WentOn P w → ((now : Known) (so : Given) → P now → rest now so ≡ goal so) → behind_calls w g (λ now so. rest now (one now so)) ≡ goal (behind_calls w g one)
   step_then P (Goes known made) g one rest goal p h = h known (one known (record { results = g.results; calls = made })) p
   step_then P (Ends o) g one rest goal p h = absurd p

@@ -15,7 +15,7 @@ no_tests [] [] = true
 no_tests [] (e ∷ es) = false
 no_tests (c ∷ cs) es = false
 
--- the steps of rules in order; of a term that answers once, up to the first rule without tests: nothing behind it is reached
+-- the steps of rules in order; of a term that answers once, up to the first rule without tests: nothing after it is reached
 abbrev pub chain_steps : (several : Bool) → List Binding → Shows → (next items : ℕ → Option BindingId) → List FlatRule → List SeenStep
 chain_steps several bs shows next items [] = []
 chain_steps several bs shows next items (f ∷ fs) =

@@ -6,7 +6,7 @@ use Rattle.isle_core.specs.declared.rule_sets.Binding.TheVariants as binding
 use Rattle.isle_blocks.specs.declared.followers.Following.{Following}
 use Rattle.isle_blocks.specs.declared.followers.Following.TheVariants as following
 
--- what stands behind a source: its inner value, or its item
+-- what stands after a source: its inner value, or its item
 abbrev pub follower : Following → BindingId → Binding
 follower following.Inner source = binding.MatchSome source
 follower following.Item source = binding.Iterator source
@@ -45,7 +45,7 @@ item_source (binding.ExtractStruct source field) = None
 item_source (binding.MakeSome inner) = None
 item_source (binding.MatchTuple source field) = None
 
--- what such a binding stands behind
+-- what such a binding stands after
 abbrev pub followed : Following → Binding → Option BindingId
 followed following.Inner b = inner_source b
 followed following.Item b = item_source b
@@ -59,7 +59,7 @@ earlier place (Some source) = if ltb source.0 place then Some source else None
 abbrev pub source_at : Following → ℕ → Binding → Option BindingId
 source_at kind place b = earlier place (followed kind b)
 
--- by the number of a source, the number of what follows it, where there is one behind it
+-- by the number of a source, the number of what follows it, where there is one after it
 pub record FindsFollowers (kind : Following) (bs : List Binding) (followers : ℕ → Option BindingId) : Type 0 where
   pub found : (c : ℕ) (b : BindingId) → followers c ≡ Some b → (slice_get bs b.0 ≡ Some (follower kind (record { 0 = c }))) × (c < b.0)
   pub all : (source b : BindingId) → slice_get bs b.0 ≡ Some (follower kind source) → source.0 < b.0 → (e : BindingId) × (followers source.0 ≡ Some e)

@@ -8,5 +8,6 @@ pub mod Tables
 pub mod Chain
 pub mod CallsOnce
 pub mod Several
+pub mod Added
 pub mod RuleTests
 pub mod AllTests

@@ -51,7 +51,7 @@ abbrev pub list_before : Option Binding → Option BindingId
 list_before None = None
 list_before (Some b) = item_source b
 
--- a binding as it is bound: an item directly behind its list
+-- a binding as it is bound: an item directly after its list
 abbrev pub with_list : Option BindingId → BindingId → List BindingId
 with_list None b = b ∷ []
 with_list (Some source) b = source ∷ b ∷ []

@@ -19,7 +19,7 @@ abbrev pub or_later : Option BindingId → Option BindingId → Option BindingId
 or_later None later = later
 or_later (Some b) later = Some b
 
--- what stands directly behind a call: its inner value, or its item
+-- what stands directly after a call: its inner value, or its item
 abbrev pub next_of : (inners items : ℕ → Option BindingId) → ℕ → Option BindingId
 next_of inners items n = or_later (inners n) (items n)
 
@@ -28,7 +28,7 @@ abbrev pub with_inner : Option BindingId → BindingId → List BindingId
 with_inner None c = c ∷ []
 with_inner (Some b) c = c ∷ b ∷ []
 
--- a call behind what it is made on, and what stands behind it
+-- a call after what it is made on, and what stands after it
 abbrev pub call_binds : List Binding → (ℕ → Option BindingId) → List ℕ → BindingId → List BindingId
 call_binds bs next bound c = needs bs bound (parameters_of (slice_get bs c.0)) ++ with_inner (next c.0) c
 
@@ -37,7 +37,7 @@ abbrev pub binds : List Binding → (ℕ → Option BindingId) → List ℕ → 
 binds bs next bound [] = []
 binds bs next bound (c ∷ cs) = call_binds bs next bound c ++ binds bs next (bound_by bound (call_binds bs next bound c)) cs
 
--- a call is bound, and what stands behind it
+-- a call is bound, and what stands after it
 abbrev pub bound_with : List ℕ → BindingId → Option BindingId → Bool
 bound_with bound c None = is_bound bound c
 bound_with bound c (Some b) = is_bound bound c && is_bound bound b
@@ -128,21 +128,21 @@ Shows = BindingId → Constraint → List (Option BindingId)
 abbrev pub Behind : Type 0
 Behind = List ℕ → SeenStep
 
--- a match of one arm, which binds the parts that are shown, behind what its source is read with
+-- a match of one arm, which binds the parts that are shown, after what its source is read with
 abbrev pub matched : (several : Bool) → List Binding → Shows → List ℕ → BindingId × Constraint → Behind → SeenStep
 matched several bs shows bound c inner =
     opened several bs (needs bs bound (c.0 ∷ [])) (Match c.0 (Arm c.1 (shows c.0 c.1) (alone (inner (bound_within (bound_by bound (needs bs bound (c.0 ∷ []))) (shows c.0 c.1)))) NoArm))
 
--- an equality, behind what its sides are read with
+-- an equality, after what its sides are read with
 abbrev pub equated : (several : Bool) → List Binding → List ℕ → BindingId × BindingId → Behind → SeenStep
 equated several bs bound e inner = opened several bs (needs bs bound (e.0 ∷ e.1 ∷ [])) (Equal e.0 e.1 (alone (inner (bound_by bound (needs bs bound (e.0 ∷ e.1 ∷ []))))))
 
--- matches, each round those behind it
+-- matches, each round those after it
 abbrev pub all_matched : (several : Bool) → List Binding → Shows → List (BindingId × Constraint) → Behind → Behind
 all_matched several bs shows [] inner bound = inner bound
 all_matched several bs shows (c ∷ cs) inner bound = matched several bs shows bound c (all_matched several bs shows cs inner)
 
--- equalities, each round those behind it
+-- equalities, each round those after it
 abbrev pub all_equated : (several : Bool) → List Binding → List (BindingId × BindingId) → Behind → Behind
 all_equated several bs [] inner bound = inner bound
 all_equated several bs (e ∷ es) inner bound = equated several bs bound e (all_equated several bs es inner)

@@ -7,7 +7,7 @@ use Rattle.isle_core.specs.declared.rule_sets.FlatRule.{FlatRule}
 abbrev pub is_above : FlatRule → FlatRule → Bool
 is_above f g = is_lt (int_cmp g.prio f.prio)
 
--- a rule behind the higher ones of rules that are in order, and before all others
+-- a rule after the higher ones of rules that are in order, and before all others
 abbrev pub insert_rule : FlatRule → List FlatRule → List FlatRule
 insert_rule f [] = f ∷ []
 insert_rule f (g ∷ gs) = if is_above g f then g ∷ insert_rule f gs else f ∷ g ∷ gs

@@ -15,7 +15,7 @@ inners_in t = get nat_cmp t.inners.now
 abbrev pub items_in : Tables → ℕ → Option BindingId
 items_in t = get nat_cmp t.items.now
 
--- what stands directly behind ordered calls
+-- what stands directly after ordered calls
 abbrev pub next_in : Tables → ℕ → Option BindingId
 next_in t = next_of (inners_in t) (items_in t)
 

@@ -4,6 +4,7 @@ ghost use Rattle.isle_core.specs.declared.types.ReturnKind.{ReturnKind};
 ghost use Rattle.isle_core.specs.declared.types.Term.{Term};
 ghost use Rattle.isle_core.specs.Value.{Value};
 ghost use Rattle.isle_core.specs.Meaning.{Meaning};
+ghost use Rattle.isle_core.specs.ApartTests.{AreTestsApart};
 ghost use Rattle.isle_core.specs.Calling.{is_several, kind_of};
 ghost use Rattle.isle_core.specs.Rule.{Environment};
 ghost use Rattle.isle_core.specs.Path.{paths_of};
@@ -21,7 +22,7 @@ ghost use Rattle.isle_blocks.specs.CallsOnce.{HasCallsOnce};
 ghost use Rattle.isle_blocks.specs.Chain as Chain;
 ghost use Rattle.isle_blocks.specs.RuleTests.{TestsRules};
 ghost use Rattle.isle_blocks.specs.AllTests.{MakesTests};
-ghost use Rattle.isle_blocks.specs.Several.{HasItsLists, AddsSeveral};
+ghost use Rattle.isle_blocks.specs.Several.{HasItsLists, GivesSeveral};
 
 use crate::fields::fields_of;
 use crate::followers::{Following, followers_of};
@@ -45,7 +46,8 @@ fn chain_steps(
     rules: &[&FlatRule],
 ) -> Result<Vec<EvalStep>, AllocError>
     ensures { IfOk result (λ steps. map BlockViews.step steps.items ≡
-        Chain.chain_steps tables.now.several tables.now.bindings.now (shows_in tables.now) (next_in tables.now)
+        Chain.chain_steps tables.now.several tables.now.bindings.now (shows_in tables.now)
+        (next_in tables.now)
         (items_in tables.now) (map (λ f. f.now) rules.now)) }
 {
     let mut steps = Vec::new(alloc);
@@ -62,7 +64,8 @@ fn chain_steps(
 #[tactic(auto, using(isle_core::proofs::SeesBlocks::sees_blocks))]
 fn chained(alloc: Global, tables: &Tables<'_>, rules: &[FlatRule]) -> Result<Block, AllocError>
     ensures { IfOk result (λ b. BlockViews.block b ≡
-        Chain.chain tables.now.several tables.now.bindings.now (shows_in tables.now) (next_in tables.now)
+        Chain.chain tables.now.several tables.now.bindings.now (shows_in tables.now)
+        (next_in tables.now)
         (items_in tables.now) rules.now) }
 {
     let order = in_order(alloc, rules)?;
@@ -75,29 +78,38 @@ fn chained(alloc: Global, tables: &Tables<'_>, rules: &[FlatRule]) -> Result<Blo
 /// Makes the block of a rule set: a step for each rule, from the highest priority down, and equal ones in their order.
 /// Where the term isn't `multi`, rules are tried in turn until one holds (`isle_core/specs/BlockRun.antt`); `iterator`
 /// says that it is, and then each rule adds its results, its lists being gone through in loops of its own
-/// (`isle_core/specs/SeveralRun.antt`). A rule's calls are made behind its tests, in order. The only error is want of
-/// memory.
+/// (`isle_core/specs/SeveralRun.antt`). A rule's calls are made after its tests, in order. What the block gives is
+/// promised where of the constraints that rules put on one path at most one holds (`isle_core/specs/ApartTests.antt`).
+/// The only error is want of memory.
 pub fn serialize(alloc: Global, rules: &RuleSet, iterator: bool) -> Result<Block, OutOfMemory>
     ensures means { IfOk result (λ b.
         (env : Environment) (m : Meaning) (t : Term) (args : ListOf Value) (kind : ReturnKind) →
-        IsSerializable env t rules.now → is_several (kind_of t.kind) ≡ iterator → is_several (kind_of t.kind) ≡ false →
+        IsSerializable env t rules.now → is_several (kind_of t.kind) ≡ iterator
+        → is_several (kind_of t.kind) ≡ false →
+        AreTestsApart env m args rules.now →
         block_outcome env m args (paths_of rules.now.bindings) (BlockViews.block b) kind ≡
         set_outcome env m args (paths_of rules.now.bindings) rules.now.rules kind) }
-    ensures positions { IfOk result (λ b. (env : Environment) (m : Meaning) (t : Term) (args : ListOf Value) →
-        IsSerializable env t rules.now → is_several (kind_of t.kind) ≡ iterator → is_several (kind_of t.kind) ≡ false →
-        block_position env m args (paths_of rules.now.bindings) (BlockViews.block b) nothing_known [] ≡
+    ensures positions { IfOk result (λ b.
+        (env : Environment) (m : Meaning) (t : Term) (args : ListOf Value) →
+        IsSerializable env t rules.now → is_several (kind_of t.kind) ≡ iterator
+        → is_several (kind_of t.kind) ≡ false →
+        AreTestsApart env m args rules.now →
+        block_position env m args (paths_of rules.now.bindings) (BlockViews.block b) nothing_known
+        [] ≡
         set_position env m args (paths_of rules.now.bindings) rules.now.rules) }
     ensures tests { IfOk result (λ b. TestsRules rules.now (BlockViews.block b)) }
     ensures makes { IfOk result (λ b. MakesTests iterator rules.now (BlockViews.block b)) }
-    ensures lawful { IfOk result (λ b. (env : Environment) (t : Term) → IsSerializable env t rules.now →
+    ensures lawful { IfOk result (λ b.
+        (env : Environment) (t : Term) → IsSerializable env t rules.now →
         (is_several (kind_of t.kind) ≡ true →
         AllByRecursion (HasCallsOnce env (paths_of rules.now.bindings)) rules.now.rules) →
         is_several (kind_of t.kind) ≡ iterator →
         IsLawfulBlock (setting env t rules.now.bindings) (BlockViews.block b)) }
-    ensures several { IfOk result (λ b. (env : Environment) (t : Term) → IsSerializable env t rules.now →
+    ensures several { IfOk result (λ b.
+        (env : Environment) (t : Term) → IsSerializable env t rules.now →
         is_several (kind_of t.kind) ≡ iterator → is_several (kind_of t.kind) ≡ true →
         AllByRecursion (HasItsLists env (paths_of rules.now.bindings)) rules.now.rules →
-        AddsSeveral env rules.now (BlockViews.block b)) }
+        GivesSeveral env rules.now (BlockViews.block b)) }
     ensures single { IfOk result (λ b. HasSingleArms (BlockViews.block b)) }
 {
     let fields = fields_of(alloc, rules.bindings.as_slice())?;

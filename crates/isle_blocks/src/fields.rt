@@ -75,9 +75,11 @@ fn longer(known: Option<usize>, field: TupleIndex) -> usize
     }
 }
 
-/// Finds the binding of each field that has one behind its source. The only error is want of memory.
+/// Finds the binding of each field that has one after its source. The only error is want of memory.
 pub fn fields_of(alloc: Global, bindings: &[Binding]) -> Result<Fields, AllocError>
-    ensures { IfOk result (λ fields. FieldsOf.FindsFields bindings.now (get FieldsOf.key_cmp fields.found) (get FieldsOf.shown_cmp fields.counts)) }
+    ensures { IfOk result (λ fields.
+        FieldsOf.FindsFields bindings.now (get FieldsOf.key_cmp fields.found)
+        (get FieldsOf.shown_cmp fields.counts)) }
 {
     let mut found = BTreeMap::new(alloc);
     let mut counts = BTreeMap::new(alloc);
@@ -113,7 +115,10 @@ impl Fields {
         shown: Shown,
         count: usize,
     ) -> Result<Vec<Option<BindingId>>, AllocError>
-        ensures { IfOk result (λ places. places.items ≡ FieldsOf.first_places (λ field. get FieldsOf.key_cmp self.now.found (shown, field)) count) }
+        ensures { IfOk result (λ places.
+            places.items
+            ≡ FieldsOf.first_places (λ field. get FieldsOf.key_cmp self.now.found (shown, field))
+            count) }
     {
         let mut places = Vec::new(alloc);
         for field in 0..count {
@@ -130,7 +135,10 @@ impl Fields {
         source: BindingId,
         constraint: Constraint,
     ) -> Result<Vec<Option<BindingId>>, AllocError>
-        ensures { IfOk result (λ places. places.items ≡ FieldsOf.places_of (get FieldsOf.key_cmp self.now.found) (get FieldsOf.shown_cmp self.now.counts) (FieldsOf.shown_by source constraint)) }
+        ensures { IfOk result (λ places.
+            places.items
+            ≡ FieldsOf.places_of (get FieldsOf.key_cmp self.now.found)
+            (get FieldsOf.shown_cmp self.now.counts) (FieldsOf.shown_by source constraint)) }
     {
         match shown_by(source, constraint) {
             None => Ok(Vec::new(alloc)),

@@ -1,4 +1,4 @@
-//! The inner values of calls and the items of lists, by the numbers of what they stand behind.
+//! The inner values of calls and the items of lists, by the numbers of what they stand after.
 
 ghost use Rattle.std.specs.Prelude.{◌≡◌, IfOk};
 ghost use Rattle.std.specs.Ordering.{nat_cmp};
@@ -9,7 +9,7 @@ use isle_core::{Binding, BindingId};
 use std::alloc::{AllocError, Global};
 use std::collections::BTreeMap;
 
-/// What stands behind a source: its inner value, or its item.
+/// What stands after a source: its inner value, or its item.
 #[derive(Clone, Copy)]
 pub enum Following {
     Inner,
@@ -92,7 +92,8 @@ pub fn followers_of(
     bindings: &[Binding],
     following: Following,
 ) -> Result<BTreeMap<usize, BindingId>, AllocError>
-    ensures { IfOk result (λ followers. Followers.FindsFollowers following bindings.now (get nat_cmp followers)) }
+    ensures { IfOk result (λ followers.
+        Followers.FindsFollowers following bindings.now (get nat_cmp followers)) }
 {
     let mut followers = BTreeMap::new(alloc);
     for (place, binding) in bindings.iter().enumerate() {

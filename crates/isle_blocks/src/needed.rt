@@ -14,13 +14,14 @@ use isle_scope::Scope;
 use std::alloc::AllocError;
 use std::slice;
 
-/// Binds a binding, behind what is there. The only error is want of memory.
+/// Binds a binding, after what is there. The only error is want of memory.
 pub fn push_one(
     bound: &mut Scope,
     binding: BindingId,
     order: &mut Vec<BindingId>,
 ) -> Result<(), AllocError>
-    ensures { OnOk result (Pushes (binding ∷ []) bound.old bound.new order.old.items order.new.items) }
+    ensures { OnOk result
+        (Pushes (binding ∷ []) bound.old bound.new order.old.items order.new.items) }
 {
     order.push(binding)?;
     bound.bind(binding.index())?;
@@ -29,7 +30,9 @@ pub fn push_one(
 
 // Returns the parts of a struct, where it has any.
 fn some_parts<'a>(fields: &'a [BindingId]) -> Option<&'a [BindingId]>
-    ensures { (bs : ListOf BindingOf) (ty : TypeIdOf) → option_map (λ parts. parts.now) result ≡ Needed.parts_of bs (Is (MakeStruct ty fields.now)) }
+    ensures { (bs : ListOf BindingOf) (ty : TypeIdOf)
+        → option_map (λ parts. parts.now) result
+        ≡ Needed.parts_of bs (Is (MakeStruct ty fields.now)) }
 {
     if fields.is_empty() {
         None
@@ -62,7 +65,8 @@ fn list_parts<'a>(binding: &'a Binding) -> Option<&'a [BindingId]>
 
 // Returns that of the list of this number.
 fn list_parts_at<'a>(bindings: &'a [Binding], list: BindingId) -> Option<&'a [BindingId]>
-    ensures { option_map (λ parts. parts.now) result ≡ Needed.list_parts (slice_get bindings.now list.0) }
+    ensures { option_map (λ parts. parts.now) result
+        ≡ Needed.list_parts (slice_get bindings.now list.0) }
 {
     match bindings.get(list.index()) {
         Some(of) => list_parts(of),
@@ -72,7 +76,8 @@ fn list_parts_at<'a>(bindings: &'a [Binding], list: BindingId) -> Option<&'a [Bi
 
 // Returns what a binding is made over that is bound where it is first read.
 fn parts_of<'a>(bindings: &'a [Binding], binding: &'a Binding) -> Option<&'a [BindingId]>
-    ensures { option_map (λ parts. parts.now) result ≡ Needed.parts_of bindings.now (Is binding.now) }
+    ensures { option_map (λ parts. parts.now) result
+        ≡ Needed.parts_of bindings.now (Is binding.now) }
 {
     match binding {
         Binding::Constructor { .. } | Binding::Extractor { .. } => list_parts(binding),
@@ -93,7 +98,8 @@ fn parts_of<'a>(bindings: &'a [Binding], binding: &'a Binding) -> Option<&'a [Bi
 
 // Returns that of the binding of this number.
 fn parts_at<'a>(bindings: &'a [Binding], binding: BindingId) -> Option<&'a [BindingId]>
-    ensures { option_map (λ parts. parts.now) result ≡ Needed.parts_of bindings.now (slice_get bindings.now binding.0) }
+    ensures { option_map (λ parts. parts.now) result
+        ≡ Needed.parts_of bindings.now (slice_get bindings.now binding.0) }
 {
     match bindings.get(binding.index()) {
         Some(of) => parts_of(bindings, of),
@@ -111,14 +117,16 @@ pub fn list_at(bindings: &[Binding], binding: BindingId) -> Option<BindingId>
     }
 }
 
-// Binds a binding, an item behind its list.
+// Binds a binding, an item after its list.
 fn push_itself(
     bindings: &[Binding],
     bound: &mut Scope,
     binding: BindingId,
     order: &mut Vec<BindingId>,
 ) -> Result<(), AllocError>
-    ensures { OnOk result (Pushes (Needed.with_list (Needed.list_before (slice_get bindings.now binding.0)) binding) bound.old bound.new order.old.items order.new.items) }
+    ensures { OnOk result
+        (Pushes (Needed.with_list (Needed.list_before (slice_get bindings.now binding.0)) binding)
+        bound.old bound.new order.old.items order.new.items) }
 {
     if let Some(list) = list_at(bindings, binding) {
         push_one(bound, list, order)?;
@@ -142,7 +150,9 @@ fn push_needed(
     binding: BindingId,
     order: &mut Vec<BindingId>,
 ) -> Result<(), AllocError>
-    ensures { OnOk result (Pushes (Needed.needed bindings.now depth bound.old binding) bound.old bound.new order.old.items order.new.items) }
+    ensures { OnOk result
+        (Pushes (Needed.needed bindings.now depth bound.old binding) bound.old bound.new
+        order.old.items order.new.items) }
 {
     if depth == 0 {
         return Ok(());
@@ -167,7 +177,9 @@ fn push_each(
     reads: &[BindingId],
     order: &mut Vec<BindingId>,
 ) -> Result<(), AllocError>
-    ensures { OnOk result (Pushes (Needed.each_needed (Needed.needed bindings.now depth) bound.old reads.now) bound.old bound.new order.old.items order.new.items) }
+    ensures { OnOk result
+        (Pushes (Needed.each_needed (Needed.needed bindings.now depth) bound.old reads.now)
+        bound.old bound.new order.old.items order.new.items) }
 {
     for read in reads {
         push_needed(bindings, bound, depth, *read, order)?;
@@ -175,14 +187,16 @@ fn push_each(
     Ok(())
 }
 
-/// Binds what is not bound yet that bindings are read with, behind what is there. The only error is want of memory.
+/// Binds what is not bound yet that bindings are read with, after what is there. The only error is want of memory.
 pub fn push_needs(
     bindings: &[Binding],
     bound: &mut Scope,
     reads: &[BindingId],
     order: &mut Vec<BindingId>,
 ) -> Result<(), AllocError>
-    ensures { OnOk result (Pushes (Needed.needs bindings.now bound.old reads.now) bound.old bound.new order.old.items order.new.items) }
+    ensures { OnOk result
+        (Pushes (Needed.needs bindings.now bound.old reads.now) bound.old bound.new order.old.items
+        order.new.items) }
 {
     push_each(bindings, bound, bindings.len(), reads, order)
 }

@@ -16,14 +16,16 @@ use isle_scope::Scope;
 use std::alloc::{AllocError, Global};
 use std::slice;
 
-// Binds a call behind what it is made on, and what stands behind it.
+// Binds a call after what it is made on, and what stands after it.
 fn push_call(
     tables: &Tables<'_>,
     bound: &mut Scope,
     call: BindingId,
     order: &mut Vec<BindingId>,
 ) -> Result<(), AllocError>
-    ensures { OnOk result (Pushes (Nest.call_binds tables.now.bindings.now (next_in tables.now) bound.old call) bound.old bound.new order.old.items order.new.items) }
+    ensures { OnOk result
+        (Pushes (Nest.call_binds tables.now.bindings.now (next_in tables.now) bound.old call)
+        bound.old bound.new order.old.items order.new.items) }
 {
     push_needs(
         tables.bindings,
@@ -45,7 +47,9 @@ fn push_calls(
     calls: &[BindingId],
     order: &mut Vec<BindingId>,
 ) -> Result<(), AllocError>
-    ensures { OnOk result (Pushes (Nest.binds tables.now.bindings.now (next_in tables.now) bound.old calls.now) bound.old bound.new order.old.items order.new.items) }
+    ensures { OnOk result
+        (Pushes (Nest.binds tables.now.bindings.now (next_in tables.now) bound.old calls.now)
+        bound.old bound.new order.old.items order.new.items) }
 {
     for call in calls {
         push_call(tables, bound, *call, order)?;
@@ -53,7 +57,7 @@ fn push_calls(
     Ok(())
 }
 
-// Whether a call is bound, and what stands behind it.
+// Whether a call is bound, and what stands after it.
 fn was_bound(tables: &Tables<'_>, bound: &Scope, call: BindingId) -> bool
     ensures { result ≡ Nest.was_bound (next_in tables.now) bound.now call }
 {
@@ -63,14 +67,17 @@ fn was_bound(tables: &Tables<'_>, bound: &Scope, call: BindingId) -> bool
     }
 }
 
-// Puts a call behind others, where it is still to be bound.
+// Puts a call after others, where it is still to be bound.
 fn push_left(
     tables: &Tables<'_>,
     bound: &Scope,
     call: BindingId,
     left: &mut Vec<BindingId>,
 ) -> Result<(), AllocError>
-    ensures { OnOk result (left.new.items ≡ left.old.items ++ Nest.left_one (Nest.was_bound (next_in tables.now) bound.now call) call) }
+    ensures { OnOk result
+        (left.new.items
+        ≡ left.old.items
+        ++ Nest.left_one (Nest.was_bound (next_in tables.now) bound.now call) call) }
 {
     if was_bound(tables, bound, call) {
         return Ok(());
@@ -86,7 +93,8 @@ fn left_calls(
     bound: &Scope,
     calls: &[BindingId],
 ) -> Result<Vec<BindingId>, AllocError>
-    ensures { IfOk result (λ left. left.items ≡ Nest.left_calls (next_in tables.now) bound.now calls.now) }
+    ensures { IfOk result (λ left.
+        left.items ≡ Nest.left_calls (next_in tables.now) bound.now calls.now) }
 {
     let mut left = Vec::new(alloc);
     for call in calls {
@@ -103,7 +111,9 @@ fn push_behind_lists(
     rule: &FlatRule,
     order: &mut Vec<BindingId>,
 ) -> Result<(), AllocError>
-    ensures { OnOk result (Pushes (Nest.behind_lists tables.now.bindings.now (next_in tables.now) bound.old rule.now) bound.old bound.new order.old.items order.new.items) }
+    ensures { OnOk result
+        (Pushes (Nest.behind_lists tables.now.bindings.now (next_in tables.now) bound.old rule.now)
+        bound.old bound.new order.old.items order.new.items) }
 {
     let calls = left_calls(alloc, tables, bound, rule.ordered.as_slice())?;
     push_calls(tables, bound, calls.as_slice(), order)?;
@@ -111,14 +121,17 @@ fn push_behind_lists(
     Ok(())
 }
 
-// Puts the item of a list behind others, where the list isn't one of the calls that are bound in order.
+// Puts the item of a list after others, where the list isn't one of the calls that are bound in order.
 fn push_item(
     tables: &Tables<'_>,
     called: &Scope,
     list: BindingId,
     left: &mut Vec<BindingId>,
 ) -> Result<(), AllocError>
-    ensures { OnOk result (left.new.items ≡ left.old.items ++ Nest.left_item (is_bound_in called.now list) (items_in tables.now list.0)) }
+    ensures { OnOk result
+        (left.new.items
+        ≡ left.old.items
+        ++ Nest.left_item (is_bound_in called.now list) (items_in tables.now list.0)) }
 {
     if is_bound(called, list) {
         return Ok(());
@@ -136,7 +149,8 @@ fn items_left(
     called: &Scope,
     lists: &[BindingId],
 ) -> Result<Vec<BindingId>, AllocError>
-    ensures { IfOk result (λ left. left.items ≡ Nest.items_left (items_in tables.now) called.now lists.now) }
+    ensures { IfOk result (λ left.
+        left.items ≡ Nest.items_left (items_in tables.now) called.now lists.now) }
 {
     let mut left = Vec::new(alloc);
     for list in lists {
@@ -162,7 +176,8 @@ fn left_items(
     tables: &Tables<'_>,
     rule: &FlatRule,
 ) -> Result<Vec<BindingId>, AllocError>
-    ensures { IfOk result (λ left. left.items ≡ Nest.left_items tables.now.several (items_in tables.now) rule.now) }
+    ensures { IfOk result (λ left.
+        left.items ≡ Nest.left_items tables.now.several (items_in tables.now) rule.now) }
 {
     if !tables.several {
         return Ok(Vec::new(alloc));
@@ -179,7 +194,10 @@ fn push_last(
     rule: &FlatRule,
     order: &mut Vec<BindingId>,
 ) -> Result<(), AllocError>
-    ensures { OnOk result (Pushes (Nest.last_binds tables.now.several tables.now.bindings.now (next_in tables.now) (items_in tables.now) bound.old rule.now) bound.old bound.new order.old.items order.new.items) }
+    ensures { OnOk result
+        (Pushes (Nest.last_binds tables.now.several tables.now.bindings.now (next_in tables.now)
+        (items_in tables.now) bound.old rule.now) bound.old bound.new order.old.items
+        order.new.items) }
 {
     let items = left_items(alloc, tables, rule)?;
     push_needs(tables.bindings, bound, items.as_slice(), order)?;
@@ -194,14 +212,17 @@ fn last_step(
     bound: &mut Scope,
     rule: &FlatRule,
 ) -> Result<EvalStep, AllocError>
-    ensures { IfOk result (λ s. BlockViews.step s ≡ Nest.last_step tables.now.several tables.now.bindings.now (next_in tables.now) (items_in tables.now) rule.now bound.old) }
+    ensures { IfOk result (λ s.
+        BlockViews.step s
+        ≡ Nest.last_step tables.now.several tables.now.bindings.now (next_in tables.now)
+        (items_in tables.now) rule.now bound.old) }
 {
     let mut order = Vec::new(alloc);
     push_last(alloc, tables, bound, rule, &mut order)?;
     opened(alloc, tables, order, returned(rule.pos, rule.result))
 }
 
-// The equalities of a rule, each round those behind it, and the last one round the rule's last step.
+// The equalities of a rule, each round those after it, and the last one round the rule's last step.
 fn equals_from(
     alloc: Global,
     tables: &Tables<'_>,
@@ -209,7 +230,11 @@ fn equals_from(
     rule: &FlatRule,
     equals: &[(BindingId, BindingId)],
 ) -> Result<EvalStep, AllocError>
-    ensures { IfOk result (λ s. BlockViews.step s ≡ Nest.all_equated tables.now.several tables.now.bindings.now equals.now (Nest.last_step tables.now.several tables.now.bindings.now (next_in tables.now) (items_in tables.now) rule.now) bound.old) }
+    ensures { IfOk result (λ s.
+        BlockViews.step s
+        ≡ Nest.all_equated tables.now.several tables.now.bindings.now equals.now
+        (Nest.last_step tables.now.several tables.now.bindings.now (next_in tables.now)
+        (items_in tables.now) rule.now) bound.old) }
 {
     match equals {
         [] => last_step(alloc, tables, bound, rule),
@@ -243,7 +268,7 @@ fn bind_places(bound: &mut Scope, places: &[Option<BindingId>]) -> Result<(), Al
     Ok(())
 }
 
-// The matches of a rule, each round those behind it, and the last one round the rule's equalities.
+// The matches of a rule, each round those after it, and the last one round the rule's equalities.
 fn matches_from(
     alloc: Global,
     tables: &Tables<'_>,
@@ -251,8 +276,13 @@ fn matches_from(
     rule: &FlatRule,
     constraints: &[(BindingId, Constraint)],
 ) -> Result<EvalStep, AllocError>
-    ensures { IfOk result (λ s. BlockViews.step s ≡ Nest.all_matched tables.now.several tables.now.bindings.now (shows_in tables.now) constraints.now
-        (Nest.all_equated tables.now.several tables.now.bindings.now rule.now.equals (Nest.last_step tables.now.several tables.now.bindings.now (next_in tables.now) (items_in tables.now) rule.now)) bound.old) }
+    ensures { IfOk result (λ s.
+        BlockViews.step s
+        ≡ Nest.all_matched tables.now.several tables.now.bindings.now (shows_in tables.now)
+        constraints.now
+        (Nest.all_equated tables.now.several tables.now.bindings.now rule.now.equals
+        (Nest.last_step tables.now.several tables.now.bindings.now (next_in tables.now)
+        (items_in tables.now) rule.now)) bound.old) }
 {
     match constraints {
         [] => equals_from(alloc, tables, bound, rule, rule.equals.as_slice()),
@@ -276,7 +306,10 @@ pub fn rule_step(
     tables: &Tables<'_>,
     rule: &FlatRule,
 ) -> Result<EvalStep, AllocError>
-    ensures { IfOk result (λ s. BlockViews.step s ≡ Nest.rule_step tables.now.several tables.now.bindings.now (shows_in tables.now) (next_in tables.now) (items_in tables.now) rule.now) }
+    ensures { IfOk result (λ s.
+        BlockViews.step s
+        ≡ Nest.rule_step tables.now.several tables.now.bindings.now (shows_in tables.now)
+        (next_in tables.now) (items_in tables.now) rule.now) }
 {
     let mut bound = Scope::new(alloc);
     matches_from(alloc, tables, &mut bound, rule, rule.constraints.as_slice())

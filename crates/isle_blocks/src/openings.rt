@@ -41,7 +41,10 @@ fn open_one(
     check: ControlFlow,
     behind: &mut Vec<BindingId>,
 ) -> Result<ControlFlow, AllocError>
-    ensures { IfOk result (λ c. (reverse behind.new.items, BlockViews.control c) ≡ Nest.open_one (slice_get tables.now.bindings.now binding.0) binding (reverse behind.old.items, BlockViews.control check)) }
+    ensures { IfOk result (λ c.
+        (reverse behind.new.items, BlockViews.control c)
+        ≡ Nest.open_one (slice_get tables.now.bindings.now binding.0) binding
+        (reverse behind.old.items, BlockViews.control check)) }
 {
     if list_at(tables.bindings, binding).is_some() {
         let inner = gathered(alloc, check, behind);
@@ -65,7 +68,9 @@ fn open_each(
     behind: &mut Vec<BindingId>,
 ) -> Result<ControlFlow, AllocError>
     requires { behind.old.items ≡ [] }
-    ensures { IfOk result (λ c. (reverse behind.new.items, BlockViews.control c) ≡ Nest.opening tables.now.bindings.now order.now (BlockViews.control check)) }
+    ensures { IfOk result (λ c.
+        (reverse behind.new.items, BlockViews.control c)
+        ≡ Nest.opening tables.now.bindings.now order.now (BlockViews.control check)) }
 {
     match order {
         [] => Ok(check),
@@ -83,7 +88,10 @@ pub fn opened(
     order: Vec<BindingId>,
     check: ControlFlow,
 ) -> Result<EvalStep, AllocError>
-    ensures { IfOk result (λ s. BlockViews.step s ≡ Nest.opened tables.now.several tables.now.bindings.now order.items (BlockViews.control check)) }
+    ensures { IfOk result (λ s.
+        BlockViews.step s
+        ≡ Nest.opened tables.now.several tables.now.bindings.now order.items
+        (BlockViews.control check)) }
 {
     if !tables.several {
         return Ok(step_of(order, check));

@@ -39,7 +39,10 @@ pub fn matched(
     places: Vec<Option<BindingId>>,
     inner: EvalStep,
 ) -> Result<ControlFlow, AllocError>
-    ensures { IfOk result (λ c. BlockViews.control c ≡ Blocks.Match source (Blocks.Arm constraint places.items (Nest.alone (BlockViews.step inner)) Blocks.NoArm)) }
+    ensures { IfOk result (λ c.
+        BlockViews.control c
+        ≡ Blocks.Match source
+        (Blocks.Arm constraint places.items (Nest.alone (BlockViews.step inner)) Blocks.NoArm)) }
 {
     let body = alone(alloc, inner)?;
     let arm = MatchArm {
@@ -62,7 +65,8 @@ pub fn equated(
     b: BindingId,
     inner: EvalStep,
 ) -> Result<ControlFlow, AllocError>
-    ensures { IfOk result (λ c. BlockViews.control c ≡ Blocks.Equal a b (Nest.alone (BlockViews.step inner))) }
+    ensures { IfOk result (λ c.
+        BlockViews.control c ≡ Blocks.Equal a b (Nest.alone (BlockViews.step inner))) }
 {
     let body = alone(alloc, inner)?;
     Ok(ControlFlow::Equal { a, b, body })
@@ -71,7 +75,8 @@ pub fn equated(
 /// A loop over the items of a list round what is done with each. The only error is want of memory.
 #[tactic(auto, using(isle_core::proofs::SeesBlocks::sees_blocks))]
 pub fn looped(alloc: Global, item: BindingId, inner: EvalStep) -> Result<ControlFlow, AllocError>
-    ensures { IfOk result (λ c. BlockViews.control c ≡ Blocks.Loop item (Nest.alone (BlockViews.step inner))) }
+    ensures { IfOk result (λ c.
+        BlockViews.control c ≡ Blocks.Loop item (Nest.alone (BlockViews.step inner))) }
 {
     let body = alone(alloc, inner)?;
     Ok(ControlFlow::Loop { result: item, body })

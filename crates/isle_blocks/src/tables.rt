@@ -34,7 +34,7 @@ fn inner_place(
 }
 
 impl Tables<'_> {
-    /// Returns what stands directly behind a call: its inner value, or its item.
+    /// Returns what stands directly after a call: its inner value, or its item.
     pub fn next(&self, call: BindingId) -> Option<BindingId>
         ensures { result ≡ next_in self.now call.0 }
     {

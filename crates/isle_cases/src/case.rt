@@ -52,7 +52,7 @@ impl Key {
         }
     }
 
-    // Whether a name stands behind the key.
+    // Whether a name stands after the key.
     fn is_named(self) -> bool {
         matches!(
             self,
@@ -61,7 +61,7 @@ impl Key {
     }
 }
 
-/// A line with a key: the name behind it, and the text, with that of the block below.
+/// A line with a key: the name after it, and the text, with that of the block below.
 #[derive(Drop)]
 pub struct Entry {
     pub key: Key,
@@ -151,7 +151,7 @@ impl Case {
     }
 }
 
-/// Splits a line into its first word, and what stands behind the blank.
+/// Splits a line into its first word, and what stands after the blank.
 pub fn split_word(line: &str) -> (&str, &str) {
     match line.split_once(' ') {
         Some((word, rest)) => (word, rest),
@@ -159,7 +159,7 @@ pub fn split_word(line: &str) -> (&str, &str) {
     }
 }
 
-/// Returns the head of a topic, a case without a name, and the topic's cases behind it.
+/// Returns the head of a topic, a case without a name, and the topic's cases after it.
 pub fn cases_of(alloc: Global, text: &str) -> Result<Vec<Case>, AllocError> {
     let mut cases = vec![in alloc; Case::new(alloc, "")?]?;
     for line in text.lines() {

@@ -45,7 +45,8 @@ where
     I::Output: Drop,
     requires can_next { I.can_next iter }
     requires ends { IsFinite (I.remaining iter) }
-    ensures { IfOk result (λ all. (items : List I.Output) → I.has_list iter items → all.items ≡ items) }
+    ensures { IfOk result (λ all.
+        (items : List I.Output) → I.has_list iter items → all.items ≡ items) }
 {
     let mut all = Vec::new(alloc);
     while let Some(item) = iter.next(ctx) {
@@ -62,7 +63,7 @@ fn copied(alloc: Global, letters: &[char], ctx: &mut Context) -> Result<Vec<char
     all(alloc, ContextIterWrapper::from(iter), ctx)
 }
 
-// A wrapped list of three letters: one written behind `inner_mut`, and two that `extend` appends.
+// A wrapped list of three letters: one written after `inner_mut`, and two that `extend` appends.
 fn wrapped(alloc: Global) -> Result<ContextIterWrapper<Vec<char>, Context>, OutOfMemory> {
     let mut list = ContextIterWrapper::from(Vec::new(alloc));
     list.inner_mut().push('a')?;

@@ -25,7 +25,7 @@ use std::rt::Env;
 use std::{env, io};
 use topics::hold_all;
 
-// The words behind the program's name: the topics that are to run.
+// The words after the program's name: the topics that are to run.
 fn words_given(rt: &(impl Env + AllocGlobal)) -> Result<Vec<String>, Slip> {
     let mut words = Vec::new(rt.alloc());
     let given = match env::args(rt) {

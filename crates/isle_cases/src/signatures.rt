@@ -116,7 +116,7 @@ fn push_term(
     push_function(lines, env, "extractor", term.extractor_sig(alloc, env))
 }
 
-// Writes a place, or that there is none, behind a blank.
+// Writes a place, or that there is none, after a blank.
 fn push_place(lines: &mut String, place: Option<BindingId>) -> Result<(), AllocError> {
     match place {
         Some(place) => push_all(lines, &[" ", digit(place.index())]),

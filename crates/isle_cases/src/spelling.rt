@@ -24,7 +24,7 @@ pub fn text_spelt(alloc: Global, text: &str) -> Result<String, Slip> {
     }
 }
 
-// Appends what stands behind a backslash.
+// Appends what stands after a backslash.
 fn push_spelt(alloc: Global, bytes: &mut Vec<u8>, piece: &str) -> Result<(), Slip> {
     match piece.as_bytes() {
         [b'n', rest @ ..] => push_two(bytes, b'\n', rest),
@@ -40,7 +40,7 @@ fn push_spelt(alloc: Global, bytes: &mut Vec<u8>, piece: &str) -> Result<(), Sli
     }
 }
 
-// Appends a byte and what stands behind it.
+// Appends a byte and what stands after it.
 fn push_two(bytes: &mut Vec<u8>, byte: u8, rest: &[u8]) -> Result<(), Slip> {
     bytes.push(byte)?;
     bytes.extend_from_slice(rest)?;
@@ -56,7 +56,7 @@ fn hex(digit: u8) -> Result<u8, Slip> {
     }
 }
 
-// The number of the first turn, and that behind the last one.
+// The number of the first turn, and that after the last one.
 fn turns(count: &str) -> Result<(usize, usize), Slip> {
     match count.split_once("..") {
         Some((from, to)) => Ok((number(from)?, number(to)?)),
@@ -64,7 +64,7 @@ fn turns(count: &str) -> Result<(usize, usize), Slip> {
     }
 }
 
-// Appends what a `COUNT{..}` or `FROM..TO{..}` repeats, and what stands behind it.
+// Appends what a `COUNT{..}` or `FROM..TO{..}` repeats, and what stands after it.
 fn push_often(alloc: Global, bytes: &mut Vec<u8>, piece: &str) -> Result<(), Slip> {
     let Some((count, behind)) = piece.split_once('{') else {
         return Err(Slip::Escape);
@@ -98,7 +98,7 @@ fn push_turns(
     Ok(())
 }
 
-// How far above a turn's number a number is, and what stands behind that.
+// How far above a turn's number a number is, and what stands after that.
 fn above(piece: &[u8]) -> (usize, &[u8]) {
     match piece {
         [b'+', digit @ b'1'..=b'9', rest @ ..] => (usize::from(*digit - b'0'), rest),
@@ -106,7 +106,7 @@ fn above(piece: &[u8]) -> (usize, &[u8]) {
     }
 }
 
-// Appends the number of a turn, or one above it, and what stands behind that.
+// Appends the number of a turn, or one above it, and what stands after that.
 fn push_number(alloc: Global, bytes: &mut Vec<u8>, piece: &[u8], turn: usize) -> Result<(), Slip> {
     let (above, rest) = above(piece);
     let number = turn.saturating_add(above);

@@ -2,7 +2,7 @@
 
 use std::alloc::{AllocError, Global};
 
-/// What is open behind a byte.
+/// What is open after a byte.
 #[derive(Clone, Copy)]
 enum State {
     /// No token that goes on.
@@ -35,7 +35,7 @@ fn joins(first: u8, second: u8) -> bool {
     )
 }
 
-// What is open behind a mark.
+// What is open after a mark.
 fn behind_mark(state: State, mark: u8) -> State {
     match state {
         State::Mark(b'/') if mark == b'/' => State::Comment,
@@ -44,7 +44,7 @@ fn behind_mark(state: State, mark: u8) -> State {
     }
 }
 
-// What is open behind a byte more.
+// What is open after a byte more.
 fn behind(state: State, byte: u8) -> State {
     match (state, byte) {
         (State::Comment, b'\n') => State::Gap,

@@ -110,7 +110,7 @@ impl<'c> Parts<'c> {
     }
 }
 
-// The lines of the header that name files: those of the line `names`, or those behind the first word.
+// The lines of the header that name files: those of the line `names`, or those after the first word.
 fn name_lines(alloc: Global, names: Option<&Entry>, words: &[String]) -> Result<String, Slip> {
     match names {
         Some(entry) => lines_of(alloc, words_of(alloc, entry.text.as_str())?.as_slice()),

@@ -28,8 +28,8 @@ use Rattle.isle_core.specs.RightSide.{path_or, term_path, call_path, path, paths
 use Rattle.isle_core.specs.Rule.{Environment, IfLet, Rule}
 use Rattle.isle_core.specs.Tests.{Is, Places, no_places, met_after, found_tests, tests, after, after_parts, after_each, called_tests, all_called_tests, bindings_called_tests, args_tests, args_after, iflets_tests, rule_tests}
 use Rattle.isle_core.specs.TypedVariables.{typed_variables, typed_within, all_typed, let_variables, iflets_typed, rule_typed, HaveOneType, IsNew}
+use Rattle.isle_core.specs.Served.{IsTested}
 use Rattle.isle_core.proofs.Contained.{contained_cases, none_contained}
-use Rattle.isle_core.proofs.RuleMatches.{IsTested}
 use Rattle.isle_checks.proofs.TestedTypes.{path_type, from_zero, first, next, IsTyped, AreKnown, PartsTyped, found_typed, parts_of, pattern_typed, args_typed}
 
 -- ---- terms of expressions
@@ -227,7 +227,7 @@ module _ (env : Environment) (plain : AreConstantsPlain env) (known : List Typed
       parts_placed (APattern q qs) (Some []) opened at i vars places h t w a = absurd h
       parts_placed (APattern q qs) None opened at i vars places h t w a = absurd h
 
-    -- behind patterns of arguments from the i-th on
+    -- after patterns of arguments from the i-th on
     args_placed : (qs : List Pattern) (ts : List TypeId) (i : ℕ) (vars : List (TypeId × ℕ)) (places : Places) → ArePatternsOf env ts qs → ((j : ℕ) → slice_get tys (j + i) ≡ slice_get ts j) → AreWithin (all_typed qs) → ArePlaced vars places → ArePlaced (vars ++ all_typed qs) (args_after env qs i places)
     args_placed [] ts i vars places h t w a = no_more vars places a
     args_placed (q ∷ qs) (ty ∷ ts) i vars places h t w a =

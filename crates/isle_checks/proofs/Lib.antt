@@ -19,5 +19,16 @@ pub mod TestedTypes
 pub mod ConditionTypes
 pub mod MetOnce
 pub mod OneHighest
+pub mod TestsApart
 pub mod ListOnce
 pub mod PlacedErrors
+pub mod PlaceLaws
+pub mod WalkLaws
+pub mod ToldTerms
+pub mod CallPaths
+pub mod PathCalls
+pub mod BoundCalls
+pub mod RuleUses
+pub mod RuleWalkLaws
+pub mod RuleErrors
+pub mod ListedTerms

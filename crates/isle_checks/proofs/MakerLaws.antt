@@ -19,7 +19,7 @@ of_all P (x ∷ xs) y h c = ⊎_elim (λ e. subst P e h.0) (λ k. of_all P xs y 
 pub at_contained : {X : Type 0} (xs : List X) (i : ℕ) (x : X) → i < length xs → x ≡ get_or xs i x → Contains xs x
 at_contained xs i x lt e = (i, lt, sym e)
 
--- what holds of what is left holds of the next item and of those behind it
+-- what holds of what is left holds of the next item and of those after it
 pub next_left : {X : Type 0} (P : List X → Type 0) (xs : List X) (i : ℕ) (x : X) → i < length xs → x ≡ get_or xs i x → P (drop i xs) → P (x ∷ drop (i + 1) xs)
 next_left P xs i x lt e h = subst P (drop_more xs i x lt ∙ ap (λ y. y ∷ drop (i + 1) xs) (sym e)) h
 

@@ -25,12 +25,12 @@ use Rattle.isle_core.specs.PatternType.{AreVariantsApart}
 use Rattle.isle_core.specs.Rule.{Environment, Rule, rules_of}
 use Rattle.isle_core.proofs.Contained.{contained_cases, none_contained}
 use Rattle.isle_core.specs.CalledTerms.{extracted_in, called_in_iflets, called_by, called_in, called}
-use Rattle.isle_core.proofs.PatternTests.{Values, Both, AreServed}
-use Rattle.isle_core.proofs.ConditionTests.{IsSupplied}
-use Rattle.isle_core.proofs.RuleMatches.{IsTested, rule_both}
+use Rattle.isle_core.proofs.PatternTests.{Values, Both}
+use Rattle.isle_core.proofs.RuleMatches.{rule_both}
 use Rattle.isle_core.specs.TypedVariables.{rule_typed, HaveOneType}
 use Rattle.isle_checks.specs.CheckList.{RuleError, unreachable_of, overlap_of, shadow_of, positions, is_multi, AreErrorsAt, AreErrorsBelow, AreErrorsOf, AreErrorsOfTerm, AreErrorsOfTerms, IsClean}
 use Rattle.isle_core.specs.Choice.{first_items}
+use Rattle.isle_core.specs.Served.{AreServed, IsSupplied, IsTested}
 use Rattle.isle_checks.specs.Firsts.{IsFirst}
 use Rattle.isle_checks.specs.RuleChecks.{Overlaps, OverlapsAt}
 use Rattle.isle_checks.proofs.ListChecks.{of_two}
@@ -44,7 +44,7 @@ matched_holds : (val : Values) (o : Option Names) (b : Bool) (places : Places) (
 matched_holds val None b places names e h = cc
 matched_holds val (Some found) b places names e h = h.0
 
-some_type : (a b : TypeId) → Some a ≡ Some b → a ≡ b
+pub some_type : (a b : TypeId) → Some a ≡ Some b → a ≡ b
 some_type a b e = cc
 
 module _ (env : Environment) (m : Meaning) (args : List Value) (tys : List TypeId) (known : List TypedConstant) (variants : AreVariantsApart env) (plain : AreConstantsPlain env) (constants : AreConstantsApart env m known) (typed : HaveTypes env args tys) where
@@ -121,7 +121,7 @@ two_places i j = grind (arith)
 some_rule : (a b : Rule) → Some a ≡ Some b → a ≡ b
 some_rule a b e = cc
 
-constants_among : (rules : List Rule) (r : Rule) (c : TypedConstant) → Contains rules r → Contains (rule_constants r) c → Contains (rules_constants rules) c
+pub constants_among : (rules : List Rule) (r : Rule) (c : TypedConstant) → Contains rules r → Contains (rule_constants r) c → Contains (rules_constants rules) c
 constants_among [] r c k h = absurd (none_contained r k)
 constants_among (x ∷ rules) r c k h = ⊎_elim
     (λ (e : x ≡ r). Contains-append_left (rule_constants x) (rules_constants rules) c (subst (λ (y : Rule). Contains (rule_constants y) c) (sym e) h))

@@ -9,3 +9,9 @@ pub mod CheckList
 pub mod Errors
 pub mod Built
 pub mod PlainTypes
+pub mod Checked
+pub mod ClosedWalks
+pub mod Graph
+pub mod Recursions
+pub mod RuleErrors
+pub mod RuleWalks

@@ -84,7 +84,8 @@ impl Classes {
 
     /// Joins the classes of two bindings, the smaller one moving. The only error is want of memory.
     pub fn join(&mut self, alloc: Global, a: BindingId, b: BindingId) -> Result<(), AllocError>
-        ensures { OnOk result ((es : Equalities) → AreClasses es self.old → AreClasses (es ++ (a, b) ∷ []) self.new) }
+        ensures { OnOk result
+            ((es : Equalities) → AreClasses es self.old → AreClasses (es ++ (a, b) ∷ []) self.new) }
     {
         let one = self.of(a);
         let other = self.of(b);

@@ -66,7 +66,8 @@ fn overlap_error(alloc: Global, msg: Text, earlier: Pos, later: Pos) -> Result<E
 
 // The error of a rule that another one shadows.
 fn shadow_error(shadowed: Pos, mask: Pos) -> Error
-    ensures { told result ≡ SomeOf (list.Shadowed (SomeOf (single shadowed)) (SomeOf (single mask))) }
+    ensures { told result
+        ≡ SomeOf (list.Shadowed (SomeOf (single shadowed)) (SomeOf (single mask))) }
 {
     Error::ShadowedError {
         shadowed: Span::new_single(shadowed),

@@ -1,4 +1,5 @@
 //! What is wrong with the rules of a term, each by itself and among each other.
+//! Which terms use themselves and are not marked so.
 #![tactic(auto)]
 
 mod bears;
@@ -8,7 +9,9 @@ mod firsts;
 mod names;
 pub mod overlap;
 mod placed;
+pub mod recursion;
 mod splitter;
 mod unreachable;
+mod uses;
 
 pub use overlap::CheckError;

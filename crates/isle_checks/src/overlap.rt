@@ -4,16 +4,16 @@ ghost use Rattle.std.specs.Prelude.{◌≡◌, ◌++◌, [], ◌∷◌, Err, IfO
 ghost use Rattle.std.specs.Option.{option_map_or};
 ghost use Rattle.isle_core.specs.declared.TermId.{TermId as TheId};
 ghost use Rattle.isle_core.specs.declared.types.Term.{Term as TheTerm};
-ghost use Rattle.isle_core.specs.declared.types.TypeEnv.{TypeEnv as TheTypes};
 ghost use Rattle.isle_core.specs.BuiltRule.{IsBuiltRule, CallsBuiltTerms};
 ghost use Rattle.isle_core.specs.Calling.{is_several, kind_of};
 ghost use Rattle.isle_core.specs.Rule.{Environment, rules_of};
-ghost use Rattle.isle_core.specs.RuleViews.{rule as seen, environment};
+ghost use Rattle.isle_core.specs.RuleViews.{rule as seen};
 ghost use Rattle.isle_core.specs.Scope.{IsScopedRule};
 ghost use Rattle.isle_core.specs.StandsFor.{StandsFor};
 ghost use Rattle.isle_core.specs.Terms.{with_rules};
 ghost use Rattle.isle_rulesets.specs.Grouping.{AreRuleSets};
 ghost use Rattle.isle_checks.specs.CheckList.{TellTerms, IsCheckList};
+ghost use Rattle.isle_checks.specs.Checked.{AreSetsOf, AreErrorsIn};
 ghost use Rattle.isle_checks.specs.Built.{AreBuilt};
 ghost use Rattle.isle_checks.specs.declared.overlap.CheckError.TheVariants.{Rules};
 
@@ -88,7 +88,8 @@ fn push_term(
     set: &(TermId, RuleSet),
     errors: &mut Vec<Error>,
 ) -> Result<(), OutOfMemory>
-    ensures { OnOk result ((env : Environment) (ids : List TheId) → env.terms ≡ terms.now → AreBuilt env
+    ensures { OnOk result
+        ((env : Environment) (ids : List TheId) → env.terms ≡ terms.now → AreBuilt env
         → StandsFor env set.now.1 (rules_of env set.now.0) → TellTerms env ids errors.old.items
         → TellTerms env (ids ++ set.now.0 ∷ []) errors.new.items) }
 {
@@ -127,13 +128,11 @@ fn checked(
     requires built { All (IsBuiltRule termenv.now.terms) (map seen termenv.now.rules) }
     requires bound { All IsScopedRule (map seen termenv.now.rules) }
     requires terms { All (CallsBuiltTerms termenv.now.terms) (map seen termenv.now.rules) }
-    ensures ok { IfOk result (λ sets. (types : TheTypes)
-        → AreRuleSets (environment types termenv.now) sets.items) }
-    ensures clean { IfOk result (λ sets. (types : TheTypes)
-        → IsCheckList (environment types termenv.now) []) }
+    ensures ok { IfOk result (λ sets. AreSetsOf termenv.now sets.items) }
+    ensures clean { IfOk result (λ sets. AreErrorsIn termenv.now []) }
     ensures some { (errors : List Error) → result ≡ Err (Rules errors) → errors ≡ [] → ⊥ }
-    ensures err { (errors : List Error) → result ≡ Err (Rules errors) → (types : TheTypes)
-        → IsCheckList (environment types termenv.now) errors }
+    ensures err { (errors : List Error) → result ≡ Err (Rules errors)
+        → AreErrorsIn termenv.now errors }
 {
     let sets = rule_sets(alloc, termenv)?;
     let errors = errors_of(alloc, names, termenv.terms.as_slice(), sets.as_slice())?;
@@ -151,13 +150,11 @@ pub fn check(alloc: Global, termenv: &TermEnv) -> Result<Vec<(TermId, RuleSet)>,
     requires built { All (IsBuiltRule termenv.now.terms) (map seen termenv.now.rules) }
     requires bound { All IsScopedRule (map seen termenv.now.rules) }
     requires terms { All (CallsBuiltTerms termenv.now.terms) (map seen termenv.now.rules) }
-    ensures ok { IfOk result (λ sets. (types : TheTypes)
-        → AreRuleSets (environment types termenv.now) sets.items) }
-    ensures clean { IfOk result (λ sets. (types : TheTypes)
-        → IsCheckList (environment types termenv.now) []) }
+    ensures ok { IfOk result (λ sets. AreSetsOf termenv.now sets.items) }
+    ensures clean { IfOk result (λ sets. AreErrorsIn termenv.now []) }
     ensures some { (errors : List Error) → result ≡ Err (Rules errors) → errors ≡ [] → ⊥ }
-    ensures err { (errors : List Error) → result ≡ Err (Rules errors) → (types : TheTypes)
-        → IsCheckList (environment types termenv.now) errors }
+    ensures err { (errors : List Error) → result ≡ Err (Rules errors)
+        → AreErrorsIn termenv.now errors }
 {
     checked(alloc, None, termenv)
 }
@@ -172,13 +169,11 @@ pub fn check_named(
     requires built { All (IsBuiltRule termenv.now.terms) (map seen termenv.now.rules) }
     requires bound { All IsScopedRule (map seen termenv.now.rules) }
     requires terms { All (CallsBuiltTerms termenv.now.terms) (map seen termenv.now.rules) }
-    ensures ok { IfOk result (λ sets. (types : TheTypes)
-        → AreRuleSets (environment types termenv.now) sets.items) }
-    ensures clean { IfOk result (λ sets. (types : TheTypes)
-        → IsCheckList (environment types termenv.now) []) }
+    ensures ok { IfOk result (λ sets. AreSetsOf termenv.now sets.items) }
+    ensures clean { IfOk result (λ sets. AreErrorsIn termenv.now []) }
     ensures some { (errors : List Error) → result ≡ Err (Rules errors) → errors ≡ [] → ⊥ }
-    ensures err { (errors : List Error) → result ≡ Err (Rules errors) → (types : TheTypes)
-        → IsCheckList (environment types termenv.now) errors }
+    ensures err { (errors : List Error) → result ≡ Err (Rules errors)
+        → AreErrorsIn termenv.now errors }
 {
     match checked(alloc, None, termenv) {
         Err(CheckError::Rules(_)) => {

@@ -11,14 +11,14 @@ use Rattle.isle_sema.proofs.ToldFaults.{untold}
 use Rattle.isle_types.specs.Single.{single}
 use Rattle.isle_checks.specs.CheckList.{IsCheckList, IsClean}
 use Rattle.isle_checks.proofs.ListOnce.{none_wrong}
-use Rattle.isle_recursion.specs.RuleErrors.{IsRecursionOf}
-use Rattle.isle_recursion.proofs.RuleErrors.{recursion_once}
+use Rattle.isle_checks.specs.RuleErrors.{IsRecursionOf}
+use Rattle.isle_checks.proofs.RuleErrors.{recursion_once}
 use Rattle.isle_codegen.specs.Checked.{IsChecked}
 use Rattle.isle_codegen.specs.Errors.{HaveErrors, HaveDefErrors, of_parsing, of_defs, of_types, of_rules, of_recursion, AreErrorsOfTexts, IsNameError}
 use Rattle.isle_codegen.proofs.Sources.{wrong_unspelt}
 use Rattle.isle_codegen.proofs.LawfulNames.{none_unlawful}
-use Rattle.isle_names.specs.declared.name_error.NameError.{NameError}
-use Rattle.isle_names.specs.NameFault.{IsNameFault}
+use Rattle.isle_lawful_names.specs.declared.name_error.NameError.{NameError}
+use Rattle.isle_lawful_names.specs.NameFault.{IsNameFault}
 use Rattle.isle_codegen.specs.LawfulEnvironment.{AreAccepted}
 
 none_of_defs : (defs : List Def) (env : Environment) (errors : List Error) → Typed defs env → IsClean env → IsRecursionOf env [] → HaveDefErrors defs errors → ⊥

@@ -266,11 +266,11 @@ answer_fits env false false ty v h = (Plain (v ∷ []), (h, tt))
 
 -- ---- no two terms have one external function
 
--- the functions behind those of one term
+-- the functions after those of one term
 behind_both : (env : Environment) (x : Term) (fs : List TraitFn) → IsDistinct bytes_eq (fn_names (fns_before env x fs)) → IsDistinct bytes_eq (fn_names fs)
 behind_both env x fs d = behind_one (constructor_fn_of env x) fs (behind_one (extractor_fn_of env x) (cons_option (constructor_fn_of env x) fs) d)
 
--- a kind of functions, of which each term has at most one, apart from those of the terms behind it
+-- a kind of functions, of which each term has at most one, apart from those of the terms after it
 record IsFnKind (env : Environment) (fn_of : Term → Option TraitFn) : Type 0 where
   apart : (x : Term) (fs : List TraitFn) (f g : TraitFn) → fn_of x ≡ Some f → IsDistinct bytes_eq (fn_names (fns_before env x fs)) → Contains fs g → f.name ≡ g.name → ⊥
   among : (ts : List Term) (i : ℕ) (t : Term) (f : TraitFn) → slice_get ts i ≡ Some t → fn_of t ≡ Some f → Contains (trait_fns_in env ts) f

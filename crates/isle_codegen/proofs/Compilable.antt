@@ -7,9 +7,9 @@ use Rattle.isle_core.specs.Rule.{Environment}
 use Rattle.isle_core.specs.Terms.{with_rules, term_name}
 use Rattle.isle_ast.specs.Tree.{Def}
 use Rattle.isle_sema.specs.Typing.{Typed}
-use Rattle.isle_names.specs.Claims.{is_ruled}
-use Rattle.isle_names.specs.Words.{is_term_name}
-use Rattle.isle_items.specs.LawfulNames.{AreLawful}
+use Rattle.isle_lawful_names.specs.Claims.{is_ruled}
+use Rattle.isle_lawful_names.specs.Words.{is_term_name}
+use Rattle.isle_lawful_names.specs.LawfulNames.{AreLawful}
 use Rattle.isle_simulation.specs.TraitFns.{HasFnNames}
 
 -- the names of the terms with rules may be emitted

@@ -123,7 +123,7 @@ module _ (P : Path → Type 0) (env : Environment) (terms : List CalledTerm) (co
 
   -- ---- conditions
 
-  -- the paths of conditions, and where the variables stand behind them
+  -- the paths of conditions, and where the variables stand after them
   iflets_each : (cs : List IfLet) (places : Places) → AreCalled (called_in_iflets env cs) → AreGiven (iflets_constants cs) → ArePlacedSo P places → AllByRecursion P (iflets_paths env cs places) × ArePlacedSo P (iflets_after env cs places)
   iflets_each [] places a g s = (tt, s)
   iflets_each (c ∷ cs) places a g s =

@@ -23,8 +23,6 @@ use Rattle.isle_blocks.specs.CallsOnce.{HasCallsOnce}
 use Rattle.isle_blocks.specs.Several.{HasItsLists}
 use Rattle.isle_tree.specs.Program.{Function}
 use Rattle.isle_simulation.specs.TermFunction.{term_function}
-use Rattle.isle_simulation.proofs.Made.{function_made}
-use Rattle.isle_simulation.proofs.Written.{function_of}
 use Rattle.isle_codegen.specs.Emits.{MeansSet, CanEmit, IsEmitted, AreEmitted}
 
 some_one : (a b : Term) → Some a ≡ Some b → a ≡ b
@@ -60,14 +58,6 @@ is_emitted options files env id s t b f h there lawful single means tests makes 
   makes = makes;
   given = ap (λ (u : Term). term_function options files (setting env u s.bindings) b) (sym (term_is files env id s t h there)) ∙ given;
 }
-
--- and its function is there
-pub is_given : (options : CodegenOptions) (files : Files) (env : Environment) (id : TermId) (s : RuleSet) (t : Term) (b : Block) → (h : CanEmit files env (id, s)) → slice_get env.terms id.0 ≡ Some t
-    → IsLawfulBlock (setting env h.term s.bindings) b → HasSingleArms b → None ≡ term_function options files (setting env t s.bindings) b → ⊥
-is_given options files env id s t b h there lawful single none =
-    let made = function_made options files env h.term s.bindings b lawful single in
-    let bad : None ≡ Some (function_of options files env h.term s.bindings b) = none ∙ ap (λ (u : Term). term_function options files (setting env u s.bindings) b) (term_is files env id s t h there) ∙ made in
-    cc
 
 both_emitted : (options : CodegenOptions) (files : Files) (env : Environment) (ss ts : List (TermId × RuleSet)) (fs gs : List Function) → AreEmitted options files env ss fs → AreEmitted options files env ts gs → AreEmitted options files env (ss ++ ts) (fs ++ gs)
 both_emitted options files env [] ts [] gs h k = k

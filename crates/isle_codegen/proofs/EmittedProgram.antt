@@ -33,18 +33,18 @@ use Rattle.isle_core.specs.BuiltRule.{IsBuiltRule, CallsBuiltTerms}
 use Rattle.isle_core.proofs.LawfulExists.{lawful_with}
 use Rattle.isle_codegen.specs.FromBlock.{AreFromBlocks}
 use Rattle.isle_codegen.specs.Meant.{IsMeant}
-use Rattle.isle_names.specs.Claims.{is_ruled}
+use Rattle.isle_lawful_names.specs.Claims.{is_ruled}
 use Rattle.isle_codegen.specs.Headline.{FunctionsMean}
 use Rattle.isle_codegen.proofs.EmittedNames.{emitted_names, distinct_names}
 use Rattle.isle_codegen.proofs.MeanRules.{HasFunction, has_function, means_rules, of_term}
 use Rattle.isle_codegen.proofs.CalledTerms.{bound_called}
 use Rattle.isle_codegen.proofs.InhabitedTypes.{inhabited_valued}
 use Rattle.isle_codegen.proofs.TypedNames.{typed_parts}
-use Rattle.isle_items.specs.LawfulNames.{AreLawful}
-use Rattle.isle_items.specs.TypeItems.{type_items_of}
-use Rattle.isle_items.proofs.HasRustNames.{has_rust_names}
-use Rattle.isle_items.proofs.ItemLaws.{items_are, items_apart}
-use Rattle.isle_items.proofs.TextLaws.{texts_are}
+use Rattle.isle_lawful_names.specs.LawfulNames.{AreLawful}
+use Rattle.isle_lawful_names.specs.TypeItems.{type_items_of}
+use Rattle.isle_lawful_names.proofs.HasRustNames.{has_rust_names}
+use Rattle.isle_lawful_names.proofs.ItemLaws.{items_are, items_apart}
+use Rattle.isle_lawful_names.proofs.TextLaws.{texts_are}
 use Rattle.isle_sema.proofs.BuiltRules.{typed_built, typed_terms}
 use Rattle.isle_codegen.proofs.Answerable.{values_of, answerable}
 use Rattle.isle_simulation.proofs.GivenFunctions.{emitted_well_formed, has_shape, of_its_term, function_calls, its_lines}

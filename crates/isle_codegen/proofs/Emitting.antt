@@ -14,15 +14,15 @@ use Rattle.isle_core.specs.Terms.{term_name, with_rules}
 use Rattle.isle_core.specs.Rule.{Environment, rules_of}
 use Rattle.isle_core.proofs.Contained.{head_contained, tail_contained}
 use Rattle.isle_ast.specs.Tree.{Def}
-use Rattle.isle_items.specs.LawfulNames.{AreLawful}
-use Rattle.isle_items.proofs.HasRustNames.{has_rust_names}
-use Rattle.isle_items.proofs.TextLaws.{texts_are}
+use Rattle.isle_lawful_names.specs.LawfulNames.{AreLawful}
+use Rattle.isle_lawful_names.proofs.HasRustNames.{has_rust_names}
+use Rattle.isle_lawful_names.proofs.TextLaws.{texts_are}
 use Rattle.isle_rulesets.specs.Grouping.{AreRuleSets}
 use Rattle.isle_sema.specs.Typing.{Typed}
 use Rattle.isle_sema.proofs.SerializableRules.{set_serializable}
 use Rattle.isle_sema.proofs.TypedTerms.{typed_types, typed_there}
-use Rattle.isle_names.specs.Words.{is_term_name}
-use Rattle.isle_names.specs.Claims.{is_ruled}
+use Rattle.isle_lawful_names.specs.Words.{is_term_name}
+use Rattle.isle_lawful_names.specs.Claims.{is_ruled}
 use Rattle.isle_codegen.proofs.Compilable.{are_term_names}
 use Rattle.isle_codegen.specs.Emission.{ArePlaced}
 use Rattle.isle_simulation.specs.TermFns.{HasTermFns}

@@ -7,7 +7,7 @@ use Rattle.isle_printer.specs.Token.{tokens_of, without_comments}
 use Rattle.isle_printer.proofs.Comments.{comment_lines-append, are_lines-append, tokens-comment_lines}
 use Rattle.isle_tree.specs.Program.{Program}
 use Rattle.isle_target.specs.Reading.{program_of, read_program, SpellsOnly}
-use Rattle.isle_names.specs.Words.{is_name_byte, is_file_name}
+use Rattle.isle_lawful_names.specs.Words.{is_name_byte, is_file_name}
 use Rattle.isle_codegen.specs.Names.{are_file_names}
 use Rattle.isle_codegen.specs.Header.{first_lines, file_line, header_lines, header}
 
@@ -37,7 +37,7 @@ name_lines (name ∷ names) h =
     let p = and_parts (is_file_name name) _ h in
     and_from _ _ (name_line name p.0) (name_lines names p.1)
 
--- the header leaves what is read of what stands behind it
+-- the header leaves what is read of what stands after it
 tokens_header : (names : List (List ℕ)) (rest : List ℕ) → are_file_names names ≡ true → without_comments (tokens_of (header names ++ rest)) ≡ without_comments (tokens_of rest)
 tokens_header names rest h = tokens-comment_lines (header_lines names) rest (are_lines-append first_lines (map file_line names) refl (name_lines names h))
 

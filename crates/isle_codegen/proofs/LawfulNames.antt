@@ -14,12 +14,12 @@ use Rattle.isle_core.proofs.Contained.{head_contained, tail_contained, contained
 use Rattle.isle_ast.specs.Tree.{Def}
 use Rattle.isle_sema.specs.Typing.{Typed}
 use Rattle.isle_sema.proofs.TypedTerms.{typed_there}
-use Rattle.isle_names.specs.declared.name_error.NameError.{NameError}
-use Rattle.isle_names.specs.Claims.{IsLawfulClaim}
-use Rattle.isle_names.specs.NameFault.{AreLawfulNames, IsNameFault}
-use Rattle.isle_names.specs.Words.{is_term_name}
-use Rattle.isle_names.proofs.FoundLaws.{all_behind}
-use Rattle.isle_names.proofs.LawfulLaws.{parts_are_lawful}
+use Rattle.isle_lawful_names.specs.declared.name_error.NameError.{NameError}
+use Rattle.isle_lawful_names.specs.Claims.{IsLawfulClaim}
+use Rattle.isle_lawful_names.specs.NameFault.{AreLawfulNames, IsNameFault}
+use Rattle.isle_lawful_names.specs.Words.{is_term_name}
+use Rattle.isle_lawful_names.proofs.FoundLaws.{all_behind}
+use Rattle.isle_lawful_names.proofs.LawfulLaws.{parts_are_lawful}
 use Rattle.isle_codegen.specs.Names.{are_file_names}
 use Rattle.isle_codegen.specs.LawfulEnvironment.{IsLawfulEnvironment}
 use Rattle.isle_codegen.proofs.Compilable.{IsCompilable}

@@ -9,7 +9,6 @@ pub mod SpokenOperands
 pub mod ExtractedPaths
 pub mod CalledTerms
 pub mod RulePositions
-pub mod ServedWorks
 pub mod ReadLists
 pub mod MeanRules
 pub mod TypedNames

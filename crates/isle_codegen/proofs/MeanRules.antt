@@ -14,9 +14,9 @@ use Rattle.isle_core.specs.declared.types.ReturnKind.TheVariants as return_kind
 use Rattle.isle_core.specs.declared.types.Term.{Term}
 use Rattle.isle_core.specs.Value.{Value, End, Ran}
 use Rattle.isle_core.specs.Meaning.{Meaning}
+use Rattle.isle_core.specs.Space.{Space}
 use Rattle.isle_core.specs.HasType.{HaveTypes}
 use Rattle.isle_core.specs.Nameless.{nameless_end, nameless_ran}
-use Rattle.isle_core.proofs.RuleMatches.{IsTested}
 use Rattle.isle_core.specs.Lawful.{IsLawful}
 use Rattle.isle_core.specs.HighestMatch.{outcome_of}
 use Rattle.isle_core.specs.Calling.{is_several, kind_of, AnswersOnce}
@@ -29,10 +29,11 @@ use Rattle.isle_core.specs.Terms.{sym_text, term_name, with_rules}
 use Rattle.isle_core.specs.Rule.{Environment, Rule, rules_of}
 use Rattle.isle_core.specs.BuiltRule.{IsBuiltRule, CallsBuiltTerms}
 use Rattle.isle_core.specs.Scope.{IsScopedRule}
+use Rattle.isle_core.specs.Served.{IsTested, AreServedRules, IsServedSet}
 use Rattle.isle_core.proofs.Contained.{head_contained, tail_contained, contained_cases, none_contained}
 use Rattle.isle_core.proofs.OutcomeOf.{outcome_prescribed, highest_is_one}
 use Rattle.isle_core.proofs.OutcomeOnce.{prescribed_once}
-use Rattle.isle_core.proofs.SetMeans.{AreServedRules, set_means}
+use Rattle.isle_core.proofs.SetMeans.{set_means}
 use Rattle.isle_printer.specs.Bytes.{same_bytes}
 use Rattle.isle_printer.proofs.Bytes.{same_bytes_refl, same_bytes_sound}
 use Rattle.isle_ast.specs.Tree.{Def}
@@ -40,8 +41,7 @@ use Rattle.isle_sema.specs.Typing.{Typed}
 use Rattle.isle_sema.proofs.OftenRules.{typed_single}
 use Rattle.isle_sema.proofs.BuiltRules.{typed_built, typed_scoped, typed_terms, typed_tests}
 use Rattle.isle_checks.specs.CheckList.{IsClean}
-use Rattle.isle_codegen.proofs.RulesApart.{rules_apart}
-use Rattle.isle_codegen.proofs.ServedWorks.{several_prescribes}
+use Rattle.isle_codegen.proofs.RulesApart.{rules_apart, set_apart}
 use Rattle.isle_tree.specs.Program.{Function, Program}
 use Rattle.isle_tree.specs.Run.{run, function_of}
 use Rattle.isle_codegen.specs.Emits.{IsEmitted, AreEmitted}
@@ -175,13 +175,23 @@ module _ (defs : List Def) (options : CodegenOptions) (files : Files) (env : Env
   its_name : term_name env id ≡ sym_text env the_term.name
   its_name = name_of_term env id the_term h.emitted.found
 
+  -- so its set stands for checked rules
+  served_set : (m : Meaning) (args : List Value) → HaveTypes env args the_term.arg_tys → IsLawful env id m → IsServedSet env m args the_term.arg_tys h.set (rules_of env id)
+  served_set m args types lawful = record {
+    stands = h.stands;
+    met = served m lawful;
+    variants = names.apart.variants;
+    types = types;
+    apart = set_apart defs env id the_term h.set typed h.emitted.found h.stands m args lawful;
+  }
+
   -- the function is found by the term's name
   by_name : function_of (sym_text env the_term.name) p.fns ≡ Some h.function
   by_name = ap (λ (n : List ℕ). function_of n p.fns) (sym its_name) ∙ h.found
 
   -- ---- a term that answers at most once
 
-  module _ (single : is_several kind ≡ false) (args : List Value) (m : Meaning) (types : HaveTypes env args the_term.arg_tys) (lawful : IsLawful env id m) where
+  module _ (single : is_several kind ≡ false) (args : List Value) (m : Meaning) (space : Space) (types : HaveTypes env args the_term.arg_tys) (lawful : IsLawful env id m) where
     abbrev once : AnswersOnce kind
     once = answers_once kind single
 
@@ -189,18 +199,18 @@ module _ (defs : List Def) (options : CodegenOptions) (files : Files) (env : Env
     same_outcome : block_outcome env m args (paths_of h.set.bindings) h.emitted.block kind ≡ outcome_of env m args (rules_of env id) kind []
     same_outcome =
         let met = served m lawful in
-        h.emitted.means.once single m args kind
+        h.emitted.means.once single m args kind (served_set m args types lawful).apart
         ∙ set_means env m args the_term.arg_tys (paths_of h.set.bindings) (rules_of env id) h.set.rules kind names.apart.variants types
         (record { built = met.built; scoped = met.scoped; terms = met.terms; typed = met.typed; served = met.served; single = typed_single defs env id the_term typed h.emitted.found once }) h.stands.flat
 
-    runs : AreSameRuns env (run p (term_name env id) args m) (ran_of the_term (outcome_of env m args (rules_of env id) kind []))
+    runs : AreSameRuns env (run p (term_name env id) args m space) (ran_of the_term (outcome_of env m args (rules_of env id) kind []))
     runs =
-        ap (λ (n : List ℕ). option_map (λ (q : Ran). nameless_ran (impure_ran env q)) (run p n args m)) its_name
-        ∙ runs_as_block options files env the_term h.set.bindings h.emitted.block h.function h.emitted.lawful h.emitted.single h.emitted.given once names fns term_fns p args m
+        ap (λ (n : List ℕ). option_map (λ (q : Ran). nameless_ran (impure_ran env q)) (run p n args m space)) its_name
+        ∙ runs_as_block options files env the_term h.set.bindings h.emitted.block h.function h.emitted.lawful h.emitted.single h.emitted.given once names fns term_fns p args m space
         by_name types (bindings_answered env id h.set h.stands m lawful) lawful.declared
         ∙ ap (λ (o : Prescription). option_map nameless_ran (ran_of the_term o)) same_outcome
 
-    gives_outcome : GivesOutcome env p id the_term args m
+    gives_outcome : GivesOutcome env p id the_term args m space
     gives_outcome =
         let outcome = outcome_of env m args (rules_of env id) kind [] in
         let apart = rules_apart defs env id the_term typed clean listed h.emitted.found single m args lawful types in
@@ -209,28 +219,28 @@ module _ (defs : List Def) (options : CodegenOptions) (files : Files) (env : Env
           outcome = outcome;
           prescribed = prescribed;
           only = λ other k. prescribed_once k prescribed;
-          given = gives_as env the_term outcome (run p (term_name env id) args m) once runs;
+          given = gives_as env the_term outcome (run p (term_name env id) args m space) once runs;
         }
 
   -- ---- a term that answers several times
 
-  gives_first : is_several kind ≡ true → (args : List Value) (m : Meaning) → HaveTypes env args the_term.arg_tys → IsLawful env id m → GivesFirst env p id args m
-  gives_first several args m types lawful = record {
+  gives_first : is_several kind ≡ true → (args : List Value) (m : Meaning) (space : Space) → HaveTypes env args the_term.arg_tys → IsLawful env id m → GivesFirst env p id args m space
+  gives_first several args m space types lawful = record {
     given = several_outcome env m args (paths_of h.set.bindings) h.emitted.block;
-    prescribed = several_prescribes env m args the_term.arg_tys h.set h.emitted.block (rules_of env id) (h.emitted.means.several several) h.stands (served m lawful) names.apart.variants types;
+    prescribed = h.emitted.means.several several m args the_term.arg_tys (rules_of env id) (served_set m args types lawful);
     runs =
-        ap (λ (n : List ℕ). option_map (λ (q : Ran). nameless_ran (impure_ran env q)) (run p n args m)) its_name
-        ∙ runs_as_several options files env the_term h.set.bindings h.emitted.block h.function h.emitted.lawful h.emitted.single h.emitted.given several h.emitted.lawful.items names fns term_fns p args m
+        ap (λ (n : List ℕ). option_map (λ (q : Ran). nameless_ran (impure_ran env q)) (run p n args m space)) its_name
+        ∙ runs_as_several options files env the_term h.set.bindings h.emitted.block h.function h.emitted.lawful h.emitted.single h.emitted.given several h.emitted.lawful.items names fns term_fns p args m space
         by_name types (bindings_answered env id h.set h.stands m lawful) lawful.declared;
   }
 
-  gives_rules : (often : ReturnKind) → kind ≡ often → (args : List Value) (m : Meaning) → HaveTypes env args the_term.arg_tys → IsLawful env id m → GivesRules often env p id the_term args m
-  gives_rules return_kind.Plain is args m types lawful = gives_outcome (ap is_several is) args m types lawful
-  gives_rules return_kind.Option is args m types lawful = gives_outcome (ap is_several is) args m types lawful
-  gives_rules return_kind.Iterator is args m types lawful = gives_first (ap is_several is) args m types lawful
+  gives_rules : (often : ReturnKind) → kind ≡ often → (args : List Value) (m : Meaning) (space : Space) → HaveTypes env args the_term.arg_tys → IsLawful env id m → GivesRules often env p id the_term args m space
+  gives_rules return_kind.Plain is args m space types lawful = gives_outcome (ap is_several is) args m space types lawful
+  gives_rules return_kind.Option is args m space types lawful = gives_outcome (ap is_several is) args m space types lawful
+  gives_rules return_kind.Iterator is args m space types lawful = gives_first (ap is_several is) args m space types lawful
 
   -- the function of the term means its rules
   pub means_rules : MeansRules env p id
   means_rules =
-      subst (λ (o : Option Term). IsSomeAnd o (λ (t : Term). (args : List Value) (m : Meaning) → HaveTypes env args t.arg_tys → IsLawful env id m → GivesRules (kind_of t.kind) env p id t args m)) (sym h.emitted.found)
+      subst (λ (o : Option Term). IsSomeAnd o (λ (t : Term). (args : List Value) (m : Meaning) (space : Space) → HaveTypes env args t.arg_tys → IsLawful env id m → GivesRules (kind_of t.kind) env p id t args m space)) (sym h.emitted.found)
       (gives_rules kind refl)

@@ -1,5 +1,5 @@
 -- The operands that stand in statements.
-use Rattle.std.proofs.Common.{List, [], ◌∷◌, refl}
+use Rattle.std.proofs.Common.{List, [], ◌∷◌}
 use Rattle.isle_tree.specs.declared.tree.Operand.{Operand}
 use Rattle.isle_tree.specs.declared.tree.Read.{Read}
 use Rattle.isle_tree.specs.declared.tree.Read.TheVariants as read
@@ -9,7 +9,6 @@ use Rattle.isle_tree.specs.declared.tree.TPat.{TPat}
 use Rattle.isle_tree.specs.declared.tree.TPat.TheVariants as pattern
 use Rattle.isle_tree.specs.Program.{Stmt, Let, LetList, IfEq, IfLet, Match, Loop, Return, Extend, Overflow, Log, Split, Tail, Body}
 use Rattle.isle_tree.specs.Walk.{of_body}
-use Rattle.isle_simulation.proofs.LoggedLaws.{IsOwn}
 
 -- the operand of a read
 abbrev pub read_operand : Read → Operand
@@ -61,7 +60,3 @@ own_operands (Tail texts) = []
 -- those of a body
 abbrev pub body_operands : Body → List Operand
 body_operands b = of_body own_operands b
-
--- log lines have none
-pub operands_own : IsOwn own_operands
-operands_own = record { if_eq = λ a b x y. refl; if_let = λ pat r x y. refl; arms = λ r x y. refl; loop = λ list item x y. refl; split = λ within x y. refl; log = λ term place. refl }

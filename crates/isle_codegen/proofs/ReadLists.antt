@@ -13,6 +13,7 @@ use Rattle.isle_core.specs.Path.{Path, at, paths_of}
 use Rattle.isle_core.specs.Rule.{Environment, Rule, rules_of}
 use Rattle.isle_core.specs.RuleSet.{is_test, equal_test}
 use Rattle.isle_core.specs.StandsFor.{AreFlat, StandsFor}
+use Rattle.isle_core.proofs.AllLaws.{all_front, all_back}
 use Rattle.isle_ast.specs.Tree.{Def}
 use Rattle.isle_blocks.specs.CallsOnce.{HasCallsOnce}
 use Rattle.isle_blocks.specs.Several.{HasItsLists}
@@ -26,14 +27,6 @@ mapped_all : {A B : Type 0} (P : B → Type 0) (g : A → B) (xs : List A) → A
 mapped_all P g [] h = tt
 mapped_all P g (x ∷ xs) h = (h.0, mapped_all P g xs h.1)
 
-all_left : {A : Type 0} (P : A → Type 0) (xs ys : List A) → AllByRecursion P (xs ++ ys) → AllByRecursion P xs
-all_left P [] ys h = tt
-all_left P (x ∷ xs) ys h = (h.0, all_left P xs ys h.1)
-
-all_right : {A : Type 0} (P : A → Type 0) (xs ys : List A) → AllByRecursion P (xs ++ ys) → AllByRecursion P ys
-all_right P [] ys h = h
-all_right P (x ∷ xs) ys h = all_right P xs ys h.1
-
 -- a flat rule that reads the items of its own lists alone, and has each ordered call once
 has_lists : (env : Environment) (ps : List Path) (f : FlatRule) → ReadsItsLists ps f → HasCallsOnce env ps f → HasItsLists env ps f
 has_lists env ps f h once =
@@ -41,8 +34,8 @@ has_lists env ps f h once =
     let tests = map (is_test ps) f.constraints in
     let equals = map (equal_test ps) f.equals in
     record {
-      tests = mapped_all (ReadsLists own) (is_test ps) f.constraints (all_left (ReadsLists own) tests equals h.tests);
-      equals = mapped_all (ReadsLists own) (equal_test ps) f.equals (all_right (ReadsLists own) tests equals h.tests);
+      tests = mapped_all (ReadsLists own) (is_test ps) f.constraints (all_front (ReadsLists own) tests equals h.tests);
+      equals = mapped_all (ReadsLists own) (equal_test ps) f.equals (all_back (ReadsLists own) tests equals h.tests);
       lists = mapped_all (ListsWithin own) (at ps) f.iterators h.lists;
       calls = mapped_all (ListsWithin own) (at ps) f.ordered h.ordered;
       result = h.result;

@@ -28,8 +28,8 @@ use Rattle.isle_codegen.specs.Emission.{DefsArePlaced}
 use Rattle.isle_codegen.specs.Errors.{IsErrors, IsNameError, TellsParseError, of_parsing, of_defs as of_source, of_types, of_rules, of_recursion}
 use Rattle.isle_codegen.specs.Source.{Source, GoesWrong}
 use Rattle.isle_codegen.proofs.Placed.{terms_placed, rules_placed, wrong_placed, typing_placed}
-use Rattle.isle_recursion.specs.Recursions.{told_before, recursion_error}
-use Rattle.isle_recursion.specs.RuleErrors.{AreUnmarkedTerms, IsRecursionOf}
+use Rattle.isle_checks.specs.Recursions.{told_before, recursion_error}
+use Rattle.isle_checks.specs.RuleErrors.{AreUnmarkedTerms, IsRecursionOf}
 use Rattle.isle_core.specs.declared.TermId.{TermId}
 use Rattle.isle_core.specs.declared.types.Term.{Term}
 use Rattle.isle_core.specs.Terms.{with_rules}
@@ -110,7 +110,7 @@ typing_told e files defs error is placed told = ⊎_elim
     }))
     is
 
--- behind inputs that were read, a refusal of their texts is one of the files
+-- after inputs that were read, a refusal of their texts is one of the files
 pub read_cause : (e : FileError) (options : CodegenOptions) (files : Option Contents) (inputs names texts : List (List ℕ)) (before after : Counts) → names ≡ printed options inputs
     → AllTried inputs before after → IfSome files (λ fs. AreRead fs inputs texts) → IsRefusal e names texts → HasCause e options files inputs before after
 read_cause error.Memory options files inputs names texts before after is tried read h = tried.1

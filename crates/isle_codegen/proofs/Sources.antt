@@ -46,7 +46,7 @@ wrong_at n (u ∷ ts) (suc i) at t ds lt is s f =
     let behind : GoesWrong (n + 1) ts (record { file = n + 1 + i; offset = at }) = wrong_at (n + 1) ts i at t s.1 (omega (arith, lt)) is s.3 (subst (λ m. IsTextFault m t at) (sym same) f) in
     later n u ts s.0 (record { file = n + suc i; offset = at }) s.2 (subst (λ m. GoesWrong (n + 1) ts (record { file = m; offset = at })) same behind)
 
--- a text goes wrong behind those that spell definitions
+-- a text goes wrong after those that spell definitions
 pub source_wrong : (texts : List (List ℕ)) (i : ℕ) (t : List ℕ) (ds : List Def) (pos : Pos) → i < length texts → t ≡ get_or texts i t → Source 0 (take i texts) ds → pos.file ≡ i → IsTextFault i t pos.offset
     → GoesWrong 0 texts pos
 source_wrong texts i t ds pos lt is s file f =

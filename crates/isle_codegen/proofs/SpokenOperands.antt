@@ -2,7 +2,7 @@
 use Rattle.std.proofs.Common.{◌≡◌, ⊎_elim, ℕ, ℤ, ◌+◌, List, [], ◌∷◌, ◌++◌, Bool, true, false, Option, Some, None, map, option_map, refl, sym, ap, ◌∙◌, subst}
 use Rattle.std.specs.Prelude.{Contains, IsSomeAnd, option_and_then, slice_get}
 use Rattle.std.specs.List.{AllByRecursion}
-use Rattle.std.proofs.lemmas.List.Elements.{Contains-append_left, Contains-append_right}
+use Rattle.std.proofs.lemmas.List.Elements.{Contains-append_left}
 use Rattle.isle_core.specs.declared.options.CodegenOptions.{CodegenOptions}
 use Rattle.isle_core.specs.declared.BindingId.{BindingId}
 use Rattle.isle_core.specs.declared.Sym.{Sym}
@@ -13,7 +13,6 @@ use Rattle.isle_core.specs.declared.rule_sets.Binding.{Binding}
 use Rattle.isle_core.specs.declared.rule_sets.Binding.TheVariants as binding
 use Rattle.isle_core.specs.declared.rule_sets.Constraint.{Constraint}
 use Rattle.isle_core.specs.declared.rule_sets.Constraint.TheVariants as constraint
-use Rattle.isle_core.specs.declared.rule_sets.FlatRule.{FlatRule}
 use Rattle.isle_core.specs.declared.rule_sets.RuleSet.{RuleSet}
 use Rattle.isle_core.specs.declared.types.ReturnKind.{ReturnKind}
 use Rattle.isle_core.specs.declared.types.ReturnKind.TheVariants as return_kind
@@ -22,57 +21,56 @@ use Rattle.isle_core.specs.declared.types.TypeDef.{TypeDef}
 use Rattle.isle_core.specs.declared.types.TypeDef.TheVariants as def
 use Rattle.isle_core.specs.declared.types.Variant.{Variant as VariantDef}
 use Rattle.isle_core.specs.declared.values.Callee.{Callee}
-use Rattle.isle_core.specs.ArmPlaces.{bound_within}
+use Rattle.isle_core.specs.ArmPlaces.{ArePlacesOf, bound_within}
 use Rattle.isle_core.specs.Bindable.{IsPlain, bound_by}
 use Rattle.isle_core.specs.Block as block
 use Rattle.isle_core.specs.Block.{Block, Stop, Step, Control}
-use Rattle.isle_core.specs.BlockLawful.{IsLawfulBlock}
-use Rattle.isle_core.specs.Calling.{calling, extracting, impure, kind_of}
+use Rattle.isle_core.specs.BlockLawful.{Source, IsConstraintOver, IsLawfulBlock}
+use Rattle.isle_core.specs.Calling.{calling, extracting, kind_of}
 use Rattle.isle_core.specs.Constants.{int_value}
 use Rattle.isle_core.specs.Form.{Form, form, form_of_variant, variant_form}
 use Rattle.isle_core.specs.HasType.{typed_fields}
-use Rattle.isle_core.specs.Making.{Making, MakesVariant, MakesStruct}
+use Rattle.isle_core.specs.Making.{MakesVariant, MakesStruct}
 use Rattle.isle_core.specs.Path.{Path, Arg, ConstBool, ConstInt, ConstPrim, MadeStruct, NoPath, APath, at, at_all, paths_of}
 use Rattle.isle_core.specs.PathType.{IsPathOf}
 use Rattle.isle_core.specs.Rule.{Environment, Rule}
-use Rattle.isle_core.specs.RuleSet.{is_test, equal_test, flat_tests}
-use Rattle.isle_core.specs.Setting.{Setting, setting, paths_in, gives_several}
+use Rattle.isle_core.specs.RuleSet.{is_test, equal_test}
+use Rattle.isle_core.specs.Setting.{Setting, setting, paths_in}
 use Rattle.isle_core.specs.SingleArms.{HasSingleArms, IsSingle}
-use Rattle.isle_core.specs.StandsFor.{AreFlat, StandsFor}
+use Rattle.isle_core.specs.StandsFor.{StandsFor}
 use Rattle.isle_core.specs.Terms.{sym_text}
-use Rattle.isle_core.specs.Tests.{Test, Is, rule_tests}
+use Rattle.isle_core.specs.Tests.{Is}
 use Rattle.isle_core.proofs.BindingPaths.{IsThere, contains_at}
-use Rattle.isle_core.proofs.Contained.{head_contained, tail_contained, contained_cases, none_contained}
-use Rattle.isle_blocks.specs.RuleTests.{IsRuleTest, of_rule, of_inner, TestsRules, DoesRules}
+use Rattle.isle_blocks.specs.RuleTests.{IsRuleTest, of_rule, of_inner, TestsRules, DoesRules, ArmsTestRules}
+use Rattle.isle_core.proofs.FlatRules.{flat_rule}
 use Rattle.isle_rulesets.proofs.FirstLaws.{map_contains}
 use Rattle.isle_tree.specs.declared.tree.Operand.{Operand}
 use Rattle.isle_tree.specs.declared.tree.Operand.TheVariants as operand
 use Rattle.isle_tree.specs.declared.tree.Read.{Read}
 use Rattle.isle_tree.specs.declared.tree.TBind.{TBind}
-use Rattle.isle_tree.specs.declared.tree.TExpr.{TExpr}
 use Rattle.isle_tree.specs.declared.tree.TPat.{TPat}
-use Rattle.isle_tree.specs.Program.{Stmt, Body, Done, Then, Function}
+use Rattle.isle_tree.specs.Program.{Body, Function}
 use Rattle.isle_tree.specs.Walk.{of_stmt}
 use Rattle.isle_simulation.specs.Completed.{completed, completed_control, step_binds}
+use Rattle.isle_simulation.specs.Manner.{manner_of}
 use Rattle.isle_simulation.specs.Operands.{constant, in_place, is_bound}
 use Rattle.isle_simulation.specs.Patterns.{pattern_of, pattern_named, leaves_out}
 use Rattle.isle_simulation.specs.References.{is_declared, is_reference_in, read_as}
-use Rattle.isle_simulation.specs.Statements.{made_named, binds_list, local_stmt}
-use Rattle.isle_simulation.specs.TermFunction.{mark_of, tail_body, tail_of, tail_in, ends_in_return, log_lines, term_function}
-use Rattle.isle_simulation.proofs.ArmsRun.{arm_pattern}
+use Rattle.isle_simulation.specs.Statements.{made_named, binds_list}
+use Rattle.isle_simulation.specs.TermFunction.{mark_of, tail_body, tail_of, tail_in, ends_in_return, term_function}
+use Rattle.isle_simulation.proofs.ArmsRun.{ArmPattern, arm_pattern}
 use Rattle.isle_simulation.proofs.BoundTests.{found}
 use Rattle.isle_simulation.proofs.CompletedReady.{completed_ready}
 use Rattle.isle_simulation.proofs.CompletedRuns.{completed_single}
 use Rattle.isle_simulation.proofs.LocalStmts.{local_by}
-use Rattle.isle_simulation.proofs.LoggedLaws.{logged_of}
-use Rattle.isle_simulation.proofs.LoggedLines.{told_is}
 use Rattle.isle_simulation.proofs.Made.{over_value, over_option, some_made, test_there, function_made}
+use Rattle.isle_simulation.proofs.MadeStatements.{AllTested, AllTestedBy, AllTestedIn, EachMade, block_holds}
 use Rattle.isle_simulation.proofs.OneBind.{spelled}
 use Rattle.isle_simulation.proofs.PathValues.{IsConstant}
-use Rattle.isle_simulation.proofs.Ready.{IsSpelled, IsReady, AreReady, IsReadyBind, AreReadyBinds, IsReadyFrom, IsReadyControl}
-use Rattle.isle_simulation.proofs.Written.{written, written_test, written_operand, written_place, written_read, written_pattern, callee_of, reads, call_expr, extraction_expr, field_reads, made_expr, bound_expr, bound_stmt, lets, result_stmt, stop_before, arm_stmt, block_body, control_stmt, written_body, logged_function, function_of}
+use Rattle.isle_simulation.proofs.Ready.{IsSpelled, IsReady, IsReadyIn, AreReady, IsReadyBind}
+use Rattle.isle_simulation.proofs.Written.{written, written_test, written_operand, written_place, written_read, written_pattern, callee_of, reads, call_expr, extraction_expr, field_reads, made_expr, bound_expr, bound_stmt, result_stmt, arm_stmt, function_of}
 use Rattle.isle_codegen.specs.Spoken.{constant_path, IsSpoken, on_path, tested}
-use Rattle.isle_codegen.proofs.Operands.{read_operand, reads_operands, fields_operands, expr_operands, pattern_operands, own_operands, body_operands, operands_own}
+use Rattle.isle_codegen.proofs.Operands.{read_operand, reads_operands, fields_operands, expr_operands, pattern_operands, own_operands, body_operands}
 
 -- a local, an argument, a struct without fields, or a constant that the rules speak of
 pub data IsSpokenOperand (env : Environment) (rules : List Rule) : Operand → Type 0 where
@@ -83,29 +81,25 @@ pub data IsSpokenOperand (env : Environment) (rules : List Rule) : Operand → T
   number : (ty : TypeId) (n : ℤ) (o : Operand) → IsSpoken env rules (ConstInt ty n) → constant (int_value env ty n) ≡ Some o → IsSpokenOperand env rules o
   named : (name : Sym) → IsSpoken env rules (ConstPrim name) → IsSpokenOperand env rules (operand.Name (sym_text env name))
 
--- ---- lists
+-- ---- tests
 
-all_append : {A : Type 0} (P : A → Type 0) (xs ys : List A) → AllByRecursion P xs → AllByRecursion P ys → AllByRecursion P (xs ++ ys)
-all_append P [] ys h k = k
-all_append P (x ∷ xs) ys h k = (h.0, all_append P xs ys h.1 k)
+mutual
+  -- the arms of a block that tests what rules test
+  tests_all : (set : RuleSet) (b : Block) → TestsRules set b → AllTested (IsRuleTest set) b
+  tests_all set Stop h = tt
+  tests_all set (Step binds c more) h = (tests_by set c h.0, tests_all set more h.1)
+
+  tests_by : (set : RuleSet) (c : Control) → DoesRules set c → AllTestedBy (IsRuleTest set) c
+  tests_by set (block.Match source arms) h = tests_in set source arms h
+  tests_by set (block.Equal a b body) h = tests_all set body h.1
+  tests_by set (block.Loop result body) h = tests_all set body h
+  tests_by set (block.Return pos result) h = tt
+
+  tests_in : (set : RuleSet) (source : BindingId) (arms : block.Arms) → ArmsTestRules set source arms → AllTestedIn (IsRuleTest set) source arms
+  tests_in set source block.NoArm h = tt
+  tests_in set source (block.Arm c places body arms) h = (h.0, tests_all set body h.1, tests_in set source arms h.2)
 
 -- ---- the rules of a set
-
--- a rule whose tests these are
-record HasRule (env : Environment) (ps : List Path) (rs : List Rule) (f : FlatRule) : Type 0 where
-  rule : Rule
-  there : Contains rs rule
-  tests : (t : Test) → Contains (flat_tests ps f) t → Contains (rule_tests env rule) t
-
-flat_rule : (env : Environment) (ps : List Path) (rs : List Rule) (fs : List FlatRule) (n : ℕ) (f : FlatRule) → AreFlat env ps rs n fs → Contains fs f → HasRule env ps rs f
-flat_rule env ps [] [] n f h c = absurd (none_contained f c)
-flat_rule env ps (r ∷ rs) (g ∷ fs) n f h c =
-    ⊎_elim
-    (λ (e : g ≡ f). subst (HasRule env ps (r ∷ rs)) e (record { rule = r; there = head_contained r rs; tests = λ t k. (h.0.no_other t k).0 }))
-    (λ d. let k = flat_rule env ps rs fs (n + impure env r.rhs) f h.1 d in record { rule = k.rule; there = tail_contained r rs k.rule k.there; tests = k.tests })
-    (contained_cases g fs f c)
-flat_rule env ps [] (g ∷ fs) n f h c = absurd h
-flat_rule env ps (r ∷ rs) [] n f h c = absurd h
 
 -- what a set tests for, the rules speak of
 test_spoken : (env : Environment) (set : RuleSet) (rules : List Rule) (source : BindingId) (c : Constraint) → StandsFor env set rules → IsConstant c → IsRuleTest set source c → IsSpoken env rules (constant_path c)
@@ -257,22 +251,10 @@ module _ (env : Environment) (t : Term) (set : RuleSet) (rules : List Rule) (sta
       let h = bound_expr_so bound b (slice_get s.bindings b.0) is in
       local_by (λ st. AllSo (of_stmt own_operands st)) (binds_list s b) b.0 e h (λ borrow call same. subst (λ x. AllSo (expr_operands x)) same h)
 
-  lets_so : (bound : List ℕ) (binds : List BindingId) (more : Body) → AreReadyBinds s bound binds → AllSo (body_operands more) → AllSo (body_operands (lets s bound binds more))
-  lets_so bound [] more h k = k
-  lets_so bound (b ∷ binds) more h k =
-      all_append So (of_stmt own_operands (bound_stmt s bound b)) (body_operands (lets s (bound ++ b.0 ∷ []) binds more)) (bound_stmt_so bound b h.0) (lets_so (bound ++ b.0 ∷ []) binds more h.1 k)
-
   result_so : (kind : ReturnKind) (r : Read) → So (read_operand r) → AllSo (of_stmt own_operands (result_stmt kind r))
   result_so return_kind.Plain r h = (h, tt)
   result_so return_kind.Option r h = (h, tt)
   result_so return_kind.Iterator r h = (h, tt)
-
-  stop_so : (several : Bool) (c : Control) (after : Body) → AllSo (body_operands after) → AllSo (body_operands (stop_before several c after))
-  stop_so true (block.Return place result) after h = h
-  stop_so true (block.Match source arms) after h = h
-  stop_so true (block.Equal a b body) after h = h
-  stop_so true (block.Loop result body) after h = h
-  stop_so false c after h = h
 
   -- a test for a constant
   test_so : (source : BindingId) (c : Constraint) → IsConstant c → IsRuleTest set source c → So (written_test env c)
@@ -289,53 +271,47 @@ module _ (env : Environment) (t : Term) (set : RuleSet) (rules : List Rule) (sta
   pattern_so : (o : Option TPat) (pat : TPat) → o ≡ Some pat → AllSo (pattern_operands pat) → AllSo (pattern_operands (written_pattern o))
   pattern_so o pat e h = rw e h
 
-  mutual
-    block_so : (b : Block) (bound made : List ℕ) (end : Body) → IsReadyFrom s bound made b → HasSingleArms b → TestsRules set b → AllSo (body_operands end) → AllSo (body_operands (block_body s bound b end))
-    block_so Stop bound made end h o w k = k
-    block_so (Step binds c more) bound made end h o w k =
-        let now = bound_by bound binds in
-        let rest = stop_before (gives_several s) c (block_body s now more end) in
-        lets_so bound binds (Then (control_stmt s now c) rest) h.0
-        (all_append So (of_stmt own_operands (control_stmt s now c)) (body_operands rest) (control_so c now _ h.2 o.0 w.0) (stop_so (gives_several s) c (block_body s now more end) (block_so more now _ end h.3 o.1 w.1 k)))
+  -- a value held against the pattern of a form
+  form_so : (bound : List ℕ) (source : BindingId) (ty : TypeId) (c : Constraint) (places : List (Option BindingId)) → IsReady s bound source ty → ArmPattern env c places
+      → AllSo (read_operand (written_read s bound true source) ∷ pattern_operands (written_pattern (pattern_of env c places)))
+  form_so bound source ty c places ready a = (
+    read_so true (is_reference_in s source) (written_operand s bound source) (ready_so bound source ty ready),
+    pattern_so (pattern_of env c places) _ a.is (named_so a.f.ty a.f.variant (leaves_out (typed_fields env a.f.fields) places) a.binds),
+  )
 
-    control_so : (c : Control) (bound made : List ℕ) → IsReadyControl s bound made c → IsSingle c → DoesRules set c → AllSo (of_stmt own_operands (control_stmt s bound c))
-    control_so (block.Match source (block.Arm (constraint.ConstBool val) places body block.NoArm)) bound made k o w =
-        let v = over_value s bound source (constraint.ConstBool val) k.1.0 (λ e. cc) k.1.1 k.1.2.0 in
-        (ready_so bound source v.ty v.ready, (test_so source (constraint.ConstBool val) tt w.0, block_so body (bound_within bound places) made Done k.1.2.2 o w.1 tt))
-    control_so (block.Match source (block.Arm (constraint.ConstInt val of) places body block.NoArm)) bound made k o w =
-        let v = over_value s bound source (constraint.ConstInt val of) k.1.0 (λ e. cc) k.1.1 k.1.2.0 in
-        (ready_so bound source v.ty v.ready, (test_so source (constraint.ConstInt val of) tt w.0, block_so body (bound_within bound places) made Done k.1.2.2 o w.1 tt))
-    control_so (block.Match source (block.Arm (constraint.ConstPrim val) places body block.NoArm)) bound made k o w =
-        let v = over_value s bound source (constraint.ConstPrim val) k.1.0 (λ e. cc) k.1.1 k.1.2.0 in
-        (ready_so bound source v.ty v.ready, (test_so source (constraint.ConstPrim val) tt w.0, block_so body (bound_within bound places) made Done k.1.2.2 o w.1 tt))
-    control_so (block.Match source (block.Arm (constraint.Variant of variant) places body block.NoArm)) bound made k o w =
-        let c = constraint.Variant of variant in
-        let v = over_value s bound source c k.1.0 (λ e. cc) k.1.1 k.1.2.0 in
-        let a = arm_pattern s source v.ty c places v.is k.1.2.1 tt in
-        let inside = block_body s (bound_within bound places) body Done in (
-          read_so true (is_reference_in s source) (written_operand s bound source) (ready_so bound source v.ty v.ready),
-          all_append So (pattern_operands (written_pattern (pattern_of env c places))) (body_operands inside) (pattern_so (pattern_of env c places) _ a.is (named_so a.f.ty a.f.variant (leaves_out (typed_fields env a.f.fields) places) a.binds)) (block_so body (bound_within bound places) made Done k.1.2.2 o w.1 tt),
-        )
-    control_so (block.Match source (block.Arm (constraint.Struct of) places body block.NoArm)) bound made k o w =
-        let c = constraint.Struct of in
-        let v = over_value s bound source c k.1.0 (λ e. cc) k.1.1 k.1.2.0 in
-        let a = arm_pattern s source v.ty c places v.is k.1.2.1 tt in
-        let inside = block_body s (bound_within bound places) body Done in (
-          read_so true (is_reference_in s source) (written_operand s bound source) (ready_so bound source v.ty v.ready),
-          all_append So (pattern_operands (written_pattern (pattern_of env c places))) (body_operands inside) (pattern_so (pattern_of env c places) _ a.is (named_so a.f.ty a.f.variant (leaves_out (typed_fields env a.f.fields) places) a.binds)) (block_so body (bound_within bound places) made Done k.1.2.2 o w.1 tt),
-        )
-    control_so (block.Match source (block.Arm constraint.Some places body block.NoArm)) bound made k o w =
-        let v = over_option s bound source k.1.0 k.1.1 k.1.2.0 in
-        let inside = block_body s (bound_within bound places) body Done in (
-          bound_so bound source v.1.bound',
-          all_append So (pattern_operands (written_pattern (pattern_of env constraint.Some places))) (body_operands inside) (pattern_so (pattern_of env constraint.Some places) _ (some_made places k.1.2.1.0).1 tt) (block_so body (bound_within bound places) made Done k.1.2.2 o w.1 tt),
-        )
-    control_so (block.Match source (block.Arm c places body (block.Arm d others inside arms))) bound made k o w = absurd o
-    control_so (block.Match source block.NoArm) bound made k o w = absurd o
-    control_so (block.Equal x y body) bound made k o w = (ready_so bound x k.0.0 k.0.1, (ready_so bound y k.0.0 k.0.2, block_so body bound made Done k.1 o w.1 tt))
-    control_so (block.Loop result body) bound made k o w = block_so body (bound ++ result.0 ∷ []) made Done k.1 o w tt
-    control_so (block.Return place result) bound made k o w =
-        result_so (kind_of t.kind) (written_read s bound false result) (read_so false (is_reference_in s result) (written_operand s bound result) (ready_so bound result t.ret_ty k))
+  -- what an arm tests, and what it tests it for
+  arm_so : (bound : List ℕ) (source : BindingId) (over : Source) (c : Constraint) (places : List (Option BindingId)) (inside : Body) → IsReadyIn s bound source over → IsConstraintOver env c over → ArePlacesOf s source c places
+      → IsRuleTest set source c → AllSo (own_operands (arm_stmt s bound source c places inside))
+  arm_so bound source over (constraint.ConstBool val) places inside ready is at w =
+      let v = over_value s bound source (constraint.ConstBool val) over (λ e. cc) ready is in
+      (ready_so bound source v.ty v.ready, (test_so source (constraint.ConstBool val) tt w, tt))
+  arm_so bound source over (constraint.ConstInt val ty) places inside ready is at w =
+      let v = over_value s bound source (constraint.ConstInt val ty) over (λ e. cc) ready is in
+      (ready_so bound source v.ty v.ready, (test_so source (constraint.ConstInt val ty) tt w, tt))
+  arm_so bound source over (constraint.ConstPrim val) places inside ready is at w =
+      let v = over_value s bound source (constraint.ConstPrim val) over (λ e. cc) ready is in
+      (ready_so bound source v.ty v.ready, (test_so source (constraint.ConstPrim val) tt w, tt))
+  arm_so bound source over (constraint.Variant of variant) places inside ready is at w =
+      let v = over_value s bound source (constraint.Variant of variant) over (λ e. cc) ready is in
+      form_so bound source v.ty (constraint.Variant of variant) places v.ready (arm_pattern s source v.ty (constraint.Variant of variant) places v.is at tt)
+  arm_so bound source over (constraint.Struct of) places inside ready is at w =
+      let v = over_value s bound source (constraint.Struct of) over (λ e. cc) ready is in
+      form_so bound source v.ty (constraint.Struct of) places v.ready (arm_pattern s source v.ty (constraint.Struct of) places v.is at tt)
+  arm_so bound source over constraint.Some places inside ready is at w =
+      let v = over_option s bound source over ready is in
+      (bound_so bound source v.1.bound', pattern_so (pattern_of env constraint.Some places) _ (some_made places at.0).1 tt)
+
+  -- each operand that emission makes
+  operands_made : EachMade own_operands So s (IsRuleTest set)
+  operands_made = record {
+    bound = bound_stmt_so;
+    result = λ bound result h. result_so (kind_of t.kind) (written_read s bound false result) (read_so false (is_reference_in s result) (written_operand s bound result) (ready_so bound result t.ret_ty h));
+    stop = λ inside. tt;
+    log = λ line. tt;
+    equal = λ bound a b ty inside h k. (ready_so bound a ty h, (ready_so bound b ty k, tt));
+    arm = arm_so;
+    loop = λ list item inside. tt;
+  }
 
   -- ---- functions
 
@@ -356,6 +332,7 @@ module _ (env : Environment) (t : Term) (set : RuleSet) (rules : List Rule) (sta
   -- each operand of the function of a block that tests what the rules test
   pub function_so : (options : CodegenOptions) (files : Files) (b : Block) (f : Function) → IsLawfulBlock s b → HasSingleArms b → TestsRules set b → term_function options files s b ≡ Some f → AllSo (body_operands f.body)
   function_so options files b f lawful single tests given =
-      subst (λ (g : Function). AllSo (body_operands g.body)) (sym (told_is options files env t set.bindings b lawful single) ∙ one_function (function_of options files env t set.bindings b) f (sym (function_made options files env t set.bindings b lawful single) ∙ given))
-      (subst AllSo (sym (logged_of own_operands operands_own (written_body files env t set.bindings b) (log_lines options files s b)))
-      (block_so (completed s [] b) [] [] (tail_in files env t b) (completed_ready s b lawful) (completed_single s [] b single) (completed_tests set s [] b single tests) (tail_so _ _ _ b)))
+      let d = completed s [] b in
+      subst (λ (g : Function). AllSo (body_operands g.body)) (one_function (function_of options files env t set.bindings b) f (sym (function_made options files env t set.bindings b lawful single) ∙ given))
+      (block_holds own_operands So s (IsRuleTest set) operands_made (manner_of options files s) d [] [] (tail_in files env t b) (completed_ready s b lawful) (completed_single s [] b single)
+      (tests_all set d (completed_tests set s [] b single tests)) (tail_so _ _ _ b))

@@ -19,7 +19,7 @@ use Rattle.isle_sema.specs.Typing.{Typed}
 use Rattle.isle_sema.proofs.InternalTerms.{IsRuled as IsTypedRuled, internal_ruled}
 use Rattle.isle_sema.proofs.TypedTerms.{typed_names, typed_there}
 use Rattle.isle_tree.specs.WellFormed.{Head}
-use Rattle.isle_names.specs.Words.{is_term_name}
+use Rattle.isle_lawful_names.specs.Words.{is_term_name}
 use Rattle.isle_codegen.proofs.Compilable.{are_term_names, IsCompilable}
 use Rattle.isle_simulation.specs.TermFns.{head, head_at, IsRuled, HasTermFns}
 use Rattle.isle_codegen.proofs.EmittedNames.{name_of_term, distinct_names}

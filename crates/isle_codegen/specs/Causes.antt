@@ -16,7 +16,7 @@ use Rattle.isle_codegen.specs.declared.file_error.FileError.{FileError}
 use Rattle.isle_codegen.specs.declared.file_error.FileError.TheVariants as error
 use Rattle.isle_codegen.specs.Errors.{IsErrors, AreErrorsOfTexts, AreErrorsOfDefs, HasNameError, IsNameError}
 use Rattle.isle_codegen.specs.Source.{Source}
-use Rattle.isle_names.specs.declared.name_error.NameError.{NameError}
+use Rattle.isle_lawful_names.specs.declared.name_error.NameError.{NameError}
 use Rattle.isle_codegen.specs.Header.{HasHeader}
 use Rattle.isle_codegen.specs.Headline.{HasHeadline}
 
@@ -53,7 +53,7 @@ pub record AreSource (options : CodegenOptions) (names : List (List ℕ)) (files
   pub named : source.file_names ≡ printed options names
   pub read : IfSome files (λ fs. AreRead fs names source.file_texts)
 
--- the text is that of the definitions that the files of these names spell, behind the header comment that names them
+-- the text is that of the definitions that the files of these names spell, after the header comment that names them
 pub record IsCompiled (options : CodegenOptions) (names : List (List ℕ)) (files : Option Contents) (text : List ℕ) : Type 0 where
   pub source : FileTexts
   pub read : AreSource options names files source

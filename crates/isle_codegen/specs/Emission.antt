@@ -8,7 +8,7 @@ use Rattle.isle_core.specs.Places.{LiesIn}
 use Rattle.isle_core.specs.Rule.{Environment}
 use Rattle.isle_ast.specs.Tree.{Def}
 use Rattle.isle_ast.specs.Positions.{place_of}
-use Rattle.isle_items.specs.TypeItems.{type_items_of}
+use Rattle.isle_lawful_names.specs.TypeItems.{type_items_of}
 use Rattle.isle_simulation.specs.TraitFns.{trait_fns_of}
 use Rattle.isle_tree.specs.Program.{Program}
 

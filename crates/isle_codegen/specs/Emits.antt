@@ -7,6 +7,7 @@ use Rattle.isle_core.specs.declared.TermId.{TermId}
 use Rattle.isle_core.specs.declared.files.Files.{Files}
 use Rattle.isle_core.specs.declared.rule_sets.RuleSet.{RuleSet}
 use Rattle.isle_core.specs.declared.types.Term.{Term}
+use Rattle.isle_core.specs.ApartTests.{AreTestsApart}
 use Rattle.isle_core.specs.Value.{Value}
 use Rattle.isle_core.specs.Meaning.{Meaning}
 use Rattle.isle_core.specs.Calling.{is_several, kind_of}
@@ -22,7 +23,7 @@ use Rattle.isle_core.specs.Setting.{setting}
 use Rattle.isle_core.specs.SingleArms.{HasSingleArms}
 use Rattle.isle_blocks.specs.AllTests.{MakesTests}
 use Rattle.isle_blocks.specs.RuleTests.{TestsRules}
-use Rattle.isle_blocks.specs.Several.{HasItsLists, AddsSeveral}
+use Rattle.isle_blocks.specs.Several.{HasItsLists, GivesSeveral}
 use Rattle.isle_tree.specs.Program.{Function}
 use Rattle.isle_simulation.specs.TermFunction.{term_function}
 use Rattle.isle_simulation.specs.Emitted.{IsEmittable}
@@ -43,14 +44,15 @@ pub record CanEmit (files : Files) (env : Environment) (s : TermId × RuleSet) :
   pub term_fns : HasTermFns env
   pub names : HasRustNames env
 
--- the block gives what the rule set does
+-- the block gives what the rule set does, where the constraints that its rules put on one path exclude each other
 abbrev pub GivesSet : Environment → RuleSet → Block → Type 0
-GivesSet env s b = (m : Meaning) (args : List Value) (kind : ReturnKind) → block_outcome env m args (paths_of s.bindings) b kind ≡ set_outcome env m args (paths_of s.bindings) s.rules kind
+GivesSet env s b = (m : Meaning) (args : List Value) (kind : ReturnKind) → AreTestsApart env m args s → block_outcome env m args (paths_of s.bindings) b kind ≡ set_outcome env m args (paths_of s.bindings) s.rules kind
 
--- the block means the rule set of the term: it gives what the set does, or adds what its rules do where the term answers several times
+-- the block means the rule set of the term: it gives what the set does, or what rules prescribe for which the set stands where the term answers
+-- several times
 pub record MeansSet (env : Environment) (t : Term) (s : RuleSet) (b : Block) : Type 0 where
   pub once : is_several (kind_of t.kind) ≡ false → GivesSet env s b
-  pub several : is_several (kind_of t.kind) ≡ true → AddsSeveral env s b
+  pub several : is_several (kind_of t.kind) ≡ true → GivesSeveral env s b
 
 -- the function of the term, from a block that is lawful for its rule set, has one arm in each Match, tests and returns what its rules
 -- do, all tests of those that are tried, and means the set

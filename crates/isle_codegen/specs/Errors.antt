@@ -14,10 +14,10 @@ use Rattle.isle_types.specs.Single.{single}
 use Rattle.isle_checks.specs.CheckList.{IsCheckList, IsClean}
 use Rattle.isle_codegen.specs.declared.compile_error.CompileError.{CompileError}
 use Rattle.isle_codegen.specs.declared.compile_error.CompileError.TheVariants as compile_error
-use Rattle.isle_names.specs.declared.name_error.NameError.{NameError}
-use Rattle.isle_names.specs.NameFault.{IsNameFault}
+use Rattle.isle_lawful_names.specs.declared.name_error.NameError.{NameError}
+use Rattle.isle_lawful_names.specs.NameFault.{IsNameFault}
 use Rattle.isle_codegen.specs.Source.{Source, GoesWrong}
-use Rattle.isle_recursion.specs.RuleErrors.{IsRecursionOf}
+use Rattle.isle_checks.specs.RuleErrors.{IsRecursionOf}
 
 -- the definitions give an environment, and these are the errors of its rules, of which there are some
 pub record HasCheckErrors (defs : List Def) (errors : List Error) : Type 0 where

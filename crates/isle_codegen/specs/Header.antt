@@ -23,7 +23,7 @@ header_lines names = first_lines ++ map file_line names
 abbrev pub header : List (List ℕ) → List ℕ
 header names = comment_lines (header_lines names)
 
--- the text begins with the header comment of these names, and behind it stands no other comment
+-- the text begins with the header comment of these names, and after it stands no other comment
 pub record HasHeader (names : List (List ℕ)) (text : List ℕ) : Type 0 where
   pub print : List ℕ
   pub behind : text ≡ header names ++ print

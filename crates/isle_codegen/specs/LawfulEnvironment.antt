@@ -4,8 +4,8 @@ use Rattle.isle_core.specs.Rule.{Environment}
 use Rattle.isle_ast.specs.Tree.{Def}
 use Rattle.isle_sema.specs.Typing.{TypedOnly}
 use Rattle.isle_checks.specs.CheckList.{IsClean}
-use Rattle.isle_recursion.specs.RuleErrors.{IsRecursionOf}
-use Rattle.isle_names.specs.NameFault.{AreLawfulNames}
+use Rattle.isle_checks.specs.RuleErrors.{IsRecursionOf}
+use Rattle.isle_lawful_names.specs.NameFault.{AreLawfulNames}
 use Rattle.isle_codegen.specs.Source.{Source}
 
 -- the definitions have this environment and no other; nothing is wrong with its rules, each term that uses itself is marked so, and its

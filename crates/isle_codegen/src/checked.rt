@@ -13,10 +13,9 @@ ghost use Rattle.isle_codegen.specs.Causes.{IsTextRefusal, IsUncompiled, of_chec
 use crate::compile_error::CompileError;
 use crate::source::parse_files;
 use isle_ast::Def;
-use isle_checks::{CheckError, overlap};
+use isle_checks::{CheckError, overlap, recursion};
 use isle_core::{Error, Files, List, RuleSet, TermEnv, TermId, TypeEnv};
-use isle_names::{NameFail, lawful_names};
-use isle_recursion::recursion;
+use isle_lawful_names::{NameFail, lawful_names};
 use isle_sema::{EnvError, env_from_ast};
 use std::alloc::Global;
 
@@ -55,7 +54,8 @@ pub fn check_files(alloc: Global, files: &Files) -> Result<Checked, CompileError
 pub fn check_defs(alloc: Global, files: &Files, defs: &[Def]) -> Result<Checked, CompileError>
     requires { DefsArePlaced files.now (seen defs.now) }
     ensures lawful { let names = files.now.file_names in
-        IfOk result (λ c. IsLawfulEnvironment names (seen defs.now) (environment c.typeenv c.termenv)) }
+        IfOk result (λ c.
+        IsLawfulEnvironment names (seen defs.now) (environment c.typeenv c.termenv)) }
     ensures places { IfOk result (λ c. ArePlaced files.now (environment c.typeenv c.termenv)) }
     ensures terms { IfOk result (λ c. AreRuleSets (environment c.typeenv c.termenv) c.terms) }
     ensures err { IfErr result (λ e. IsUncompiled e files.now (seen defs.now)) }
@@ -105,7 +105,8 @@ fn told_alone(alloc: Global, error: Error) -> CompileError
 
 // Why definitions that have no environment can't be compiled.
 fn untyped(alloc: Global, fail: EnvError) -> CompileError
-    ensures { (files : TheFiles) (defs : ListOf Defs) → DefsArePlaced files defs → IsUntyped (fault defs) fail → IsUncompiled result files defs }
+    ensures { (files : TheFiles) (defs : ListOf Defs) → DefsArePlaced files defs
+        → IsUntyped (fault defs) fail → IsUncompiled result files defs }
 {
     match fail {
         EnvError::Typing(error) => told_alone(alloc, error),

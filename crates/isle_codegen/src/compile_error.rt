@@ -3,7 +3,7 @@ ghost use Rattle.isle_codegen.specs.Causes.{of_texts};
 
 use crate::file_error::FileError;
 use isle_core::{Error, Errors, Files, List};
-use isle_names::NameError;
+use isle_lawful_names::NameError;
 
 /// Why definitions give no text (`IsUncompiled` of `specs/Causes.antt` says when each comes).
 #[derive(Debug, Drop)]

@@ -24,7 +24,8 @@ pub fn compile(
     requires places { DefsArePlaced files.now (seen defs.now) }
     ensures program { IfOk result (λ text. SpellsOne (string_bytes text)) }
     ensures header { IfOk result (λ text. HasHeader files.now.file_names (string_bytes text)) }
-    ensures headline { IfOk result (λ text. HasHeadline options.now files.now (seen defs.now) (string_bytes text)) }
+    ensures headline { IfOk result (λ text.
+        HasHeadline options.now files.now (seen defs.now) (string_bytes text)) }
     ensures err { IfErr result (λ e. IsUncompiled e files.now (seen defs.now)) }
 {
     let checked = match check_defs(alloc, files, defs) {

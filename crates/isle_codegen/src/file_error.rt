@@ -1,5 +1,5 @@
 use isle_core::{Errors, IoCause};
-use isle_names::NameError;
+use isle_lawful_names::NameError;
 
 /// Why files give no text.
 #[derive(Debug, Drop)]

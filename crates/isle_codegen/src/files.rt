@@ -14,7 +14,7 @@ use std::alloc::Global;
 /// Compiles the named files, and returns the text of the program that their definitions give (`specs/Headline.antt`).
 /// `Errors` comes exactly where all were read and something is wrong with them, and tells it (`specs/Errors.antt`);
 /// `Name` where nothing else is wrong, and tells the first name that may not be emitted; `Io` tells the first input
-/// that is not read. Each name is looked up once, none behind that input, and of each input at most 2^24 + 1 bytes are
+/// that is not read. Each name is looked up once, none after that input, and of each input at most 2^24 + 1 bytes are
 /// taken.
 pub fn from_files<D: Dir>(
     alloc: Global,
@@ -22,14 +22,20 @@ pub fn from_files<D: Dir>(
     inputs: &[String],
     options: &CodegenOptions,
 ) -> Result<String, FileError>
-    ensures ok { let names = bytes_each inputs.now in IfOk result (λ text. IsCompiled options.now names (D.files dir.old) (string_bytes text)) }
-    ensures err { IfErr result (λ e. HasCause e options.now (D.files dir.old) (bytes_each inputs.now) (D.counts dir.old) (D.counts dir.new)) }
+    ensures ok { let names = bytes_each inputs.now in IfOk result
+        (λ text. IsCompiled options.now names (D.files dir.old) (string_bytes text)) }
+    ensures err { IfErr result (λ e.
+        HasCause e options.now (D.files dir.old) (bytes_each inputs.now) (D.counts dir.old)
+        (D.counts dir.new)) }
     ensures files { D.files dir.new ≡ D.files dir.old }
     ensures later { (D.counts dir.old).faults ≤ (D.counts dir.new).faults }
-    ensures stays { (D.counts dir.old).faults ≡ 2 ^ 64 - 1 → (D.counts dir.new).faults ≡ 2 ^ 64 - 1 }
-    ensures tried { IfOk result (λ text. IsTried (length inputs.now) (D.counts dir.old) (D.counts dir.new)) }
+    ensures stays { (D.counts dir.old).faults ≡ 2 ^ 64 - 1
+        → (D.counts dir.new).faults ≡ 2 ^ 64 - 1 }
+    ensures tried { IfOk result (λ text.
+        IsTried (length inputs.now) (D.counts dir.old) (D.counts dir.new)) }
     ensures steady { IfOk result (λ text. (D.counts dir.new).faults ≡ (D.counts dir.old).faults) }
-    ensures given { (D.counts dir.new).given ≤ (D.counts dir.old).given + (2 ^ 24 + 1) * length inputs.now }
+    ensures given { (D.counts dir.new).given
+        ≤ (D.counts dir.old).given + (2 ^ 24 + 1) * length inputs.now }
 {
     match Files::from_paths(alloc, dir, inputs, options.prefixes.as_slice()) {
         Ok(files) => match compiled(alloc, &files, options) {

@@ -21,7 +21,9 @@ use std::alloc::Global;
 pub fn parse_files(alloc: Global, files: &Files) -> Result<Vec<Def>, CompileError>
     requires { length files.now.file_texts ≡ length files.now.file_names }
     ensures ok { IfOk result (λ read. Source 0 files.now.file_texts (defs read.items)) }
-    ensures once { IfOk result (λ read. (others : ListOf PureDef) → Source 0 files.now.file_texts others → others ≡ defs read.items) }
+    ensures once { IfOk result (λ read.
+        (others : ListOf PureDef) → Source 0 files.now.file_texts others
+        → others ≡ defs read.items) }
     ensures placed { IfOk result (λ read. DefsArePlaced files.now (defs read.items)) }
     ensures err { IfErr result (λ e. IsTextRefusal e files.now) }
 {
@@ -36,8 +38,10 @@ pub fn parse_files(alloc: Global, files: &Files) -> Result<Vec<Def>, CompileErro
 /// where one goes wrong, and tells the place of the first that does; beside it only want of memory.
 pub fn parse_all(alloc: Global, texts: &[Text]) -> Result<Vec<Def>, ParseFail>
     ensures ok { IfOk result (λ read. Source 0 texts.now (defs read.items)) }
-    ensures once { IfOk result (λ read. (others : ListOf PureDef) → Source 0 texts.now others → others ≡ defs read.items) }
-    ensures fault { (at : Pos) (m : Mismatch) → result ≡ Err (fail.At at m) → GoesWrong 0 texts.now at }
+    ensures once { IfOk result (λ read.
+        (others : ListOf PureDef) → Source 0 texts.now others → others ≡ defs read.items) }
+    ensures fault { (at : Pos) (m : Mismatch) → result ≡ Err (fail.At at m)
+        → GoesWrong 0 texts.now at }
 {
     let mut all = Vec::new(alloc);
     for (file, text) in texts.iter().enumerate() {

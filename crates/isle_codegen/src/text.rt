@@ -28,7 +28,8 @@ pub fn codegen(
     requires terms { AreRuleSets (environment typeenv.now termenv.now) terms.now }
     requires places { ArePlaced files.now (environment typeenv.now termenv.now) }
     ensures header { IfOk result (λ text. HasHeader files.now.file_names (string_bytes text)) }
-    ensures program { IfOk result (λ text. IsText options.now files.now (environment typeenv.now termenv.now) (string_bytes text)) }
+    ensures program { IfOk result (λ text.
+        IsText options.now files.now (environment typeenv.now termenv.now) (string_bytes text)) }
 {
     let tree = codegen_tree(alloc, files, typeenv, termenv, terms, options)?;
     let print = print_program(alloc, &tree)?;

@@ -9,15 +9,14 @@ ghost use Rattle.isle_codegen.specs.Emission.{IsFrame, ArePlaced};
 ghost use Rattle.isle_codegen.specs.Emits.{CanEmit, IsEmitted, AreEmitted};
 ghost use Rattle.isle_codegen.specs.Headline.{FunctionsMean};
 ghost use Rattle.isle_codegen.specs.LawfulEnvironment.{MayBeEmitted};
-ghost use Rattle.isle_core.specs.LineStarts.{starts_of};
 
 use isle_blocks::serialize;
 use isle_core::{
     CodegenOptions, Files, LineStarts, List, OutOfMemory, ReturnKind, RuleSet, TermEnv, TermId,
     TermKind, TypeEnv,
 };
-use isle_emission::{ConstTypes, Context, term_function};
-use isle_items::type_items;
+use isle_emission::{ConstTypes, Sources, term_function};
+use isle_lawful_names::type_items;
 use isle_operands::{kind_of, trait_fns};
 use isle_tree::{Function, Program};
 use std::alloc::Global;
@@ -32,36 +31,21 @@ fn is_several(kind: &TermKind) -> bool
     }
 }
 
-// The function of the term of this number, from the block of its rule set. The table is that of the files, and the
-// constants are those of the environment.
+// The function of the term of this number, from the block of its rule set.
 fn emit_one(
     alloc: Global,
-    files: &Files,
-    starts: &LineStarts,
-    consts: &ConstTypes<'_>,
-    typeenv: &TypeEnv,
-    termenv: &TermEnv,
+    sources: &Sources<'_>,
     term: TermId,
     rules: &RuleSet,
-    options: &CodegenOptions,
 ) -> Result<Function, OutOfMemory>
-    requires starts { starts.now ≡ map starts_of files.now.file_texts }
-    requires consts { consts.now ≡ typeenv.now.consts }
-    requires can { CanEmit files.now (environment typeenv.now termenv.now) (term, rules.now) }
-    ensures { IfOk result (λ f. IsEmitted options.now files.now (environment typeenv.now termenv.now) term rules.now (function f)) }
+    requires { CanEmit sources.now.files.now
+        (environment sources.now.typeenv.now sources.now.termenv.now) (term, rules.now) }
+    ensures { IfOk result (λ f. IsEmitted sources.now.options.now sources.now.files.now
+        (environment sources.now.typeenv.now sources.now.termenv.now) term rules.now (function f)) }
 {
-    let declared = &termenv.terms.as_slice()[term.index()];
+    let declared = &sources.termenv.terms.as_slice()[term.index()];
     let block = serialize(alloc, rules, is_several(&declared.kind))?;
-    let context = Context {
-        typeenv,
-        termenv,
-        term: declared,
-        bindings: rules.bindings.as_slice(),
-    };
-    match term_function(alloc, files, starts, consts, &context, &block, options)? {
-        Some(function) => Ok(function),
-        None => unreachable!(),
-    }
+    term_function(alloc, sources, declared, rules, &block)
 }
 
 // The functions of terms with their rule sets, in order.
@@ -74,15 +58,23 @@ fn emit_all(
     options: &CodegenOptions,
 ) -> Result<Vec<Function>, OutOfMemory>
     requires { AllByRecursion (CanEmit files.now (environment typeenv.now termenv.now)) terms.now }
-    ensures { IfOk result (λ fns. AreEmitted options.now files.now (environment typeenv.now termenv.now) terms.now (map function fns.items)) }
+    ensures { IfOk result (λ fns.
+        AreEmitted options.now files.now (environment typeenv.now termenv.now) terms.now
+        (map function fns.items)) }
 {
     let starts = LineStarts::new(alloc, files)?;
     let consts = ConstTypes::new(alloc, typeenv.consts.as_slice())?;
+    let sources = Sources {
+        files,
+        starts: &starts,
+        typeenv,
+        termenv,
+        consts: &consts,
+        options,
+    };
     let mut fns = Vec::new(alloc);
     for (term, rules) in terms {
-        fns.push(emit_one(
-            alloc, files, &starts, &consts, typeenv, termenv, *term, rules, options,
-        )?)?;
+        fns.push(emit_one(alloc, &sources, *term, rules)?)?;
     }
     Ok(fns)
 }
@@ -103,8 +95,10 @@ pub fn codegen_tree(
     requires terms { AreRuleSets (environment typeenv.now termenv.now) terms.now }
     requires places { ArePlaced files.now (environment typeenv.now termenv.now) }
     ensures well_formed { IfOk result (λ p. IsWellFormed (program p)) }
-    ensures frame { IfOk result (λ p. IsFrame options.now (environment typeenv.now termenv.now) (program p)) }
-    ensures functions { IfOk result (λ p. FunctionsMean options.now files.now (environment typeenv.now termenv.now) (program p)) }
+    ensures frame { IfOk result (λ p.
+        IsFrame options.now (environment typeenv.now termenv.now) (program p)) }
+    ensures functions { IfOk result (λ p.
+        FunctionsMean options.now files.now (environment typeenv.now termenv.now) (program p)) }
 {
     let signatures = trait_fns(alloc, typeenv, termenv)?;
     let types = type_items(alloc, typeenv)?;

@@ -8,7 +8,7 @@ use Rattle.isle_command_line.specs.Lines as choice
 use Rattle.isle_command_line.specs.Lines.{Choice, ChoiceS, ChoicesS, no_choice, a_choice, clash, AreOnce, no_options, with_choice, options_of}
 use Rattle.isle_command_line.proofs.WordLaws.{both}
 
--- an option may stand behind those that were chosen
+-- an option may stand after those that were chosen
 abbrev pub free : CodegenOptions → Choice → Bool
 free o choice.NoAllow = not o.exclude_global_allow_pragmas
 free o choice.Log = not o.emit_logging

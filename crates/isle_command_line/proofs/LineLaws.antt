@@ -50,7 +50,7 @@ with_name verb.Compile o ws h = continues_less ws (codes "a") (whole _ (command.
 with_name (verb.Run t) o ws h = continues_less ws (codes "a") (with_term t o (source.File (codes "a")) _ (has_read_named (verb.Run t) o ws (codes "a") h refl))
 with_name verb.Build o ws h = continues_less ws (codes "a") (whole _ (command.Build o (codes "a")) (has_read_named verb.Build o ws (codes "a") h refl))
 
--- a line begins with words behind which something is known
+-- a line begins with words after which something is known
 pub continues : (s : Known) (ws : List (List ℕ)) → HasRead s ws → Continues ws
 unfolding count parts kind_of is_trace is_answers
 continues state.Begin ws h = whole ws _ (has_read_asks state.Begin ws h)

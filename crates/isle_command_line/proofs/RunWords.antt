@@ -27,7 +27,7 @@ name_no_trace w h = by (is_trace w) refl
     by false e = refl
     by true e = let f : false ≡ true = sym (ap is_name (trace_is w e)) ∙ h in cc
 
--- what stands behind a prefix
+-- what stands after a prefix
 after_is : (p w n : List ℕ) → after_prefix p w ≡ Some n → w ≡ p ++ n
 after_is [] w n e = cc
 after_is (b ∷ p) [] n e = cc

@@ -1,4 +1,4 @@
--- What is known behind words is true of them.
+-- What is known after words is true of them.
 use Rattle.std.proofs.Common.{◌≡◌, ℕ, ◌≤◌, List, [], ◌∷◌, ◌++◌, length, append_assoc, append-nil, Bool, true, false, not, ◌&&◌, Option, Some, None, refl, ap, sym, ◌∙◌, subst, arith}
 use Rattle.std.specs.Prelude.{codes}
 use Rattle.std.specs.Prelude.{is_some}
@@ -34,7 +34,7 @@ verb_word verb.Compile = codes "compile"
 verb_word verb.Build = codes "build"
 verb_word (verb.Run t) = codes "run"
 
--- the words behind the first one are options that ask for this, behind --trace where the run is traced
+-- the words after the first one are options that ask for this, after --trace where the run is traced
 abbrev pub Begun : Verb → CodegenOptions → List (List ℕ) → Type 0
 Begun (verb.Run true) o us = (vs : List (List ℕ)) × Chose o vs × (us ≡ codes "--trace" ∷ vs)
 Begun (verb.Run false) o us = Chose o us
@@ -213,7 +213,7 @@ has_read s ws (v ∷ vs) h = by (next s v) (has_read_next s ws v h) (λ t g. has
     by None h go = tt
     by (Some t) h go = subst (After (read t vs)) (append_assoc ws (v ∷ []) vs) (go t h)
 
--- what is known behind words is true of them
+-- what is known after words is true of them
 pub told : (ws : List (List ℕ)) → After (read state.Begin ws) ws
 told ws = has_read state.Begin [] ws refl
 

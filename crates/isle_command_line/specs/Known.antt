@@ -1,4 +1,4 @@
--- What is known behind the first words of a line, as a pure tree.
+-- What is known after the first words of a line, as a pure tree.
 use Rattle.std.specs.Prelude.{ℕ, List, Bool}
 use Rattle.isle_core.specs.declared.options.CodegenOptions.{CodegenOptions}
 use Rattle.isle_values.specs.Written.{Writtens}

@@ -127,7 +127,7 @@ pub record IsBad (words : List (List ℕ)) (i : ℕ) : Type 0 where
   pub before : Continues (take i words)
   pub bad : Continues (take (i + 1) words) → ⊥
 
--- a line would go on behind the words, and they are none
+-- a line would go on after the words, and they are none
 pub record IsMissing (words : List (List ℕ)) : Type 0 where
   pub before : Continues words
   pub none : (c : Request) → LineS words c → ⊥

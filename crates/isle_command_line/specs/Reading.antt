@@ -1,4 +1,4 @@
--- What is known behind the first words of a line, and how each word more changes it.
+-- What is known after the first words of a line, and how each word more changes it.
 use Rattle.std.specs.Prelude.{◌≡◌, ℕ, ◌+◌, ◌<◌, List, [], ◌∷◌, ◌++◌, length, take, Bool, true, false, ◌&&◌, ◌==◌, nat_le, Option, Some, None, codes, if◌then◌else◌, is_some, IsSome}
 use Rattle.std.specs.List.{list_all, position_or_len, before_first, after_first}
 use Rattle.std.specs.Str.{bytes_eq}
@@ -61,7 +61,7 @@ kind_of w =
 unfoldable pub count : List ℕ → Option ℕ
 count w = if nat_le 1 (length w) && (nat_le (length w) 18 && list_all is_digit w) then Some (decimal_value w) else None
 
--- what stands before the first = and behind it
+-- what stands before the first = and after it
 unfoldable pub parts : List ℕ → Option (List ℕ × List ℕ)
 parts w = if position_or_len (λ b. b == 61) w == length w then None else Some (before_first (λ b. b == 61) w, after_first (λ b. b == 61) w)
 
@@ -73,7 +73,7 @@ is_trace w = bytes_eq w (codes "--trace")
 unfoldable pub is_answers : List ℕ → Bool
 is_answers w = bytes_eq w (codes "--answers")
 
--- a source, by what stands behind unit:
+-- a source, by what stands after unit:
 abbrev pub source_by : List ℕ → Option (List ℕ) → Source
 source_by w None = source.File w
 source_by w (Some n) = source.Unit n
@@ -82,7 +82,7 @@ source_by w (Some n) = source.Unit n
 unfoldable pub source_of : List ℕ → Source
 source_of w = source_by w (after_prefix (codes "unit:") w)
 
--- behind the first word
+-- after the first word
 abbrev pub begun : FirstWord → Option Known
 begun first_word.Help = Some (state.Whole command.Help)
 begun first_word.Version = Some (state.Whole command.Version)
@@ -94,17 +94,17 @@ begun first_word.Isa = Some state.Target
 begun first_word.Run = Some state.Run
 begun first_word.Other = None
 
--- behind a source
+-- after a source
 abbrev pub sourced : Bool → CodegenOptions → Source → Option Known
 sourced t o s = Some (state.Term t o s)
 
--- behind the first name
+-- after the first name
 abbrev pub named : Verb → CodegenOptions → List ℕ → Option Known
 named verb.Compile o w = Some (state.Names o (w ∷ []))
 named verb.Build o w = Some (state.Whole (command.Build o w))
 named (verb.Run t) o w = sourced t o (source_of w)
 
--- behind a word that names an option
+-- after a word that names an option
 abbrev pub chosen : Verb → CodegenOptions → OptionWord → Option Known
 chosen v o marked.NoAllow = if o.exclude_global_allow_pragmas then None else Some (state.Options v (with_choice o choice.NoAllow))
 chosen v o marked.Log = if o.emit_logging then None else Some (state.Options v (with_choice o choice.Log))
@@ -113,31 +113,31 @@ chosen v o marked.Threshold = if is_some o.match_arm_split_threshold then None e
 chosen v o marked.Prefix = Some (state.Prefix v o)
 chosen v o marked.Other = None
 
--- behind a threshold
+-- after a threshold
 abbrev pub counted : Verb → CodegenOptions → Option ℕ → Option Known
 counted v o (Some n) = Some (state.Options v (with_choice o (choice.Threshold n)))
 counted v o None = None
 
--- behind a prefix
+-- after a prefix
 abbrev pub prefixed : Verb → CodegenOptions → Option (List ℕ × List ℕ) → Option Known
 prefixed v o (Some p) = if is_name p.1 then Some (state.Options v (with_choice o (choice.Prefixed p.0 p.1))) else None
 prefixed v o None = None
 
--- behind a kind
+-- after a kind
 abbrev pub request : Option Kind → Option Known
 request (Some k) = Some (state.Whole (command.Prelude k))
 request None = None
 
--- behind an option or the first name
+-- after an option or the first name
 abbrev pub optional : Verb → CodegenOptions → List ℕ → Option Known
 optional v o w = if is_name w then named v o w else chosen v o (mark w)
 
--- behind values
+-- after values
 abbrev pub valued : Bool → CodegenOptions → Source → List ℕ → Option Writtens → Option Known
 valued t o s m (Some vs) = Some (state.AfterValues t o s m vs)
 valued t o s m None = None
 
--- what is known behind one word more, where a line continues with it
+-- what is known after one word more, where a line continues with it
 abbrev pub next : Known → List ℕ → Option Known
 next state.Begin w = begun (first w)
 next (state.Whole c) w = None
@@ -158,7 +158,7 @@ abbrev pub onward : Option Known → (Known → Option Known) → Option Known
 onward (Some s) f = f s
 onward None f = None
 
--- what is known behind words, where a line begins with them
+-- what is known after words, where a line begins with them
 abbrev pub read : Known → List (List ℕ) → Option Known
 read s [] = Some s
 read s (w ∷ ws) = onward (next s w) (λ t. read t ws)

@@ -23,7 +23,7 @@ pub record IsCount (word : List ℕ) (n : ℕ) : Type 0 where
   pub digits : list_all is_digit word ≡ true
   pub value : decimal_value word ≡ n
 
--- a prefix, up to the first =, and the name behind it
+-- a prefix, up to the first =, and the name after it
 pub record IsPrefix (word prefix name : List ℕ) : Type 0 where
   pub parts : word ≡ prefix ++ 61 ∷ name
   pub first : list_all (λ b. not (b == 61)) prefix ≡ true

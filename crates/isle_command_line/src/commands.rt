@@ -67,7 +67,7 @@ pub enum Command {
 pub enum LineFail {
     /// The number of the first word with which no line continues, counted from 0.
     Bad(usize),
-    /// A line would go on behind the words.
+    /// A line would go on after the words.
     Missing,
     Memory,
 }

@@ -16,7 +16,8 @@ use std::alloc::Global;
 /// that are `Missing` something begin a line, and are none.
 pub fn command(alloc: Global, words: &[String]) -> Result<Command, LineFail>
     ensures line { IfOk result (λ c. LineS (bytes_each words.now) (seen_command c)) }
-    ensures only { IfOk result (λ c. (other : Request) → LineS (bytes_each words.now) other → other ≡ seen_command c) }
+    ensures only { IfOk result (λ c.
+        (other : Request) → LineS (bytes_each words.now) other → other ≡ seen_command c) }
     ensures bad { (i : ℕ) → result ≡ Err (Bad i) → IsBad (bytes_each words.now) i }
     ensures missing { result ≡ Err Missing → IsMissing (bytes_each words.now) }
 {
@@ -26,7 +27,7 @@ pub fn command(alloc: Global, words: &[String]) -> Result<Command, LineFail>
     }
 }
 
-// What is known behind all words.
+// What is known after all words.
 fn known(alloc: Global, words: &[String]) -> Result<State, LineFail>
     ensures known { IfOk result (λ s. read Begin (bytes_each words.now) ≡ Some (seen_state s)) }
     ensures bad { (i : ℕ) → result ≡ Err (Bad i) → StopsAt (bytes_each words.now) i }
@@ -43,7 +44,7 @@ fn known(alloc: Global, words: &[String]) -> Result<State, LineFail>
     Ok(state)
 }
 
-// What the words ask for behind which this is known.
+// What the words ask for after which this is known.
 fn request(alloc: Global, state: State) -> Result<Command, LineFail>
     ensures asks { IfOk result (λ c. asks (seen_state state) ≡ Some (seen_command c)) }
     ensures missing { result ≡ Err Missing → asks (seen_state state) ≡ None }

@@ -12,7 +12,7 @@ use crate::word::{OptionWord, count, is_name, mark};
 use isle_core::{CodegenOptions, List, Prefix, Text};
 use std::alloc::Global;
 
-/// Returns what is known behind a word that stands where an option or the first name may.
+/// Returns what is known after a word that stands where an option or the first name may.
 pub fn option(
     alloc: Global,
     verb: Verb,
@@ -29,7 +29,7 @@ pub fn option(
     }
 }
 
-// What is known behind the first name.
+// What is known after the first name.
 fn named(alloc: Global, verb: Verb, options: CodegenOptions, word: &str) -> Result<State, WordFail>
     ensures next { IfOk result (λ s. named verb options word.now ≡ Some (seen_state s)) }
     ensures bad { result ≡ Err Bad → named verb options word.now ≡ None }
@@ -47,7 +47,7 @@ fn named(alloc: Global, verb: Verb, options: CodegenOptions, word: &str) -> Resu
     }
 }
 
-// What is known behind a word that names an option.
+// What is known after a word that names an option.
 fn chosen(verb: Verb, mut options: CodegenOptions, mark: OptionWord) -> Result<State, WordFail>
     ensures next { IfOk result (λ s. chosen verb options mark ≡ Some (seen_state s)) }
     ensures bad { result ≡ Err Bad → chosen verb options mark ≡ None }
@@ -73,9 +73,10 @@ fn chosen(verb: Verb, mut options: CodegenOptions, mark: OptionWord) -> Result<S
     }
 }
 
-/// Returns what is known behind a threshold.
+/// Returns what is known after a threshold.
 pub fn threshold(verb: Verb, mut options: CodegenOptions, word: &str) -> Result<State, WordFail>
-    ensures next { IfOk result (λ s. next (known.Threshold verb options) word.now ≡ Some (seen_state s)) }
+    ensures next { IfOk result (λ s.
+        next (known.Threshold verb options) word.now ≡ Some (seen_state s)) }
     ensures bad { result ≡ Err Bad → next (known.Threshold verb options) word.now ≡ None }
 {
     match count(word) {
@@ -87,7 +88,7 @@ pub fn threshold(verb: Verb, mut options: CodegenOptions, word: &str) -> Result<
     }
 }
 
-// What stands before the first `=` and behind it.
+// What stands before the first `=` and after it.
 #[tactic(auto, unfolding(crate::specs::Reading::parts))]
 fn parts(word: &str) -> Option<(&str, &str)>
     ensures some { IfSome result (λ p. parts word.now ≡ Some (p.0.now, p.1.now)) }
@@ -96,14 +97,15 @@ fn parts(word: &str) -> Option<(&str, &str)>
     word.split_once('=')
 }
 
-/// Returns what is known behind a prefix.
+/// Returns what is known after a prefix.
 pub fn prefix(
     alloc: Global,
     verb: Verb,
     options: CodegenOptions,
     word: &str,
 ) -> Result<State, WordFail>
-    ensures next { IfOk result (λ s. next (known.Prefix verb options) word.now ≡ Some (seen_state s)) }
+    ensures next { IfOk result (λ s.
+        next (known.Prefix verb options) word.now ≡ Some (seen_state s)) }
     ensures bad { result ≡ Err Bad → next (known.Prefix verb options) word.now ≡ None }
 {
     match parts(word) {
@@ -118,7 +120,7 @@ pub fn prefix(
     }
 }
 
-// What is known behind this prefix, whose name is one.
+// What is known after this prefix, whose name is one.
 fn prefixed(
     alloc: Global,
     verb: Verb,
@@ -126,7 +128,8 @@ fn prefixed(
     prefix: &str,
     name: &str,
 ) -> Result<State, WordFail>
-    ensures next { IfOk result (λ s. seen_state s ≡ known.Options verb (with_choice options (Prefixed prefix.now name.now))) }
+    ensures next { IfOk result (λ s.
+        seen_state s ≡ known.Options verb (with_choice options (Prefixed prefix.now name.now))) }
     ensures bad { result ≢ Err Bad }
 {
     let CodegenOptions {
@@ -150,14 +153,15 @@ fn prefixed(
     Ok(State::Options(verb, options))
 }
 
-/// Returns what is known behind one name more.
+/// Returns what is known after one name more.
 pub fn one_name(
     alloc: Global,
     options: CodegenOptions,
     names: List<Text>,
     word: &str,
 ) -> Result<State, WordFail>
-    ensures next { IfOk result (λ s. next (known.Names options names) word.now ≡ Some (seen_state s)) }
+    ensures next { IfOk result (λ s.
+        next (known.Names options names) word.now ≡ Some (seen_state s)) }
     ensures bad { result ≡ Err Bad → next (known.Names options names) word.now ≡ None }
 {
     if !is_name(word) {

@@ -16,7 +16,7 @@ use isle_core::{CodegenOptions, List, OutOfMemory, Text};
 use isle_values::Written;
 use std::alloc::{AllocError, Global};
 
-/// Returns what is known behind a word that stands where `--trace` may.
+/// Returns what is known after a word that stands where `--trace` may.
 pub fn run(alloc: Global, word: &str) -> Result<State, WordFail>
     ensures next { IfOk result (λ s. next known.Run word.now ≡ Some (seen_state s)) }
     ensures bad { result ≡ Err Bad → next known.Run word.now ≡ None }
@@ -29,7 +29,7 @@ pub fn run(alloc: Global, word: &str) -> Result<State, WordFail>
     }
 }
 
-// What stands behind `unit:`, where a word begins with it.
+// What stands after `unit:`, where a word begins with it.
 fn after_unit(word: &str) -> Option<&str>
     ensures { option_copied result ≡ after_prefix (codes "unit:") word.now }
 {
@@ -47,20 +47,21 @@ fn source(alloc: Global, word: &str) -> Result<Source, AllocError>
     }
 }
 
-/// Returns what is known behind a source.
+/// Returns what is known after a source.
 pub fn sourced(
     alloc: Global,
     trace: bool,
     options: CodegenOptions,
     word: &str,
 ) -> Result<State, WordFail>
-    ensures next { IfOk result (λ s. sourced trace options (source_of word.now) ≡ Some (seen_state s)) }
+    ensures next { IfOk result (λ s.
+        sourced trace options (source_of word.now) ≡ Some (seen_state s)) }
     ensures bad { result ≡ Err Bad → sourced trace options (source_of word.now) ≡ None }
 {
     Ok(State::Term(trace, options, source(alloc, word)?))
 }
 
-/// Returns what is known behind a term.
+/// Returns what is known after a term.
 pub fn term(
     alloc: Global,
     trace: bool,
@@ -68,7 +69,8 @@ pub fn term(
     source: Source,
     word: &str,
 ) -> Result<State, WordFail>
-    ensures next { IfOk result (λ s. next (known.Term trace options source) word.now ≡ Some (seen_state s)) }
+    ensures next { IfOk result (λ s.
+        next (known.Term trace options source) word.now ≡ Some (seen_state s)) }
     ensures bad { result ≡ Err Bad → next (known.Term trace options source) word.now ≡ None }
 {
     if !is_name(word) {
@@ -85,7 +87,7 @@ fn spelt(alloc: Global, word: &str) -> Result<Option<List<Written>>, OutOfMemory
     isle_values::values(alloc, word)
 }
 
-/// Returns what is known behind values.
+/// Returns what is known after values.
 pub fn values(
     alloc: Global,
     trace: bool,
@@ -94,7 +96,8 @@ pub fn values(
     term: Text,
     word: &str,
 ) -> Result<State, WordFail>
-    ensures next { IfOk result (λ s. next (known.Values trace options source term) word.now ≡ Some (seen_state s)) }
+    ensures next { IfOk result (λ s.
+        next (known.Values trace options source term) word.now ≡ Some (seen_state s)) }
     ensures bad { result ≡ Err Bad → next (known.Values trace options source term) word.now ≡ None }
 {
     match spelt(alloc, word)? {
@@ -103,7 +106,7 @@ pub fn values(
     }
 }
 
-/// Returns what is known behind a word that follows values.
+/// Returns what is known after a word that follows values.
 pub fn after_values(
     trace: bool,
     options: CodegenOptions,
@@ -112,8 +115,11 @@ pub fn after_values(
     values: List<Written>,
     word: &str,
 ) -> Result<State, WordFail>
-    ensures next { IfOk result (λ s. next (known.AfterValues trace options source term (seen values)) word.now ≡ Some (seen_state s)) }
-    ensures bad { result ≡ Err Bad → next (known.AfterValues trace options source term (seen values)) word.now ≡ None }
+    ensures next { IfOk result (λ s.
+        next (known.AfterValues trace options source term (seen values)) word.now
+        ≡ Some (seen_state s)) }
+    ensures bad { result ≡ Err Bad
+        → next (known.AfterValues trace options source term (seen values)) word.now ≡ None }
 {
     if is_answers(word) {
         Ok(State::Answers(trace, options, source, term, values))
@@ -122,7 +128,7 @@ pub fn after_values(
     }
 }
 
-/// Returns what is known behind a file of answers.
+/// Returns what is known after a file of answers.
 pub fn answers(
     alloc: Global,
     trace: bool,
@@ -132,8 +138,11 @@ pub fn answers(
     values: List<Written>,
     word: &str,
 ) -> Result<State, WordFail>
-    ensures next { IfOk result (λ s. next (known.Answers trace options source term (seen values)) word.now ≡ Some (seen_state s)) }
-    ensures bad { result ≡ Err Bad → next (known.Answers trace options source term (seen values)) word.now ≡ None }
+    ensures next { IfOk result (λ s.
+        next (known.Answers trace options source term (seen values)) word.now
+        ≡ Some (seen_state s)) }
+    ensures bad { result ≡ Err Bad
+        → next (known.Answers trace options source term (seen values)) word.now ≡ None }
 {
     if !is_name(word) {
         return Err(WordFail::Bad);

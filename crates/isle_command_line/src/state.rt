@@ -12,7 +12,7 @@ use isle_core::{CodegenOptions, List, OutOfMemory, Text};
 use isle_values::Written;
 use std::alloc::{AllocError, AllocFailed, Global};
 
-/// What is done with a name behind options.
+/// What is done with a name after options.
 #[derive(Clone, Copy, Debug, PartialEq, Eq)]
 pub enum Verb {
     Compile,
@@ -21,7 +21,7 @@ pub enum Verb {
     Run(bool),
 }
 
-/// What is known behind the first words of a line.
+/// What is known after the first words of a line.
 #[derive(Debug, Drop)]
 pub enum State {
     Begin,
@@ -51,7 +51,7 @@ pub enum State {
     Answers(bool, CodegenOptions, Source, Text, List<Written>),
 }
 
-/// Why nothing is known behind a word more.
+/// Why nothing is known after a word more.
 #[derive(Clone, Copy, Debug, PartialEq, Eq)]
 pub enum WordFail {
     /// No line continues with it.
@@ -94,7 +94,7 @@ impl From<OutOfMemory> for WordFail {
     }
 }
 
-/// Returns what is known behind one word more.
+/// Returns what is known after one word more.
 pub fn next(alloc: Global, state: State, word: &str) -> Result<State, WordFail>
     ensures next { IfOk result (λ s. next (seen_state state) word.now ≡ Some (seen_state s)) }
     ensures bad { result ≡ Err Bad → next (seen_state state) word.now ≡ None }
@@ -122,7 +122,7 @@ pub fn next(alloc: Global, state: State, word: &str) -> Result<State, WordFail>
     }
 }
 
-// What is known behind the first word.
+// What is known after the first word.
 fn begun(alloc: Global, word: FirstWord) -> Result<State, WordFail>
     ensures next { IfOk result (λ s. begun word ≡ Some (seen_state s)) }
     ensures bad { result ≡ Err Bad → begun word ≡ None }
@@ -140,7 +140,7 @@ fn begun(alloc: Global, word: FirstWord) -> Result<State, WordFail>
     }
 }
 
-// What is known behind the kind of a prelude.
+// What is known after the kind of a prelude.
 fn request(kind: Option<Kind>) -> Result<State, WordFail>
     ensures next { IfOk result (λ s. request kind ≡ Some (seen_state s)) }
     ensures bad { result ≡ Err Bad → request kind ≡ None }
@@ -151,7 +151,7 @@ fn request(kind: Option<Kind>) -> Result<State, WordFail>
     }
 }
 
-// What is known behind a target.
+// What is known after a target.
 fn target(alloc: Global, word: &str) -> Result<State, WordFail>
     ensures next { IfOk result (λ s. next known.Target word.now ≡ Some (seen_state s)) }
     ensures bad { result ≡ Err Bad → next known.Target word.now ≡ None }

@@ -97,7 +97,7 @@ pub fn is_trace(word: &str) -> bool
     word == "--trace"
 }
 
-/// Tells whether a file of answers is named behind a word.
+/// Tells whether a file of answers is named after a word.
 #[tactic(auto, unfolding(crate::specs::Reading::is_answers))]
 pub fn is_answers(word: &str) -> bool
     ensures { result ≡ is_answers word.now }

@@ -181,7 +181,7 @@ abbrev pub IsPlaced : Option Path → Type 0
 IsPlaced None = ⊥
 IsPlaced (Some p) = Unit {0}
 
--- a built expression behind n impure calls, whose variables have paths, whose named constants have values and whose calls are answered
+-- a built expression after n impure calls, whose variables have paths, whose named constants have values and whose calls are answered
 abbrev mutual
   pub HasAnsweredCalls : (ReturnKind → Type 0) → Environment → Meaning → Places → ℕ → Expr → Type 0
   HasAnsweredCalls K env m places n (expr.Var ty x) = IsPlaced (places x.0)

@@ -166,7 +166,7 @@ place_once (p ∷ ps) zero (suc j) o h e = absurd (o.0 (contains_at ps j p h (sy
 place_once (p ∷ ps) (suc i) zero o h e = absurd (o.0 (contains_at ps i p (subst IsThere e h) e))
 place_once (p ∷ ps) (suc i) (suc j) o h e = ap suc (place_once ps i j o.1 h e)
 
--- an inner value behind its source
+-- an inner value after its source
 pub inner_path : (bs : List Binding) (source b : BindingId) → slice_get bs b.0 ≡ Some (binding.MatchSome source) → source.0 < b.0 → at (paths_of bs) b ≡ Inner (at (paths_of bs) source)
 inner_path bs source b e lt = at_before bs b (binding.MatchSome source) e ∙ ap Inner (get_or-take b.0 (paths_of bs) source.0 Nowhere lt)
 

@@ -1,4 +1,4 @@
--- The impure calls of a rule's right side have occurrences behind those of the rules before, as many as it makes.
+-- The impure calls of a rule's right side have occurrences after those of the rules before, as many as it makes.
 use Rattle.std.proofs.Common.{◌≡◌, ⊎_elim, ℕ, suc, ◌+◌, ◌<◌, ◌≤◌, List, [], ◌∷◌, Bool, true, false, cond, arith}
 use Rattle.std.specs.Prelude.{Contains, ◌||◌, ◌&&◌}
 use Rattle.std.specs.List.{AllByRecursion}
@@ -19,7 +19,7 @@ use Rattle.isle_core.proofs.Contained.{contained_cases, none_contained}
 use Rattle.isle_core.proofs.ExprPaths.{all_append}
 
 module _ (env : Environment) where
-  -- the occurrence of a call is one of k behind n
+  -- the occurrence of a call is one of k after n
   abbrev pub IsInRange : (n k : ℕ) → Path → Type 0
   IsInRange n k p = (j : ℕ) → Contains (occurrence_at env p) j → (n < j) × (j ≤ n + k)
 

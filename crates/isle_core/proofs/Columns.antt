@@ -13,7 +13,7 @@ feeds bs = count_by (λ b. eqb b 10) bs
 feeds_cons : (b : ℕ) (bs : List ℕ) → feeds (b ∷ bs) ≡ cond (eqb b 10) 1 0 + feeds bs
 feeds_cons b bs = sum_by-cons (λ y. cond (eqb y 10) 1 0) b bs
 
--- what is behind the last of so many line feeds, where m bytes stand before and the first byte at n
+-- what is after the last of so many line feeds, where m bytes stand before and the first byte at n
 abbrev IsSince : (m n o : ℕ) (since : ℕ) (starts : List ℕ) (count : ℕ) → Type 0
 IsSince m n o since starts zero = since ≡ m + o
 IsSince m n o since starts (suc c) = since + get_or starts c 0 ≡ n + o

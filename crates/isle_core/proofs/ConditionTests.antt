@@ -5,7 +5,6 @@ use Rattle.std.proofs.lemmas.Bool.{eq-eqb, ne_eqb}
 use Rattle.std.proofs.lemmas.List.Elements.{Contains-append_left, Contains-append_right}
 use Rattle.std.proofs.lemmas.List.Folds.{list_all-append}
 use Rattle.std.proofs.lemmas.Option.{slice_get-map}
-use Rattle.isle_base.specs.declared.ids.Sym.{Sym}
 use Rattle.isle_base.specs.declared.ids.TermId.{TermId}
 use Rattle.isle_base.specs.declared.ids.TypeId.{TypeId}
 use Rattle.isle_base.specs.declared.ids.VariantId.{VariantId}
@@ -43,10 +42,11 @@ use Rattle.isle_core.specs.Tests.{Places, found_tests, called_tests, all_called_
 use Rattle.isle_core.specs.TypedVariables.{let_variables, IsNew}
 use Rattle.isle_core.specs.Value.{Value, Answer, Plain, Found, Nothing, Several, Made}
 use Rattle.isle_core.specs.ValueAt.{a_value, item_at, chosen_held, inner_held, is_found, is_item, held, value_before, case_held, call_held, made_held, none_made, value_at, values_at, holds, all_hold}
+use Rattle.isle_core.specs.Served.{AreServed, IsSupplied}
 use Rattle.isle_core.proofs.AnsweredTerms.{called_here}
 use Rattle.isle_core.proofs.Contained.{head_contained, contained_cases}
 use Rattle.isle_core.proofs.MadeTypes.{made_typed}
-use Rattle.isle_core.proofs.PatternTests.{fit_there, Values, Agree, StandsAt, AreServed, not_made, with_agrees, case_fits}
+use Rattle.isle_core.proofs.PatternTests.{fit_there, Values, Agree, StandsAt, not_made, with_agrees, case_fits}
 use Rattle.isle_core.proofs.TypedNames.{AreNamed}
 
 -- ---- terms of conditions
@@ -111,12 +111,7 @@ module _ (env : Environment) where
 
 -- ---- what the meaning has
 
--- the meaning answers what is called, and each named constant has a value of its type
-pub record IsSupplied (env : Environment) (m : Meaning) (terms : List CalledTerm) (constants : List TypedConstant) : Type 0 where
-  pub answers : AreServed env m terms
-  pub named : (ty : TypeId) (name : Sym) → Contains constants (ty, Named name) → IsSomeAnd (const_of m (sym_text env name)) (λ v. HasType env v ty)
-
--- so of a part of both
+-- what supplies calls and constants supplies a part of both
 pub supplied_less : (env : Environment) (m : Meaning) (terms others : List CalledTerm) (constants those : List TypedConstant) → ((o : CalledTerm) → Contains others o → Contains terms o) → ((c : TypedConstant) → Contains those c → Contains constants c)
     → IsSupplied env m terms constants → IsSupplied env m others those
 supplied_less env m terms others constants those f g s = record { answers = λ o k. s.answers o (f o k); named = λ ty name k. s.named ty name (g (ty, Named name) k) }

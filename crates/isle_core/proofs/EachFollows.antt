@@ -121,7 +121,7 @@ module _ (env : Environment) (m : Meaning) (args : List Value) (choice : Choice)
         let two = neither (holds_impure env p) (hold_impure env ps) e in
         ap (λ h. value_before h (values_at env m args known ps)) (early_stays p two.0) ∙ ap (value_before (value_at env m args (none_made choice) p)) (all_early ps two.1)
 
--- ---- what goes along behind more calls
+-- ---- what goes along after more calls
 
 goes_more : (env : Environment) (m : Meaning) (args : List Value) (choice : Choice) (n n' : ℕ) (taken : Taken) (done : List Path) (known : Known) → n ≤ n' → GoesSo env m args choice n taken done known → GoesSo env m args choice n' taken done known
 goes_more env m args choice n n' taken done known le g = record {
@@ -161,7 +161,7 @@ module _ (env : Environment) (m : Meaning) (args : List Value) (choice : Choice)
   NamesSo n n' done known places next rest =
       (names : Names) (taken : Taken) (later : List Path) (known' : Known) (g : Given) → ReachedNames n n' done later known known' taken places names → next names taken g ≡ rest later known' g
 
-  -- seen from behind calls
+  -- seen from after calls
   so_behind : (n k n' : ℕ) (done later : List Path) (known known' : Known) (p : Path) (next : Next) (rest : Rest) → n ≤ k → KeptTo env n done known known' → GoesThrough done later → NextSo env m args choice n n' done known p next rest → NextSo env m args choice k n' later known' p next rest
   so_behind n k n' done later known known' p next rest le kept through so v taken more known2 g h =
       so v taken more known2 g (record { held = h.held; kept = kept_to_on env n k done later known known' known2 le through kept h.kept; state = h.state; takes = h.takes; through = through_on through h.through })

@@ -17,9 +17,9 @@ use Rattle.isle_core.specs.RightSide.{path_or, term_path, path, paths, let_place
 use Rattle.isle_core.specs.Rule.{Environment, IfLet, Rule}
 use Rattle.isle_core.specs.Tests.{Places, no_places, met_after, after, after_parts, after_each, args_after, iflets_after, rule_places}
 use Rattle.isle_core.specs.TypedVariables.{typed_variables, let_variables, all_typed}
+use Rattle.isle_core.specs.Served.{IsTested}
 use Rattle.isle_core.proofs.ConditionTests.{IsAsked, has_cases, makes_variant, makes_struct, asked, some_of}
 use Rattle.isle_core.proofs.EachFollows.{TakesPlace, PlacesTake}
-use Rattle.isle_core.proofs.RuleMatches.{IsTested}
 use Rattle.isle_core.proofs.TakenItems.{TakesOf, AllTake}
 
 -- a place holds no impure call

@@ -49,7 +49,7 @@ takes_turns e = not e.service.pure
 
 -- each callee answers as it did in the history, and then so that it fits
 abbrev pub meaning_of : List AnsweredCall → List Entry → Meaning
-meaning_of h es = record { consts = []; pure = map (cases_in h) es; turns = map (turns_in h) (filter takes_turns es); held = 0; max_returns = 0 }
+meaning_of h es = record { consts = []; pure = map (cases_in h) es; turns = map (turns_in h) (filter takes_turns es) }
 
 -- ---- what is looked up
 

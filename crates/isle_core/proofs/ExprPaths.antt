@@ -83,7 +83,7 @@ module _ (P : Path → Type 0) (env : Environment) where
   all_front [] ys h = tt
   all_front (x ∷ xs) ys h = (h.0, all_front xs ys h.1)
 
-  -- so behind the variables of a `let`
+  -- so after the variables of a `let`
   let_so : (bs : LetBindings) (places : Places) (n : ℕ) → ArePlacedSo P places → AllByRecursion P (bindings_paths env bs places n) → ArePlacedSo P (let_places env bs places n)
   let_so NoBinding places n a h = a
   let_so (ABinding x ty e more) places n a h =

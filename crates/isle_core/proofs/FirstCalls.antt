@@ -68,7 +68,7 @@ record Stays (env : Environment) (m : Meaning) (args : List Value) (known : Know
 stays_on : (env : Environment) (m : Meaning) (args : List Value) (a b : Known) (p : Path) → Grows a b → Stays env m args a p → Stays env m args b p
 stays_on env m args a b p g s = record { by = λ later made h. s.by later made (grows_on g h) }
 
--- what a run goes on to behind a call: more answers, under which the call stays
+-- what a run goes on to after a call: more answers, under which the call stays
 abbrev Behind : Environment → Meaning → List Value → Path → Known → Known → List Made → Type 0
 Behind env m args p known known' made' = Grows known known' × Stays env m args known' p
 
@@ -143,7 +143,7 @@ called_behind env m args term ps k (ByCases callee kind) known made e t =
 called_behind env m args term ps k NoCall known made e t =
     subst (λ (w : Went). IfGoes w (Behind env m args (Called term ps k) known)) (sym (called_run env m args term ps k NoCall known made e)) (grows_self known, record { by = λ later more g. called_run env m args term ps k NoCall later more e })
 
--- a call that may be run stays behind itself
+-- a call that may be run stays after itself
 call_behind : (env : Environment) (m : Meaning) (args : List Value) (p : Path) (known : Known) (made : List Made) → IsReady env m args p known → IfGoes (run_call env m args p known made) (Behind env m args p known)
 call_behind env m args (Called term ps k) known made h = called_behind env m args term ps k (calling env term) known made refl h
 call_behind env m args p known made h = (grows_self known, record { by = λ later more g. refl })

@@ -38,7 +38,7 @@ module _ (env : Environment) (m : Meaning) (args : List Value) where
       ap (λ b. cond b (rest done known g) (behind_calls (make env m args p known g.calls) g (λ now so. behind_answer (calling env term) p (value_at env m args now p) (p ∷ done) now so rest))) h
   made_passes p done known g rest h = refl
 
-  -- a call, and what is alike behind it
+  -- a call, and what is alike after it
   call_alike : (p : Path) (done : List Path) (known : Known) (g : Given) (one other : Rest) → ((later : List Path) (now : Known) (so : Given) → GoesThrough done later → IsMade later p → one later now so ≡ other later now so)
       → behind_call env m args p done known g one ≡ behind_call env m args p done known g other
   call_alike (Called term ps k) done known g one other h =

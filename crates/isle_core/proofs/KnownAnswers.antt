@@ -136,7 +136,7 @@ place_with : (b : Bool) (n : ℕ) (p : Path) (o : Option Path) → IsUpTo n p �
 place_with true n p o h k = h
 place_with false n p o h k = k
 
--- and so do they behind one more
+-- and so do they after one more
 pub with_up_to : (n x : ℕ) (p : Path) (places : Places) → IsUpTo n p → PlacesUpTo n places → PlacesUpTo n (with places x p)
 with_up_to n x p places h b = record { by = λ y. place_with (eqb x y) n p (places y) h (b.by y) }
 
@@ -251,7 +251,7 @@ mutual
         all_up_to_more (paths env es places n1) (n1 + impure_all env es) (n + (impure env e + impure_all env es)) assoc (paths_up_to es env places n1 (places_more places n n1 le b)),
       )
 
-  -- so behind the variables of a `let`
+  -- so after the variables of a `let`
   pub let_up_to : (bs : LetBindings) (env : Environment) (places : Places) (n : ℕ) → PlacesUpTo n places → PlacesUpTo (n + impure_bindings env bs) (let_places env bs places n)
   let_up_to NoBinding env places n b = places_more places n (n + 0) (omega arith) b
   let_up_to (ABinding x ty e more) env places n b =

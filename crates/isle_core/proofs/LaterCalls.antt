@@ -21,12 +21,12 @@ use Rattle.isle_core.specs.RightSide.{path_or, term_path, call_path, answer_path
 use Rattle.isle_core.specs.Rule.{Environment, IfLet, Rule}
 use Rattle.isle_core.specs.Tests.{Test, Is, HasItem, Places, no_places, met_tests, met_after, found_tests, opening_tests, after, after_parts, after_each, tests, parts_tests, each_tests, args_tests, args_after, called_tests, all_called_tests, bindings_called_tests, iflets_tests, iflets_after, rule_tests, rule_places}
 use Rattle.isle_core.specs.TypedVariables.{typed_variables, all_typed}
+use Rattle.isle_core.specs.Served.{IsTested}
 use Rattle.isle_core.proofs.ConditionTests.{no_impure}
 use Rattle.isle_core.proofs.ExprPaths.{IsPlaceSo, ArePlacedSo, all_append, with_placed}
 use Rattle.isle_core.proofs.OtherAnswers.{AreOf, AllAreOf, IsTestOf}
-use Rattle.isle_core.proofs.RuleMatches.{IsTested}
 
--- among these are that of pure calls, and the k behind n
+-- among these are that of pure calls, and the k after n
 pub record Within (S : ℕ → Type 0) (n k : ℕ) : Type 0 where
   pub pure : S 0
   pub own : (j : ℕ) → n < j → j ≤ n + k → S j
@@ -88,7 +88,7 @@ module _ (S : ℕ → Type 0) (env : Environment) where
   -- ---- right sides
 
   mutual
-    -- the path of an expression behind n calls
+    -- the path of an expression after n calls
     pub path_of : (e : Expr) (places : Places) (n : ℕ) → Within S n (impure env e) → ArePlacedSo (AreOf S) places → AreOf S (path env e places n)
     path_of (expr.Var ty x) places n l b = place_or S (places x.0) (b.by x.0)
     path_of (expr.ConstBool v) places n l b = tt

@@ -29,6 +29,9 @@ pub mod SeesRules
 pub mod SeesBlocks
 pub mod ImpureCalls
 pub mod ListLaws
+pub mod AllLaws
+pub mod FirstItems
+pub mod FlatRules
 pub mod Entries
 pub mod LawfulExists
 pub mod Inhabited
@@ -38,6 +41,7 @@ pub mod Lines
 pub mod LineFeeds
 pub mod Columns
 pub mod TupleFields
+pub mod Got
 pub mod SamePathLaws
 pub mod TakenItems
 pub mod ListFollows
@@ -51,6 +55,7 @@ pub mod ListTests
 pub mod RulePairs
 pub mod NamesSame
 pub mod AllPairs
+pub mod ListedChoices
 pub mod TestsOut
 pub mod OtherAnswers
 pub mod LaterCalls

@@ -1,4 +1,4 @@
--- The next line feed of a text, and the lines behind it.
+-- The next line feed of a text, and the lines after it.
 use Rattle.std.proofs.Common.{◌≡◌, ℕ, zero, suc, ◌+◌, ◌-◌, ◌<◌, ◌≤◌, List, [], ◌∷◌, ◌++◌, Bool, true, false, eqb, drop, length, refl, sym, ap, ◌∙◌, append_assoc, arith, length-drop}
 use Rattle.std.proofs.lemmas.List.{append-nil}
 use Rattle.std.specs.List.{position_or_len, after_first}
@@ -8,7 +8,7 @@ use Rattle.isle_core.specs.LineStarts.{starts_from}
 abbrev place : List ℕ → ℕ
 place bs = position_or_len (λ b. eqb b 10) bs
 
--- a line begins behind it
+-- a line begins after it
 line_next : (n k : ℕ) (bs : List ℕ) → k ≡ place bs + 1 → place bs < length bs → starts_from n bs ≡ (n + k) ∷ starts_from (n + k) (drop k bs)
 line_next n k [] e h = absurd (omega arith)
 line_next n zero (b ∷ bs) e h = absurd (omega arith)

@@ -16,7 +16,7 @@ after_onto true n starts zero d rest lt = omega arith
 after_onto true n starts (suc k) d rest lt = let h = rest k (omega (arith, lt)) in omega (arith, h)
 after_onto false n starts k d rest lt = let h = rest k lt in omega (arith, h)
 
--- every start lies behind the first place
+-- every start lies after the first place
 after : (n : ℕ) (bs : List ℕ) (k d : ℕ) → k < length (starts_from n bs) → n < get_or (starts_from n bs) k d
 after n [] k d lt = absurd (omega (arith, lt))
 after n (b ∷ bs) k d lt = after_onto (eqb b 10) n (starts_from (n + 1) bs) k d (λ j. after (n + 1) bs j d) lt
@@ -59,7 +59,7 @@ starts_before n (suc d) (b ∷ bs) =
     ∙ some_onto (eqb b 10) n d (starts_from (n + 1) bs) _ (starts_before (n + 1) d bs)
     ∙ sym (count_cons (λ c. eqb c 10) b (take d bs))
 
--- the elements that pass stand before a point, and the others behind it
+-- the elements that pass stand before a point, and the others after it
 count_at : (p : ℕ → Bool) (xs : List ℕ) (k : ℕ) → k ≤ length xs → AllWithin (λ y. p y ≡ true) xs 0 k → AllWithin (λ y. p y ≡ false) xs k (length xs) → count_by p xs ≡ k
 count_at p [] k le passed failed = omega (arith, le)
 count_at p (x ∷ xs) zero le passed failed =

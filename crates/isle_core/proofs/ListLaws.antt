@@ -37,7 +37,7 @@ filter_keeps test (y ∷ ys) x c e = pick (λ d. filter_keeps test ys x d e) (te
     pick go true h = ⊎_elim (λ (s : y ≡ x). subst (λ z. Contains (y ∷ filter test ys) z) s (head_contained y (filter test ys))) (λ d. tail_contained y (filter test ys) x (go d)) (contained_cases y ys x c)
     pick go false h = ⊎_elim (λ (s : y ≡ x). absurd (not_both (ap test s ∙ e) h)) go (contained_cases y ys x c)
 
--- what stands behind the first part
+-- what stands after the first part
 pub at_seam : {A : Type 0} (xs : List A) (y : A) (ys : List A) (d : A) → slice_index_or (xs ++ y ∷ ys) (length xs) d ≡ y
 at_seam [] y ys d = refl
 at_seam (x ∷ xs) y ys d = at_seam xs y ys d

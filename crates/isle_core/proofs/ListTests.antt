@@ -24,10 +24,10 @@ use Rattle.isle_core.specs.Rule.{Environment, IfLet, Rule}
 use Rattle.isle_core.specs.RulePaths.{with_inner, expr_paths, exprs_paths, bindings_paths, opening_paths, pattern_paths, parts_paths, each_paths, args_paths, iflets_paths, rule_paths}
 use Rattle.isle_core.specs.Tests.{Test, Is, Equal, HasItem, Places, no_places, met_tests, met_after, found_tests, opening_tests, tests, parts_tests, each_tests, after, args_tests, args_after, called_tests, all_called_tests, bindings_called_tests, iflets_tests, rule_tests, rule_places}
 use Rattle.isle_core.specs.TypedVariables.{typed_variables, let_variables, all_typed}
+use Rattle.isle_core.specs.Served.{IsTested}
 use Rattle.isle_core.proofs.ChosenItems.{call_first}
 use Rattle.isle_core.proofs.ConditionTests.{IsAsked, has_cases, makes_variant, makes_struct, asked, some_of, no_impure, bindings_no_impure}
 use Rattle.isle_core.proofs.EarlyPlaces.{AreEarly, after_early, part_early, args_early, term_early, expr_early, exprs_early, with_early, bindings_early}
-use Rattle.isle_core.proofs.RuleMatches.{IsTested}
 
 -- a list that is asked for is such a path
 abbrev pub ItemSo : Environment → (Path → Type 0) → Test → Type 0

@@ -33,12 +33,12 @@ use Rattle.isle_core.specs.RulePaths.{with_inner, expr_paths, exprs_paths, bindi
 use Rattle.isle_core.specs.Tests.{Places, no_places, after, args_after, rule_places}
 use Rattle.isle_core.specs.TypedVariables.{typed_variables, let_variables, all_typed}
 use Rattle.isle_core.specs.Value.{Value, Answer, Plain, Found, Nothing, Several, Made}
+use Rattle.isle_core.specs.Served.{AreServed, IsTested}
 use Rattle.isle_core.proofs.AnsweredTerms.{called_here}
 use Rattle.isle_core.proofs.ChosenItems.{call_first}
 use Rattle.isle_core.proofs.ConditionTests.{IsAsked, has_cases, makes_variant, makes_struct, asked, some_of}
 use Rattle.isle_core.proofs.EarlyPlaces.{AreEarly, after_early, part_early, args_early, term_early, expr_early, exprs_early, with_early, bindings_early}
-use Rattle.isle_core.proofs.PatternTests.{AreServed, served_first, served_rest, extractor_of, extracted_here, not_made, case_fits}
-use Rattle.isle_core.proofs.RuleMatches.{IsTested}
+use Rattle.isle_core.proofs.PatternTests.{served_first, served_rest, extractor_of, extracted_here, not_made, case_fits}
 
 -- an answer that isn't a list has its results at any place
 results_same : (env : Environment) (tys : List TypeId) (kind : ReturnKind) (a : Answer) (i j : ℕ) → Fits env kind tys a → is_several kind ≡ false → results i a ≡ results j a

@@ -60,7 +60,7 @@ le_of_lt a b h = omega (arith, ints)
 le_trans : (a b c : ℤ) → a ≤ℤ b → b ≤ℤ c → a ≤ℤ c
 le_trans a b c h k = omega (arith, ints)
 
--- the rule, or one behind it that is higher
+-- the rule, or one after it that is higher
 tops_better : (env : Environment) (m : Meaning) (args : List Value) (r : Rule) (names : Names) (rs : List Rule) (o : Rule × Names) (t : Ordering) → MatchOrdering t (r.prio <ℤ o.0.prio) (r.prio ≡ o.0.prio) (o.0.prio <ℤ r.prio)
     → rule_names env m args r ≡ Some names → Tops env m args rs o → Tops env m args (r ∷ rs) (cond (is_lt t) o (r, names))
 tops_better env m args r names rs o Less h e k = tops_behind env m args r rs o (λ others q. le_of_lt r.prio o.0.prio h) k

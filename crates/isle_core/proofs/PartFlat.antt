@@ -14,6 +14,7 @@ use Rattle.isle_core.specs.StandsFor.{IsFlat}
 use Rattle.isle_core.specs.Tests.{rule_places, rule_result}
 use Rattle.isle_core.specs.Value.{Value}
 use Rattle.isle_core.specs.ValueAt.{none_made, value_at}
+use Rattle.isle_core.specs.Served.{IsTested}
 use Rattle.isle_core.proofs.AnsweredTerms.{HasAnsweredCalls}
 use Rattle.isle_core.proofs.Contained.{none_contained}
 use Rattle.isle_core.proofs.EachFollows.{AnyOften, HasItems, each_follows}
@@ -21,7 +22,7 @@ use Rattle.isle_core.proofs.EarlyPlaces.{rule_takes}
 use Rattle.isle_core.proofs.FirstParts.{firsts_add_all}
 use Rattle.isle_core.proofs.KnownAnswers.{nothing_fresh}
 use Rattle.isle_core.proofs.PatternTests.{Agree}
-use Rattle.isle_core.proofs.RuleMatches.{IsTested, rule_up_to}
+use Rattle.isle_core.proofs.RuleMatches.{rule_up_to}
 use Rattle.isle_core.proofs.TakenItems.{GoesSo}
 
 -- before all calls no list is gone through

@@ -18,15 +18,16 @@ use Rattle.isle_core.specs.RightSide.{call_path, path, paths, let_places}
 use Rattle.isle_core.specs.Rule.{Environment, IfLet, Rule}
 use Rattle.isle_core.specs.RulePaths.{with_inner, expr_paths, exprs_paths, bindings_paths, opening_paths, pattern_paths, parts_paths, each_paths, args_paths, iflets_paths, rule_paths}
 use Rattle.isle_core.specs.RuleSet.{flat_tests}
-use Rattle.isle_core.specs.StandsFor.{AreFirsts, no_more, again, first, IsFlat}
+use Rattle.isle_core.specs.StandsFor.{IsFlat}
 use Rattle.isle_core.specs.Tests.{Places, no_places, after, args_after, rule_tests, rule_places}
 use Rattle.isle_core.specs.TypedVariables.{typed_variables, all_typed}
 use Rattle.isle_core.specs.Value.{Value}
+use Rattle.isle_core.specs.Served.{IsTested}
+use Rattle.isle_core.proofs.FirstItems.{firsts_within}
 use Rattle.isle_core.proofs.ConditionTests.{no_impure}
 use Rattle.isle_core.proofs.ExprPaths.{ArePlacedSo, all_append, with_placed}
 use Rattle.isle_core.proofs.LaterCalls.{Within, front, rest, arguments, instance_within, place_or, term_of, path_of, paths_of, let_of, calls_of, part_of, after_of, none_within, args_of, no_places_of, rule_of}
 use Rattle.isle_core.proofs.OtherAnswers.{AreOf, IsTestOf, IsRuleOf}
-use Rattle.isle_core.proofs.RuleMatches.{IsTested}
 use Rattle.isle_core.proofs.RulePairs.{all_from, all_at}
 
 module _ (S : ℕ → Type 0) (env : Environment) where
@@ -114,7 +115,7 @@ module _ (S : ℕ → Type 0) (env : Environment) where
       (all_append (AreOf S) (expr_paths env c.rhs places 0) (pattern_paths env c.lhs q) (expr_within c.rhs places 0 few b) (pattern_within c.lhs q stands))
       (iflets_within cs (vars ++ typed_variables c.lhs) (after env c.lhs q places) s h.1 (after_of S env c.lhs q places stands b))
 
-  -- all paths of a rule behind n calls
+  -- all paths of a rule after n calls
   pub rule_within : (tys : List TypeId) (r : Rule) (n : ℕ) → IsTested env tys r → Within S n (impure env r.rhs) → AllByRecursion (AreOf S) (rule_paths env r n)
   rule_within tys r n h l =
       let mid = args_after env r.args 0 no_places in
@@ -124,11 +125,6 @@ module _ (S : ℕ → Type 0) (env : Environment) where
       (expr_within r.rhs (rule_places env r) n l places))
 
   -- ---- flat rules
-
-  firsts_within : {A : Type 0} (P : A → Type 0) {seen xs ys : List A} → AreFirsts seen xs ys → AllByRecursion P xs → AllByRecursion P ys
-  firsts_within P (no_more seen) h = tt
-  firsts_within P (again seen x xs ys c more) h = firsts_within P more h.1
-  firsts_within P (first seen x xs ys c more) h = (h.0, firsts_within P more h.1)
 
   -- a flat rule's tests, calls and result stand on the rule's own calls
   pub flat_within : (m : Meaning) (args : List Value) (tys : List TypeId) (ps : List Path) (r : Rule) (n : ℕ) (f : FlatRule) → IsTested env tys r → Within S n (impure env r.rhs) → IsFlat env ps r n f → IsRuleOf env m args S ps f

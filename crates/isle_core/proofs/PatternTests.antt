@@ -19,7 +19,7 @@ use Rattle.isle_core.specs.Constants.{int_value}
 use Rattle.isle_core.specs.Meaning.{PureAnswers, Meaning, case, case_at, case_or, cases_of, same_values}
 use Rattle.isle_core.specs.Answered.{item_of, answer_held}
 use Rattle.isle_core.specs.CalledTerms.{Extractor, CalledTerm, is_made_kind, is_made_term, is_made, unless_made, extracted_by, extracted_by_all, extracted_in}
-use Rattle.isle_core.specs.Lawful.{Fits, all_cases, CallingFits, CalledTermFits}
+use Rattle.isle_core.specs.Lawful.{Fits, all_cases, CallingFits}
 use Rattle.isle_base.specs.declared.ids.TermId.{TermId}
 use Rattle.isle_base.specs.declared.ids.TypeId.{TypeId}
 use Rattle.isle_base.specs.declared.ids.VariantId.{VariantId}
@@ -42,6 +42,7 @@ use Rattle.isle_core.specs.Path.{Path, Arg, VariantField, StructField, Extracted
 use Rattle.isle_core.specs.Tests.{Places, no_places, met_tests, met_after, found_tests, opening_tests, tests, parts_tests, each_tests, after, after_parts, after_each, args_tests, args_after}
 use Rattle.isle_core.specs.ValueAt.{Held, One, extracted_held, item_at, chosen_held, inner_held, part_held, is_found, a_value, held, field_held, is_item, is_one, is_value, is_const, meets, equal_held, holds, all_hold}
 use Rattle.isle_core.specs.Rule.{Environment}
+use Rattle.isle_core.specs.Served.{AreServed}
 
 -- what stands at each path
 abbrev pub Values : Type 0
@@ -79,7 +80,7 @@ stands_with : (val : Values) (b : Bool) (v : Value) (p : Path) (o : Option Value
 stands_with val true v p o q e h = e
 stands_with val false v p o q e h = h
 
--- so behind one name more
+-- so after one name more
 pub with_agrees : (val : Values) (names : Names) (places : Places) (x : ℕ) (v : Value) (p : Path) → val p ≡ a_value v → Agree val names places → Agree val (with names x v) (with places x p)
 with_agrees val names places x v p e a = record { by = λ k. stands_with val (eqb x k) v p (names k) (places k) e (a.by k) }
 
@@ -246,10 +247,6 @@ pub parts_given : (env : Environment) (o : Option (List TypeId)) (ps : Patterns)
 parts_given env o ps tys e h = subst (λ x. ArePartsOf env x ps) e h
 
 -- ---- what patterns call
-
--- the meaning answers these terms
-abbrev pub AreServed : Environment → Meaning → List CalledTerm → Type 0
-AreServed env m terms = (o : CalledTerm) → Contains terms o → CalledTermFits env m o
 
 pub served_first : (env : Environment) (m : Meaning) (xs ys : List CalledTerm) → AreServed env m (xs ++ ys) → AreServed env m xs
 served_first env m xs ys h o c = h o (Contains-append_left xs ys o c)

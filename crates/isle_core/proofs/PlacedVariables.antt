@@ -1,4 +1,4 @@
--- Each variable of a rule's patterns has a path behind them.
+-- Each variable of a rule's patterns has a path after them.
 use Rattle.std.proofs.Common.{◌≡◌, ⊎_elim, ℕ, suc, List, [], ◌∷◌, ◌++◌, Bool, true, false, cond, eqb, Option, Some, None, T, refl, sym, subst}
 use Rattle.std.proofs.Math.Dec.{eqb_refl}
 use Rattle.std.specs.Prelude.{Contains}

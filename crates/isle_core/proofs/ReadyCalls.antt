@@ -26,21 +26,21 @@ use Rattle.isle_core.proofs.CallsFollow.{Reached, ReachedAll, ReachedNames, Foll
 use Rattle.isle_core.proofs.FirstCalls.{IsReady, IfGoes, AreReady, ready_append}
 use Rattle.isle_core.proofs.HeldStays.{AreThere}
 
--- what holds behind a value that was reached
+-- what holds after a value that was reached
 behind_one : (env : Environment) (m : Meaning) (args : List Value) (n n' : ℕ) (known : Known) (p : Path) (r : Evaluated) (w : Went) (P : Known → List Made → Type 0) → Follows env m args n n' known p r w → ((v : Value) (known' : Known) (made : List Made) → Reached env m args n n' known known' p v → P known' made) → IfGoes w P
 behind_one env m args n n' known p (Answered v made) (Goes known' made') P h k = k v known' made' h.0
 behind_one env m args n n' known p (Failed made) (Ends o) P h k = tt
 behind_one env m args n n' known p (Answered v made) (Ends o) P h k = absurd h
 behind_one env m args n n' known p (Failed made) (Goes known' made') P h k = absurd h
 
--- so behind several
+-- so after several
 behind_all : (env : Environment) (m : Meaning) (args : List Value) (n n' : ℕ) (known : Known) (ps : Paths) (r : EvaluatedAll) (w : Went) (P : Known → List Made → Type 0) → FollowsAll env m args n n' known ps r w → ((vs : List Value) (known' : Known) (made : List Made) → ReachedAll env m args n n' known known' ps vs → P known' made) → IfGoes w P
 behind_all env m args n n' known ps (AllAnswered vs made) (Goes known' made') P h k = k vs known' made' h.0
 behind_all env m args n n' known ps (OneFailed made) (Ends o) P h k = tt
 behind_all env m args n n' known ps (AllAnswered vs made) (Ends o) P h k = absurd h
 behind_all env m args n n' known ps (OneFailed made) (Goes known' made') P h k = absurd h
 
--- and behind those of a `let`
+-- and after those of a `let`
 behind_bound : (env : Environment) (m : Meaning) (args : List Value) (n n' : ℕ) (known : Known) (places : Places) (r : Bound) (w : Went) (P : Known → List Made → Type 0) → FollowsBound env m args n n' known places r w → ((names : Names) (known' : Known) (made : List Made) → ReachedNames env m args n n' known known' names places → P known' made) → IfGoes w P
 behind_bound env m args n n' known places (AllBound names made) (Goes known' made') P h k = k names known' made' h.0
 behind_bound env m args n n' known places (NotBound made) (Ends o) P h k = tt

@@ -16,17 +16,18 @@ use Rattle.isle_core.specs.Choice.{Choice}
 use Rattle.isle_core.specs.Outcome.{chosen_names}
 use Rattle.isle_core.specs.Path.{Path, Arg}
 use Rattle.isle_core.specs.Pattern.{Pattern}
-use Rattle.isle_core.specs.PatternType.{AreVariantsApart, IsPatternOf, ArePatternsOf}
+use Rattle.isle_core.specs.PatternType.{AreVariantsApart, IsPatternOf}
 use Rattle.isle_core.specs.RightSide.{path}
 use Rattle.isle_core.specs.Rule.{Environment, IfLet, Rule}
 use Rattle.isle_core.specs.Tests.{Places, no_places, tests, after, called_tests, args_tests, args_after, iflets_tests, iflets_after, rule_tests, rule_places}
 use Rattle.isle_core.specs.TypedVariables.{typed_variables, all_typed}
 use Rattle.isle_core.specs.Value.{Value}
 use Rattle.isle_core.specs.ValueAt.{Known, none_made, value_at, holds, all_hold}
-use Rattle.isle_core.proofs.ConditionTests.{Gives, expr_gives, no_impure, IsSupplied, supplied_less}
+use Rattle.isle_core.specs.Served.{AreServed, IsSupplied, IsTested}
+use Rattle.isle_core.proofs.ConditionTests.{Gives, expr_gives, no_impure, supplied_less}
 use Rattle.isle_core.proofs.Contained.{none_contained}
 use Rattle.isle_core.proofs.KnownAnswers.{IsUpTo, PlacesUpTo, places_more, path_up_to, after_up_to, args_up_to, none_up_to}
-use Rattle.isle_core.proofs.PatternTests.{Values, HoldsParts, AreServed, Agree, Both, none_agrees, pattern_both, patterns_both}
+use Rattle.isle_core.proofs.PatternTests.{Values, HoldsParts, Agree, Both, none_agrees, pattern_both, patterns_both}
 use Rattle.isle_core.proofs.TypedNames.{AreNamed, HasNamed, pattern_named, patterns_named}
 
 -- ---- conditions
@@ -82,11 +83,6 @@ module _ (env : Environment) (m : Meaning) (choice : Choice) (args : List Value)
       (value_named vars c.lhs q h.0.ty calls names (evaluated env m choice c.rhs names places 0 []) h.0.lhs served n given) (λ names' a' n'. iflets_both cs (vars ++ typed_variables c.lhs) names' mid h.1 a' n' rest))
 
 -- ---- a rule
-
--- the types of a rule's patterns and conditions, over arguments of these types
-pub record IsTested (env : Environment) (tys : List TypeId) (r : Rule) : Type 0 where
-  pub args : ArePatternsOf env tys r.args
-  pub iflets : AreIfLetsOf env (all_typed r.args) r.iflets
 
 -- a rule matches with these items chosen exactly where its tests hold
 pub rule_both : (env : Environment) (m : Meaning) (choice : Choice) (args : List Value) (tys : List TypeId) (r : Rule) → AreVariantsApart env → IsTested env tys r → HaveTypes env args tys → AreServed env m (extracted_in env r.args) → IsSupplied env m (called_in_iflets env r.iflets) (iflets_constants r.iflets)

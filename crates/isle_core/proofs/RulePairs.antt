@@ -29,17 +29,17 @@ use Rattle.isle_core.specs.Tests.{Test, Is, Equal, HasItem, no_places, args_afte
 use Rattle.isle_core.specs.Value.{Value}
 use Rattle.isle_core.specs.ValueAt.{Known, none_made, item_at, chosen_held, is_item, equal_held, value_at, holds, all_hold}
 use Rattle.isle_core.specs.Works.{Work}
+use Rattle.isle_core.specs.Served.{AreServed, IsSupplied, IsTested}
 use Rattle.isle_core.proofs.ListLaws.{filter_keeps}
 use Rattle.isle_core.proofs.AnsweredTerms.{HasAnsweredCalls}
 use Rattle.isle_core.proofs.ChoiceLists.{AreListsInOrder, choices_right}
 use Rattle.isle_core.proofs.ChosenItems.{items_chosen}
-use Rattle.isle_core.proofs.ConditionTests.{IsSupplied}
 use Rattle.isle_core.proofs.Contained.{head_contained, contained_cases, none_contained}
 use Rattle.isle_core.proofs.EachFollows.{AnyOften}
 use Rattle.isle_core.proofs.ListTests.{ItemSo, lists_asked}
 use Rattle.isle_core.proofs.PartFlat.{part_flat}
-use Rattle.isle_core.proofs.PatternTests.{AreServed, Both}
-use Rattle.isle_core.proofs.RuleMatches.{IsTested, rule_both}
+use Rattle.isle_core.proofs.PatternTests.{Both}
+use Rattle.isle_core.proofs.RuleMatches.{rule_both}
 use Rattle.isle_core.proofs.SetMeans.{equal_held-self, flat_same_at}
 
 -- ---- choices one after the other

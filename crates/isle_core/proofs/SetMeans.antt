@@ -33,14 +33,15 @@ use Rattle.isle_core.specs.CalledTerms.{CalledTerm, extracted_in, called_in_ifle
 use Rattle.isle_core.specs.BuiltRule.{IsBuiltRule, CallsBuiltTerms}
 use Rattle.isle_core.specs.Rule.{Environment, Rule}
 use Rattle.isle_core.proofs.SameValueLaws.{same_value-self}
-use Rattle.isle_core.proofs.PatternTests.{AreServed, Agree, Both}
+use Rattle.isle_core.proofs.PatternTests.{Agree, Both}
 use Rattle.isle_core.proofs.AnsweredTerms.{HasAnsweredCalls, Supplies, supplies_less, calls_answered}
 use Rattle.isle_core.proofs.PlacedVariables.{rule_placed}
-use Rattle.isle_core.proofs.RuleMatches.{IsTested, rule_both, rule_up_to}
-use Rattle.isle_core.proofs.ConditionTests.{IsSupplied, supplied_less}
+use Rattle.isle_core.proofs.RuleMatches.{rule_both, rule_up_to}
+use Rattle.isle_core.proofs.ConditionTests.{supplied_less}
 use Rattle.isle_core.specs.Having.{const_of}
 use Rattle.isle_core.specs.Terms.{sym_text}
 use Rattle.isle_core.specs.Scope.{all_variables, iflets_scope, IsScopedRule}
+use Rattle.isle_core.specs.Served.{AreServed, IsSupplied, IsTested}
 use Rattle.isle_core.proofs.KnownAnswers.{nothing_fresh}
 use Rattle.isle_core.proofs.CallsFollow.{Follows, expr_follows}
 use Rattle.isle_core.proofs.FirstCalls.{firsts_run_all}
@@ -156,15 +157,7 @@ alike_more env m args ps r n f b None later best tys tested t h k s = subst (λ 
 alike_more env m args ps r n f b (Some names) later best tys tested t h k s =
     subst (λ x. Alike env m args ps (cond x (Some (higher f later)) later) (Some (better r names best))) (sym k.0) (alike_higher env m args ps r names f later best (h.prio, flat_gives env m args ps r n f names tys tested t h k.1) s)
 
--- what the rules of a term are like whose arguments have these types, and how the meaning serves them
-pub record AreServedRules (env : Environment) (m : Meaning) (tys : List TypeId) (rules : List Rule) : Type 0 where
-  pub built : AllByRecursion (IsBuiltRule env.terms) rules
-  pub scoped : AllByRecursion IsScopedRule rules
-  pub terms : AllByRecursion (CallsBuiltTerms env.terms) rules
-  pub typed : AllByRecursion (IsTested env tys) rules
-  pub served : IsSupplied env m (called env rules) (rules_constants rules)
-
--- so of those that call no term that answers several times
+-- what the rules of a term are like that call no term that answers several times
 pub record AreMet (env : Environment) (m : Meaning) (tys : List TypeId) (rules : List Rule) : Type 0 where
   pub built : AllByRecursion (IsBuiltRule env.terms) rules
   pub scoped : AllByRecursion IsScopedRule rules

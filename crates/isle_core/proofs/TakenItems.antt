@@ -122,7 +122,7 @@ abbrev pub fallible_at : Environment → Path → Bool
 fallible_at env (Called term ps k) = is_fallible (calling env term)
 fallible_at env p = false
 
--- no call behind the n-th is known; the calls made stand on the first n, and their lists are settled; of those that are lists the item that is taken is the
+-- no call after the n-th is known; the calls made stand on the first n, and their lists are settled; of those that are lists the item that is taken is the
 -- one that is chosen, and is there, and those that may be answered by nothing are answered by something; of other lists none is taken; of lists without an
 -- impure call the item is that of the choice
 pub record GoesSo (env : Environment) (m : Meaning) (args : List Value) (choice : Choice) (n : ℕ) (taken : Taken) (done : List Path) (known : Known) : Type 0 where

@@ -29,9 +29,10 @@ use Rattle.isle_core.specs.SameValue.{same_value}
 use Rattle.isle_core.specs.Terms.{sym_text}
 use Rattle.isle_core.specs.TypedVariables.{typed_variables, typed_within, all_typed}
 use Rattle.isle_core.specs.Value.{Value, Truth, Answer, Plain, Found, Nothing, Several}
+use Rattle.isle_core.specs.Served.{AreServed}
 use Rattle.isle_core.proofs.Contained.{contained_cases, none_contained}
 use Rattle.isle_core.proofs.MadeParts.{made_parts}
-use Rattle.isle_core.proofs.PatternTests.{fit_there, AreServed, served_first, served_rest, extractor_of, extracted_here, not_made, case_fits, parts_given}
+use Rattle.isle_core.proofs.PatternTests.{fit_there, served_first, served_rest, extractor_of, extracted_here, not_made, case_fits, parts_given}
 use Rattle.isle_core.proofs.SameValueLaws.{same_value_decides}
 
 -- each of these variables has a value of its type
@@ -129,7 +130,7 @@ module _ (env : Environment) (m : Meaning) (choice : Choice) (apart : AreVariant
   regrouped vars xs ys o h = subst (λ vs. HasNamed env vs o) (append_assoc vars xs ys) h
 
   mutual
-    -- behind a pattern
+    -- after a pattern
     pub pattern_named : (p : Pattern) (at : Path) (v : Value) (ty : TypeId) (vars : List (TypeId × ℕ)) (names : Names) → IsPatternOf env ty p → HasType env v ty → AreServed env m (extracted_by env p) → AreNamed env vars names → HasNamed env (vars ++ typed_variables p) (matches env m choice p at v names)
     pattern_named (Var of x) at v ty vars names h t served a = met_named env vars (names x.0) of x.0 v names refl (subst (HasType env v) (sym h) t) a
     pattern_named (ConstBool b) at v ty vars names h t served a = none_more env vars _ (if_named env vars (same_value v (Truth b)) names a)

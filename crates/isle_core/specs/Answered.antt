@@ -42,6 +42,6 @@ abbrev pub answer_by : Option TurnAnswers → Meaning → Callee → List Value 
 answer_by (Some turns) m callee vs made = turn_at (Some turns) (times callee made)
 answer_by None m callee vs made = case m callee vs
 
--- what a callee answers behind the calls made before
+-- what a callee answers after the calls made before
 abbrev pub answer : Meaning → Callee → List Value → List Made → Answer
 answer m callee vs made = answer_by (turns_of m callee) m callee vs made

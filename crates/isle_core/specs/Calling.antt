@@ -134,7 +134,7 @@ is_ordered (ByTurns callee kind) = true
 is_ordered (ByCases callee kind) = may_be_nothing kind
 is_ordered NoCall = false
 
--- the occurrence of a call behind n impure ones; that of a pure call is 0
+-- the occurrence of a call after n impure ones; that of a pure call is 0
 abbrev pub instance_of : Calling → ℕ → ℕ
 instance_of (ByTurns callee kind) n = suc n
 instance_of (ByCases callee kind) n = 0

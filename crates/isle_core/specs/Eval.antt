@@ -31,7 +31,7 @@ abbrev pub named : Option Value → List Made → Evaluated
 named (Some v) made = Answered v made
 named None made = Failed made
 
--- what follows a value; behind a failure nothing does
+-- what follows a value; after a failure nothing does
 abbrev pub then_all : Evaluated → (Value → List Made → EvaluatedAll) → EvaluatedAll
 then_all (Answered v made) go = go v made
 then_all (Failed made) go = OneFailed made
@@ -41,7 +41,7 @@ abbrev pub before : Value → EvaluatedAll → EvaluatedAll
 before v (AllAnswered vs made) = AllAnswered (v ∷ vs) made
 before v (OneFailed made) = OneFailed made
 
--- what follows values; behind a failure nothing does
+-- what follows values; after a failure nothing does
 abbrev pub then_one : EvaluatedAll → (List Value → List Made → Evaluated) → Evaluated
 then_one (AllAnswered vs made) go = go vs made
 then_one (OneFailed made) go = Failed made
@@ -76,12 +76,12 @@ pub data Bound : Type 0 where
   AllBound : Names → List Made → Bound
   NotBound : List Made → Bound
 
--- what follows a value of a `let`; behind a failure nothing does
+-- what follows a value of a `let`; after a failure nothing does
 abbrev pub then_bind : Evaluated → (Value → List Made → Bound) → Bound
 then_bind (Answered v made) go = go v made
 then_bind (Failed made) go = NotBound made
 
--- what follows all values of a `let`; behind a failure nothing does
+-- what follows all values of a `let`; after a failure nothing does
 abbrev pub then_within : Bound → (Names → List Made → Evaluated) → Evaluated
 then_within (AllBound names made) go = go names made
 then_within (NotBound made) go = Failed made
@@ -115,11 +115,11 @@ abbrev pub value_of : Evaluated → Option Value
 value_of (Answered v made) = Some v
 value_of (Failed made) = None
 
--- the names behind a condition that holds; a failure is no match
+-- the names after a condition that holds; a failure is no match
 abbrev pub iflet_names : Environment → Meaning → Choice → IfLet → Places → Names → Option Names
 iflet_names env m choice c places names = option_and_then (λ v. matches env m choice c.lhs (path env c.rhs places 0) v names) (value_of (evaluated env m choice c.rhs names places 0 []))
 
--- the names behind conditions that hold, in order
+-- the names after conditions that hold, in order
 abbrev pub iflets_names : Environment → Meaning → Choice → List IfLet → Places → Names → Option Names
 iflets_names env m choice [] places names = Some names
 iflets_names env m choice (c ∷ cs) places names = option_and_then (iflets_names env m choice cs (after env c.lhs (path env c.rhs places 0) places)) (iflet_names env m choice c places names)

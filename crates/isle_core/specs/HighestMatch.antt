@@ -8,12 +8,12 @@ use Rattle.isle_core.specs.Match.{Names}
 use Rattle.isle_core.specs.Outcome.{Prescription, prescription_of, rule_names, rule_value, unmatched}
 use Rattle.isle_core.specs.Rule.{Environment, Rule}
 
--- a rule that matches, or a higher one behind it
+-- a rule that matches, or a higher one after it
 abbrev pub better : Rule → Names → Option (Rule × Names) → Rule × Names
 better r names None = (r, names)
 better r names (Some o) = if is_lt (int_cmp r.prio o.0.prio) then o else (r, names)
 
--- a rule where it matches, and those behind it
+-- a rule where it matches, and those after it
 abbrev pub or_later : Rule → Option Names → Option (Rule × Names) → Option (Rule × Names)
 or_later r None later = later
 or_later r (Some names) later = Some (better r names later)

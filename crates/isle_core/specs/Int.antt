@@ -70,7 +70,7 @@ pub record WrapsTo (ty : IntType) (z n : ℤ) : Type 0 where
   pub within : IsOf ty n
   pub congruent : (k : ℤ) × (z ≡ n +ℤ (k *ℤ pos (2 ^ bits (width ty))))
 
--- what is left of z behind the multiples of 2 to the width
+-- what is left of z after the multiples of 2 to the width
 abbrev pub residue : Width → ℤ → ℕ
 residue w z = unsigned_abs (int_rem_euclid z (pos (2 ^ bits w)))
 

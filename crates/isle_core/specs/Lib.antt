@@ -66,10 +66,13 @@ pub mod Serializable
 pub mod CalledTerms
 pub mod OccurringConstants
 pub mod Lawful
+pub mod ApartTests
+pub mod Served
 pub mod Single
 pub mod SamePath
 pub mod HoldsImpure
 pub mod Parts
+pub mod Space
 pub mod Pairs
 pub mod Cut
 pub mod History

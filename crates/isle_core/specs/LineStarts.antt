@@ -1,7 +1,7 @@
 -- Where the lines of texts begin.
 use Rattle.std.specs.Prelude.{ℕ, zero, suc, ◌+◌, slice_index_or, List, [], ◌∷◌, ◌==◌, if◌then◌else◌}
 
--- the places behind the line feeds of a text whose first byte stands at this place
+-- the places after the line feeds of a text whose first byte stands at this place
 abbrev pub starts_from : ℕ → List ℕ → List ℕ
 starts_from n [] = []
 starts_from n (b ∷ bs) = if b == 10 then (n + 1) ∷ starts_from (n + 1) bs else starts_from (n + 1) bs

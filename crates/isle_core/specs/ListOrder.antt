@@ -26,7 +26,7 @@ abbrev mutual
   AllListsWithin before NoPath = Unit {0}
   AllListsWithin before (APath p ps) = ListsWithin before p × AllListsWithin before ps
 
--- lists in an order in which each stands once, behind those within it
+-- lists in an order in which each stands once, after those within it
 abbrev pub AreListsInOrder : List Path → List Path → Type 0
 AreListsInOrder before [] = Unit {0}
 AreListsInOrder before (q ∷ qs) = ListsWithin before q × (Contains before q → ⊥) × AreListsInOrder (q ∷ before) qs

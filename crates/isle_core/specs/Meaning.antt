@@ -17,13 +17,11 @@ pub record TurnAnswers : Type 0 where
   pub turns : List Answer
   pub rest : Answer
 
--- the values of constants, the answers, how long the list of results is at entry, and its limit
+-- the values of constants, and the answers
 pub record Meaning : Type 0 where
   pub consts : List (List ℕ × Value)
   pub pure : List PureAnswers
   pub turns : List TurnAnswers
-  pub held : ℕ
-  pub max_returns : ℕ
 
 -- ---- turns
 
@@ -40,7 +38,7 @@ abbrev pub turn_at : Option TurnAnswers → ℕ → Answer
 turn_at None n = Nothing
 turn_at (Some a) n = slice_index_or a.turns n a.rest
 
--- what a call of an impure callee is answered behind these calls
+-- what a call of an impure callee is answered after these calls
 abbrev pub turn : Meaning → Callee → List Made → Answer
 turn m callee made = turn_at (turns_of m callee) (times callee made)
 

@@ -21,7 +21,7 @@ pub record Placed : Type 0 where
   pub before : ℕ
   pub place : ℕ
 
--- rules so, behind n impure calls and k rules
+-- rules so, after n impure calls and k rules
 abbrev pub placed : Environment → List Rule → (n k : ℕ) → List Placed
 placed env [] n k = []
 placed env (r ∷ rs) n k = record { rule = r; before = n; place = k } ∷ placed env rs (n + impure env r.rhs) (suc k)

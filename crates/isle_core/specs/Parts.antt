@@ -72,7 +72,7 @@ on_taken None p is taken g next = on_each p is 0 taken g next
 abbrev pub on_list : (late : Bool) → Choice → Path → List Item → Taken → Given → Next → Given
 on_list late choice p is taken g next = if late then on_taken (taken p) p is taken g next else on_item (slice_get is (choice p)) taken g next
 
--- what follows an answer; behind nothing nothing does
+-- what follows an answer; after nothing nothing does
 abbrev pub on_answer : (late : Bool) → Choice → Path → Held → Taken → Given → Next → Given
 on_answer late choice p (One i) taken g next = on_item (Some i) taken g next
 on_answer late choice p (Optional o) taken g next = on_item o taken g next
@@ -96,7 +96,7 @@ abbrev pub on_named : Option Value → Taken → Given → Next → Given
 on_named (Some v) taken g next = next v taken g
 on_named None taken g next = g
 
--- what follows the values of an expression whose variables stand at these places, behind n impure calls: arguments first, and each value of a
+-- what follows the values of an expression whose variables stand at these places, after n impure calls: arguments first, and each value of a
 -- `let` in order
 abbrev mutual
   pub each_value : Environment → Meaning → Choice → Expr → Names → Places → ℕ → Taken → Given → Next → Given
@@ -121,6 +121,6 @@ abbrev mutual
   each_binding env m choice (ABinding x ty e more) names places n taken g next =
       each_value env m choice e names places n taken g (λ v now so. each_binding env m choice more (with names x.0 v) (with places x.0 (path env e places n)) (n + impure env e) now so next)
 
--- what a rule with these names adds, behind n impure calls of the rules before
+-- what a rule with these names adds, after n impure calls of the rules before
 abbrev pub part : Environment → Meaning → Choice → Rule → Names → ℕ → Given → Given
 part env m choice r names n g = each_value env m choice r.rhs names (rule_places env r) n none_taken g (λ v taken. give v)

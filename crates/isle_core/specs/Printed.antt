@@ -3,7 +3,7 @@ use Rattle.std.specs.Prelude.{ℕ, ◌+◌, List, [], ◌∷◌, ◌++◌, take,
 use Rattle.std.specs.Fmt.{decimal}
 use Rattle.isle_core.specs.declared.options.Prefix.{Prefix}
 
--- what stands behind the prefix, where the name begins with it
+-- what stands after the prefix, where the name begins with it
 abbrev pub after_prefix : List ℕ → List ℕ → Option (List ℕ)
 after_prefix [] name = Some name
 after_prefix (p ∷ prefix) [] = None

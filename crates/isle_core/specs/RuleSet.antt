@@ -30,7 +30,7 @@ flat_tests ps f = map (is_test ps) f.constraints ++ map (equal_test ps) f.equals
 abbrev pub flat_holds : Environment → Meaning → List Value → List Path → FlatRule → Bool
 flat_holds env m args ps f = all_hold env m (value_at env m args nothing_known) (flat_tests ps f)
 
--- what a run gives; one that goes on behind the last step matched nothing
+-- what a run gives; one that goes on after the last step matched nothing
 abbrev pub gave : ReturnKind → Went → Prescription
 gave kind (Goes known made) = record { result = unmatched kind; calls = made }
 gave kind (Ends o) = o
@@ -39,7 +39,7 @@ gave kind (Ends o) = o
 abbrev pub flat_run : Environment → Meaning → List Value → List Path → FlatRule → Went
 flat_run env m args ps f = then_go (run_calls env m args (map (at ps) f.ordered) nothing_known []) (returns env m args (at ps f.result))
 
--- the higher of a rule and another behind it
+-- the higher of a rule and another after it
 abbrev pub higher : FlatRule → Option FlatRule → FlatRule
 higher f None = f
 higher f (Some g) = if is_lt (int_cmp f.prio g.prio) then g else f

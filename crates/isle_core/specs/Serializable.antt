@@ -24,7 +24,7 @@ use Rattle.isle_core.specs.Rule.{Environment}
 
 -- ---- what may be read
 
--- an inner value may be read behind the call that answers it, or behind the test that the answer is something
+-- an inner value may be read after the call that answers it, or after the test that the answer is something
 abbrev pub StandsWithin : (tests : List Test) → (done : List Path) → Path → Type 0
 StandsWithin tests done (Called term ps instance) = Contains done (Called term ps instance) ⊎ Contains tests (Is (Called term ps instance) constraint.Some)
 StandsWithin tests done (Extracted term q) = Contains tests (Is (Extracted term q) constraint.Some)
@@ -42,14 +42,14 @@ StandsWithin tests done (Wrapped q) = Unit {0}
 StandsWithin tests done (Inner q) = Unit {0}
 StandsWithin tests done (Part part q) = Unit {0}
 
--- an impure call may be read behind itself, a pure one where its arguments may be
+-- an impure call may be read after itself, a pure one where its arguments may be
 abbrev pub StandsCalled : Calling → (itself arguments : Type 0) → Type 0
 StandsCalled (ByTurns callee kind) itself arguments = itself
 StandsCalled (ByCases callee kind) itself arguments = arguments
 StandsCalled NoCall itself arguments = ⊥
 
--- a path may be read behind these tests and these calls: a field behind the test that shows it, an impure call behind itself, a pure call
--- where its arguments may be read, an extractor's answer where what it takes apart may be, an item where its list may be, but behind the list's
+-- a path may be read after these tests and these calls: a field after the test that shows it, an impure call after itself, a pure call
+-- where its arguments may be read, an extractor's answer where what it takes apart may be, an item where its list may be, but after the list's
 -- own call where that holds an impure one, a part where its tuple may be, and a made value where its parts may be
 abbrev mutual
   pub StandsOn : Environment → (tests : List Test) → (done : List Path) → Path → Type 0
@@ -91,17 +91,17 @@ IsTest env t p (constraint.ConstPrim val) = IsValueTest env t p (constraint.Cons
 IsTest env t p (constraint.Variant of variant) = IsValueTest env t p (constraint.Variant of variant)
 IsTest env t p (constraint.Struct of) = IsValueTest env t p (constraint.Struct of)
 
--- a test of its binding's path, which may be read behind the tests before
+-- a test of its binding's path, which may be read after the tests before
 pub record IsTestable (env : Environment) (t : Term) (ps : List Path) (before : List Test) (c : BindingId × Constraint) : Type 0 where
   pub test : IsTest env t (at ps c.0) c.1
   pub stands : StandsOn env before [] (at ps c.0)
 
--- constraints in order, behind these tests
+-- constraints in order, after these tests
 abbrev pub AreTestable : Environment → Term → List Path → (before : List Test) → List (BindingId × Constraint) → Type 0
 AreTestable env t ps before [] = Unit {0}
 AreTestable env t ps before (c ∷ cs) = IsTestable env t ps before c × AreTestable env t ps (is_test ps c ∷ before) cs
 
--- two bindings whose paths are of one type and may be read behind these tests
+-- two bindings whose paths are of one type and may be read after these tests
 pub record AreComparable (env : Environment) (t : Term) (ps : List Path) (tests : List Test) (e : BindingId × BindingId) : Type 0 where
   pub ty : TypeId
   pub left : IsPathOf env t (at ps e.0) ty
@@ -129,14 +129,14 @@ pub record IsSerializableCall (env : Environment) (t : Term) (tests : List Test)
   pub item : IsTrue (is_several kind) ↔ Contains ps (Chosen p)
   pub often : IsTrue (is_several kind) → is_several (kind_of t.kind) ≡ true
 
--- calls in order, behind those that were made
+-- calls in order, after those that were made
 abbrev pub AreSerializableCalls : Environment → Term → (tests : List Test) → (ps done : List Path) → List Path → Type 0
 AreSerializableCalls env t tests ps done [] = Unit {0}
 AreSerializableCalls env t tests ps done (p ∷ more) = IsSerializableCall env t tests ps done p × AreSerializableCalls env t tests ps (p ∷ done) more
 
 -- ---- lists
 
--- a list of a term that answers several times, which has an item; it may be read behind the tests, or is one of the rule's ordered calls
+-- a list of a term that answers several times, which has an item; it may be read after the tests, or is one of the rule's ordered calls
 pub record IsSerializableList (env : Environment) (t : Term) (tests : List Test) (ps ordered : List Path) (b : BindingId) : Type 0 where
   pub tys : List TypeId
   pub list : IsListOf env t (at ps b) tys

@@ -22,7 +22,7 @@ is_among p done = list_any (same_path p) done
 abbrev pub Rest : Type 0
 Rest = List Path → Known → Given → Given
 
--- what follows an answer at a path: each item of a list; behind nothing nothing does
+-- what follows an answer at a path: each item of a list; after nothing nothing does
 abbrev pub behind_answer : Calling → Path → Held → List Path → Known → Given → Rest → Given
 behind_answer c p h done known g rest = if answers_often c then on_items p h known g (rest done) else (if is_fallible c then (if is_found h then rest done known g else g) else rest done known g)
 

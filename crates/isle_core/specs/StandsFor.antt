@@ -22,7 +22,7 @@ IsTrivial (Is p c) = ⊥
 IsTrivial (Equal p q) = p ≡ q
 IsTrivial (HasItem p) = Unit {0}
 
--- the firsts of items behind those seen: each where it stands first
+-- the firsts of items after those seen: each where it stands first
 pub data AreFirsts {A : Type 0} : List A → List A → List A → Type 0 where
   no_more : (seen : List A) → AreFirsts seen [] []
   again : (seen : List A) (x : A) (xs ys : List A) → Contains seen x → AreFirsts seen xs ys → AreFirsts seen (x ∷ xs) ys

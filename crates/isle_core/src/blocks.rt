@@ -26,7 +26,7 @@ pub struct MatchArm {
     pub body: Block,
 }
 
-/// What a step does behind its bindings.
+/// What a step does after its bindings.
 #[cycle(block)]
 #[derive(Debug)]
 pub enum ControlFlow {

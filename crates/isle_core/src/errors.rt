@@ -179,7 +179,8 @@ impl Errors {
     /// shadowed rule its own. Fails for want of memory alone.
     pub fn lines(&self, alloc: Global) -> Result<String, OutOfMemory>
         requires { All (IsPlaced self.now.files) self.now.errors }
-        ensures { IfOk result (λ text. string_bytes text ≡ error_lines self.now.files self.now.errors) }
+        ensures { IfOk result (λ text.
+            string_bytes text ≡ error_lines self.now.files self.now.errors) }
     {
         let starts = LineStarts::new(alloc, &self.files)?;
         let mut out = String::new(alloc);

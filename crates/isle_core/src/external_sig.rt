@@ -1,7 +1,7 @@
 //! The functions of a term, and their signatures.
 
 ghost use Rattle.std.specs.Prelude.{◌≡◌, ◌++◌, ◌∷◌, [], IfOk, option_map};
-ghost use Rattle.isle_core.specs.Calling.{kind_by, extractor_kind};
+ghost use Rattle.isle_core.specs.Calling.{kind_by, kind_of, extractor_kind};
 ghost use Rattle.isle_core.specs.ExternalSig.{has_external_extractor, has_external_constructor, is_recursive};
 ghost use Rattle.isle_core.specs.ExternalSig.{extractor_sig, constructor_sig};
 
@@ -12,8 +12,8 @@ use isle_base::{List, Text, TypeId};
 use isle_outside::OutOfMemory;
 use std::alloc::{AllocError, Global};
 
-// How often an extractor answers.
-fn extractor_kind(multi: bool, infallible: bool) -> ReturnKind
+/// Returns how often an external extractor answers.
+pub fn extractor_kind(multi: bool, infallible: bool) -> ReturnKind
     ensures { result ≡ extractor_kind multi infallible }
 {
     if multi {
@@ -38,7 +38,17 @@ fn constructor_kind(multi: bool, partial: bool) -> ReturnKind
     }
 }
 
-// A name behind a prefix.
+/// Returns how often a term of this kind answers.
+pub fn kind_of(kind: &TermKind) -> ReturnKind
+    ensures { result ≡ kind_of kind.now }
+{
+    match kind {
+        TermKind::Variant { .. } | TermKind::Struct { .. } => ReturnKind::Plain,
+        TermKind::Decl { multi, partial, .. } => constructor_kind(*multi, *partial),
+    }
+}
+
+// A name after a prefix.
 fn joined(alloc: Global, prefix: &str, name: &str) -> Result<Text, AllocError>
     ensures { IfOk result (λ text. text ≡ prefix.now ++ name.now) }
 {

@@ -21,23 +21,31 @@ pub struct Files {
 impl Files {
     /// Reads the files of these names, in order, and notes the names as printed: of each the first prefix that
     /// begins it is replaced. `Io` gives the first input that was not read; see `IoCause` for its causes. Each name is
-    /// looked up once, none behind that input's, and of each input at most 2^24 + 1 bytes are taken.
+    /// looked up once, none after that input's, and of each input at most 2^24 + 1 bytes are taken.
     pub fn from_paths<D: Dir>(
         alloc: Global,
         dir: &mut D,
         names: &[String],
         prefixes: &[Prefix],
     ) -> Result<Files, ReadError>
-        ensures names { IfOk result (λ files. files.file_names ≡ map (shown prefixes.now) (bytes_each names.now)) }
-        ensures texts { IfOk result (λ files. IfSome (D.files dir.old) (λ fs. AreRead fs (bytes_each names.now) files.file_texts)) }
+        ensures names { IfOk result (λ files.
+            files.file_names ≡ map (shown prefixes.now) (bytes_each names.now)) }
+        ensures texts { IfOk result (λ files.
+            IfSome (D.files dir.old) (λ fs. AreRead fs (bytes_each names.now) files.file_texts)) }
         ensures count { IfOk result (λ files. length files.file_texts ≡ length names.now) }
-        ensures err { IfErr result (λ e. Fails e (D.files dir.old) (bytes_each names.now) (D.counts dir.old) (D.counts dir.new)) }
+        ensures err { IfErr result (λ e.
+            Fails e (D.files dir.old) (bytes_each names.now) (D.counts dir.old)
+            (D.counts dir.new)) }
         ensures files { D.files dir.new ≡ D.files dir.old }
         ensures later { (D.counts dir.old).faults ≤ (D.counts dir.new).faults }
-        ensures stays { (D.counts dir.old).faults ≡ 2 ^ 64 - 1 → (D.counts dir.new).faults ≡ 2 ^ 64 - 1 }
-        ensures tried { IfOk result (λ files. IsTried (length names.now) (D.counts dir.old) (D.counts dir.new)) }
-        ensures steady { IfOk result (λ files. (D.counts dir.new).faults ≡ (D.counts dir.old).faults) }
-        ensures given { (D.counts dir.new).given ≤ (D.counts dir.old).given + (2 ^ 24 + 1) * length names.now }
+        ensures stays { (D.counts dir.old).faults ≡ 2 ^ 64 - 1
+            → (D.counts dir.new).faults ≡ 2 ^ 64 - 1 }
+        ensures tried { IfOk result (λ files.
+            IsTried (length names.now) (D.counts dir.old) (D.counts dir.new)) }
+        ensures steady { IfOk result (λ files.
+            (D.counts dir.new).faults ≡ (D.counts dir.old).faults) }
+        ensures given { (D.counts dir.new).given
+            ≤ (D.counts dir.old).given + (2 ^ 24 + 1) * length names.now }
     {
         let file_texts = all_texts(alloc, dir, names)?;
         let file_names = all_shown(alloc, names, prefixes)?;
@@ -50,15 +58,20 @@ impl Files {
 
 // The texts of the files of these names, in order.
 fn all_texts<D: Dir>(alloc: Global, dir: &mut D, names: &[String]) -> Result<Vec<Text>, ReadError>
-    ensures texts { IfOk result (λ read. IfSome (D.files dir.old) (λ fs. AreRead fs (bytes_each names.now) read.items)) }
+    ensures texts { IfOk result (λ read.
+        IfSome (D.files dir.old) (λ fs. AreRead fs (bytes_each names.now) read.items)) }
     ensures count { IfOk result (λ read. length read.items ≡ length names.now) }
-    ensures err { IfErr result (λ e. Fails e (D.files dir.old) (bytes_each names.now) (D.counts dir.old) (D.counts dir.new)) }
+    ensures err { IfErr result (λ e.
+        Fails e (D.files dir.old) (bytes_each names.now) (D.counts dir.old) (D.counts dir.new)) }
     ensures files { D.files dir.new ≡ D.files dir.old }
     ensures later { (D.counts dir.old).faults ≤ (D.counts dir.new).faults }
-    ensures stays { (D.counts dir.old).faults ≡ 2 ^ 64 - 1 → (D.counts dir.new).faults ≡ 2 ^ 64 - 1 }
-    ensures tried { IfOk result (λ read. IsTried (length names.now) (D.counts dir.old) (D.counts dir.new)) }
+    ensures stays { (D.counts dir.old).faults ≡ 2 ^ 64 - 1
+        → (D.counts dir.new).faults ≡ 2 ^ 64 - 1 }
+    ensures tried { IfOk result (λ read.
+        IsTried (length names.now) (D.counts dir.old) (D.counts dir.new)) }
     ensures steady { IfOk result (λ read. (D.counts dir.new).faults ≡ (D.counts dir.old).faults) }
-    ensures given { (D.counts dir.new).given ≤ (D.counts dir.old).given + (2 ^ 24 + 1) * length names.now }
+    ensures given { (D.counts dir.new).given
+        ≤ (D.counts dir.old).given + (2 ^ 24 + 1) * length names.now }
 {
     let mut read = Vec::new(alloc);
     for (index, name) in names.iter().enumerate() {
@@ -73,7 +86,8 @@ fn all_texts<D: Dir>(alloc: Global, dir: &mut D, names: &[String]) -> Result<Vec
 
 // The names as printed, in order.
 fn all_shown(alloc: Global, names: &[String], prefixes: &[Prefix]) -> Result<Vec<Text>, OutOfMemory>
-    ensures { IfOk result (λ printed. printed.items ≡ map (shown prefixes.now) (bytes_each names.now)) }
+    ensures { IfOk result (λ printed.
+        printed.items ≡ map (shown prefixes.now) (bytes_each names.now)) }
 {
     let mut printed = Vec::new(alloc);
     for name in names {
@@ -96,7 +110,7 @@ fn name_shown(alloc: Global, name: &str, prefixes: &[Prefix]) -> Result<Text, Ou
     Ok(Text::copied(alloc, name)?)
 }
 
-// What stands behind the prefix, where the name begins with it.
+// What stands after the prefix, where the name begins with it.
 fn after_prefix<'a>(name: &'a str, prefix: &str) -> Option<&'a str>
     ensures { option_copied result ≡ after_prefix prefix.now name.now }
 {

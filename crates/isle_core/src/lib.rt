@@ -4,6 +4,7 @@
 mod blocks;
 mod errors;
 mod external_sig;
+mod fields;
 mod files;
 mod int_type;
 mod line_starts;
@@ -18,6 +19,8 @@ mod values;
 
 pub use blocks::{Block, ControlFlow, EvalStep, MatchArm};
 pub use errors::{Error, Errors, masked};
+pub use external_sig::{extractor_kind, kind_of};
+pub use fields::{field_count, numbered};
 pub use files::Files;
 pub use isle_base::{
     BindingId, Boxed, FieldId, List, RuleId, Sym, TermId, Text, TupleIndex, TypeId, VarId,

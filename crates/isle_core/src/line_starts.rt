@@ -92,7 +92,8 @@ impl LineStarts {
 
     // Returns the number of the line of a place in a file; of a file that is not there it is 1.
     fn line(&self, pos: Pos) -> usize
-        ensures { (files : CodeFiles) → self.now ≡ map starts_of files.file_texts → result ≡ line_of (text_in files pos.file) pos.offset }
+        ensures { (files : CodeFiles) → self.now ≡ map starts_of files.file_texts
+            → result ≡ line_of (text_in files pos.file) pos.offset }
     {
         match self.files.as_slice().get(pos.file) {
             Some(starts) => line_number(starts.as_slice(), pos.offset),

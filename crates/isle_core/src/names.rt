@@ -22,7 +22,8 @@ impl TypeEnv {
 
     /// Returns the name of one of these terms; one that is not there has none.
     pub fn term_name(&self, terms: &[Term], id: TermId) -> &str
-        ensures { (env : Environment) → env.types ≡ self.now → env.terms ≡ terms.now → result.now ≡ term_name env id }
+        ensures { (env : Environment) → env.types ≡ self.now → env.terms ≡ terms.now
+            → result.now ≡ term_name env id }
     {
         match terms.get(id.index()) {
             Some(term) => self.symbol(term.name),

@@ -82,7 +82,8 @@ pub struct TurnAnswers {
     pub rest: Answer,
 }
 
-/// What constants stand for and what calls answer, the length of the returns list at entry, and its limit.
+/// What constants stand for and what calls answer (a meaning), the length of the returns list at entry, and its limit
+/// (its space).
 #[derive(Debug, Drop)]
 pub struct Answers {
     pub consts: List<(Text, Value)>,

@@ -39,7 +39,7 @@ pub flat_mapped : {X : Type 0} (f : X → List (List ℕ)) (xs : List X) → fla
 flat_mapped f [] = refl
 flat_mapped f (x ∷ xs) = ap (λ names. f x ++ names) (flat_mapped f xs)
 
--- names and those behind them
+-- names and those after them
 behind : (names xs ys mid new : List (List ℕ)) → mid ≡ fold added names xs → new ≡ fold added mid ys → new ≡ fold added names (xs ++ ys)
 behind names xs ys mid new m n = n ∙ ap (λ ms. fold added ms ys) m ∙ sym (fold-append added names xs ys)
 

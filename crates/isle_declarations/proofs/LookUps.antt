@@ -5,8 +5,9 @@ use Rattle.std.specs.Option.{option_copied}
 use Rattle.std.specs.List.{HoldsAt, find}
 use denote.Ref.{Bor}
 use Rattle.std.specs.Str.{bytes_eq}
-use Rattle.std.proofs.lemmas.Option.{same_Some, slice_get_past, slice_get_read}
+use Rattle.std.proofs.lemmas.Option.{same_Some}
 use Rattle.std.proofs.lemmas.Slice.Eq.{bytes_eq-Decides}
+pub use Rattle.isle_core.proofs.Got.{got}
 use Rattle.isle_declarations.specs.Symbols.{index_of}
 use Rattle.isle_declarations.specs.Signatures.{Signature, Extern, func_named, signature_named}
 use Rattle.isle_declarations.specs.Heads.{terms_of, extern_terms}
@@ -44,11 +45,6 @@ first_is first name s false rest same others e = others e
 pub named_is : (sigs : List Signature) (name : List ℕ) (s : Signature) → signature_named sigs name ≡ Some s → s.term ≡ name
 named_is [] name s e = cc
 named_is (first ∷ sigs) name s e = first_is first name s (bytes_eq first.term name) (signature_named sigs name) refl (named_is sigs name s) e
-
--- what stands at a place, behind a reference
-pub got : {X : Type 0} (xs : List X) (i : ℕ) (r : Option (Bor X)) → IfSome r (λ x. x.now ≡ get_or xs i x.now) → MatchOption r (length xs ≤ i) (λ x. (i < length xs) × HoldsAt (λ y. x.now ≡ y) xs i) → option_copied r ≡ slice_get xs i
-got xs i None e h = sym (slice_get_past xs i h)
-got xs i (Some x) e h = sym (slice_get_read xs (length xs) i x.now refl h.0 e)
 
 -- ---- what is there, and what is not
 

@@ -102,9 +102,12 @@ pub fn keep<'d>(
     rules: &mut Vec<RuleDef<'d>>,
     item: Item<'d>,
 ) -> Result<(), AllocError>
-    ensures signatures { OnOk result (signatures.new.items ≡ signatures.old.items ++ item_signatures item.entry) }
-    ensures externs { OnOk result (externs.new.items ≡ externs.old.items ++ item_externs item.entry) }
-    ensures extractors { OnOk result (extractors.new.items ≡ extractors.old.items ++ item_extractors item.entry) }
+    ensures signatures { OnOk result
+        (signatures.new.items ≡ signatures.old.items ++ item_signatures item.entry) }
+    ensures externs { OnOk result
+        (externs.new.items ≡ externs.old.items ++ item_externs item.entry) }
+    ensures extractors { OnOk result
+        (extractors.new.items ≡ extractors.old.items ++ item_extractors item.entry) }
     ensures rules { OnOk result (rules.new.items ≡ rules.old.items ++ item_rules item.entry) }
 {
     match item {

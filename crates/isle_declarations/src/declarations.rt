@@ -2,7 +2,7 @@
 
 ghost use Rattle.std.specs.Prelude.{◌≡◌, IfOk, length, map};
 ghost use Rattle.isle_ast.specs.Views.{defs as seen};
-ghost use Rattle.isle_declarations.specs.Symbols.{index_of, symbols};
+ghost use Rattle.isle_declarations.specs.Symbols.{index_of, symbols, sym_of};
 ghost use Rattle.isle_declarations.specs.DeclaredTypes.{made_of};
 ghost use Rattle.isle_declarations.specs.Signatures.{signatures, externs, extractors, rule_defs};
 ghost use Rattle.isle_declarations.specs.Heads.{terms_of, extern_terms, extractor_terms, heads_of};
@@ -16,7 +16,7 @@ use crate::first_places::{FirstPlaces, place_in};
 use crate::interning::definitions;
 use crate::tables::{declared_places, external_places, extracting_places, ruled_places};
 use isle_ast::Def;
-use isle_core::{List, Text};
+use isle_core::{List, Sym, Text};
 use std::alloc::{AllocError, Global};
 use std::marker::Model;
 
@@ -119,6 +119,16 @@ impl<'d> Declarations<'d> {
         self.given.symbols.find(name.as_str())
     }
 
+    /// Returns the symbol of a name; of one that is none, the first.
+    pub fn sym(&self, name: &Text) -> Sym
+        ensures { result ≡ sym_of (symbols (seen self.now)) name.now }
+    {
+        match self.number(name) {
+            Some(number) => Sym(number),
+            None => Sym(0),
+        }
+    }
+
     /// Returns the declarations, in order.
     pub fn signatures(&self) -> &[Signature<'d>]
         ensures { AreSignatures (seen self.now) result.now }
@@ -149,28 +159,32 @@ impl<'d> Declarations<'d> {
 
     /// Returns the place of the first declaration of the name of this number.
     pub fn declaration(&self, number: usize) -> Option<usize>
-        ensures { IsFirstPlace (seen self.now) number (terms_of (signatures (seen self.now))) result }
+        ensures { IsFirstPlace (seen self.now) number (terms_of (signatures (seen self.now)))
+            result }
     {
         place_in(self.declared.table.as_slice(), number)
     }
 
     /// Returns the place of the first external constructor of the term whose name has this number.
     pub fn external(&self, number: usize) -> Option<usize>
-        ensures { IsFirstPlace (seen self.now) number (extern_terms (externs (seen self.now))) result }
+        ensures { IsFirstPlace (seen self.now) number (extern_terms (externs (seen self.now)))
+            result }
     {
         place_in(self.external.table.as_slice(), number)
     }
 
     /// Returns the place of the first extractor of the term whose name has this number.
     pub fn extracting(&self, number: usize) -> Option<usize>
-        ensures { IsFirstPlace (seen self.now) number (extractor_terms (extractors (seen self.now))) result }
+        ensures { IsFirstPlace (seen self.now) number (extractor_terms (extractors (seen self.now)))
+            result }
     {
         place_in(self.extracting.table.as_slice(), number)
     }
 
     /// Returns the place of the first rule of the term whose name has this number.
     pub fn rule(&self, number: usize) -> Option<usize>
-        ensures { IsFirstPlace (seen self.now) number (heads_of (rule_defs (seen self.now))) result }
+        ensures { IsFirstPlace (seen self.now) number (heads_of (rule_defs (seen self.now)))
+            result }
     {
         place_in(self.ruled.table.as_slice(), number)
     }

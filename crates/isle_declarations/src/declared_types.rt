@@ -9,7 +9,8 @@ use isle_core::Text;
 
 /// Returns the type's name, and what it is declared as.
 pub fn type_of(given: &Def) -> Option<(&Text, &AstBody)>
-    ensures { option_map (λ t. record { name = t.0.now; body = t.1.now }) result ≡ type_of (def given.now) }
+    ensures { option_map (λ t. record { name = t.0.now; body = t.1.now }) result
+        ≡ type_of (def given.now) }
 {
     match given {
         Def::TypeDecl { name, body, .. } => Some((name, body)),
@@ -19,7 +20,8 @@ pub fn type_of(given: &Def) -> Option<(&Text, &AstBody)>
 
 /// Returns the constant's name, and that of its type.
 pub fn constant_of(given: &Def) -> Option<(&Text, &Text)>
-    ensures { option_map (λ c. record { name = c.0.now; ty = c.1.now }) result ≡ constant_of (def given.now) }
+    ensures { option_map (λ c. record { name = c.0.now; ty = c.1.now }) result
+        ≡ constant_of (def given.now) }
 {
     match given {
         Def::ExternConst { name, ty, .. } => Some((name, ty)),

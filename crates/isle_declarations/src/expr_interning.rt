@@ -36,7 +36,8 @@ pub fn intern_expr<'d>(names: &mut Symbols<'d>, e: &'d AstExpr) -> Result<(), Al
 // The names in expressions, in order.
 #[cycle(names)]
 fn intern_exprs<'d>(names: &mut Symbols<'d>, es: &'d [AstExpr]) -> Result<(), AllocError>
-    ensures { OnOk result (names.new ≡ fold added names.old (exprs_names (exprs_of (map expr es.now)))) }
+    ensures { OnOk result
+        (names.new ≡ fold added names.old (exprs_names (exprs_of (map expr es.now)))) }
 {
     for e in es {
         intern_expr(names, e)?;
@@ -47,7 +48,8 @@ fn intern_exprs<'d>(names: &mut Symbols<'d>, es: &'d [AstExpr]) -> Result<(), Al
 // The names in variables of a `let`: of each its own, its type's, and those in its value.
 #[cycle(names)]
 fn intern_lets<'d>(names: &mut Symbols<'d>, lets: &'d [AstLet]) -> Result<(), AllocError>
-    ensures { OnOk result (names.new ≡ fold added names.old (lets_names (lets_of (map binding lets.now)))) }
+    ensures { OnOk result
+        (names.new ≡ fold added names.old (lets_names (lets_of (map binding lets.now)))) }
 {
     for l in lets {
         intern(names, &l.var)?;

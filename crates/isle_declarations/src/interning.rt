@@ -27,7 +27,8 @@ fn intern_decl<'d>(
     args: &'d [Text],
     ret: &'d Text,
 ) -> Result<usize, AllocError>
-    ensures names { OnOk result (names.new ≡ fold added names.old (term.now ∷ args.now ++ ret.now ∷ [])) }
+    ensures names { OnOk result
+        (names.new ≡ fold added names.old (term.now ∷ args.now ++ ret.now ∷ [])) }
     ensures number { IfOk result (λ number. index_of names.new term.now ≡ Some number) }
 {
     let number = names.intern(term.as_str())?;
@@ -43,7 +44,9 @@ fn intern_extern<'d>(
     func: &'d Text,
 ) -> Result<(usize, usize), AllocError>
     ensures names { OnOk result (names.new ≡ fold added names.old (term.now ∷ func.now ∷ [])) }
-    ensures numbers { IfOk result (λ numbers. (index_of names.new term.now ≡ Some numbers.0) × (index_of names.new func.now ≡ Some numbers.1)) }
+    ensures numbers { IfOk result (λ numbers.
+        (index_of names.new term.now ≡ Some numbers.0)
+        × (index_of names.new func.now ≡ Some numbers.1)) }
 {
     let number = names.intern(term.as_str())?;
     let func_number = names.intern(func.as_str())?;
@@ -81,7 +84,9 @@ fn intern_template<'d>(
     params: &'d [Text],
     template: &'d AstPattern,
 ) -> Result<usize, AllocError>
-    ensures names { OnOk result (names.new ≡ fold added names.old (term.now ∷ params.now ++ pattern_names (pattern template.now))) }
+    ensures names { OnOk result
+        (names.new ≡ fold added names.old
+        (term.now ∷ params.now ++ pattern_names (pattern template.now))) }
     ensures number { IfOk result (λ number. index_of names.new term.now ≡ Some number) }
 {
     let number = names.intern(term.as_str())?;
@@ -105,7 +110,9 @@ fn intern_converter<'d>(
 
 // The names in a definition that is no declaration, external constructor, extractor or rule.
 fn intern_uncollected<'d>(names: &mut Symbols<'d>, given: &'d Def) -> Result<(), AllocError>
-    ensures { OnOk result (is_collected (def given.now) ≡ false → names.new ≡ fold added names.old (def_names (def given.now))) }
+    ensures { OnOk result
+        (is_collected (def given.now) ≡ false
+        → names.new ≡ fold added names.old (def_names (def given.now))) }
 {
     match given {
         Def::TypeDecl { name, body, .. } => intern_type(names, name, body),
@@ -123,8 +130,13 @@ fn intern_uncollected<'d>(names: &mut Symbols<'d>, given: &'d Def) -> Result<(),
 // An extractor, and the names in it from left to right, or those in a definition that is not collected.
 #[tactic(auto, using(crate::proofs::Gathered::numbered_one))]
 fn intern_extractor<'d>(names: &mut Symbols<'d>, given: &'d Def) -> Result<Item<'d>, AllocError>
-    ensures names { OnOk result (signature_of (def given.now) ≡ None → extern_of (def given.now) ≡ None → rule_of (def given.now) ≡ None → names.new ≡ fold added names.old (def_names (def given.now))) }
-    ensures item { IfOk result (λ item. signature_of (def given.now) ≡ None → extern_of (def given.now) ≡ None → rule_of (def given.now) ≡ None → IsItem names.new (def given.now) item) }
+    ensures names { OnOk result
+        (signature_of (def given.now) ≡ None → extern_of (def given.now) ≡ None
+        → rule_of (def given.now) ≡ None
+        → names.new ≡ fold added names.old (def_names (def given.now))) }
+    ensures item { IfOk result (λ item.
+        signature_of (def given.now) ≡ None → extern_of (def given.now) ≡ None
+        → rule_of (def given.now) ≡ None → IsItem names.new (def given.now) item) }
 {
     match given {
         Def::ExternExtractor {
@@ -170,8 +182,11 @@ fn intern_extractor<'d>(names: &mut Symbols<'d>, given: &'d Def) -> Result<Item<
 // A definition that is no declaration, by its kind, and the names in it from left to right.
 #[tactic(auto, using(crate::proofs::Gathered::numbered_one))]
 fn intern_undeclared<'d>(names: &mut Symbols<'d>, given: &'d Def) -> Result<Item<'d>, AllocError>
-    ensures names { OnOk result (signature_of (def given.now) ≡ None → names.new ≡ fold added names.old (def_names (def given.now))) }
-    ensures item { IfOk result (λ item. signature_of (def given.now) ≡ None → IsItem names.new (def given.now) item) }
+    ensures names { OnOk result
+        (signature_of (def given.now) ≡ None
+        → names.new ≡ fold added names.old (def_names (def given.now))) }
+    ensures item { IfOk result (λ item.
+        signature_of (def given.now) ≡ None → IsItem names.new (def given.now) item) }
 {
     match given {
         Def::ExternConstructor { term, func, .. } => {

@@ -27,7 +27,8 @@ fn variant_terms(
     name: &Text,
     variants: &[AstVariant],
 ) -> Result<Vec<Text>, AllocError>
-    ensures { IfOk result (λ terms. terms.items ≡ map (λ (v : Variant). variant_term name.now v.name) variants.now) }
+    ensures { IfOk result (λ terms.
+        terms.items ≡ map (λ (v : Variant). variant_term name.now v.name) variants.now) }
 {
     let mut terms = Vec::with_capacity(alloc, variants.len())?;
     for variant in variants {

@@ -40,7 +40,9 @@ pub fn intern_patterns<'d>(
     names: &mut Symbols<'d>,
     patterns: &'d [AstPattern],
 ) -> Result<(), AllocError>
-    ensures { OnOk result (names.new ≡ fold added names.old (patterns_names (patterns_of (map pattern patterns.now)))) }
+    ensures { OnOk result
+        (names.new ≡ fold added names.old
+        (patterns_names (patterns_of (map pattern patterns.now)))) }
 {
     for p in patterns {
         intern_pattern(names, p)?;

@@ -25,7 +25,8 @@ fn intern_name<'d>(names: &mut Symbols<'d>, name: &'d Option<Text>) -> Result<()
 
 // The names in conditions, in order.
 fn intern_iflets<'d>(names: &mut Symbols<'d>, iflets: &'d [AstIfLet]) -> Result<(), AllocError>
-    ensures { OnOk result (names.new ≡ fold added names.old (flat_map iflet_names (map iflet iflets.now))) }
+    ensures { OnOk result
+        (names.new ≡ fold added names.old (flat_map iflet_names (map iflet iflets.now))) }
 {
     for condition in iflets {
         intern_pattern(names, &condition.lhs)?;
@@ -43,7 +44,10 @@ pub fn intern_rule<'d>(
     iflets: &'d [AstIfLet],
     rhs: &'d AstExpr,
 ) -> Result<usize, AllocError>
-    ensures names { OnOk result (names.new ≡ fold added names.old (rule_names name.now term.now (map pattern args.now) (map iflet iflets.now) (expr rhs.now))) }
+    ensures names { OnOk result
+        (names.new ≡ fold added names.old
+        (rule_names name.now term.now (map pattern args.now) (map iflet iflets.now)
+        (expr rhs.now))) }
     ensures number { IfOk result (λ number. index_of names.new term.now ≡ Some number) }
 {
     intern_name(names, name)?;

@@ -74,7 +74,8 @@ pub fn external_places(alloc: Global, given: &Definitions) -> Result<FirstPlaces
 /// Returns the first places of extractors.
 pub fn extracting_places(alloc: Global, given: &Definitions) -> Result<FirstPlaces, AllocError>
     requires { AreAllNumbered given.now }
-    ensures { IfOk result (λ found. HasFirsts given.now.symbols (extracting_names given.now) found) }
+    ensures { IfOk result (λ found.
+        HasFirsts given.now.symbols (extracting_names given.now) found) }
 {
     let numbers = extractor_numbers(alloc, given.extractors.as_slice())?;
     first_places(alloc, given.symbols.len(), numbers.as_slice())

@@ -26,7 +26,7 @@ pub enum Origin {
     Struct,
 }
 
-/// The names of the types of a term's arguments: by themselves, or each behind the name of a field.
+/// The names of the types of a term's arguments: by themselves, or each after the name of a field.
 #[derive(Clone, Copy)]
 pub enum ArgTypes<'d> {
     Plain(&'d [Text]),
@@ -97,7 +97,9 @@ fn push_variants<'d>(
     names: &'d [Text],
 ) -> Result<(), AllocError>
     requires { names.now ≡ map (λ (v : Variant). variant_term ty.now v.name) variants.now }
-    ensures { OnOk result (map term_def terms.new.items ≡ map term_def terms.old.items ++ variant_signatures ty.now pos 0 variants.now) }
+    ensures { OnOk result
+        (map term_def terms.new.items
+        ≡ map term_def terms.old.items ++ variant_signatures ty.now pos 0 variants.now) }
 {
     for (index, variant) in variants.iter().enumerate() {
         let term = &names[index];
@@ -115,7 +117,9 @@ fn push_made<'d>(
     names: &'d [Text],
 ) -> Result<(), AllocError>
     requires { names.now ≡ made_by ty.now body.now }
-    ensures { OnOk result (map term_def terms.new.items ≡ map term_def terms.old.items ++ body_signatures ty.now body.now pos) }
+    ensures { OnOk result
+        (map term_def terms.new.items
+        ≡ map term_def terms.old.items ++ body_signatures ty.now body.now pos) }
 {
     match body {
         AstBody::Primitive(_) => Ok(()),
@@ -134,7 +138,8 @@ fn push_terms<'d>(
     names: &'d [Text],
 ) -> Result<(), AllocError>
     requires { names.now ≡ made_of (def given.now) }
-    ensures { OnOk result (map term_def terms.new.items ≡ map term_def terms.old.items ++ terms_by (def given.now)) }
+    ensures { OnOk result
+        (map term_def terms.new.items ≡ map term_def terms.old.items ++ terms_by (def given.now)) }
 {
     match given {
         Def::TypeDecl {
@@ -192,27 +197,19 @@ fn gathered<'d>(
     Ok(found)
 }
 
-// The number of a name, or 0.
-fn number_of(declarations: &Declarations, name: &Text) -> usize
-    ensures { result ≡ number_or (index_of (symbols (seen declarations.now)) name.now) }
-{
-    match declarations.number(name) {
-        Some(number) => number,
-        None => 0,
-    }
-}
-
 // The numbers of the names of terms.
 fn numbers_of(
     alloc: Global,
     declarations: &Declarations,
     terms: &[TermDef],
 ) -> Result<Vec<usize>, AllocError>
-    ensures { IfOk result (λ numbers. numbers.items ≡ map (λ t. number_or (index_of (symbols (seen declarations.now)) t.term.now)) terms.now) }
+    ensures { IfOk result (λ numbers.
+        numbers.items
+        ≡ map (λ t. number_or (index_of (symbols (seen declarations.now)) t.term.now)) terms.now) }
 {
     let mut numbers = Vec::with_capacity(alloc, terms.len())?;
     for term in terms {
-        numbers.push(number_of(declarations, term.term))?;
+        numbers.push(declarations.sym(term.term).index())?;
     }
     Ok(numbers)
 }
@@ -224,7 +221,9 @@ fn places_of(
     terms: &[TermDef],
 ) -> Result<FirstPlaces, AllocError>
     requires { map term_def terms.now ≡ all_terms (seen declarations.now) }
-    ensures { IfOk result (λ found. HasFirsts (symbols (seen declarations.now)) (terms_of (all_terms (seen declarations.now))) found) }
+    ensures { IfOk result (λ found.
+        HasFirsts (symbols (seen declarations.now)) (terms_of (all_terms (seen declarations.now)))
+        found) }
 {
     let numbers = numbers_of(alloc, declarations, terms)?;
     first_places(alloc, declarations.count(), numbers.as_slice())
@@ -247,7 +246,8 @@ pub fn terms_of<'d>(
 impl<'d> Terms<'d> {
     /// Returns the place of the first term of the name of this number.
     pub fn place(&self, number: usize) -> Option<usize>
-        ensures { (defs : List PureDef) → AreTerms defs self.now → IsFirstPlace defs number (terms_of (all_terms defs)) result }
+        ensures { (defs : List PureDef) → AreTerms defs self.now
+            → IsFirstPlace defs number (terms_of (all_terms defs)) result }
     {
         place_in(self.places.table.as_slice(), number)
     }

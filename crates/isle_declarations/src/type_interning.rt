@@ -12,7 +12,9 @@ use std::alloc::AllocError;
 
 // The names of fields, each before its type's.
 fn intern_named<'d>(names: &mut Symbols<'d>, fields: &'d [(Text, Text)]) -> Result<(), AllocError>
-    ensures { OnOk result (names.new ≡ fold added names.old (flat_map (λ (f : List ℕ × List ℕ). f.0 ∷ f.1 ∷ []) fields.now)) }
+    ensures { OnOk result
+        (names.new ≡ fold added names.old
+        (flat_map (λ (f : List ℕ × List ℕ). f.0 ∷ f.1 ∷ []) fields.now)) }
 {
     for field in fields {
         intern(names, &field.0)?;

@@ -1,19 +1,28 @@
 -- What holds of an emitted function.
-use Rattle.std.proofs.Common.{◌≡◌, ◌<◌, ℕ, zero, suc, [], ◌∷◌, length, get_or, slice_get, List, Bool, Option, Some, None, refl, subst, sym, ap, arith}
-use Rattle.std.specs.Prelude.{IsSomeAnd}
+use Rattle.std.proofs.Common.{◌≡◌, ◌<◌, ℕ, zero, suc, [], ◌∷◌, length, get_or, slice_get, List, Option, Some, None, refl, subst, sym, ap, arith}
+use Rattle.std.specs.Prelude.{IsSomeAnd, is_some}
+use Rattle.isle_core.specs.declared.files.Files.{Files}
+use Rattle.isle_core.specs.declared.rule_sets.Binding.{Binding}
+use Rattle.isle_core.specs.Block.{Block}
+use Rattle.isle_core.specs.BlockLawful.{IsLawfulBlock}
+use Rattle.isle_core.specs.Rule.{Environment}
+use Rattle.isle_core.specs.SingleArms.{HasSingleArms}
+use Rattle.isle_emission.specs.Built.{IsBuilt}
+use Rattle.isle_emission.proofs.BuiltLaws.{some_of, block_built}
+use Rattle.isle_simulation.specs.Manner.{manner_of}
 use Rattle.isle_core.specs.declared.options.CodegenOptions.{CodegenOptions}
 use Rattle.isle_core.specs.declared.types.ReturnKind.{ReturnKind}
 use Rattle.isle_core.specs.declared.types.ReturnKind.TheVariants as kind
 use Rattle.isle_core.specs.declared.types.Term.{Term}
 use Rattle.isle_core.specs.Calling.{AnswersOnce, is_several, kind_of}
-use Rattle.isle_core.specs.Setting.{Setting, setting}
+use Rattle.isle_core.specs.Setting.{setting}
 use Rattle.isle_tree.specs.Program.{Function}
 use Rattle.isle_tree.specs.WellFormed.{IsFunction}
-use Rattle.isle_emission.specs.Origin.{Origin, InSetting}
+use Rattle.isle_emission.specs.Origin.{Origin}
 use Rattle.isle_emission.specs.MayEmit.{MayEmit, MayEmitTerm}
 use Rattle.isle_emission.specs.EmittedTerm.{IsGiven, HasLogLines, IsWellFormedIn, HasBlockShape, RunsAs, RunsAsItsBlock, RunsUnderAll}
 use Rattle.isle_simulation.specs.Emitted.{RunAlike}
-use Rattle.isle_simulation.specs.TermFunction.{term_function}
+use Rattle.isle_simulation.specs.TermFunction.{tail_in, function_with, term_function}
 use Rattle.isle_simulation.proofs.GivenFunctions.{emitted_well_formed, has_shape, runs_as_block, runs_as_several, its_lines, run_alike}
 use Rattle.isle_simulation.proofs.Made.{function_made}
 
@@ -74,10 +83,8 @@ is_alike options o f h e other g k = one (slice_get o.env.terms o.id.0) h e k
     one (Some t) may is also = run_alike options other o.files o.env t o.bindings o.block f g may.lawful may.single is also
     one None may is also = absurd may
 
--- and it is there
-pub is_made : (options : CodegenOptions) (o : Origin) → MayEmitTerm o → InSetting o (λ (s : Setting). None ≡ term_function options o.files s o.block) → ⊥
-is_made options o h e = one (slice_get o.env.terms o.id.0) h e
-  where
-    one : (t : Option Term) → IsSomeAnd t (λ u. MayEmit o.files (setting o.env u o.bindings) o.block) → IsSomeAnd t (λ u. None ≡ term_function options o.files (setting o.env u o.bindings) o.block) → ⊥
-    one (Some t) may none = let made = function_made options o.files o.env t o.bindings o.block may.lawful may.single in cc
-    one None may none = may
+-- and all of its block is built
+pub all_built : (options : CodegenOptions) (files : Files) (env : Environment) (t : Term) (bs : List Binding) (b : Block) → IsLawfulBlock (setting env t bs) b → HasSingleArms b → IsBuilt (setting env t bs) [] b
+all_built options files env t bs b lawful single =
+    let s = setting env t bs in
+    block_built (manner_of options files s) b s [] (Some (tail_in files env t b)) (some_of (function_with env t) _ (ap is_some (function_made options files env t bs b lawful single)))

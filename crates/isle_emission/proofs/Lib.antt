@@ -5,3 +5,5 @@ pub mod NeededLets
 pub mod StatementSteps
 pub mod Roots
 pub mod EmittedLaws
+pub mod BuiltLaws
+pub mod ReadSteps

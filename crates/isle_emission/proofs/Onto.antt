@@ -33,7 +33,3 @@ onto_overflow old new end pushed =
 pub onto_done : (ss : List Stmt) → body_onto ss (Some Done) ≡ Some (body_of ss)
 onto_done [] = refl
 onto_done (s ∷ ss) = ap (stmt_before (Some s)) (onto_done ss)
-
-pub onto_none : (ss : List Stmt) → body_onto ss None ≡ None
-onto_none [] = refl
-onto_none (s ∷ ss) = ap (stmt_before (Some s)) (onto_none ss)

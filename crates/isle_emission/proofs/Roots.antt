@@ -27,7 +27,7 @@ ends_at (y ∷ []) (suc i) x n is = absurd (omega (arith, n))
 ends_at (y ∷ z ∷ ys) zero x n is = absurd (omega (arith, n))
 ends_at (y ∷ z ∷ ys) (suc i) x n is = ends_at (z ∷ ys) i x (omega (arith, n)) is
 
--- what stands behind the statements of a block: nothing where it ends in a result
+-- what stands after the statements of a block: nothing where it ends in a result
 pub root_ended : (files : Files) (env : Environment) (t : Term) (b : Block) (ss : List CodeStmt) → ends_in_return b ≡ true → Some (body ss) ≡ body_onto (map stmt ss) (Some (tail_in files env t b))
 root_ended files env t b ss ends =
     sym (onto_done (map stmt ss)) ∙ ap (λ e. body_onto (map stmt ss) (Some (cond e Done (tail_body (mark_in files env t))))) (sym ends)

@@ -25,13 +25,12 @@ is_unbound None = true
 abbrev pub is_left_out : List (Option BindingId) → ℕ → Bool
 is_left_out places i = is_unbound (slice_get places i)
 
--- binds before others, where each was made
-abbrev pub onto_made : (made : Bool) → List TBind → Option (List TBind) → Option (List TBind)
-onto_made true binds None = None
-onto_made true binds (Some others) = Some (binds ++ others)
-onto_made false binds others = None
+-- binds before others
+abbrev pub onto_binds : List TBind → Option (List TBind) → Option (List TBind)
+onto_binds binds None = None
+onto_binds binds (Some others) = Some (binds ++ others)
 
--- what a place binds of the field of this number was put behind binds, where it was made
-abbrev pub IsBoundAt : Environment → List (List ℕ × TypeId) → ℕ → Option BindingId → (made : Bool) → (old new : List TBind) → Type 0
-IsBoundAt env fields i place made old new =
-    (places : List (Option BindingId)) → onto_made made new (field_binds env (drop (i + 1) fields) places) ≡ onto_made true old (field_binds env (drop i fields) (place ∷ places))
+-- what a place binds of the field of this number was put after binds
+abbrev pub IsBoundAt : Environment → List (List ℕ × TypeId) → ℕ → Option BindingId → (old new : List TBind) → Type 0
+IsBoundAt env fields i place old new =
+    (places : List (Option BindingId)) → onto_binds new (field_binds env (drop (i + 1) fields) places) ≡ onto_binds old (field_binds env (drop i fields) (place ∷ places))

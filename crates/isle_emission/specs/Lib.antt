@@ -3,10 +3,12 @@ pub mod MadeValues
 pub mod Calls
 pub mod BodyOnto
 pub mod PushedLets
-pub mod Tellings
+pub mod Emitter
+pub mod Built
 pub mod MadeBodies
 pub mod Tests
 pub mod Views
 pub mod Origin
 pub mod MayEmit
 pub mod EmittedTerm
+pub mod Sources

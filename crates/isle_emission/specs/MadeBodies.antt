@@ -1,31 +1,54 @@
 -- The statements of blocks that are completed.
-use Rattle.std.specs.Prelude.{◌≡◌, ◌++◌, ◌∷◌, ℕ, List, Bool, Option, map}
+use Rattle.std.specs.Prelude.{◌≡◌, ◌++◌, [], ◌∷◌, ℕ, List, Option, map}
 use Rattle.isle_core.specs.declared.BindingId.{BindingId}
 use Rattle.isle_core.specs.declared.blocks.EvalStep.{EvalStep as CodeStep}
+use Rattle.isle_core.specs.declared.blocks.MatchArm.{MatchArm as CodeArm}
+use Rattle.isle_core.specs.Bindable.{bound_by}
 use Rattle.isle_core.specs.Block.{Block, Control, Arms}
+use Rattle.isle_core.specs.BlockViews.{step}
 use Rattle.isle_core.specs.Setting.{Setting}
 use Rattle.isle_tree.specs.declared.tree.Stmt.{Stmt as CodeStmt}
 use Rattle.isle_tree.specs.Program.{Stmt, Body}
 use Rattle.isle_tree.specs.Views.{stmt}
-use Rattle.isle_emission.specs.BodyOnto.{body_onto, lets_onto}
-use Rattle.isle_emission.specs.Views.{steps_block}
-use Rattle.isle_simulation.specs.Completed.{completed, completed_control, completed_arms}
+use Rattle.isle_emission.specs.BodyOnto.{body_onto}
+use Rattle.isle_emission.specs.declared.emitter.Emitter.{Emitter}
+use Rattle.isle_emission.specs.Emitter.{setting_in, manner_in}
+use Rattle.isle_emission.specs.Views.{steps_block, match_arms}
+use Rattle.isle_simulation.specs.Completed.{step_binds, completed, completed_control, completed_arms}
 use Rattle.isle_simulation.specs.Statements.{told_body, told_control, told_arms}
-use Rattle.isle_simulation.specs.Telling.{Telling}
+use Rattle.isle_simulation.specs.Manner.{Manner}
 
 -- those of a block, and what follows
-abbrev pub made_body : Telling → Setting → List ℕ → Block → Option Body → Option Body
-made_body telling s bound b end = told_body telling s bound (completed s bound b) end
+abbrev pub made_body : Manner → Setting → List ℕ → Block → Option Body → Option Body
+made_body manner s bound b end = told_body manner s bound (completed s bound b) end
 
 -- that of what a step does
-abbrev pub made_control : Telling → Setting → List ℕ → Control → Option Stmt
-made_control telling s bound c = told_control telling s bound (completed_control s bound c)
+abbrev pub made_control : Manner → Setting → List ℕ → Control → Option Stmt
+made_control manner s bound c = told_control manner s bound (completed_control s bound c)
 
 -- that of the arms of a match
-abbrev pub made_arms : Telling → Setting → List ℕ → BindingId → Arms → Option Stmt
-made_arms telling s bound source arms = told_arms telling s bound source (completed_arms s bound arms)
+abbrev pub made_arms : Manner → Setting → List ℕ → BindingId → Arms → Option Stmt
+made_arms manner s bound source arms = told_arms manner s bound source (completed_arms s bound arms)
 
--- the statements of a step stand behind the statements before, where they were made, and its bindings' locals are bound
-pub record PushesStep (telling : Telling) (s : Setting) (x : CodeStep) (made : Bool) (old new : List ℕ) (before after : List CodeStmt) : Type 0 where
-  pub stmts : (xs : List CodeStep) (end : Option Body) → lets_onto made (map stmt after) (made_body telling s new (steps_block xs) end) ≡ body_onto (map stmt before) (made_body telling s old (steps_block (x ∷ xs)) end)
+-- so of what an emitter makes
+abbrev pub body_for : Emitter → List ℕ → Block → Option Body → Option Body
+body_for e bound b end = made_body (manner_in e) (setting_in e) bound b end
+
+abbrev pub control_for : Emitter → List ℕ → Control → Option Stmt
+control_for e bound c = made_control (manner_in e) (setting_in e) bound c
+
+abbrev pub arms_for : Emitter → List ℕ → BindingId → Arms → Option Stmt
+arms_for e bound source arms = made_arms (manner_in e) (setting_in e) bound source arms
+
+abbrev pub arm_for : Emitter → List ℕ → BindingId → CodeArm → Option Stmt
+arm_for e bound source x = arms_for e bound source (match_arms (x ∷ []))
+
+-- what a step binds
+abbrev pub binds_of : Setting → List ℕ → CodeStep → List BindingId
+binds_of s bound x = step_binds s bound (step x).0 (step x).1
+
+-- the statements of a step stand after the statements before, and its bindings' locals are bound
+pub record PushesStep (manner : Manner) (s : Setting) (x : CodeStep) (old new : List ℕ) (before after : List CodeStmt) : Type 0 where
+  pub stmts : (xs : List CodeStep) (end : Option Body) → body_onto (map stmt after) (made_body manner s new (steps_block xs) end) ≡ body_onto (map stmt before) (made_body manner s old (steps_block (x ∷ xs)) end)
+  pub bound : new ≡ bound_by old (binds_of s old x)
   pub grows : (more : List ℕ) × (new ≡ old ++ more)

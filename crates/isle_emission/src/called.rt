@@ -1,11 +1,11 @@
 //! Calls, before it is known what they fill.
 
-ghost use Rattle.std.specs.Prelude.{◌≡◌, option_map};
+ghost use Rattle.std.specs.Prelude.{◌≡◌};
 ghost use Rattle.isle_emission.specs.Calls.{call_expr};
 
 use isle_tree::{TCall, TExpr};
 
-/// A call, and whether it stands behind a `&` where its one answer is bound.
+/// A call, and whether it stands after a `&` where its one answer is bound.
 #[derive(Drop)]
 pub struct Called {
     pub borrow: bool,
@@ -13,12 +13,11 @@ pub struct Called {
 }
 
 /// Makes what a call computes.
-pub fn called_expr(of: Option<Called>) -> Option<TExpr>
-    ensures { result ≡ option_map call_expr of }
+pub fn called_expr(of: Called) -> TExpr
+    ensures { result ≡ call_expr of }
 {
-    let called = of?;
-    Some(TExpr::Call {
-        borrow: called.borrow,
-        call: called.call,
-    })
+    TExpr::Call {
+        borrow: of.borrow,
+        call: of.call,
+    }
 }

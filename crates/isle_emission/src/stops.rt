@@ -1,52 +1,57 @@
-//! Where a function that answers several times stops behind a result.
+//! Where a function that answers several times stops after a result.
 
-ghost use Rattle.std.specs.Prelude.{◌≡◌, false as No, Some as Is, Option, map, OnOk};
+ghost use Rattle.std.specs.Prelude.{◌≡◌, false as No, Some as Is, OnOk};
 ghost use Rattle.isle_core.specs.BlockViews as BlockViews;
 ghost use Rattle.isle_core.specs.Setting as Setting;
-ghost use Rattle.isle_operands.specs.Contexts.{setting_of};
 ghost use Rattle.isle_simulation.specs.Statements.{stmt_before, stop_before};
-ghost use Rattle.isle_tree.specs.Program.{Overflow, Body};
-ghost use Rattle.isle_tree.specs.Views.{stmt};
-ghost use Rattle.isle_emission.specs.BodyOnto.{body_onto};
+ghost use Rattle.isle_tree.specs.Program.{Overflow};
+ghost use Rattle.isle_emission.specs.BodyOnto.{ArePushedAs};
+ghost use Rattle.isle_emission.specs.Emitter.{setting_in, manner_in};
 
+use crate::emitter::Emitter;
 use isle_core::{ControlFlow, ReturnKind};
-use isle_operands::{Context, kind_of};
+use isle_operands::kind_of;
 use isle_tree::Stmt;
 use std::alloc::AllocError;
-
-// Returns whether the term answers several times.
-fn gives_several(context: &Context<'_>) -> bool
-    ensures { result ≡ Setting.gives_several (setting_of context.now) }
-{
-    match kind_of(&context.term.kind) {
-        ReturnKind::Plain | ReturnKind::Option => false,
-        ReturnKind::Iterator => true,
-    }
-}
 
 // Adds the statement that stops where the list of results is full.
 #[tactic(auto, using(isle_tree::proofs::Sees::sees))]
 fn push_overflow(out: &mut Vec<Stmt>) -> Result<(), AllocError>
-    ensures { OnOk result ((end : Option Body) → body_onto (map stmt out.new.items) end ≡ body_onto (map stmt out.old.items) (stmt_before (Is (Overflow No)) end)) }
+    ensures { OnOk result (ArePushedAs out.old.items out.new.items
+        (λ end. stmt_before (Is (Overflow No)) end)) }
 {
     out.push(Stmt::Overflow { inside: false })?;
     Ok(())
 }
 
-/// Adds the stop behind a step: behind a Return of a term that answers several times. The only error is want of memory.
-#[tactic(auto, using(isle_core::proofs::SeesBlocks::sees_blocks))]
-pub fn push_stop(
-    context: &Context<'_>,
-    control: &ControlFlow,
-    out: &mut Vec<Stmt>,
-) -> Result<(), AllocError>
-    ensures { OnOk result ((end : Option Body) → body_onto (map stmt out.new.items) end ≡ body_onto (map stmt out.old.items) (stop_before (Setting.gives_several (setting_of context.now)) (BlockViews.control control.now) end)) }
-{
-    if !gives_several(context) {
-        return Ok(());
+impl Emitter<'_> {
+    // Returns whether the term answers several times.
+    fn gives_several(&self) -> bool
+        ensures { result ≡ Setting.gives_several (setting_in self.now) }
+    {
+        match kind_of(&self.typed.context.term.kind) {
+            ReturnKind::Plain | ReturnKind::Option => false,
+            ReturnKind::Iterator => true,
+        }
     }
-    match control {
-        ControlFlow::Return { .. } => push_overflow(out),
-        ControlFlow::Match { .. } | ControlFlow::Equal { .. } | ControlFlow::Loop { .. } => Ok(()),
+
+    /// Adds the stop after a step: after a Return of a term that answers several times. The only error is want of
+    /// memory.
+    #[tactic(auto, using(isle_core::proofs::SeesBlocks::sees_blocks))]
+    pub fn push_stop(&self, control: &ControlFlow, out: &mut Vec<Stmt>) -> Result<(), AllocError>
+        ensures { OnOk result (ArePushedAs out.old.items out.new.items
+            (λ end. stop_before (manner_in self.now).inside
+            (Setting.gives_several (setting_in self.now))
+            (BlockViews.control control.now) end)) }
+    {
+        if !self.gives_several() {
+            return Ok(());
+        }
+        match control {
+            ControlFlow::Return { .. } => push_overflow(out),
+            ControlFlow::Match { .. } | ControlFlow::Equal { .. } | ControlFlow::Loop { .. } => {
+                Ok(())
+            }
+        }
     }
 }

@@ -63,7 +63,7 @@ law_condition E n d ms e closing = law_map if_to if_from (law_next _ _ (law_open
 
 -- ---- a condition and an expression end at one place
 
--- behind this many open parentheses
+-- after this many open parentheses
 abbrev skip : ℕ → List Lexeme → Option (List Lexeme)
 skip zero ts = Some ts
 skip (suc k) [] = None
@@ -157,7 +157,7 @@ few_open : 2 ≤ most_open
 unfolding most_open
 few_open = omega arith
 
--- behind them no `@` is open whose pattern goes on
+-- after them no `@` is open whose pattern goes on
 pub law_right : (n : ℕ) → Law (Inside (Round ∷ [])) (λ e. Behind (Round ∷ [])) Anything n ExprS (read_expr n (most_open - 1))
 unfolding most_open
 law_right n = law_expr_behind n 254 [] most_two

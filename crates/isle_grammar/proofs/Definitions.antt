@@ -217,11 +217,11 @@ definition_to file d ts rest (at, us, e, (x, vs, (h, w, f, hw), s)) = subst (λ 
 
 -- ---- to shapes
 
--- a definition behind its head
+-- a definition after its head
 headed : (file at h : ℕ) (head : List ℕ) (x : Head) (d : Def) (us rest : List Lexeme) → head_of head ≡ Some x → Behind file at x d us rest → Definition file d (Open at ∷ Word h head ∷ us) rest
 headed file at h head x d us rest e s = (at, Word h head ∷ us, refl, (x, us, (h, head, refl, e), s))
 
--- an `extern` behind its second word
+-- an `extern` after its second word
 second : (file at h k : ℕ) (head w : List ℕ) (x : ExternHead) (d : Def) (us rest : List Lexeme) → head ≡ codes "extern" → extern_head w ≡ Some x → ExternBehind file at x d us rest → Definition file d (Open at ∷ Word h head ∷ Word k w ∷ us) rest
 second file at h k head w x d us rest e f s = headed file at h head AnExternHead d (Word k w ∷ us) rest (ap head_of e) (x, us, (k, w, refl, f), s)
 
@@ -265,7 +265,7 @@ definition_from file _ _ _ (passed at h head items ts rest eh m) = headed file a
 
 -- ---- the law
 
--- the state behind a head
+-- the state after a head
 abbrev Headed : Head → Nest → Type 0
 Headed x q = q ≡ record { marks = if over x then Passed ∷ [] else Round ∷ []; last = Other }
 

@@ -164,7 +164,7 @@ law_below n (suc d) k l = law_level n k (λ j m. law_below n d j (omega (arith, 
 pub law_expr : (n d : ℕ) → ExprLaw n d
 law_expr n d = law_below n d d (omega arith)
 
--- behind an expression no `@` is open whose pattern goes on
+-- after an expression no `@` is open whose pattern goes on
 pub law_expr_behind : (n d : ℕ) (ms : List Mark) → suc (length ms) + suc d ≡ most_open → Law (Inside (Round ∷ ms)) (λ e. Behind (Round ∷ ms)) Anything n ExprS (read_expr n (suc d))
 unfolding read_expr
 law_expr_behind n d ms e = law_map expr_to expr_from (law_peek is_open _ _ list_heads word_heads

@@ -17,7 +17,7 @@ use Rattle.isle_grammar.specs.Reading.{read_def, read_file}
 use Rattle.isle_grammar.specs.Spelling.{IsFile}
 use Rattle.isle_grammar.proofs.Definitions.{law_def, def_some}
 
--- a file, and nothing behind it
+-- a file, and nothing after it
 abbrev Whole_file : ℕ → List Def → List Lexeme → List Lexeme → Type 0
 Whole_file file ds ts rest = FileS file ts ds × (rest ≡ [])
 

@@ -43,7 +43,7 @@ all_within text n (t ∷ ts) h = (subst (λ x. x < n) (sym (lexeme_place text t)
 pub lexemes_within : (text : List ℕ) → Within (length text) (lexemes text)
 lexemes_within text = all_within text (length text) (tokens_of text) (tokens_before text)
 
--- ---- what stands behind a form begins there too
+-- ---- what stands after a form begins there too
 
 many_keeps : {A : Type 0} {S : A → List Lexeme → List Lexeme → Type 0} (n : ℕ) → ((a : A) (ts rest : List Lexeme) → S a ts rest → Within n ts → Within n rest)
     → {xs : List A} {ts rest : List Lexeme} → Many S xs ts rest → Within n ts → Within n rest
@@ -123,7 +123,7 @@ prio_keeps : {z : _} {ts rest : List Lexeme} (n : ℕ) → PrioS z ts rest → W
 prio_keeps n (unwritten us) h = h
 prio_keeps n (written at w m us k f) h = h.1
 
--- what stands behind a definition
+-- what stands after a definition
 def_keeps : {file : ℕ} {d : Def} {ts rest : List Lexeme} (n : ℕ) → DefS file d ts rest → Within n ts → Within n rest
 def_keeps n (type_decl at h c head name marks b ts us vs rest eh sn sm sb) w = (body_keeps n sb (words_keep n sm (name_keeps n name ts us sn w.1.1))).1
 def_keeps n (decl at h m o c head term ret flags args ts us mid rest eh sf sn fl ms rs) w =

@@ -1,4 +1,4 @@
--- The grammar: what the tokens begin with, and which tokens stand behind it. A constructor for each form.
+-- The grammar: what the tokens begin with, and which tokens stand after it. A constructor for each form.
 use Rattle.std.specs.Prelude.{◌≡◌, ℕ, suc, ℤ, pos, List, [], ◌∷◌, Bool, true, false, if◌then◌else◌, Option, Some, None, option_map, FitsSigned, bytes_eq, codes}
 use Rattle.std.specs.Int.{w64}
 use Rattle.isle_lexer.specs.Lexeme.{Lexeme, Open, Close, At, Less, Greater, Word}
@@ -49,7 +49,7 @@ mutual
     -- ( and P* ), ( N P* )
     list : (at n : ℕ) (w : List ℕ) (head : PatternHead) (ps : Patterns) (ts rest : List Lexeme) → pattern_head w ≡ Some head → PatternsS ps ts rest → PatternS (listed head ps) (Open at ∷ Word n w ∷ ts) rest
 
-  -- P*, and the parenthesis behind them
+  -- P*, and the parenthesis after them
   pub data PatternsS : Patterns → List Lexeme → List Lexeme → Type 0 where
     no_pattern : (at : ℕ) (ts : List Lexeme) → PatternsS NoPattern (Close at ∷ ts) ts
     a_pattern : (p : Pattern) (others : Patterns) (ts mid rest : List Lexeme) → PatternS p ts mid → PatternsS others mid rest → PatternsS (APattern p others) ts rest
@@ -84,12 +84,12 @@ mutual
     -- ( N E* )
     call : (at n : ℕ) (w name : List ℕ) (args : Exprs) (ts rest : List Lexeme) → expr_head w ≡ Some (IsCall name) → ExprsS args ts rest → ExprS (tree.Call name args) (Open at ∷ Word n w ∷ ts) rest
 
-  -- E*, and the parenthesis behind them
+  -- E*, and the parenthesis after them
   pub data ExprsS : Exprs → List Lexeme → List Lexeme → Type 0 where
     no_expr : (at : ℕ) (ts : List Lexeme) → ExprsS NoExpr (Close at ∷ ts) ts
     an_expr : (e : Expr) (others : Exprs) (ts mid rest : List Lexeme) → ExprS e ts mid → ExprsS others mid rest → ExprsS (AnExpr e others) ts rest
 
-  -- ( x T E )*, and the parenthesis behind them
+  -- ( x T E )*, and the parenthesis after them
   pub data LetsS : Lets → List Lexeme → List Lexeme → Type 0 where
     no_let : (at : ℕ) (ts : List Lexeme) → LetsS NoLet (Close at ∷ ts) ts
     a_let : (at c : ℕ) (x ty : List ℕ) (e : Expr) (others : Lets) (ts us vs mid rest : List Lexeme)
@@ -111,7 +111,7 @@ pub data IfLetS : IfLet → List Lexeme → List Lexeme → Type 0 where
       → if_head w ≡ Some IsIfLet → PatternS p ts mid → ExprS e mid (Close c ∷ rest) → IfLetS (record { lhs = p; rhs = e }) (Open at ∷ Word n w ∷ ts) rest
   if_only : (at n c : ℕ) (w : List ℕ) (e : Expr) (ts rest : List Lexeme) → if_head w ≡ Some IsIf → ExprS e ts (Close c ∷ rest) → IfLetS (record { lhs = tree.Wildcard; rhs = e }) (Open at ∷ Word n w ∷ ts) rest
 
--- iflet* E, and the parenthesis behind them; the last form is E, and may look like a condition
+-- iflet* E, and the parenthesis after them; the last form is E, and may look like a condition
 pub data TailS : List IfLet × Expr → List Lexeme → List Lexeme → Type 0 where
   last : (c : ℕ) (e : Expr) (ts rest : List Lexeme) → ExprS e ts (Close c ∷ rest) → TailS ([], e) ts rest
   more : (i : IfLet) (x : List IfLet × Expr) (ts mid rest : List Lexeme) → IfLetS i ts mid → TailS x mid rest → TailS (i ∷ x.0, x.1) ts rest
@@ -122,7 +122,7 @@ pub data TailS : List IfLet × Expr → List Lexeme → List Lexeme → Type 0 w
 pub data FieldS : List ℕ × List ℕ → List Lexeme → List Lexeme → Type 0 where
   field : (at c : ℕ) (name ty : List ℕ) (ts mid rest : List Lexeme) → NameS name ts mid → NameS ty mid (Close c ∷ rest) → FieldS (name, ty) (Open at ∷ ts) rest
 
--- nothing, ( f T )+ or T+, and the parenthesis behind them
+-- nothing, ( f T )+ or T+, and the parenthesis after them
 pub data ShapeS : AstFields → List Lexeme → List Lexeme → Type 0 where
   unit : (at : ℕ) (ts : List Lexeme) → ShapeS fields.Unit (Close at ∷ ts) ts
   named : (f : List ℕ × List ℕ) (others : List (List ℕ × List ℕ)) (ts rest : List Lexeme) → Many FieldS (f ∷ others) ts rest → ShapeS (fields.Named (f ∷ others)) ts rest
@@ -169,7 +169,7 @@ mutual
     token : (t : Lexeme) (a : Any) (ts : List Lexeme) → any_of t ≡ Some a → AnyS a (t ∷ ts) ts
     nested : (at : ℕ) (items : Anys) (ts rest : List Lexeme) → AnysS items ts rest → AnyS (tree.Nested items) (Open at ∷ ts) rest
 
-  -- any*, and the parenthesis behind them
+  -- any*, and the parenthesis after them
   pub data AnysS : Anys → List Lexeme → List Lexeme → Type 0 where
     no_any : (at : ℕ) (ts : List Lexeme) → AnysS NoAny (Close at ∷ ts) ts
     an_any : (a : Any) (others : Anys) (ts mid rest : List Lexeme) → AnyS a ts mid → AnysS others mid rest → AnysS (AnAny a others) ts rest
@@ -205,7 +205,7 @@ with_flag s w =
     else (if bytes_eq w (codes "rec") then (if s.recursive then None else Some (record { pure = s.pure; multi = s.multi; partial = s.partial; recursive = true }))
     else None)))
 
--- the words behind a type's name: `extern`, `nodebug`
+-- the words after a type's name: `extern`, `nodebug`
 pub record Marks : Type 0 where
   pub is_extern : Bool
   pub is_nodebug : Bool

@@ -18,7 +18,7 @@ use Rattle.isle_grammar.specs.Grammar.{pattern_of, PatternHead, pattern_head, li
 
 -- ---- patterns
 
--- what a pattern's first word is: a pattern behind which no `@` may stand, or a symbol
+-- what a pattern's first word is: a pattern after which no `@` may stand, or a symbol
 pub data First : Type 0 where
   Leaf : Pattern → First
   Symbol : List ℕ → First
@@ -43,7 +43,7 @@ symbol_of w (Dollar name) = tree.Var w
 symbol_of w Underscore = tree.Wildcard
 symbol_of w Plain = tree.Var w
 
--- behind a pattern's first word, with what stands behind an `@`
+-- after a pattern's first word, with what stands after an `@`
 abbrev pub suffix : (List ℕ → Reader Pattern) → First → Reader Pattern
 suffix binds (Leaf p) = Ret p
 suffix binds (Symbol w) = Peek is_at (binds w) (Ret (symbol_of w (kind w)))
@@ -57,12 +57,12 @@ read_pattern n zero = Peek is_open Halt (bind read_first (suffix (λ x. Halt)))
 read_pattern n (suc d) = Peek is_open (bind read_open (λ o. bind read_pattern_head (λ h. bind (many n (read_pattern n d)) (λ ps. Ret (listed h (patterns_of ps))))))
     (bind read_first (suffix (λ x. bind read_at (λ a. bind (read_pattern n d) (λ p. Ret (tree.Bind x p))))))
 
--- behind an `@`, where d more may be open
+-- after an `@`, where d more may be open
 unfoldable pub read_binds : ℕ → ℕ → List ℕ → Reader Pattern
 read_binds n zero x = Halt
 read_binds n (suc d) x = bind read_at (λ a. bind (read_pattern n d) (λ p. Ret (tree.Bind x p)))
 
--- behind the symbol that a pattern begins with
+-- after the symbol that a pattern begins with
 unfoldable pub read_symbol : ℕ → ℕ → List ℕ → Reader Pattern
 read_symbol n d x = Peek is_at (read_binds n d x) (Ret (symbol_of x (kind x)))
 
@@ -87,7 +87,7 @@ read_leaf = read_word (λ w. expr_of w (kind w))
 unfoldable pub read_expr_head : Reader ExprHead
 read_expr_head = read_word expr_head
 
--- behind the first word of an expression's list
+-- after the first word of an expression's list
 abbrev pub expr_behind : ℕ → Reader Expr → Reader (List SeenBinding) → ExprHead → Reader Expr
 expr_behind n inner bs IsLet = bind bs (λ ls. bind inner (λ e. bind read_close (λ c. Ret (tree.Let (lets_of ls) e))))
 expr_behind n inner bs (IsCall w) = bind (many n inner) (λ es. Ret (tree.Call w (exprs_of es)))
@@ -108,7 +108,7 @@ unfoldable mutual
   read_binding n zero = Peek is_open Halt refuse
   read_binding n (suc d) = bind read_open (λ o. bind read_name (λ x. bind read_name (λ t. bind (read_expr n d) (λ e. bind read_close (λ c. Ret (x, t, e))))))
 
--- behind ( let
+-- after ( let
 unfoldable pub read_let : ℕ → ℕ → Reader Expr
 read_let n d = bind (read_bindings n d) (λ ls. bind (read_expr n d) (λ e. bind read_close (λ c. Ret (tree.Let (lets_of ls) e))))
 
@@ -133,7 +133,7 @@ read_iflet n d = bind read_open (λ o. bind read_if_head (λ h. if_behind n d h)
 unfoldable pub read_form : ℕ → Reader (Both Expr IfLet)
 read_form n = both (read_expr n (most_open - 1)) (read_iflet n (most_open - 2))
 
--- behind a form that is a rule's right side, a condition, or both
+-- after a form that is a rule's right side, a condition, or both
 abbrev pub behind_form : Reader (List IfLet × Expr) → Both Expr IfLet → Reader (List IfLet × Expr)
 behind_form others (OnlyFirst e) = bind read_close (λ c. Ret ([], e))
 behind_form others (OnlySecond i) = bind others (λ x. Ret (i ∷ x.0, x.1))
@@ -144,12 +144,12 @@ unfoldable pub read_tail : ℕ → ℕ → Reader (List IfLet × Expr)
 read_tail n zero = End refuse Halt
 read_tail n (suc k) = bind (read_form n) (behind_form (read_tail n k))
 
--- what a form behind a rule's head is, by what follows it
+-- what a form after a rule's head is, by what follows it
 pub data Step : Type 0 where
   Last : Expr → Step
   More : IfLet → Step
 
--- the last form, and the parenthesis behind it
+-- the last form, and the parenthesis after it
 abbrev pub last_of : Expr → Reader Step
 last_of e = bind read_close (λ c. Ret (Last e))
 
@@ -245,7 +245,7 @@ decl_name_of w = if is_flag w then None else name_of w
 unfoldable pub read_decl_name : Reader (List ℕ)
 read_decl_name = read_word decl_name_of
 
--- the name of a constant, which stands behind a `$`
+-- the name of a constant, which stands after a `$`
 abbrev pub constant_of : WordKind → Option (List ℕ)
 constant_of (Number n) = None
 constant_of Malformed = None
@@ -257,18 +257,18 @@ constant_of Plain = None
 unfoldable pub read_constant : Reader (List ℕ)
 read_constant = read_word (λ w. constant_of (kind w))
 
--- ---- definitions, behind their first word
+-- ---- definitions, after their first word
 
--- behind ( type
+-- after ( type
 unfoldable pub read_type : ℕ → ℕ → ℕ → Reader Def
 read_type n file at = bind read_name (λ name. bind read_marks (λ marks. bind (read_body n) (λ b. bind read_close (λ c. Ret (tree.TypeDecl name marks.is_extern marks.is_nodebug b (record { file = file; offset = at }))))))
 
--- behind the flags of ( decl
+-- after the flags of ( decl
 unfoldable pub read_declared : ℕ → ℕ → ℕ → Flags → Reader Def
 read_declared n file at flags = bind read_decl_name (λ term. bind read_open (λ o. bind (many n read_name) (λ args. bind read_name (λ ret. bind read_close (λ c.
     Ret (tree.Decl term flags.pure flags.multi flags.partial flags.recursive args ret (record { file = file; offset = at })))))))
 
--- behind ( decl
+-- after ( decl
 unfoldable pub read_decl : ℕ → ℕ → ℕ → Reader Def
 read_decl n file at = bind read_flags (read_declared n file at)
 
@@ -295,11 +295,11 @@ read_constructor file at = bind read_name (λ term. bind read_name (λ func. bin
 unfoldable pub read_fallible : ℕ → ℕ → List ℕ → List ℕ → Reader Def
 read_fallible file at term func = bind read_close (λ c. Ret (tree.ExternExtractor term func false (record { file = file; offset = at })))
 
--- what stands behind two names of which the first is the word `infallible`
+-- what stands after two names of which the first is the word `infallible`
 unfoldable pub read_infallible : ℕ → ℕ → List ℕ → Reader Def
 read_infallible file at term = bind read_name (λ func. bind read_close (λ c. Ret (tree.ExternExtractor term func true (record { file = file; offset = at }))))
 
--- behind two names: whether the first is the word `infallible` says whether a third one may follow
+-- after two names: whether the first is the word `infallible` says whether a third one may follow
 abbrev pub extractor_behind : ℕ → ℕ → Bool → List ℕ → List ℕ → Reader Def
 extractor_behind file at true term func = Peek is_close (read_fallible file at term func) (read_infallible file at func)
 extractor_behind file at false term func = read_fallible file at term func
@@ -315,7 +315,7 @@ extern_behind file at IsConstructor = read_constructor file at
 extern_behind file at IsExtractor = read_extractor_function file at
 extern_behind file at IsConst = read_const file at
 
--- behind ( extern
+-- after ( extern
 unfoldable pub read_extern : ℕ → ℕ → Reader Def
 read_extern file at = bind read_extern_head (λ h. extern_behind file at h)
 
@@ -326,12 +326,12 @@ read_template n = read_pattern n (most_open - 1)
 unfoldable pub read_argument : ℕ → Reader Pattern
 read_argument n = read_pattern n (most_open - 2)
 
--- behind ( extractor
+-- after ( extractor
 unfoldable pub read_extractor : ℕ → ℕ → ℕ → Reader Def
 read_extractor n file at = bind read_open (λ o. bind read_name (λ term. bind (many n read_name) (λ params. bind (read_template n) (λ p. bind read_close (λ c.
     Ret (tree.Extractor term params p (record { file = file; offset = at })))))))
 
--- behind ( convert
+-- after ( convert
 unfoldable pub read_convert : ℕ → ℕ → Reader Def
 read_convert file at = bind read_name (λ from. bind read_name (λ to. bind read_name (λ term. bind read_close (λ c. Ret (tree.Converter from to term (record { file = file; offset = at }))))))
 
@@ -339,12 +339,12 @@ read_convert file at = bind read_name (λ from. bind read_name (λ to. bind read
 unfoldable pub read_parts : ℕ → Reader (List ℕ × List Pattern)
 read_parts n = bind read_open (λ o. bind read_name (λ term. bind (many n (read_argument n)) (λ args. Ret (term, args))))
 
--- behind ( rule
+-- after ( rule
 unfoldable pub read_rule : ℕ → ℕ → ℕ → Reader Def
 read_rule n file at = bind read_rule_name (λ name. bind read_prio (λ prio. bind (read_parts n) (λ parts. bind (read_tail n n) (λ x.
     Ret (tree.Rule name prio parts.0 parts.1 x.0 x.1 (record { file = file; offset = at }))))))
 
--- behind the first word of a list that is passed over
+-- after the first word of a list that is passed over
 unfoldable pub read_passed : ℕ → ℕ → ℕ → List ℕ → Reader Def
 read_passed n file at head = bind (many n (read_any n (most_open - 1))) (λ items. Ret (tree.Passed head items (record { file = file; offset = at })))
 
@@ -376,7 +376,7 @@ head_of w =
 unfoldable pub read_head : Reader Head
 read_head = read_word head_of
 
--- behind a head
+-- after a head
 abbrev pub read_behind : ℕ → ℕ → ℕ → Head → Reader Def
 read_behind n file at TypeHead = read_type n file at
 read_behind n file at DeclHead = read_decl n file at

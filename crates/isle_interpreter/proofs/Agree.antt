@@ -8,6 +8,7 @@ use Rattle.std.proofs.lemmas.List.Elements.{recursion_from_All, Contains-append_
 use Rattle.isle_core.specs.declared.types.ReturnKind.{ReturnKind}
 use Rattle.isle_core.specs.declared.types.ReturnKind.TheVariants as kind
 use Rattle.isle_core.specs.declared.values.Callee.{Callee}
+use Rattle.isle_core.specs.Space.{Space, room}
 use Rattle.isle_core.specs.Value.{Value, Made, GivesSome}
 use Rattle.isle_core.specs.SameInRun.{same_in_run}
 use Rattle.isle_core.specs.Meaning.{PureAnswers, TurnAnswers, Meaning, turns_of, cases_of}
@@ -25,10 +26,10 @@ use Rattle.isle_tree.specs.declared.tree.TExpr.{TExpr}
 use Rattle.isle_tree.specs.declared.tree.TExpr.TheVariants as expr
 use Rattle.isle_tree.specs.Program.{Program, Stmt, Let, LetList, IfEq, IfLet, Match, Loop, Return, Extend, Overflow, Log, Split, Tail, Body, Done, Then, Function}
 use Rattle.isle_tree.specs.WellFormed.{GivesSeveral, FitsStmt, FitsBody, FitsLast, FitsEnding, FitsFunction}
-use Rattle.isle_tree.specs.Run.{Around, State, nothing_done, one_made, one_given, Env, Flow, Goes, Ends, Leaves, Stuck, look, value_of, name_value, bind, read_value, read_values, field_before, read_fields, on_value, on_list, value_in, constant, are_same, fit, fitted, then_run, after_scope, run_bind, run_call, run_try, run_variant, run_struct, part_of, run_part, run_let, ends_with, run_return, run_items, is_full, stops, run_stmt, run_body, ended, room, around, limited_run, function_run}
+use Rattle.isle_tree.specs.Run.{Around, State, nothing_done, one_made, one_given, Env, Flow, Goes, Ends, Leaves, Stuck, look, value_of, name_value, bind, read_value, read_values, field_before, read_fields, on_value, on_list, value_in, constant, are_same, fit, fitted, then_run, after_scope, run_bind, run_call, run_try, run_variant, run_struct, part_of, run_part, run_let, ends_with, run_return, run_items, stops, run_stmt, run_body, ended, around, limited_run, function_run}
 use Rattle.isle_interpreter.specs.Entries.{Constant, Cases, Turns, entries, IsUnanswered}
 use Rattle.isle_tree.specs.Calls.{expr_calls, stmt_calls, body_calls}
-use Rattle.isle_naming.specs.Names.{operand_names, read_names, reads_names, fields_names, expr_names, pattern_names, stmt_names, body_names}
+use Rattle.isle_operand_names.specs.Names.{operand_names, read_names, reads_names, fields_names, expr_names, pattern_names, stmt_names, body_names}
 use Rattle.isle_interpreter.specs.Refusals.{AreAnswered}
 use Rattle.isle_interpreter.proofs.AnswersHold.{goes_same, both_unanswered, no_constants, no_turns, no_cases}
 use Rattle.isle_interpreter.proofs.Answering.{by_turns, by_cases}
@@ -122,12 +123,12 @@ module _ (m given : Meaning) (has : HasAnswers m given) where
   back : (cs ds : List Callee) → Alike (cs ++ ds) → Alike ds
   back cs ds alike callee there = alike callee (Contains-append_right cs ds callee there)
 
-  module _ (p : Program) (f : Function) (args : List Value) (limit bound : Option ℕ) where
+  module _ (p : Program) (f : Function) (args : List Value) (limit : Option ℕ) where
     abbrev one : Around
     one = around p m args limit f
 
     abbrev other : Around
-    other = around p given args bound f
+    other = around p given args limit f
 
     same_operand : (env : Env) (o : Operand) → Same (operand_names o) → value_of one env o ≡ value_of other env o
     same_operand env (operand.Name name) same = ap (λ o. a_value (name_value o name)) (first_same name same)
@@ -217,8 +218,7 @@ module _ (m given : Meaning) (has : HasAnswers m given) where
     same_list (Optional o) go next same = refl
     same_list Absent go next same = refl
 
-    -- functions that give several results have the same room for them; no other function asks for it
-    module _ (of : ReturnKind) (rooms : GivesSeveral of → limit ≡ bound) where
+    module _ (of : ReturnKind) where
       mutual
         same_stmt : (closed : Bool) (t : Stmt) (env : Env) (s : State) → FitsStmt of closed t → Alike (stmt_calls t) → Same (stmt_names t) → run_stmt one t env s ≡ run_stmt other t env s
         same_stmt closed (Let n e) env s fits alike same = same_let n e env s alike same
@@ -241,7 +241,7 @@ module _ (m given : Meaning) (has : HasAnswers m given) where
             same_list (look env list) (λ is. run_items (λ i t. run_body one inside (bind env item (One i)) t) env is s) (λ is. run_items (λ i t. run_body other inside (bind env item (One i)) t) env is s)
             (λ is. same_items (λ i t. run_body one inside (bind env item (One i)) t) (λ i t. run_body other inside (bind env item (One i)) t) env is s (λ i t. same_body closed inside (bind env item (One i)) t fits alike same))
         same_stmt closed (Extend r) env s fits alike same = ap (λ h. on_value h (λ v. Goes env (one_given s v))) (same_read env r same)
-        same_stmt closed (Overflow inside) env s fits alike same = ap (λ o. if is_full o s.given then stops inside s else Goes env s) (rooms fits.0)
+        same_stmt closed (Overflow inside) env s fits alike same = refl
         same_stmt closed (Log term place) env s fits alike same = refl
         same_stmt closed (Split inside within) env s fits alike same = refl
 
@@ -276,18 +276,17 @@ module _ (m given : Meaning) (has : HasAnswers m given) where
           (λ inner x. same_ending (Then u ss) inner x fits.1 (back (stmt_calls t) (body_calls (Then u ss)) alike) (back_same (stmt_names t) (body_names (Then u ss)) same))
 
     -- the statements of a function
-    same_function : (of : ReturnKind) (b : Body) → (GivesSeveral of → limit ≡ bound) → FitsFunction of b → Alike (body_calls b) → Same (body_names b) → run_body one b [] nothing_done ≡ run_body other b [] nothing_done
-    same_function kind.Plain b rooms fits alike same = same_ending kind.Plain rooms b [] nothing_done fits alike same
-    same_function kind.Option b rooms fits alike same = same_ending kind.Option rooms b [] nothing_done fits alike same
-    same_function kind.Iterator b rooms fits alike same = same_body kind.Iterator rooms false b [] nothing_done fits alike same
+    same_function : (of : ReturnKind) (b : Body) → FitsFunction of b → Alike (body_calls b) → Same (body_names b) → run_body one b [] nothing_done ≡ run_body other b [] nothing_done
+    same_function kind.Plain b fits alike same = same_ending kind.Plain b [] nothing_done fits alike same
+    same_function kind.Option b fits alike same = same_ending kind.Option b [] nothing_done fits alike same
+    same_function kind.Iterator b fits alike same = same_body kind.Iterator false b [] nothing_done fits alike same
 
-    -- the two runs are one, where names without an entry have no value under the one either, and where a function that gives several results has the
-    -- same room for them
-    pub same_limited : FitsFunction f.kind f.body → (GivesSeveral f.kind → limit ≡ bound) → AreAnswered f (entries given)
-        → ((name : List ℕ) → Contains (body_names f.body) name → const_of given name ≡ None → const_of m name ≡ None) → limited_run p m args limit f ≡ limited_run p given args bound f
-    same_limited fits rooms some none = ap (ended f.kind) (same_function f.kind f.body rooms fits (λ callee there. same_answer callee (some callee there)) (λ name there. same_name name (none name there)))
+    -- the two runs are one, where names without an entry have no value under the one either
+    pub same_limited : FitsFunction f.kind f.body → AreAnswered f (entries given)
+        → ((name : List ℕ) → Contains (body_names f.body) name → const_of given name ≡ None → const_of m name ≡ None) → limited_run p m args limit f ≡ limited_run p given args limit f
+    same_limited fits some none = ap (ended f.kind) (same_function f.kind f.body fits (λ callee there. same_answer callee (some callee there)) (λ name there. same_name name (none name there)))
 
   -- so in a program
-  pub same_run : (p : Program) (f : Function) (args : List Value) → FitsFunction f.kind f.body → (GivesSeveral f.kind → room m ≡ room given) → AreAnswered f (entries given)
-      → ((name : List ℕ) → Contains (body_names f.body) name → const_of given name ≡ None → const_of m name ≡ None) → function_run p m args (Some f) ≡ function_run p given args (Some f)
-  same_run p f args fits rooms some none = same_limited p f args (Some (room m)) (Some (room given)) fits (λ several. ap Some (rooms several)) some none
+  pub same_run : (p : Program) (f : Function) (args : List Value) (space : Space) → FitsFunction f.kind f.body → AreAnswered f (entries given)
+      → ((name : List ℕ) → Contains (body_names f.body) name → const_of given name ≡ None → const_of m name ≡ None) → function_run p m space args (Some f) ≡ function_run p given space args (Some f)
+  same_run p f args space fits some none = same_limited p f args (Some (room space)) fits some none

@@ -15,8 +15,8 @@ use Rattle.isle_tree.specs.Views.{program}
 use Rattle.isle_interpreter.specs.declared.served.Served.{Served}
 use Rattle.isle_places.specs.Signatures.{Signature, signature_of}
 use Rattle.isle_interpreter.specs.Entries.{Entry, Constant, Cases, Turns, entries, answers_for, IsUnanswered, IsUngiven, is_typed, has_constant, FitsPlaces, EntryFits, IsRightFor, IsRight, AreRight}
-use Rattle.isle_naming.specs.Occurring.{occurs}
-use Rattle.isle_naming.specs.Sets.{has_name}
+use Rattle.isle_operand_names.specs.Occurring.{occurs}
+use Rattle.isle_operand_names.specs.Sets.{has_name}
 use Rattle.isle_places.specs.Places.{Place, places}
 use Rattle.isle_tree.specs.Calls.{body_calls}
 use Rattle.isle_interpreter.specs.Refusals.{IsWrongEntry, IsMissing, no_answers, no_value, AreAnswered, AreGiven}

@@ -11,8 +11,8 @@ use denote.Ref.{Bor}
 use Rattle.isle_core.specs.Meaning.{Meaning}
 use Rattle.isle_core.specs.SameInRun.{same_in_run}
 use Rattle.isle_core.specs.Value.{Value}
-use Rattle.isle_naming.specs.Names.{is_among}
-use Rattle.isle_naming.specs.Sets.{has_name}
+use Rattle.isle_operand_names.specs.Names.{is_among}
+use Rattle.isle_operand_names.specs.Sets.{has_name}
 use Rattle.isle_places.specs.Places.{Place, places, StandsAt}
 use Rattle.isle_places.proofs.NamesAt.{before, contains_cases, first, later, nothing_there}
 use Rattle.isle_tree.specs.declared.tree.Operand.{Operand}

@@ -187,7 +187,7 @@ mutual
       ∙ ap (λ x. pos 6 ∷ name_key other ++ x ++ fields_key fs) (same_keys v w more.1)
       ∙ ap (λ x. pos 6 ∷ name_key other ++ value_key w ++ x) (same_field_keys fs gs parts.1)
 
--- and other values another one, whatever stands behind
+-- and other values another one, whatever stands after
 mutual
   unfolding same_in_run
 

@@ -26,6 +26,6 @@ arm_without test xs i x lt is without left =
     ∙ ap (λ b. b && list_all test (arms_calls (arms (drop (i + 1) xs)))) without)
     ∙ left
 
--- behind all arms
+-- after all arms
 pub arms_within : (test : Callee → Bool) (xs : List (TPat × List CodeStmt)) (i : ℕ) → length xs ≤ i → list_all test (arms_calls (arms (drop i xs))) ≡ list_all test (arms_calls (arms xs)) → true ≡ list_all test (arms_calls (arms xs))
 arms_within test xs i le left = sym (ap (λ ys. list_all test (arms_calls (arms ys))) (drop_all i xs le)) ∙ left

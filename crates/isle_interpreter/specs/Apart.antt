@@ -5,7 +5,7 @@ use Rattle.isle_core.specs.Having.{const_of}
 use Rattle.isle_core.specs.Meaning.{Meaning}
 use Rattle.isle_core.specs.SameInRun.{same_in_run}
 use Rattle.isle_core.specs.Value.{Value, Truth, Int, Opaque}
-use Rattle.isle_naming.specs.Occurring.{occurs}
+use Rattle.isle_operand_names.specs.Occurring.{occurs}
 use Rattle.isle_places.specs.Places.{places, StandsAt}
 use Rattle.isle_tree.specs.declared.tree.Operand.{Operand}
 use Rattle.isle_tree.specs.declared.tree.Operand.TheVariants as operand

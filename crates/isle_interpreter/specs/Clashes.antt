@@ -10,8 +10,8 @@ use Rattle.isle_core.specs.Meaning.{Meaning}
 use Rattle.isle_core.specs.Value.{Value, Truth, Int, Opaque, Variant, Struct, FieldValues, NoField, Field}
 use Rattle.isle_core.specs.declared.values.Value.{Value as CodeValue}
 use Rattle.isle_core.specs.ValueViews.{value}
-use Rattle.isle_naming.specs.Names.{is_among}
-use Rattle.isle_naming.specs.Sets.{has_name}
+use Rattle.isle_operand_names.specs.Names.{is_among}
+use Rattle.isle_operand_names.specs.Sets.{has_name}
 use Rattle.isle_places.specs.Places.{Place, places}
 use Rattle.isle_tree.specs.declared.tree.Operand.{Operand}
 use Rattle.isle_tree.specs.declared.tree.Operand.TheVariants as operand

@@ -9,8 +9,8 @@ use Rattle.isle_core.specs.Terms.{goes_to}
 use Rattle.isle_printer.specs.Bytes.{same_bytes}
 use Rattle.isle_tree.specs.declared.tree.TypeItem.{TypeItem}
 use Rattle.isle_tree.specs.Program.{Function, Program}
-use Rattle.isle_naming.specs.Names.{function_names, is_among}
-use Rattle.isle_naming.specs.Occurring.{occurs}
+use Rattle.isle_operand_names.specs.Names.{function_names, is_among}
+use Rattle.isle_operand_names.specs.Occurring.{occurs}
 use Rattle.isle_places.specs.Places.{StandsAt}
 use Rattle.isle_places.specs.Signatures.{Signature, signature_of}
 use Rattle.isle_interpreter.specs.Apart.{IsApart}
@@ -76,7 +76,7 @@ EntryFits types (Turns a) s = AllByRecursion (AnswerFits types s) a.turns × Ans
 abbrev pub IsRightFor : Program → List Entry → Entry → Callee → Type 0
 IsRightFor p earlier f callee = IsUnanswered callee earlier × IsSomeAnd (signature_of p callee) (EntryFits p.types f)
 
--- a constant behind these is right, for a run of the function under the meaning: the program has it, none of them gives it a value,
+-- a constant after these is right, for a run of the function under the meaning: the program has it, none of them gives it a value,
 -- its own is of each type that its places have, and no other constant of its type in the function has that value
 pub record IsRightConstant (p : Program) (f : Function) (m : Meaning) (earlier : List Entry) (name : List ℕ) (v : Value) : Type 0 where
   pub once : IsUngiven name earlier
@@ -85,13 +85,13 @@ pub record IsRightConstant (p : Program) (f : Function) (m : Meaning) (earlier :
   pub fits : FitsPlaces p name v
   pub apart : IsApart p f m name
 
--- an entry behind these is right: so a constant, or the program has its callee, none of them answers for that, and its answers fit
+-- an entry after these is right: so a constant, or the program has its callee, none of them answers for that, and its answers fit
 abbrev pub IsRight : Program → Function → Meaning → List Entry → Entry → Type 0
 IsRight p f m earlier (Constant name v) = IsRightConstant p f m earlier name v
 IsRight p f m earlier (Cases a) = IsRightFor p earlier (Cases a) a.callee
 IsRight p f m earlier (Turns a) = IsRightFor p earlier (Turns a) a.callee
 
--- each entry behind these is right
+-- each entry after these is right
 abbrev pub AreRight : Program → Function → Meaning → (earlier later : List Entry) → Type 0
 AreRight p f m earlier [] = Unit {0}
 AreRight p f m earlier (e ∷ es) = IsRight p f m earlier e × AreRight p f m (earlier ++ e ∷ []) es

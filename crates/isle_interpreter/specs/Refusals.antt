@@ -11,7 +11,7 @@ use Rattle.isle_interpreter.specs.declared.run_error.RunError.TheVariants as err
 use Rattle.isle_places.specs.Signatures.{type_names}
 use Rattle.isle_interpreter.specs.Named.{IsNamed, AreNamed}
 use Rattle.isle_interpreter.specs.Entries.{Entry, entries, IsUnanswered, IsUngiven, IsRight, AreRight}
-use Rattle.isle_naming.specs.Occurring.{occurs}
+use Rattle.isle_operand_names.specs.Occurring.{occurs}
 use Rattle.isle_places.specs.Places.{StandsAt}
 use Rattle.isle_tree.specs.Calls.{body_calls}
 

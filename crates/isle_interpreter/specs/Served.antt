@@ -4,8 +4,8 @@ use Rattle.std.specs.List.{list_any}
 use Rattle.isle_core.specs.declared.values.Callee.{Callee}
 use Rattle.isle_core.specs.declared.values.Callee.TheVariants.{External, Internal}
 use Rattle.isle_core.specs.Terms.{goes_to}
-use Rattle.isle_naming.specs.Occurring.{occurs}
-use Rattle.isle_naming.specs.Sets.{has_name}
+use Rattle.isle_operand_names.specs.Occurring.{occurs}
+use Rattle.isle_operand_names.specs.Sets.{has_name}
 use Rattle.isle_tree.specs.declared.tree.Operand.{Operand}
 use Rattle.isle_tree.specs.declared.tree.Operand.TheVariants as operand
 use Rattle.isle_tree.specs.Program.{Program}

@@ -13,7 +13,8 @@ use std::collections::BTreeMap;
 
 // The type where a place more has this one, if they agree.
 fn joined<'s>(known: Option<Option<&'s str>>, ty: &'s str) -> Option<&'s str>
-    ensures { option_map (λ t. t.now) result ≡ joined (option_map (option_map (λ t. t.now)) known.entry) ty.now }
+    ensures { option_map (λ t. t.now) result
+        ≡ joined (option_map (option_map (λ t. t.now)) known.entry) ty.now }
 {
     match known {
         None => Some(ty),
@@ -28,7 +29,9 @@ fn note<'s>(
     name: &'s str,
     ty: &'s str,
 ) -> Result<(), AllocError>
-    ensures { OnOk result ((other : List ℕ) → at_name types.new other ≡ noted other (at_name types.old other) (name.now, ty.now)) }
+    ensures { OnOk result
+        ((other : List ℕ)
+        → at_name types.new other ≡ noted other (at_name types.old other) (name.now, ty.now)) }
 {
     let whole = joined(types.get(name).copied(), ty);
     types.insert(name, whole)?;
@@ -41,7 +44,10 @@ fn note_place<'s>(
     operand: &'s Operand,
     ty: &'s str,
 ) -> Result<(), AllocError>
-    ensures { OnOk result ((other : List ℕ) → at_name types.new other ≡ noted_place other (at_name types.old other) (operand.now, ty.now)) }
+    ensures { OnOk result
+        ((other : List ℕ)
+        → at_name types.new other
+        ≡ noted_place other (at_name types.old other) (operand.now, ty.now)) }
 {
     match operand {
         Operand::Name(name) => note(types, name.as_str(), ty),
@@ -58,7 +64,8 @@ fn by_name<'s>(
     alloc: Global,
     places: &[(&'s Operand, &'s str)],
 ) -> Result<BTreeMap<&'s str, Option<&'s str>>, AllocError>
-    ensures { IfOk result (λ found. (name : List ℕ) → at_name found name ≡ agreed_at name (placed places.now)) }
+    ensures { IfOk result (λ found.
+        (name : List ℕ) → at_name found name ≡ agreed_at name (placed places.now)) }
 {
     let mut found = BTreeMap::new(alloc);
     for place in places {
@@ -75,7 +82,8 @@ pub fn agreed_types<'s>(
     fns: &'s [Function],
 ) -> Result<BTreeMap<&'s str, Option<&'s str>>, AllocError>
     requires { fns.now ≡ signatures.now.fns }
-    ensures { IfOk result (λ found. (name : List ℕ) → at_name found name ≡ agreed name (all_named (program signatures.now))) }
+    ensures { IfOk result (λ found.
+        (name : List ℕ) → at_name found name ≡ agreed name (all_named (program signatures.now))) }
 {
     let mut places = Vec::new(alloc);
     for f in fns {

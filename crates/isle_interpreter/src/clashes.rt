@@ -4,13 +4,13 @@ ghost use Rattle.std.specs.Prelude.{◌≡◌, ◌++◌, ℕ, ℤ, List, IfOk, O
 ghost use Rattle.isle_core.specs.ValueViews.{meaning};
 ghost use Rattle.isle_interpreter.specs.Clashes.{joined_owner, noted_owner, owner_at, at_key, is_only};
 ghost use Rattle.isle_interpreter.specs.Clashes.{unless_only, clash_of, clashes, held, FindsClashes};
-ghost use Rattle.isle_naming.specs.Sets.{has_name};
+ghost use Rattle.isle_operand_names.specs.Sets.{has_name};
 ghost use Rattle.isle_tree.specs.Views.{function, program};
 
 use crate::constants::Constants;
 use crate::holders::{Holder, by_constant, holders};
 use isle_core::Answers;
-use isle_naming::set_of;
+use isle_operand_names::set_of;
 use isle_places::{Signatures, push_places};
 use isle_tree::Function;
 use std::alloc::{AllocError, Global};
@@ -18,7 +18,8 @@ use std::collections::{BTreeMap, BTreeSet};
 
 // The name that is alone with another one, if any is.
 fn both<'s>(first: &'s str, name: Option<&'s str>) -> Option<&'s str>
-    ensures { option_map (λ n. n.now) result ≡ joined_owner (Some (Some first.now)) (option_map (λ n. n.now) name.entry) }
+    ensures { option_map (λ n. n.now) result
+        ≡ joined_owner (Some (Some first.now)) (option_map (λ n. n.now) name.entry) }
 {
     match name {
         Some(other) => { if first == other { Some(first) } else { None } }
@@ -28,7 +29,9 @@ fn both<'s>(first: &'s str, name: Option<&'s str>) -> Option<&'s str>
 
 // The name that is alone with a key, where one more has it.
 fn joined<'s>(known: Option<Option<&'s str>>, name: Option<&'s str>) -> Option<&'s str>
-    ensures { option_map (λ n. n.now) result ≡ joined_owner (option_map (option_map (λ n. n.now)) known.entry) (option_map (λ n. n.now) name.entry) }
+    ensures { option_map (λ n. n.now) result
+        ≡ joined_owner (option_map (option_map (λ n. n.now)) known.entry)
+        (option_map (λ n. n.now) name.entry) }
 {
     match known {
         None => name,
@@ -42,7 +45,9 @@ fn note<'h, 's>(
     found: &mut BTreeMap<&'h [i128], Option<&'s str>>,
     holder: &'h Holder<'s>,
 ) -> Result<(), AllocError>
-    ensures { OnOk result ((key : List ℤ) → at_key found.new key ≡ noted_owner key (at_key found.old key) (held holder.now)) }
+    ensures { OnOk result
+        ((key : List ℤ)
+        → at_key found.new key ≡ noted_owner key (at_key found.old key) (held holder.now)) }
 {
     let key = holder.key.as_slice();
     let owner = joined(owner_at(found, key), holder.owner);
@@ -55,7 +60,8 @@ fn owners<'h, 's>(
     alloc: Global,
     holders: &'h [Holder<'s>],
 ) -> Result<BTreeMap<&'h [i128], Option<&'s str>>, AllocError>
-    ensures { IfOk result (λ found. (key : List ℤ) → at_key found key ≡ owner_at key (map held holders.now)) }
+    ensures { IfOk result (λ found.
+        (key : List ℤ) → at_key found key ≡ owner_at key (map held holders.now)) }
 {
     let mut found = BTreeMap::new(alloc);
     for holder in holders {
@@ -86,7 +92,8 @@ fn is_only(name: &str, known: Option<Option<&str>>) -> bool
 
 // A name, unless it is alone with its key.
 fn unless_only<'s>(name: &'s str, known: Option<Option<&'s str>>) -> Option<&'s str>
-    ensures { option_map (λ n. n.now) result ≡ unless_only name.now (option_map (option_map (λ n. n.now)) known.entry) }
+    ensures { option_map (λ n. n.now) result
+        ≡ unless_only name.now (option_map (option_map (λ n. n.now)) known.entry) }
 {
     if is_only(name, known) {
         None
@@ -107,7 +114,9 @@ fn clash<'s>(owners: &BTreeMap<&[i128], Option<&'s str>>, holder: &Holder<'s>) -
 
 // Appends a name, if there is one.
 fn push_name<'s>(names: &mut Vec<&'s str>, name: Option<&'s str>) -> Result<(), AllocError>
-    ensures { OnOk result (map (λ n. n.now) names.new.items ≡ map (λ n. n.now) names.old.items ++ option_to_list (option_map (λ n. n.now) name.entry)) }
+    ensures { OnOk result
+        (map (λ n. n.now) names.new.items
+        ≡ map (λ n. n.now) names.old.items ++ option_to_list (option_map (λ n. n.now) name.entry)) }
 {
     match name {
         Some(name) => Ok(names.push(name)?),
@@ -137,7 +146,8 @@ pub fn clashing<'s>(
     answers: &'s Answers,
 ) -> Result<BTreeSet<&'s str>, AllocError>
     requires { constants.now ≡ signatures.now }
-    ensures { IfOk result (FindsClashes (program signatures.now) (function f.now) (meaning answers.now)) }
+    ensures { IfOk result
+        (FindsClashes (program signatures.now) (function f.now) (meaning answers.now)) }
 {
     let given = by_constant(alloc, answers.consts.as_slice())?;
     let mut places = Vec::new(alloc);

@@ -3,13 +3,13 @@
 ghost use Rattle.std.specs.Prelude.{◌≡◌, ◌↔◌, IsTrue, IfOk};
 ghost use Rattle.isle_core.specs.ValueViews.{value};
 ghost use Rattle.isle_tree.specs.Views.{program};
-ghost use Rattle.isle_naming.specs.Occurring.{occurs};
+ghost use Rattle.isle_operand_names.specs.Occurring.{occurs};
 ghost use Rattle.isle_interpreter.specs.Entries.{has_constant, FitsPlaces};
 
 use crate::agreed::agreed_types;
 use crate::typed::is_named;
 use isle_core::Value;
-use isle_naming::{occurring, standing};
+use isle_operand_names::{occurring, standing};
 use isle_places::{Signatures, Types};
 use isle_tree::Program;
 use std::alloc::{AllocError, Global};
@@ -32,9 +32,9 @@ impl<'s> Model for Constants<'s> {
     ghost use Rattle.isle_tree.specs.contracts.tree.Stmt as e;
     ghost use Rattle.isle_tree.specs.declared.tree.Program.{Program};
     ghost use Rattle.isle_tree.specs.Views.{function, program as program_of};
-    ghost use Rattle.isle_naming.specs.Names.{function_names, is_among};
-    ghost use Rattle.isle_naming.specs.Occurring.{occurs};
-    ghost use Rattle.isle_naming.specs.Sets.{has_name};
+    ghost use Rattle.isle_operand_names.specs.Names.{function_names, is_among};
+    ghost use Rattle.isle_operand_names.specs.Occurring.{occurs};
+    ghost use Rattle.isle_operand_names.specs.Sets.{has_name};
     ghost use Rattle.isle_interpreter.specs.Agreed.{at_name, agreed};
     ghost use Rattle.isle_places.specs.Places.{all_named};
 
@@ -46,7 +46,8 @@ impl<'s> Model for Constants<'s> {
 
     ghost invariant = { λ c. ((name : List ℕ) → has_name c.names name ≡ is_among name (function_names (map function c.program.now.fns)))
         × ((name : List ℕ) → has_name c.occurring name ≡ occurs (program_of c.program.now) name)
-        × ((name : List ℕ) → at_name c.types name ≡ agreed name (all_named (program_of c.program.now))) };
+        × ((name : List ℕ)
+        → at_name c.types name ≡ agreed name (all_named (program_of c.program.now))) };
 }
 
 impl<'s> Constants<'s> {
@@ -94,7 +95,8 @@ impl<'s> Constants<'s> {
         given: &Value,
     ) -> Result<bool, AllocError>
         requires { types.now ≡ self.now.types }
-        ensures { IfOk result (λ fits. IsTrue fits ↔ FitsPlaces (program self.now) name.now (value given.now)) }
+        ensures { IfOk result (λ fits.
+            IsTrue fits ↔ FitsPlaces (program self.now) name.now (value given.now)) }
     {
         match self.types.get(name).copied() {
             None => Ok(true),

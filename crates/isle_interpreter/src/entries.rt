@@ -29,8 +29,10 @@ use std::collections::BTreeSet;
 
 // How many entries there are.
 fn count(answers: &Answers) -> usize
-    requires { length answers.now.consts + length answers.now.pure + length answers.now.turns < 2 ^ 64 }
-    ensures all { result ≡ length answers.now.consts + length answers.now.pure + length answers.now.turns }
+    requires { length answers.now.consts + length answers.now.pure + length answers.now.turns
+        < 2 ^ 64 }
+    ensures all { result
+        ≡ length answers.now.consts + length answers.now.pure + length answers.now.turns }
     ensures entries { result ≡ length (entries (meaning answers.now)) }
 {
     let consts = answers.consts.as_slice().len();
@@ -38,7 +40,7 @@ fn count(answers: &Answers) -> usize
     consts + pure + answers.turns.as_slice().len()
 }
 
-// Whether the entry of a constant is right behind earlier ones. The constant joins theirs.
+// Whether the entry of a constant is right after earlier ones. The constant joins theirs.
 fn is_right_constant<'a>(
     alloc: Global,
     signatures: &Signatures<'_>,
@@ -48,7 +50,8 @@ fn is_right_constant<'a>(
     given: &'a (Text, Value),
 ) -> Result<bool, AllocError>
     requires { constants.now ≡ signatures.now }
-    ensures right { IfOk result (λ right. (earlier : List EntryOf) (f : FunctionOf) (m : Meaning) → Serves earlier served.old
+    ensures right { IfOk result (λ right.
+        (earlier : List EntryOf) (f : FunctionOf) (m : Meaning) → Serves earlier served.old
         → FindsClashes (program signatures.now) f m clashing.now
         → IsTrue right ↔ IsRight (program signatures.now) f m earlier (constant_entry given.now)) }
     ensures serves { IfOk result (λ right. (earlier : List EntryOf) → Serves earlier served.old
@@ -69,7 +72,7 @@ fn is_right_constant<'a>(
     constants.fits(alloc, signatures.types(), given.0.as_str(), &given.1)
 }
 
-// Whether the entry of a callee is right behind earlier ones. The callee joins theirs.
+// Whether the entry of a callee is right after earlier ones. The callee joins theirs.
 fn is_right_callee<'a>(
     alloc: Global,
     signatures: &Signatures<'_>,
@@ -78,7 +81,8 @@ fn is_right_callee<'a>(
     given: &Entry<'a>,
 ) -> Result<bool, AllocError>
     requires { answers_for (entry given.now) ≡ Some callee.now }
-    ensures right { IfOk result (λ right. (earlier : List EntryOf) (f : FunctionOf) (m : Meaning) → Serves earlier served.old
+    ensures right { IfOk result (λ right.
+        (earlier : List EntryOf) (f : FunctionOf) (m : Meaning) → Serves earlier served.old
         → IsTrue right ↔ IsRight (program signatures.now) f m earlier (entry given.now)) }
     ensures serves { IfOk result (λ right. (earlier : List EntryOf) → Serves earlier served.old
         → IsTrue right → Serves (earlier ++ entry given.now ∷ []) served.new) }
@@ -92,7 +96,7 @@ fn is_right_callee<'a>(
     }
 }
 
-// Whether an entry is right behind earlier ones. What it answers for joins theirs.
+// Whether an entry is right after earlier ones. What it answers for joins theirs.
 fn is_right<'a>(
     alloc: Global,
     signatures: &Signatures<'_>,
@@ -102,7 +106,8 @@ fn is_right<'a>(
     given: &Entry<'a>,
 ) -> Result<bool, AllocError>
     requires { constants.now ≡ signatures.now }
-    ensures right { IfOk result (λ right. (earlier : List EntryOf) (f : FunctionOf) (m : Meaning) → Serves earlier served.old
+    ensures right { IfOk result (λ right.
+        (earlier : List EntryOf) (f : FunctionOf) (m : Meaning) → Serves earlier served.old
         → FindsClashes (program signatures.now) f m clashing.now
         → IsTrue right ↔ IsRight (program signatures.now) f m earlier (entry given.now)) }
     ensures serves { IfOk result (λ right. (earlier : List EntryOf) → Serves earlier served.old
@@ -126,10 +131,14 @@ fn all_right<'a>(
     answers: &'a Answers,
 ) -> Result<Served<'a>, RunError>
     requires same { constants.now ≡ signatures.now }
-    requires counted { length answers.now.consts + length answers.now.pure + length answers.now.turns < 2 ^ 64 }
-    ensures right { OnOk result (AreRight (program signatures.now) (function f.now) (meaning answers.now) [] (entries (meaning answers.now))) }
+    requires counted { length answers.now.consts + length answers.now.pure
+        + length answers.now.turns < 2 ^ 64 }
+    ensures right { OnOk result
+        (AreRight (program signatures.now) (function f.now) (meaning answers.now) []
+        (entries (meaning answers.now))) }
     ensures serves { IfOk result (Serves (entries (meaning answers.now))) }
-    ensures wrong { IfErr result (AreWrong (program signatures.now) (function f.now) (meaning answers.now)) }
+    ensures wrong { IfErr result
+        (AreWrong (program signatures.now) (function f.now) (meaning answers.now)) }
 {
     let clashing = clashing(alloc, signatures, constants, f, answers)?;
     let mut served = Served::new(alloc);
@@ -150,10 +159,14 @@ pub fn try_entries(
     f: &Function,
     answers: &Answers,
 ) -> Result<(), RunError>
-    requires { length answers.now.consts + length answers.now.pure + length answers.now.turns < 2 ^ 64 }
-    ensures right { OnOk result (AreRight (program p.now) (function f.now) (meaning answers.now) [] (entries (meaning answers.now))) }
+    requires { length answers.now.consts + length answers.now.pure + length answers.now.turns
+        < 2 ^ 64 }
+    ensures right { OnOk result
+        (AreRight (program p.now) (function f.now) (meaning answers.now) []
+        (entries (meaning answers.now))) }
     ensures answered { OnOk result (AreAnswered (function f.now) (entries (meaning answers.now))) }
-    ensures given { OnOk result (AreGiven (program p.now) (function f.now) (entries (meaning answers.now))) }
+    ensures given { OnOk result
+        (AreGiven (program p.now) (function f.now) (entries (meaning answers.now))) }
     ensures bad { IfErr result (AreBad (program p.now) (function f.now) (meaning answers.now)) }
 {
     let signatures = Signatures::new(alloc, p)?;

@@ -21,7 +21,8 @@ pub enum Entry<'a> {
 
 /// Returns the entry of this number.
 pub fn entry_at(answers: &Answers, index: usize) -> Entry<'_>
-    requires { index < length answers.now.consts + length answers.now.pure + length answers.now.turns }
+    requires { index
+        < length answers.now.consts + length answers.now.pure + length answers.now.turns }
     ensures { slice_get (entries (meaning answers.now)) index ≡ Some (entry result) }
 {
     let consts = answers.consts.as_slice();
@@ -43,7 +44,8 @@ fn cases_fit(
     given: &PureAnswers,
     of: &Signature<'_>,
 ) -> Result<bool, AllocError>
-    ensures { IfOk result (λ fit. IsTrue fit ↔ EntryFits types.now (Cases (pure_answers given.now)) (signature of.now)) }
+    ensures { IfOk result (λ fit.
+        IsTrue fit ↔ EntryFits types.now (Cases (pure_answers given.now)) (signature of.now)) }
 {
     for case in given.cases.as_slice() {
         if !takes(alloc, types, of, case.0.as_slice())? {
@@ -63,7 +65,8 @@ fn turns_fit(
     given: &TurnAnswers,
     of: &Signature<'_>,
 ) -> Result<bool, AllocError>
-    ensures { IfOk result (λ fit. IsTrue fit ↔ EntryFits types.now (Turns (turn_answers given.now)) (signature of.now)) }
+    ensures { IfOk result (λ fit.
+        IsTrue fit ↔ EntryFits types.now (Turns (turn_answers given.now)) (signature of.now)) }
 {
     for turn in given.turns.as_slice() {
         if !gives(alloc, types, of, turn)? {
@@ -82,7 +85,8 @@ impl<'a> Entry<'a> {
         types: &Types<'_>,
         of: &Signature<'_>,
     ) -> Result<bool, AllocError>
-        ensures { IfOk result (λ fit. IsTrue fit ↔ EntryFits types.now (entry self.now) (signature of.now)) }
+        ensures { IfOk result (λ fit.
+            IsTrue fit ↔ EntryFits types.now (entry self.now) (signature of.now)) }
     {
         match self {
             Entry::Constant(_) => Ok(false),

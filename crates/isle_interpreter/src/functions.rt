@@ -9,7 +9,8 @@ use isle_tree::Function;
 
 /// Returns the function of a term.
 pub fn function_of<'p>(fns: &'p [Function], term: &str) -> Option<&'p Function>
-    ensures { option_map (λ f. function f.now) result ≡ function_of term.now (map function fns.now) }
+    ensures { option_map (λ f. function f.now) result
+        ≡ function_of term.now (map function fns.now) }
 {
     for f in fns {
         if is_same(term, f.term.as_str()) {

@@ -6,7 +6,7 @@ ghost use Rattle.isle_core.specs.Having.{const_of};
 ghost use Rattle.isle_core.specs.Meaning.{Meaning};
 ghost use Rattle.isle_core.specs.ValueViews.{value, const};
 ghost use Rattle.isle_interpreter.specs.Clashes.{place_key, held, held_at, all_held, const_in, at_constant};
-ghost use Rattle.isle_naming.specs.Occurring.{occurs};
+ghost use Rattle.isle_operand_names.specs.Occurring.{occurs};
 ghost use Rattle.isle_places.specs.ToldViews.{placed};
 ghost use Rattle.isle_tree.specs.Views.{program};
 
@@ -29,7 +29,8 @@ pub fn by_constant<'s>(
     alloc: Global,
     consts: &'s [(Text, Value)],
 ) -> Result<BTreeMap<&'s str, &'s Value>, AllocError>
-    ensures { IfOk result (λ found. (name : List ℕ) → at_constant found name ≡ const_in (map const consts.now) name) }
+    ensures { IfOk result (λ found.
+        (name : List ℕ) → at_constant found name ≡ const_in (map const consts.now) name) }
 {
     let mut found = BTreeMap::new(alloc);
     for index in (0..consts.len()).rev() {
@@ -51,7 +52,8 @@ fn key_of(alloc: Global, ty: &str, given: &Value) -> Result<Vec<i128>, AllocErro
 
 // What holds a written value at a place of a type.
 fn written<'s>(alloc: Global, ty: &str, given: &Value) -> Result<Option<Holder<'s>>, AllocError>
-    ensures { IfOk result (λ h. option_map held h ≡ Some (place_key ty.now (value given.now), None)) }
+    ensures { IfOk result (λ h.
+        option_map held h ≡ Some (place_key ty.now (value given.now), None)) }
 {
     let key = key_of(alloc, ty, given)?;
     Ok(Some(Holder { key, owner: None }))
@@ -64,7 +66,9 @@ fn named<'s>(
     name: &'s str,
     given: Option<&Value>,
 ) -> Result<Option<Holder<'s>>, AllocError>
-    ensures { IfOk result (λ h. option_map held h ≡ option_map (λ v. (place_key ty.now (value v.now), Some name.now)) given.entry) }
+    ensures { IfOk result (λ h.
+        option_map held h
+        ≡ option_map (λ v. (place_key ty.now (value v.now), Some name.now)) given.entry) }
 {
     match given {
         Some(given) => {
@@ -84,7 +88,9 @@ fn value_of<'g>(
     given: &BTreeMap<&'g str, &'g Value>,
     name: &str,
 ) -> Option<&'g Value>
-    ensures { option_map (λ v. value v.now) result ≡ (if occurs (program constants.now) name.now then None else at_constant given.now name.now) }
+    ensures { option_map (λ v. value v.now) result
+        ≡ (if occurs (program constants.now) name.now then None else at_constant given.now
+        name.now) }
 {
     if constants.occurs(name) {
         return None;
@@ -100,7 +106,8 @@ fn hold<'s>(
     operand: &'s Operand,
     ty: &str,
 ) -> Result<Option<Holder<'s>>, AllocError>
-    ensures { IfOk result (λ h. (m : Meaning) → ((name : List ℕ) → at_constant given.now name ≡ const_of m name)
+    ensures { IfOk result (λ h.
+        (m : Meaning) → ((name : List ℕ) → at_constant given.now name ≡ const_of m name)
         → option_map held h ≡ held_at (program constants.now) m (operand.now, ty.now)) }
 {
     match operand {
@@ -120,7 +127,9 @@ fn hold<'s>(
 
 // Appends what holds a value, if something does.
 fn push_some<'s>(found: &mut Vec<Holder<'s>>, holder: Option<Holder<'s>>) -> Result<(), AllocError>
-    ensures { OnOk result (map held found.new.items ≡ map held found.old.items ++ option_to_list (option_map held holder.entry)) }
+    ensures { OnOk result
+        (map held found.new.items
+        ≡ map held found.old.items ++ option_to_list (option_map held holder.entry)) }
 {
     match holder {
         Some(holder) => Ok(found.push(holder)?),
@@ -135,7 +144,8 @@ pub fn holders<'s>(
     given: &BTreeMap<&'s str, &'s Value>,
     places: &[(&'s Operand, &'s str)],
 ) -> Result<Vec<Holder<'s>>, AllocError>
-    ensures { IfOk result (λ found. (m : Meaning) → ((name : List ℕ) → at_constant given.now name ≡ const_of m name)
+    ensures { IfOk result (λ found.
+        (m : Meaning) → ((name : List ℕ) → at_constant given.now name ≡ const_of m name)
         → map held found.items ≡ all_held (program constants.now) m (placed places.now)) }
 {
     let mut found = Vec::new(alloc);

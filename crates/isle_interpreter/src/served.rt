@@ -4,7 +4,7 @@ ghost use Rattle.std.specs.Prelude.{◌≡◌, ◌||◌, ℕ, List, [], not, IfO
 ghost use Rattle.std.specs.Str.{bytes_eq};
 ghost use Rattle.isle_core.specs.declared.values.Callee.{Callee};
 ghost use Rattle.isle_core.specs.Terms.{goes_to};
-ghost use Rattle.isle_naming.specs.Sets.{has_name};
+ghost use Rattle.isle_operand_names.specs.Sets.{has_name};
 ghost use Rattle.isle_interpreter.specs.Served.{has, Serves};
 
 use isle_core::Callee;
@@ -22,7 +22,9 @@ pub struct Served<'a> {
 // Puts a name into a set, and says whether it is new there.
 fn added<'a>(names: &mut BTreeSet<&'a str>, name: &'a str) -> Result<bool, AllocError>
     ensures fresh { IfOk result (λ fresh. fresh ≡ not (has_name names.old name.now)) }
-    ensures more { OnOk result ((other : List ℕ) → has_name names.new other ≡ (bytes_eq other name.now || has_name names.old other)) }
+    ensures more { OnOk result
+        ((other : List ℕ)
+        → has_name names.new other ≡ (bytes_eq other name.now || has_name names.old other)) }
 {
     Ok(names.insert(name)?)
 }
@@ -42,7 +44,9 @@ impl<'a> Served<'a> {
     /// Adds a callee, and tells whether it is new. The only error is want of memory.
     pub fn add(&mut self, callee: &'a Callee) -> Result<bool, AllocError>
         ensures fresh { IfOk result (λ fresh. fresh ≡ not (has self.old callee.now)) }
-        ensures more { OnOk result ((other : Callee) → has self.new other ≡ (goes_to other (Some callee.now) || has self.old other)) }
+        ensures more { OnOk result
+            ((other : Callee)
+            → has self.new other ≡ (goes_to other (Some callee.now) || has self.old other)) }
         ensures same { self.new.constants ≡ self.old.constants }
     {
         match callee {
@@ -54,7 +58,10 @@ impl<'a> Served<'a> {
     /// Adds a constant, and tells whether it is new. The only error is want of memory.
     pub fn give(&mut self, name: &'a str) -> Result<bool, AllocError>
         ensures fresh { IfOk result (λ fresh. fresh ≡ not (has_name self.old.constants name.now)) }
-        ensures more { OnOk result ((other : List ℕ) → has_name self.new.constants other ≡ (bytes_eq other name.now || has_name self.old.constants other)) }
+        ensures more { OnOk result
+            ((other : List ℕ)
+            → has_name self.new.constants other
+            ≡ (bytes_eq other name.now || has_name self.old.constants other)) }
         ensures same { (callee : Callee) → has self.new callee ≡ has self.old callee }
     {
         added(&mut self.constants, name)

@@ -35,7 +35,9 @@ pub fn are_known<'s>(
     signatures: &'s Signatures<'_>,
     f: &'s Function,
 ) -> Result<bool, AllocError>
-    ensures { IfOk result (λ known. known ≡ list_all (λ (x : Place). known_operand (program constants.now) served.now x.0) (places (program signatures.now) (function f.now))) }
+    ensures { IfOk result (λ known.
+        known ≡ list_all (λ (x : Place). known_operand (program constants.now) served.now x.0)
+        (places (program signatures.now) (function f.now))) }
 {
     let mut found = Vec::new(alloc);
     push_places(alloc, signatures, &mut found, f)?;

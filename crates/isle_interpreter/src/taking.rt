@@ -27,9 +27,14 @@ pub fn taking<'p>(
     term: &str,
     args: &[Value],
 ) -> Result<&'p Function, RunError>
-    ensures there { IfOk result (λ f. function_of term.now (map function p.now.fns) ≡ Some (function f.now)) }
-    ensures typed { IfOk result (λ f. AreNamed p.now.types (type_names f.now.params) (values args.now)) }
-    ensures refused { IfErr result (λ e. (e ≡ Memory) ⊎ (IsEarly e × ((m : Meaning) → IsRefused (program p.now) term.now (values args.now) m e))) }
+    ensures there { IfOk result (λ f.
+        function_of term.now (map function p.now.fns) ≡ Some (function f.now)) }
+    ensures typed { IfOk result (λ f.
+        AreNamed p.now.types (type_names f.now.params) (values args.now)) }
+    ensures refused { IfErr result (λ e.
+        (e ≡ Memory)
+        ⊎ (IsEarly e
+        × ((m : Meaning) → IsRefused (program p.now) term.now (values args.now) m e))) }
 {
     let f = match function_of(p.fns.as_slice(), term) {
         Some(f) => f,

@@ -2,7 +2,7 @@
 
 ghost use Rattle.std.specs.Prelude.{◌≡◌, ◌+◌, ◌^◌, ◌<◌, ◌⊎◌, length, IfOk, IfErr, OnOk, Some};
 ghost use Rattle.isle_core.specs.Meaning.{Meaning};
-ghost use Rattle.isle_core.specs.ValueViews.{values, meaning, end, ran};
+ghost use Rattle.isle_core.specs.ValueViews.{values, meaning, end, space, ran};
 ghost use Rattle.isle_tree.specs.Program.{Function};
 ghost use Rattle.isle_tree.specs.Run.{function_of, run};
 ghost use Rattle.isle_tree.specs.Views.{program};
@@ -25,7 +25,10 @@ use std::alloc::Global;
 /// these, want of memory.
 pub fn takes(alloc: Global, p: &Program, term: &str, args: &[Value]) -> Result<(), RunError>
     ensures takes { OnOk result (Takes (program p.now) term.now (values args.now)) }
-    ensures refused { IfErr result (λ e. (e ≡ Memory) ⊎ (IsEarly e × ((m : Meaning) → IsRefused (program p.now) term.now (values args.now) m e))) }
+    ensures refused { IfErr result (λ e.
+        (e ≡ Memory)
+        ⊎ (IsEarly e
+        × ((m : Meaning) → IsRefused (program p.now) term.now (values args.now) m e))) }
 {
     match taking(alloc, p, term, args) {
         Ok(_) => Ok(()),
@@ -47,13 +50,24 @@ pub fn run_term(
     answers: &Answers,
 ) -> Result<Outcome, RunError>
     requires well_formed { IsWellFormed (program p.now) }
-    requires counted { length answers.now.consts + length answers.now.pure + length answers.now.turns < 2 ^ 64 }
-    ensures ran { IfOk result (λ o. run (program p.now) name.now (values args.now) (meaning answers.now) ≡ Some (ran o)) }
-    ensures may { OnOk result (Runs (program p.now) name.now (values args.now) (meaning answers.now)) }
-    ensures ends { IfOk result (λ o. (f : Function) → function_of name.now (program p.now).fns ≡ Some f → EndFits f.kind (end o.end)) }
-    ensures refused { IfErr result (λ e. (e ≡ Memory) ⊎ IsRefused (program p.now) name.now (values args.now) (meaning answers.now) e) }
-    ensures never { OnOk result ((d : RunError) → IsRefused (program p.now) name.now (values args.now) (meaning answers.now) d → ⊥) }
-    ensures only { IfErr result (λ e. (d : RunError) → IsRefused (program p.now) name.now (values args.now) (meaning answers.now) d
+    requires counted { length answers.now.consts + length answers.now.pure
+        + length answers.now.turns < 2 ^ 64 }
+    ensures ran { IfOk result (λ o.
+        run (program p.now) name.now (values args.now) (meaning answers.now) (space answers.now) ≡ Some (ran o)) }
+    ensures may { OnOk result
+        (Runs (program p.now) name.now (values args.now) (meaning answers.now)) }
+    ensures ends { IfOk result (λ o.
+        (f : Function) → function_of name.now (program p.now).fns ≡ Some f
+        → EndFits f.kind (end o.end)) }
+    ensures refused { IfErr result (λ e.
+        (e ≡ Memory)
+        ⊎ IsRefused (program p.now) name.now (values args.now) (meaning answers.now) e) }
+    ensures never { OnOk result
+        ((d : RunError)
+        → IsRefused (program p.now) name.now (values args.now) (meaning answers.now) d → ⊥) }
+    ensures only { IfErr result (λ e.
+        (d : RunError)
+        → IsRefused (program p.now) name.now (values args.now) (meaning answers.now) d
         → (e ≡ Memory) ⊎ (d ≡ e)) }
 {
     let f = match taking(alloc, p, name, args) {

@@ -61,7 +61,8 @@ fn are_asked(
     asked: Asked<'_, '_>,
     given: &[(Text, Value)],
 ) -> Result<bool, AllocError>
-    ensures { IfOk result (λ are. IsTrue are ↔ AreAsked types.now (asked_of asked.entry) (fields given.now)) }
+    ensures { IfOk result (λ are.
+        IsTrue are ↔ AreAsked types.now (asked_of asked.entry) (fields given.now)) }
 {
     let fields = match asked {
         Asked::Nowhere => return Ok(false),
@@ -84,7 +85,8 @@ fn are_these(
     named: &[(Text, Text)],
     given: &[(Text, Value)],
 ) -> Result<bool, AllocError>
-    ensures { IfOk result (λ are. IsTrue are ↔ AreAsked types.now (These named.now) (fields given.now)) }
+    ensures { IfOk result (λ are.
+        IsTrue are ↔ AreAsked types.now (These named.now) (fields given.now)) }
 {
     if named.len() != given.len() {
         return Ok(false);
@@ -111,7 +113,8 @@ fn are_parts(
     tys: &[Text],
     given: &[(Text, Value)],
 ) -> Result<bool, AllocError>
-    ensures { IfOk result (λ are. IsTrue are ↔ AreAsked types.now (These (tuple_fields 0 tys.now)) (fields given.now)) }
+    ensures { IfOk result (λ are.
+        IsTrue are ↔ AreAsked types.now (These (tuple_fields 0 tys.now)) (fields given.now)) }
 {
     if tys.len() != given.len() {
         return Ok(false);

@@ -42,7 +42,8 @@ fn all_named(
     names: &[Text],
     given: &[List<Value>],
 ) -> Result<bool, AllocError>
-    ensures { IfOk result (λ all. IsTrue all ↔ AllByRecursion (AreNamed types.now names.now) (map values given.now)) }
+    ensures { IfOk result (λ all.
+        IsTrue all ↔ AllByRecursion (AreNamed types.now names.now) (map values given.now)) }
 {
     for found in given {
         if !are_named(alloc, types, names, found.as_slice())? {
@@ -62,7 +63,8 @@ fn answer_fits(
     given: &Answer,
 ) -> Result<bool, AllocError>
     ensures { (params : List (List ℕ)) → IfOk result (λ fits. IsTrue fits
-        ↔ AnswerFits types.now (record { params = params; results = results.now; kind = kind }) (answer given.now)) }
+        ↔ AnswerFits types.now (record { params = params; results = results.now; kind = kind })
+        (answer given.now)) }
 {
     match given {
         Answer::Plain(found) => {
@@ -89,7 +91,8 @@ pub fn first_wrong(
     args: &[Value],
 ) -> Result<Option<usize>, AllocError>
     requires { length args.now ≡ length params.now }
-    ensures { IfOk result (λ wrong. IsFirstWrong types.now (type_names params.now) (values args.now) wrong) }
+    ensures { IfOk result (λ wrong.
+        IsFirstWrong types.now (type_names params.now) (values args.now) wrong) }
 {
     for index in 0..params.len() {
         if !is_named(alloc, types, params[index].name.as_str(), &args[index])? {
@@ -107,7 +110,8 @@ pub fn takes(
     of: &Signature<'_>,
     args: &[Value],
 ) -> Result<bool, AllocError>
-    ensures { IfOk result (λ takes. IsTrue takes ↔ AreNamed types.now (signature of.now).params (values args.now)) }
+    ensures { IfOk result (λ takes.
+        IsTrue takes ↔ AreNamed types.now (signature of.now).params (values args.now)) }
 {
     if args.len() != of.params.len() {
         return Ok(false);
@@ -122,7 +126,8 @@ pub fn gives(
     of: &Signature<'_>,
     given: &Answer,
 ) -> Result<bool, AllocError>
-    ensures { IfOk result (λ gives. IsTrue gives ↔ AnswerFits types.now (signature of.now) (answer given.now)) }
+    ensures { IfOk result (λ gives.
+        IsTrue gives ↔ AnswerFits types.now (signature of.now) (answer given.now)) }
 {
     answer_fits(alloc, types, of.results, of.kind, given)
 }

@@ -22,7 +22,7 @@ Decides may b f = (p : Program) → callables p ≡ may → IsTrue b ↔ IsFunct
 abbrev pub DecideAll : Callables → Bool → List CodeFunction → Type 0
 DecideAll may b fns = (p : Program) → callables p ≡ may → IsTrue b ↔ AllByRecursion (IsFunction p) (map function fns)
 
--- the next, and those behind it
+-- the next, and those after it
 opened : (may : Callables) (fns : List CodeFunction) (i : ℕ) (f : CodeFunction) → i < length fns → f ≡ get_or fns i f → Left may fns i → (p : Program) → callables p ≡ may
     → (IsFunction p (function f) × AllByRecursion (IsFunction p) (map function (drop (i + 1) fns))) ↔ AllByRecursion (IsFunction p) (map function fns)
 opened may fns i f lt is h p e =

@@ -67,8 +67,10 @@ pub fn enter(
     pat: &TPat,
     read: &Read,
 ) -> Result<bool, AllocError>
-    ensures reads { IfOk result (λ b. IsTrue b ↔ ReadsPattern pat.now (read_holds params bound.old read.now)) }
-    ensures bound { OnOk result (bound.new ≡ bound.old ++ pattern_locals pat.now (read_holds params bound.old read.now)) }
+    ensures reads { IfOk result (λ b.
+        IsTrue b ↔ ReadsPattern pat.now (read_holds params bound.old read.now)) }
+    ensures bound { OnOk result
+        (bound.new ≡ bound.old ++ pattern_locals pat.now (read_holds params bound.old read.now)) }
 {
     let holds = read_holds(bound, params, read);
     bind_pattern(bound, pat, holds)?;

@@ -59,7 +59,9 @@ pub fn is_value(holds: Option<Holds>) -> bool
 
 /// Tells whether both operands hold a value.
 pub fn are_both_values(bound: &Table<Holds>, params: usize, a: &Operand, b: &Operand) -> bool
-    ensures { IsTrue result ↔ (IsTrue (is_value (operand_holds params bound.now a.now)) × IsTrue (is_value (operand_holds params bound.now b.now))) }
+    ensures { IsTrue result
+        ↔ (IsTrue (is_value (operand_holds params bound.now a.now))
+        × IsTrue (is_value (operand_holds params bound.now b.now))) }
 {
     is_value(operand_holds(bound, params, a)) && is_value(operand_holds(bound, params, b))
 }
@@ -194,7 +196,9 @@ pub fn each_holds(holds: Option<Holds>) -> Option<Holds>
 
 // An option of what is read.
 fn some_holds(bound: &Table<Holds>, params: usize, read: &Read) -> Option<Holds>
-    ensures { result ≡ expr_holds (record { trait_fns = []; heads = [] }) params bound.now (TExpr.Some read.now) }
+    ensures { result
+        ≡ expr_holds (record { trait_fns = []; heads = [] }) params bound.now
+        (TExpr.Some read.now) }
 {
     if is_value(read_holds(bound, params, read)) {
         Some(Holds::Optional(Item::Value))

@@ -49,8 +49,10 @@ fn is_stmt_scoped(
     bound: &mut Table<Holds>,
     s: &Stmt,
 ) -> Result<bool, AllocError>
-    ensures scoped { IfOk result (λ b. IsTrue b ↔ IsStmtScoped callees.now kind params bound.old (stmt s.now)) }
-    ensures bound { OnOk result (bound.new ≡ bound_after callees.now params (stmt s.now) bound.old) }
+    ensures scoped { IfOk result (λ b.
+        IsTrue b ↔ IsStmtScoped callees.now kind params bound.old (stmt s.now)) }
+    ensures bound { OnOk result
+        (bound.new ≡ bound_after callees.now params (stmt s.now) bound.old) }
 {
     match s {
         Stmt::Let(n, e) => {
@@ -103,7 +105,8 @@ pub fn is_body_scoped(
     bound: &mut Table<Holds>,
     stmts: &[Stmt],
 ) -> Result<bool, AllocError>
-    ensures scoped { IfOk result (λ b. IsTrue b ↔ IsBodyScoped callees.now kind params bound.old (body stmts.now)) }
+    ensures scoped { IfOk result (λ b.
+        IsTrue b ↔ IsBodyScoped callees.now kind params bound.old (body stmts.now)) }
     ensures bound { OnOk result (bound.new ≡ bound.old) }
 {
     let len = bound.len();

@@ -2,24 +2,11 @@
 
 ghost use Rattle.std.specs.Prelude.{◌↔◌, IsTrue};
 ghost use Rattle.std.specs.List.{AllByRecursion};
-ghost use Rattle.isle_tree.specs.WellFormed.{AreResults, IsTraitFn};
+ghost use Rattle.isle_tree.specs.WellFormed.{IsTraitFn};
 
 use crate::names::are_tys;
-use isle_core::Text;
-use isle_spelling::is_identifier;
+use isle_spelling::{are_identifiers, is_identifier};
 use isle_tree::TraitFn;
-
-// Whether each result's type has a name of Rust.
-fn are_results(names: &[Text]) -> bool
-    ensures { IsTrue result ↔ AreResults names.now }
-{
-    for name in names {
-        if !is_identifier(name.as_str()) {
-            return false;
-        }
-    }
-    true
-}
 
 // Whether the trait may have the function.
 fn is_trait_fn(f: &TraitFn) -> bool
@@ -31,7 +18,7 @@ fn is_trait_fn(f: &TraitFn) -> bool
     if !are_tys(f.params.as_slice()) {
         return false;
     }
-    are_results(f.results.as_slice())
+    are_identifiers(f.results.as_slice())
 }
 
 /// Tells whether the trait may have all of them.

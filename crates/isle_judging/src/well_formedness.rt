@@ -20,7 +20,8 @@ use std::alloc::Global;
 
 // Whether a function is well formed in a program whose functions may call these, whatever else is in it.
 fn is_function(alloc: Global, callees: &Callables, f: &Function) -> Result<bool, OutOfMemory>
-    ensures { IfOk result (λ b. (p : Target) → callables p ≡ callees.now → IsTrue b ↔ IsFunction p (function f.now)) }
+    ensures { IfOk result (λ b.
+        (p : Target) → callables p ≡ callees.now → IsTrue b ↔ IsFunction p (function f.now)) }
 {
     if !has_names(f) {
         return Ok(false);
@@ -39,7 +40,9 @@ fn is_function(alloc: Global, callees: &Callables, f: &Function) -> Result<bool,
 
 // Whether all functions are.
 fn are_functions(alloc: Global, callees: &Callables, fns: &[Function]) -> Result<bool, OutOfMemory>
-    ensures { IfOk result (λ b. (p : Target) → callables p ≡ callees.now → IsTrue b ↔ AllByRecursion (IsFunction p) (map function fns.now)) }
+    ensures { IfOk result (λ b.
+        (p : Target) → callables p ≡ callees.now
+        → IsTrue b ↔ AllByRecursion (IsFunction p) (map function fns.now)) }
 {
     for f in fns {
         if !is_function(alloc, callees, f)? {

@@ -66,7 +66,7 @@ pub at_end : (text : List ℕ) (at : ℕ) (st : State) → length text ≤ at �
 unfolding coming
 at_end text at st l = ap (λ bs. finished (fold step (record { tokens = []; state = st; at = at }) bs)) (drop_all at text l)
 
--- ---- what was begun, and the bytes behind it
+-- ---- what was begun, and the bytes after it
 
 -- a word goes on
 pub word_more : (text : List ℕ) (from at : ℕ) → at < length text → is_word_byte (get_or text at 0) ≡ true → coming text (InWord from) at ≡ coming text (InWord from) (at + 1)

@@ -13,7 +13,7 @@ abbrev pub onward : Option ℕ → (ℕ → Option ℕ) → Option ℕ
 onward None next = None
 onward (Some n) next = next n
 
--- the number that the digits that are left spell behind a value; whether there was a digit
+-- the number that the digits that are left spell after a value; whether there was a digit
 abbrev pub scanned : ℕ → List ℕ → ℕ → Bool → Option ℕ
 scanned base [] n some = if some then Some n else None
 scanned base (b ∷ bs) n some = if b == 95 then scanned base bs n some else onward (grown base n b) (λ m. scanned base bs m true)

@@ -20,13 +20,13 @@ at_take text i h = scan-at (take i text) ∙ length-take-le i text h
 more : (text : List ℕ) (i : ℕ) → i < length text → scan (take (i + 1) text) ≡ step (scan (take i text)) (get_or text i 0)
 more text i h = fold_more step _ text i 0 h
 
--- what was begun behind one byte more
+-- what was begun after one byte more
 pub state-more : (text : List ℕ) (i : ℕ) → i < length text → (scan (take (i + 1) text)).state ≡ next (scan (take i text)).state i (get_or text i 0)
 unfolding step
 state-more text i h =
     ap (λ (s : Scan). s.state) (more text i h) ∙ ap (λ n. next (scan (take i text)).state n (get_or text i 0)) (at_take text i (omega arith))
 
--- the tokens behind one byte more
+-- the tokens after one byte more
 pub tokens-more : (text : List ℕ) (i : ℕ) → i < length text → (scan (take (i + 1) text)).tokens ≡ (scan (take i text)).tokens ++ ended (scan (take i text)).state i (get_or text i 0)
 unfolding step
 tokens-more text i h =

@@ -23,7 +23,7 @@ number base bytes =
     let digits = plain_digits bytes in
     if not (length digits == 0) && list_all (λ b. nat_lt (digit_value b) base) digits then Some (spelt_number base digits) else None
 
--- the base that a byte names behind a 0 in front: x, o, b
+-- the base that a byte names after a 0 in front: x, o, b
 abbrev pub named_base : ℕ → ℕ
 named_base b = if b == 120 then 16 else (if b == 111 then 8 else (if b == 98 then 2 else 10))
 
@@ -31,7 +31,7 @@ named_base b = if b == 120 then 16 else (if b == 111 then 8 else (if b == 98 the
 abbrev pub base_of : List ℕ → ℕ
 base_of word = if slice_index word 0 == 48 then named_base (slice_index word 1) else 10
 
--- what stands behind 0x, 0o or 0b
+-- what stands after 0x, 0o or 0b
 abbrev pub behind_base : List ℕ → List ℕ
 behind_base word = if base_of word == 10 then word else drop 2 word
 

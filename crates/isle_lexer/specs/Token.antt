@@ -66,7 +66,7 @@ ends (AfterSingle from) b = true
 ends InLine b = false
 ends (InComment from outer seen) b = false
 
--- what was begun, behind the byte at this place
+-- what was begun, after the byte at this place
 abbrev pub next : State → ℕ → ℕ → State
 next Between at b = begun at b
 next (InWord from) at b = if is_word_byte b then InWord from else begun at b
@@ -145,10 +145,10 @@ finished s = record { tokens = s.tokens ++ pending s.state s.at; unclosed = open
 unfoldable pub coming : List ℕ → State → ℕ → Coming
 coming text begun at = finished (fold step (record { tokens = []; state = begun; at = at }) (drop at text))
 
--- a token, and what comes behind it
+-- a token, and what comes after it
 abbrev pub in_front : Tok → Coming → Coming
 in_front tok c = record { tokens = tok ∷ c.tokens; unclosed = c.unclosed }
 
--- the tokens of a text behind a place at which no token was begun
+-- the tokens of a text after a place at which no token was begun
 abbrev pub tokens_from : List ℕ → ℕ → List Tok
 tokens_from text at = (coming text Between at).tokens

@@ -49,7 +49,7 @@ names Plain = true
 abbrev pub IsName : List ℕ → Type 0
 IsName word = names (kind word) ≡ true
 
--- a word that directly behind `decl` is a flag
+-- a word that directly after `decl` is a flag
 abbrev pub is_flag : List ℕ → Bool
 is_flag word = bytes_eq word (codes "pure") || bytes_eq word (codes "multi") || bytes_eq word (codes "partial") || bytes_eq word (codes "rec")
 

@@ -23,11 +23,12 @@ fn seen_after(byte: u8) -> Seen
     }
 }
 
-// How many comments are open round the innermost behind a byte, and what it leaves seen. None comes where it closes the
+// How many comments are open round the innermost after a byte, and what it leaves seen. None comes where it closes the
 // outermost.
 fn behind(outer: usize, last: Seen, byte: u8) -> Option<(usize, Seen)>
     requires { outer < usize.MAX }
-    ensures some { IfSome result (λ r. (from : ℕ) → in_comment from outer (seen last) byte ≡ InComment from r.0 (seen r.1)) }
+    ensures some { IfSome result (λ r.
+        (from : ℕ) → in_comment from outer (seen last) byte ≡ InComment from r.0 (seen r.1)) }
     ensures outer { IfSome result (λ r. r.0 ≤ outer + 1) }
     ensures none { result ≡ None → (from : ℕ) → in_comment from outer (seen last) byte ≡ Between }
 {
@@ -39,13 +40,16 @@ fn behind(outer: usize, last: Seen, byte: u8) -> Option<(usize, Seen)>
     }
 }
 
-/// Returns the place behind a comment that nests, of which this place is the first behind its opening. None comes where
+/// Returns the place after a comment that nests, of which this place is the first after its opening. None comes where
 /// it never ends.
 pub fn comment_end(text: &[u8], at: usize) -> Option<usize>
     requires { at ≤ length text.now }
-    ensures some { IfSome result (λ to. (from : ℕ) → coming text.now (InComment from 0 Other) at ≡ coming text.now Between to) }
+    ensures some { IfSome result (λ to.
+        (from : ℕ) → coming text.now (InComment from 0 Other) at ≡ coming text.now Between to) }
     ensures within { IfSome result (λ to. (at < to) × (to ≤ length text.now)) }
-    ensures none { result ≡ None → (from : ℕ) → coming text.now (InComment from 0 Other) at ≡ record { tokens = []; unclosed = Some from } }
+    ensures none { result ≡ None → (from : ℕ)
+        → coming text.now (InComment from 0 Other) at
+        ≡ record { tokens = []; unclosed = Some from } }
 {
     let mut outer = 0;
     let mut last = Seen::Other;
@@ -60,7 +64,7 @@ pub fn comment_end(text: &[u8], at: usize) -> Option<usize>
     None
 }
 
-/// Returns the place behind a comment that ends with its line, of which this place is a part.
+/// Returns the place after a comment that ends with its line, of which this place is a part.
 pub fn line_end(text: &[u8], at: usize) -> usize
     requires { at ≤ length text.now }
     ensures line { coming text.now InLine at ≡ coming text.now Between result }

@@ -17,7 +17,7 @@ pub enum Piece {
     Unclosed,
 }
 
-/// What comes first behind a place.
+/// What comes first after a place.
 #[derive(Clone, Copy, Debug, PartialEq, Eq)]
 pub enum Found {
     Token(Tok),
@@ -26,10 +26,12 @@ pub enum Found {
     End,
 }
 
-// The place behind a word, of which this place is a part or the end.
+// The place after a word, of which this place is a part or the end.
 fn word_end(text: &[u8], at: usize) -> usize
     requires { at ≤ length text.now }
-    ensures word { (from : ℕ) → coming text.now (InWord from) at ≡ in_front (record { from = from; to = result }) (coming text.now Between result) }
+    ensures word { (from : ℕ)
+        → coming text.now (InWord from) at
+        ≡ in_front (record { from = from; to = result }) (coming text.now Between result) }
     ensures forward { at ≤ result }
     ensures within { result ≤ length text.now }
 {
@@ -70,7 +72,7 @@ fn piece_at(text: &[u8], at: usize) -> Piece
     }
 }
 
-/// Returns what comes first behind a place at which nothing was begun.
+/// Returns what comes first after a place at which nothing was begun.
 pub fn find(text: &[u8], from: usize) -> Found
     ensures { IsFirst text.now from result }
 {

@@ -11,6 +11,33 @@ pub struct Signed {
     pub magnitude: u128,
 }
 
+// A magnitude, wrapped to 128 signed bits.
+fn wrapped(magnitude: u128) -> i128
+    ensures { result ≡ wrapped I128 (pos magnitude) }
+{
+    magnitude.cast_signed()
+}
+
+// What lies a magnitude below 0, wrapped to 128 signed bits.
+fn negated(magnitude: u128) -> i128
+    ensures { result ≡ wrapped I128 (neg_ℤ (pos magnitude)) }
+{
+    magnitude.wrapping_neg().cast_signed()
+}
+
+impl Signed {
+    /// Returns the number, wrapped to 128 signed bits.
+    pub fn bits(self) -> i128
+        ensures { result ≡ wrapped I128 (signed self) }
+    {
+        if self.negative {
+            negated(self.magnitude)
+        } else {
+            wrapped(self.magnitude)
+        }
+    }
+}
+
 // A number with one digit more of the base. None comes where the byte is no such digit, or the number is too large.
 fn grown(base: u32, value: u128, byte: u8) -> Option<u128>
     requires low { 2 ≤ base }
@@ -83,20 +110,6 @@ fn is_negative(word: &[u8]) -> bool
     !word.is_empty() && word[0] == b'-'
 }
 
-// A magnitude, wrapped to 128 signed bits.
-fn wrapped(magnitude: u128) -> i128
-    ensures { result ≡ wrapped I128 (pos magnitude) }
-{
-    magnitude.cast_signed()
-}
-
-// What lies a magnitude below 0, wrapped to 128 signed bits.
-fn negated(magnitude: u128) -> i128
-    ensures { result ≡ wrapped I128 (neg_ℤ (pos magnitude)) }
-{
-    magnitude.wrapping_neg().cast_signed()
-}
-
 /// Returns the value that a word spells: an optional `-`, then a decimal word that begins with a digit, or `0x`, `0o`,
 /// `0b` and digits of that base, `_` anywhere among them. None comes exactly where it spells none, or one of 2^128 and
 /// more.
@@ -123,9 +136,5 @@ pub fn int_of(word: &[u8]) -> Option<i128>
     ensures { result ≡ int_of word.now }
 {
     let value = signed_of(word)?;
-    if value.negative {
-        Some(negated(value.magnitude))
-    } else {
-        Some(wrapped(value.magnitude))
-    }
+    Some(value.bits())
 }

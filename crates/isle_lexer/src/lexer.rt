@@ -28,7 +28,7 @@ fn unclosed(text: &[u8]) -> Option<usize>
 pub struct Lexer<'a> {
     file: usize,
     text: &'a str,
-    /// The place behind the tokens that were taken.
+    /// The place after the tokens that were taken.
     at: usize,
     pub ghost closed: { IsClosed text.now } by { Prim.hlevel props },
 }
@@ -56,8 +56,11 @@ impl<'a> Lexer<'a> {
     /// Returns the tokens of the text of the file of that number. Err gives the start of a nested comment that never
     /// ends, the outermost one's.
     pub fn new(file: usize, src: &'a str) -> Result<Lexer<'a>, Pos>
-        ensures ok { IfOk result (λ lexer. IsClosed src.now × IsUntaken lexer × (lexer_file lexer ≡ file) × (lexer_text lexer ≡ src.now)) }
-        ensures err { IfErr result (λ pos. (unclosed src.now ≡ Some pos.offset) × (pos.file ≡ file)) }
+        ensures ok { IfOk result (λ lexer.
+            IsClosed src.now × IsUntaken lexer × (lexer_file lexer ≡ file)
+            × (lexer_text lexer ≡ src.now)) }
+        ensures err { IfErr result (λ pos.
+            (unclosed src.now ≡ Some pos.offset) × (pos.file ≡ file)) }
     {
         match unclosed(src.as_bytes()) {
             Some(offset) => Err(Pos { file, offset }),
@@ -103,7 +106,8 @@ impl<'a> Lexer<'a> {
     /// Returns the tokens that are left, in order, as the grammar sees them.
     pub fn tokens(self, alloc: Global) -> Result<Vec<Token<'a>>, AllocError>
         requires { IsUntaken self }
-        ensures tokens { IfOk result (λ tokens. tokens_seen tokens.items ≡ lexemes (lexer_text self.entry)) }
+        ensures tokens { IfOk result (λ tokens.
+            tokens_seen tokens.items ≡ lexemes (lexer_text self.entry)) }
         ensures utf8 { IsUtf8 (lexer_text self.entry) }
     {
         let (tokens, _) = gathered(alloc, self.text)?;

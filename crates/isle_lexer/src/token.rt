@@ -3,7 +3,7 @@ ghost use Rattle.isle_lexer.specs.Cuts.{IsCut};
 ghost use Rattle.isle_lexer.specs.Lexeme.{lexeme};
 ghost use Rattle.isle_lexer.specs.TokenViews.{token_seen};
 
-/// A token by the bytes that it takes, from the first up to the one behind it.
+/// A token by the bytes that it takes, from the first up to the one after it.
 #[derive(Clone, Copy, Debug, PartialEq, Eq)]
 pub struct Tok {
     pub from: usize,

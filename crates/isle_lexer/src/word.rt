@@ -58,7 +58,7 @@ pub fn is_name(word: &str) -> bool
     }
 }
 
-/// Tells whether a word is a flag where it stands directly behind `decl`.
+/// Tells whether a word is a flag where it stands directly after `decl`.
 pub fn is_flag(word: &str) -> bool
     ensures { result ≡ is_flag word.now }
 {

@@ -1,7 +1,5 @@
-pub mod Got
 pub mod PathAt
 pub mod BindingReferences
 pub mod TypeSteps
 pub mod InPlace
 pub mod FieldPlaces
-pub mod ReadSteps

@@ -2,14 +2,13 @@
 
 ghost use Rattle.std.specs.Prelude.{◌≡◌, IfOk, OnOk};
 ghost use Rattle.isle_core.specs.RuleViews.{environment};
-ghost use Rattle.isle_core.specs.Calling.{extractor_kind};
 ghost use Rattle.isle_simulation.specs.TraitFns as TraitFns;
 ghost use Rattle.isle_operands.specs.Views.{IsPushed};
 
-use crate::context::kind_of;
 use crate::signature::{params, sym_name, ty_name, ty_names};
 use isle_core::{
     ConstructorKind, ExtractorKind, List, ReturnKind, Sym, Term, TermEnv, TermKind, TypeEnv,
+    extractor_kind, kind_of,
 };
 use isle_tree::TraitFn;
 use std::alloc::{AllocError, Global};
@@ -22,7 +21,8 @@ fn constructor_fn(
     term: &Term,
     func: Sym,
 ) -> Result<TraitFn, AllocError>
-    ensures { IfOk result (λ f. f ≡ TraitFns.constructor_fn (environment typeenv.now termenv.now) term.now func) }
+    ensures { IfOk result (λ f.
+        f ≡ TraitFns.constructor_fn (environment typeenv.now termenv.now) term.now func) }
 {
     let result = ty_name(alloc, typeenv, term.ret_ty)?;
     Ok(TraitFn {
@@ -41,7 +41,8 @@ fn extractor_fn(
     term: &Term,
     extracted: (Sym, ReturnKind),
 ) -> Result<TraitFn, AllocError>
-    ensures { IfOk result (λ f. f ≡ TraitFns.extractor_fn (environment typeenv.now termenv.now) term.now extracted) }
+    ensures { IfOk result (λ f.
+        f ≡ TraitFns.extractor_fn (environment typeenv.now termenv.now) term.now extracted) }
 {
     let matched = [term.ret_ty];
     Ok(TraitFn {
@@ -62,19 +63,6 @@ fn constructed(term: &Term) -> Option<Sym>
             ..
         } => Some(*func),
         TermKind::Decl { .. } | TermKind::Variant { .. } | TermKind::Struct { .. } => None,
-    }
-}
-
-// Returns how often an external extractor answers.
-fn extractor_kind(multi: bool, infallible: bool) -> ReturnKind
-    ensures { result ≡ extractor_kind multi infallible }
-{
-    if multi {
-        ReturnKind::Iterator
-    } else if infallible {
-        ReturnKind::Plain
-    } else {
-        ReturnKind::Option
     }
 }
 
@@ -100,7 +88,9 @@ fn push_extractor(
     term: &Term,
     fns: &mut Vec<TraitFn>,
 ) -> Result<(), AllocError>
-    ensures { OnOk result (IsPushed fns.old.items fns.new.items (TraitFns.extractor_fn_of (environment typeenv.now termenv.now) term.now)) }
+    ensures { OnOk result
+        (IsPushed fns.old.items fns.new.items
+        (TraitFns.extractor_fn_of (environment typeenv.now termenv.now) term.now)) }
 {
     if let Some(of) = extracted(term) {
         fns.push(extractor_fn(alloc, typeenv, termenv, term, of)?)?;
@@ -116,7 +106,9 @@ fn push_constructor(
     term: &Term,
     fns: &mut Vec<TraitFn>,
 ) -> Result<(), AllocError>
-    ensures { OnOk result (IsPushed fns.old.items fns.new.items (TraitFns.constructor_fn_of (environment typeenv.now termenv.now) term.now)) }
+    ensures { OnOk result
+        (IsPushed fns.old.items fns.new.items
+        (TraitFns.constructor_fn_of (environment typeenv.now termenv.now) term.now)) }
 {
     if let Some(func) = constructed(term) {
         fns.push(constructor_fn(alloc, typeenv, termenv, term, func)?)?;
@@ -131,7 +123,8 @@ pub fn trait_fns(
     typeenv: &TypeEnv,
     termenv: &TermEnv,
 ) -> Result<Vec<TraitFn>, AllocError>
-    ensures { IfOk result (λ fns. fns.items ≡ TraitFns.trait_fns_of (environment typeenv.now termenv.now)) }
+    ensures { IfOk result (λ fns.
+        fns.items ≡ TraitFns.trait_fns_of (environment typeenv.now termenv.now)) }
 {
     let mut fns = Vec::new(alloc);
     for term in termenv.terms.as_slice() {

@@ -1,7 +1,6 @@
 //! The forms of values that are made and taken apart: variants and structs.
 
-ghost use Rattle.std.specs.Prelude.{◌≡◌, IfOk, length, map, option_map, option_and_then, slice_get};
-ghost use Rattle.std.specs.Fmt.{decimal};
+ghost use Rattle.std.specs.Prelude.{◌≡◌, IfOk, map, option_map, option_and_then, slice_get};
 ghost use Rattle.isle_core.specs.Form.{form, form_types};
 ghost use Rattle.isle_core.specs.HasType.{typed_fields};
 ghost use Rattle.isle_core.specs.Making.{MakesVariant, MakesStruct};
@@ -10,7 +9,6 @@ ghost use Rattle.isle_operands.specs.Contexts.{env_of};
 ghost use Rattle.isle_operands.specs.Forms.{form_seen};
 
 use crate::context::Context;
-use crate::signature::sym_name;
 use isle_core::{Fields, Sym, Text, TypeDef, TypeId, VariantId};
 use std::alloc::{AllocError, Global};
 
@@ -61,24 +59,6 @@ pub fn struct_form<'a>(context: &Context<'a>, ty: TypeId) -> Option<Form<'a>>
     }
 }
 
-/// Returns how many fields there are.
-pub fn field_count(fields: &Fields) -> usize
-    ensures { (env : Environment) → result ≡ length (typed_fields env fields.now) }
-{
-    match fields {
-        Fields::Unit => 0,
-        Fields::Struct(named) => named.as_slice().len(),
-        Fields::Tuple(tys) => tys.as_slice().len(),
-    }
-}
-
-// Makes the text of a number.
-fn numbered(alloc: Global, index: usize) -> Result<Text, AllocError>
-    ensures { IfOk result (λ text. text ≡ decimal index) }
-{
-    Ok(Text::new(format!(in alloc; "{index}")?))
-}
-
 /// Returns the name and the type of the field of this number, where there is one; the fields of a tuple have their
 /// numbers for names.
 pub fn field_at(
@@ -87,24 +67,16 @@ pub fn field_at(
     fields: &Fields,
     index: usize,
 ) -> Result<Option<(Text, TypeId)>, AllocError>
-    ensures { IfOk result (λ found. found ≡ slice_get (typed_fields (env_of context.now) fields.now) index) }
+    ensures { IfOk result (λ found.
+        found ≡ slice_get (typed_fields (env_of context.now) fields.now) index) }
 {
-    match fields {
-        Fields::Unit => Ok(None),
-        Fields::Struct(named) => match named.as_slice().get(index) {
-            Some(field) => { Ok(Some((sym_name(alloc, context.typeenv, field.name)?, field.ty))) }
-            None => Ok(None),
-        },
-        Fields::Tuple(tys) => match tys.as_slice().get(index) {
-            Some(ty) => Ok(Some((numbered(alloc, index)?, *ty))),
-            None => Ok(None),
-        },
-    }
+    context.typeenv.field_at(alloc, fields, index)
 }
 
 // Returns the type of the field of this number, where there is one.
 fn type_at(fields: &Fields, index: usize) -> Option<TypeId>
-    ensures { (env : Environment) → result ≡ slice_get (map (λ field. field.1) (typed_fields env fields.now)) index }
+    ensures { (env : Environment)
+        → result ≡ slice_get (map (λ field. field.1) (typed_fields env fields.now)) index }
 {
     match fields {
         Fields::Unit => None,
@@ -118,7 +90,9 @@ fn type_at(fields: &Fields, index: usize) -> Option<TypeId>
 
 /// Returns the type of the field of this number, where there is such a form and such a field.
 pub fn field_type(of: Option<Form<'_>>, index: usize) -> Option<TypeId>
-    ensures { (env : Environment) → result ≡ option_and_then (λ f. slice_get (form_types env f) index) (option_map form_seen of.entry) }
+    ensures { (env : Environment)
+        → result ≡ option_and_then (λ f. slice_get (form_types env f) index)
+        (option_map form_seen of.entry) }
 {
     match of {
         Some(form) => type_at(form.fields, index),

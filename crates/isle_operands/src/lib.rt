@@ -13,12 +13,13 @@ mod typed;
 mod types;
 
 pub use constants::ConstTypes;
-pub use context::{Context, kind_of};
+pub use context::Context;
 pub use externals::trait_fns;
-pub use forms::{Form, field_at, field_count, struct_form, variant_form};
+pub use forms::{Form, field_at, struct_form, variant_form};
+pub use isle_core::{field_count, kind_of};
 pub use lists::{binds_list, looped_local};
 pub use operands::{in_place, is_bound, operand_of, tested};
-pub use references::{is_declared, is_reference, read_in, reads};
+pub use references::{is_declared, is_reference, read_as};
 pub use signature::{is_by_ref, params, sym_name, ty_name, ty_names};
 pub use typed::Typed;
 pub use types::{binding_types, one_result};

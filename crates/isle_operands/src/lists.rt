@@ -11,7 +11,8 @@ use isle_core::{Binding, BindingId, ConstructorKind, ExtractorKind, Term, TermId
 
 // Returns whether a call of a term answers several times.
 fn is_multi_call(term: &Term) -> bool
-    ensures { (env : Environment) → result ≡ Calling.answers_often (Calling.calling_of env (Is term.now)) }
+    ensures { (env : Environment)
+        → result ≡ Calling.answers_often (Calling.calling_of env (Is term.now)) }
 {
     match &term.kind {
         TermKind::Decl {
@@ -30,7 +31,8 @@ fn is_multi_call(term: &Term) -> bool
 
 // Returns whether a call of a term's extractor does.
 fn is_multi_extraction(term: &Term) -> bool
-    ensures { (env : Environment) → result ≡ Calling.answers_often (Calling.extracting_of env (Is term.now)) }
+    ensures { (env : Environment)
+        → result ≡ Calling.answers_often (Calling.extracting_of env (Is term.now)) }
 {
     match &term.kind {
         TermKind::Decl {

@@ -44,7 +44,10 @@ fn struct_operand(
     ty: TypeId,
     fields: &[BindingId],
 ) -> Result<Option<Operand>, AllocError>
-    ensures { IfOk result (λ o. (ps : ListOf Path) → o ≡ Operands.in_place (env_of context.now) local.0 (MadeStruct ty (at_all ps fields.now))) }
+    ensures { IfOk result (λ o.
+        (ps : ListOf Path)
+        → o ≡ Operands.in_place (env_of context.now) local.0
+        (MadeStruct ty (at_all ps fields.now))) }
 {
     if !fields.is_empty() {
         return Ok(Some(Operand::Local(local.index())));
@@ -62,7 +65,9 @@ fn of_binding(
     local: BindingId,
     binding: &Binding,
 ) -> Result<Option<Operand>, AllocError>
-    ensures { IfOk result (λ o. (ps : ListOf Path) → o ≡ Operands.in_place (env_of context.now) local.0 (path_over ps binding.now)) }
+    ensures { IfOk result (λ o.
+        (ps : ListOf Path)
+        → o ≡ Operands.in_place (env_of context.now) local.0 (path_over ps binding.now)) }
 {
     match binding {
         Binding::Argument { index } => Ok(Some(Operand::Arg(*index))),
@@ -90,7 +95,9 @@ pub fn in_place(
     context: &Context<'_>,
     binding: BindingId,
 ) -> Result<Option<Operand>, AllocError>
-    ensures { IfOk result (λ o. o ≡ Operands.in_place (env_of context.now) binding.0 (at (paths_of (bindings_in context.now)) binding)) }
+    ensures { IfOk result (λ o.
+        o ≡ Operands.in_place (env_of context.now) binding.0
+        (at (paths_of (bindings_in context.now)) binding)) }
 {
     match context.bindings.get(binding.index()) {
         Some(of) => Ok(of_binding(alloc, context, binding, of)?),
@@ -128,7 +135,8 @@ pub fn operand_of(
     bound: &Scope,
     binding: BindingId,
 ) -> Result<Option<Operand>, AllocError>
-    ensures { IfOk result (λ o. o ≡ Operands.operand_of (env_of context.now) (bindings_in context.now) bound.now binding) }
+    ensures { IfOk result (λ o.
+        o ≡ Operands.operand_of (env_of context.now) (bindings_in context.now) bound.now binding) }
 {
     if is_bound(bound, binding) {
         return Ok(Some(Operand::Local(binding.index())));

@@ -1,23 +1,18 @@
 //! How operands are read: by reference, by a copy, or as they are.
 
-ghost use Rattle.std.specs.Prelude.{◌≡◌, IfOk, slice_get, false as No};
+ghost use Rattle.std.specs.Prelude.{◌≡◌, slice_get, false as No};
 ghost use Rattle.std.specs.Option.{option_map_or};
 ghost use Rattle.isle_operands.specs.BindingTypes as BindingTypes;
 ghost use Rattle.isle_operands.specs.Contexts.{bindings_in};
 ghost use Rattle.isle_operands.specs.Typed.{setting_in};
-ghost use Rattle.isle_operands.specs.Views.{items_of};
 ghost use Rattle.isle_simulation.specs.References as References;
-ghost use Rattle.isle_simulation.specs.Statements as Statements;
 
 use crate::context::Context;
-use crate::operands::operand_of;
 use crate::signature::is_by_ref;
 use crate::typed::Typed;
 use crate::types::type_of;
 use isle_core::{Binding, BindingId, TypeId};
-use isle_scope::Scope;
 use isle_tree::{Operand, Read};
-use std::alloc::{AllocError, Global};
 
 /// Returns whether a value of the type stands behind a reference, where there is a type.
 pub fn is_declared(typed: &Typed<'_>, ty: Option<TypeId>) -> bool
@@ -62,8 +57,8 @@ pub fn is_reference(typed: &Typed<'_>, binding: BindingId) -> bool
     is_declared(typed, type_of(typed.types, binding))
 }
 
-// Returns a read of an operand that is a reference or not, where one is wanted or not.
-fn read_as(wanted: bool, is: bool, operand: Operand) -> Read
+/// Returns a read of an operand that is a reference or not, where one is wanted or not.
+pub fn read_as(wanted: bool, is: bool, operand: Operand) -> Read
     ensures { result ≡ References.read_as wanted is operand }
 {
     if wanted == is {
@@ -73,44 +68,4 @@ fn read_as(wanted: bool, is: bool, operand: Operand) -> Read
     } else {
         Read::Clone(operand)
     }
-}
-
-/// Makes the read of a binding where a reference is wanted or not.
-pub fn read_in(
-    alloc: Global,
-    typed: &Typed<'_>,
-    bound: &Scope,
-    wanted: bool,
-    binding: BindingId,
-) -> Result<Option<Read>, AllocError>
-    ensures { IfOk result (λ read. read ≡ Statements.read_in (setting_in typed.now) bound.now wanted binding) }
-{
-    match operand_of(alloc, &typed.context, bound, binding)? {
-        Some(operand) => Ok(Some(read_as(wanted, is_reference(typed, binding), operand))),
-        None => Ok(None),
-    }
-}
-
-/// Makes the reads of bindings as they are handed to parameters of these types, in order, where each has one.
-pub fn reads(
-    alloc: Global,
-    typed: &Typed<'_>,
-    bound: &Scope,
-    tys: &[TypeId],
-    bindings: &[BindingId],
-) -> Result<Option<Vec<Read>>, AllocError>
-    ensures { IfOk result (λ reads. items_of reads ≡ Statements.reads (setting_in typed.now) bound.now tys.now bindings.now) }
-{
-    if tys.len() != bindings.len() {
-        return Ok(None);
-    }
-    let mut reads = Vec::new(alloc);
-    for index in 0..bindings.len() {
-        let wanted = is_by_ref(typed.context.typeenv, tys[index]);
-        let Some(read) = read_in(alloc, typed, bound, wanted, bindings[index])? else {
-            return Ok(None);
-        };
-        reads.push(read)?;
-    }
-    Ok(Some(reads))
 }

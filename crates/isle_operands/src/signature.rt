@@ -55,7 +55,8 @@ pub fn ty_names(
     termenv: &TermEnv,
     tys: &[TypeId],
 ) -> Result<Vec<Text>, AllocError>
-    ensures { IfOk result (λ names. names.items ≡ map (type_text (environment typeenv.now termenv.now)) tys.now) }
+    ensures { IfOk result (λ names.
+        names.items ≡ map (type_text (environment typeenv.now termenv.now)) tys.now) }
 {
     let mut names = Vec::new(alloc);
     for ty in tys {
@@ -71,7 +72,8 @@ pub fn params(
     termenv: &TermEnv,
     tys: &[TypeId],
 ) -> Result<Vec<Ty>, AllocError>
-    ensures { IfOk result (λ params. params.items ≡ map (parameter (environment typeenv.now termenv.now)) tys.now) }
+    ensures { IfOk result (λ params.
+        params.items ≡ map (parameter (environment typeenv.now termenv.now)) tys.now) }
 {
     let mut params = Vec::new(alloc);
     for ty in tys {

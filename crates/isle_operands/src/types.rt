@@ -49,7 +49,8 @@ fn result_type(context: &Context<'_>, term: TermId) -> Option<TypeId>
 
 /// Returns the type of the binding of this number, where these are the types.
 pub fn type_of(types: &[Option<TypeId>], binding: BindingId) -> Option<TypeId>
-    ensures { (env : Environment) → (t : TermOf) → (ps : ListOf Path) → types.now ≡ map (type_at env t) ps → result ≡ type_at env t (at ps binding) }
+    ensures { (env : Environment) → (t : TermOf) → (ps : ListOf Path)
+        → types.now ≡ map (type_at env t) ps → result ≡ type_at env t (at ps binding) }
 {
     match types.get(binding.index()) {
         Some(ty) => *ty,
@@ -64,7 +65,9 @@ fn variant_field(
     variant: VariantId,
     field: TupleIndex,
 ) -> Option<TypeId>
-    ensures { (p : Path) → source ≡ type_at (env_of context.now) context.now.term.now p → result ≡ type_at (env_of context.now) context.now.term.now (VariantField variant field.0 p) }
+    ensures { (p : Path) → source ≡ type_at (env_of context.now) context.now.term.now p
+        → result ≡ type_at (env_of context.now) context.now.term.now
+        (VariantField variant field.0 p) }
 {
     match source {
         Some(ty) => field_type(variant_form(context, ty, variant), field.index()),
@@ -74,7 +77,8 @@ fn variant_field(
 
 // Returns the type of a field of the struct.
 fn struct_field(context: &Context<'_>, source: Option<TypeId>, field: TupleIndex) -> Option<TypeId>
-    ensures { (p : Path) → source ≡ type_at (env_of context.now) context.now.term.now p → result ≡ type_at (env_of context.now) context.now.term.now (StructField field.0 p) }
+    ensures { (p : Path) → source ≡ type_at (env_of context.now) context.now.term.now p
+        → result ≡ type_at (env_of context.now) context.now.term.now (StructField field.0 p) }
 {
     match source {
         Some(ty) => field_type(struct_form(context, ty), field.index()),
@@ -84,7 +88,8 @@ fn struct_field(context: &Context<'_>, source: Option<TypeId>, field: TupleIndex
 
 // Returns the extractor whose answer the binding of this number has, where these are the extractors.
 fn answered_by(extractors: &[Option<TermId>], binding: BindingId) -> Option<TermId>
-    ensures { (ps : ListOf Path) → extractors.now ≡ map extractor_at ps → result ≡ extractor_at (at ps binding) }
+    ensures { (ps : ListOf Path) → extractors.now ≡ map extractor_at ps
+        → result ≡ extractor_at (at ps binding) }
 {
     match extractors.get(binding.index()) {
         Some(term) => *term,
@@ -94,7 +99,8 @@ fn answered_by(extractors: &[Option<TermId>], binding: BindingId) -> Option<Term
 
 // Returns the extractor whose answer a binding has, over those of the bindings before it.
 fn extractor_of(extractors: &[Option<TermId>], binding: &Binding) -> Option<TermId>
-    ensures { (ps : ListOf Path) → extractors.now ≡ map extractor_at ps → result ≡ extractor_at (path_over ps binding.now) }
+    ensures { (ps : ListOf Path) → extractors.now ≡ map extractor_at ps
+        → result ≡ extractor_at (path_over ps binding.now) }
 {
     match binding {
         Binding::Extractor { term, .. } => Some(*term),
@@ -116,7 +122,8 @@ fn extractor_of(extractors: &[Option<TermId>], binding: &Binding) -> Option<Term
 
 // Returns the type of a part of an extractor's answer.
 fn part_type(context: &Context<'_>, extractor: Option<TermId>, field: TupleIndex) -> Option<TypeId>
-    ensures { (p : Path) → extractor ≡ extractor_at p → result ≡ type_at (env_of context.now) context.now.term.now (Part field.0 p) }
+    ensures { (p : Path) → extractor ≡ extractor_at p
+        → result ≡ type_at (env_of context.now) context.now.term.now (Part field.0 p) }
 {
     context
         .termenv
@@ -138,7 +145,10 @@ fn binding_type(
     binding: &Binding,
 ) -> Option<TypeId>
     requires { consts.now ≡ context.now.typeenv.now.consts }
-    ensures { (ps : ListOf Path) → types.now ≡ map (type_at (env_of context.now) context.now.term.now) ps → extractors.now ≡ map extractor_at ps → result ≡ type_at (env_of context.now) context.now.term.now (path_over ps binding.now) }
+    ensures { (ps : ListOf Path)
+        → types.now ≡ map (type_at (env_of context.now) context.now.term.now) ps
+        → extractors.now ≡ map extractor_at ps
+        → result ≡ type_at (env_of context.now) context.now.term.now (path_over ps binding.now) }
 {
     match binding {
         Binding::ConstBool { ty, .. } => Some(*ty),

@@ -3,7 +3,7 @@ use Rattle.std.specs.Prelude.{ℕ, List, [], ◌∷◌, ◌++◌, codes}
 use Rattle.isle_core.specs.Value.{Value, Made, End, Gives, GivesSome, GivesNone, IsUnreachable, GivesList, Ran}
 use Rattle.isle_outcomes.specs.Shown.{value_text, callee_text}
 
--- values behind the first, with commas
+-- values after the first, with commas
 abbrev pub more_text : List Value → List ℕ
 more_text [] = []
 more_text (v ∷ vs) = codes ", " ++ (value_text v ++ more_text vs)
@@ -21,7 +21,7 @@ end_text GivesNone = codes "None"
 end_text IsUnreachable = codes "unreachable"
 end_text (GivesList vs) = codes "[" ++ (listed_text vs ++ codes "]")
 
--- each argument behind a blank
+-- each argument after a blank
 abbrev pub args_text : List Value → List ℕ
 args_text [] = []
 args_text (v ∷ vs) = codes " " ++ (value_text v ++ args_text vs)

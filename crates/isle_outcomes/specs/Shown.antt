@@ -50,7 +50,7 @@ abbrev mutual
   value_text (Variant ty variant fields) = variant_head ty variant ++ (fields_text fields ++ codes ")")
   value_text (Struct ty fields) = struct_head ty ++ (fields_text fields ++ codes ")")
 
-  -- each field behind a blank
+  -- each field after a blank
   pub fields_text : FieldValues → List ℕ
   fields_text NoField = []
   fields_text (Field name v fields) = codes " " ++ (value_text v ++ fields_text fields)

@@ -9,9 +9,10 @@ use crate::shown::{push_callee, push_value};
 use isle_core::{CallMade, End, OutOfMemory, Value};
 use std::alloc::{AllocError, Global};
 
-// Appends values behind a first one.
+// Appends values after a first one.
 fn push_more(out: &mut String, given: &[Value]) -> Result<(), AllocError>
-    ensures { OnOk result (string_bytes out.new ≡ string_bytes out.old ++ more_text (values given.now)) }
+    ensures { OnOk result
+        (string_bytes out.new ≡ string_bytes out.old ++ more_text (values given.now)) }
 {
     for value in given {
         out.push_str(", ")?;
@@ -22,7 +23,8 @@ fn push_more(out: &mut String, given: &[Value]) -> Result<(), AllocError>
 
 // Appends values with commas between them.
 fn push_listed(out: &mut String, given: &[Value]) -> Result<(), AllocError>
-    ensures { OnOk result (string_bytes out.new ≡ string_bytes out.old ++ listed_text (values given.now)) }
+    ensures { OnOk result
+        (string_bytes out.new ≡ string_bytes out.old ++ listed_text (values given.now)) }
 {
     match given {
         [] => Ok(()),
@@ -35,7 +37,8 @@ fn push_listed(out: &mut String, given: &[Value]) -> Result<(), AllocError>
 
 // Appends how a run ends.
 fn push_end(out: &mut String, given: &End) -> Result<(), AllocError>
-    ensures { OnOk result (string_bytes out.new ≡ string_bytes out.old ++ end_text (end given.now)) }
+    ensures { OnOk result
+        (string_bytes out.new ≡ string_bytes out.old ++ end_text (end given.now)) }
 {
     match given {
         End::Value(value) => push_value(out, value),
@@ -54,9 +57,10 @@ fn push_end(out: &mut String, given: &End) -> Result<(), AllocError>
     }
 }
 
-// Appends each argument behind a blank.
+// Appends each argument after a blank.
 fn push_args(out: &mut String, args: &[Value]) -> Result<(), AllocError>
-    ensures { OnOk result (string_bytes out.new ≡ string_bytes out.old ++ args_text (values args.now)) }
+    ensures { OnOk result
+        (string_bytes out.new ≡ string_bytes out.old ++ args_text (values args.now)) }
 {
     for arg in args {
         out.push_str(" ")?;
@@ -67,7 +71,8 @@ fn push_args(out: &mut String, args: &[Value]) -> Result<(), AllocError>
 
 /// Appends the line of a call: `call`, what it goes to, and its arguments.
 pub fn push_call(out: &mut String, call: &CallMade) -> Result<(), OutOfMemory>
-    ensures { OnOk result (string_bytes out.new ≡ string_bytes out.old ++ call_line (made call.now)) }
+    ensures { OnOk result
+        (string_bytes out.new ≡ string_bytes out.old ++ call_line (made call.now)) }
 {
     out.push_str("call ")?;
     push_callee(out, &call.callee)?;

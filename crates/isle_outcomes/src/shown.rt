@@ -24,7 +24,8 @@ fn push_number(out: &mut String, number: i128) -> Result<(), AllocError>
 
 // Appends a number of a type.
 fn push_int(out: &mut String, ty: IntType, number: i128) -> Result<(), AllocError>
-    ensures { OnOk result (string_bytes out.new ≡ string_bytes out.old ++ number_text (shown ty number)) }
+    ensures { OnOk result
+        (string_bytes out.new ≡ string_bytes out.old ++ number_text (shown ty number)) }
 {
     match ty {
         IntType::U128 => push_numeral(out, number.cast_unsigned(), 10),
@@ -41,7 +42,8 @@ fn push_truth(out: &mut String, truth: bool) -> Result<(), AllocError>
 
 // Appends what stands before the fields of a variant.
 fn push_variant_head(out: &mut String, ty: &str, variant: &str) -> Result<(), AllocError>
-    ensures { OnOk result (string_bytes out.new ≡ string_bytes out.old ++ variant_head ty.now variant.now) }
+    ensures { OnOk result
+        (string_bytes out.new ≡ string_bytes out.old ++ variant_head ty.now variant.now) }
 {
     out.push_str("(")?;
     out.push_str(ty)?;
@@ -61,7 +63,8 @@ fn push_struct_head(out: &mut String, ty: &str) -> Result<(), AllocError>
 #[cycle(pushing)]
 #[tactic(auto, using(crate::proofs::SeesValues::sees_values))]
 pub fn push_value(out: &mut String, given: &Value) -> Result<(), AllocError>
-    ensures { OnOk result (string_bytes out.new ≡ string_bytes out.old ++ value_text (value given.now)) }
+    ensures { OnOk result
+        (string_bytes out.new ≡ string_bytes out.old ++ value_text (value given.now)) }
 {
     match given {
         Value::Bool(truth) => push_truth(out, *truth),
@@ -82,7 +85,9 @@ fn push_variant(
     variant: &str,
     given: &[(Text, Value)],
 ) -> Result<(), AllocError>
-    ensures { OnOk result (string_bytes out.new ≡ string_bytes out.old ++ value_text (Variant ty.now variant.now (fields given.now))) }
+    ensures { OnOk result
+        (string_bytes out.new
+        ≡ string_bytes out.old ++ value_text (Variant ty.now variant.now (fields given.now))) }
 {
     push_variant_head(out, ty, variant)?;
     push_closed(out, given)
@@ -91,25 +96,30 @@ fn push_variant(
 // Appends a struct.
 #[cycle(pushing)]
 fn push_struct(out: &mut String, ty: &str, given: &[(Text, Value)]) -> Result<(), AllocError>
-    ensures { OnOk result (string_bytes out.new ≡ string_bytes out.old ++ value_text (Struct ty.now (fields given.now))) }
+    ensures { OnOk result
+        (string_bytes out.new
+        ≡ string_bytes out.old ++ value_text (Struct ty.now (fields given.now))) }
 {
     push_struct_head(out, ty)?;
     push_closed(out, given)
 }
 
-// Appends the fields of a value, and the parenthesis behind them.
+// Appends the fields of a value, and the parenthesis after them.
 #[cycle(pushing)]
 fn push_closed(out: &mut String, given: &[(Text, Value)]) -> Result<(), AllocError>
-    ensures { OnOk result (string_bytes out.new ≡ string_bytes out.old ++ (fields_text (fields given.now) ++ codes ")")) }
+    ensures { OnOk result
+        (string_bytes out.new
+        ≡ string_bytes out.old ++ (fields_text (fields given.now) ++ codes ")")) }
 {
     push_fields(out, given)?;
     out.push_str(")")
 }
 
-// Appends each field behind a blank.
+// Appends each field after a blank.
 #[cycle(pushing)]
 fn push_fields(out: &mut String, given: &[(Text, Value)]) -> Result<(), AllocError>
-    ensures { OnOk result (string_bytes out.new ≡ string_bytes out.old ++ fields_text (fields given.now)) }
+    ensures { OnOk result
+        (string_bytes out.new ≡ string_bytes out.old ++ fields_text (fields given.now)) }
 {
     for field in given {
         out.push_str(" ")?;

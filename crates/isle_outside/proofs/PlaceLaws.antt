@@ -52,7 +52,7 @@ new_from (file ∷ files) name bytes new k e is =
     sym (none_at (has_name name file) k (position_from (has_name name) (k + 1) files) ((string_bytes file.0, bytes) ∷ files_of files) (file_of file ∷ written (files_of files) name bytes) (file_of file ∷ files_of (files ++ new ∷ [])) e
     (λ later. ap (λ fs. file_of file ∷ fs) (sym (new_from files name bytes new (k + 1) later is))))
 
--- a file of a new name comes behind the others
+-- a file of a new name comes after the others
 pub new_file : (files : List Kept) (name bytes : List ℕ) (text : String Global) (kept : Vec ℕ Global) → position (has_name name) files ≡ None → string_bytes text ≡ name → kept.items ≡ bytes
     → files_of (files ++ (text, kept) ∷ []) ≡ written (files_of files) name bytes
 new_file files name bytes text kept e named held = new_from files name bytes (text, kept) 0 (sym (position_from-zero (has_name name) files) ∙ e) cc

@@ -21,7 +21,7 @@ abbrev pub bytes_of : Contents → List ℕ → Option (List ℕ)
 bytes_of [] name = None
 bytes_of (file ∷ files) name = if bytes_eq file.0 name then Some file.1 else bytes_of files name
 
--- what stands in a file's name behind the folder's name and a slash
+-- what stands in a file's name after the folder's name and a slash
 abbrev pub inside_folder : List ℕ → List ℕ → Option (List ℕ)
 inside_folder [] [] = None
 inside_folder [] (b ∷ file) = if b == 47 then Some file else None

@@ -4,11 +4,11 @@ use Rattle.std.specs.List.{list_any}
 use Rattle.isle_outside.specs.declared.errors.DirFault.{DirFault}
 use Rattle.isle_outside.specs.declared.errors.DirFault.TheVariants as fault
 
--- behind so many calls, the number of the next is in the list; after 2^64 - 1 calls none is
+-- after so many calls, the number of the next is in the list; after 2^64 - 1 calls none is
 abbrev pub is_failing : ℕ → List ℕ → Bool
 is_failing calls fails = nat_lt calls (2 ^ 64 - 1) && list_any (λ n. n == calls + 1) fails
 
--- a count of faults behind a call: one more where it failed, up to the limit
+-- a count of faults after a call: one more where it failed, up to the limit
 abbrev pub counted : Bool → ℕ → ℕ
 counted failed faults = if failed then min (faults + 1) (2 ^ 64 - 1) else faults
 

@@ -34,10 +34,12 @@ pub trait Dir {
 
     /// Looks a name up, and makes the file or folder that has it current.
     fn find(&mut self, name: &str) -> Result<Found, Failed>
-        ensures found { IfOk result (λ found. Finds (files self.old) name.now found (current self.new)) }
+        ensures found { IfOk result (λ found.
+            Finds (files self.old) name.now found (current self.new)) }
         ensures files { files self.new ≡ files self.old }
         ensures later { (counts self.old).faults ≤ (counts self.new).faults }
-        ensures stays { (counts self.old).faults ≡ 2 ^ 64 - 1 → (counts self.new).faults ≡ 2 ^ 64 - 1 }
+        ensures stays { (counts self.old).faults ≡ 2 ^ 64 - 1
+            → (counts self.new).faults ≡ 2 ^ 64 - 1 }
         ensures failed { OnErr result (Rose (counts self.old).faults (counts self.new).faults) }
         ensures steady { OnOk result ((counts self.new).faults ≡ (counts self.old).faults) }
         ensures finds { (counts self.new).finds ≡ raised 1 (counts self.old).finds }
@@ -49,26 +51,33 @@ pub trait Dir {
         requires reading { IsReading (current self.old) }
         requires room { 0 < length buf.old }
         ensures within { IfOk result (λ n. n ≤ length buf.new) }
-        ensures gives { IfOk result (λ n. GivesNext (current self.old) (current self.new) n buf.new) }
+        ensures gives { IfOk result (λ n.
+            GivesNext (current self.old) (current self.new) n buf.new) }
         ensures files { files self.new ≡ files self.old }
         ensures later { (counts self.old).faults ≤ (counts self.new).faults }
-        ensures stays { (counts self.old).faults ≡ 2 ^ 64 - 1 → (counts self.new).faults ≡ 2 ^ 64 - 1 }
+        ensures stays { (counts self.old).faults ≡ 2 ^ 64 - 1
+            → (counts self.new).faults ≡ 2 ^ 64 - 1 }
         ensures failed { OnErr result (Rose (counts self.old).faults (counts self.new).faults) }
         ensures steady { OnOk result ((counts self.new).faults ≡ (counts self.old).faults) }
         ensures finds { (counts self.new).finds ≡ (counts self.old).finds }
-        ensures given { IfOk result (λ n. (counts self.new).given ≡ raised n (counts self.old).given) }
+        ensures given { IfOk result (λ n.
+            (counts self.new).given ≡ raised n (counts self.old).given) }
         ensures ungiven { OnErr result ((counts self.new).given ≡ (counts self.old).given) }
         ensures nothing { OnErr result (current self.new ≡ Nothing) };
 
     /// Returns the names of the files directly in the current folder, in any order. A name that isn't UTF-8 is a fault.
     fn list(&mut self, alloc: Global, name: &str) -> Result<Vec<String>, DirFault>
         requires { current self.old ≡ InFolder name.now }
-        ensures names { IfOk result (λ names. Lists (files self.old) name.now (map string_bytes names.items)) }
+        ensures names { IfOk result (λ names.
+            Lists (files self.old) name.now (map string_bytes names.items)) }
         ensures files { files self.new ≡ files self.old }
         ensures later { (counts self.old).faults ≤ (counts self.new).faults }
-        ensures stays { (counts self.old).faults ≡ 2 ^ 64 - 1 → (counts self.new).faults ≡ 2 ^ 64 - 1 }
-        ensures failed { result ≡ Err DirFault.Failed → Rose (counts self.old).faults (counts self.new).faults }
-        ensures steady { is_fault result ≡ false → (counts self.new).faults ≡ (counts self.old).faults }
+        ensures stays { (counts self.old).faults ≡ 2 ^ 64 - 1
+            → (counts self.new).faults ≡ 2 ^ 64 - 1 }
+        ensures failed { result ≡ Err DirFault.Failed
+            → Rose (counts self.old).faults (counts self.new).faults }
+        ensures steady { is_fault result ≡ false
+            → (counts self.new).faults ≡ (counts self.old).faults }
         ensures finds { (counts self.new).finds ≡ (counts self.old).finds }
         ensures given { (counts self.new).given ≡ (counts self.old).given }
         ensures nothing { current self.new ≡ Nothing };
@@ -81,9 +90,12 @@ pub trait Dir {
         ensures entries { KeepsEntries (files self.old) (files self.new) name.now }
         ensures memory { result ≡ Err DirFault.Memory → files self.new ≡ files self.old }
         ensures later { (counts self.old).faults ≤ (counts self.new).faults }
-        ensures stays { (counts self.old).faults ≡ 2 ^ 64 - 1 → (counts self.new).faults ≡ 2 ^ 64 - 1 }
-        ensures failed { result ≡ Err DirFault.Failed → Rose (counts self.old).faults (counts self.new).faults }
-        ensures steady { is_fault result ≡ false → (counts self.new).faults ≡ (counts self.old).faults }
+        ensures stays { (counts self.old).faults ≡ 2 ^ 64 - 1
+            → (counts self.new).faults ≡ 2 ^ 64 - 1 }
+        ensures failed { result ≡ Err DirFault.Failed
+            → Rose (counts self.old).faults (counts self.new).faults }
+        ensures steady { is_fault result ≡ false
+            → (counts self.new).faults ≡ (counts self.old).faults }
         ensures finds { (counts self.new).finds ≡ (counts self.old).finds }
         ensures given { (counts self.new).given ≡ (counts self.old).given }
         ensures nothing { current self.new ≡ Nothing };

@@ -15,9 +15,10 @@ pub fn place_of(files: &[(String, Vec<u8>)], name: &str) -> Option<usize>
     files.iter().position(|file| file.0.as_str() == name)
 }
 
-/// Returns the place of the first file whose name goes on behind this one and a slash.
+/// Returns the place of the first file whose name goes on after this one and a slash.
 pub fn place_below(files: &[(String, Vec<u8>)], name: &str) -> Option<usize>
-    ensures { result ≡ position (λ kept. is_some (inside_folder name.now (string_bytes kept.0))) files.now }
+    ensures { result
+        ≡ position (λ kept. is_some (inside_folder name.now (string_bytes kept.0))) files.now }
 {
     files
         .iter()
@@ -30,7 +31,8 @@ pub fn entries(
     files: &[(String, Vec<u8>)],
     folder: &str,
 ) -> Result<Vec<String>, DirFault>
-    ensures names { IfOk result (λ names. map string_bytes names.items ≡ directly_in (files_of files.now) folder.now) }
+    ensures names { IfOk result (λ names.
+        map string_bytes names.items ≡ directly_in (files_of files.now) folder.now) }
     ensures memory { IfErr result (λ e. e ≡ DirFault.Memory) }
 {
     let mut names = Vec::new(alloc);
@@ -49,7 +51,8 @@ pub fn put_file(
     name: &str,
     bytes: &[u8],
 ) -> Result<(), DirFault>
-    ensures ok { OnOk result (files_of files.new.items ≡ written (files_of files.old.items) name.now bytes.now) }
+    ensures ok { OnOk result
+        (files_of files.new.items ≡ written (files_of files.old.items) name.now bytes.now) }
     ensures err { OnErr result (files.new.items ≡ files.old.items) }
     ensures memory { IfErr result (λ e. e ≡ DirFault.Memory) }
 {

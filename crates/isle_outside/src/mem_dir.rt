@@ -112,11 +112,14 @@ impl Dir for MemDir {
     ghost counts = { λ d. counts_in d };
 
     fn find(&mut self, name: &str) -> Result<Found, Failed>
-        ensures found { IfOk result (λ found. Finds (Some (files_in self.old)) name.now found (current_in self.new)) }
+        ensures found { IfOk result (λ found.
+            Finds (Some (files_in self.old)) name.now found (current_in self.new)) }
         ensures files { Some (files_in self.new) ≡ Some (files_in self.old) }
         ensures later { (counts_in self.old).faults ≤ (counts_in self.new).faults }
-        ensures stays { (counts_in self.old).faults ≡ 2 ^ 64 - 1 → (counts_in self.new).faults ≡ 2 ^ 64 - 1 }
-        ensures failed { OnErr result (Rose ((counts_in self.old).faults) ((counts_in self.new).faults)) }
+        ensures stays { (counts_in self.old).faults ≡ 2 ^ 64 - 1
+            → (counts_in self.new).faults ≡ 2 ^ 64 - 1 }
+        ensures failed { OnErr result
+            (Rose ((counts_in self.old).faults) ((counts_in self.new).faults)) }
         ensures steady { OnOk result ((counts_in self.new).faults ≡ (counts_in self.old).faults) }
         ensures finds { (counts_in self.new).finds ≡ raised 1 (counts_in self.old).finds }
         ensures given { (counts_in self.new).given ≡ (counts_in self.old).given }
@@ -143,18 +146,23 @@ impl Dir for MemDir {
         requires reading { IsReading (current_in self.old) }
         requires room { 0 < length buf.old }
         ensures within { IfOk result (λ n. n ≤ length buf.new) }
-        ensures gives { IfOk result (λ n. GivesNext (current_in self.old) (current_in self.new) n buf.new) }
+        ensures gives { IfOk result (λ n.
+            GivesNext (current_in self.old) (current_in self.new) n buf.new) }
         ensures files { Some (files_in self.new) ≡ Some (files_in self.old) }
         ensures later { (counts_in self.old).faults ≤ (counts_in self.new).faults }
-        ensures stays { (counts_in self.old).faults ≡ 2 ^ 64 - 1 → (counts_in self.new).faults ≡ 2 ^ 64 - 1 }
-        ensures failed { OnErr result (Rose ((counts_in self.old).faults) ((counts_in self.new).faults)) }
+        ensures stays { (counts_in self.old).faults ≡ 2 ^ 64 - 1
+            → (counts_in self.new).faults ≡ 2 ^ 64 - 1 }
+        ensures failed { OnErr result
+            (Rose ((counts_in self.old).faults) ((counts_in self.new).faults)) }
         ensures steady { OnOk result ((counts_in self.new).faults ≡ (counts_in self.old).faults) }
         ensures finds { (counts_in self.new).finds ≡ (counts_in self.old).finds }
-        ensures given { IfOk result (λ n. (counts_in self.new).given ≡ raised n (counts_in self.old).given) }
+        ensures given { IfOk result (λ n.
+            (counts_in self.new).given ≡ raised n (counts_in self.old).given) }
         ensures ungiven { OnErr result ((counts_in self.new).given ≡ (counts_in self.old).given) }
         ensures nothing { OnErr result (current_in self.new ≡ Nothing) }
         ensures counts { IsCounted self.old self.new (is_err result) }
-        ensures most { IfOk result (λ n. n ≡ min (min (length buf.old) (piece_in self.old)) (left_in (current_in self.old))) }
+        ensures most { IfOk result (λ n.
+            n ≡ min (min (length buf.old) (piece_in self.old)) (left_in (current_in self.old))) }
     {
         if self.fails_now() {
             return Err(Failed);
@@ -175,12 +183,16 @@ impl Dir for MemDir {
 
     fn list(&mut self, alloc: Global, name: &str) -> Result<Vec<String>, DirFault>
         requires { current_in self.old ≡ InFolder name.now }
-        ensures names { IfOk result (λ names. Lists (Some (files_in self.old)) name.now (map string_bytes names.items)) }
+        ensures names { IfOk result (λ names.
+            Lists (Some (files_in self.old)) name.now (map string_bytes names.items)) }
         ensures files { Some (files_in self.new) ≡ Some (files_in self.old) }
         ensures later { (counts_in self.old).faults ≤ (counts_in self.new).faults }
-        ensures stays { (counts_in self.old).faults ≡ 2 ^ 64 - 1 → (counts_in self.new).faults ≡ 2 ^ 64 - 1 }
-        ensures failed { result ≡ Err DirFault.Failed → Rose ((counts_in self.old).faults) ((counts_in self.new).faults) }
-        ensures steady { is_fault result ≡ false → (counts_in self.new).faults ≡ (counts_in self.old).faults }
+        ensures stays { (counts_in self.old).faults ≡ 2 ^ 64 - 1
+            → (counts_in self.new).faults ≡ 2 ^ 64 - 1 }
+        ensures failed { result ≡ Err DirFault.Failed
+            → Rose ((counts_in self.old).faults) ((counts_in self.new).faults) }
+        ensures steady { is_fault result ≡ false
+            → (counts_in self.new).faults ≡ (counts_in self.old).faults }
         ensures finds { (counts_in self.new).finds ≡ (counts_in self.old).finds }
         ensures given { (counts_in self.new).given ≡ (counts_in self.old).given }
         ensures nothing { current_in self.new ≡ Nothing }
@@ -195,18 +207,25 @@ impl Dir for MemDir {
 
     fn write_file(&mut self, name: &str, bytes: &[u8]) -> Result<(), DirFault>
         ensures holds { OnOk result (Holds (Some (files_in self.new)) name.now bytes.now) }
-        ensures others { KeepsOthers (Some (files_in self.old)) (Some (files_in self.new)) name.now }
-        ensures entries { KeepsEntries (Some (files_in self.old)) (Some (files_in self.new)) name.now }
-        ensures memory { result ≡ Err DirFault.Memory → Some (files_in self.new) ≡ Some (files_in self.old) }
+        ensures others { KeepsOthers (Some (files_in self.old)) (Some (files_in self.new))
+            name.now }
+        ensures entries { KeepsEntries (Some (files_in self.old)) (Some (files_in self.new))
+            name.now }
+        ensures memory { result ≡ Err DirFault.Memory
+            → Some (files_in self.new) ≡ Some (files_in self.old) }
         ensures later { (counts_in self.old).faults ≤ (counts_in self.new).faults }
-        ensures stays { (counts_in self.old).faults ≡ 2 ^ 64 - 1 → (counts_in self.new).faults ≡ 2 ^ 64 - 1 }
-        ensures failed { result ≡ Err DirFault.Failed → Rose ((counts_in self.old).faults) ((counts_in self.new).faults) }
-        ensures steady { is_fault result ≡ false → (counts_in self.new).faults ≡ (counts_in self.old).faults }
+        ensures stays { (counts_in self.old).faults ≡ 2 ^ 64 - 1
+            → (counts_in self.new).faults ≡ 2 ^ 64 - 1 }
+        ensures failed { result ≡ Err DirFault.Failed
+            → Rose ((counts_in self.old).faults) ((counts_in self.new).faults) }
+        ensures steady { is_fault result ≡ false
+            → (counts_in self.new).faults ≡ (counts_in self.old).faults }
         ensures finds { (counts_in self.new).finds ≡ (counts_in self.old).finds }
         ensures given { (counts_in self.new).given ≡ (counts_in self.old).given }
         ensures nothing { current_in self.new ≡ Nothing }
         ensures counts { IsCounted self.old self.new (is_fault result) }
-        ensures exact { OnOk result (files_in self.new ≡ written (files_in self.old) name.now bytes.now) }
+        ensures exact { OnOk result
+            (files_in self.new ≡ written (files_in self.old) name.now bytes.now) }
         ensures kept { OnErr result (files_in self.new ≡ files_in self.old) }
     {
         if self.fails_now() {

@@ -93,15 +93,19 @@ impl Sink for MemSink {
     fn put(&mut self, bytes: &[u8]) -> Result<usize, Failed>
         ensures within { IfOk result (λ n. n ≤ length bytes.now) }
         ensures some { IfOk result (λ n. 0 < length bytes.now → 0 < n) }
-        ensures taken { IfOk result (λ n. Took (Some self.old.bytes.items) (Some self.new.bytes.items) (take n bytes.now)) }
+        ensures taken { IfOk result (λ n.
+            Took (Some self.old.bytes.items) (Some self.new.bytes.items) (take n bytes.now)) }
         ensures untouched { OnErr result (Some self.new.bytes.items ≡ Some self.old.bytes.items) }
         ensures later { self.old.faults ≤ self.new.faults }
         ensures stays { self.old.faults ≡ 2 ^ 64 - 1 → self.new.faults ≡ 2 ^ 64 - 1 }
         ensures failed { OnErr result (Rose self.old.faults self.new.faults) }
         ensures steady { OnOk result (self.new.faults ≡ self.old.faults) }
-        ensures fails { is_err result ≡ (is_failing self.old.failures.calls self.old.failures.numbers.items
+        ensures fails { is_err result
+            ≡ (is_failing self.old.failures.calls self.old.failures.numbers.items
             || (nat_lt 0 (length bytes.now) && (self.old.room == vec_len self.old.bytes))) }
-        ensures most { IfOk result (λ n. n ≡ min (min (length bytes.now) self.old.piece) (self.old.room - vec_len self.old.bytes)) }
+        ensures most { IfOk result (λ n.
+            n ≡ min (min (length bytes.now) self.old.piece)
+            (self.old.room - vec_len self.old.bytes)) }
         ensures counted { self.new.faults ≡ counted (is_err result) self.old.faults }
     {
         if self.failures.next_fails() {

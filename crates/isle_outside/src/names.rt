@@ -2,7 +2,7 @@ ghost use Rattle.std.specs.Prelude.{◌≡◌, option_and_then};
 ghost use Rattle.std.specs.Option.{option_copied};
 ghost use Rattle.isle_outside.specs.Directory.{inside_folder, plain};
 
-/// Returns what stands in a file's name behind the folder's name and a slash.
+/// Returns what stands in a file's name after the folder's name and a slash.
 pub fn part_inside<'a>(file: &'a str, folder: &str) -> Option<&'a str>
     ensures { option_copied result ≡ inside_folder folder.now file.now }
 {

@@ -17,12 +17,15 @@ const MAX_BYTES: usize = 1 << 24;
 /// count is what it was.
 #[tactic(auto, using(crate::proofs::ReadLaws::texts))]
 pub fn read_text<D: Dir>(alloc: Global, dir: &mut D, name: &str) -> Result<String, ReadFail>
-    ensures exact { IfSome (D.files dir.old) (λ files. ReadsFile string_bytes result (bytes_of files name.now)) }
-    ensures bounded { IfSome (D.files dir.old) (λ files. TakenAtMost (2 ^ 24 + 1) (bytes_of files name.now) (D.current dir.new)) }
+    ensures exact { IfSome (D.files dir.old)
+        (λ files. ReadsFile string_bytes result (bytes_of files name.now)) }
+    ensures bounded { IfSome (D.files dir.old)
+        (λ files. TakenAtMost (2 ^ 24 + 1) (bytes_of files name.now) (D.current dir.new)) }
     ensures faults { CountsFault result (D.counts dir.old).faults (D.counts dir.new).faults }
     ensures files { D.files dir.new ≡ D.files dir.old }
     ensures later { (D.counts dir.old).faults ≤ (D.counts dir.new).faults }
-    ensures stays { (D.counts dir.old).faults ≡ 2 ^ 64 - 1 → (D.counts dir.new).faults ≡ 2 ^ 64 - 1 }
+    ensures stays { (D.counts dir.old).faults ≡ 2 ^ 64 - 1
+        → (D.counts dir.new).faults ≡ 2 ^ 64 - 1 }
     ensures finds { (D.counts dir.new).finds ≡ raised 1 (D.counts dir.old).finds }
     ensures given { (D.counts dir.new).given ≤ (D.counts dir.old).given + (2 ^ 24 + 1) }
 {
@@ -47,7 +50,8 @@ fn rest<D: Dir>(alloc: Global, dir: &mut D) -> Result<Vec<u8>, ReadFail>
     ensures faults { CountsFault result (D.counts dir.old).faults (D.counts dir.new).faults }
     ensures files { D.files dir.new ≡ D.files dir.old }
     ensures later { (D.counts dir.old).faults ≤ (D.counts dir.new).faults }
-    ensures stays { (D.counts dir.old).faults ≡ 2 ^ 64 - 1 → (D.counts dir.new).faults ≡ 2 ^ 64 - 1 }
+    ensures stays { (D.counts dir.old).faults ≡ 2 ^ 64 - 1
+        → (D.counts dir.new).faults ≡ 2 ^ 64 - 1 }
     ensures finds { (D.counts dir.new).finds ≡ (D.counts dir.old).finds }
     ensures given { (D.counts dir.new).given ≤ (D.counts dir.old).given + (2 ^ 24 + 1) }
 {

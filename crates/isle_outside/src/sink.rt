@@ -16,7 +16,8 @@ pub trait Sink {
     fn put(&mut self, bytes: &[u8]) -> Result<usize, Failed>
         ensures within { IfOk result (λ n. n ≤ length bytes.now) }
         ensures some { IfOk result (λ n. 0 < length bytes.now → 0 < n) }
-        ensures taken { IfOk result (λ n. Took (taken self.old) (taken self.new) (take n bytes.now)) }
+        ensures taken { IfOk result (λ n.
+            Took (taken self.old) (taken self.new) (take n bytes.now)) }
         ensures untouched { OnErr result (taken self.new ≡ taken self.old) }
         ensures later { faults self.old ≤ faults self.new }
         ensures stays { faults self.old ≡ 2 ^ 64 - 1 → faults self.new ≡ 2 ^ 64 - 1 }

@@ -91,7 +91,8 @@ impl<R: Files + AllocGlobal + Clone + Drop> StdDir<R> {
     // Makes what stands at the path current, where nothing is. A file takes no memory.
     fn open(&mut self, path: Path<'_>, name: &str) -> Result<Found, Failed>
         requires { opened self.old.file self.old.folder ≡ Nothing }
-        ensures found { IfOk result (λ found. Finds None name.now found (opened self.new.file self.new.folder)) }
+        ensures found { IfOk result (λ found.
+            Finds None name.now found (opened self.new.file self.new.folder)) }
         ensures later { self.old.faults ≤ self.new.faults }
         ensures stays { self.old.faults ≡ 2 ^ 64 - 1 → self.new.faults ≡ 2 ^ 64 - 1 }
         ensures failed { OnErr result (Rose self.old.faults self.new.faults) }
@@ -125,7 +126,8 @@ impl<R: Files + AllocGlobal + Clone + Drop> StdDir<R> {
 
     // A name as a path of the machine.
     fn path(&self, name: &str) -> Result<PathBuf, AllocError>
-        ensures { IfOk result (λ path. path_buf_bytes path ≡ path_join (string_bytes self.now.root) name.now) }
+        ensures { IfOk result (λ path.
+            path_buf_bytes path ≡ path_join (string_bytes self.now.root) name.now) }
     {
         Path::new(self.root.as_str()).join(self.rt.alloc(), name)
     }
@@ -145,7 +147,8 @@ impl<R: Files + AllocGlobal + Clone + Drop> Dir for StdDir<R> {
     ghost counts = { λ d. record { faults = d.faults; finds = d.finds; given = d.given } };
 
     fn find(&mut self, name: &str) -> Result<Found, Failed>
-        ensures found { IfOk result (λ found. Finds None name.now found (opened self.new.file self.new.folder)) }
+        ensures found { IfOk result (λ found.
+            Finds None name.now found (opened self.new.file self.new.folder)) }
         ensures later { self.old.faults ≤ self.new.faults }
         ensures stays { self.old.faults ≡ 2 ^ 64 - 1 → self.new.faults ≡ 2 ^ 64 - 1 }
         ensures failed { OnErr result (Rose self.old.faults self.new.faults) }
@@ -170,7 +173,9 @@ impl<R: Files + AllocGlobal + Clone + Drop> Dir for StdDir<R> {
         requires reading { IsReading (opened self.old.file self.old.folder) }
         requires room { 0 < length buf.old }
         ensures within { IfOk result (λ n. n ≤ length buf.new) }
-        ensures gives { IfOk result (λ n. GivesNext (opened self.old.file self.old.folder) (opened self.new.file self.new.folder) n buf.new) }
+        ensures gives { IfOk result (λ n.
+            GivesNext (opened self.old.file self.old.folder) (opened self.new.file self.new.folder)
+            n buf.new) }
         ensures later { self.old.faults ≤ self.new.faults }
         ensures stays { self.old.faults ≡ 2 ^ 64 - 1 → self.new.faults ≡ 2 ^ 64 - 1 }
         ensures failed { OnErr result (Rose self.old.faults self.new.faults) }
@@ -180,7 +185,9 @@ impl<R: Files + AllocGlobal + Clone + Drop> Dir for StdDir<R> {
         ensures ungiven { OnErr result (self.new.given ≡ self.old.given) }
         ensures nothing { OnErr result (opened self.new.file self.new.folder ≡ Nothing) }
         ensures bytes { IfSome self.old.file (λ old. IfSome self.new.file
-            (λ new. IfOk result (λ n. Consumes (R.File.remaining old) (R.File.remaining new) (take n buf.new) × (n ≡ 0 → IsAtEnd (R.File.remaining new))))) }
+            (λ new. IfOk result
+            (λ n. Consumes (R.File.remaining old) (R.File.remaining new) (take n buf.new)
+            × (n ≡ 0 → IsAtEnd (R.File.remaining new))))) }
         ensures counted { self.new.faults ≡ counted (is_err result) self.old.faults }
     {
         let Some(file) = &mut self.file else {
@@ -243,7 +250,7 @@ impl<R: Files + AllocGlobal + Clone + Drop> Dir for StdDir<R> {
     }
 }
 
-// The names of the files of a folder of the machine. A folder in it, and what is absent behind a link, is left out.
+// The names of the files of a folder of the machine. A folder in it, and what is absent after a link, is left out.
 fn names_in<R: Files + AllocGlobal + Clone + Drop>(
     rt: &R,
     alloc: Global,
@@ -274,9 +281,10 @@ fn is_file(rt: &impl Files, path: Path<'_>) -> Result<bool, DirFault> {
     }
 }
 
-// Whether an error says that nothing stands at a path; a path that goes on behind a file is one such.
+// Whether an error says that nothing stands at a path; a path that goes on after a file is one such.
 fn is_absence(e: &io::Error) -> bool
-    ensures { IsTrue result ↔ (error_kind e.now ≡ ErrorKind.NotFound) ⊎ (error_kind e.now ≡ ErrorKind.NotADirectory) }
+    ensures { IsTrue result
+        ↔ (error_kind e.now ≡ ErrorKind.NotFound) ⊎ (error_kind e.now ≡ ErrorKind.NotADirectory) }
 {
     let kind = e.kind();
     kind == ErrorKind::NotFound || kind == ErrorKind::NotADirectory

@@ -44,7 +44,8 @@ impl<W: Write> Sink for StdSink<W> {
         ensures stays { self.old.faults ≡ 2 ^ 64 - 1 → self.new.faults ≡ 2 ^ 64 - 1 }
         ensures failed { OnErr result (Rose self.old.faults self.new.faults) }
         ensures steady { OnOk result (self.new.faults ≡ self.old.faults) }
-        ensures written { WriteAppends (W.contents self.old.writer) (W.contents self.new.writer) result bytes.now }
+        ensures written { WriteAppends (W.contents self.old.writer) (W.contents self.new.writer)
+            result bytes.now }
         ensures counted { self.new.faults ≡ counted (is_err result) self.old.faults }
     {
         match self.writer.write(bytes) {

@@ -68,7 +68,7 @@ left_scope now first new n more is new_is grown =
     ∙ ap (λ k. take k (tells first ++ more)) (is ∙ sym (length-map first local_told))
     ∙ take_front (tells first) more
 
--- what is bound behind a statement
+-- what is bound after a statement
 pub record Grows (now later : Tells) : Type 0 where
   pub more : Tells
   pub grown : later ≡ now ++ more

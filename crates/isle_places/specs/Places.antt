@@ -112,7 +112,7 @@ pattern_places f tells (pattern.Some local) r = at (operand_of r) Untold
 
 -- ---- statements
 
--- what the locals hold behind a statement
+-- what the locals hold after a statement
 abbrev pub told_after : Program → Function → Tells → Stmt → Tells
 told_after p f tells (Let n e) = tells ++ (n, expr_told p f tells e) ∷ []
 told_after p f tells (LetList n call) = tells ++ (n, list_told (signature_of p call.callee)) ∷ []
@@ -156,7 +156,7 @@ abbrev mutual
   arms_places p f tells r NoArm = []
   arms_places p f tells r (Arm pat inside arms) = (pattern_places f tells pat r ++ body_places p f (tells ++ pattern_told p pat (read_told f tells r)) inside) ++ arms_places p f tells r arms
 
--- one arm, and the statements behind a pattern
+-- one arm, and the statements after a pattern
 abbrev pub arm_places : Program → Function → Tells → TPat → Read → Body → List Place
 arm_places p f tells pat r inside = pattern_places f tells pat r ++ body_places p f (tells ++ pattern_told p pat (read_told f tells r)) inside
 

@@ -21,7 +21,8 @@ fn bind_fields<'s>(
     asked: Asked<'s, '_>,
     binds: &[TBind],
 ) -> Result<(), AllocError>
-    ensures { OnOk result (tells bound.new ≡ tells bound.old ++ binds_told (asked_of asked.entry) binds.now) }
+    ensures { OnOk result
+        (tells bound.new ≡ tells bound.old ++ binds_told (asked_of asked.entry) binds.now) }
 {
     for bind in binds {
         let field = field_told(alloc, asked, bind.field.as_str())?;
@@ -38,7 +39,9 @@ pub fn bind_pattern<'s>(
     pat: &'s TPat,
     held: Told<'s>,
 ) -> Result<(), AllocError>
-    ensures { OnOk result (tells bound.new ≡ tells bound.old ++ pattern_told (program signatures.now) pat.now (told held.entry)) }
+    ensures { OnOk result
+        (tells bound.new
+        ≡ tells bound.old ++ pattern_told (program signatures.now) pat.now (told held.entry)) }
 {
     match pat {
         TPat::Const(_) | TPat::Some(None) => Ok(()),

@@ -32,7 +32,8 @@ fn field_at<'s>(
     index: usize,
 ) -> Result<Told<'s>, AllocError>
     requires { (i : ℕ) → i < length tys.now → name.now ≡ decimal i → i ≡ index }
-    ensures { IfOk result (λ t. told t ≡ told_of.field_told (These (tuple_fields 0 tys.now)) name.now) }
+    ensures { IfOk result (λ t.
+        told t ≡ told_of.field_told (These (tuple_fields 0 tys.now)) name.now) }
 {
     match tys.get(index) {
         Some(ty) => {
@@ -48,7 +49,8 @@ fn field_at<'s>(
 
 // What is told of a field whose name is its number.
 fn numbered_field<'s>(alloc: Global, tys: &'s [Text], name: &str) -> Result<Told<'s>, AllocError>
-    ensures { IfOk result (λ t. told t ≡ told_of.field_told (These (tuple_fields 0 tys.now)) name.now) }
+    ensures { IfOk result (λ t.
+        told t ≡ told_of.field_told (These (tuple_fields 0 tys.now)) name.now) }
 {
     match number_of(name) {
         Some(index) => field_at(alloc, tys, name, index),

@@ -4,16 +4,9 @@ ghost use Rattle.std.specs.Prelude.{◌≡◌, ◌^◌, ◌<◌, ℕ, IfOk, Some
 ghost use Rattle.std.specs.Fmt.{decimal};
 ghost use Rattle.isle_printer.specs.Bytes.{same_bytes};
 
-use isle_core::Text;
+use isle_core::numbered;
 use isle_spelling::is_same;
 use std::alloc::{AllocError, Global};
-
-// The text of a number.
-fn numbered(alloc: Global, index: usize) -> Result<Text, AllocError>
-    ensures { IfOk result (λ text. text ≡ decimal index) }
-{
-    Ok(Text::new(format!(in alloc; "{index}")?))
-}
 
 /// Tells whether a name is this number. The only error is want of memory.
 pub fn is_numbered(alloc: Global, name: &str, index: usize) -> Result<bool, AllocError>

@@ -22,7 +22,9 @@ fn push_told<'s>(
     operand: &'s Operand,
     told: Told<'s>,
 ) -> Result<(), AllocError>
-    ensures { OnOk result (placed found.new.items ≡ placed found.old.items ++ places_of.where_told operand.now (seen told.entry)) }
+    ensures { OnOk result
+        (placed found.new.items
+        ≡ placed found.old.items ++ places_of.where_told operand.now (seen told.entry)) }
 {
     match told {
         Told::AValue(ty) => Ok(found.push((operand, ty))?),
@@ -42,7 +44,9 @@ pub fn push_at<'s>(
     operand: &'s Operand,
     place: Told<'s>,
 ) -> Result<(), AllocError>
-    ensures { OnOk result (placed found.new.items ≡ placed found.old.items ++ places_of.at operand.now (seen place.entry)) }
+    ensures { OnOk result
+        (placed found.new.items
+        ≡ placed found.old.items ++ places_of.at operand.now (seen place.entry)) }
 {
     match operand {
         Operand::Bool(_) => push_told(found, operand, Told::AValue("bool")),
@@ -59,7 +63,9 @@ fn push_reads<'s>(
     reads: &'s [Read],
     params: &'s [Ty],
 ) -> Result<(), AllocError>
-    ensures { OnOk result (placed found.new.items ≡ placed found.old.items ++ places_of.reads_places reads.now (type_names params.now)) }
+    ensures { OnOk result
+        (placed found.new.items
+        ≡ placed found.old.items ++ places_of.reads_places reads.now (type_names params.now)) }
 {
     for index in 0..reads.len() {
         push_at(found, operand_of(&reads[index]), param_told(params, index))?;
@@ -73,7 +79,9 @@ pub fn push_call<'s>(
     found: &mut Vec<(&'s Operand, &'s str)>,
     call: &'s TCall,
 ) -> Result<(), AllocError>
-    ensures { OnOk result (placed found.new.items ≡ placed found.old.items ++ places_of.call_places (program signatures.now) call.now) }
+    ensures { OnOk result
+        (placed found.new.items
+        ≡ placed found.old.items ++ places_of.call_places (program signatures.now) call.now) }
 {
     match signatures.of(&call.callee) {
         Some(signature) => push_reads(found, call.args.as_slice(), signature.params),
@@ -88,7 +96,9 @@ fn push_fields<'s>(
     asked: Asked<'s, '_>,
     fields: &'s [(Text, Read)],
 ) -> Result<(), AllocError>
-    ensures { OnOk result (placed found.new.items ≡ placed found.old.items ++ places_of.fields_places (asked_of asked.entry) fields.now) }
+    ensures { OnOk result
+        (placed found.new.items
+        ≡ placed found.old.items ++ places_of.fields_places (asked_of asked.entry) fields.now) }
 {
     for field in fields {
         let place = field_told(alloc, asked, field.0.as_str())?;
@@ -104,7 +114,9 @@ pub fn push_computed<'s>(
     found: &mut Vec<(&'s Operand, &'s str)>,
     computed: &'s TExpr,
 ) -> Result<(), AllocError>
-    ensures { OnOk result (placed found.new.items ≡ placed found.old.items ++ places_of.expr_places (program signatures.now) computed.now) }
+    ensures { OnOk result
+        (placed found.new.items
+        ≡ placed found.old.items ++ places_of.expr_places (program signatures.now) computed.now) }
 {
     match computed {
         TExpr::Read(read) | TExpr::Some(read) => push_at(found, operand_of(read), Told::Untold),
@@ -155,7 +167,9 @@ pub fn push_returned<'s>(
     computed: &'s TExpr,
 ) -> Result<(), AllocError>
     ensures { OnOk result (placed found.new.items
-        ≡ placed found.old.items ++ places_of.returned (program signatures.now) (function f.now).kind (function f.now).result computed.now) }
+        ≡ placed found.old.items
+        ++ places_of.returned (program signatures.now) (function f.now).kind (function f.now).result
+        computed.now) }
 {
     match computed {
         TExpr::Read(read) => push_at(found, operand_of(read), plain_told(f)),
@@ -176,7 +190,10 @@ pub fn push_both<'s>(
     a: &'s Operand,
     b: &'s Operand,
 ) -> Result<(), AllocError>
-    ensures { OnOk result (placed found.new.items ≡ placed found.old.items ++ places_of.both_places (function f.now) (tells bound.now) a.now b.now) }
+    ensures { OnOk result
+        (placed found.new.items
+        ≡ placed found.old.items
+        ++ places_of.both_places (function f.now) (tells bound.now) a.now b.now) }
 {
     push_at(found, a, operand_told(f, bound, b))?;
     push_at(found, b, operand_told(f, bound, a))
@@ -190,7 +207,10 @@ pub fn push_pattern<'s>(
     pat: &'s TPat,
     read: &'s Read,
 ) -> Result<(), AllocError>
-    ensures { OnOk result (placed found.new.items ≡ placed found.old.items ++ places_of.pattern_places (function f.now) (tells bound.now) pat.now read.now) }
+    ensures { OnOk result
+        (placed found.new.items
+        ≡ placed found.old.items
+        ++ places_of.pattern_places (function f.now) (tells bound.now) pat.now read.now) }
 {
     match pat {
         TPat::Const(operand) => push_both(f, bound, found, operand, operand_of(read)),

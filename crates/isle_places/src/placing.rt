@@ -21,7 +21,7 @@ struct Walk<'s, 'p> {
     f: &'s Function,
 }
 
-// Appends the places of a pattern, of what it is held against, and in the statements behind it.
+// Appends the places of a pattern, of what it is held against, and in the statements after it.
 #[cycle(placing)]
 fn push_arm<'s>(
     walk: Walk<'s, '_>,
@@ -32,7 +32,9 @@ fn push_arm<'s>(
     inside: &'s [Stmt],
 ) -> Result<(), AllocError>
     ensures more { OnOk result (placed found.new.items
-        ≡ placed found.old.items ++ arm_places (program walk.entry.signatures.now) (function walk.entry.f.now) (tells bound.old) pat.now read.now (body inside.now)) }
+        ≡ placed found.old.items
+        ++ arm_places (program walk.entry.signatures.now) (function walk.entry.f.now)
+        (tells bound.old) pat.now read.now (body inside.now)) }
     ensures kept { OnOk result (tells bound.new ≡ tells bound.old) }
 {
     let count = bound.len();
@@ -55,7 +57,9 @@ fn push_loop<'s>(
     inside: &'s [Stmt],
 ) -> Result<(), AllocError>
     ensures more { OnOk result (placed found.new.items
-        ≡ placed found.old.items ++ body_places (program walk.entry.signatures.now) (function walk.entry.f.now) (told_inside list item (tells bound.old)) (body inside.now)) }
+        ≡ placed found.old.items
+        ++ body_places (program walk.entry.signatures.now) (function walk.entry.f.now)
+        (told_inside list item (tells bound.old)) (body inside.now)) }
     ensures kept { OnOk result (tells bound.new ≡ tells bound.old) }
 {
     let count = bound.len();
@@ -76,8 +80,13 @@ fn push_statement<'s>(
     statement: &'s Stmt,
 ) -> Result<(), AllocError>
     ensures more { OnOk result (placed found.new.items
-        ≡ placed found.old.items ++ stmt_places (program walk.entry.signatures.now) (function walk.entry.f.now) (tells bound.old) (stmt statement.now)) }
-    ensures after { OnOk result (tells bound.new ≡ told_after (program walk.entry.signatures.now) (function walk.entry.f.now) (tells bound.old) (stmt statement.now)) }
+        ≡ placed found.old.items
+        ++ stmt_places (program walk.entry.signatures.now) (function walk.entry.f.now)
+        (tells bound.old) (stmt statement.now)) }
+    ensures after { OnOk result
+        (tells bound.new
+        ≡ told_after (program walk.entry.signatures.now) (function walk.entry.f.now)
+        (tells bound.old) (stmt statement.now)) }
 {
     match statement {
         Stmt::Let(local, computed) => {
@@ -130,7 +139,9 @@ fn push_body<'s>(
     statements: &'s [Stmt],
 ) -> Result<(), AllocError>
     ensures more { OnOk result (placed found.new.items
-        ≡ placed found.old.items ++ body_places (program walk.entry.signatures.now) (function walk.entry.f.now) (tells bound.old) (body statements.now)) }
+        ≡ placed found.old.items
+        ++ body_places (program walk.entry.signatures.now) (function walk.entry.f.now)
+        (tells bound.old) (body statements.now)) }
     ensures kept { OnOk result (tells bound.new ≡ tells bound.old) }
 {
     let count = bound.len();
@@ -149,7 +160,9 @@ pub fn push_places<'s>(
     found: &mut Vec<(&'s Operand, &'s str)>,
     f: &'s Function,
 ) -> Result<(), AllocError>
-    ensures { OnOk result (placed found.new.items ≡ placed found.old.items ++ places (program signatures.now) (function f.now)) }
+    ensures { OnOk result
+        (placed found.new.items
+        ≡ placed found.old.items ++ places (program signatures.now) (function f.now)) }
 {
     let mut bound = Table::new(alloc);
     let walk = Walk {

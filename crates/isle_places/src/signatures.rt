@@ -90,7 +90,8 @@ impl<'p> Signature<'p> {
 
     /// Returns what is told of the list of what a call of the function gives, where it answers several times.
     pub fn answers_told(&self) -> Told<'p>
-        ensures { told result ≡ answers_told (signature self.now).kind (signature self.now).results }
+        ensures { told result
+            ≡ answers_told (signature self.now).kind (signature self.now).results }
     {
         match self.kind {
             ReturnKind::Iterator => several_told(self.results),

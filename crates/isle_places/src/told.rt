@@ -138,7 +138,8 @@ pub fn operand_told<'s>(f: &'s Function, bound: &Table<Told<'s>>, operand: &Oper
 
 /// Returns what is told of the list that a call gives.
 pub fn list_told<'s>(signatures: &'s Signatures<'_>, call: &'s TCall) -> Told<'s>
-    ensures { told result ≡ told_of.list_told (signature_of (program signatures.now) call.now.callee) }
+    ensures { told result
+        ≡ told_of.list_told (signature_of (program signatures.now) call.now.callee) }
 {
     match signatures.of(&call.callee) {
         Some(signature) => signature.answers_told(),
@@ -153,7 +154,9 @@ pub fn expr_told<'s>(
     bound: &Table<Told<'s>>,
     computed: &'s TExpr,
 ) -> Told<'s>
-    ensures { told result ≡ told_of.expr_told (program signatures.now) (function f.now) (tells bound.now) computed.now }
+    ensures { told result
+        ≡ told_of.expr_told (program signatures.now) (function f.now) (tells bound.now)
+        computed.now }
 {
     match computed {
         TExpr::Read(read) => operand_told(f, bound, operand_of(read)),

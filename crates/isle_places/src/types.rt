@@ -82,7 +82,8 @@ fn own_variants<'p>(
     alloc: Global,
     body: &'p TypeBody,
 ) -> Result<BTreeMap<&'p str, FieldsByName<'p>>, AllocError>
-    ensures { IfOk result (λ found. (name : List ℕ) → at_variant found name ≡ variant_fields body.now name) }
+    ensures { IfOk result (λ found.
+        (name : List ℕ) → at_variant found name ≡ variant_fields body.now name) }
 {
     match body {
         TypeBody::Enum(variants) => by_variant(alloc, variants.as_slice()),

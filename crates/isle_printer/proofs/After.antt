@@ -1,4 +1,4 @@
--- A text behind one that ends between tokens: the tokens of both.
+-- A text after one that ends between tokens: the tokens of both.
 use Rattle.std.proofs.Common.{◌≡◌, ℕ, List, [], ◌∷◌, ◌++◌, Bool, true, false, cond, eqb, refl, sym, ap, ◌∙◌, append_assoc, arith}
 use Rattle.std.specs.Prelude.{◌&&◌, ◌||◌, ◌<◌, length, slice_index, fold}
 use Rattle.std.proofs.lemmas.List.{append-nil}

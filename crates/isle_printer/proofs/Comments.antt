@@ -24,18 +24,18 @@ scan-comment : (text rest : List ℕ) → is_line text ≡ true → scan (47 ∷
 unfolding step begun
 scan-comment text rest h = skipped (Comment ∷ []) text rest h
 
--- a comment line is one comment, and nothing is begun behind it
+-- a comment line is one comment, and nothing is begun after it
 scan-comment_alone : (text : List ℕ) → is_line text ≡ true → scan (47 ∷ 47 ∷ (text ++ 10 ∷ [])) ≡ record { tokens = Comment ∷ []; state = Between }
 scan-comment_alone text h = scan-comment text [] h
 
--- a comment more among those of the text behind it
+-- a comment more among those of the text after it
 tokens-comment : (text rest : List ℕ) → is_line text ≡ true → tokens_of (47 ∷ 47 ∷ (text ++ 10 ∷ rest)) ≡ Comment ∷ tokens_of rest
 tokens-comment text rest h =
     ap tokens_of (ap (λ t. 47 ∷ 47 ∷ t) (sym (append_assoc text (10 ∷ []) rest)))
     ∙ tokens-after (47 ∷ 47 ∷ (text ++ 10 ∷ [])) rest (ap (λ s. s.state) (scan-comment_alone text h))
     ∙ ap (λ s. finished s ++ tokens_of rest) (scan-comment_alone text h)
 
--- the tokens behind comment lines are all that is read
+-- the tokens after comment lines are all that is read
 pub tokens-comment_lines : (ls : List (List ℕ)) (rest : List ℕ) → are_lines ls ≡ true → without_comments (tokens_of (comment_lines ls ++ rest)) ≡ without_comments (tokens_of rest)
 tokens-comment_lines [] rest h = refl
 tokens-comment_lines (l ∷ ls) rest h =

@@ -78,7 +78,7 @@ pub word_from : (w : List ℕ) → 0 < length w → list_all is_word_byte w ≡ 
 word_from [] some all = absurd (omega arith)
 word_from (b ∷ w) some all = all
 
--- letters and a number behind them are one word
+-- letters and a number after them are one word
 pub numbered_is_word : (prefix : List ℕ) (b n : ℕ) → 2 ≤ b → b ≤ 16 → list_all is_word_byte prefix ≡ true → is_word (prefix ++ numeral b n) ≡ true
 numbered_is_word prefix b n low high h =
     word_from (prefix ++ numeral b n) (omega (arith, length-append prefix (numeral b n), numeral_not_empty b n low)) (list_all-join prefix _ h (list_all-numeral b n low high))

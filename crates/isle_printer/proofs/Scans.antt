@@ -102,7 +102,7 @@ scan-word s (b ∷ bs) h e =
 pub tokens-word : (s w : List ℕ) → is_word w ≡ true → Ends (scan s).state (slice_index w 0) → tokens_of (s ++ w) ≡ tokens_of s ++ Word w ∷ []
 tokens-word s w h e = ap finished (scan-word s w h e)
 
--- a word behind what ends at each word
+-- a word after what ends at each word
 pub scan-word_apart : (s w : List ℕ) → is_word w ≡ true → EndsAtWord (scan s).state → scan (s ++ w) ≡ record { tokens = finished (scan s); state = InWord w }
 scan-word_apart s [] h e = absurd cc
 scan-word_apart s (b ∷ bs) h e = scan-word s (b ∷ bs) h (e b (and_parts (is_word_byte b) _ h).0)

@@ -11,7 +11,7 @@ abbrev pub are_lines : List (List ℕ) → Bool
 are_lines [] = true
 are_lines (line ∷ lines) = is_line line && are_lines lines
 
--- each text behind two slashes, on a line of its own
+-- each text after two slashes, on a line of its own
 abbrev pub comment_lines : List (List ℕ) → List ℕ
 comment_lines [] = []
 comment_lines (line ∷ lines) = 47 ∷ 47 ∷ (line ++ 10 ∷ comment_lines lines)

@@ -125,6 +125,6 @@ is_mark (a ∷ b ∷ c ∷ bs) = false
 abbrev pub goes_on : ℕ → ℕ → Bool
 goes_on a b = joins a b || ((a == 47) && (b == 47))
 
--- what is begun behind a blank, or behind a mark of one byte
+-- what is begun after a blank, or after a mark of one byte
 abbrev pub left_open : ℕ → State
 left_open b = if is_blank b then Between else AfterMark b

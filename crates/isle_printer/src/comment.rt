@@ -7,7 +7,8 @@ use std::alloc::AllocError;
 
 /// Appends a comment line. A text that holds a line feed is commented out only up to it.
 pub fn push_comment(out: &mut String, text: &str) -> Result<(), AllocError>
-    ensures { OnOk result (string_bytes out.new ≡ string_bytes out.old ++ comment_lines (text.now ∷ [])) }
+    ensures { OnOk result
+        (string_bytes out.new ≡ string_bytes out.old ++ comment_lines (text.now ∷ [])) }
 {
     out.push_str("//")?;
     out.push_str(text)?;

@@ -95,7 +95,7 @@ fn is_blank(b: u8) -> bool
     b == b' ' || b == b'\t' || b == b'\n' || b == b'\r'
 }
 
-// What stays open behind a blank, or behind a mark of one byte.
+// What stays open after a blank, or after a mark of one byte.
 fn left_open(last: u8) -> Last
     ensures { Settles result (left_open last) }
 {
@@ -148,8 +148,12 @@ fn part_from_word(text: &mut String, last: &mut Last) -> Result<(), AllocError>
 fn push_word(text: &mut String, last: &mut Last, word: &str) -> Result<(), AllocError>
     requires word { IsTrue (is_word word.now) }
     requires settled { Settles last.old (scan (string_bytes text.old)).state }
-    ensures ok { OnOk result (tokens_of (string_bytes text.new) ≡ tokens_of (string_bytes text.old) ++ Word word.now ∷ []) }
-    ensures scanned { OnOk result (scan (string_bytes text.new) ≡ record { tokens = tokens_of (string_bytes text.old); state = InWord word.now }) }
+    ensures ok { OnOk result
+        (tokens_of (string_bytes text.new)
+        ≡ tokens_of (string_bytes text.old) ++ Word word.now ∷ []) }
+    ensures scanned { OnOk result
+        (scan (string_bytes text.new)
+        ≡ record { tokens = tokens_of (string_bytes text.old); state = InWord word.now }) }
     ensures settled { Settles last.new (scan (string_bytes text.new)).state }
 {
     part_from_word(text, last)?;
@@ -248,7 +252,8 @@ impl Printer {
         requires high { base ≤ 16 }
         requires prefix { IsTrue (list_all is_word_byte prefix.now) }
         requires ty { IsTrue (list_all is_word_byte ty.now) }
-        ensures { OnOk result (self.new ≡ self.old ++ Word (prefix.now ++ (numeral base n ++ 95 ∷ ty.now)) ∷ []) }
+        ensures { OnOk result
+            (self.new ≡ self.old ++ Word (prefix.now ++ (numeral base n ++ 95 ∷ ty.now)) ∷ []) }
     {
         self.parts.clear();
         self.parts.push_str(prefix)?;
@@ -258,7 +263,7 @@ impl Printer {
         push_word(&mut self.text, &mut self.last, &self.parts)
     }
 
-    /// Prints one word: some letters and behind them a number, as v12. What is printed after an error is left open.
+    /// Prints one word: some letters and after them a number, as v12. What is printed after an error is left open.
     pub fn numbered(&mut self, prefix: &str, n: usize) -> Result<(), AllocError>
         requires { IsTrue (list_all is_word_byte prefix.now) }
         ensures { OnOk result (self.new ≡ self.old ++ Word (prefix.now ++ numeral 10 n) ∷ []) }
@@ -269,7 +274,7 @@ impl Printer {
         push_word(&mut self.text, &mut self.last, &self.parts)
     }
 
-    /// Prints one word: a number's hexadecimal digits behind `0x`. What is printed after an error is left open.
+    /// Prints one word: a number's hexadecimal digits after `0x`. What is printed after an error is left open.
     pub fn hexadecimal(&mut self, n: u128) -> Result<(), AllocError>
         ensures { OnOk result (self.new ≡ self.old ++ Word (codes "0x" ++ numeral 16 n) ∷ []) }
     {
@@ -290,11 +295,12 @@ impl Printer {
         Ok(())
     }
 
-    /// Prints a piece of text as it is: some tokens, and behind them a blank, or a mark of one byte as the last one.
+    /// Prints a piece of text as it is: some tokens, and after them a blank, or a mark of one byte as the last one.
     /// What is printed after an error is left open.
     pub fn piece(&mut self, piece: &str) -> Result<(), AllocError>
         requires begins { 0 < length piece.now }
-        requires ends { (scan piece.now).state ≡ left_open (slice_index piece.now (length piece.now - 1)) }
+        requires ends { (scan piece.now).state
+            ≡ left_open (slice_index piece.now (length piece.now - 1)) }
         ensures { OnOk result (self.new ≡ self.old ++ tokens_of piece.now) }
     {
         let bytes = piece.as_bytes();

@@ -61,7 +61,7 @@ module _ {A B X : Type 0} {P M : Nest → Type 0} {E : X → Nest → Type 0} {D
   fork_right : (x : X) (front : List Lexeme) → Whole D (Then T V) x front → Whole D Fork x front
   fork_right x front w tail d = inr (w tail d)
 
-  -- what both got, and one of two behind it
+  -- what both got, and one of two after it
   fork_both : (a : A) (b : B) (x : X) (f1 f2 : List Lexeme) → Whole Anything S a f1 → Whole Anything T b f1 → Whole D (Either (U a) (V b)) x f2 → Whole D Fork x (f1 ++ f2)
   fork_both a b x f1 f2 s t w tail d = by (w tail d)
     where

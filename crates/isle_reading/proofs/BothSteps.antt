@@ -51,7 +51,7 @@ stop_passes {A = A} E n k s ts (Got a us) e x = absurd (got_not_stops (Got a us)
 stop_passes {A = A} E n k s ts (Stuck us) e (p, x) = (p, us, x, stuck_at {A = A} (Stuck us) us k refl e)
 stop_passes {A = A} E n k s ts (Deep us) e (p, x, v) = (p, us, x, deep_at {A = A} (Deep us) us k refl e)
 
--- ---- from a state of the first kind, with tokens enough; behind what is got nothing is too deep
+-- ---- from a state of the first kind, with tokens enough; after what is got nothing is too deep
 module _ {A B : Type 0} {P M : Nest → Type 0} {n : ℕ} {S : A → List Lexeme → List Lexeme → Type 0} {T : B → List Lexeme → List Lexeme → Type 0}
     (r : Reader A) (q : Reader B) (hr : Law P (λ a. M) Anything n S r) (hq : Law P (λ b. M) Anything n T q)
     (s : Nest) (start : P s) (never : (u : Nest) (us : List Lexeme) → M u → Over u us → ⊥) (ts : List Lexeme) (enough : length ts ≤ n) where

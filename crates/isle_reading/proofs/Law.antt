@@ -133,7 +133,7 @@ then_hits o k w a b mid rest is (hit e) (hit u) = hit (is ∙ ap (λ z. after z 
 then_hits o k w a b mid rest is (hit e) (too_deep q u) = too_deep q (is ∙ ap (λ z. after z k) e ∙ u)
 then_hits o k w a b mid rest is (too_deep q e) y = too_deep q (is ∙ ap (λ z. after z k) e)
 
--- behind tokens that were taken, so that at most m of n are left
+-- after tokens that were taken, so that at most m of n are left
 pub leads_behind : {A : Type 0} (E : A → Nest → Type 0) (n m : ℕ) (q p : Nest) (ts mid : List Lexeme) (o : Reading A) → Passes q ts p mid → (length ts ≤ n → length mid ≤ m) → Nests E m p mid o → Nests E n q ts o
 leads_behind E n m q p ts mid (Got a rest) x short (p2, y, e) = (p2, passes_more x y, e)
 leads_behind E n m q p ts mid (Stuck rest) x short (p2, y) = (p2, passes_more x y)

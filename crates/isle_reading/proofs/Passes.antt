@@ -6,11 +6,11 @@ use Rattle.isle_lexer.specs.Lexeme.{Lexeme}
 use Rattle.isle_reading.specs.Reader.{Reading, Got, Stuck, Deep}
 use Rattle.isle_reading.specs.Nesting.{Nest, nest, deepest, most_open}
 
--- no more are open behind the token than may be
+-- no more are open after the token than may be
 abbrev pub Within : Nest → Lexeme → Type 0
 Within q t = length (nest q t).marks ≤ most_open
 
--- from one state to another by tokens behind none of which more are open than may be
+-- from one state to another by tokens after none of which more are open than may be
 pub data Passes : Nest → List Lexeme → Nest → List Lexeme → Type 0 where
   none : (q : Nest) (ts : List Lexeme) → Passes q ts q ts
   one : (q p : Nest) (t : Lexeme) (ts rest : List Lexeme) → Within q t → Passes (nest q t) ts p rest → Passes q (t ∷ ts) p rest

@@ -23,7 +23,7 @@ stuck_is us rest o e h = cc
 pub deep_is : {A : Type 0} (us rest : List Lexeme) (o : Reading A) → o ≡ Deep us → o ≡ Deep rest → us ≡ rest
 deep_is us rest o e h = cc
 
--- ---- one reader, and behind it the next
+-- ---- one reader, and after it the next
 
 ask-after : {A B : Type 0} (b : Bool) (x : Reading B) (y : Reading A) (ts : List Lexeme) (k : A → List Lexeme → Reading B) → x ≡ after y k → cond b x (Stuck ts) ≡ after (cond b y (Stuck ts)) k
 ask-after true x y ts k e = e
@@ -93,7 +93,7 @@ got_shrinks r ts rest a e =
     let y : length (remains (run r ts)) ≡ length rest = ap (λ o. length (remains o)) e in
     omega (arith, x, y)
 
--- ---- a reader that is stuck at a token is stuck there whatever stands behind that token
+-- ---- a reader that is stuck at a token is stuck there whatever stands after that token
 
 pub not_more : (t : Lexeme) (front us : List Lexeme) → t ∷ (front ++ us) ≡ us → ⊥
 not_more t front us e =

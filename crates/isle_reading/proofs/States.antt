@@ -90,11 +90,11 @@ pub record Inside (ms : List Mark) (q : Nest) : Type 0 where
   pub stands : here q ≡ ms
   pub headed : IsHeaded q.last
 
--- directly behind a parenthesis at the top
+-- directly after a parenthesis at the top
 abbrev pub AtHead : Nest → Type 0
 AtHead q = q ≡ record { marks = Round ∷ []; last = Headless }
 
--- directly behind a word, where an `@` may stand
+-- directly after a word, where an `@` may stand
 abbrev pub Behind : List Mark → Nest → Type 0
 Behind ms q = q ≡ record { marks = ms; last = Other }
 
@@ -221,7 +221,7 @@ passed_over_more k e q t p is =
     let y : length (passed k) ≡ k = passed_length k in
     subst (λ z. most_open < length (nest q z).marks) (sym (open_is t is)) (omega (arith, e, x, y))
 
--- behind its last parenthesis
+-- after its last parenthesis
 pub passed_behind : (q : Nest) → InPassed 0 q → Inside [] q
 passed_behind q p = settled_inside [] q p
 

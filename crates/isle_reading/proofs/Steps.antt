@@ -23,7 +23,7 @@ pub passed : {T A : Type 0} (view : T → A) (result : Result T Fail) (fail : Fa
 passed view (Ok x) fail o rest p h = absurd p
 passed view (Err y) fail o rest p h = subst (λ z. Refuses z o) (sym p) h
 
--- behind what was got, all is as there
+-- after what was got, all is as there
 pub bind_got : {A B : Type 0} (r : Reader A) (k : A → Reader B) (ts us : List Lexeme) (a : A) → run r ts ≡ Got a us → run (bind r k) ts ≡ run (k a) us
 bind_got r k ts us a e = run-bind r k ts ∙ ap (λ z. after z (λ a us. run (k a) us)) e
 
@@ -40,14 +40,14 @@ refuses_after code.Memory o f h = tt
 pub bind_refuses : {A B : Type 0} (fail : Fail) (r : Reader A) (k : A → Reader B) (ts : List Lexeme) → Refuses fail (run r ts) → Refuses fail (run (bind r k) ts)
 bind_refuses fail r k ts h = subst (Refuses fail) (sym (run-bind r k ts)) (refuses_after fail (run r ts) (λ a us. run (k a) us) h)
 
--- behind what was got, the rest as there
+-- after what was got, the rest as there
 pub then_got : {A B : Type 0} (r : Reader A) (k : A → Reader B) (ts us : List Lexeme) (a : A) (o : Reading B) → run r ts ≡ Got a us → run (k a) us ≡ o → run (bind r k) ts ≡ o
 then_got r k ts us a o e h = bind_got r k ts us a e ∙ h
 
 pub then_refuses : {A B : Type 0} (fail : Fail) (r : Reader A) (k : A → Reader B) (ts us : List Lexeme) (a : A) → run r ts ≡ Got a us → Refuses fail (run (k a) us) → Refuses fail (run (bind r k) ts)
 then_refuses fail r k ts us a e h = subst (Refuses fail) (sym (bind_got r k ts us a e)) h
 
--- behind what was got, the last result says what comes of both
+-- after what was got, the last result says what comes of both
 pub then_comes : {T A B : Type 0} (view : T → B) (result : Result T Fail) (rest : List Lexeme) (r : Reader A) (k : A → Reader B) (ts us : List Lexeme) (a : A) → run r ts ≡ Got a us → Comes view result (run (k a) us) rest
     → Comes view result (run (bind r k) ts) rest
 then_comes view result rest r k ts us a e h = subst (λ o. Comes view result o rest) (sym (bind_got r k ts us a e)) h

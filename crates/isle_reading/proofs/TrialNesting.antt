@@ -32,7 +32,7 @@ closed_list = refl
 pub nested_signs : depth (o ∷ w (codes "rule") ∷ o ∷ w (codes "f") ∷ w (codes "x") ∷ a ∷ o ∷ w (codes "g") ∷ w (codes "y") ∷ a ∷ o ∷ w (codes "h") ∷ []) ≡ 6
 nested_signs = refl
 
--- (rule (f x @ y) (g (h : behind the list no `@` is open
+-- (rule (f x @ y) (g (h : after the list no `@` is open
 pub behind_list : depth (o ∷ w (codes "rule") ∷ o ∷ w (codes "f") ∷ w (codes "x") ∷ a ∷ w (codes "y") ∷ c ∷ o ∷ w (codes "g") ∷ o ∷ w (codes "h") ∷ []) ≡ 3
 behind_list = refl
 
@@ -40,7 +40,7 @@ behind_list = refl
 pub passed_list : depth (o ∷ w (codes "spec") ∷ o ∷ w (codes "f") ∷ w (codes "x") ∷ a ∷ w (codes "y") ∷ a ∷ w (codes "z") ∷ c ∷ a ∷ o ∷ w (codes "g") ∷ o ∷ w (codes "h") ∷ []) ≡ 3
 passed_list = refl
 
--- (spec) (rule x @ : behind it they count again
+-- (spec) (rule x @ : after it they count again
 pub behind_passed : depth (o ∷ w (codes "spec") ∷ c ∷ o ∷ w (codes "rule") ∷ w (codes "x") ∷ a ∷ []) ≡ 2
 behind_passed = refl
 

@@ -112,7 +112,7 @@ unfoldable pub many : {A : Type 0} → ℕ → Reader A → Reader (List A)
 many zero r = End refuse Halt
 many (suc n) r = Peek is_close (bind read_close (λ c. Ret [])) (bind r (λ a. bind (many n r) (λ others. Ret (a ∷ others))))
 
--- values up to the closing parenthesis, at least one, with at most n tokens behind the first
+-- values up to the closing parenthesis, at least one, with at most n tokens after the first
 abbrev pub some : {A : Type 0} → ℕ → Reader A → Reader (List A)
 some n r = bind r (λ a. bind (many n r) (λ others. Ret (a ∷ others)))
 
@@ -157,7 +157,7 @@ first_done a (Peek fits then_so else_so) = End (Ret (OnlyFirst a)) (Peek fits (f
 first_done a (End done more) = End (first_done a done) (first_done a more)
 first_done a Halt = Halt
 
--- the token behind which both read on, or one of them
+-- the token after which both read on, or one of them
 abbrev pub go_on : {A B : Type 0} → Bool → Bool → Reader (Both A B) → Reader (Both A B) → Reader (Both A B) → Reader (Both A B)
 go_on true true together first second = together
 go_on true false together first second = first
@@ -173,7 +173,7 @@ first_asks fits next together (Peek others then_so else_so) = Peek others (first
 first_asks fits next together (End done more) = End (first_asks fits next together done) (first_asks fits next together more)
 first_asks fits next together Halt = Halt
 
--- both readers, token by token, up to where one of them is done; one that is stuck is left behind
+-- both readers, token by token, up to where one of them is done; one that is stuck is left after
 unfoldable pub both : {A B : Type 0} → Reader A → Reader B → Reader (Both A B)
 both (Ret a) q = first_done a q
 both (Ask fits next) q = first_asks fits next (λ t. both (next t)) q

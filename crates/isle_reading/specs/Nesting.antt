@@ -1,4 +1,4 @@
--- How deep a token nests: the parentheses and `@` that are open behind it.
+-- How deep a token nests: the parentheses and `@` that are open after it.
 use Rattle.std.specs.Prelude.{ℕ, max, List, [], ◌∷◌, Bool, ◌||◌, if◌then◌else◌, length, bytes_eq, codes}
 use Rattle.isle_lexer.specs.Lexeme.{Lexeme, Open, Close, At, Less, Greater, Word}
 
@@ -34,7 +34,7 @@ is_passed w =
     bytes_eq w (codes "spec") || bytes_eq w (codes "model") || bytes_eq w (codes "form")
     || bytes_eq w (codes "instantiate") || bytes_eq w (codes "attr") || bytes_eq w (codes "state")
 
--- the `@` behind whose patterns a token stands are closed
+-- the `@` after whose patterns a token stands are closed
 abbrev pub settled : List Mark → List Mark
 settled [] = []
 settled (Round ∷ ms) = Round ∷ ms
@@ -75,7 +75,7 @@ abbrev pub passed_over : List Mark → List Mark
 passed_over [] = []
 passed_over (m ∷ ms) = Passed ∷ ms
 
--- the marks behind a word
+-- the marks after a word
 abbrev pub worded : Last → List ℕ → List Mark → List Mark
 worded Headless w ms = if is_passed w then passed_over ms else ms
 worded Awaiting w ms = ms
@@ -90,7 +90,7 @@ nest s (Less at) = record { marks = here s; last = Other }
 nest s (Greater at) = record { marks = here s; last = Other }
 nest s (Word at w) = record { marks = worded s.last w s.marks; last = Other }
 
--- how many marks are open at most behind one of these tokens
+-- how many marks are open at most after one of these tokens
 abbrev pub deepest : Nest → List Lexeme → ℕ
 deepest s [] = 0
 deepest s (t ∷ ts) = max (length (nest s t).marks) (deepest (nest s t) ts)

@@ -12,7 +12,7 @@ Accepted {A = A} S ts = (a : A) × S a ts []
 abbrev pub Starts : (List Lexeme → Type 0) → List Lexeme → Type 0
 Starts accepted ts = (others : List Lexeme) × accepted (ts ++ others)
 
--- why tokens go wrong behind those in front
+-- why tokens go wrong after those in front
 pub data GoesWrong (accepted : List Lexeme → Type 0) (front rest : List Lexeme) : Type 0 where
   -- nothing accepted begins with them and the next token
   wrong : (t : Lexeme) (behind : List Lexeme) → rest ≡ t ∷ behind → (Starts accepted (front ++ t ∷ []) → ⊥) → GoesWrong accepted front rest

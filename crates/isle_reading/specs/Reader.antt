@@ -1,8 +1,8 @@
--- Readers of tokens, as trees of questions: what a reader takes next hangs on what it took, and on nothing behind it.
+-- Readers of tokens, as trees of questions: what a reader takes next hangs on what it took, and on nothing after it.
 use Rattle.std.specs.Prelude.{List, [], ◌∷◌, Bool, if◌then◌else◌}
 use Rattle.isle_lexer.specs.Lexeme.{Lexeme}
 
--- what comes of reading: a value and the tokens behind it; or what is left from the token on that fits nothing, or nests too deep
+-- what comes of reading: a value and the tokens after it; or what is left from the token on that fits nothing, or nests too deep
 pub data Reading (A : Type 0) : Type 0 where
   Got : A → List Lexeme → Reading A
   Stuck : List Lexeme → Reading A
@@ -21,7 +21,7 @@ pub data Reader (A : Type 0) : Type 0 where
   -- too deep here
   Halt : Reader A
 
--- goes on behind what was got
+-- goes on after what was got
 abbrev pub after : {A B : Type 0} → Reading A → (A → List Lexeme → Reading B) → Reading B
 after (Got a ts) next = next a ts
 after (Stuck ts) next = Stuck ts
@@ -38,7 +38,7 @@ run (End done more) [] = run done []
 run (End done more) (t ∷ ts) = run more (t ∷ ts)
 run Halt ts = Deep ts
 
--- one reader, and behind it the next, which hangs on what was got
+-- one reader, and after it the next, which hangs on what was got
 unfoldable pub bind : {A B : Type 0} → Reader A → (A → Reader B) → Reader B
 bind (Ret a) next = next a
 bind (Ask fits more) next = Ask fits (λ t. bind (more t) next)

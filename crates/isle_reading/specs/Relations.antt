@@ -2,7 +2,7 @@
 use Rattle.std.specs.Prelude.{◌≡◌, ℕ, suc, List, [], ◌∷◌, ◌++◌, Option, Some}
 use Rattle.isle_lexer.specs.Lexeme.{Lexeme, Close, Word}
 
--- which value some tokens begin with, and which tokens are behind it
+-- which value some tokens begin with, and which tokens are after it
 abbrev pub Relation : Type 0 → Type 1
 Relation A = A → List Lexeme → List Lexeme → Type 0
 
@@ -30,7 +30,7 @@ Anything ts = Unit {0}
 abbrev pub Ended : List Lexeme → Type 0
 Ended ts = ts ≡ []
 
--- things of a kind, and the parenthesis behind them
+-- things of a kind, and the parenthesis after them
 pub data Many {A : Type 0} (S : A → List Lexeme → List Lexeme → Type 0) : List A → List Lexeme → List Lexeme → Type 0 where
   none : (at : ℕ) (ts : List Lexeme) → Many S [] (Close at ∷ ts) ts
   more : (a : A) (others : List A) (ts mid rest : List Lexeme) → S a ts mid → Many S others mid rest → Many S (a ∷ others) ts rest

@@ -112,7 +112,7 @@ impl<'t> Tokens<'t> {
         self.all.get(self.next).copied()
     }
 
-    /// Goes on behind the next token.
+    /// Goes on after the next token.
     pub fn skip(&mut self)
         requires { 0 < length (left self.old) }
         ensures { left self.new ≡ drop 1 (left self.old) }

@@ -36,7 +36,7 @@ paths_more bs items b p is over = ap paths_of is ∙ fold_push add_path [] bs b 
 last_there : (bs items : List Binding) (p : Path) (m : ℕ) → paths_of items ≡ paths_of bs ++ p ∷ [] → m ≡ length bs → slice_get (paths_of items) m ≡ Some p
 last_there bs items p m paths long = ap (λ ps. slice_get ps m) paths ∙ ap (slice_get (paths_of bs ++ p ∷ [])) (long ∙ sym (long_paths bs)) ∙ get_last (paths_of bs) p
 
--- a numbering behind a path that is new
+-- a numbering after a path that is new
 call_pushed : (n : Numbered) (items : List Binding) (numbers : Key → Option BindingId) (p : Path) (k : ℕ) → AreNumbered n numbers → paths_of items ≡ paths_of n.bindings ++ p ∷ [] → n.calls ≤ k → k ≤ length items → IsCallUpTo k p → (Contains (paths_of n.bindings) p → ⊥)
     → AreNumbered (record { bindings = items; calls = k; lists = n.lists }) numbers
 call_pushed n items numbers p k a paths le few is new = record {
@@ -64,7 +64,7 @@ none_later n numbers p m a is no_call c =
 
 -- ---- calls
 
--- what a numbering is behind a call
+-- what a numbering is after a call
 pub call_more : (old : Numbered) (items : List Binding) (numbers : Key → Option BindingId) (term : TermId) (bs : List BindingId) (m k : ℕ) → AreNumbered old numbers → k ≡ suc old.calls → m ≡ length old.bindings
     → items ≡ old.bindings ++ binding.Constructor term bs k ∷ [] → AreNumbered (record { bindings = items; calls = k; lists = old.lists }) numbers × Calls old (record { bindings = items; calls = k; lists = old.lists }) (next_call old term bs) return_kind.Plain (suc old.calls) (record { 0 = m }) (record { 0 = m })
 call_more old items numbers term bs m k a count long is = (
@@ -161,7 +161,7 @@ value_more old mid new p kind n call number value h m = record {
   lists = m.lists ∙ ap (λ ls. ls ++ listed_by kind number) (h.lists ∙ append-nil old.lists);
 }
 
--- a call behind which its value was numbered
+-- a call after which its value was numbered
 pub call_valued : (old mid new : Numbered) (p : Path) (kind : ReturnKind) (n : ℕ) (call value : BindingId) → Calls old mid p return_kind.Plain n call call → Calls mid new (at (paths_of mid.bindings) call) kind mid.calls call value → Calls old new p kind n call value
 call_valued old mid new p kind n call value h m = value_more old mid new p kind n call call value h (subst (λ q. Calls mid new q kind mid.calls call value) (at_get (paths_of mid.bindings) call.0 p h.found) m)
 

@@ -1,4 +1,4 @@
--- An expression of a condition calls only pure terms: its paths are the same behind any impure calls, it makes none, and its
+-- An expression of a condition calls only pure terms: its paths are the same after any impure calls, it makes none, and its
 -- calls in order are those that must find something.
 use Rattle.std.proofs.Common.{◌≡◌, ℕ, ◌+◌, List, [], ◌∷◌, ◌++◌, map, Bool, true, false, cond, Option, Some, None, refl, sym, ap, ◌∙◌, subst, arith}
 use Rattle.std.specs.Prelude.{◌||◌, IsSomeAnd, slice_get, filter}
@@ -145,7 +145,7 @@ module _ (env : Environment) (terms : List Term) (same : env.terms ≡ terms) wh
         let second = bindings_none_impure bs h.1 in
         omega (arith, first, second)
 
-  -- ---- the paths are the same behind any impure calls
+  -- ---- the paths are the same after any impure calls
 
   mutual
     pub path_same : (e : Expr) (places : Places) (n m : ℕ) → HasTerms IsPureKind terms e → path env e places n ≡ path env e places m

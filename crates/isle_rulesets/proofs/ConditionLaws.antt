@@ -45,7 +45,7 @@ use Rattle.isle_rulesets.proofs.VariablePlaces.{AreLone, place_lone}
 pub finds_none : (d : PatternTests) (bs : List BindingId) → FindsAll d d (take 0 bs)
 finds_none d bs ps places ts h = subst (λ us. HasTests ps places us d) (sym (append-nil ts)) h
 
--- behind the next one of the code's list
+-- after the next one of the code's list
 pub finds_next : (d e f : PatternTests) (bs : List BindingId) (i : ℕ) (b : BindingId) → i < length bs → b ≡ get_or bs i b → FindsAll d e (take i bs) → ((ps : List Path) (places : Places) (ts : List Test) → HasTests ps places ts e → HasTests ps places (ts ++ is_something (at ps b) ∷ []) f)
     → FindsAll d f (take (i + 1) bs)
 finds_next d e f bs i b lt is h k ps places ts g =
@@ -53,7 +53,7 @@ finds_next d e f bs i b lt is h k ps places ts g =
     let more : found_at ps (take (i + 1) bs) ≡ found_at ps (take i bs) ++ is_something (at ps b) ∷ [] = ap (map is_something) one ∙ map-append is_something (map (at ps) (take i bs)) (at ps b ∷ []) in
     subst (λ us. HasTests ps places us f) (append_assoc ts (found_at ps (take i bs)) (is_something (at ps b) ∷ []) ∙ ap (λ us. ts ++ us) (sym more)) (k ps places (ts ++ found_at ps (take i bs)) (h ps places ts g))
 
--- behind the last one
+-- after the last one
 pub finds_all : (d e : PatternTests) (bs : List BindingId) (i : ℕ) → length bs ≤ i → FindsAll d e (take i bs) → FindsAll d e bs
 finds_all d e bs i le h = subst (FindsAll d e) (take_all i bs le) h
 
@@ -145,7 +145,7 @@ mutual
   let_wider NoBinding old new f = f
   let_wider (ABinding x ty e bs) old new f = let_wider bs (old ++ x.0 ∷ []) (new ++ x.0 ∷ []) (one_wider old new x.0 f)
 
--- what is in scope behind a rule's conditions has numbers for its variables
+-- what is in scope after a rule's conditions has numbers for its variables
 scope_named : (terms : List Term) (old now : Numbered) (r : Rule) (d : PatternTests) → IsBuiltRule terms r → NumbersRule (env_of terms) old now r d → (e : Expr) → IsInScope (iflets_scope (all_variables r.args) r.iflets) e → IsInScope (names d.variables) e
 scope_named terms old now r d b h e k =
     scope_wider e (iflets_scope (all_variables r.args) r.iflets) (names d.variables)
@@ -253,11 +253,11 @@ split_at (c ∷ cs) (suc i) = ap (λ xs. iflet c ∷ xs) (split_at cs i)
 one_more : (cs : List CodeIfLet) (i : ℕ) (x : CodeIfLet) → i < length cs → x ≡ get_or cs i x → map iflet (take (i + 1) cs) ≡ map iflet (take i cs) ++ iflet x ∷ []
 one_more cs i x lt is = map_more iflet cs i x lt ∙ ap (λ y. map iflet (take i cs) ++ iflet y ∷ []) (sym is)
 
--- the conditions in front of the next one, it, and those behind it
+-- the conditions in front of the next one, it, and those after it
 split_here : (cs : List CodeIfLet) (i : ℕ) (x : CodeIfLet) → i < length cs → x ≡ get_or cs i x → map iflet cs ≡ map iflet (take i cs) ++ iflet x ∷ map iflet (drop (i + 1) cs)
 split_here cs i x lt is = split_at cs i ∙ ap (λ ys. map iflet (take i cs) ++ map iflet ys) (drop_more cs i x lt ∙ ap (λ y. y ∷ drop (i + 1) cs) (sym is))
 
--- behind so many conditions
+-- after so many conditions
 abbrev pub SoFar : List Term → Numbered → Rule → List CodeIfLet → Numbered → PatternTests → ℕ → Type 0
 SoFar terms old r cs now d i = NumbersRuleIn terms old now (with_iflets r (map iflet (take i cs))) d
 
@@ -288,7 +288,7 @@ module _ (terms : List Term) (old : Numbered) (r : Rule) (cs : List CodeIfLet) (
   pub behind_there : (now : Numbered) (d : PatternTests) (i : ℕ) → SoFar terms old r cs now d i → AreThere (paths_of now.bindings) d.variables
   behind_there now d i h = stand_there (paths_of now.bindings) d.variables (rule_places (env_of terms) (with_iflets r (map iflet (take i cs)))) (h (env_of terms) refl).stand
 
-  -- behind the arguments
+  -- after the arguments
   pub behind_first : (mid : Numbered) (d : PatternTests) → ((env : Environment) → env.terms ≡ terms → NumbersPatterns env old mid r.args d) → SoFar terms old r cs mid d 0
   behind_first mid d numbered env same = record {
     joins = subst (λ ps. Joins old mid ps (args_lists env r.args 0 ++ [])) (sym (append-nil (args_paths env r.args 0))) (subst (Joins old mid (args_paths env r.args 0)) (sym (append-nil (args_lists env r.args 0))) h.joins);
@@ -305,7 +305,7 @@ module _ (terms : List Term) (old : Numbered) (r : Rule) (cs : List CodeIfLet) (
       has : (ps : List Path) → Extends (paths_of mid.bindings) ps → HasTests ps (args_after env r.args 0 no_places) (args_tests env r.args 0 no_places ++ []) d
       has ps x = subst (λ ts. HasTests ps (args_after env r.args 0 no_places) ts d) (sym (append-nil (args_tests env r.args 0 no_places))) (h.tests ps x)
 
-  -- behind the next condition
+  -- after the next condition
   pub behind_next : (now new : Numbered) (d e : PatternTests) (i : ℕ) (x : CodeIfLet) → i < length cs → x ≡ get_or cs i x → SoFar terms old r cs now d i → ((env : Environment) → env.terms ≡ terms → TakesCondition env now new d e (iflet x)) → SoFar terms old r cs new e (i + 1)
   behind_next now new d e i x lt is h t env same =
       let front = map iflet (take i cs) in
@@ -314,7 +314,7 @@ module _ (terms : List Term) (old : Numbered) (r : Rule) (cs : List CodeIfLet) (
       subst (λ ys. NumbersRule env old new (with_iflets r ys) e) (sym (one_more cs i x lt is))
       (rule_next env old now new d e r front (iflet x) (subst (λ ys. AreLone env (rule_places env (with_iflets r ys))) (one_more cs i x lt is) lone) untimed (h env same) (t env same))
 
-  -- behind the last one
+  -- after the last one
   pub behind_all : (now : Numbered) (d : PatternTests) (i : ℕ) → length cs ≤ i → SoFar terms old r cs now d i → NumbersRuleIn terms old now (with_iflets r (map iflet cs)) d
   behind_all now d i le h = subst (λ ys. NumbersRuleIn terms old now (with_iflets r (map iflet ys)) d) (take_all i cs le) h
 

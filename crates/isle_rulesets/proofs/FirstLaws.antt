@@ -80,7 +80,7 @@ firsts_map f (first seen x xs ys c h) apart =
 
 -- ---- one item after another
 
--- whatever the firsts of the rest are, they stand behind those found
+-- whatever the firsts of the rest are, they stand after those found
 abbrev pub FirstsSoFar : {A : Type 0} → List A → List A → List A → ℕ → Type 0
 FirstsSoFar {A} items seen found i = (ys : List A) → AreFirsts seen (drop i items) ys → AreFirsts [] items (found ++ ys)
 
@@ -100,7 +100,7 @@ first_new items seen known found more i x lt is c to from longer h ys g =
     (subst (AreFirsts [] items) (sym (append_assoc found (x ∷ []) ys))
     (h (x ∷ ys) (subst (λ xs. AreFirsts seen xs (x ∷ ys)) (sym (left_is items i x lt is)) (first seen x (drop (i + 1) items) ys c (firsts_same (x ∷ seen) g to from)))))
 
--- behind the last item
+-- after the last item
 pub first_all : {A : Type 0} (items seen found : List A) (i : ℕ) → length items ≤ i → FirstsSoFar items seen found i → AreFirsts [] items found
 first_all items seen found i le h = subst (AreFirsts [] items) (append-nil found) (h [] (subst (λ xs. AreFirsts seen xs []) (sym (drop_all i items le)) (no_more seen)))
 

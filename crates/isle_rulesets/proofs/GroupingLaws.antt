@@ -137,7 +137,7 @@ sets_skip terms rs n g sets e none below env same =
       stand = h.stand;
     }
 
--- behind the last group
+-- after the last group
 pub sets_over : (types : TypeEnv) (terms : TermEnv) (n : ℕ) (sets : List (TermId × RuleSet)) → n ≡ length terms.terms → SetsIn terms.terms (map rule terms.rules) n sets → AreRuleSets (environment types terms) sets
 sets_over types terms n sets many below =
     let h = below (environment types terms) refl in

@@ -240,7 +240,7 @@ path_same ps (key.MatchSome a) (key.MatchSome b) once h g e = some_path_same ps 
 path_same ps (key.MatchTuple a i) (key.MatchTuple b j) once h g e = tuple_path_same ps a b i j once h g e
 path_same ps k q once h g e = cc
 
--- ---- behind more paths
+-- ---- after more paths
 
 pub parts_kept : (ps qs : List Path) (k : Key) → Extends ps qs → HasParts ps k → HasParts qs k
 parts_kept ps qs (key.Argument a) x h = tt

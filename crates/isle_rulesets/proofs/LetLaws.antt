@@ -167,7 +167,7 @@ lets_push env places then old mid new before middle after bs c b g h = record {
 pub lets_first : (terms : List Term) (variables : Variables) (n : Numbered) (bs : List BindingId) → Binds terms variables variables n n bs bs NoBinding
 lets_first terms variables n bs = record { more = []; longer = sym (append-nil variables); known = refl; numbers = λ env places t s. record { grows = grows_self n bs; stand = s } }
 
--- behind the next one
+-- after the next one
 pub lets_next : (terms : List Term) (variables then longer : Variables) (old mid new : Numbered) (before middle after : List BindingId) (es : List LetBinding) (i : ℕ) (x : LetBinding) (b : BindingId) → i < length es → x ≡ get_or es i x
     → Binds terms variables then old mid before middle (bindings_of (map bound (take i es))) → Given terms then mid new middle after (expr x.val) b → longer ≡ then ++ (x.var.0, b) ∷ []
     → Binds terms variables longer old new before after (bindings_of (map bound (take (i + 1) es)))
@@ -183,11 +183,11 @@ lets_next terms variables then longer old mid new before middle after es i x b l
           lets_push env places then old mid new before middle after (map bound (take i es)) (bound x) b n (h env (let_places env (bindings_of (map bound (take i es))) places old.calls) t n.stand);
     }))
 
--- behind the last one
+-- after the last one
 pub lets_all : (terms : List Term) (variables then : Variables) (old new : Numbered) (before after : List BindingId) (es : List LetBinding) (i : ℕ) → length es ≤ i → Binds terms variables then old new before after (bindings_of (map bound (take i es))) → Binds terms variables then old new before after (bindings_of (map bound es))
 lets_all terms variables then old new before after es i le h = subst (λ xs. Binds terms variables then old new before after (bindings_of (map bound xs))) (take_all i es le) h
 
--- a path stands at the number of each variable behind them
+-- a path stands at the number of each variable after them
 pub lets_there : (terms : List Term) (variables then : Variables) (old new : Numbered) (before after : List BindingId) (bs : LetBindings) → AreThere (paths_of old.bindings) variables → Binds terms variables then old new before after bs → AreThere (paths_of new.bindings) then
 lets_there terms variables then old new before after bs h g =
     let places = places_of (paths_of old.bindings) variables in
@@ -207,7 +207,7 @@ let_terms terms (y ∷ es) (suc i) x h lt is = let_terms terms es i x h.1 (omega
 
 -- ---- a `let`
 
--- what it gives, behind its values
+-- what it gives, after its values
 pub let_given : (terms : List Term) (variables then : Variables) (old mid new : Numbered) (before middle after : List BindingId) (e inner : Expr) (ty : TypeId) (bs : LetBindings) (b : BindingId) → e ≡ pure.Let ty bs inner → Binds terms variables then old mid before middle bs → Given terms then mid new middle after inner b
     → Given terms variables old new before after e b
 let_given terms variables then old mid new before middle after e inner ty bs b is g h env places t s =

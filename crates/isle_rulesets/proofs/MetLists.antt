@@ -31,7 +31,7 @@ use Rattle.isle_rulesets.proofs.VariablePlaces.{AreLone, IsLoneOpening, opening_
 skipped : (env : Environment) (p : Path) (ps : List Path) → calls_multi env p ≡ false → filter (calls_multi env) (p ∷ ps) ≡ filter (calls_multi env) ps
 skipped env p ps e = ap (λ b. cond b (p ∷ filter (calls_multi env) ps) (filter (calls_multi env) ps)) e
 
--- one behind the other
+-- one after the other
 both : (env : Environment) (ps qs ls ms : List Path) → filter (calls_multi env) ps ≡ ls → filter (calls_multi env) qs ≡ ms → filter (calls_multi env) (ps ++ qs) ≡ ls ++ ms
 both env ps qs ls ms h k = filter-append (calls_multi env) ps qs ∙ ap (λ rs. rs ++ filter (calls_multi env) qs) h ∙ ap (λ rs. ls ++ rs) k
 
@@ -139,7 +139,7 @@ iflets_met env (c ∷ cs) places b r w =
     (both env (expr_paths env c.rhs places 0) (pattern_paths env c.lhs p) (expr_lists env c.rhs places 0) (pattern_lists env c.lhs p) (expr_met c.rhs env env.terms places 0 refl (lone_plain env places w) (terms_built c.rhs env.terms b.0.calls)) (pattern_met c.lhs env p b.0.lhs))
     (iflets_met env cs rest b.1 r.1 (after_lone c.lhs env p places b.0.lhs r.0 w))
 
--- those of a rule, behind n impure calls
+-- those of a rule, after n impure calls
 pub lists_met : (env : Environment) (terms : List Term) (r : Rule) (n : ℕ) → env.terms ≡ terms → IsBuiltRule env.terms r → IsScopedRule r → CallsBuiltTerms terms r
     → rule_iterators env r n ≡ args_lists env r.args 0 ++ (iflets_lists env r.iflets (args_after env r.args 0 no_places) ++ expr_lists env r.rhs (rule_places env r) n)
 lists_met env terms r n same b s i =

@@ -27,7 +27,7 @@ paths_push bs k = fold_push add_path [] bs (key_binding k)
 
 -- ---- interning
 
--- what is known behind one key more
+-- what is known after one key more
 pub record Puts (old new : Key → Option BindingId) (k : Key) (b : BindingId) : Type 0 where
   pub at : new k ≡ Some b
   pub others : (q : Key) → new q ≡ cond (is_eq (key_cmp k q)) (Some b) (old q)
@@ -38,7 +38,7 @@ some_same x y e = cc
 none_some : {A : Type 0} (x : A) → None ≡ Some x → ⊥
 none_some x e = cc
 
--- the paths that stand behind a new key, and its number
+-- the paths that stand after a new key, and its number
 found_there : (ps qs : List Path) (old : Key → Option BindingId) (k : Key) (n b : BindingId) (q : Key) (t : Bool) → (old q ≡ Some b → HasParts ps q × (slice_get ps b.0 ≡ Some (key_path ps q))) → HasParts ps k → qs ≡ ps ++ key_path ps k ∷ [] → n.0 ≡ length ps
     → is_eq (key_cmp k q) ≡ t → cond t (Some n) (old q) ≡ Some b → HasParts qs q × (slice_get qs b.0 ≡ Some (key_path qs q))
 found_there ps qs old k n b q true found parts is l e h =
@@ -60,7 +60,7 @@ paths_length : (bs : List Binding) (ps : List Path) → length (fold add_path ps
 paths_length [] ps = omega arith
 paths_length (b ∷ bs) ps = paths_length bs (add_path ps b) ∙ simp length-append (omega arith)
 
--- ---- one path more stands behind the others
+-- ---- one path more stands after the others
 
 pub long_paths : (bs : List Binding) → length (paths_of bs) ≡ length bs
 long_paths bs = omega (arith, paths_length bs [])
@@ -81,7 +81,7 @@ once_push xs x h new = append_once xs (x ∷ []) h (none_contained x, tt) (λ y 
 
 -- ---- what is known
 
--- what is found among the keys behind the arguments
+-- what is found among the keys after the arguments
 map_others : (count : ℕ) (old new : BTreeMap Key BindingId) (k q : Key) (b : BindingId) (t : Bool) → known count old k ≡ None → Updates key_cmp old new k (Some b) → is_eq (key_cmp k q) ≡ t → known count new k ≡ Some b → known count new q ≡ cond t (Some b) (known count old q)
 map_others count old new k q b true none u e is = ap (known count new) (sym (key_same k q e)) ∙ is
 map_others count old new k (key.Argument i) b false none u e is = ap (cond (nat_lt i count) (Some (record { 0 = i }))) (u.0 (key.Argument i) ∙ rw e refl)
@@ -165,7 +165,7 @@ argument_puts count numbers number (key.Iterator a) is = absurd cc
 argument_puts count numbers number (key.MatchSome a) is = absurd cc
 argument_puts count numbers number (key.MatchTuple a i) is = absurd cc
 
--- what a numbering is behind a new key
+-- what a numbering is after a new key
 pub numbered_more : (old : Numbered) (items : List Binding) (numbers new : Key → Option BindingId) (k : Key) (n : ℕ) → AreNumbered old numbers → HasParts (paths_of old.bindings) k → numbers k ≡ None → n ≡ length old.bindings → items ≡ old.bindings ++ key_binding k ∷ []
     → Puts numbers new k (record { 0 = n }) → AreNumbered (record { bindings = items; calls = old.calls; lists = old.lists }) new × Numbers old (record { bindings = items; calls = old.calls; lists = old.lists }) (key_path (paths_of old.bindings) k) (record { 0 = n })
 numbered_more old items numbers new k n a parts none l is u = (
@@ -215,7 +215,7 @@ numbered_more old items numbers new k n a parts none l is u = (
         let same : n ≡ b = long ∙ sym h.0 in
         (k, sym h.1 ∙ sym (path_kept ps (paths_of items) k more parts), u.at ∙ ap (λ x. Some (record { 0 = x })) same)
 
--- and behind the next argument
+-- and after the next argument
 pub argument_more : (old : Numbered) (items : List Binding) (numbers : BTreeMap Key BindingId) (k : Key) (count n m : ℕ) → AreNumbered old (known count numbers) → HasParts (paths_of old.bindings) k → known count numbers k ≡ None → n ≡ length old.bindings
     → items ≡ old.bindings ++ key_binding k ∷ [] → m ≡ length items → is_next count n k ≡ true
     → AreNumbered (record { bindings = items; calls = old.calls; lists = old.lists }) (known m numbers) × Numbers old (record { bindings = items; calls = old.calls; lists = old.lists }) (key_path (paths_of old.bindings) k) (record { 0 = n })

@@ -114,7 +114,7 @@ takes_prim r terms n d e q b ty v is h = takes_test r terms n d e q b (constrain
 pub takes_wildcard : (terms : List Term) (n : Numbered) (d : PatternTests) (q : Pattern) (b : BindingId) (ty : TypeId) → q ≡ pure.Wildcard ty → TakesIn terms n n d d q b
 takes_wildcard terms n d q b ty is env same p there = subst (λ s. Reads n n d d (pattern_paths env s p) (pattern_lists env s p) (after env s p) (tests env s p)) (sym is) (reads_self n d)
 
--- a variable that is met, and then what stands behind the `@`
+-- a variable that is met, and then what stands after the `@`
 pub takes_bind : {T E : Type 0} (r : Result T E) (terms : List Term) (old new : Numbered) (d mid e : PatternTests) (q : Pattern) (b : BindingId) (ty : TypeId) (x : VarId) (inner : Pattern) → q ≡ pure.BindPattern ty x inner
     → Steps d mid b (λ p places. met_after (places x.0) x.0 p places) (λ p places. met_tests (places x.0) p) → OnOk r (TakesIn terms old new mid e inner b) → OnOk r (TakesIn terms old new d e q b)
 takes_bind (Err o) terms old new d mid e q b ty x inner is h k = tt
@@ -164,7 +164,7 @@ opened_kept ps qs (opened.Made m b) x h = there_kept ps qs b x h
 opened_kept ps qs (opened.Result b) x h = there_kept ps qs b x h
 opened_kept ps qs (opened.Results b) x h = there_kept ps qs b x h
 
--- behind what the whole calls and tests
+-- after what the whole calls and tests
 pub opened_first : (terms : List Term) (old now : Numbered) (d e : PatternTests) (term : TermId) (all : Patterns) (b : BindingId) (o : Opened) → IsThere (paths_of old.bindings) b → IsOpenedThere (paths_of now.bindings) o
     → ((env : Environment) → env.terms ≡ terms → Opens env old now d e term b o) → OpenedSoFar terms old now d e term all all 0 b o
 opened_first terms old now d e term all b o here there h = record {
@@ -175,7 +175,7 @@ opened_first terms old now d e term all b o here there h = record {
       reads_then old now new d e f (opening_paths (opening env term) p) (parts_paths env (opening env term) all 0 p) (opening_lists (opening env term) p) (parts_lists env (opening env term) all 0 p) (λ places. places) (after_parts env (opening env term) all 0 p) (λ places. opening_tests (opening env term) p) (parts_tests env (opening env term) all 0 p) (h env same p at).reads g;
 }
 
--- behind one part more
+-- after one part more
 opened_more : (terms : List Term) (old now mid new : Numbered) (d e f : PatternTests) (term : TermId) (all : Patterns) (q : Pattern) (rest : Patterns) (i : ℕ) (b part : BindingId) (o : Opened) → OpenedSoFar terms old now d e term all (APattern q rest) i b o
     → Numbers now mid (opened_part (paths_of now.bindings) o i) part → TakesIn terms mid new e f q part → OpenedSoFar terms old new d f term all rest (suc i) b o
 opened_more terms old now mid new d e f term all q rest i b part o so n t = record {
@@ -206,7 +206,7 @@ left_more parts i x lt is = ap (λ qs. patterns_of (map pattern qs)) (drop_more 
 next_is : (i : ℕ) → suc i ≡ i + 1
 next_is i = omega arith
 
--- behind the next part of the code's list
+-- after the next part of the code's list
 pub opened_next : (terms : List Term) (old now mid new : Numbered) (d e f : PatternTests) (term : TermId) (all : Patterns) (parts : List CodePattern) (n : ℕ) (x : CodePattern) (b part : BindingId) (o : Opened) → n < length parts → x ≡ get_or parts n x
     → OpenedSoFar terms old now d e term all (left_parts parts n) n b o → Numbers now mid (opened_part (paths_of now.bindings) o n) part → TakesIn terms mid new e f (pattern x) part
     → OpenedSoFar terms old new d f term all (left_parts parts (n + 1)) (n + 1) b o
@@ -214,7 +214,7 @@ opened_next terms old now mid new d e f term all parts n x b part o lt is so num
     subst (λ k. OpenedSoFar terms old new d f term all (left_parts parts (n + 1)) k b o) (next_is n)
     (opened_more terms old now mid new d e f term all (pattern x) (left_parts parts (n + 1)) n b part o (subst (λ qs. OpenedSoFar terms old now d e term all qs n b o) (left_more parts n x lt is) so) num t)
 
--- behind the last one
+-- after the last one
 pub opened_all : (terms : List Term) (old now : Numbered) (d e : PatternTests) (term : TermId) (all : Patterns) (parts : List CodePattern) (n : ℕ) (b : BindingId) (o : Opened) → length parts ≤ n → OpenedSoFar terms old now d e term all (left_parts parts n) n b o
     → TakesTermIn terms old now d e term all b
 opened_all terms old now d e term all parts n b o le so env same p at =
@@ -232,7 +232,7 @@ pub record EachSoFar (terms : List Term) (old now : Numbered) (d e : PatternTest
 pub each_first : (terms : List Term) (n : Numbered) (d : PatternTests) (all : Patterns) (b : BindingId) → EachSoFar terms n n d d all all b
 each_first terms n d all b = record { extends = extends_self (paths_of n.bindings); whole = λ env same p there new f g. g }
 
--- behind one pattern more
+-- after one pattern more
 each_more : (terms : List Term) (old now new : Numbered) (d e f : PatternTests) (all : Patterns) (q : Pattern) (rest : Patterns) (b : BindingId) → IsThere (paths_of old.bindings) b → EachSoFar terms old now d e all (APattern q rest) b → TakesIn terms now new e f q b → EachSoFar terms old new d f all rest b
 each_more terms old now new d e f all q rest b there so t = record {
   extends = extends_more (paths_of old.bindings) (paths_of now.bindings) (paths_of new.bindings) so.extends (t (env_of terms) refl there.0 (so.extends.kept b.0 there.0 there.1)).joins.extends;
@@ -240,13 +240,13 @@ each_more terms old now new d e f all q rest b there so t = record {
       (reads_then now new last e f g (pattern_paths env q p) (each_paths env rest p) (pattern_lists env q p) (each_lists env rest p) (after env q p) (after_each env rest p) (tests env q p) (each_tests env rest p) (t env same p (so.extends.kept b.0 p stands)) h);
 }
 
--- behind the next pattern of the code's list
+-- after the next pattern of the code's list
 pub each_next : (terms : List Term) (old now new : Numbered) (d e f : PatternTests) (all : Patterns) (parts : List CodePattern) (n : ℕ) (x : CodePattern) (b : BindingId) → n < length parts → x ≡ get_or parts n x → IsThere (paths_of old.bindings) b
     → EachSoFar terms old now d e all (left_parts parts n) b → TakesIn terms now new e f (pattern x) b → EachSoFar terms old new d f all (left_parts parts (n + 1)) b
 each_next terms old now new d e f all parts n x b lt is there so t =
     each_more terms old now new d e f all (pattern x) (left_parts parts (n + 1)) b there (subst (λ qs. EachSoFar terms old now d e all qs b) (left_more parts n x lt is) so) t
 
--- behind the last one
+-- after the last one
 pub each_all : (terms : List Term) (old now : Numbered) (d e : PatternTests) (all : Patterns) (parts : List CodePattern) (n : ℕ) (b : BindingId) → length parts ≤ n → EachSoFar terms old now d e all (left_parts parts n) b → TakesEachIn terms old now d e all b
 each_all terms old now d e all parts n b le so env same p there =
     so.whole env same p there now e (subst (λ qs. Reads now now e e (each_paths env qs p) (each_lists env qs p) (after_each env qs p) (each_tests env qs p)) (sym (ap (λ qs. patterns_of (map pattern qs)) (drop_all n parts le))) (reads_self now e))
@@ -261,7 +261,7 @@ ArgumentsSoFar terms old now e all rest i = (env : Environment) → env.terms �
 pub arguments_first : (terms : List Term) (n : Numbered) (d : PatternTests) (all : List Pattern) → ((ps : List Path) → HasTests ps no_places [] d) → ArgumentsSoFar terms n n d all all 0
 arguments_first terms n d all h env same new f g = record { joins = g.joins; tests = λ ps x. g.gathers ps x no_places [] (h ps) }
 
--- behind the next pattern of the code's list
+-- after the next pattern of the code's list
 pub arguments_next : (terms : List Term) (old now mid new : Numbered) (e f : PatternTests) (all : List Pattern) (patterns : List CodePattern) (i : ℕ) (x : CodePattern) (b : BindingId) → i < length patterns → x ≡ get_or patterns i x → ArgumentsSoFar terms old now e all (map pattern (drop i patterns)) i
     → Numbers now mid (Arg i) b → TakesIn terms mid new e f (pattern x) b → ArgumentsSoFar terms old new f all (map pattern (drop (i + 1) patterns)) (i + 1)
 arguments_next terms old now mid new e f all patterns i x b lt is so n t env same last g h =
@@ -274,7 +274,7 @@ arguments_next terms old now mid new e f all patterns i x b lt is so n t env sam
     (reads_behind now mid last e g (Arg i) b (pattern_paths env q (Arg i) ++ args_paths env rest (suc i)) (args_lists env (q ∷ rest) i) (args_after env (q ∷ rest) i) (args_tests env (q ∷ rest) i) n
     (reads_then mid new last e f g (pattern_paths env q (Arg i)) (args_paths env rest (suc i)) (pattern_lists env q (Arg i)) (args_lists env rest (suc i)) (after env q (Arg i)) (args_after env rest (suc i)) (tests env q (Arg i)) (args_tests env rest (suc i)) (t env same (Arg i) n.found) then)))
 
--- behind the last one
+-- after the last one
 pub arguments_all : (terms : List Term) (old now : Numbered) (e : PatternTests) (all : List Pattern) (patterns : List CodePattern) (i : ℕ) → length patterns ≤ i → ArgumentsSoFar terms old now e all (map pattern (drop i patterns)) i
     → (env : Environment) → env.terms ≡ terms → NumbersPatterns env old now all e
 arguments_all terms old now e all patterns i le so env same =

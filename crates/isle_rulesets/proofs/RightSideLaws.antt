@@ -140,7 +140,7 @@ one_behind (ByTurns callee kind) n = omega arith
 one_behind (ByCases callee kind) n = omega arith
 one_behind NoCall n = omega arith
 
--- a call behind its arguments
+-- a call after its arguments
 call_behind : (env : Environment) (places : Places) (old mid new : Numbered) (before middle after : List BindingId) (ty : TypeId) (term : TermId) (es : Exprs) (bs : List BindingId) (b : BindingId) → NumbersExprs env places old mid before middle es bs
     → NumbersTerm mid new middle after (calling env term) (call_path env term (at_all (paths_of mid.bindings) bs) mid.calls) b → NumbersExpr env places old new before after (expr.Term ty term es) b
 call_behind env places old mid new before middle after ty term es bs b g h =
@@ -344,7 +344,7 @@ pure_given (Ok b) old new before after terms term t often counts bs call value h
         (call_numbers old new before after c (kind_of t.kind) p old.calls call value counts (case_answers callee (kind_of t.kind)) (subst (λ f. Calls old new p f old.calls call value) of k) (none_more old.calls)
         (pure_met callee (kind_of t.kind) p ∙ ap (λ (x : Bool). if x then p ∷ [] else []) (sym told)) more)
 
--- a call behind its arguments, where it was added
+-- a call after its arguments, where it was added
 pub given_call : {E : Type 0} (r : Result BindingId E) (terms : List Term) (variables : Variables) (old mid new : Numbered) (before middle after : List BindingId) (e : Expr) (ty : TypeId) (term : TermId) (es : Exprs) (bs : List BindingId) → e ≡ expr.Term ty term es
     → AllGiven terms variables old mid before middle es bs
     → IfOk r (λ b. (env : Environment) → env.terms ≡ terms → NumbersTerm mid new middle after (calling env term) (call_path env term (at_all (paths_of mid.bindings) bs) mid.calls) b) → IfOk r (Given terms variables old new before after e)
@@ -443,7 +443,7 @@ given_more terms variables old mid new before middle after es i x bs items b lt 
     (subst (λ xs. NumbersExprs env places old new before after (exprs_of xs) (bs ++ b ∷ [])) (sym (map_more seen es i x lt ∙ ap (λ y. map seen (take i es) ++ seen y ∷ []) (sym is)))
     (gives_push env places old mid new before middle after (map seen (take i es)) (seen x) bs b first (h env places t (stand_kept (paths_of old.bindings) (paths_of mid.bindings) variables places first.grows.extends s))))
 
--- behind the last one
+-- after the last one
 pub given_over : (terms : List Term) (variables : Variables) (old new : Numbered) (before after : List BindingId) (es : List CodeExpr) (i : ℕ) (bs : List BindingId) → length es ≤ i
     → AllGiven terms variables old new before after (exprs_of (map seen (take i es))) bs → AllGiven terms variables old new before after (exprs_of (map seen es)) bs
 given_over terms variables old new before after es i bs le h = subst (λ xs. AllGiven terms variables old new before after (exprs_of (map seen xs)) bs) (take_all i es le) h
@@ -502,7 +502,7 @@ there_by ps (Some c) None b s e = absurd s
 pub stand_there : (ps : List Path) (variables : Variables) (places : Places) → Stand ps variables places → AreThere ps variables
 stand_there ps variables places s = record { by = λ x b e. there_by ps (held variables x) (places x) b (s.by x) e }
 
--- so behind expressions
+-- so after expressions
 pub there_behind : (terms : List Term) (variables : Variables) (old new : Numbered) (before after : List BindingId) (es : Exprs) (bs : List BindingId) → AreThere (paths_of old.bindings) variables → AllGiven terms variables old new before after es bs → AreThere (paths_of new.bindings) variables
 there_behind terms variables old new before after es bs h g =
     let more = (g (env_of terms) (places_of (paths_of old.bindings) variables) refl (there_stand (paths_of old.bindings) variables h)).grows.extends in

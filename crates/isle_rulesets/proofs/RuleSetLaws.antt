@@ -214,7 +214,7 @@ covers_more terms old new rs i x fs items f lt is h a more env same =
     let one = map_more (λ (r : Bor CodeRule). rule r.now) rs i x lt ∙ ap (λ (y : Bor CodeRule). rules (take i rs) ++ rule y.now ∷ []) (sym is) in
     subst (Covers env new (rules (take (i + 1) rs))) (sym more) (subst (λ qs. Covers env new qs (fs ++ f ∷ [])) (sym one) (covers_push env old new (rules (take i rs)) fs (rule x.now) f (h env same) (a env same)))
 
--- behind the last rule of the code's list
+-- after the last rule of the code's list
 pub covers_all : (terms : List Term) (n : Numbered) (rs : List (Bor CodeRule)) (i : ℕ) (fs : List FlatRule) → length rs ≤ i → CoversIn terms n (rules (take i rs)) fs → CoversIn terms n (rules rs) fs
 covers_all terms n rs i fs le h = subst (λ xs. CoversIn terms n (rules xs) fs) (take_all i rs le) h
 

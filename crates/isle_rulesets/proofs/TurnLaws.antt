@@ -49,7 +49,7 @@ part_turn (AsStruct ty) i p h = h
 part_turn (ByExtractor term c count) i p h = result_turn count i (answer_path c (Extracted term p)) (answer_turn c (Extracted term p) h)
 
 mutual
-  -- behind a pattern
+  -- after a pattern
   pub after_turn : (q : Pattern) (env : Environment) (p : Path) (places : Places) → has_turn p ≡ false → HasNoTurns places → HasNoTurns (after env q p places)
   after_turn (pattern.Var ty x) env p places h w = met_turn (places x.0) x.0 p places h w
   after_turn (pattern.ConstBool v) env p places h w = w
@@ -76,6 +76,6 @@ args_turn env (q ∷ qs) i places w = args_turn env qs (suc i) (after env q (Arg
 none_placed : HasNoTurns no_places
 none_placed x p e = cc
 
--- behind the arguments
+-- after the arguments
 pub first_turn : (env : Environment) (qs : List Pattern) → HasNoTurns (args_after env qs 0 no_places)
 first_turn env qs = args_turn env qs 0 no_places none_placed

@@ -72,7 +72,7 @@ met_lone env None x p places a w y r e = with_lone env (eqb x y) p (places y) r 
 met_lone env (Some q) x p places a w y r e = w y r e
 
 mutual
-  -- behind a pattern
+  -- after a pattern
   pub after_lone : (q : Pattern) (env : Environment) (p : Path) (places : Places) → IsBuiltPattern env.terms q → IsLone env p → AreLone env places → AreLone env (after env q p places)
   after_lone (Var ty x) env p places b a w = met_lone env (places x.0) x.0 p places a w
   after_lone (ConstBool v) env p places b a w = w

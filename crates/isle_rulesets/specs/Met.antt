@@ -21,7 +21,7 @@ call_met c p = if is_ordered c || (answers_often c && has_turn p) then p ∷ [] 
 abbrev pub list_met : Calling → Path → List Path
 list_met c p = if answers_often c then p ∷ [] else []
 
--- the calls of an expression whose place counts, behind n impure ones
+-- the calls of an expression whose place counts, after n impure ones
 abbrev mutual
   pub expr_calls : Environment → Expr → Places → ℕ → List Path
   expr_calls env (expr.Term ty term es) places n = exprs_calls env es places n ++ call_met (calling env term) (call_path env term (paths env es places n) (n + impure_all env es))
@@ -41,7 +41,7 @@ abbrev mutual
   bindings_calls env NoBinding places n = []
   bindings_calls env (ABinding x ty e more) places n = expr_calls env e places n ++ bindings_calls env more (with places x.0 (path env e places n)) (n + impure env e)
 
--- the lists of an expression, behind n impure calls
+-- the lists of an expression, after n impure calls
 abbrev mutual
   pub expr_lists : Environment → Expr → Places → ℕ → List Path
   expr_lists env (expr.Term ty term es) places n = exprs_lists env es places n ++ list_met (calling env term) (call_path env term (paths env es places n) (n + impure_all env es))

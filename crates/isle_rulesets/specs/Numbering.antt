@@ -23,7 +23,7 @@ pub record Numbered : Type 0 where
   pub calls : ℕ
   pub lists : List BindingId
 
--- the lists of the second stand at these paths, behind those of the first
+-- the lists of the second stand at these paths, after those of the first
 abbrev pub MeetsLists : (old new : Numbered) → List Path → Type 0
 MeetsLists old new ls = (qs : List Path) → Extends (paths_of new.bindings) qs → map (at qs) new.lists ≡ map (at qs) old.lists ++ ls
 

@@ -35,7 +35,7 @@ pub record HasTests (ps : List Path) (places : Places) (ts : List Test) (d : Pat
   pub constraints : map (is_test ps) d.constraints.items ≡ filter is_constraint ts
   pub equals : map (equal_test ps) d.equals.items ≡ filter is_equality ts
 
--- where bindings have at least these paths, the second has the tests that the first has and more, and knows the places behind them
+-- where bindings have at least these paths, the second has the tests that the first has and more, and knows the places after them
 abbrev pub Gathers : List Path → PatternTests → PatternTests → (Places → Places) → (Places → List Test) → Type 0
 Gathers ps d e behind more = (qs : List Path) → Extends ps qs → (places : Places) → (ts : List Test) → HasTests qs places ts d → HasTests qs (behind places) (ts ++ more places) e
 

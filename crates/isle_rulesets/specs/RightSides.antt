@@ -62,7 +62,7 @@ pub record Stand (ps : List Path) (variables : Variables) (places : Places) : Ty
 pub record AreThere (ps : List Path) (variables : Variables) : Type 0 where
   pub by : (x : ℕ) (b : BindingId) → held variables x ≡ Some b → IsThere ps b
 
--- these paths are numbered and nothing else was, these calls, of which so many count, stand in order behind those before, a
+-- these paths are numbered and nothing else was, these calls, of which so many count, stand in order after those before, a
 -- path stands at the number of each, and these lists were met
 pub record Grows (old new : Numbered) (before after : List BindingId) (ps cs ls : List Path) (more : ℕ) : Type 0 where
   pub extends : Extends (paths_of old.bindings) (paths_of new.bindings)
@@ -95,7 +95,7 @@ pub record NumbersExprs (env : Environment) (places : Places) (old new : Numbere
   pub grows : Grows old new before after (exprs_paths env es places old.calls) (exprs_calls env es places old.calls) (exprs_lists env es places old.calls) (impure_all env es)
   pub found : AllAt (paths_of new.bindings) bs (paths env es places old.calls)
 
--- the values of a `let` were numbered in order, and behind them the variables have these numbers
+-- the values of a `let` were numbered in order, and after them the variables have these numbers
 pub record NumbersLets (env : Environment) (places : Places) (variables : Variables) (old new : Numbered) (before after : List BindingId) (bs : LetBindings) : Type 0 where
   pub grows : Grows old new before after (bindings_paths env bs places old.calls) (bindings_calls env bs places old.calls) (bindings_lists env bs places old.calls) (impure_bindings env bs)
   pub stand : Stand (paths_of new.bindings) variables (let_places env bs places old.calls)

@@ -36,7 +36,9 @@ fn number_condition(
     requires built { IsBuiltIfLet terms.now (seen condition.now) }
     requires known { IsInScope (names tests.old.variables) (seen condition.now).rhs }
     requires there { AreThere (paths_of numbering.old.bindings) tests.old.variables }
-    ensures { OnOk result ((env : Environment) → env.terms ≡ terms.now → TakesCondition env numbering.old numbering.new tests.old tests.new (seen condition.now)) }
+    ensures { OnOk result
+        ((env : Environment) → env.terms ≡ terms.now
+        → TakesCondition env numbering.old numbering.new tests.old tests.new (seen condition.now)) }
 {
     let mut calls = Vec::new(alloc);
     let value = number_expr(
@@ -63,7 +65,9 @@ pub fn number_patterns(
     requires bound { IsScopedRule (seen_rule rule.now) }
     ensures known { IfOk result (λ d. IsInScope (names d.variables) (seen_rule rule.now).rhs) }
     ensures there { IfOk result (λ d. AreThere (paths_of numbering.new.bindings) d.variables) }
-    ensures numbers { IfOk result (λ d. (env : Environment) → env.terms ≡ terms.now → NumbersRule env numbering.old numbering.new (seen_rule rule.now) d) }
+    ensures numbers { IfOk result (λ d.
+        (env : Environment) → env.terms ≡ terms.now
+        → NumbersRule env numbering.old numbering.new (seen_rule rule.now) d) }
 {
     let mut tests = number_arguments(alloc, terms, numbering, rule.args.as_slice())?;
     let conditions = rule.iflets.as_slice();

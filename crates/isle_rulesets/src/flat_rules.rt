@@ -23,7 +23,9 @@ fn flat_rule(
     requires built { IsBuiltRule terms.now (seen rule.now) }
     requires bound { IsScopedRule (seen rule.now) }
     requires terms { CallsBuiltTerms terms.now (seen rule.now) }
-    ensures { IfOk result (λ f. (env : Environment) → env.terms ≡ terms.now → Adds env numbering.old numbering.new (seen rule.now) f) }
+    ensures { IfOk result (λ f.
+        (env : Environment) → env.terms ≡ terms.now
+        → Adds env numbering.old numbering.new (seen rule.now) f) }
 {
     numbering.begin_rule();
     let mut pattern_tests = number_patterns(alloc, terms, numbering, rule)?;
@@ -57,7 +59,8 @@ pub fn rule_set(alloc: Global, terms: &[Term], rules: &[&Rule]) -> Result<RuleSe
     requires built { All (IsBuiltRule terms.now) (seen_all rules.now) }
     requires bound { All IsScopedRule (seen_all rules.now) }
     requires terms { All (CallsBuiltTerms terms.now) (seen_all rules.now) }
-    ensures { IfOk result (λ s. (env : Environment) → env.terms ≡ terms.now → StandsFor env s (seen_all rules.now)) }
+    ensures { IfOk result (λ s.
+        (env : Environment) → env.terms ≡ terms.now → StandsFor env s (seen_all rules.now)) }
 {
     let mut numbering = Numbering::new(alloc);
     let mut flat_rules = Vec::new(alloc);

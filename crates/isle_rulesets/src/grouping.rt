@@ -44,7 +44,8 @@ pub fn rule_sets(alloc: Global, terms: &TermEnv) -> Result<Vec<(TermId, RuleSet)
     requires built { All (IsBuiltRule terms.now.terms) (map seen terms.now.rules) }
     requires bound { All IsScopedRule (map seen terms.now.rules) }
     requires terms { All (CallsBuiltTerms terms.now.terms) (map seen terms.now.rules) }
-    ensures { IfOk result (λ sets. (types : TypeEnv) → AreRuleSets (environment types terms.now) sets.items) }
+    ensures { IfOk result (λ sets.
+        (types : TypeEnv) → AreRuleSets (environment types terms.now) sets.items) }
 {
     let callable = terms.terms.as_slice();
     let groups = group(alloc, callable.len(), terms.rules.as_slice())?;

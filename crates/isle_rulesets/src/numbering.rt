@@ -88,7 +88,7 @@ fn key_turn(late: &[bool], key: &Key) -> bool
     }
 }
 
-// Adds a binding behind the others, and whether its path has an impure call within it. The only error is want of
+// Adds a binding after the others, and whether its path has an impure call within it. The only error is want of
 // memory.
 fn push_binding(
     bindings: &mut Vec<Binding>,
@@ -165,7 +165,8 @@ impl Numbering {
 
     /// Begins a rule, which has met no list.
     pub fn begin_rule(&mut self)
-        ensures { self.new ≡ record { bindings = self.old.bindings; calls = self.old.calls; lists = [] } }
+        ensures { self.new
+            ≡ record { bindings = self.old.bindings; calls = self.old.calls; lists = [] } }
     {
         self.lists.truncate(0);
     }
@@ -188,7 +189,8 @@ impl Numbering {
     /// memory.
     pub fn intern(&mut self, alloc: Global, key: Key) -> Result<BindingId, AllocError>
         requires { HasParts (paths_of self.old.bindings) key }
-        ensures { IfOk result (λ b. Numbers self.old self.new (key_path (paths_of self.old.bindings) key) b) }
+        ensures { IfOk result (λ b.
+            Numbers self.old self.new (key_path (paths_of self.old.bindings) key) b) }
     {
         if let Some(number) = known(self.arguments, &self.numbers, &key) {
             return Ok(number);
@@ -217,7 +219,9 @@ impl Numbering {
         term: TermId,
         parameters: List<BindingId>,
     ) -> Result<BindingId, AllocError>
-        ensures { IfOk result (λ b. Calls self.old self.new (next_call self.old term parameters) Once (suc self.old.calls) b b) }
+        ensures { IfOk result (λ b.
+            Calls self.old self.new (next_call self.old term parameters) Once (suc self.old.calls) b
+            b) }
     {
         let instance = self.calls + 1;
         let number = BindingId(self.bindings.len());
@@ -233,7 +237,12 @@ impl Numbering {
 
     // Meets a list. The only error is want of memory.
     fn meet(&mut self, list: BindingId) -> Result<(), AllocError>
-        ensures { OnOk result (self.new ≡ record { bindings = self.old.bindings; calls = self.old.calls; lists = self.old.lists ++ list ∷ [] }) }
+        ensures { OnOk result
+            (self.new ≡ record {
+              bindings = self.old.bindings;
+              calls = self.old.calls;
+              lists = self.old.lists ++ list ∷ [];
+            }) }
     {
         self.lists.push(list)?;
         Ok(())
@@ -248,7 +257,9 @@ impl Numbering {
         kind: ReturnKind,
     ) -> Result<BindingId, AllocError>
         requires { IsThere (paths_of self.old.bindings) number }
-        ensures { IfOk result (λ b. Calls self.old self.new (at (paths_of self.old.bindings) number) kind self.old.calls number b) }
+        ensures { IfOk result (λ b.
+            Calls self.old self.new (at (paths_of self.old.bindings) number) kind self.old.calls
+            number b) }
     {
         match kind {
             ReturnKind::Plain => Ok(number),
@@ -268,7 +279,9 @@ impl Numbering {
         parameters: List<BindingId>,
         kind: ReturnKind,
     ) -> Result<Call, AllocError>
-        ensures { IfOk result (λ c. Calls self.old self.new (next_call self.old term parameters) kind (suc self.old.calls) c.number c.value) }
+        ensures { IfOk result (λ c.
+            Calls self.old self.new (next_call self.old term parameters) kind (suc self.old.calls)
+            c.number c.value) }
     {
         let number = self.push_call(term, parameters)?;
         let value = self.answered(alloc, number, kind)?;
@@ -284,7 +297,9 @@ impl Numbering {
         kind: ReturnKind,
     ) -> Result<Call, AllocError>
         requires { AllByRecursion (IsThere (paths_of self.old.bindings)) parameters }
-        ensures { IfOk result (λ c. Calls self.old self.new (same_call self.old term parameters) kind self.old.calls c.number c.value) }
+        ensures { IfOk result (λ c.
+            Calls self.old self.new (same_call self.old term parameters) kind self.old.calls
+            c.number c.value) }
     {
         let number = self.intern(alloc, Key::Constructor { term, parameters })?;
         let value = self.answered(alloc, number, kind)?;

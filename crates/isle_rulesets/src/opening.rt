@@ -1,7 +1,6 @@
 ghost use Rattle.std.specs.Prelude.{◌≡◌, Some, IfOk, OnOk, IsSomeAnd, slice_get};
 ghost use Rattle.isle_core.specs.declared.types.Term.{Term as CodeTerm};
 ghost use Rattle.isle_core.specs.Path.{Path, paths_of};
-ghost use Rattle.isle_core.specs.Calling.{extractor_kind};
 ghost use Rattle.isle_core.specs.Rule.{Environment};
 ghost use Rattle.isle_core.specs.Making.{MakesNothing, making_in};
 ghost use Rattle.isle_core.specs.BuiltRule.{IsExtractorKind, IsOpening};
@@ -15,6 +14,7 @@ use crate::numbering::Numbering;
 use crate::pattern_tests::{PatternTests, constrain};
 use isle_core::{
     BindingId, Constraint, ExtractorKind, ReturnKind, Term, TermId, TermKind, TupleIndex,
+    extractor_kind,
 };
 use std::alloc::{AllocError, Global};
 
@@ -24,17 +24,6 @@ pub enum Opened {
     Made { made: Made, source: BindingId },
     Result(BindingId),
     Results(BindingId),
-}
-
-// How often an external extractor answers.
-fn extractor_kind(multi: bool, infallible: bool) -> ReturnKind
-    ensures { result ≡ extractor_kind multi infallible }
-{
-    match (multi, infallible) {
-        (true, true) | (true, false) => ReturnKind::Iterator,
-        (false, true) => ReturnKind::Plain,
-        (false, false) => ReturnKind::Option,
-    }
 }
 
 // How often the extractor of the term answers.
@@ -77,7 +66,9 @@ fn answer(
     kind: ReturnKind,
 ) -> Result<BindingId, AllocError>
     requires { IsThere (paths_of numbering.old.bindings) call }
-    ensures { IfOk result (λ b. (p : Path) → slice_get (paths_of numbering.old.bindings) call.0 ≡ Some p → Answers numbering.old numbering.new tests.old tests.new kind p b) }
+    ensures { IfOk result (λ b.
+        (p : Path) → slice_get (paths_of numbering.old.bindings) call.0 ≡ Some p
+        → Answers numbering.old numbering.new tests.old tests.new kind p b) }
 {
     test_answer(tests, call, kind)?;
     numbering.answered(alloc, call, kind)
@@ -92,11 +83,14 @@ fn extract(
     term: TermId,
     source: BindingId,
 ) -> Result<Opened, AllocError>
-    requires kind { IsSomeAnd (slice_get terms.now term.0) (λ (t : CodeTerm). IsExtractorKind t.kind) }
+    requires kind { IsSomeAnd (slice_get terms.now term.0)
+        (λ (t : CodeTerm). IsExtractorKind t.kind) }
     requires makes { making_in terms.now term ≡ MakesNothing }
     requires there { IsThere (paths_of numbering.old.bindings) source }
     ensures there { IfOk result (IsOpenedThere (paths_of numbering.new.bindings)) }
-    ensures opens { IfOk result (λ o. (env : Environment) → env.terms ≡ terms.now → Opens env numbering.old numbering.new tests.old tests.new term source o) }
+    ensures opens { IfOk result (λ o.
+        (env : Environment) → env.terms ≡ terms.now
+        → Opens env numbering.old numbering.new tests.old tests.new term source o) }
 {
     let found = &terms[term.index()];
     let parameter = source;
@@ -122,7 +116,9 @@ pub fn open(
     requires opens { IsOpening (making_in terms.now term) (slice_get terms.now term.0) }
     requires there { IsThere (paths_of numbering.old.bindings) source }
     ensures there { IfOk result (IsOpenedThere (paths_of numbering.new.bindings)) }
-    ensures opens { IfOk result (λ o. (env : Environment) → env.terms ≡ terms.now → Opens env numbering.old numbering.new tests.old tests.new term source o) }
+    ensures opens { IfOk result (λ o.
+        (env : Environment) → env.terms ≡ terms.now
+        → Opens env numbering.old numbering.new tests.old tests.new term source o) }
 {
     match made_by(terms, term) {
         Some(made) => {
@@ -141,7 +137,9 @@ pub fn number_part(
     field: TupleIndex,
 ) -> Result<BindingId, AllocError>
     requires { IsOpenedThere (paths_of numbering.old.bindings) opened }
-    ensures { IfOk result (λ b. Numbers numbering.old numbering.new (opened_part (paths_of numbering.old.bindings) opened field.0) b) }
+    ensures { IfOk result (λ b.
+        Numbers numbering.old numbering.new
+        (opened_part (paths_of numbering.old.bindings) opened field.0) b) }
 {
     match opened {
         Opened::Made { made, source } => numbering.intern(alloc, made.field(source, field)),

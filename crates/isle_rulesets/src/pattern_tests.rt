@@ -34,8 +34,10 @@ pub fn bind_or_equate(
     var: VarId,
     argument: BindingId,
 ) -> Result<(), AllocError>
-    ensures { OnOk result ((ps : List Path) (places : Places) (ts : List Test) → HasTests ps places ts tests.old
-        → HasTests ps (met_after (places var.0) var.0 (at ps argument) places) (ts ++ met_tests (places var.0) (at ps argument)) tests.new) }
+    ensures { OnOk result
+        ((ps : List Path) (places : Places) (ts : List Test) → HasTests ps places ts tests.old
+        → HasTests ps (met_after (places var.0) var.0 (at ps argument) places)
+        (ts ++ met_tests (places var.0) (at ps argument)) tests.new) }
 {
     match tests.variables.get(var.index()) {
         Some(first) => tests.equals.push((*first, argument))?,
@@ -50,7 +52,9 @@ pub fn constrain(
     source: BindingId,
     constraint: Constraint,
 ) -> Result<(), AllocError>
-    ensures { OnOk result ((ps : List Path) (places : Places) (ts : List Test) → HasTests ps places ts tests.old → HasTests ps places (ts ++ Is (at ps source) constraint ∷ []) tests.new) }
+    ensures { OnOk result
+        ((ps : List Path) (places : Places) (ts : List Test) → HasTests ps places ts tests.old
+        → HasTests ps places (ts ++ Is (at ps source) constraint ∷ []) tests.new) }
 {
     tests.constraints.push((source, constraint))?;
     Ok(())

@@ -26,7 +26,9 @@ pub fn number_pattern(
 ) -> Result<(), AllocError>
     requires built { IsBuiltPattern terms.now (seen pattern.now) }
     requires there { IsThere (paths_of numbering.old.bindings) source }
-    ensures { OnOk result ((env : Environment) → env.terms ≡ terms.now → Takes env numbering.old numbering.new tests.old tests.new (seen pattern.now) source) }
+    ensures { OnOk result
+        ((env : Environment) → env.terms ≡ terms.now
+        → Takes env numbering.old numbering.new tests.old tests.new (seen pattern.now) source) }
 {
     match pattern {
         Pattern::Var(_, var) => bind_or_equate(tests, *var, source),
@@ -67,7 +69,10 @@ fn number_each(
 ) -> Result<(), AllocError>
     requires built { AreBuiltPatterns terms.now (patterns_of (map seen parts.now)) }
     requires there { IsThere (paths_of numbering.old.bindings) source }
-    ensures { OnOk result ((env : Environment) → env.terms ≡ terms.now → TakesEach env numbering.old numbering.new tests.old tests.new (patterns_of (map seen parts.now)) source) }
+    ensures { OnOk result
+        ((env : Environment) → env.terms ≡ terms.now
+        → TakesEach env numbering.old numbering.new tests.old tests.new
+        (patterns_of (map seen parts.now)) source) }
 {
     for part in parts {
         number_pattern(alloc, terms, numbering, tests, part, source)?;
@@ -90,7 +95,10 @@ fn number_term(
     requires few { count (patterns_of (map seen parts.now)) ≤ 256 }
     requires built { AreBuiltPatterns terms.now (patterns_of (map seen parts.now)) }
     requires there { IsThere (paths_of numbering.old.bindings) source }
-    ensures { OnOk result ((env : Environment) → env.terms ≡ terms.now → TakesTerm env numbering.old numbering.new tests.old tests.new term (patterns_of (map seen parts.now)) source) }
+    ensures { OnOk result
+        ((env : Environment) → env.terms ≡ terms.now
+        → TakesTerm env numbering.old numbering.new tests.old tests.new term
+        (patterns_of (map seen parts.now)) source) }
 {
     let opened = open(alloc, terms, numbering, tests, term, source)?;
     for (index, part) in parts.iter().enumerate() {
@@ -110,7 +118,9 @@ pub fn number_arguments(
     patterns: &[Pattern],
 ) -> Result<PatternTests, AllocError>
     requires { All (IsBuiltPattern terms.now) (map seen patterns.now) }
-    ensures { IfOk result (λ d. (env : Environment) → env.terms ≡ terms.now → NumbersPatterns env numbering.old numbering.new (map seen patterns.now) d) }
+    ensures { IfOk result (λ d.
+        (env : Environment) → env.terms ≡ terms.now
+        → NumbersPatterns env numbering.old numbering.new (map seen patterns.now) d) }
 {
     let mut tests = PatternTests::new(alloc);
     for (index, pattern) in patterns.iter().enumerate() {

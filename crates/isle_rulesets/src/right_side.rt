@@ -19,29 +19,11 @@ use crate::keys::Key;
 use crate::made::made_by;
 use crate::numbering::{Call, Numbering};
 use crate::parts::Parts;
-use isle_core::{BindingId, Expr, LetBinding, List, ReturnKind, Term, TermId, TermKind, VarId};
+use isle_core::{
+    BindingId, Expr, LetBinding, List, ReturnKind, Term, TermId, TermKind, VarId, kind_of,
+};
 use isle_scope::Table;
 use std::alloc::{AllocError, Global};
-
-// How often the term answers.
-fn how_often(kind: &TermKind) -> ReturnKind
-    ensures { result ≡ kind_of kind.now }
-{
-    match kind {
-        TermKind::Variant { .. } | TermKind::Struct { .. } => ReturnKind::Plain,
-        TermKind::Decl { multi: true, .. } => ReturnKind::Iterator,
-        TermKind::Decl {
-            multi: false,
-            partial: true,
-            ..
-        } => ReturnKind::Option,
-        TermKind::Decl {
-            multi: false,
-            partial: false,
-            ..
-        } => ReturnKind::Plain,
-    }
-}
 
 // Whether equal calls of the term are one.
 fn is_pure(kind: &TermKind) -> bool
@@ -71,7 +53,8 @@ fn ordered_call(
     counts: bool,
 ) -> Result<BindingId, AllocError>
     ensures value { IfOk result (λ b. b ≡ call.value) }
-    ensures joins { OnOk result (ordered.new.items ≡ ordered.old.items ++ (if counts then call.number ∷ [] else [])) }
+    ensures joins { OnOk result
+        (ordered.new.items ≡ ordered.old.items ++ (if counts then call.number ∷ [] else [])) }
 {
     if counts {
         ordered.push(call.number)?;
@@ -104,10 +87,13 @@ fn number_call(
     requires called { making_in terms.now term ≡ MakesNothing }
     requires there { AllByRecursion (IsThere (paths_of numbering.old.bindings)) parameters.items }
     ensures { IfOk result (λ b. (env : Environment) → env.terms ≡ terms.now
-        → NumbersTerm numbering.old numbering.new ordered.old.items ordered.new.items (calling env term) (call_path env term (at_all (paths_of numbering.old.bindings) parameters.items) numbering.old.calls) b) }
+        → NumbersTerm numbering.old numbering.new ordered.old.items ordered.new.items
+        (calling env term)
+        (call_path env term (at_all (paths_of numbering.old.bindings) parameters.items)
+        numbering.old.calls) b) }
 {
     let kind = &terms[term.index()].kind;
-    let often = how_often(kind);
+    let often = kind_of(kind);
     if is_pure(kind) {
         let call = numbering.pure_call(alloc, term, Parts::new(parameters), often)?;
         return ordered_call(ordered, call, counts(numbering, often, call.number));
@@ -128,7 +114,10 @@ fn number_term(
     requires kind { IsSomeAnd (slice_get terms.now term.0) (λ (t : CodeTerm). IsBuiltKind t.kind) }
     requires there { AllByRecursion (IsThere (paths_of numbering.old.bindings)) arguments.items }
     ensures { IfOk result (λ b. (env : Environment) → env.terms ≡ terms.now
-        → NumbersTerm numbering.old numbering.new ordered.old.items ordered.new.items (calling env term) (call_path env term (at_all (paths_of numbering.old.bindings) arguments.items) numbering.old.calls) b) }
+        → NumbersTerm numbering.old numbering.new ordered.old.items ordered.new.items
+        (calling env term)
+        (call_path env term (at_all (paths_of numbering.old.bindings) arguments.items)
+        numbering.old.calls) b) }
 {
     match made_by(terms, term) {
         Some(made) => numbering.intern(alloc, made.whole(Parts::new(arguments))),
@@ -136,7 +125,7 @@ fn number_term(
     }
 }
 
-/// Numbers an expression, and returns the number of its value; its calls join those before, each behind its arguments.
+/// Numbers an expression, and returns the number of its value; its calls join those before, each after its arguments.
 /// The variables of a `let` are bound for as long as they count. The only error is want of memory.
 #[cycle(right_side)]
 pub fn number_expr(
@@ -151,7 +140,9 @@ pub fn number_expr(
     requires terms { HasBuiltTerms terms.now (seen expr.now) }
     requires there { AreThere (paths_of numbering.old.bindings) scope.old }
     ensures kept { OnOk result (scope.new ≡ scope.old) }
-    ensures numbers { IfOk result (Given terms.now scope.old numbering.old numbering.new ordered.old.items ordered.new.items (seen expr.now)) }
+    ensures numbers { IfOk result
+        (Given terms.now scope.old numbering.old numbering.new ordered.old.items ordered.new.items
+        (seen expr.now)) }
 {
     match expr {
         Expr::Var(_, var) => Ok(number_of(scope, *var)),
@@ -186,7 +177,9 @@ fn number_exprs(
     requires terms { AllHaveBuiltTerms terms.now (exprs_of (map seen exprs.now)) }
     requires there { AreThere (paths_of numbering.old.bindings) scope.old }
     ensures kept { OnOk result (scope.new ≡ scope.old) }
-    ensures numbers { IfOk result (λ bs. AllGiven terms.now scope.old numbering.old numbering.new ordered.old.items ordered.new.items (exprs_of (map seen exprs.now)) bs.items) }
+    ensures numbers { IfOk result (λ bs.
+        AllGiven terms.now scope.old numbering.old numbering.new ordered.old.items ordered.new.items
+        (exprs_of (map seen exprs.now)) bs.items) }
 {
     let mut numbers = Vec::new(alloc);
     for expr in exprs {
@@ -209,12 +202,14 @@ fn number_value(
     requires terms { HasBuiltTerms terms.now (seen binding.now.val) }
     requires there { AreThere (paths_of numbering.old.bindings) scope.old }
     ensures kept { OnOk result (scope.new ≡ scope.old) }
-    ensures numbers { IfOk result (Given terms.now scope.old numbering.old numbering.new ordered.old.items ordered.new.items (seen binding.now.val)) }
+    ensures numbers { IfOk result
+        (Given terms.now scope.old numbering.old numbering.new ordered.old.items ordered.new.items
+        (seen binding.now.val)) }
 {
     number_expr(alloc, terms, scope, numbering, ordered, &binding.val)
 }
 
-// The variables of a `let` are bound behind those before, each to the number of its value.
+// The variables of a `let` are bound after those before, each to the number of its value.
 #[cycle(right_side)]
 fn number_lets(
     alloc: Global,
@@ -227,9 +222,12 @@ fn number_lets(
     requires known { AreLetsInScope (names scope.old) (bindings_of (map bound bindings.now)) }
     requires terms { BindingsHaveBuiltTerms terms.now (bindings_of (map bound bindings.now)) }
     requires there { AreThere (paths_of numbering.old.bindings) scope.old }
-    ensures known { OnOk result (names scope.new ≡ let_scope (names scope.old) (bindings_of (map bound bindings.now))) }
+    ensures known { OnOk result
+        (names scope.new ≡ let_scope (names scope.old) (bindings_of (map bound bindings.now))) }
     ensures there { OnOk result (AreThere (paths_of numbering.new.bindings) scope.new) }
-    ensures binds { OnOk result (Binds terms.now scope.old scope.new numbering.old numbering.new ordered.old.items ordered.new.items (bindings_of (map bound bindings.now))) }
+    ensures binds { OnOk result
+        (Binds terms.now scope.old scope.new numbering.old numbering.new ordered.old.items
+        ordered.new.items (bindings_of (map bound bindings.now))) }
 {
     for binding in bindings {
         let value = number_value(alloc, terms, scope, numbering, ordered, binding)?;

@@ -42,7 +42,8 @@ use Rattle.isle_run.proofs.LawfulNames.{HasLawfulNames}
 use Rattle.isle_run.proofs.SourceNames.{lawful_names}
 use Rattle.isle_run.proofs.RequestedTerms.{HasFunction, requested_function}
 use Rattle.isle_run.proofs.NamedTypes.{are_named}
-use Rattle.isle_run.proofs.RightEntries.{names_of, as_entries, all_front, all_back, all_right, cased_back, answered_back, given_back}
+use Rattle.isle_core.proofs.AllLaws.{all_front, all_back}
+use Rattle.isle_run.proofs.RightEntries.{names_of, as_entries, all_right, cased_back, answered_back, given_back}
 
 -- ---- the source
 

@@ -36,9 +36,9 @@ use Rattle.isle_tree.specs.declared.tree.TFields.{TFields}
 use Rattle.isle_tree.specs.declared.tree.Operand.TheVariants as operand
 use Rattle.isle_tree.specs.declared.tree.TypeItem.{TypeItem}
 use Rattle.isle_tree.specs.Program.{Function, Program}
-use Rattle.isle_items.specs.LawfulNames.{emitted_name}
-use Rattle.isle_items.specs.TypeItems.{type_item, variant_item}
-use Rattle.isle_items.proofs.HasRustNames.{has_rust_names}
+use Rattle.isle_lawful_names.specs.LawfulNames.{emitted_name}
+use Rattle.isle_lawful_names.specs.TypeItems.{type_item, variant_item}
+use Rattle.isle_lawful_names.proofs.HasRustNames.{has_rust_names}
 use Rattle.isle_simulation.specs.RustNames.{HasRustNames}
 use Rattle.isle_simulation.specs.TypeTexts.{parameter, type_text}
 use Rattle.isle_simulation.proofs.Written.{callee_of}

@@ -9,8 +9,8 @@ use Rattle.isle_core.specs.declared.types.TypeDef.{TypeDef}
 use Rattle.isle_core.specs.declared.types.TypeDef.TheVariants as def
 use Rattle.isle_core.specs.declared.types.TypeEnv.{TypeEnv}
 use Rattle.isle_tree.specs.declared.tree.TypeItem.{TypeItem}
-use Rattle.isle_items.specs.TypeItems.{type_item}
-use Rattle.isle_items.specs.LawfulNames.{emitted_name, emitted_names}
+use Rattle.isle_lawful_names.specs.TypeItems.{type_item}
+use Rattle.isle_lawful_names.specs.LawfulNames.{emitted_name, emitted_names}
 use Rattle.isle_places.specs.DeclaredTypes as asked
 
 -- ---- two names

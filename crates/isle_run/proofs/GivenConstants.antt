@@ -16,7 +16,7 @@ use Rattle.isle_core.specs.Rule.{Environment}
 use Rattle.isle_core.specs.Terms.{sym_text}
 use Rattle.isle_core.specs.Value.{Value}
 use Rattle.isle_core.proofs.Contained.{head_contained, tail_contained, contained_cases, none_contained}
-use Rattle.isle_naming.specs.Names.{is_among}
+use Rattle.isle_operand_names.specs.Names.{is_among}
 use Rattle.isle_run_inputs.specs.Requested.{first_constant}
 use Rattle.isle_run.specs.Valid.{HasNoValue, IsRightConstant, AreRightConstants}
 
@@ -26,7 +26,7 @@ use Rattle.isle_run.specs.Valid.{HasNoValue, IsRightConstant, AreRightConstants}
 abbrev type_in : List (Sym × TypeId) → Sym → Option TypeId
 type_in consts s = option_map (λ (c : Sym × TypeId). c.1) (find (λ (c : Sym × TypeId). c.0.0 == s.0) consts)
 
--- the type of this one, or of one behind it
+-- the type of this one, or of one after it
 abbrev first_or : Sym × TypeId → List (Sym × TypeId) → Sym → Bool → Option TypeId
 first_or c consts s b = option_map (λ (d : Sym × TypeId). d.1) (cond b (Some c) (find (λ (d : Sym × TypeId). d.0.0 == s.0) consts))
 

@@ -19,7 +19,7 @@ by_test : (env : Environment) (b : Bool) (c : Made) (cs : List Made) → call_li
 by_test env true c cs = refl
 by_test env false c cs = refl
 
--- the lines of a call and of those behind it
+-- the lines of a call and of those after it
 pub one_more : (env : Environment) (calls : List CallMade) (i : ℕ) (call : CallMade) → i < length calls → call ≡ get_or calls i call
     → left_lines env (drop i calls) ≡ cond (is_some (answer_type env call.callee)) (call_line (made call)) [] ++ left_lines env (drop (i + 1) calls)
 one_more env calls i call lt is =

@@ -21,9 +21,9 @@ use Rattle.isle_core.specs.Value.{Value}
 use Rattle.isle_core.specs.ValueViews.{const}
 use Rattle.isle_core.specs.declared.values.Value.{Value as CodeValue}
 use Rattle.isle_core.proofs.Contained.{contained_cases, none_contained}
-use Rattle.isle_items.proofs.ListLaws.{all_found}
-use Rattle.isle_naming.specs.Names.{body_names, is_among}
-use Rattle.isle_naming.specs.Sets.{has_name}
+use Rattle.isle_lawful_names.proofs.ListLaws.{all_found}
+use Rattle.isle_operand_names.specs.Names.{body_names, is_among}
+use Rattle.isle_operand_names.specs.Sets.{has_name}
 use Rattle.isle_tree.specs.Program.{Function}
 use Rattle.isle_tree.specs.Run.{function_of}
 use Rattle.isle_run.specs.Attempt.{Attempt}

@@ -23,12 +23,13 @@ use Rattle.isle_core.proofs.Contained.{head_contained}
 use Rattle.isle_blocks.specs.AllTests.{HoldsTest, DoesTest}
 use Rattle.isle_tree.specs.Program.{Body, Done, Then, Function}
 use Rattle.isle_simulation.specs.Completed.{completed, completed_control, step_binds}
-use Rattle.isle_simulation.specs.Telling.{Telling, telling_of}
+use Rattle.isle_simulation.specs.Manner.{Manner, manner_of}
+use Rattle.isle_simulation.specs.Telling.{Telling}
 use Rattle.isle_simulation.specs.TermFunction.{tail_in, term_function}
 use Rattle.isle_simulation.proofs.CompletedRuns.{completed_single}
 use Rattle.isle_simulation.proofs.Made.{function_made}
 use Rattle.isle_simulation.proofs.Written.{written_operand, arm_stmt, bound_stmt, lets, stop_before, told_before, told_body, told_control, function_of}
-use Rattle.isle_naming.specs.Names.{operand_names, stmt_names, body_names}
+use Rattle.isle_operand_names.specs.Names.{operand_names, stmt_names, body_names}
 
 module _ (env : Environment) (t : Term) (bs : List Binding) (source : BindingId) (c : Sym) where
   abbrev s : Setting
@@ -74,12 +75,12 @@ module _ (env : Environment) (t : Term) (bs : List Binding) (source : BindingId)
   in_told (Some line) (block.Loop result body) after h = h
   in_told (Some line) (block.Return place result) after h = h
 
-  in_stop : (several : Bool) (k : Control) (after : Body) → IsNamedIn after → IsNamedIn (stop_before several k after)
-  in_stop true (block.Return place result) after h = h
-  in_stop true (block.Match over arms) after h = h
-  in_stop true (block.Equal a b body) after h = h
-  in_stop true (block.Loop result body) after h = h
-  in_stop false k after h = h
+  in_stop : (inside several : Bool) (k : Control) (after : Body) → IsNamedIn after → IsNamedIn (stop_before inside several k after)
+  in_stop inside true (block.Return place result) after h = h
+  in_stop inside true (block.Match over arms) after h = h
+  in_stop inside true (block.Equal a b body) after h = h
+  in_stop inside true (block.Loop result body) after h = h
+  in_stop inside false k after h = h
 
   -- inside an arm
   within_arm : (bound : List ℕ) (over : BindingId) (d : Constraint) (places : List (Option BindingId)) (inside : Body) → IsNamedIn inside → Contains (stmt_names (arm_stmt s bound over d places inside)) name
@@ -98,29 +99,29 @@ module _ (env : Environment) (t : Term) (bs : List Binding) (source : BindingId)
       here = Contains-append_left (operand_names (written_operand s bound over) ++ name ∷ []) (body_names inside) name (Contains-append_right (operand_names (written_operand s bound over)) (name ∷ []) name (head_contained name []))
 
   mutual
-    block_names_it : (telling : Telling) (b : Block) (bound : List ℕ) (end : Body) → HasSingleArms b → HoldsTest source Test b → IsNamedIn (told_body telling s bound b end)
-    block_names_it telling Stop bound end o h = absurd h
-    block_names_it telling (Step binds k more) bound end o (inl h) =
+    block_names_it : (manner : Manner) (b : Block) (bound : List ℕ) (end : Body) → HasSingleArms b → HoldsTest source Test b → IsNamedIn (told_body manner s bound b end)
+    block_names_it manner Stop bound end o h = absurd h
+    block_names_it manner (Step binds k more) bound end o (inl h) =
         let now = bound_by bound binds in
-        let rest = stop_before (gives_several s) k (told_body telling s now more end) in
-        in_lets bound binds _ (in_told telling k (Then (told_control telling s now k) rest) (Contains-append_left (stmt_names (told_control telling s now k)) (body_names rest) name (control_names_it telling k now o.0 h)))
-    block_names_it telling (Step binds k more) bound end o (inr h) =
+        let rest = stop_before manner.inside (gives_several s) k (told_body manner s now more end) in
+        in_lets bound binds _ (in_told manner.telling k (Then (told_control manner s now k) rest) (Contains-append_left (stmt_names (told_control manner s now k)) (body_names rest) name (control_names_it manner k now o.0 h)))
+    block_names_it manner (Step binds k more) bound end o (inr h) =
         let now = bound_by bound binds in
-        let rest = stop_before (gives_several s) k (told_body telling s now more end) in
-        in_lets bound binds _ (in_told telling k (Then (told_control telling s now k) rest)
-        (Contains-append_right (stmt_names (told_control telling s now k)) (body_names rest) name (in_stop (gives_several s) k (told_body telling s now more end) (block_names_it telling more now end o.1 h))))
+        let rest = stop_before manner.inside (gives_several s) k (told_body manner s now more end) in
+        in_lets bound binds _ (in_told manner.telling k (Then (told_control manner s now k) rest)
+        (Contains-append_right (stmt_names (told_control manner s now k)) (body_names rest) name (in_stop manner.inside (gives_several s) k (told_body manner s now more end) (block_names_it manner more now end o.1 h))))
 
-    control_names_it : (telling : Telling) (k : Control) (bound : List ℕ) → IsSingle k → DoesTest source Test k → Contains (stmt_names (told_control telling s bound k)) name
-    control_names_it telling (block.Match over (block.Arm d places body block.NoArm)) bound o (inl (e, inl same)) = tested_arm bound over d places (told_body telling s (bound_within bound places) body Done) same
-    control_names_it telling (block.Match over (block.Arm d places body block.NoArm)) bound o (inl (e, inr h)) = absurd h
-    control_names_it telling (block.Match over (block.Arm d places body block.NoArm)) bound o (inr (inl h)) = within_arm bound over d places _ (block_names_it telling body (bound_within bound places) Done o h)
-    control_names_it telling (block.Match over (block.Arm d places body block.NoArm)) bound o (inr (inr h)) = absurd h
-    control_names_it telling (block.Match over (block.Arm d places body (block.Arm e others inside arms))) bound o h = absurd o
-    control_names_it telling (block.Match over block.NoArm) bound o h = absurd o
-    control_names_it telling (block.Equal a b body) bound o h =
-        Contains-append_right (operand_names (written_operand s bound a) ++ operand_names (written_operand s bound b)) (body_names (told_body telling s bound body Done)) name (block_names_it telling body bound Done o h)
-    control_names_it telling (block.Loop result body) bound o h = block_names_it telling body (bound ++ result.0 ∷ []) Done o h
-    control_names_it telling (block.Return place result) bound o h = absurd h
+    control_names_it : (manner : Manner) (k : Control) (bound : List ℕ) → IsSingle k → DoesTest source Test k → Contains (stmt_names (told_control manner s bound k)) name
+    control_names_it manner (block.Match over (block.Arm d places body block.NoArm)) bound o (inl (e, inl same)) = tested_arm bound over d places (told_body manner s (bound_within bound places) body Done) same
+    control_names_it manner (block.Match over (block.Arm d places body block.NoArm)) bound o (inl (e, inr h)) = absurd h
+    control_names_it manner (block.Match over (block.Arm d places body block.NoArm)) bound o (inr (inl h)) = within_arm bound over d places _ (block_names_it manner body (bound_within bound places) Done o h)
+    control_names_it manner (block.Match over (block.Arm d places body block.NoArm)) bound o (inr (inr h)) = absurd h
+    control_names_it manner (block.Match over (block.Arm d places body (block.Arm e others inside arms))) bound o h = absurd o
+    control_names_it manner (block.Match over block.NoArm) bound o h = absurd o
+    control_names_it manner (block.Equal a b body) bound o h =
+        Contains-append_right (operand_names (written_operand s bound a) ++ operand_names (written_operand s bound b)) (body_names (told_body manner s bound body Done)) name (block_names_it manner body bound Done o h)
+    control_names_it manner (block.Loop result body) bound o h = block_names_it manner body (bound ++ result.0 ∷ []) Done o h
+    control_names_it manner (block.Return place result) bound o h = absurd h
 
   one_function : (a b : Function) → Some a ≡ Some b → a ≡ b
   one_function a b e = cc
@@ -129,4 +130,4 @@ module _ (env : Environment) (t : Term) (bs : List Binding) (source : BindingId)
   pub function_names_it : (options : CodegenOptions) (files : Files) (b : Block) (f : Function) → IsLawfulBlock s b → HasSingleArms b → HoldsTest source Test b → term_function options files s b ≡ Some f → IsNamedIn f.body
   function_names_it options files b f lawful single holds given =
       subst (λ (g : Function). IsNamedIn g.body) (one_function (function_of options files env t bs b) f (sym (function_made options files env t bs b lawful single) ∙ given))
-      (block_names_it (telling_of options files s) (completed s [] b) [] (tail_in files env t b) (completed_single s [] b single) (completed_holds [] b single holds))
+      (block_names_it (manner_of options files s) (completed s [] b) [] (tail_in files env t b) (completed_single s [] b single) (completed_holds [] b single holds))

@@ -32,9 +32,9 @@ use Rattle.isle_spelling.specs.Literal.{type_named}
 use Rattle.isle_tree.specs.declared.tree.TFields.{TFields}
 use Rattle.isle_tree.specs.declared.tree.TypeItem.{TypeItem}
 use Rattle.isle_simulation.specs.TypeTexts.{def_text, type_text}
-use Rattle.isle_items.specs.TypeItems.{text_at, fields_shape, variant_item, type_item, items_in}
-use Rattle.isle_items.specs.LawfulNames.{IsLawfulType, emitted_name, AreLawful}
-use Rattle.isle_items.proofs.ListLaws.{all_at}
+use Rattle.isle_lawful_names.specs.TypeItems.{text_at, fields_shape, variant_item, type_item, items_in}
+use Rattle.isle_lawful_names.specs.LawfulNames.{IsLawfulType, emitted_name, AreLawful}
+use Rattle.isle_lawful_names.proofs.ListLaws.{all_at}
 use Rattle.isle_places.specs.DeclaredTypes as asked
 use Rattle.isle_places.specs.DeclaredTypes.{Asked, These, Anything, Nowhere, is_foreign, is_declared, field_types, of_fields, variant_by, variant_asked, struct_by, struct_asked, foreign_asked, takes_opaque}
 use Rattle.isle_interpreter.proofs.ValueKeys.{named_again}

@@ -19,32 +19,30 @@ use Rattle.isle_core.specs.declared.types.TypeDef.{TypeDef}
 use Rattle.isle_core.specs.declared.types.TypeDef.TheVariants as def
 use Rattle.isle_core.specs.declared.types.Variant.{Variant}
 use Rattle.isle_core.specs.declared.values.Callee.{Callee}
-use Rattle.isle_core.specs.ArmPlaces.{bound_within}
-use Rattle.isle_core.specs.Bindable.{bound_by}
-use Rattle.isle_core.specs.Block as block
-use Rattle.isle_core.specs.Block.{Block, Stop, Step, Control}
+use Rattle.isle_core.specs.Block.{Block}
 use Rattle.isle_core.specs.Calling.{calling, extracting, kind_of}
 use Rattle.isle_core.specs.Form.{Form, form}
 use Rattle.isle_core.specs.HasType.{typed_fields}
 use Rattle.isle_core.specs.Making.{MakesVariant, MakesStruct}
 use Rattle.isle_core.specs.Rule.{Environment}
-use Rattle.isle_core.specs.Setting.{Setting, gives_several}
+use Rattle.isle_core.specs.Setting.{Setting}
 use Rattle.isle_core.specs.Terms.{sym_text}
+use Rattle.isle_core.proofs.AllLaws.{all_append}
 use Rattle.isle_tree.specs.declared.tree.Read.{Read}
 use Rattle.isle_tree.specs.declared.tree.TBind.{TBind}
 use Rattle.isle_tree.specs.declared.tree.TraitFn.{TraitFn}
-use Rattle.isle_tree.specs.Program.{Body, Done, Then}
+use Rattle.isle_tree.specs.Program.{Body}
 use Rattle.isle_tree.specs.Walk.{of_stmt}
-use Rattle.isle_items.specs.TypeItems.{fields_shape, items_in, type_item, variant_item}
+use Rattle.isle_lawful_names.specs.TypeItems.{fields_shape, items_in, type_item, variant_item}
 use Rattle.isle_simulation.specs.Patterns.{field_binds, form_pattern, leaves_out, pattern_named, pattern_of, some_pattern}
 use Rattle.isle_simulation.specs.Statements.{binds_list, made_named}
-use Rattle.isle_simulation.specs.Telling.{Telling}
 use Rattle.isle_simulation.specs.TermFunction.{ends_in_return, mark_of, tail_body, tail_of}
 use Rattle.isle_simulation.specs.TraitFns.{constructor_fn, constructor_fn_of, extractor_fn, extracted_of, func_of, trait_fns_in}
 use Rattle.isle_simulation.specs.TypeTexts.{def_text, type_text, parameter}
 use Rattle.isle_simulation.proofs.LocalStmts.{local_by}
-use Rattle.isle_simulation.proofs.Written.{written_pattern, callee_of, call_expr, extraction_expr, field_reads, made_expr, bound_expr, bound_stmt, lets, result_stmt, stop_before, arm_stmt, told_before, told_body, told_control}
-use Rattle.isle_naming.specs.Occurring.{second_names, shape_types, variants_types, item_types, param_types, trait_types, expr_types, pattern_types, own_types, all_types}
+use Rattle.isle_simulation.proofs.MadeStatements.{EachMade, Anything}
+use Rattle.isle_simulation.proofs.Written.{written_pattern, callee_of, call_expr, extraction_expr, field_reads, made_expr, bound_expr, bound_stmt, result_stmt, arm_stmt, written_read}
+use Rattle.isle_operand_names.specs.Occurring.{second_names, shape_types, variants_types, item_types, param_types, trait_types, expr_types, pattern_types, own_types, all_types}
 use Rattle.isle_run.proofs.PlacedExprs.{named_enum, named_struct}
 
 module _ (env : Environment) (Free : List ℕ → Type 0) (free : (ty : TypeId) → Free (type_text env ty)) where
@@ -52,8 +50,7 @@ module _ (env : Environment) (Free : List ℕ → Type 0) (free : (ty : TypeId) 
   AllFree = AllByRecursion Free
 
   both : (xs ys : List (List ℕ)) → AllFree xs → AllFree ys → AllFree (xs ++ ys)
-  both [] ys h k = k
-  both (x ∷ xs) ys h k = (h.0, both xs ys h.1 k)
+  both = all_append Free
 
   -- ---- declared types
 
@@ -169,24 +166,6 @@ module _ (env : Environment) (Free : List ℕ → Type 0) (free : (ty : TypeId) 
     stmt_free : (bound : List ℕ) (b : BindingId) → AllFree (of_stmt own_types (bound_stmt s bound b))
     stmt_free bound b = local_by (λ st. AllFree (of_stmt own_types st)) (binds_list s b) b.0 (bound_expr s bound b (slice_get s.bindings b.0)) (bound_free bound b (slice_get s.bindings b.0)) (λ borrow call e. tt)
 
-    lets_free : (bound : List ℕ) (binds : List BindingId) (more : Body) → BodyFree more → BodyFree (lets s bound binds more)
-    lets_free bound [] more h = h
-    lets_free bound (b ∷ binds) more h = both (of_stmt own_types (bound_stmt s bound b)) (all_types (lets s (bound ++ b.0 ∷ []) binds more)) (stmt_free bound b) (lets_free (bound ++ b.0 ∷ []) binds more h)
-
-    told_free : (telling : Telling) (c : Control) (after : Body) → BodyFree after → BodyFree (told_before telling c after)
-    told_free None c after h = h
-    told_free (Some line) (block.Match over arms) after h = h
-    told_free (Some line) (block.Equal a b body) after h = h
-    told_free (Some line) (block.Loop result body) after h = h
-    told_free (Some line) (block.Return place result) after h = h
-
-    stop_free : (several : Bool) (c : Control) (after : Body) → BodyFree after → BodyFree (stop_before several c after)
-    stop_free true (block.Return place result) after h = h
-    stop_free true (block.Match over arms) after h = h
-    stop_free true (block.Equal a b body) after h = h
-    stop_free true (block.Loop result body) after h = h
-    stop_free false c after h = h
-
     result_free : (k : ReturnKind) (r : Read) → AllFree (of_stmt own_types (result_stmt k r))
     result_free kind.Plain r = tt
     result_free kind.Option r = tt
@@ -209,29 +188,25 @@ module _ (env : Environment) (Free : List ℕ → Type 0) (free : (ty : TypeId) 
     some_free (b ∷ []) = tt
     some_free (b ∷ c ∷ places) = tt
 
-    arm_free : (bound : List ℕ) (over : BindingId) (c : Constraint) (places : List (Option BindingId)) (inside : Body) → BodyFree inside → AllFree (of_stmt own_types (arm_stmt s bound over c places inside))
-    arm_free bound over (constraint.ConstBool val) places inside h = h
-    arm_free bound over (constraint.ConstInt val of) places inside h = h
-    arm_free bound over (constraint.ConstPrim val) places inside h = h
-    arm_free bound over (constraint.Variant of variant) places inside h = both (pattern_types (written_pattern (pattern_of s.env (constraint.Variant of variant) places))) (all_types inside) (pattern_free (form s.env (MakesVariant of variant)) places (variant_free of variant)) h
-    arm_free bound over (constraint.Struct of) places inside h = both (pattern_types (written_pattern (pattern_of s.env (constraint.Struct of) places))) (all_types inside) (pattern_free (form s.env (MakesStruct of)) places (struct_free of)) h
-    arm_free bound over constraint.Some places inside h = both (pattern_types (written_pattern (some_pattern places))) (all_types inside) (some_free places) h
+    arm_free : (bound : List ℕ) (over : BindingId) (c : Constraint) (places : List (Option BindingId)) (inside : Body) → AllFree (own_types (arm_stmt s bound over c places inside))
+    arm_free bound over (constraint.ConstBool val) places inside = tt
+    arm_free bound over (constraint.ConstInt val of) places inside = tt
+    arm_free bound over (constraint.ConstPrim val) places inside = tt
+    arm_free bound over (constraint.Variant of variant) places inside = pattern_free (form s.env (MakesVariant of variant)) places (variant_free of variant)
+    arm_free bound over (constraint.Struct of) places inside = pattern_free (form s.env (MakesStruct of)) places (struct_free of)
+    arm_free bound over constraint.Some places inside = some_free places
 
-    mutual
-      pub block_free : (telling : Telling) (b : Block) (bound : List ℕ) (end : Body) → BodyFree end → BodyFree (told_body telling s bound b end)
-      block_free telling Stop bound end h = h
-      block_free telling (Step binds c more) bound end h =
-          let now = bound_by bound binds in
-          let rest = stop_before (gives_several s) c (told_body telling s now more end) in
-          lets_free bound binds _ (told_free telling c (Then (told_control telling s now c) rest)
-          (both (of_stmt own_types (told_control telling s now c)) (all_types rest) (control_free telling c now) (stop_free (gives_several s) c (told_body telling s now more end) (block_free telling more now end h))))
-
-      control_free : (telling : Telling) (c : Control) (bound : List ℕ) → AllFree (of_stmt own_types (told_control telling s bound c))
-      control_free telling (block.Match over block.NoArm) bound = tt
-      control_free telling (block.Match over (block.Arm c places body arms)) bound = arm_free bound over c places (told_body telling s (bound_within bound places) body Done) (block_free telling body (bound_within bound places) Done tt)
-      control_free telling (block.Equal a b body) bound = block_free telling body bound Done tt
-      control_free telling (block.Loop result body) bound = block_free telling body (bound ++ result.0 ∷ []) Done tt
-      control_free telling (block.Return place result) bound = result_free (kind_of s.term.kind) _
+    -- each type in a statement that emission makes
+    pub types_made : EachMade own_types Free s Anything
+    types_made = record {
+      bound = λ bound b h. stmt_free bound b;
+      result = λ bound result h. result_free (kind_of s.term.kind) (written_read s bound false result);
+      stop = λ inside. tt;
+      log = λ line. tt;
+      equal = λ bound a b ty inside h k. tt;
+      arm = λ bound source over c places inside h is k w. arm_free bound source c places inside;
+      loop = λ list item inside. tt;
+    }
 
   pub tail_free : (k : ReturnKind) (name place : List ℕ) (b : Block) → AllFree (all_types (tail_of k name place b))
   tail_free k name place b = one (ends_in_return b) refl

@@ -28,6 +28,7 @@ use Rattle.isle_core.specs.Rule.{Environment}
 use Rattle.isle_core.specs.Setting.{Setting, setting, paths_in}
 use Rattle.isle_core.specs.Terms.{sym_text}
 use Rattle.isle_core.specs.Value.{Value}
+use Rattle.isle_core.proofs.AllLaws.{all_append}
 use Rattle.isle_tree.specs.declared.tree.Operand.{Operand}
 use Rattle.isle_tree.specs.declared.tree.Operand.TheVariants as operand
 use Rattle.isle_tree.specs.declared.tree.Read.{Read}
@@ -70,10 +71,6 @@ pub record TellsTypes (env : Environment) (p : Program) (Named : List ℕ → Va
   pub structs : (ty : TypeId) (f : Form) → form env (MakesStruct ty) ≡ Some f → AreFieldsTold env (struct_asked p.types (sym_text env f.ty) (sym_text env f.ty)) (typed_fields env f.fields)
 
 -- ---- small facts
-
-pub all_append : {A : Type 0} (P : A → Type 0) (xs ys : List A) → AllByRecursion P xs → AllByRecursion P ys → AllByRecursion P (xs ++ ys)
-all_append P [] ys h k = k
-all_append P (x ∷ xs) ys h k = (h.0, all_append P xs ys h.1 k)
 
 pub value_eq : (a b : List ℕ) → AValue a ≡ AValue b → b ≡ a
 value_eq a b e = cc

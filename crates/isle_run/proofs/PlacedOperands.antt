@@ -15,17 +15,13 @@ use Rattle.isle_tree.specs.declared.tree.TPat.TheVariants as pattern
 use Rattle.isle_tree.specs.Program.{Stmt, Let, LetList, IfEq, IfLet, Match, Loop, Return, Extend, Overflow, Log, Split, Tail, Body, Done, Then, Function, Program}
 use Rattle.isle_tree.specs.Walk.{of_stmt}
 use Rattle.isle_tree.specs.WellFormed.{IsStmt, IsBody}
-use Rattle.isle_naming.specs.Names.{operand_names, read_names, reads_names, fields_names, expr_names, pattern_names, stmt_names, body_names}
+use Rattle.isle_operand_names.specs.Names.{operand_names, read_names, reads_names, fields_names, expr_names, pattern_names, stmt_names, body_names}
 use Rattle.isle_places.specs.DeclaredTypes.{Asked, variant_asked, struct_asked}
 use Rattle.isle_places.specs.Told.{Told, AValue, AnOption, ATuple, AnOptionalTuple, AList, AListOfTuples, Untold, Tells, field_told, operand_told, operand_of, pattern_told, read_told}
 use Rattle.isle_places.specs.Places.{Place, own_or, where_told, at, reads_places, call_places, params_of, fields_places, expr_places, plain_told, option_told, returned, both_places, pattern_places, told_after, told_inside, stmt_places, body_places}
 use Rattle.isle_places.specs.Signatures.{signature_of}
 use Rattle.isle_codegen.proofs.Operands.{read_operand, reads_operands, fields_operands, expr_operands, pattern_operands, own_operands, body_operands}
-use Rattle.isle_run.proofs.RightEntries.{all_front, all_back}
-
-all_append : {A : Type 0} (P : A → Type 0) (xs ys : List A) → AllByRecursion P xs → AllByRecursion P ys → AllByRecursion P (xs ++ ys)
-all_append P [] ys h k = k
-all_append P (x ∷ xs) ys h k = (h.0, all_append P xs ys h.1 k)
+use Rattle.isle_core.proofs.AllLaws.{all_append, all_front, all_back}
 
 module _ (Q : Operand → Type 0) where
   abbrev AllSo : List Operand → Type 0

@@ -45,7 +45,8 @@ use Rattle.isle_simulation.specs.Operands.{in_place, is_bound}
 use Rattle.isle_simulation.specs.Patterns.{bind_before, field_binds, form_pattern, leaves_out, pattern_named, pattern_of, some_pattern}
 use Rattle.isle_simulation.specs.RustNames.{HasRustNames}
 use Rattle.isle_simulation.specs.Statements.{binds_list, list_local, looped_local}
-use Rattle.isle_simulation.specs.Telling.{Telling, telling_of}
+use Rattle.isle_simulation.specs.Manner.{Manner, manner_of}
+use Rattle.isle_simulation.specs.Telling.{Telling}
 use Rattle.isle_simulation.specs.TermFunction.{ends_in_return, mark_of, tail_body, tail_of, tail_in, term_function}
 use Rattle.isle_simulation.specs.TypeTexts.{type_text, parameter}
 use Rattle.isle_simulation.proofs.ArmsRun.{arm_pattern}
@@ -62,7 +63,8 @@ use Rattle.isle_places.specs.Signatures.{signature_of}
 use Rattle.isle_places.specs.Told.{Told, AValue, AnOption, ATuple, AnOptionalTuple, AList, AListOfTuples, Untold, Tells, typed_told, within, look_told, list_told, operand_of, operand_told, expr_told, field_told, binds_told}
 use Rattle.isle_run.proofs.ToldTypes.{IsRight, right_over, within_right, item_right, place_right, look_right}
 use Rattle.isle_run.proofs.PlacedExprs as exprs
-use Rattle.isle_run.proofs.PlacedExprs.{TellsTypes, AreFieldsTold, all_append, named_enum, named_struct, variant_named, struct_unnamed}
+use Rattle.isle_core.proofs.AllLaws.{all_append}
+use Rattle.isle_run.proofs.PlacedExprs.{TellsTypes, AreFieldsTold, named_enum, named_struct, variant_named, struct_unnamed}
 
 module _ (env : Environment) (t : Term) (bs : List Binding) (p : Program) (Named : List ℕ → Value → Type 0) (names : HasRustNames env) (tells_types : TellsTypes env p Named) (f : Function) (params : f.params ≡ map (parameter env) t.arg_tys) (result : f.result ≡ type_text env t.ret_ty) where
   abbrev s : Setting
@@ -339,12 +341,12 @@ module _ (env : Environment) (t : Term) (bs : List Binding) (p : Program) (Named
 
   -- ---- blocks
 
-  stop_fits : (several : Bool) (c : Control) (after : Body) → BodyFits after → BodyFits (stop_before several c after)
-  stop_fits true (block.Return place given) after h = λ tells r. h tells r
-  stop_fits true (block.Match source arms) after h = h
-  stop_fits true (block.Equal a b body) after h = h
-  stop_fits true (block.Loop given body) after h = h
-  stop_fits false c after h = h
+  stop_fits : (inside several : Bool) (c : Control) (after : Body) → BodyFits after → BodyFits (stop_before inside several c after)
+  stop_fits inside true (block.Return place given) after h = λ tells r. h tells r
+  stop_fits inside true (block.Match source arms) after h = h
+  stop_fits inside true (block.Equal a b body) after h = h
+  stop_fits inside true (block.Loop given body) after h = h
+  stop_fits inside false c after h = h
 
   told_before_fits : (telling : Telling) (c : Control) (after : Body) → BodyFits after → BodyFits (told_before telling c after)
   told_before_fits None c after h = h
@@ -361,51 +363,51 @@ module _ (env : Environment) (t : Term) (bs : List Binding) (p : Program) (Named
   loop_list k source e = rw e refl
 
   mutual
-    block_fits : (telling : Telling) (b : Block) (bound made : List ℕ) (end : Body) → IsReadyFrom s bound made b → BodyFits end → BodyFits (told_body telling s bound b end)
-    block_fits telling Stop bound made end h k = k
-    block_fits telling (Step binds c more) bound made end h k =
+    block_fits : (manner : Manner) (b : Block) (bound made : List ℕ) (end : Body) → IsReadyFrom s bound made b → BodyFits end → BodyFits (told_body manner s bound b end)
+    block_fits manner Stop bound made end h k = k
+    block_fits manner (Step binds c more) bound made end h k =
         let now = bound_by bound binds in
-        let rest = stop_before (gives_several s) c (told_body telling s now more end) in
-        lets_fit bound binds (told_before telling c (Then (told_control telling s now c) rest)) h.0
-        (told_before_fits telling c (Then (told_control telling s now c) rest)
-        (then_fits (told_control telling s now c) rest (control_fits telling c now _ h.2) (stop_fits (gives_several s) c (told_body telling s now more end) (block_fits telling more now _ end h.3 k))))
+        let rest = stop_before manner.inside (gives_several s) c (told_body manner s now more end) in
+        lets_fit bound binds (told_before manner.telling c (Then (told_control manner s now c) rest)) h.0
+        (told_before_fits manner.telling c (Then (told_control manner s now c) rest)
+        (then_fits (told_control manner s now c) rest (control_fits manner c now _ h.2) (stop_fits manner.inside (gives_several s) c (told_body manner s now more end) (block_fits manner more now _ end h.3 k))))
 
-    control_fits : (telling : Telling) (c : Control) (bound made : List ℕ) → IsReadyControl s bound made c → (tells : Tells) → Right tells → StmtFits tells (told_control telling s bound c)
-    control_fits telling (block.Match source (block.Arm (constraint.ConstBool val) places body arms)) bound made k tells r =
+    control_fits : (manner : Manner) (c : Control) (bound made : List ℕ) → IsReadyControl s bound made c → (tells : Tells) → Right tells → StmtFits tells (told_control manner s bound c)
+    control_fits manner (block.Match source (block.Arm (constraint.ConstBool val) places body arms)) bound made k tells r =
         let v = over_value s bound source (constraint.ConstBool val) k.1.0 (λ e. cc) k.1.1 k.1.2.0 in
-        test_fits bound tells source v.ty (written_test env (constraint.ConstBool val)) (ConstBool v.ty val) (told_body telling s (bound_within bound places) body Done) r v.ready (refl, v.is) tt refl (block_fits telling body (bound_within bound places) made Done k.1.2.2 done_fits)
-    control_fits telling (block.Match source (block.Arm (constraint.ConstInt val of) places body arms)) bound made k tells r =
+        test_fits bound tells source v.ty (written_test env (constraint.ConstBool val)) (ConstBool v.ty val) (told_body manner s (bound_within bound places) body Done) r v.ready (refl, v.is) tt refl (block_fits manner body (bound_within bound places) made Done k.1.2.2 done_fits)
+    control_fits manner (block.Match source (block.Arm (constraint.ConstInt val of) places body arms)) bound made k tells r =
         let v = over_value s bound source (constraint.ConstInt val of) k.1.0 (λ e. cc) k.1.1 k.1.2.0 in
-        test_fits bound tells source v.ty (written_test env (constraint.ConstInt val of)) (ConstInt of val) (told_body telling s (bound_within bound places) body Done) r v.ready v.is tt refl (block_fits telling body (bound_within bound places) made Done k.1.2.2 done_fits)
-    control_fits telling (block.Match source (block.Arm (constraint.ConstPrim val) places body arms)) bound made k tells r =
+        test_fits bound tells source v.ty (written_test env (constraint.ConstInt val of)) (ConstInt of val) (told_body manner s (bound_within bound places) body Done) r v.ready v.is tt refl (block_fits manner body (bound_within bound places) made Done k.1.2.2 done_fits)
+    control_fits manner (block.Match source (block.Arm (constraint.ConstPrim val) places body arms)) bound made k tells r =
         let v = over_value s bound source (constraint.ConstPrim val) k.1.0 (λ e. cc) k.1.1 k.1.2.0 in
-        test_fits bound tells source v.ty (written_test env (constraint.ConstPrim val)) (ConstPrim val) (told_body telling s (bound_within bound places) body Done) r v.ready v.is tt refl (block_fits telling body (bound_within bound places) made Done k.1.2.2 done_fits)
-    control_fits telling (block.Match source (block.Arm (constraint.Variant of variant) places body arms)) bound made k tells r =
+        test_fits bound tells source v.ty (written_test env (constraint.ConstPrim val)) (ConstPrim val) (told_body manner s (bound_within bound places) body Done) r v.ready v.is tt refl (block_fits manner body (bound_within bound places) made Done k.1.2.2 done_fits)
+    control_fits manner (block.Match source (block.Arm (constraint.Variant of variant) places body arms)) bound made k tells r =
         let c = constraint.Variant of variant in
         let v = over_value s bound source c k.1.0 (λ e. cc) k.1.1 k.1.2.0 in
         let a = arm_pattern s source v.ty c places v.is k.1.2.1 tt in
-        variant_arm bound tells source v.ty of variant places _ (told_body telling s (bound_within bound places) body Done) r v.ready v.is k.1.2.1.1 a.is (block_fits telling body (bound_within bound places) made Done k.1.2.2 done_fits)
-    control_fits telling (block.Match source (block.Arm (constraint.Struct of) places body arms)) bound made k tells r =
+        variant_arm bound tells source v.ty of variant places _ (told_body manner s (bound_within bound places) body Done) r v.ready v.is k.1.2.1.1 a.is (block_fits manner body (bound_within bound places) made Done k.1.2.2 done_fits)
+    control_fits manner (block.Match source (block.Arm (constraint.Struct of) places body arms)) bound made k tells r =
         let c = constraint.Struct of in
         let v = over_value s bound source c k.1.0 (λ e. cc) k.1.1 k.1.2.0 in
         let a = arm_pattern s source v.ty c places v.is k.1.2.1 tt in
-        struct_arm bound tells source v.ty of places _ (told_body telling s (bound_within bound places) body Done) r v.ready v.is k.1.2.1.1 a.is (block_fits telling body (bound_within bound places) made Done k.1.2.2 done_fits)
-    control_fits telling (block.Match source (block.Arm constraint.Some places body arms)) bound made k tells r =
+        struct_arm bound tells source v.ty of places _ (told_body manner s (bound_within bound places) body Done) r v.ready v.is k.1.2.1.1 a.is (block_fits manner body (bound_within bound places) made Done k.1.2.2 done_fits)
+    control_fits manner (block.Match source (block.Arm constraint.Some places body arms)) bound made k tells r =
         let v = over_option s bound source k.1.0 k.1.1 k.1.2.0 in
-        some_arm bound tells source places (told_body telling s (bound_within bound places) body Done) r v.1.bound' k.1.2.1.0 k.1.2.1.1 (block_fits telling body (bound_within bound places) made Done k.1.2.2 done_fits)
-    control_fits telling (block.Match source block.NoArm) bound made k tells r = (tt, r)
-    control_fits telling (block.Equal a b body) bound made k tells r =
+        some_arm bound tells source places (told_body manner s (bound_within bound places) body Done) r v.1.bound' k.1.2.1.0 k.1.2.1.1 (block_fits manner body (bound_within bound places) made Done k.1.2.2 done_fits)
+    control_fits manner (block.Match source block.NoArm) bound made k tells r = (tt, r)
+    control_fits manner (block.Equal a b body) bound made k tells r =
         let ty = k.0.0 in
-        equal_fits (written_operand s bound a) (written_operand s bound b) (at (paths_in s) a) (at (paths_in s) b) ty tells (told_body telling s bound body Done) r (ready_right bound tells a ty r k.0.1) (ready_right bound tells b ty r k.0.2) k.0.1.path k.0.2.path
-        (ready_fits bound a ty k.0.1) (ready_fits bound b ty k.0.2) (block_fits telling body bound made Done k.1 done_fits)
-    control_fits telling (block.Loop given body) bound made k tells r =
+        equal_fits (written_operand s bound a) (written_operand s bound b) (at (paths_in s) a) (at (paths_in s) b) ty tells (told_body manner s bound body Done) r (ready_right bound tells a ty r k.0.1) (ready_right bound tells b ty r k.0.2) k.0.1.path k.0.2.path
+        (ready_fits bound a ty k.0.1) (ready_fits bound b ty k.0.2) (block_fits manner body bound made Done k.1 done_fits)
+    control_fits manner (block.Loop given body) bound made k tells r =
         let h = k.0 in
         let list : written_list (looped_local s given) ≡ h.source.0 = loop_list (slice_get s.bindings given.0) h.source h.is in
         let x = look_told tells (written_list (looped_local s given)) in
         let right : IsRight env t (at (paths_in s) h.source) x = subst (λ (n : ℕ). IsRight env t (at (paths_in s) h.source) (look_told tells n)) (sym list) (look_right env t path h.source.0 tells r) in
         let item = right_over env t (at (paths_in s) given) (Chosen (at (paths_in s) h.source)) _ (λ has. path_at s.bindings given (binding.Iterator h.source) h.is has) (item_right env t (at (paths_in s) h.source) x right) in
-        (block_fits telling body (bound ++ given.0 ∷ []) made Done k.1 done_fits (placing.told_inside (written_list (looped_local s given)) given.0 tells) (told_more tells given.0 _ r item), r)
-    control_fits telling (block.Return place given) bound made k tells r =
+        (block_fits manner body (bound ++ given.0 ∷ []) made Done k.1 done_fits (placing.told_inside (written_list (looped_local s given)) given.0 tells) (told_more tells given.0 _ r item), r)
+    control_fits manner (block.Return place given) bound made k tells r =
         result_fits (kind_of t.kind) (written_read s bound false given) tells r (subst (Fits (operand_of (written_read s bound false given))) (sym result) (read_fits bound false given t.ret_ty k))
 
   -- ---- functions
@@ -429,4 +431,4 @@ module _ (env : Environment) (t : Term) (bs : List Binding) (p : Program) (Named
   function_fits options files b lawful single given =
       let same : function_of options files env t bs b ≡ f = one_function (function_of options files env t bs b) f (sym (function_made options files env t bs b lawful single) ∙ given) in
       subst (λ (body : Body). PlacesFit (body_places p f [] body)) (ap (λ (g : Function). g.body) same)
-      (block_fits (telling_of options files s) (completed s [] b) [] [] (tail_in files env t b) (completed_ready s b lawful) (tail_fits _ _ _ b) [] tt)
+      (block_fits (manner_of options files s) (completed s [] b) [] [] (tail_in files env t b) (completed_ready s b lawful) (tail_fits _ _ _ b) [] tt)

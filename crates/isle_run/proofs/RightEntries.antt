@@ -16,6 +16,7 @@ use Rattle.isle_core.specs.Meaning.{PureAnswers, TurnAnswers, Meaning}
 use Rattle.isle_core.specs.Rule.{Environment}
 use Rattle.isle_core.specs.Terms.{sym_text, with_rules}
 use Rattle.isle_core.specs.Value.{Value, Answer}
+use Rattle.isle_core.proofs.AllLaws.{all_front, all_back}
 use Rattle.isle_tree.specs.declared.tree.TraitFn.{TraitFn}
 use Rattle.isle_tree.specs.Program.{Function, Program}
 use Rattle.isle_tree.specs.WellFormed.{trait_fn, fn_names}
@@ -26,7 +27,7 @@ use Rattle.isle_interpreter.specs.Named.{AreNamed, AnswerFits}
 use Rattle.isle_interpreter.proofs.AnswersHold.{no_constants, both_unanswered}
 use Rattle.isle_simulation.specs.TypeTexts.{type_text, parameter}
 use Rattle.isle_simulation.specs.TraitFns.{constructor_fn, extractor_fn, trait_fns_of}
-use Rattle.isle_items.specs.TypeItems.{type_items_of}
+use Rattle.isle_lawful_names.specs.TypeItems.{type_items_of}
 use Rattle.isle_run_inputs.specs.Asked.{Asked, constructor_types}
 use Rattle.isle_run.specs.Conforming.{Conforms}
 use Rattle.isle_run.specs.Valid.{IsServed, external, internal, IsAsked, extractor, constructor, HasNoCases, HasNoTurns, IsRightCase, AreRightCases, AllCasesRight, AreRightTurns, AllRight, HasNoValue, IsRightConstant, AreRightConstants}
@@ -49,15 +50,6 @@ names_of env (ty ∷ tys) = ap (λ ns. type_text env ty ∷ ns) (names_of env ty
 -- the entries of constants
 abbrev pub as_entries : List (List ℕ × Value) → List Entry
 as_entries = map (λ c. Constant c.0 c.1)
-
--- what holds of all of two lists behind one another holds of the one and the other
-pub all_front : {X : Type 0} (P : X → Type 0) (xs ys : List X) → AllByRecursion P (xs ++ ys) → AllByRecursion P xs
-all_front P [] ys h = tt
-all_front P (x ∷ xs) ys h = (h.0, all_front P xs ys h.1)
-
-pub all_back : {X : Type 0} (P : X → Type 0) (xs ys : List X) → AllByRecursion P (xs ++ ys) → AllByRecursion P ys
-all_back P [] ys h = h
-all_back P (x ∷ xs) ys h = all_back P xs ys h.1
 
 -- no cases of a callee is no entry of it
 uncased : (c : Callee) (given : List PureAnswers) → HasNoCases c given → IsUnanswered c (map Cases given)
@@ -182,7 +174,7 @@ module _ (options : CodegenOptions) (files : Files) (env : Environment) (names :
               (cases_fit h.types h.kind s.0 a.cases s.2 h.cases, answer_fits h.types h.kind s.0 a.rest s.2 h.rest)),
         )
 
-    -- cases in front of what is right behind them all
+    -- cases in front of what is right after them all
     all_cases : (consts : List (List ℕ × Value)) (earlier later : List PureAnswers) (rest : List Entry) → AllCasesRight env earlier later → AreRight p f m (as_entries consts ++ map Cases (earlier ++ later)) rest
         → AreRight p f m (as_entries consts ++ map Cases earlier) (map Cases later ++ rest)
     all_cases consts earlier [] rest h right = subst (λ cs. AreRight p f m (as_entries consts ++ map Cases cs) rest) (append-nil earlier) right
@@ -203,7 +195,7 @@ module _ (options : CodegenOptions) (files : Files) (env : Environment) (names :
       apart = apart;
     }
 
-    -- constants in front of what is right behind them all
+    -- constants in front of what is right after them all
     constants_right : (earlier later : List (List ℕ × Value)) (rest : List Entry) → AreRightConstants env earlier later → AllByRecursion (λ (c : List ℕ × Value). has_constant p c.0 ≡ true) later → AllByRecursion (λ (c : List ℕ × Value). FitsPlaces p c.0 c.1) later → AllByRecursion (λ (c : List ℕ × Value). IsApart p f m c.0) later → AreRight p f m (as_entries (earlier ++ later)) rest
         → AreRight p f m (as_entries earlier) (as_entries later ++ rest)
     constants_right earlier [] rest h stand fit apart right = subst (λ cs. AreRight p f m (as_entries cs) rest) (append-nil earlier) right

@@ -41,7 +41,7 @@ of_each : (P : List ℕ → Type 0) (xs : List (List ℕ)) (y : List ℕ) → Al
 of_each P [] y h c = absurd (none_contained y c)
 of_each P (x ∷ xs) y h c = ⊎_elim (λ e. subst P e h.0) (λ k. of_each P xs y h.1 k) (contained_cases x xs y c)
 
--- a function behind one more, or none, where names are distinct
+-- a function after one more, or none, where names are distinct
 found_after : (o : Option TraitFn) (fs : List TraitFn) (f : TraitFn) → IsDistinct bytes_eq (fn_names (cons_option o fs)) → Contains (fn_names fs) f.name → (IsDistinct bytes_eq (fn_names fs) → trait_fn fs f.name ≡ Some f)
     → trait_fn (cons_option o fs) f.name ≡ Some f
 unfolding IsDistinct

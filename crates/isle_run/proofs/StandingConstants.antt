@@ -29,20 +29,24 @@ use Rattle.isle_core.specs.Setting.{setting}
 use Rattle.isle_core.specs.StandsFor.{IsFlat, AreFlat, IsTrivial}
 use Rattle.isle_core.specs.Terms.{sym_text, with_rules}
 use Rattle.isle_core.specs.Tests.{Test, Is, rule_tests}
+use Rattle.isle_core.proofs.AllLaws.{all_append}
 use Rattle.isle_core.proofs.Contained.{head_contained, tail_contained, contained_cases, none_contained}
 use Rattle.isle_blocks.specs.AllTests.{IsTried}
-use Rattle.isle_items.specs.LawfulNames.{IsNoType, emitted_names}
-use Rattle.isle_items.proofs.HasRustNames.{has_rust_names}
+use Rattle.isle_lawful_names.specs.LawfulNames.{IsNoType, emitted_names}
+use Rattle.isle_lawful_names.proofs.HasRustNames.{has_rust_names}
 use Rattle.isle_spelling.specs.Identifier.{begins}
 use Rattle.isle_simulation.specs.RustNames.{HasRustNames}
-use Rattle.isle_naming.specs.Names.{body_names, function_names, is_among}
-use Rattle.isle_naming.specs.Occurring.{item_types, trait_types, function_types, param_types, program_types, occurs}
+use Rattle.isle_operand_names.specs.Names.{body_names, function_names, is_among}
+use Rattle.isle_operand_names.specs.Occurring.{item_types, trait_types, function_types, own_types, param_types, program_types, occurs}
 use Rattle.isle_interpreter.specs.Entries.{has_constant}
 use Rattle.isle_simulation.specs.TermFunction.{tail_in}
-use Rattle.isle_simulation.specs.Telling.{telling_of}
+use Rattle.isle_simulation.specs.Manner.{manner_of}
 use Rattle.isle_simulation.specs.Completed.{completed}
 use Rattle.isle_simulation.specs.TypeTexts.{def_text, type_text, parameter}
+use Rattle.isle_simulation.proofs.CompletedReady.{completed_ready}
+use Rattle.isle_simulation.proofs.CompletedRuns.{completed_single}
 use Rattle.isle_simulation.proofs.Made.{function_made}
+use Rattle.isle_simulation.proofs.MadeStatements.{Anything, any_tested, block_holds}
 use Rattle.isle_simulation.proofs.Written.{function_of}
 use Rattle.isle_tree.specs.declared.tree.TraitFn.{TraitFn}
 use Rattle.isle_tree.specs.declared.tree.TypeItem.{TypeItem}
@@ -55,7 +59,7 @@ use Rattle.isle_run.specs.Valid.{AreRightConstants}
 use Rattle.isle_run.proofs.GivenConstants.{each_declared}
 use Rattle.isle_run.proofs.LawfulNames.{HasLawfulNames}
 use Rattle.isle_run.proofs.NamedTests.{function_names_it}
-use Rattle.isle_run.proofs.OccurringTypes.{types_free, traits_free, block_free, tail_free, params_free}
+use Rattle.isle_run.proofs.OccurringTypes.{types_free, traits_free, types_made, tail_free, params_free}
 use Rattle.isle_run.proofs.PlacedExprs.{IsConstantValue}
 use Rattle.isle_run.proofs.SourceNames.{lawful_names}
 use Rattle.isle_codegen.proofs.TypedNames.{typed_parts}
@@ -195,8 +199,7 @@ module _ (options : CodegenOptions) (files : Files) (env : Environment) (checked
         one (Some d) e = each_free (emitted_names env.types env.types.types) name apart ty.0 (def_text env.types (Some d)) (slice_get-map (λ (x : TypeDef). def_text env.types (Some x)) env.types.types ty.0 ∙ ap (option_map (λ (x : TypeDef). def_text env.types (Some x))) e)
 
     both : (xs ys : List (List ℕ)) → AllByRecursion Free xs → AllByRecursion Free ys → AllByRecursion Free (xs ++ ys)
-    both [] ys h k = k
-    both (x ∷ xs) ys h k = (h.0, both xs ys h.1 k)
+    both = all_append Free
 
     one_function : (a b : Function) → Some a ≡ Some b → a ≡ b
     one_function a b e = cc
@@ -206,8 +209,11 @@ module _ (options : CodegenOptions) (files : Files) (env : Environment) (checked
         let s = setting env b.term b.set.bindings in
         let same : function_of options files env b.term b.set.bindings b.block ≡ f = one_function _ f (sym (function_made options files env b.term b.set.bindings b.block b.lawful b.single) ∙ b.statements) in
         subst (λ (g : Function). AllByRecursion Free (function_types g)) same
-        (both (param_types (map (parameter env) b.term.arg_tys)) _ (params_free env Free type_free b.term.arg_tys)
-        (type_free b.term.ret_ty, block_free env Free type_free s refl (telling_of options files s) (completed s [] b.block) [] (tail_in files env b.term b.block) (tail_free env Free type_free _ _ _ b.block)))
+        (both (param_types (map (parameter env) b.term.arg_tys)) _ (params_free env Free type_free b.term.arg_tys) (
+          type_free b.term.ret_ty,
+          block_holds own_types Free s Anything (types_made env Free type_free s refl) (manner_of options files s) (completed s [] b.block) [] [] (tail_in files env b.term b.block)
+              (completed_ready s b.block b.lawful) (completed_single s [] b.block b.single) (any_tested (completed s [] b.block)) (tail_free env Free type_free _ _ _ b.block),
+        ))
 
     functions_free : (ids : List TermId) (fs : List Function) → AreFromBlocks options files env ids fs → AllByRecursion Free (flat_map function_types fs)
     functions_free [] [] b = tt

@@ -24,8 +24,8 @@ use Rattle.isle_core.specs.SameInRun.{same_in_run}
 use Rattle.isle_core.specs.Terms.{sym_text, with_rules}
 use Rattle.isle_core.specs.Value.{Value, Truth, Int, Opaque, Variant, Struct}
 use Rattle.isle_core.proofs.Contained.{head_contained, tail_contained, contained_cases, none_contained}
-use Rattle.isle_items.specs.TypeItems.{fields_shape, item_of, type_item, type_items_of}
-use Rattle.isle_items.proofs.HasRustNames.{has_rust_names}
+use Rattle.isle_lawful_names.specs.TypeItems.{fields_shape, item_of, type_item, type_items_of}
+use Rattle.isle_lawful_names.proofs.HasRustNames.{has_rust_names}
 use Rattle.isle_tree.specs.declared.tree.Operand.{Operand}
 use Rattle.isle_tree.specs.declared.tree.Operand.TheVariants as operand
 use Rattle.isle_tree.specs.declared.tree.TypeBody.TheVariants as type_body
@@ -35,8 +35,8 @@ use Rattle.isle_tree.specs.Program.{Function, Program}
 use Rattle.isle_tree.specs.Run.{function_of}
 use Rattle.isle_tree.specs.WellFormed.{IsBody, IsFunction}
 use Rattle.isle_printer.specs.Bytes.{same_bytes}
-use Rattle.isle_naming.specs.Names.{body_names, is_among}
-use Rattle.isle_naming.specs.Occurring.{item_types, trait_types, function_types, occurs}
+use Rattle.isle_operand_names.specs.Names.{body_names, is_among}
+use Rattle.isle_operand_names.specs.Occurring.{item_types, trait_types, function_types, occurs}
 use Rattle.isle_places.specs.Places.{Place, places, StandsAt}
 use Rattle.isle_interpreter.specs.Apart.{constant_value, is_called, IsApart}
 use Rattle.isle_interpreter.specs.Entries.{has_constant, FitsPlaces}

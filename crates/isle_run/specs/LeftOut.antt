@@ -10,7 +10,7 @@ use Rattle.isle_core.specs.Rule.{Environment}
 use Rattle.isle_core.specs.Terms.{sym_text}
 use Rattle.isle_tree.specs.Program.{Function}
 use Rattle.isle_tree.specs.Run.{function_of}
-use Rattle.isle_naming.specs.Names.{body_names, is_among}
+use Rattle.isle_operand_names.specs.Names.{body_names, is_among}
 use Rattle.isle_run.specs.Attempt.{Attempt}
 
 -- whether a constant stands in the function, and these answers give it no value

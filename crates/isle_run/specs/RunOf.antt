@@ -6,6 +6,7 @@ use Rattle.isle_core.specs.declared.options.CodegenOptions.{CodegenOptions}
 use Rattle.isle_core.specs.declared.types.Term.{Term}
 use Rattle.isle_core.specs.HasType.{HaveTypes}
 use Rattle.isle_core.specs.Meaning.{Meaning}
+use Rattle.isle_core.specs.Space.{Space}
 use Rattle.isle_core.specs.Rule.{Environment}
 use Rattle.isle_core.specs.Value.{Value, Ran}
 use Rattle.isle_run_inputs.specs.Requested.{requested_term}
@@ -14,8 +15,9 @@ use Rattle.isle_tree.specs.Run.{run}
 use Rattle.isle_interpreter.specs.Judged.{Runs}
 use Rattle.isle_run.specs.Conforming.{Conforms}
 
--- the term's function of a program that conforms to the source runs so, at arguments of its types, under answers that fit it
-pub record IsRunOf (options : CodegenOptions) (files : Files) (env : Environment) (term : List ℕ) (args : List Value) (answers : Meaning) (p : Program) (r : Ran) : Type 0 where
+-- the term's function of a program that conforms to the source runs so, at arguments of its types, under answers that fit it, where the list of
+-- results has this space
+pub record IsRunOf (options : CodegenOptions) (files : Files) (env : Environment) (term : List ℕ) (args : List Value) (answers : Meaning) (space : Space) (p : Program) (r : Ran) : Type 0 where
   pub id : TermId
   pub requested : requested_term env term ≡ Some id
   pub declared : Term
@@ -23,4 +25,4 @@ pub record IsRunOf (options : CodegenOptions) (files : Files) (env : Environment
   pub typed : HaveTypes env args declared.arg_tys
   pub conforms : Conforms options files env p
   pub fits : Runs p term args answers
-  pub runs : run p term args answers ≡ Some r
+  pub runs : run p term args answers space ≡ Some r

@@ -27,7 +27,7 @@ use Rattle.isle_simulation.specs.TraitFns.{func_of, extracted_of}
 use Rattle.isle_tree.specs.Calls.{body_calls}
 use Rattle.isle_tree.specs.Program.{Function, Program}
 use Rattle.isle_tree.specs.Run.{function_of}
-use Rattle.isle_naming.specs.Occurring.{occurs}
+use Rattle.isle_operand_names.specs.Occurring.{occurs}
 use Rattle.isle_interpreter.specs.Apart.{IsApart}
 use Rattle.isle_interpreter.specs.Entries.{has_constant, FitsPlaces}
 use Rattle.isle_places.specs.Places.{StandsAt}
@@ -69,7 +69,7 @@ HasNoTurns c = AllByRecursion (λ (a : TurnAnswers). goes_to c (Some a.callee) �
 abbrev pub IsRightCase : Environment → Asked → ReturnKind → List Value × Answer → Type 0
 IsRightCase env a kind c = HaveTypes env c.0 a.params × Fits env kind a.results c.1
 
--- cases behind these are right: their callee is there and asked by cases, none of these is its, and each case and the rest are so
+-- cases after these are right: their callee is there and asked by cases, none of these is its, and each case and the rest are so
 pub record AreRightCases (env : Environment) (earlier : List PureAnswers) (a : PureAnswers) : Type 0 where
   pub types : Asked
   pub kind : ReturnKind
@@ -83,7 +83,7 @@ abbrev pub AllCasesRight : Environment → (earlier later : List PureAnswers) �
 AllCasesRight env earlier [] = Unit {0}
 AllCasesRight env earlier (a ∷ more) = AreRightCases env earlier a × AllCasesRight env (earlier ++ a ∷ []) more
 
--- turns behind these, and beside cases, are right: their callee is that of an impure term, none of these and no cases are its, and each
+-- turns after these, and beside cases, are right: their callee is that of an impure term, none of these and no cases are its, and each
 -- answer is of its kind and type
 pub record AreRightTurns (env : Environment) (cases : List PureAnswers) (earlier : List TurnAnswers) (a : TurnAnswers) : Type 0 where
   pub term : Term
@@ -103,7 +103,7 @@ AllRight env cases earlier (a ∷ more) = AreRightTurns env cases earlier a × A
 abbrev pub HasNoValue : List ℕ → List (List ℕ × Value) → Type 0
 HasNoValue name = AllByRecursion (λ (c : List ℕ × Value). bytes_eq name c.0 ≡ false)
 
--- a constant behind these is right: none of these has its name, and its value is of its type
+-- a constant after these is right: none of these has its name, and its value is of its type
 pub record IsRightConstant (env : Environment) (earlier : List (List ℕ × Value)) (c : List ℕ × Value) : Type 0 where
   pub first : HasNoValue c.0 earlier
   pub ty : TypeId

@@ -28,8 +28,10 @@ pub fn of_checked(
 ) -> Result<String, RunFail>
     requires checked { IsChecked files.now (env_checked checked.now) }
     requires terms { AreRuleSets (env_checked checked.now) checked.now.terms }
-    ensures ok { IfOk result (λ lines. IsTrial options.now files.now term.now (seen given.now) answers.now (string_bytes lines)) }
-    ensures err { IfErr result (λ e. IsNotRun options.now files.now term.now (seen given.now) answers.now e) }
+    ensures ok { IfOk result (λ lines.
+        IsTrial options.now files.now term.now (seen given.now) answers.now (string_bytes lines)) }
+    ensures err { IfErr result (λ e.
+        IsNotRun options.now files.now term.now (seen given.now) answers.now e) }
 {
     let terms = checked.terms.as_slice();
     let program = match codegen_tree(

@@ -8,14 +8,14 @@ ghost use Rattle.isle_core.specs.Terms.{sym_text};
 ghost use Rattle.isle_core.specs.ValueViews.{meaning};
 ghost use Rattle.isle_core.specs.declared.values.Value.{Value as CodeValue};
 ghost use Rattle.isle_tree.specs.Views.{function};
-ghost use Rattle.isle_naming.specs.Sets.{has_name};
+ghost use Rattle.isle_operand_names.specs.Sets.{has_name};
 ghost use Rattle.isle_run.specs.Compiled.{attempt};
 ghost use Rattle.isle_run.specs.LeftOut.{is_left_out as IsLeftOut, leave_out};
 
 use crate::outcome::Compiled;
 use isle_core::{Answers, Sym, Text, TypeEnv, TypeId, Value};
 use isle_interpreter::function_of;
-use isle_naming::{set_of, standing};
+use isle_operand_names::{set_of, standing};
 use isle_tree::Function;
 use std::alloc::{AllocError, Global};
 use std::collections::BTreeSet;
@@ -23,7 +23,9 @@ use std::slice;
 
 // Appends the names of the constants that are given values.
 fn push_given<'a>(names: &mut Vec<&'a str>, given: &'a [(Text, Value)]) -> Result<(), AllocError>
-    ensures { OnOk result (map (λ x. x.now) names.new.items ≡ map (λ x. x.now) names.old.items ++ map (λ (c : List ℕ × CodeValue). c.0) given.now) }
+    ensures { OnOk result
+        (map (λ x. x.now) names.new.items
+        ≡ map (λ x. x.now) names.old.items ++ map (λ (c : List ℕ × CodeValue). c.0) given.now) }
 {
     for constant in given {
         names.push(constant.0.as_str())?;
@@ -33,7 +35,8 @@ fn push_given<'a>(names: &mut Vec<&'a str>, given: &'a [(Text, Value)]) -> Resul
 
 // The names of the constants that answers give values, as a set.
 fn given<'a>(alloc: Global, answers: &'a Answers) -> Result<BTreeSet<&'a str>, AllocError>
-    ensures { IfOk result (λ found. (name : List ℕ) → has_name found name ≡ is_some (const_of (meaning answers.now) name)) }
+    ensures { IfOk result (λ found.
+        (name : List ℕ) → has_name found name ≡ is_some (const_of (meaning answers.now) name)) }
 {
     let mut names = Vec::new(alloc);
     push_given(&mut names, answers.consts.as_slice())?;
@@ -48,7 +51,8 @@ fn is_left_out(
     constant: &(Sym, TypeId),
 ) -> bool
     ensures { (env : Environment) → env.types ≡ typeenv.now
-        → result ≡ has_name standing.now (sym_text env constant.now.0) && not (has_name given.now (sym_text env constant.now.0)) }
+        → result ≡ has_name standing.now (sym_text env constant.now.0) && not
+        (has_name given.now (sym_text env constant.now.0)) }
 {
     let name = typeenv.symbol(constant.0);
     standing.contains(name) && !given.contains(name)
@@ -62,7 +66,9 @@ fn any_left_out(
     constants: &[(Sym, TypeId)],
 ) -> bool
     ensures { (env : Environment) → env.types ≡ typeenv.now
-        → result ≡ list_any (λ (c : Sym × TypeId). has_name standing.now (sym_text env c.0) && not (has_name given.now (sym_text env c.0))) constants.now }
+        → result ≡ list_any
+        (λ (c : Sym × TypeId). has_name standing.now (sym_text env c.0) && not
+        (has_name given.now (sym_text env c.0))) constants.now }
 {
     for constant in constants {
         if is_left_out(typeenv, standing, given, constant) {
@@ -95,7 +101,9 @@ pub fn leaves_out(
     term: &str,
     answers: &Answers,
 ) -> Result<bool, AllocError>
-    ensures { IfOk result (λ left. (args : List CodeValue) → left ≡ leave_out (attempt compiled.now term.now args) (meaning answers.now)) }
+    ensures { IfOk result (λ left.
+        (args : List CodeValue)
+        → left ≡ leave_out (attempt compiled.now term.now args) (meaning answers.now)) }
 {
     match function_of(compiled.program.fns.as_slice(), term) {
         Some(f) => function_leaves_out(alloc, compiled.typeenv, f, answers),

@@ -50,7 +50,9 @@ fn refused(
     args: &[Value],
     other: RunFail,
 ) -> RunFail
-    ensures { (text : List ℕ) → (Takes (program_of compiled.now) term.now (values args.now) → IsRunRefused (attempt compiled.now term.now args.now) text other)
+    ensures { (text : List ℕ)
+        → (Takes (program_of compiled.now) term.now (values args.now)
+        → IsRunRefused (attempt compiled.now term.now args.now) text other)
         → (result ≡ Memory) ⊎ IsRunRefused (attempt compiled.now term.now args.now) text result }
 {
     match takes(alloc, compiled.program, term, args) {
@@ -69,8 +71,10 @@ fn under_forms(
     end: usize,
 ) -> Result<Outcome, RunFail>
     requires well_formed { IsWellFormed (program_of compiled.now) }
-    ensures ok { IfOk result (λ o. IsUnder (attempt compiled.now term.now args.now) (forms_seen forms.now) (ran o)) }
-    ensures err { IfErr result (λ e. (text : List ℕ) → SpellsForms text (forms_seen forms.now) → end ≡ length text
+    ensures ok { IfOk result (λ o.
+        IsUnder (attempt compiled.now term.now args.now) (forms_seen forms.now) (ran o)) }
+    ensures err { IfErr result (λ e.
+        (text : List ℕ) → SpellsForms text (forms_seen forms.now) → end ≡ length text
         → (e ≡ Memory) ⊎ IsRunRefused (attempt compiled.now term.now args.now) text e) }
 {
     let answers = answers_at(alloc, compiled.typeenv, compiled.termenv, forms)?;
@@ -93,8 +97,10 @@ pub fn outcome_under(
     text: &str,
 ) -> Result<Outcome, RunFail>
     requires well_formed { IsWellFormed (program_of compiled.now) }
-    ensures ok { IfOk result (λ o. IsOutcome (attempt compiled.now term.now args.now) text.now (ran o)) }
-    ensures err { IfErr result (λ e. (e ≡ Memory) ⊎ IsRunRefused (attempt compiled.now term.now args.now) text.now e) }
+    ensures ok { IfOk result (λ o.
+        IsOutcome (attempt compiled.now term.now args.now) text.now (ran o)) }
+    ensures err { IfErr result (λ e.
+        (e ≡ Memory) ⊎ IsRunRefused (attempt compiled.now term.now args.now) text.now e) }
 {
     match forms(alloc, text) {
         Ok(forms) => under_forms(alloc, compiled, term, args, forms.as_slice(), text.len()),

@@ -29,7 +29,8 @@ fn args_given(
     given: &[Written],
 ) -> Result<Vec<Value>, OutOfMemory>
     requires { AreRuleSets (env_checked checked.now) checked.now.terms }
-    ensures { IfOk result (λ args. values args.items ≡ args_given (env_checked checked.now) term.now (seen given.now)) }
+    ensures { IfOk result (λ args.
+        values args.items ≡ args_given (env_checked checked.now) term.now (seen given.now)) }
 {
     let typeenv = &checked.typeenv;
     let tys = match requested_term(typeenv, &checked.termenv, checked.terms.as_slice(), term) {
@@ -54,7 +55,8 @@ pub fn of_program(
     requires terms { AreRuleSets (env_checked checked.now) checked.now.terms }
     requires well_formed { IsWellFormed (program tree.now) }
     ensures ok { IfOk result (λ lines. OfSource (env_checked checked.now) (program tree.now)
-        (λ options files. IsTrial options files term.now (seen given.now) answers.now (string_bytes lines))) }
+        (λ options files.
+        IsTrial options files term.now (seen given.now) answers.now (string_bytes lines))) }
     ensures err { IfErr result (λ e. OfSource (env_checked checked.now) (program tree.now)
         (λ options files. IsNotRun options files term.now (seen given.now) answers.now e)) }
 {

@@ -22,7 +22,8 @@ fn push_impure(
     call: &CallMade,
 ) -> Result<(), OutOfMemory>
     ensures { OnOk result (OfTypes types.now (λ env. string_bytes out.new
-        ≡ string_bytes out.old ++ (if is_some (answer_type env call.now.callee) then call_line (made call.now) else []))) }
+        ≡ string_bytes out.old
+        ++ (if is_some (answer_type env call.now.callee) then call_line (made call.now) else []))) }
 {
     match types.of(&call.callee) {
         Some(_) => push_call(out, call),
@@ -52,7 +53,9 @@ pub fn lines_of(
     termenv: &TermEnv,
     outcome: &Outcome,
 ) -> Result<String, OutOfMemory>
-    ensures { IfOk result (λ text. string_bytes text ≡ run_lines (shown_run (environment typeenv.now termenv.now) (ran outcome.now))) }
+    ensures { IfOk result (λ text.
+        string_bytes text
+        ≡ run_lines (shown_run (environment typeenv.now termenv.now) (ran outcome.now))) }
 {
     let types = AnswerTypes::new(alloc, typeenv, termenv.terms.as_slice())?;
     let mut text = end_line(alloc, &outcome.end)?;

@@ -36,9 +36,12 @@ pub fn trial(
     answers: &str,
 ) -> Result<String, TrialFail>
     requires count { length files.now.file_texts ≡ length files.now.file_names }
-    ensures ok { IfOk result (λ lines. IsTrial options.now files.now term.now (seen given.now) answers.now (string_bytes lines)) }
-    ensures err { IfErr result (λ e. HasNoLines options.now files.now term.now (seen given.now) answers.now e) }
-    ensures complete { CanRun files.now term.now (seen given.now) answers.now → IfErr result IsWant }
+    ensures ok { IfOk result (λ lines.
+        IsTrial options.now files.now term.now (seen given.now) answers.now (string_bytes lines)) }
+    ensures err { IfErr result (λ e.
+        HasNoLines options.now files.now term.now (seen given.now) answers.now e) }
+    ensures complete { CanRun files.now term.now (seen given.now) answers.now
+        → IfErr result IsWant }
 {
     let checked = match check_files(alloc, files) {
         Ok(checked) => checked,

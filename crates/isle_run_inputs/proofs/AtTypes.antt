@@ -7,7 +7,7 @@ use Rattle.std.proofs.lemmas.Option.{slice_get-map, same_Some, none-some}
 use denote.Ref.{Bor}
 use Rattle.isle_core.specs.declared.types.TypeDef.{TypeDef}
 use Rattle.isle_core.specs.declared.types.TypeEnv.{TypeEnv}
-use Rattle.isle_run_inputs.proofs.Rest.{got}
+use Rattle.isle_core.proofs.Got.{got}
 
 -- what was found is a type of these, where there is one
 abbrev IsFound : TypeEnv → Option (Bor (TypeEnv × TypeDef)) → Option TypeDef → Type 0

@@ -16,7 +16,7 @@ use Rattle.isle_run_inputs.specs.AnswersAt.{answer_at, turns_by, case_at, cases_
 
 -- ---- lists
 
--- one item more behind those that were
+-- one item more after those that were
 pushed : {X Y : Type 0} (f : X → Y) (old new : List X) (x : X) (rest : List Y) → new ≡ old ++ x ∷ [] → map f old ++ f x ∷ rest ≡ map f new ++ rest
 pushed f old new x rest e = sym (append_assoc (map f old) (f x ∷ []) rest) ∙ ap (λ ys. ys ++ rest) (sym (ap (map f) e ∙ map-append f old (x ∷ [])))
 

@@ -56,17 +56,17 @@ left_first env fs parts i part lt is =
 
 -- ---- fields in front
 
--- a field behind those in front
+-- a field after those in front
 onto_append : (xs : List (List ℕ × CodeValue)) (f : List ℕ × CodeValue) (more : FieldValues) → fields_onto xs (Field f.0 (value f.1) more) ≡ fields_onto (xs ++ f ∷ []) more
 onto_append [] f more = refl
 onto_append (x ∷ xs) f more = ap (Field x.0 (value x.1)) (onto_append xs f more)
 
--- nothing behind them
+-- nothing after them
 onto_nothing : (xs : List (List ℕ × CodeValue)) → fields xs ≡ fields_onto xs NoField
 onto_nothing [] = refl
 onto_nothing (x ∷ xs) = ap (Field x.0 (value x.1)) (onto_nothing xs)
 
--- a field behind those in front, where the others are there
+-- a field after those in front, where the others are there
 onto_put : (xs : List (List ℕ × CodeValue)) (f : List ℕ × CodeValue) (r : Option FieldValues) → option_map (fields_onto xs) (put_field (Some (field_seen f)) r) ≡ option_map (fields_onto (xs ++ f ∷ [])) r
 onto_put xs f None = refl
 onto_put xs f (Some more) = ap Some (onto_append xs f more)
@@ -89,7 +89,7 @@ pub fields_stop : (env : Environment) (fs : List (List ℕ × TypeId)) (parts : 
 fields_stop env fs parts i part old all lt is at were =
     sym (were ∙ ap (option_map (fields_onto old)) (left_first env fs parts i part lt is ∙ ap (λ x. put_field x (left env fs parts (i + 1))) (sym at)))
 
--- behind all of them
+-- after all of them
 pub fields_end : (env : Environment) (fs : List (List ℕ × TypeId)) (parts : List CodeWritten) (i : ℕ) (found : List (List ℕ × CodeValue)) (all : Option FieldValues)
     → length fs ≡ length parts → length parts ≤ i → all ≡ option_map (fields_onto found) (left env fs parts i) → Some (fields found) ≡ all
 fields_end env fs parts i found all same le were =

@@ -41,6 +41,6 @@ nothing_left [] (suc i) h = refl
 nothing_left (form ∷ forms) zero h = absurd (omega (arith, h))
 nothing_left (form ∷ forms) (suc i) h = nothing_left forms i (omega (arith, h))
 
--- behind all forms
+-- after all forms
 pub place_out : (kind : Counted) (forms : List CodeForm) (i end : ℕ) (more : List Form) (n : ℕ) → length forms ≤ i → left_place kind forms i end more n ≡ place_in end more n
 place_out kind forms i end more n h = ap (λ fs. place_in end (of_kind kind (forms_seen fs) ++ more) n) (nothing_left forms i h)

@@ -1,11 +1,7 @@
 -- Written values that are left, each at its type.
-use Rattle.std.proofs.Common.{◌≡◌, ℕ, zero, suc, ◌+◌, ◌<◌, ◌≤◌, length, get_or, List, [], ◌∷◌, drop, ◌++◌, Option, Some, None, refl, sym, ap, ◌∙◌, arith}
-use Rattle.std.specs.Prelude.{slice_get, IfSome, MatchOption}
-use Rattle.std.specs.Option.{option_copied}
-use Rattle.std.specs.List.{HoldsAt}
-use Rattle.std.proofs.lemmas.Option.{slice_get_past, slice_get_read}
+use Rattle.std.proofs.Common.{◌≡◌, ℕ, zero, suc, ◌+◌, ◌<◌, length, get_or, List, [], ◌∷◌, drop, ◌++◌, refl, sym, ap, ◌∙◌, arith}
+use Rattle.std.specs.Prelude.{slice_get}
 use Rattle.std.proofs.lemmas.List.{drop_more, map-append, append_assoc}
-use denote.Ref.{Bor}
 use Rattle.isle_core.specs.declared.TypeId.{TypeId}
 use Rattle.isle_core.specs.Rule.{Environment}
 use Rattle.isle_core.specs.declared.values.Value.{Value as CodeValue}
@@ -14,11 +10,6 @@ use Rattle.isle_values.specs.declared.written.Written.{Written as CodeWritten}
 use Rattle.isle_values.specs.Written.{Written, Writtens, AValue}
 use Rattle.isle_values.specs.Views.{written, seen}
 use Rattle.isle_run_inputs.specs.ValuesAt.{value_at_any, values_at}
-
--- what stands at a place, behind a reference
-pub got : {X : Type 0} (xs : List X) (i : ℕ) (r : Option (Bor X)) → IfSome r (λ x. x.now ≡ get_or xs i x.now) → MatchOption r (length xs ≤ i) (λ x. (i < length xs) × HoldsAt (λ y. x.now ≡ y) xs i) → option_copied r ≡ slice_get xs i
-got xs i None e h = sym (slice_get_past xs i h)
-got xs i (Some x) e h = sym (slice_get_read xs (length xs) i x.now refl h.0 e)
 
 -- the first of those that are left is at the type that stands at its place
 at_first : (env : Environment) (tys : List TypeId) (i : ℕ) (w : Written) (ws : Writtens) → values_at env (drop i tys) (AValue w ws) ≡ value_at_any env (slice_get tys i) w ∷ values_at env (drop (suc i) tys) ws

@@ -12,7 +12,6 @@ use Rattle.isle_values.specs.Written.{Written}
 use Rattle.isle_run_inputs.specs.ValuesAt.{misfit, value_at_any, values_at}
 use Rattle.isle_run_inputs.specs.Requested.{answer_type, constant_type}
 use Rattle.isle_run_inputs.specs.Asked.{Asked, asked_as}
-use Rattle.isle_run_inputs.specs.Returns.{held_at, max_returns_at}
 
 -- the type where there is only one
 abbrev pub one_type : List TypeId → Option TypeId
@@ -87,4 +86,4 @@ constants_at env (Turns callee turns rest at ∷ forms) = constants_at env forms
 
 -- the answers of forms
 abbrev pub answers_at : Environment → List Form → Meaning
-answers_at env forms = record { consts = constants_at env forms; pure = cases_at env forms; turns = turns_at env forms; held = held_at forms; max_returns = max_returns_at forms }
+answers_at env forms = record { consts = constants_at env forms; pure = cases_at env forms; turns = turns_at env forms }

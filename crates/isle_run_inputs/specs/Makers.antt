@@ -14,7 +14,7 @@ pub data Maker : Type 0 where
   OfVariant : (ty variant : List ℕ) → Maker
   OfStruct : (ty : List ℕ) → Maker
 
--- the name of a variant, in a written name: what stands behind the enum's name and `.`
+-- the name of a variant, in a written name: what stands after the enum's name and `.`
 abbrev pub variant_part : (ty name : List ℕ) → Option (List ℕ)
 variant_part ty name = option_and_then (after_prefix (codes ".")) (after_prefix ty name)
 

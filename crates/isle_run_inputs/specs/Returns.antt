@@ -1,5 +1,6 @@
 -- What forms tell of the list of results: how long it is at entry, and its limit.
 use Rattle.std.specs.Prelude.{ℕ, List, [], ◌∷◌, Option, Some, None}
+use Rattle.isle_core.specs.Space.{Space}
 use Rattle.isle_answers.specs.Form.{Form, Held, Max, Const, Answers, Turns}
 
 -- the length at entry, where a form tells it
@@ -35,3 +36,7 @@ held_at forms = first_told held_by 0 forms
 -- the limit of the list of results, which is 100 where no form tells it
 abbrev pub max_returns_at : List Form → ℕ
 max_returns_at forms = first_told max_by 100 forms
+
+-- the space of the list of results
+abbrev pub space_at : List Form → Space
+space_at forms = record { held = held_at forms; limit = max_returns_at forms }

@@ -32,7 +32,9 @@ fn tuple_at(
     tys: &[TypeId],
     parts: &[Written],
 ) -> Result<Vec<Value>, AllocError>
-    ensures { IfOk result (λ vs. (env : Environment) → env.types ≡ makers.now → values vs.items ≡ tuple_at env tys.now (map written parts.now)) }
+    ensures { IfOk result (λ vs.
+        (env : Environment) → env.types ≡ makers.now
+        → values vs.items ≡ tuple_at env tys.now (map written parts.now)) }
 {
     match tys {
         [_] => {
@@ -50,7 +52,9 @@ fn result_at(
     tys: &[TypeId],
     form: &ResultForm,
 ) -> Result<Vec<Value>, AllocError>
-    ensures { IfOk result (λ vs. (env : Environment) → env.types ≡ makers.now → values vs.items ≡ result_at env tys.now (result_seen form.now)) }
+    ensures { IfOk result (λ vs.
+        (env : Environment) → env.types ≡ makers.now
+        → values vs.items ≡ result_at env tys.now (result_seen form.now)) }
 {
     match form {
         ResultForm::One(written) => {
@@ -86,7 +90,9 @@ pub fn answer_at(
     tys: &[TypeId],
     form: &AnswerForm,
 ) -> Result<Answer, AllocError>
-    ensures { IfOk result (λ a. (env : Environment) → env.types ≡ makers.now → answer a ≡ answer_at env tys.now (answer_seen form.now)) }
+    ensures { IfOk result (λ a.
+        (env : Environment) → env.types ≡ makers.now
+        → answer a ≡ answer_at env tys.now (answer_seen form.now)) }
 {
     match form {
         AnswerForm::Plain(found) => {

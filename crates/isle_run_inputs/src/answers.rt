@@ -1,10 +1,11 @@
 //! The answers that forms give.
 
 ghost use Rattle.std.specs.Prelude.{◌≡◌, IfOk, ◌+◌, ◌<◌, ◌^◌, length};
-ghost use Rattle.isle_core.specs.ValueViews.{meaning};
+ghost use Rattle.isle_core.specs.ValueViews.{meaning, space};
 ghost use Rattle.isle_answers.specs.Views.{forms_seen};
 ghost use Rattle.isle_core.specs.RuleViews.{environment};
 ghost use Rattle.isle_run_inputs.specs.AnswersAt.{answers_at};
+ghost use Rattle.isle_run_inputs.specs.Returns.{space_at};
 
 use crate::cases::cases_at;
 use crate::constants::constants_at;
@@ -23,7 +24,9 @@ pub fn answers_at(
     termenv: &TermEnv,
     forms: &[Form],
 ) -> Result<Answers, OutOfMemory>
-    ensures answers { IfOk result (λ a. meaning a ≡ answers_at (environment typeenv.now termenv.now) (forms_seen forms.now)) }
+    ensures answers { IfOk result (λ a.
+        meaning a ≡ answers_at (environment typeenv.now termenv.now) (forms_seen forms.now)) }
+    ensures space { IfOk result (λ a. space a ≡ space_at (forms_seen forms.now)) }
     ensures counted { IfOk result (λ a. length a.consts + length a.pure + length a.turns < 2 ^ 64) }
 {
     let makers = Makers::new(alloc, typeenv)?;

@@ -31,7 +31,8 @@ pub struct ByName<'e> {
 impl<'e> ByName<'e> {
     // Puts a function there, where calls go to one.
     fn put(&mut self, callee: Called<'e>, asked: Asked<'e>) -> Result<(), AllocError>
-        ensures { OnOk result (IsPut (called callee.entry) (asked_seen asked.entry) self.old self.new) }
+        ensures { OnOk result
+            (IsPut (called callee.entry) (asked_seen asked.entry) self.old self.new) }
     {
         match callee {
             Called::External(name) => {

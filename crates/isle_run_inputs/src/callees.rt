@@ -19,7 +19,8 @@ pub enum Called<'e> {
 
 // What a call of a term with this constructor goes to.
 fn callee_by<'e>(typeenv: &'e TypeEnv, term: &Term, by: &ConstructorKind) -> Called<'e>
-    ensures { (env : Environment) → env.types ≡ typeenv.now → called result ≡ callee_by env term.now by.now }
+    ensures { (env : Environment) → env.types ≡ typeenv.now
+        → called result ≡ callee_by env term.now by.now }
 {
     match by {
         ConstructorKind::Absent => Called::Nothing,
@@ -30,7 +31,8 @@ fn callee_by<'e>(typeenv: &'e TypeEnv, term: &Term, by: &ConstructorKind) -> Cal
 
 /// Returns what a call of a term goes to, where it is impure.
 pub fn impure_callee<'e>(typeenv: &'e TypeEnv, term: &Term) -> Called<'e>
-    ensures { (env : Environment) → env.types ≡ typeenv.now → called result ≡ impure_callee env term.now term.now.kind }
+    ensures { (env : Environment) → env.types ≡ typeenv.now
+        → called result ≡ impure_callee env term.now term.now.kind }
 {
     match &term.kind {
         TermKind::Decl {
@@ -46,7 +48,8 @@ pub fn impure_callee<'e>(typeenv: &'e TypeEnv, term: &Term) -> Called<'e>
 
 /// Returns what a call of a term goes to, where it is pure.
 pub fn pure_callee<'e>(typeenv: &'e TypeEnv, term: &Term) -> Called<'e>
-    ensures { (env : Environment) → env.types ≡ typeenv.now → called result ≡ pure_callee env term.now term.now.kind }
+    ensures { (env : Environment) → env.types ≡ typeenv.now
+        → called result ≡ pure_callee env term.now term.now.kind }
 {
     match &term.kind {
         TermKind::Decl {
@@ -62,7 +65,8 @@ pub fn pure_callee<'e>(typeenv: &'e TypeEnv, term: &Term) -> Called<'e>
 
 /// Returns what a call of a term as an extractor goes to, where that is external.
 pub fn extractor_callee<'e>(typeenv: &'e TypeEnv, term: &Term) -> Called<'e>
-    ensures { (env : Environment) → env.types ≡ typeenv.now → called result ≡ extractor_callee env term.now.kind }
+    ensures { (env : Environment) → env.types ≡ typeenv.now
+        → called result ≡ extractor_callee env term.now.kind }
 {
     match &term.kind {
         TermKind::Decl { extractor, .. } => match extractor {

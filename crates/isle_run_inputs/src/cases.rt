@@ -28,7 +28,9 @@ fn case_at(
     asked: Asked<'_>,
     form: &(List<Written>, AnswerForm),
 ) -> Result<(List<Value>, Answer), AllocError>
-    ensures { IfOk result (λ c. (env : Environment) → env.types ≡ makers.now → case c ≡ case_at env (asked_seen asked.entry) (case_seen form.now)) }
+    ensures { IfOk result (λ c.
+        (env : Environment) → env.types ≡ makers.now
+        → case c ≡ case_at env (asked_seen asked.entry) (case_seen form.now)) }
 {
     let args = each_at(alloc, makers, asked.params, form.0.as_slice())?;
     let answer = answer_at(alloc, makers, asked.results, &form.1)?;
@@ -43,7 +45,8 @@ fn all_cases(
     forms: &[(List<Written>, AnswerForm)],
 ) -> Result<Vec<(List<Value>, Answer)>, AllocError>
     ensures { IfOk result (λ found. (env : Environment) → env.types ≡ makers.now
-        → map case found.items ≡ map (λ c. case_at env (asked_seen asked.entry) (case_seen c)) forms.now) }
+        → map case found.items
+        ≡ map (λ c. case_at env (asked_seen asked.entry) (case_seen c)) forms.now) }
 {
     let mut found = Vec::new(alloc);
     for form in forms {
@@ -62,7 +65,9 @@ fn cases_by(
     rest: &AnswerForm,
 ) -> Result<PureAnswers, AllocError>
     ensures { IfOk result (λ a. (env : Environment) → env.types ≡ makers.now
-        → pure_answers a ≡ cases_by env (option_map asked_seen asked.entry) callee.now (map case_seen cases.now) (answer_seen rest.now)) }
+        → pure_answers a
+        ≡ cases_by env (option_map asked_seen asked.entry) callee.now (map case_seen cases.now)
+        (answer_seen rest.now)) }
 {
     let callee = callee.copied(alloc)?;
     let Some(asked) = asked else {
@@ -88,8 +93,10 @@ fn cases_of(
     functions: &AskedFunctions<'_>,
     form: &Form,
 ) -> Result<Option<PureAnswers>, AllocError>
-    ensures { IfOk result (λ a. OfTypes functions.now (λ env. env.types ≡ makers.now → (rest : Prelude.List pure_form.Form)
-        → cases_at env (form_seen form.now ∷ rest) ≡ cons_option (option_map pure_answers a) (cases_at env rest))) }
+    ensures { IfOk result (λ a.
+        OfTypes functions.now (λ env. env.types ≡ makers.now → (rest : Prelude.List pure_form.Form)
+        → cases_at env (form_seen form.now ∷ rest)
+        ≡ cons_option (option_map pure_answers a) (cases_at env rest))) }
 {
     match form {
         Form::Answers {
@@ -114,7 +121,9 @@ pub fn cases_at(
     termenv: &TermEnv,
     forms: &[Form],
 ) -> Result<Vec<PureAnswers>, OutOfMemory>
-    ensures { IfOk result (λ found. map pure_answers found.items ≡ cases_at (environment makers.now termenv.now) (forms_seen forms.now)) }
+    ensures { IfOk result (λ found.
+        map pure_answers found.items
+        ≡ cases_at (environment makers.now termenv.now) (forms_seen forms.now)) }
 {
     let functions = AskedFunctions::new(alloc, makers.typeenv(), termenv.terms.as_slice())?;
     let mut all = Vec::new(alloc);

@@ -23,8 +23,11 @@ fn constant_of(
     types: &ConstantTypes,
     form: &Form,
 ) -> Result<Option<(Text, Value)>, AllocError>
-    ensures { IfOk result (λ c. (env : Environment) → env.types ≡ types.now → env.types ≡ makers.now → (rest : Prelude.List pure_form.Form)
-        → constants_at env (form_seen form.now ∷ rest) ≡ cons_option (option_map view.const c) (constants_at env rest)) }
+    ensures { IfOk result (λ c.
+        (env : Environment) → env.types ≡ types.now → env.types ≡ makers.now
+        → (rest : Prelude.List pure_form.Form)
+        → constants_at env (form_seen form.now ∷ rest)
+        ≡ cons_option (option_map view.const c) (constants_at env rest)) }
 {
     match form {
         Form::Const { name, value, .. } => {
@@ -45,7 +48,9 @@ pub fn constants_at(
     makers: &Makers<'_>,
     forms: &[Form],
 ) -> Result<Vec<(Text, Value)>, OutOfMemory>
-    ensures { IfOk result (λ found. (env : Environment) → env.types ≡ makers.now → map view.const found.items ≡ constants_at env (forms_seen forms.now)) }
+    ensures { IfOk result (λ found.
+        (env : Environment) → env.types ≡ makers.now
+        → map view.const found.items ≡ constants_at env (forms_seen forms.now)) }
 {
     let types = ConstantTypes::new(alloc, makers.typeenv())?;
     let mut found = Vec::new(alloc);

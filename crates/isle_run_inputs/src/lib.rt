@@ -9,7 +9,6 @@ mod callees;
 mod cases;
 mod constant_types;
 mod constants;
-mod field;
 mod made_value;
 mod maker;
 mod makers;

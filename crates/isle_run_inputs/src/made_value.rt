@@ -11,11 +11,10 @@ ghost use Rattle.isle_values.specs.Written.{Made};
 ghost use Rattle.isle_run_inputs.specs.ValuesAt.{value_in, field_in, fields_in};
 ghost use Rattle.isle_run_inputs.specs.MakerViews.{field_seen};
 
-use crate::field::{field_at, field_count};
 use crate::maker::{Making, TypeMakers};
 use crate::makers::Makers;
 use crate::simple_value::{number_in, truth_in};
-use isle_core::{Fields, List, Text, TypeId, Value};
+use isle_core::{Fields, List, Text, TypeId, Value, field_count};
 use isle_values::Written;
 use std::alloc::{AllocError, Global};
 
@@ -27,7 +26,9 @@ fn variant_of(
     variant: &str,
     given: Option<Vec<(Text, Value)>>,
 ) -> Result<Option<Value>, AllocError>
-    ensures { IfOk result (λ v. option_map value v ≡ option_map (Variant ty.now variant.now) (option_map (λ g. fields g.items) given)) }
+    ensures { IfOk result (λ v.
+        option_map value v
+        ≡ option_map (Variant ty.now variant.now) (option_map (λ g. fields g.items) given)) }
 {
     match given {
         Some(given) => {
@@ -46,7 +47,8 @@ fn struct_of(
     ty: &str,
     given: Option<Vec<(Text, Value)>>,
 ) -> Result<Option<Value>, AllocError>
-    ensures { IfOk result (λ v. option_map value v ≡ option_map (Struct ty.now) (option_map (λ g. fields g.items) given)) }
+    ensures { IfOk result (λ v.
+        option_map value v ≡ option_map (Struct ty.now) (option_map (λ g. fields g.items) given)) }
 {
     match given {
         Some(given) => Ok(Some(Value::Struct(Text::copied(alloc, ty)?, List::new(given)))),
@@ -64,7 +66,9 @@ pub fn value_in(
     given: &Written,
 ) -> Result<Option<Value>, AllocError>
     requires { at.now.0 ≡ makers.now }
-    ensures { IfOk result (λ v. (env : Environment) → env.types ≡ makers.now → option_map value v ≡ value_in env at.now.1 (written given.now)) }
+    ensures { IfOk result (λ v.
+        (env : Environment) → env.types ≡ makers.now
+        → option_map value v ≡ value_in env at.now.1 (written given.now)) }
 {
     match given {
         Written::Bool(truth) => Ok(truth_in(at.def(), *truth)),
@@ -83,7 +87,9 @@ fn made_in(
     parts: &[Written],
 ) -> Result<Option<Value>, AllocError>
     requires { at.now.0 ≡ makers.now }
-    ensures { IfOk result (λ v. (env : Environment) → env.types ≡ makers.now → option_map value v ≡ value_in env at.now.1 (Made name.now (seen parts.now))) }
+    ensures { IfOk result (λ v.
+        (env : Environment) → env.types ≡ makers.now
+        → option_map value v ≡ value_in env at.now.1 (Made name.now (seen parts.now))) }
 {
     match at.makes(name) {
         Making::Variant(ty, variant, fields) => {
@@ -107,7 +113,8 @@ fn fields_in(
     parts: &[Written],
 ) -> Result<Option<Vec<(Text, Value)>>, AllocError>
     ensures { IfOk result (λ found. (env : Environment) → env.types ≡ makers.now
-        → option_map (λ f. fields f.items) found ≡ fields_in env (typed_fields env given.now) (seen parts.now)) }
+        → option_map (λ f. fields f.items) found
+        ≡ fields_in env (typed_fields env given.now) (seen parts.now)) }
 {
     if field_count(given) != parts.len() {
         return Ok(None);
@@ -132,9 +139,11 @@ fn field_in(
     part: &Written,
 ) -> Result<Option<(Text, Value)>, AllocError>
     ensures { IfOk result (λ found. (env : Environment) → env.types ≡ makers.now
-        → option_map field_seen found ≡ option_and_then (λ f. field_in env f (written part.now)) (slice_get (typed_fields env given.now) index)) }
+        → option_map field_seen found
+        ≡ option_and_then (λ f. field_in env f (written part.now))
+        (slice_get (typed_fields env given.now) index)) }
 {
-    match field_at(alloc, makers.typeenv(), given, index)? {
+    match makers.typeenv().field_at(alloc, given, index)? {
         Some((name, ty)) => match typed_in(alloc, makers, ty, part)? {
             Some(value) => Ok(Some((name, value))),
             None => Ok(None),
@@ -152,7 +161,9 @@ pub fn typed_in(
     given: &Written,
 ) -> Result<Option<Value>, AllocError>
     ensures { IfOk result (λ v. (env : Environment) → env.types ≡ makers.now
-        → option_map value v ≡ option_and_then (λ d. value_in env d (written given.now)) (slice_get env.types.types ty.0)) }
+        → option_map value v
+        ≡ option_and_then (λ d. value_in env d (written given.now))
+        (slice_get env.types.types ty.0)) }
 {
     match makers.at(ty) {
         Some(at) => value_in(alloc, makers, at, given),

@@ -105,15 +105,18 @@ impl<'e> TypeMakers<'e> {
 
     // The fields of the first variant that has the name.
     fn fields_named(&self, name: &str) -> Option<&'e Fields>
-        ensures { (env : Environment) → env.types ≡ self.now.0 → option_copied result ≡ first_fields env (variants_of self.now.1) name.now }
+        ensures { (env : Environment) → env.types ≡ self.now.0
+            → option_copied result ≡ first_fields env (variants_of self.now.1) name.now }
     {
         self.variants.get(name).copied()
     }
 
     // What a name makes of an enum of this name.
     fn variant_making<'n>(&self, own: Sym, name: &'n str) -> Making<'e, 'n>
-        ensures { (env : Environment) → env.types ≡ self.now.0 → (is_extern is_nodebug : Bool) (variants : List VariantDef) (at : ThePos)
-            → self.now.1 ≡ def.Enum own is_extern is_nodebug variants at → making_seen env result ≡ making env self.now.1 name.now }
+        ensures { (env : Environment) → env.types ≡ self.now.0
+            → (is_extern is_nodebug : Bool) (variants : List VariantDef) (at : ThePos)
+            → self.now.1 ≡ def.Enum own is_extern is_nodebug variants at
+            → making_seen env result ≡ making env self.now.1 name.now }
     {
         let ty = self.typeenv.symbol(own);
         match variant_part(ty, name) {
@@ -127,7 +130,8 @@ impl<'e> TypeMakers<'e> {
 
     /// Returns what a written name makes at the type.
     pub fn makes<'n>(&self, name: &'n str) -> Making<'e, 'n>
-        ensures { (env : Environment) → env.types ≡ self.now.0 → making_seen env result ≡ making env self.now.1 name.now }
+        ensures { (env : Environment) → env.types ≡ self.now.0
+            → making_seen env result ≡ making env self.now.1 name.now }
     {
         match self.def {
             TypeDef::Enum { name: own, .. } => self.variant_making(*own, name),

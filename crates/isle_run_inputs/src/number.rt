@@ -1,9 +1,8 @@
 //! Written numbers at the integer types.
 
-ghost use Rattle.std.specs.Prelude.{◌≡◌, ◌+◌, ◌^◌, if◌then◌else◌, pos, neg_ℤ};
+ghost use Rattle.std.specs.Prelude.{◌≡◌, ◌+◌, ◌^◌, if◌then◌else◌};
 ghost use mir.Val.{hbits};
-ghost use Rattle.isle_core.specs.Int.{width, is_signed, wrapped};
-ghost use Rattle.isle_core.specs.declared.types.IntType.TheVariants.{I128};
+ghost use Rattle.isle_core.specs.Int.{width, is_signed};
 ghost use Rattle.isle_lexer.specs.SignedViews.{signed};
 ghost use Rattle.isle_run_inputs.specs.ValuesAt.{count_up, is_of};
 
@@ -51,30 +50,5 @@ pub fn is_of(ty: IntType, number: Signed) -> bool
         number.magnitude <= lowest(ty)
     } else {
         number.magnitude <= highest(ty)
-    }
-}
-
-// A magnitude, wrapped to 128 signed bits.
-fn wrapped(magnitude: u128) -> i128
-    ensures { result ≡ wrapped I128 (pos magnitude) }
-{
-    magnitude.cast_signed()
-}
-
-// What lies a magnitude below 0, wrapped to 128 signed bits.
-fn negated(magnitude: u128) -> i128
-    ensures { result ≡ wrapped I128 (neg_ℤ (pos magnitude)) }
-{
-    magnitude.wrapping_neg().cast_signed()
-}
-
-/// Returns the 128 signed bits of a number.
-pub fn bits(number: Signed) -> i128
-    ensures { result ≡ wrapped I128 (signed number) }
-{
-    if number.negative {
-        negated(number.magnitude)
-    } else {
-        wrapped(number.magnitude)
     }
 }

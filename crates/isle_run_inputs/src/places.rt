@@ -40,9 +40,11 @@ fn is_of(kind: Counted, form: &Form) -> bool
     }
 }
 
-// The place of the form of this kind and number, or the number that is left behind those of the kind.
+// The place of the form of this kind and number, or the number that is left after those of the kind.
 fn place_of_kind(forms: &[Form], kind: Counted, number: usize) -> Result<usize, usize>
-    ensures { (end : ℕ) (more : List TheForm) → found_or end more result ≡ place_in end (of_kind kind (forms_seen forms.now) ++ more) number }
+    ensures { (end : ℕ) (more : List TheForm)
+        → found_or end more result
+        ≡ place_in end (of_kind kind (forms_seen forms.now) ++ more) number }
 {
     let mut left = number;
     for form in forms {

@@ -11,7 +11,8 @@ use isle_core::{RuleSet, Term, TermEnv, TermId, TypeEnv};
 
 // Whether a term has the name.
 fn is_named(typeenv: &TypeEnv, terms: &[Term], id: TermId, name: &str) -> bool
-    ensures { (env : Environment) → env.types ≡ typeenv.now → env.terms ≡ terms.now → result ≡ bytes_eq name.now (term_name env id) }
+    ensures { (env : Environment) → env.types ≡ typeenv.now → env.terms ≡ terms.now
+        → result ≡ bytes_eq name.now (term_name env id) }
 {
     name == typeenv.term_name(terms, id)
 }

@@ -6,7 +6,7 @@ ghost use Rattle.isle_core.specs.ValueViews.{value};
 ghost use Rattle.isle_lexer.specs.SignedViews.{signed};
 ghost use Rattle.isle_run_inputs.specs.ValuesAt.{integer_in, opaque_in, truth_in, number_in};
 
-use crate::number::{bits, is_of};
+use crate::number::is_of;
 use isle_core::{BuiltinType, IntType, Text, TypeDef, TypeEnv, Value};
 use isle_lexer::Signed;
 use std::alloc::{AllocError, Global};
@@ -17,7 +17,7 @@ fn integer_in(ty: IntType, number: Signed) -> Option<Value>
     ensures { option_map value result ≡ integer_in ty (signed number) }
 {
     if is_of(ty, number) {
-        Some(Value::Int(ty, bits(number)))
+        Some(Value::Int(ty, number.bits()))
     } else {
         None
     }
@@ -29,7 +29,7 @@ fn opaque_in(alloc: Global, name: &str, number: Signed) -> Result<Option<Value>,
     ensures { IfOk result (λ v. option_map value v ≡ opaque_in name.now (signed number)) }
 {
     if is_of(IntType::I128, number) {
-        Ok(Some(Value::Opaque(Text::copied(alloc, name)?, bits(number))))
+        Ok(Some(Value::Opaque(Text::copied(alloc, name)?, number.bits())))
     } else {
         Ok(None)
     }
@@ -57,7 +57,9 @@ pub fn number_in(
     def: &TypeDef,
     number: Signed,
 ) -> Result<Option<Value>, AllocError>
-    ensures { IfOk result (λ v. (env : Environment) → env.types ≡ typeenv.now → option_map value v ≡ number_in env def.now (signed number)) }
+    ensures { IfOk result (λ v.
+        (env : Environment) → env.types ≡ typeenv.now
+        → option_map value v ≡ number_in env def.now (signed number)) }
 {
     match def {
         TypeDef::Builtin(BuiltinType::Int(ty)) => Ok(integer_in(*ty, number)),

@@ -46,7 +46,8 @@ fn turns_by(
     rest: &AnswerForm,
 ) -> Result<TurnAnswers, AllocError>
     ensures { IfOk result (λ t. (env : Environment) → env.types ≡ makers.now
-        → turn_answers t ≡ turns_by env ty callee.now (map answer_seen turns.now) (answer_seen rest.now)) }
+        → turn_answers t
+        ≡ turns_by env ty callee.now (map answer_seen turns.now) (answer_seen rest.now)) }
 {
     let callee = callee.copied(alloc)?;
     let Some(ty) = ty else {
@@ -73,8 +74,10 @@ fn turns_of(
     types: &AnswerTypes<'_>,
     form: &Form,
 ) -> Result<Option<TurnAnswers>, AllocError>
-    ensures { IfOk result (λ t. OfTypes types.now (λ env. env.types ≡ makers.now → (rest : Prelude.List pure_form.Form)
-        → turns_at env (form_seen form.now ∷ rest) ≡ cons_option (option_map turn_answers t) (turns_at env rest))) }
+    ensures { IfOk result (λ t.
+        OfTypes types.now (λ env. env.types ≡ makers.now → (rest : Prelude.List pure_form.Form)
+        → turns_at env (form_seen form.now ∷ rest)
+        ≡ cons_option (option_map turn_answers t) (turns_at env rest))) }
 {
     match form {
         Form::Turns {
@@ -101,7 +104,9 @@ pub fn turns_at(
     termenv: &TermEnv,
     forms: &[Form],
 ) -> Result<Vec<TurnAnswers>, OutOfMemory>
-    ensures { IfOk result (λ found. map turn_answers found.items ≡ turns_at (environment makers.now termenv.now) (forms_seen forms.now)) }
+    ensures { IfOk result (λ found.
+        map turn_answers found.items
+        ≡ turns_at (environment makers.now termenv.now) (forms_seen forms.now)) }
 {
     let types = AnswerTypes::new(alloc, makers.typeenv(), termenv.terms.as_slice())?;
     let mut all = Vec::new(alloc);

@@ -37,7 +37,9 @@ pub fn value_at(
     ty: TypeId,
     given: &Written,
 ) -> Result<Value, AllocError>
-    ensures { IfOk result (λ v. (env : Environment) → env.types ≡ makers.now → value v ≡ value_at env ty (written given.now)) }
+    ensures { IfOk result (λ v.
+        (env : Environment) → env.types ≡ makers.now
+        → value v ≡ value_at env ty (written given.now)) }
 {
     let found = typed_in(alloc, makers, ty, given)?;
     Ok(or_misfit(alloc, found))
@@ -50,7 +52,9 @@ pub fn value_at_any(
     ty: Option<TypeId>,
     given: &Written,
 ) -> Result<Value, AllocError>
-    ensures { IfOk result (λ v. (env : Environment) → env.types ≡ makers.now → value v ≡ value_at_any env ty (written given.now)) }
+    ensures { IfOk result (λ v.
+        (env : Environment) → env.types ≡ makers.now
+        → value v ≡ value_at_any env ty (written given.now)) }
 {
     match ty {
         Some(ty) => value_at(alloc, makers, ty, given),

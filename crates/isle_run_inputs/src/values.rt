@@ -19,7 +19,9 @@ pub fn each_at(
     tys: &[TypeId],
     given: &[Written],
 ) -> Result<Vec<Value>, AllocError>
-    ensures { IfOk result (λ vs. (env : Environment) → env.types ≡ makers.now → values vs.items ≡ values_at env tys.now (seen given.now)) }
+    ensures { IfOk result (λ vs.
+        (env : Environment) → env.types ≡ makers.now
+        → values vs.items ≡ values_at env tys.now (seen given.now)) }
 {
     let mut found = Vec::new(alloc);
     for (index, written) in given.iter().enumerate() {
@@ -37,7 +39,9 @@ pub fn values_at(
     tys: &[TypeId],
     given: &[Written],
 ) -> Result<Vec<Value>, OutOfMemory>
-    ensures { IfOk result (λ vs. (env : Environment) → env.types ≡ typeenv.now → values vs.items ≡ values_at env tys.now (seen given.now)) }
+    ensures { IfOk result (λ vs.
+        (env : Environment) → env.types ≡ typeenv.now
+        → values vs.items ≡ values_at env tys.now (seen given.now)) }
 {
     let makers = Makers::new(alloc, typeenv)?;
     let found = each_at(alloc, &makers, tys, given)?;

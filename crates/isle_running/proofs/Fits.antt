@@ -24,7 +24,7 @@ same_state old mid calls given = ap (λ (c : Called). record { made = map made c
 pub same_around : (w : CodeAround) (old mid : Frame) → mid.calls.answers ≡ old.calls.answers → within w mid ≡ within w old
 same_around w old mid same = ap (λ (a : Answers). record { meaning = meaning a; program = program w.program.now; function = function w.function.now; args = values w.args.now; limit = Some w.room }) same
 
--- what was bound behind these locals is cut off
+-- what was bound after these locals is cut off
 pub cut_back : (old mid after : Frame) (len : ℕ) (ls : List (ℕ × Holding)) → Follows old mid → Follows mid after → len ≡ length old.locals → ls ≡ take len after.locals → ls ≡ old.locals
 cut_back old mid after len ls h k is cut =
     cut

@@ -23,7 +23,7 @@ use Rattle.isle_running.specs.Sources.{Cases, Turns, source, answered_by, after_
 
 -- ---- at a name
 
--- what a map has at each name behind an update at one
+-- what a map has at each name after an update at one
 pub puts_there : (old new : BTreeMap (Bor (List ℕ)) CodeSource) (key : List ℕ) (s : CodeSource)
     → UpdatesBy (λ (x y : Bor (List ℕ)). slice_cmp nat_cmp x.now y.now) (λ (k : Bor (List ℕ)). slice_cmp nat_cmp key k.now) old new (Some s)
     → PutsAt old new key s
@@ -36,7 +36,7 @@ puts_there old new key s updates name =
     spread true = refl
     spread false = refl
 
--- what it has behind a call
+-- what it has after a call
 pub takes_there : (old new : BTreeMap (Bor (List ℕ)) CodeSource) (name : List ℕ) (s t : CodeSource) → get_by (λ (k : Bor (List ℕ)). slice_cmp nat_cmp name k.now) old ≡ Some s → source t ≡ after_call (source s)
     → UpdatesBy (λ (x y : Bor (List ℕ)). slice_cmp nat_cmp x.now y.now) (λ (k : Bor (List ℕ)). slice_cmp nat_cmp name k.now) old new (Some t)
     → TakesAt old new name

@@ -74,7 +74,7 @@ module _ (w : CodeAround) (b : Body) (list item index count : ℕ) (first old : 
   counted_now : Some count ≡ option_map (λ is. length is) (list_in (look (locals old.locals) list))
   counted_now = counted ∙ ap (λ ls. option_map (λ is. length is) (list_in (look (locals ls) list))) (sym kept)
 
-  -- what is left behind a turn, as it ended
+  -- what is left after a turn, as it ended
   pub turn_left : (new : Frame) (end by : CodeFlow) (whole : Flow) → index < count → new.locals ≡ old.locals → Follows old new → run_turn list item index b (within w old) (locals old.locals) (state old) ≡ flow end new → end ≡ by
       → run_turns list item index b (within w old) (locals old.locals) (state old) ≡ whole → whole ≡ then_run (flow by new) (λ inner t. run_turns list item (index + 1) b (within w new) (locals new.locals) t)
   turn_left new end by whole lt same follows turn is before =
@@ -86,6 +86,6 @@ module _ (w : CodeAround) (b : Body) (list item index count : ℕ) (first old : 
       ∙ ap (λ ls. then_run (flow by new) (λ inner t. run_turns list item (suc index) b (within w new) (locals ls) t)) (sym same)
       ∙ ap (λ n. then_run (flow by new) (λ inner t. run_turns list item n b (within w new) (locals new.locals) t)) {x = suc index} {y = index + 1} (omega arith)
 
-  -- behind all turns
+  -- after all turns
   pub turns_done : (whole : Flow) → count ≤ index → run_turns list item index b (within w old) (locals old.locals) (state old) ≡ whole → whole ≡ Goes (locals old.locals) (state old)
   turns_done whole le before = sym before ∙ no_more (within w old) b item (locals old.locals) (look (locals old.locals) list) index count (state old) counted_now le

@@ -12,7 +12,7 @@ holds_value (Optional o) v e = absurd cc
 holds_value (Listed is) v e = absurd cc
 holds_value Absent v e = absurd cc
 
--- what goes on behind a value that is there
+-- what goes on after a value that is there
 abbrev pub on_some : Option Value → (Value → Flow) → Flow
 on_some (Some v) go = go v
 on_some None go = Stuck

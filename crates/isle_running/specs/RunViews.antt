@@ -53,7 +53,7 @@ within w f = record {
 abbrev pub state : Frame → State
 state f = record { made = map made f.calls.made; given = values f.given.items }
 
--- how statements end, with what is behind them
+-- how statements end, with what is after them
 abbrev pub flow : CodeFlow → Frame → Flow
 flow code.Goes f = Goes (locals f.locals) (state f)
 flow (code.Ends e) f = Ends (end e) (state f)

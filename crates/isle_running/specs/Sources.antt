@@ -74,6 +74,6 @@ first_turns turns c = find (λ (a : TurnAnswers). goes_to c (Some a.callee)) tur
 abbrev pub first_cases : List PureAnswers → Callee → Option PureAnswers
 first_cases pure c = find (λ (a : PureAnswers). goes_to c (Some a.callee)) pure
 
--- the maps have the answers of each callee behind the calls made: those of its first turns, or else of its first cases
+-- the maps have the answers of each callee after the calls made: those of its first turns, or else of its first cases
 pub record FindsSources (turns : List TurnAnswers) (pure : List PureAnswers) (made : List Made) (s : Sources) : Type 0 where
   pub finds : (c : Callee) → at_callee s c ≡ after_calls (first_turns turns c) (first_cases pure c) (times c made)

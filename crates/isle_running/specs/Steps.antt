@@ -17,7 +17,7 @@ use Rattle.isle_running.specs.declared.frame.Frame.{Frame}
 abbrev pub RunsSo : (Around → Env → State → Flow) → CodeAround → (old new : Frame) → CodeFlow → Type 0
 RunsSo go w old new end = go (within w old) (locals old.locals) (state old) ≡ flow end new
 
--- where a pattern may fit, what follows goes on from the locals behind it
+-- where a pattern may fit, what follows goes on from the locals after it
 abbrev pub FitsSo : Option Env → (old new : Frame) → Bool → Type 0
 FitsSo o old new fits =
     (go : Env → Flow) (other : Flow) → fitted o (λ bound. go (locals old.locals ++ bound)) other ≡ (if fits then go (locals new.locals) else other)

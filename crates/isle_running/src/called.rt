@@ -58,7 +58,8 @@ impl<'a> Calls<'a> {
 
     /// Returns the value of a constant, where it has one.
     pub fn constant(&self, name: &str) -> Option<&Value>
-        ensures { option_map (λ v. value v.now) result ≡ const_of (meaning self.now.answers) name.now }
+        ensures { option_map (λ v. value v.now) result
+            ≡ const_of (meaning self.now.answers) name.now }
     {
         self.constants.value(name)
     }
@@ -66,7 +67,9 @@ impl<'a> Calls<'a> {
     // What a call would be answered now.
     fn answer(&self, alloc: Global, callee: &Callee, args: &[Value]) -> Result<Holding, AllocError>
         ensures { IfOk result (λ h. held h
-            ≡ answer_held (answer (meaning self.now.answers) callee.now (values args.now) (map made self.now.made))) }
+            ≡ answer_held
+            (answer (meaning self.now.answers) callee.now (values args.now)
+            (map made self.now.made))) }
     {
         answered(alloc, self.sources.get(callee), args)
     }
@@ -92,7 +95,9 @@ impl<'a> Calls<'a> {
         args: Vec<Value>,
     ) -> Result<Holding, AllocError>
         ensures answered { IfOk result (λ h. held h
-            ≡ answer_held (answer (meaning self.old.answers) callee.now (values args.items) (map made self.old.made))) }
+            ≡ answer_held
+            (answer (meaning self.old.answers) callee.now (values args.items)
+            (map made self.old.made))) }
         ensures made { OnOk result (self.new ≡ called_more self.old callee.now args.items) }
     {
         let holding = self.answer(alloc, callee, args.as_slice())?;

@@ -67,7 +67,8 @@ fn same_values(ones: &[Value], others: &[Value]) -> bool
 
 // The answer of the next turn, or the rest.
 fn turn_holding(alloc: Global, turns: &[Answer], rest: &Answer) -> Result<Holding, AllocError>
-    ensures { IfOk result (λ h. held h ≡ answer_held (slice_index_or (map answer_of turns.now) 0 (answer_of rest.now))) }
+    ensures { IfOk result (λ h.
+        held h ≡ answer_held (slice_index_or (map answer_of turns.now) 0 (answer_of rest.now))) }
 {
     match turns.first() {
         Some(turn) => answer_holding(alloc, turn),
@@ -77,7 +78,8 @@ fn turn_holding(alloc: Global, turns: &[Answer], rest: &Answer) -> Result<Holdin
 
 // The answer of the first case with these arguments, or the rest.
 fn case_holding(alloc: Global, answers: &PureAnswers, args: &[Value]) -> Result<Holding, AllocError>
-    ensures { IfOk result (λ h. held h ≡ answer_held (case_at (Some (pure_answers answers.now)) (values args.now))) }
+    ensures { IfOk result (λ h.
+        held h ≡ answer_held (case_at (Some (pure_answers answers.now)) (values args.now))) }
 {
     for case in answers.cases.as_slice() {
         if same_values(case.0.as_slice(), args) {
@@ -93,7 +95,8 @@ pub fn answered(
     given: Option<Source<'_>>,
     args: &[Value],
 ) -> Result<Holding, AllocError>
-    ensures { IfOk result (λ h. held h ≡ answer_held (answered_by (option_map source given.entry) (values args.now))) }
+    ensures { IfOk result (λ h.
+        held h ≡ answer_held (answered_by (option_map source given.entry) (values args.now))) }
 {
     match given {
         Some(Source::Turns(turns, rest)) => turn_holding(alloc, turns, rest),

@@ -34,7 +34,8 @@ fn unit_struct(alloc: Global, name: &str) -> Result<Value, AllocError>
 
 /// Returns what a name stands for: the value of a constant, or else the unit struct of the name.
 pub fn named(alloc: Global, frame: &Frame<'_>, name: &str) -> Result<Value, AllocError>
-    ensures { IfOk result (λ v. value v ≡ name_value (const_of (meaning frame.now.calls.answers) name.now) name.now) }
+    ensures { IfOk result (λ v.
+        value v ≡ name_value (const_of (meaning frame.now.calls.answers) name.now) name.now) }
 {
     match frame.calls.constant(name) {
         Some(given) => copied(alloc, given),
@@ -55,7 +56,9 @@ fn is_unit_struct(one: &Value, name: &str) -> bool
 
 // Whether a value is what a name stands for.
 fn is_named(frame: &Frame<'_>, one: &Value, name: &str) -> bool
-    ensures { result ≡ same_in_run (value one.now) (name_value (const_of (meaning frame.now.calls.answers) name.now) name.now) }
+    ensures { result
+        ≡ same_in_run (value one.now)
+        (name_value (const_of (meaning frame.now.calls.answers) name.now) name.now) }
 {
     match frame.calls.constant(name) {
         Some(given) => same(one, given),
@@ -66,7 +69,9 @@ fn is_named(frame: &Frame<'_>, one: &Value, name: &str) -> bool
 /// Tells whether a value is what a constant of a pattern stands for.
 #[tactic(auto, using(isle_outcomes::proofs::SeesValues::sees_values))]
 pub fn is_constant(alloc: Global, frame: &Frame<'_>, one: &Value, operand: &Operand) -> bool
-    ensures { result ≡ run.are_same (Some (value one.now)) (run.constant (meaning frame.now.calls.answers) operand.now) }
+    ensures { result
+        ≡ run.are_same (Some (value one.now))
+        (run.constant (meaning frame.now.calls.answers) operand.now) }
 {
     match operand {
         Operand::Bool(truth) => is_equal(one, Value::Bool(*truth)),

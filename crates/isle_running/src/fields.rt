@@ -23,7 +23,9 @@ fn bind_field(
     found: &Named<'_>,
     frame: &mut Frame<'_>,
 ) -> Result<bool, AllocError>
-    ensures binds { IfOk result (BindsSo bind.now.local (run.field_of bind.now.field (fields found.now)) frame.old frame.new) }
+    ensures binds { IfOk result
+        (BindsSo bind.now.local (run.field_of bind.now.field (fields found.now)) frame.old
+        frame.new) }
     ensures calls { frame.new.calls ≡ frame.old.calls }
     ensures given { frame.new.given.items ≡ frame.old.given.items }
 {
@@ -44,7 +46,8 @@ fn bind_fields(
     found: &Named<'_>,
     frame: &mut Frame<'_>,
 ) -> Result<bool, AllocError>
-    ensures fits { IfOk result (FitsSo (run.fit_fields binds.now (fields found.now)) frame.old frame.new) }
+    ensures fits { IfOk result
+        (FitsSo (run.fit_fields binds.now (fields found.now)) frame.old frame.new) }
     ensures kept { IfOk result (λ fits. fits ≡ false → frame.new.locals ≡ frame.old.locals) }
     ensures calls { frame.new.calls ≡ frame.old.calls }
     ensures given { frame.new.given.items ≡ frame.old.given.items }
@@ -67,7 +70,8 @@ fn fit_fields(
     given: &[(Text, Value)],
     frame: &mut Frame<'_>,
 ) -> Result<bool, AllocError>
-    ensures fits { IfOk result (FitsSo (run.fit_fields binds.now (fields given.now)) frame.old frame.new) }
+    ensures fits { IfOk result
+        (FitsSo (run.fit_fields binds.now (fields given.now)) frame.old frame.new) }
     ensures kept { IfOk result (λ fits. fits ≡ false → frame.new.locals ≡ frame.old.locals) }
     ensures calls { frame.new.calls ≡ frame.old.calls }
     ensures given { frame.new.given.items ≡ frame.old.given.items }
@@ -87,7 +91,9 @@ pub fn fit_variant(
     made: &Value,
     frame: &mut Frame<'_>,
 ) -> Result<bool, AllocError>
-    ensures fits { IfOk result (FitsSo (run.fit_variant ty.now variant.now binds.now (Some (value made.now))) frame.old frame.new) }
+    ensures fits { IfOk result
+        (FitsSo (run.fit_variant ty.now variant.now binds.now (Some (value made.now))) frame.old
+        frame.new) }
     ensures kept { IfOk result (λ fits. fits ≡ false → frame.new.locals ≡ frame.old.locals) }
     ensures calls { frame.new.calls ≡ frame.old.calls }
     ensures given { frame.new.given.items ≡ frame.old.given.items }
@@ -114,7 +120,8 @@ pub fn fit_struct(
     made: &Value,
     frame: &mut Frame<'_>,
 ) -> Result<bool, AllocError>
-    ensures fits { IfOk result (FitsSo (run.fit_struct ty.now binds.now (Some (value made.now))) frame.old frame.new) }
+    ensures fits { IfOk result
+        (FitsSo (run.fit_struct ty.now binds.now (Some (value made.now))) frame.old frame.new) }
     ensures kept { IfOk result (λ fits. fits ≡ false → frame.new.locals ≡ frame.old.locals) }
     ensures calls { frame.new.calls ≡ frame.old.calls }
     ensures given { frame.new.given.items ≡ frame.old.given.items }

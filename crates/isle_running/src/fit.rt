@@ -47,7 +47,10 @@ fn fit_value(
     given: &Value,
     frame: &mut Frame<'_>,
 ) -> Result<bool, AllocError>
-    ensures fits { (w : Around) → IfOk result (FitsSo (run.fit (within w frame.old) pat.now (a_value (value given.now))) frame.old frame.new) }
+    ensures fits { (w : Around)
+        → IfOk result
+        (FitsSo (run.fit (within w frame.old) pat.now (a_value (value given.now))) frame.old
+        frame.new) }
     ensures kept { IfOk result (λ fits. fits ≡ false → frame.new.locals ≡ frame.old.locals) }
     ensures calls { frame.new.calls ≡ frame.old.calls }
     ensures given { frame.new.given.items ≡ frame.old.given.items }
@@ -82,7 +85,9 @@ pub fn fit(
     holding: Holding,
     frame: &mut Frame<'_>,
 ) -> Result<bool, AllocError>
-    ensures fits { (w : Around) → IfOk result (FitsSo (run.fit (within w frame.old) pat.now (held holding)) frame.old frame.new) }
+    ensures fits { (w : Around)
+        → IfOk result
+        (FitsSo (run.fit (within w frame.old) pat.now (held holding)) frame.old frame.new) }
     ensures kept { IfOk result (λ fits. fits ≡ false → frame.new.locals ≡ frame.old.locals) }
     ensures calls { frame.new.calls ≡ frame.old.calls }
     ensures given { frame.new.given.items ≡ frame.old.given.items }

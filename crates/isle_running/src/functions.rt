@@ -1,9 +1,10 @@
 //! The run of a function.
 
 ghost use Rattle.std.specs.Prelude.{◌≡◌, IfOk, Some, option_map};
+ghost use Rattle.isle_core.specs.Space.{room};
 ghost use Rattle.isle_core.specs.Value.{GivesList};
-ghost use Rattle.isle_core.specs.ValueViews.{values, meaning, ran};
-ghost use Rattle.isle_tree.specs.Run.{ended, runs_out, room, function_run};
+ghost use Rattle.isle_core.specs.ValueViews.{values, meaning, space, ran};
+ghost use Rattle.isle_tree.specs.Run.{ended, runs_out, function_run};
 ghost use Rattle.isle_tree.specs.Views.{function, program};
 ghost use Rattle.isle_running.specs.RunViews.{flow, state};
 
@@ -19,7 +20,8 @@ use std::alloc::{AllocError, Global};
 
 // The outcome that has the results given.
 fn listed(frame: Frame<'_>) -> Outcome
-    ensures { ran result ≡ record { end = GivesList (state frame.entry).given; calls = (state frame.entry).made } }
+    ensures { ran result
+        ≡ record { end = GivesList (state frame.entry).given; calls = (state frame.entry).made } }
 {
     let Frame { calls, given, .. } = frame;
     Outcome {
@@ -28,7 +30,7 @@ fn listed(frame: Frame<'_>) -> Outcome
     }
 }
 
-// What is left of a function of the kind behind its last statement.
+// What is left of a function of the kind after its last statement.
 fn runs_out(of: ReturnKind, frame: Frame<'_>) -> Option<Outcome>
     ensures { option_map ran result ≡ runs_out of (state frame.entry) }
 {
@@ -55,7 +57,7 @@ fn outcome(of: ReturnKind, end: Flow, frame: Frame<'_>) -> Option<Outcome>
 
 // How many results there is room for.
 fn room(answers: &Answers) -> usize
-    ensures { result ≡ room (meaning answers.now) }
+    ensures { result ≡ room (space answers.now) }
 {
     answers.max_returns.saturating_sub(answers.held)
 }
@@ -68,7 +70,9 @@ pub fn run_function(
     args: &[Value],
     answers: &Answers,
 ) -> Result<Option<Outcome>, AllocError>
-    ensures { IfOk result (λ o. option_map ran o ≡ function_run (program p.now) (meaning answers.now) (values args.now) (Some (function f.now))) }
+    ensures { IfOk result (λ o. option_map ran o ≡
+        function_run (program p.now) (meaning answers.now) (space answers.now) (values args.now)
+        (Some (function f.now))) }
 {
     let around = Around {
         program: p,

@@ -20,7 +20,9 @@ use std::alloc::{AllocError, Global};
 
 // Binds a local to what a place holds.
 fn bind(frame: &mut Frame<'_>, local: usize, holding: Holding) -> Result<Flow, AllocError>
-    ensures runs { IfOk result (λ f. run.run_bind local (held holding) (locals frame.old.locals) (state frame.old) ≡ flow f frame.new) }
+    ensures runs { IfOk result (λ f.
+        run.run_bind local (held holding) (locals frame.old.locals) (state frame.old)
+        ≡ flow f frame.new) }
     ensures follows { OnOk result (Follows frame.old frame.new) }
 {
     match holding {
@@ -48,7 +50,9 @@ pub fn run_call(
     local: usize,
     call: &TCall,
 ) -> Result<Flow, AllocError>
-    ensures runs { IfOk result (RunsSo (λ w env. run.run_call w local call.now.callee (run.read_values w env call.now.args) env)
+    ensures runs { IfOk result
+        (RunsSo (λ w env.
+        run.run_call w local call.now.callee (run.read_values w env call.now.args) env)
         around.now frame.old frame.new) }
     ensures follows { OnOk result (Follows frame.old frame.new) }
 {
@@ -62,7 +66,9 @@ pub fn run_call(
 
 // Binds a local to what is within an option, or ends.
 fn run_try(frame: &mut Frame<'_>, local: usize, holding: Holding) -> Result<Flow, AllocError>
-    ensures runs { IfOk result (λ f. run.run_try local (held holding) (locals frame.old.locals) (state frame.old) ≡ flow f frame.new) }
+    ensures runs { IfOk result (λ f.
+        run.run_try local (held holding) (locals frame.old.locals) (state frame.old)
+        ≡ flow f frame.new) }
     ensures follows { OnOk result (Follows frame.old frame.new) }
 {
     match holding {
@@ -78,7 +84,10 @@ fn run_try(frame: &mut Frame<'_>, local: usize, holding: Holding) -> Result<Flow
 // Binds a local to an option of a value.
 #[tactic(auto, using(crate::proofs::ValuesIn::on_value_in))]
 fn run_some(frame: &mut Frame<'_>, local: usize, holding: Holding) -> Result<Flow, AllocError>
-    ensures runs { IfOk result (λ f. run.on_value (held holding) (λ v. run.Goes (run.bind (locals frame.old.locals) local (an_option (Some v))) (state frame.old))
+    ensures runs { IfOk result (λ f.
+        run.on_value (held holding)
+        (λ v. run.Goes (run.bind (locals frame.old.locals) local (an_option (Some v)))
+        (state frame.old))
         ≡ flow f frame.new) }
     ensures follows { OnOk result (Follows frame.old frame.new) }
 {
@@ -94,7 +103,9 @@ fn run_some(frame: &mut Frame<'_>, local: usize, holding: Holding) -> Result<Flo
 
 // Binds a local to a value, where it is there.
 fn bind_value(frame: &mut Frame<'_>, local: usize, found: Option<Value>) -> Result<Flow, AllocError>
-    ensures runs { IfOk result (λ f. run.run_part local (option_map value found) (locals frame.old.locals) (state frame.old) ≡ flow f frame.new) }
+    ensures runs { IfOk result (λ f.
+        run.run_part local (option_map value found) (locals frame.old.locals) (state frame.old)
+        ≡ flow f frame.new) }
     ensures follows { OnOk result (Follows frame.old frame.new) }
 {
     match found {
@@ -115,7 +126,8 @@ fn run_part(
     source: &Operand,
     part: usize,
 ) -> Result<Flow, AllocError>
-    ensures runs { IfOk result (RunsSo (λ w env. run.run_part local (run.part_of part (run.value_of w env source.now)) env)
+    ensures runs { IfOk result
+        (RunsSo (λ w env. run.run_part local (run.part_of part (run.value_of w env source.now)) env)
         around.now frame.old frame.new) }
     ensures follows { OnOk result (Follows frame.old frame.new) }
 {
@@ -133,7 +145,8 @@ pub fn run_let(
     local: usize,
     computed: &TExpr,
 ) -> Result<Flow, AllocError>
-    ensures runs { IfOk result (RunsSo (λ w. run.run_let w local computed.now) around.now frame.old frame.new) }
+    ensures runs { IfOk result
+        (RunsSo (λ w. run.run_let w local computed.now) around.now frame.old frame.new) }
     ensures follows { OnOk result (Follows frame.old frame.new) }
 {
     match computed {

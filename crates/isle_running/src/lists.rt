@@ -21,7 +21,8 @@ fn items_in(holding: &Holding) -> Option<&[Item]>
 
 // The items of a list that a local holds, where it holds one.
 fn items_of<'f>(frame: &'f Frame<'_>, local: usize) -> Option<&'f [Item]>
-    ensures { option_map (λ is. map item is.now) result ≡ list_in (look (locals frame.now.locals) local) }
+    ensures { option_map (λ is. map item is.now) result
+        ≡ list_in (look (locals frame.now.locals) local) }
 {
     match frame.locals.get(local) {
         Some(found) => items_in(found),
@@ -31,7 +32,8 @@ fn items_of<'f>(frame: &'f Frame<'_>, local: usize) -> Option<&'f [Item]>
 
 /// Returns how many items the list has that a local holds, where it holds one.
 pub fn list_len(frame: &Frame<'_>, local: usize) -> Option<usize>
-    ensures { result ≡ option_map (λ is. length is) (list_in (look (locals frame.now.locals) local)) }
+    ensures { result
+        ≡ option_map (λ is. length is) (list_in (look (locals frame.now.locals) local)) }
 {
     match items_of(frame, local) {
         Some(items) => Some(items.len()),

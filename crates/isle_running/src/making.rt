@@ -22,7 +22,10 @@ fn read_field(
     frame: &Frame<'_>,
     next: &(Text, Read),
 ) -> Result<Option<(Text, Value)>, AllocError>
-    ensures { IfOk result (λ read. option_map const read ≡ field_read next.now.0 (read_value (within around.now frame.now) (locals frame.now.locals) next.now.1)) }
+    ensures { IfOk result (λ read.
+        option_map const read
+        ≡ field_read next.now.0
+        (read_value (within around.now frame.now) (locals frame.now.locals) next.now.1)) }
 {
     match value_in(read_value(alloc, around, frame, &next.1)?) {
         Some(value) => Ok(Some((Text::copied(alloc, next.0.as_str())?, value))),
@@ -60,7 +63,9 @@ pub fn variant_made(
     variant: &str,
     reads: &[(Text, Read)],
 ) -> Result<Holding, AllocError>
-    ensures { IfOk result (λ h. held h ≡ variant_held ty.now variant.now (read_fields (within around.now frame.now) (locals frame.now.locals) reads.now)) }
+    ensures { IfOk result (λ h.
+        held h ≡ variant_held ty.now variant.now
+        (read_fields (within around.now frame.now) (locals frame.now.locals) reads.now)) }
 {
     match read_fields(alloc, around, frame, reads)? {
         Some(read) => {
@@ -82,7 +87,9 @@ pub fn struct_made(
     ty: &str,
     reads: &[(Text, Read)],
 ) -> Result<Holding, AllocError>
-    ensures { IfOk result (λ h. held h ≡ struct_held ty.now (read_fields (within around.now frame.now) (locals frame.now.locals) reads.now)) }
+    ensures { IfOk result (λ h.
+        held h ≡ struct_held ty.now
+        (read_fields (within around.now frame.now) (locals frame.now.locals) reads.now)) }
 {
     match read_fields(alloc, around, frame, reads)? {
         Some(read) => {

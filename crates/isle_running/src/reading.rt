@@ -32,7 +32,8 @@ pub fn value_of(
     frame: &Frame<'_>,
     operand: &Operand,
 ) -> Result<Holding, AllocError>
-    ensures { IfOk result (λ h. held h ≡ value_of (within around.now frame.now) (locals frame.now.locals) operand.now) }
+    ensures { IfOk result (λ h.
+        held h ≡ value_of (within around.now frame.now) (locals frame.now.locals) operand.now) }
 {
     match operand {
         Operand::Local(local) => local_value(alloc, frame, *local),
@@ -54,7 +55,8 @@ pub fn read_value(
     frame: &Frame<'_>,
     read: &Read,
 ) -> Result<Holding, AllocError>
-    ensures { IfOk result (λ h. held h ≡ read_value (within around.now frame.now) (locals frame.now.locals) read.now) }
+    ensures { IfOk result (λ h.
+        held h ≡ read_value (within around.now frame.now) (locals frame.now.locals) read.now) }
 {
     match read {
         Read::Plain(operand) | Read::Borrow(operand) | Read::Clone(operand) => {

@@ -15,7 +15,9 @@ use std::alloc::AllocError;
 /// Gives one result more: the value that a place holds.
 #[tactic(auto, using(crate::proofs::ValuesIn::on_value_in))]
 pub fn run_extend(frame: &mut Frame<'_>, holding: Holding) -> Result<Flow, AllocError>
-    ensures runs { IfOk result (λ f. run.on_value (held holding) (λ v. run.Goes (locals frame.old.locals) (run.one_given (state frame.old) v))
+    ensures runs { IfOk result (λ f.
+        run.on_value (held holding)
+        (λ v. run.Goes (locals frame.old.locals) (run.one_given (state frame.old) v))
         ≡ flow f frame.new) }
     ensures follows { OnOk result (Follows frame.old frame.new) }
 {
@@ -30,7 +32,9 @@ pub fn run_extend(frame: &mut Frame<'_>, holding: Holding) -> Result<Flow, Alloc
 
 /// Stops where there is no room for another result.
 pub fn run_overflow(around: &Around<'_>, frame: &Frame<'_>, inside: bool) -> Flow
-    ensures { RunsSo (λ w env s. if run.is_full w.limit s.given then run.stops inside s else run.Goes env s) around.now frame.now frame.now result }
+    ensures { RunsSo
+        (λ w env s. if run.is_full w.limit s.given then run.stops inside s else run.Goes env s)
+        around.now frame.now frame.now result }
 {
     if frame.given.len() < around.room {
         return Flow::Goes;

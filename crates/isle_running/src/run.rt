@@ -42,7 +42,9 @@ fn ends_with(holding: Holding) -> Flow
 // The end that gives an option of a value.
 #[tactic(auto, using(crate::proofs::ValuesIn::on_value_in))]
 fn ends_some(holding: Holding) -> Flow
-    ensures { (frame : Frame) → run.on_value (held holding) (λ v. run.Ends (GivesSome v) (state frame)) ≡ flow result frame }
+    ensures { (frame : Frame)
+        → run.on_value (held holding) (λ v. run.Ends (GivesSome v) (state frame))
+        ≡ flow result frame }
 {
     match value_in(holding) {
         Some(value) => Flow::Ends(End::Some(value)),
@@ -57,7 +59,8 @@ fn run_return(
     frame: &Frame<'_>,
     given: &TExpr,
 ) -> Result<Flow, AllocError>
-    ensures { IfOk result (RunsSo (λ w. run.run_return w given.now) around.now frame.now frame.now) }
+    ensures { IfOk result
+        (RunsSo (λ w. run.run_return w given.now) around.now frame.now frame.now) }
 {
     match given {
         TExpr::Read(read) => Ok(ends_with(read_value(alloc, around, frame, read)?)),
@@ -78,7 +81,9 @@ fn test_value(
     one: &Value,
     b: &Operand,
 ) -> Result<Option<bool>, AllocError>
-    ensures { IfOk result (λ t. t ≡ tested (Some (value one.now)) (value_in (value_of (within around.now frame.now) (locals frame.now.locals) b.now))) }
+    ensures { IfOk result (λ t.
+        t ≡ tested (Some (value one.now))
+        (value_in (value_of (within around.now frame.now) (locals frame.now.locals) b.now))) }
 {
     match value_in(value_of(alloc, around, frame, b)?) {
         Some(other) => Ok(Some(is_equal(one, other))),
@@ -94,7 +99,8 @@ fn test(
     a: &Operand,
     b: &Operand,
 ) -> Result<Option<bool>, AllocError>
-    ensures { IfOk result (λ t. t ≡ test (within around.now frame.now) (locals frame.now.locals) a.now b.now) }
+    ensures { IfOk result (λ t.
+        t ≡ test (within around.now frame.now) (locals frame.now.locals) a.now b.now) }
 {
     match value_in(value_of(alloc, around, frame, a)?) {
         Some(one) => test_value(alloc, around, frame, &one, b),
@@ -111,7 +117,8 @@ fn run_stmt(
     statement: &Stmt,
     frame: &mut Frame<'_>,
 ) -> Result<Flow, AllocError>
-    ensures runs { IfOk result (RunsSo (λ w. run.run_stmt w (stmt statement.now)) around.now frame.old frame.new) }
+    ensures runs { IfOk result
+        (RunsSo (λ w. run.run_stmt w (stmt statement.now)) around.now frame.old frame.new) }
     ensures follows { OnOk result (Follows frame.old frame.new) }
 {
     match statement {
@@ -150,7 +157,8 @@ fn run_inside(
     statements: &[Stmt],
     frame: &mut Frame<'_>,
 ) -> Result<Flow, AllocError>
-    ensures runs { IfOk result (RunsSo (run_inside (body statements.now)) around.now frame.old frame.new) }
+    ensures runs { IfOk result
+        (RunsSo (run_inside (body statements.now)) around.now frame.old frame.new) }
     ensures kept { OnOk result (frame.new.locals ≡ frame.old.locals) }
     ensures follows { OnOk result (Follows frame.old frame.new) }
 {
@@ -170,7 +178,9 @@ fn run_where(
     statements: &[Stmt],
     frame: &mut Frame<'_>,
 ) -> Result<Flow, AllocError>
-    ensures runs { IfOk result (RunsSo (run_where pat.now (held holding) (body statements.now)) around.now frame.old frame.new) }
+    ensures runs { IfOk result
+        (RunsSo (run_where pat.now (held holding) (body statements.now)) around.now frame.old
+        frame.new) }
     ensures kept { OnOk result (frame.new.locals ≡ frame.old.locals) }
     ensures follows { OnOk result (Follows frame.old frame.new) }
 {
@@ -196,7 +206,8 @@ fn run_turn(
     statements: &[Stmt],
     frame: &mut Frame<'_>,
 ) -> Result<Flow, AllocError>
-    ensures runs { IfOk result (RunsSo (run_turn list item index (body statements.now)) around.now frame.old frame.new) }
+    ensures runs { IfOk result
+        (RunsSo (run_turn list item index (body statements.now)) around.now frame.old frame.new) }
     ensures kept { OnOk result (frame.new.locals ≡ frame.old.locals) }
     ensures follows { OnOk result (Follows frame.old frame.new) }
 {
@@ -215,7 +226,8 @@ fn run_loop(
     statements: &[Stmt],
     frame: &mut Frame<'_>,
 ) -> Result<Flow, AllocError>
-    ensures runs { IfOk result (RunsSo (run_loop list item (body statements.now)) around.now frame.old frame.new) }
+    ensures runs { IfOk result
+        (RunsSo (run_loop list item (body statements.now)) around.now frame.old frame.new) }
     ensures follows { OnOk result (Follows frame.old frame.new) }
 {
     let count = match list_len(frame, list) {
@@ -242,7 +254,8 @@ pub fn run_body(
     statements: &[Stmt],
     frame: &mut Frame<'_>,
 ) -> Result<Flow, AllocError>
-    ensures runs { IfOk result (RunsSo (λ w. run.run_body w (body statements.now)) around.now frame.old frame.new) }
+    ensures runs { IfOk result
+        (RunsSo (λ w. run.run_body w (body statements.now)) around.now frame.old frame.new) }
     ensures follows { OnOk result (Follows frame.old frame.new) }
 {
     for statement in statements {

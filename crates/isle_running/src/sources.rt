@@ -102,7 +102,9 @@ impl<'a> Sources<'a> {
 
 /// Finds the first turns of each callee, or else its first cases.
 pub fn sources_of<'a>(alloc: Global, answers: &'a Answers) -> Result<Sources<'a>, AllocError>
-    ensures { IfOk result (λ s. FindsSources (map turn_answers answers.now.turns) (map pure_answers answers.now.pure) [] s) }
+    ensures { IfOk result (λ s.
+        FindsSources (map turn_answers answers.now.turns) (map pure_answers answers.now.pure) []
+        s) }
 {
     let mut sources = Sources::new(alloc);
     let pure = answers.pure.as_slice();

@@ -57,10 +57,11 @@ impl<I, C> ContextIterWrapper<I, C> {
         &self.iter
     }
 
-    /// Lends what is wrapped, which ends as what is left behind the result.
+    /// Lends what is wrapped, which ends as what is left after the result.
     pub fn inner_mut(&mut self) -> &mut I
         ensures value { result.now ≡ self.old }
-        ensures* writes_back { sem 𝓛 (Lends (the_row I.row C.row) I.row self.entry result (λ last. last)) }
+        ensures* writes_back { sem 𝓛
+            (Lends (the_row I.row C.row) I.row self.entry result (λ last. last)) }
     {
         &mut self.iter
     }

@@ -70,7 +70,7 @@ undoes_less bound (x ∷ log) e h =
 differ : (n : ℕ) → is_at (nat_cmp n) n ≡ false → ⊥
 differ n e = let same : true ≡ is_eq (nat_cmp n n) = ap is_eq (nat_cmp_is n n Equal refl) in absurd cc
 
--- what the map has behind an update
+-- what the map has after an update
 got : (old new : BTreeMap ℕ ℕ) (y n : ℕ) (o : Option ℕ) → Updates nat_cmp old new y o → ((y ≡ n) × (get nat_cmp new n ≡ o)) ⊎ ((y ≡ n → ⊥) × (get nat_cmp new n ≡ get nat_cmp old n))
 got old new y n o u = one (is_at (nat_cmp y) n) refl
   where

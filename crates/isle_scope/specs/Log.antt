@@ -9,7 +9,7 @@ use Rattle.isle_scope.specs.Scope.{last_place}
 abbrev pub locals_of : List Entry → List ℕ
 locals_of log = map (λ (e : Entry). e.local) log
 
--- each entry behind these locals has where its local was bound before it
+-- each entry after these locals has where its local was bound before it
 abbrev pub Undoes : List ℕ → List Entry → Type 0
 Undoes bound [] = Unit {0}
 Undoes bound (e ∷ es) = (e.hidden ≡ last_place bound e.local) × Undoes (bound ++ e.local ∷ []) es

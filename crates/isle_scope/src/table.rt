@@ -36,7 +36,8 @@ fn note<T: Drop>(
 ) -> Result<(), AllocError>
     requires { length scope.old ≡ length things.old.items }
     ensures keeps { length scope.new ≡ length things.new.items }
-    ensures more { OnOk result (zip scope.new things.new.items ≡ zip scope.old things.old.items ++ (local, thing) ∷ []) }
+    ensures more { OnOk result
+        (zip scope.new things.new.items ≡ zip scope.old things.old.items ++ (local, thing) ∷ []) }
     ensures kept { OnErr result (zip scope.new things.new.items ≡ zip scope.old things.old.items) }
 {
     things.push(thing)?;

@@ -119,7 +119,7 @@ mutual
   each_fit (APattern q qs) env p = all_append (FitsAnswer env) (pattern_paths env q p) (each_paths env qs p) (pattern_fits q env p) (each_fit qs env p)
 
 mutual
-  -- where variables stand behind a pattern
+  -- where variables stand after a pattern
   after_fits : (q : Pattern) (env : Environment) (p : Path) (places : Places) → FitsAnswer env p → ArePlacedSo (FitsAnswer env) places → ArePlacedSo (FitsAnswer env) (after env q p places)
   after_fits (pattern.Var ty x) env p places h a = met_fits env (places x.0) x.0 p places h a
   after_fits (pattern.Term ty term qs) env p places h a = after_parts_fit qs env (opening env term) 0 p places a
@@ -155,7 +155,7 @@ args_places env (q ∷ qs) i places a = args_places env qs (suc i) (after env q 
 value_fits : (env : Environment) (c : IfLet) (places : Places) → ArePlacedSo (FitsAnswer env) places → FitsAnswer env (path env c.rhs places 0)
 value_fits env c places a = path_so (FitsAnswer env) env c.rhs places 0 (expr_fits env c.rhs places 0 a)
 
--- where variables stand behind conditions
+-- where variables stand after conditions
 iflets_places : (cs : List IfLet) (env : Environment) (places : Places) → ArePlacedSo (FitsAnswer env) places → ArePlacedSo (FitsAnswer env) (iflets_after env cs places)
 iflets_places [] env places a = a
 iflets_places (c ∷ cs) env places a =

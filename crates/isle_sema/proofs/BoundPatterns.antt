@@ -6,13 +6,13 @@ use Rattle.isle_core.specs.declared.rules.Pattern.{Pattern as CodePattern}
 use Rattle.isle_core.specs.RuleViews.{pattern as elaborated}
 use Rattle.isle_ast.specs.Tree as tree
 use Rattle.isle_ast.specs.Tree.{Pattern, Patterns, NoPattern, APattern}
-use Rattle.isle_culprits.specs.declared.judged.Judged.{Judged}
+use Rattle.isle_terms.specs.declared.judged.Judged.{Judged}
 use Rattle.isle_sema.specs.ElaboratedAt.{copies, IsPatternAt}
 use Rattle.isle_sema.specs.Judging.{judge, judge_all}
 use Rattle.isle_sema.specs.PatternPass.{PatternsPass, bound_tree, count_of, of_each, pattern_pass, patterns_pass}
-use Rattle.isle_variables.specs.Scope.{is_blank}
+use Rattle.isle_terms.specs.Scope.{is_blank}
 use Rattle.isle_terms.specs.TermPass.{tree_before}
-use Rattle.isle_variables.specs.Scope.{Scope, bound_at, met, variable}
+use Rattle.isle_terms.specs.Scope.{Scope, bound_at, met, variable}
 use Rattle.isle_sema.specs.Site.{MetAt}
 use Rattle.isle_terms.specs.Whole.{Whole}
 use Rattle.isle_sema.proofs.TypedPatterns.{bind_pass}
@@ -36,7 +36,7 @@ each_expected w (Some ty) scope ps = ap (λ os. patterns_pass w os scope ps) (so
 
 -- ---- `@`
 
--- behind another name the variable is met first
+-- after another name the variable is met first
 pub bound_is : {E : Type 0} (r : Result (Option CodePattern) E) (w : Whole) (expected : Option TypeId) (old mid new : Scope) (before between after : Judged) (name : List ℕ) (p : Pattern) (found : Option CodePattern) (blank : Bool) → blank ≡ is_blank name → blank ≡ false
     → mid ≡ met old name expected → between ≡ judge w before (MetAt expected (bound_at old name)) → IsPatternAt w expected p mid new between after found
     → IfOk r (λ q. option_map elaborated q ≡ bound_tree (variable mid name) (option_map elaborated found)) → IfOk r (λ q. IsPatternAt w expected (tree.Bind name p) old new before after q)

@@ -22,12 +22,12 @@ use Rattle.isle_core.specs.Making.{Making, MakesVariant, MakesStruct, MakesNothi
 use Rattle.isle_core.specs.Pattern as pattern
 use Rattle.isle_core.specs.Pattern.{Pattern, Patterns, NoPattern, APattern}
 use Rattle.isle_core.specs.PatternType.{OpensType, part_types, IsPatternOf, ArePartsOf, AreEachOf, ArePatternsOf}
-use Rattle.isle_core.proofs.RuleMatches.{IsTested}
 use Rattle.isle_core.specs.Rule.{IfLet, Rule, Environment, rules_of}
 use Rattle.isle_core.specs.Scope.{IsScopedRule}
 use Rattle.isle_core.specs.ExprType.{in_condition, in_right_side, AreIfLetsOf}
 use Rattle.isle_core.specs.TypedVariables.{typed_variables, rule_typed, HaveOneType}
 use Rattle.isle_core.specs.TypedParts.{field_types}
+use Rattle.isle_core.specs.Served.{IsTested}
 use Rattle.isle_ast.specs.Tree.{Def}
 use Rattle.isle_types.proofs.SoundTypes.{form_sound}
 use Rattle.isle_sema.specs.Typing.{Typed}

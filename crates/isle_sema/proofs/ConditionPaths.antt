@@ -1,4 +1,4 @@
--- The expressions of typed conditions stand behind the tests of their calls, which are ready for a block.
+-- The expressions of typed conditions stand after the tests of their calls, which are ready for a block.
 use Rattle.std.proofs.Common.{◌≡◌, ⊎_elim, ℕ, ◌+◌, List, [], ◌∷◌, Some, false, refl, sym, ap, ◌∙◌, subst, arith, inr}
 use Rattle.std.specs.Prelude.{◌||◌, IsSomeAnd, Contains, slice_get}
 use Rattle.std.proofs.lemmas.List.Elements.{Contains-append_left, Contains-append_right, Contains-append_cases}
@@ -60,7 +60,7 @@ module _ (env : Environment) where
 -- ---- what may be read
 
 module _ (env : Environment) where
-  -- the value of a term of a condition, behind the test that it is something
+  -- the value of a term of a condition, after the test that it is something
   term_stands : {mk : Making} {d : Calling} (tests : List Test) (done : List Path) (term : TermId) (c : Term) (ps : Paths) (k j : ℕ) → IsServed env in_condition c mk d → calling env term ≡ d → AllStandOn env tests done ps → hold_impure env ps ≡ false
       → HasConstraints tests (found_tests d (term_path mk term ps (instance_of d j))) → StandsOn env tests done (answer_path d (term_path mk term ps (instance_of d k)))
   term_stands tests done term c ps k j (takes_turns callee kind fits turns) is s early among = absurd cc
@@ -72,7 +72,7 @@ module _ (env : Environment) where
   term_stands tests done term c ps k j (makes_struct of h) is s early among = s
 
   mutual
-    -- the path of a condition's expression may be read behind the tests of its calls
+    -- the path of a condition's expression may be read after the tests of its calls
     pub expr_stands : (tests : List Test) (vars : List (TypeId × ℕ)) (places : Places) → AreStandingPlaces env tests [] vars places → AreEarly env places → (e : Expr) (ty : TypeId) → IsExprOf env in_condition vars ty e → HasConstraints tests (called_tests env e places) → (done : List Path) → StandsOn env tests done (path env e places 0)
     expr_stands tests vars places placed early (expr.Var of x) ty h among done = let k = placed ty x.0 h.1 in subst (λ o. StandsOn env tests done (path_or o)) (sym k.is) (k.stands done (λ p c. absurd (none_contained p c)))
     expr_stands tests vars places placed early (expr.ConstBool b) ty h among done = tt
@@ -120,7 +120,7 @@ module _ (env : Environment) where
         (record { path = p; is = refl; stands = λ later b. expr_stands tests vars places placed early e of h.1 (λ y k d. among y k (Contains-append_left (called_tests env e places) (bindings_called_tests env bs mid) y d)) later }) placed) (with_early env places x.0 p (expr_early env vars of e places 0 h.1 early) early) bs h.2
         (λ y k d. among y k (Contains-append_right (called_tests env e places) (bindings_called_tests env bs mid) y d)))
 
--- places stand behind more tests too
+-- places stand after more tests too
 pub places_still : (env : Environment) (before later : List Test) (vars : List (TypeId × ℕ)) (places : Places) → AreAlso before later → AreStandingPlaces env before [] vars places → AreStandingPlaces env later [] vars places
 places_still env before later vars places a h ty x c = let k = h ty x c in record { path = k.path; is = k.is; stands = λ done b. stands_still env k.path before later done a (k.stands done b) }
 

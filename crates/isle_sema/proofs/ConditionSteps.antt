@@ -15,17 +15,17 @@ use Rattle.isle_ast.specs.Views.{iflet}
 use Rattle.isle_terms.proofs.TermSteps.{before, one_before}
 use Rattle.isle_terms.specs.TermPass.{tree_before}
 use Rattle.isle_terms.specs.Whole.{Whole}
-use Rattle.isle_culprits.specs.declared.judged.Judged.{Judged}
+use Rattle.isle_terms.specs.declared.judged.Judged.{Judged}
 use Rattle.isle_sema.specs.ElaboratedAt.{condition_tree, IsPatternAt, IsExprAt, IsExprOver, IsConditionAt}
 use Rattle.isle_sema.specs.ExprPass.{ExprPass, expr_pass}
 use Rattle.isle_sema.specs.ExprType.{own_type}
 use Rattle.isle_sema.specs.Judging.{judge, judge_all}
-use Rattle.isle_variables.specs.Locals.{Bound, of_patterns, locals_of}
-use Rattle.isle_variables.specs.NewVariables.{new_count}
+use Rattle.isle_terms.specs.Locals.{Bound, of_patterns, locals_of}
+use Rattle.isle_terms.specs.NewVariables.{new_count}
 use Rattle.isle_sema.specs.PatternPass.{PatternPass, pattern_pass}
 use Rattle.isle_sema.specs.RulePass.{iflet_tree, condition_expr, condition_pattern, condition_pass, ConditionsPass, conditions_pass, condition_before}
-use Rattle.isle_variables.specs.Scope.{behind}
-use Rattle.isle_variables.specs.Scope.{Local, Scope}
+use Rattle.isle_terms.specs.Scope.{behind}
+use Rattle.isle_terms.specs.Scope.{Local, Scope}
 
 -- ---- one condition
 

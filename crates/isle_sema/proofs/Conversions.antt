@@ -66,7 +66,7 @@ declared_there (tree.Passed head items pos ∷ ds) name s h = declared_there ds 
 
 -- ---- a converter that is found
 
--- it keeps its row, behind some others, and is between the types
+-- it keeps its row, after some others, and is between the types
 record IsKept (defs : List Def) (of ty : TypeId) (c : Conversion) : Type 0 where
   done : List Conversion
   kept : is_misconverting defs done c ≡ false

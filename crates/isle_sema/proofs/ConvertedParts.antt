@@ -14,13 +14,13 @@ use Rattle.isle_declarations.specs.Signatures.{Signature, term_named}
 use Rattle.isle_declarations.specs.Terms.{terms}
 use Rattle.isle_terms.specs.Converters.{conversion, within}
 use Rattle.isle_terms.specs.Whole.{Whole, termed, arg_types, ret_type}
-use Rattle.isle_culprits.specs.declared.judged.Judged.{Judged}
+use Rattle.isle_terms.specs.declared.judged.Judged.{Judged}
 use Rattle.isle_sema.specs.ElaboratedAt.{IsPatternAt, IsExprAt}
 use Rattle.isle_sema.specs.ExprPass.{expr_within, called_by, expr_pass}
 use Rattle.isle_sema.specs.Judging.{judge, judge_all}
-use Rattle.isle_variables.specs.Locals.{Bound, locals_of}
+use Rattle.isle_terms.specs.Locals.{Bound, locals_of}
 use Rattle.isle_sema.specs.PatternPass.{pattern_within, taken_by, term_tree, count_of, patterns_pass}
-use Rattle.isle_variables.specs.Scope.{Scope}
+use Rattle.isle_terms.specs.Scope.{Scope}
 use Rattle.isle_sema.specs.Site.{Site, TakenAt}
 
 -- a term in a pattern

@@ -46,7 +46,7 @@ pub record AreDeclaredWell (defs : List Def) : Type 0 where
 
 -- ---- names of types
 
--- a name that stands among some stands there behind one more
+-- a name that stands among some stands there after one more
 index_later : (first name : List ℕ) (names : List (List ℕ)) → is_some (index_of names name) ≡ true → is_some (index_of (first ∷ names) name) ≡ true
 index_later first name names h = by (bytes_eq first name) (index_of names name) h
   where

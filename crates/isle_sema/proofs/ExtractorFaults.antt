@@ -13,8 +13,8 @@ use Rattle.isle_declarations.specs.Signatures.{Template, Extracting, ByTemplate,
 use Rattle.isle_types.specs.declared.row.Row.{Row}
 use Rattle.isle_types.specs.declared.row.Row.TheVariants as row
 use Rattle.isle_terms.specs.Whole.{Whole, termed, ret_type}
-use Rattle.isle_variables.specs.Scope.{Scope}
-use Rattle.isle_culprits.specs.declared.judged.Judged.{Judged}
+use Rattle.isle_terms.specs.Scope.{Scope}
+use Rattle.isle_terms.specs.declared.judged.Judged.{Judged}
 use Rattle.isle_sema.specs.ElaboratedAt.{IsPatternAt}
 use Rattle.isle_sema.specs.Fault.{OfExtractors, or_later, fault_after}
 use Rattle.isle_sema.specs.Judging.{unjudged, judge, judge_all, lowest_of_template}
@@ -44,7 +44,7 @@ extractors_fault_is w before (tree.Passed head items pos ∷ ds) = extractors_fa
 
 -- ---- its row
 
--- rows in order, and what comes behind them
+-- rows in order, and what comes after them
 abbrev rows_then : (a b c d e f : Bool) → Option Row → Option Row
 rows_then a b c d e f later =
     cond a (Some row.ExtractorReachesItself) (cond b (Some row.TemplateMisfit) (cond c (Some row.PatternTermMisfit) (cond d (Some row.PatternTypeMisfit) (cond e (Some row.LiteralMisfit) (cond f (Some row.ConstantUndeclared) later)))))

@@ -101,7 +101,7 @@ module _ (env : Environment) (t : Term) where
   opening_fits (ByExtractor term c count) p h = inner_fits c (Extracted term p) tt h
 
   mutual
-    -- the paths of a pattern, and where variables stand behind it
+    -- the paths of a pattern, and where variables stand after it
     pattern_fits : (q : Pattern) (p : Path) (places : Places) → AreOften (Often t) env (extracted_by env q) → FitsItem p → ArePlacedSo FitsItem places → AllByRecursion FitsItem (pattern_paths env q p) × ArePlacedSo FitsItem (after env q p places)
     pattern_fits (pattern.Term ty term qs) p places often h a =
         let o = opening_often (Often t) env term qs often in

@@ -7,7 +7,7 @@ use Rattle.std.proofs.lemmas.List.{length-map}
 use Rattle.std.proofs.lemmas.List.Folds.{list_any-append}
 use Rattle.isle_core.specs.declared.TermId.{TermId}
 use Rattle.isle_core.specs.declared.TypeId.{TypeId}
-use Rattle.isle_culprits.specs.declared.judged.Judged.{Judged}
+use Rattle.isle_terms.specs.declared.judged.Judged.{Judged}
 use Rattle.isle_sema.specs.declared.known.Called.{Called}
 use Rattle.isle_declarations.specs.Signatures.{Signature, RuleDef, externs, extractors, rule_defs, func_named, extractor_named, has_rule, term_named}
 use Rattle.isle_sema.specs.Site.{Site, IntegerAt, TruthAt, PartAt, MetAt, UsedAt, CalledAt, TakenAt, ConstantAt, BoundAt}
@@ -24,7 +24,7 @@ use Rattle.isle_sema.specs.Judging.{is_partial_call, is_impure_call, is_multi_ca
 use Rattle.isle_sema.specs.Taken.{row_of}
 use Rattle.isle_sema.specs.RuleRows.{is_large}
 use Rattle.isle_sema.specs.Templates.{templates}
-use Rattle.isle_multis.specs.Multi.{marked, is_multi, AreMultisTold}
+use Rattle.isle_templates.specs.Multi.{marked, is_multi, AreMultisTold}
 use Rattle.isle_types.specs.Fault.{or_later}
 
 -- ---- a call
@@ -240,7 +240,7 @@ same_tests : {a a2 : Bool} {b b2 : Bool} {c c2 : Bool} {d d2 : Bool} {e e2 : Boo
     → tests a b c d e u f g x h i k l ≡ tests a2 b2 c2 d2 e2 u2 f2 g2 x2 h2 i2 k2 l2
 same_tests ea eb ec ed ee eu ef eg ex eh ei ek el = rw (ea, eb, ec, ed, ee, eu, ef, eg, ex, eh, ei, ek, el) refl
 
--- the last test stands alone behind the others
+-- the last test stands alone after the others
 last_test : (a b c d e u f g x h i k l : Bool) → tests a b c d e u f g x h i k l ≡ or_later (tests a b c d e u f g x h i k false) (cond l (Some row.ManyNodes) None)
 last_test true b c d e u f g x h i k l = refl
 last_test false true c d e u f g x h i k l = refl

@@ -18,11 +18,11 @@ use Rattle.isle_sema.proofs.RuleLaws.{rules_fault_is}
 pub extractors_first : (w : Whole) (f : Row × Pos) → fault_in OfExtractors w ≡ Some f → later_fault w ≡ Some f
 extractors_first w f h = ap (λ o. or_later o (fault_in OfRules w)) h
 
--- behind none of extractors it is that of rules
+-- after none of extractors it is that of rules
 pub rules_behind : (w : Whole) (o : Option (Row × Pos)) → fault_in OfExtractors w ≡ None → rules_fault w (rule_defs w.defs) ≡ o → later_fault w ≡ o
 rules_behind w o none h = ap (λ x. or_later x (fault_in OfRules w)) none ∙ rules_fault_is w [] w.defs ∙ h
 
--- what is found of rules, behind templates that are taken
+-- what is found of rules, after templates that are taken
 pub rules_given : (w : Whole) (taken : Extractors) (found : Result (Vec CodeRule) Fault) → AreTaken w taken → AreRulesFound w (rule_defs w.defs) found → AreRulesAt w found
 rules_given w taken (Err fault) t h = rules_behind w (Some (fault.row, fault.pos)) t.sound h
 rules_given w taken (Ok rules) t h = record { sound = rules_behind w None t.sound h.sound; treed = t.treed; made = h.made }

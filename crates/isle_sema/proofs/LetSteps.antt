@@ -15,17 +15,17 @@ use Rattle.isle_ast.specs.Tree.{Def, Lets}
 use Rattle.isle_ast.specs.Views.{expr, lets_of}
 use Rattle.isle_ast.proofs.Sees.{let-parts}
 use Rattle.isle_declarations.specs.Bindings.{binding}
-use Rattle.isle_culprits.specs.declared.judged.Judged.{Judged}
+use Rattle.isle_terms.specs.declared.judged.Judged.{Judged}
 use Rattle.isle_sema.specs.ElaboratedAt.{seen_binding, binding_trees, IsExprAt, IsBindingAt, AreBindingsAt}
 use Rattle.isle_terms.specs.Whole.{whole_of}
 use Rattle.isle_sema.specs.ExprPass.{ExprPass, LetsPass, binding_tree, binding_before, let_tree, expr_pass, lets_pass}
 use Rattle.isle_sema.specs.Judging.{judge, judge_all}
-use Rattle.isle_variables.specs.Locals.{Bound, bound_local, locals_of}
-use Rattle.isle_variables.specs.Scope.{Local}
+use Rattle.isle_terms.specs.Locals.{Bound, bound_local, locals_of}
+use Rattle.isle_terms.specs.Scope.{Local}
 use Rattle.isle_sema.specs.Site.{Site, PartAt, BoundAt}
 use Rattle.isle_terms.specs.TypeNames.{type_named}
 use Rattle.isle_terms.specs.Whole.{Whole}
-use Rattle.isle_variables.proofs.LocalLaws.{joined_locals, outer_stays}
+use Rattle.isle_terms.proofs.LocalLaws.{joined_locals, outer_stays}
 
 -- ---- trees in order
 
@@ -149,7 +149,7 @@ lets_all defs ls i start now first judged typed complete found le is h =
 
 -- ---- one variable
 
--- a variable whose value is passed behind its number, and which joins those in scope
+-- a variable whose value is passed after its number, and which joins those in scope
 pub binding_made : (w : Whole) (var ty : List ℕ) (e : tree.Expr) (of : Option TypeId) (old numbered valued new : Bound) (number : ℕ) (before bound after : Judged) (value : Option CodeExpr) (found : Option LetBinding)
     → of ≡ type_named w.defs ty → bound ≡ judge w before (BoundAt of) → number ≡ old.next → numbered ≡ record { patterns = old.patterns; lets = old.lets; next = suc old.next } → IsExprAt w of e numbered valued bound after value
     → new ≡ record { patterns = valued.patterns; lets = bound_local valued.lets var of number; next = valued.next } → option_map seen_binding found ≡ binding_tree number of (option_map elaborated_expr value) → IsBindingAt w var ty e old new before after found

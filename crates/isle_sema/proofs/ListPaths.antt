@@ -1,4 +1,4 @@
--- The lists among the paths of a typed rule have types and items, and may be read behind its tests or are among its ordered calls.
+-- The lists among the paths of a typed rule have types and items, and may be read after its tests or are among its ordered calls.
 use Rattle.std.proofs.Common.{◌≡◌, ◌⊎◌, ⊎_elim, inl, inr, ℕ, suc, ◌+◌, Bool, true, false, cond, List, [], ◌∷◌, ◌++◌, Some, refl, sym, ap, ◌∙◌, subst, arith}
 use Rattle.std.specs.Prelude.{◌||◌, Contains, IsSomeAnd, slice_get}
 use Rattle.std.proofs.lemmas.List.Elements.{Contains-append_left, Contains-append_right, Contains-append_cases}
@@ -48,7 +48,7 @@ use Rattle.isle_sema.proofs.TestablePatterns.{HasConstraints, Gives, extractor_g
 
 -- ---- lists
 
--- a list of these types whose item is among all paths, of a term that answers several times; it may be read behind the tests, or is an ordered call
+-- a list of these types whose item is among all paths, of a term that answers several times; it may be read after the tests, or is an ordered call
 pub record IsListAt (env : Environment) (t : Term) (all : List Test) (ps ordered : List Path) (p : Path) : Type 0 where
   pub tys : List TypeId
   pub list : IsListOf env t p tys
@@ -94,7 +94,7 @@ module _ (env : Environment) (t : Term) (all : List Test) (ps ordered : List Pat
   other_path : (q : Path) (qs : List Path) → calls_multi env q ≡ false → AreListsAt qs → AreListsAt (q ∷ qs)
   other_path q qs h k = one_list q qs (λ e. absurd (no_both e h)) k
 
-  -- paths behind paths
+  -- paths after paths
   both_lists : (xs ys : List Path) → AreListsAt xs → AreListsAt ys → AreListsAt (xs ++ ys)
   both_lists xs ys h k p c e = ⊎_elim (λ d. h p d e) (λ d. k p d e) (Contains-append_cases xs ys p c)
 
@@ -330,7 +330,7 @@ module _ (env : Environment) (t : Term) (all : List Test) (ps ordered : List Pat
   -- ---- right sides
 
   module _ (allowed : Allowed) (late : is_several (kind_of t.kind) ≡ true → AreLate env ordered) where
-    -- a pure list may be read behind the tests, or is ordered
+    -- a pure list may be read after the tests, or is ordered
     case_list : (callee : Callee) (term : TermId) (qs : Paths) (k : ℕ) (holds : Bool) → calling env term ≡ ByCases callee return_kind.Iterator → holds_impure env (Called term qs k) ≡ holds → AllStandOn env all ordered qs → is_several (kind_of t.kind) ≡ true → Among (cond holds (Called term qs k ∷ []) []) ordered
         → ((holds_impure env (Called term qs k) ≡ false) × StandsOn env all [] (Called term qs k)) ⊎ Contains ordered (Called term qs k)
     case_list callee term qs k true is holds s several a = inr (a (Called term qs k) (head_contained (Called term qs k) []))

@@ -1,8 +1,7 @@
 -- The lists whose items the tests, calls and result of a flat rule read are lists of the rule, and so are those within its lists.
 use Rattle.std.proofs.Common.{◌≡◌, ⊎_elim, ℕ, zero, suc, ◌+◌, Bool, true, false, cond, List, [], ◌∷◌, ◌++◌, map, Option, Some, None, refl, sym, ap, ◌∙◌, subst, arith}
-use Rattle.std.specs.Prelude.{◌&&◌, ◌||◌, Contains, slice_get, ◌↔◌, not}
+use Rattle.std.specs.Prelude.{◌&&◌, ◌||◌, Contains, slice_get, not}
 use Rattle.std.specs.List.{AllByRecursion}
-use Rattle.std.proofs.lemmas.Bool.{not-true}
 use Rattle.std.proofs.lemmas.List.Elements.{Contains-append_left, Contains-append_right}
 use Rattle.isle_core.specs.declared.TermId.{TermId}
 use Rattle.isle_core.specs.declared.TypeId.{TypeId}
@@ -16,12 +15,11 @@ use Rattle.isle_core.specs.Expr as expr
 use Rattle.isle_core.specs.Expr.{Expr, Exprs, NoExpr, AnExpr, LetBindings, NoBinding, ABinding}
 use Rattle.isle_core.specs.ExprType.{in_condition, IsExprOf, AreExprsOf, AreBindingsOf, AreIfLetsOf}
 use Rattle.isle_core.specs.HoldsImpure.{holds_impure}
-use Rattle.isle_core.specs.Iterators.{calls_multi, rule_iterators}
+use Rattle.isle_core.specs.Iterators.{calls_multi}
 use Rattle.isle_core.specs.Making.{Making, MakesVariant, MakesStruct, MakesNothing, making_kind, making, making_of}
 use Rattle.isle_core.specs.Match.{with}
 use Rattle.isle_core.specs.Opening.{Opening, AsVariant, AsStruct, ByExtractor, opening_by, opening, answer_path, result_path, part_path}
 use Rattle.isle_core.specs.OrderedCalls.{if_ordered, calls, calls_all, calls_bindings, rule_calls}
-use Rattle.isle_core.specs.Pairs.{Placed, choice_paths}
 use Rattle.isle_core.specs.Path.{Path, Arg, Called, Chosen, Inner, Extracted, Paths, at}
 use Rattle.isle_core.specs.Pattern as pattern
 use Rattle.isle_core.specs.Pattern.{Pattern, Patterns, NoPattern, APattern}
@@ -38,10 +36,10 @@ use Rattle.isle_core.proofs.ChosenItems.{call_first}
 use Rattle.isle_core.proofs.ConditionTests.{no_impure, some_of}
 use Rattle.isle_core.proofs.Contained.{tail_contained, none_contained}
 use Rattle.isle_core.proofs.ExprPaths.{IsPlaceSo, ArePlacedSo, with_placed, path_so}
+use Rattle.isle_core.proofs.FirstItems.{firsts_hold, among_firsts}
 use Rattle.isle_core.proofs.ListLaws.{filter_from, filter_keeps}
 use Rattle.isle_core.proofs.RulePairs.{all_from, all_at}
 use Rattle.isle_templates.specs.TypedRule.{IsRuleOf}
-use Rattle.isle_sema.proofs.SerializableRules.{among_firsts, firsts_hold}
 
 all_joined : {A : Type 0} (P : A → Type 0) (xs ys : List A) → AllByRecursion P xs → AllByRecursion P ys → AllByRecursion P (xs ++ ys)
 all_joined P [] ys h k = k
@@ -119,7 +117,7 @@ module _ (env : Environment) (before : List Path) where
 
   -- ---- patterns
 
-  -- these paths, what tests read, and where variables stand behind them
+  -- these paths, what tests read, and where variables stand after them
   record IsRead (xs : List Path) (ts : List Test) (places : Places) : Type 0 where
     paths : AllByRecursion (ListsWithin before) xs
     tests : AllByRecursion (ReadsLists before) ts
@@ -267,7 +265,7 @@ module _ (env : Environment) (before : List Path) where
         let rest = exprs_read es places m a (λ x c. l x (Contains-append_right own others x c)) in
         (side_more own others (calls env e places n) (calls_all env es places m) one rest.0, (path_so (ListsWithin before) env e places n one.paths, rest.1))
 
-    -- so of the values of a `let`, and where variables stand behind them
+    -- so of the values of a `let`, and where variables stand after them
     bindings_read : (bs : LetBindings) (places : Places) (n : ℕ) → ArePlacedSo (ListsWithin before) places → AreListed (bindings_paths env bs places n) → IsSideRead (bindings_paths env bs places n) (calls_bindings env bs places n) × ArePlacedSo (ListsWithin before) (let_places env bs places n)
     bindings_read NoBinding places n a l = (record { paths = tt; calls = tt }, a)
     bindings_read (ABinding x ty e bs) places n a l =
@@ -386,12 +384,3 @@ flat_reads env t ps r n f flat h =
       ordered = all_from (ListsWithin before) (map (at ps) f.ordered) (λ p c. all_at (ListsWithin before) (rule_calls env r n) p k.ordered (among_firsts p flat.ordered c));
       result = subst (ListsWithin before) (sym flat.result) k.result;
     }
-
--- its lists that hold no impure call are the paths at which an item of the rule is chosen
-pub choice_listed : (env : Environment) (ps : List Path) (p : Placed) (f : FlatRule) → IsFlat env ps p.rule p.before f → (q : Path) → (Contains (map (at ps) f.iterators) q × (holds_impure env q ≡ false)) ↔ Contains (choice_paths env p) q
-choice_listed env ps p f flat q =
-    let lists = rule_iterators env p.rule p.before in
-    let test : Path → Bool = λ x. not (holds_impure env x) in (
-      (λ h. filter_keeps test lists q (among_firsts q flat.iterators h.0) (ap not h.1)),
-      (λ c. let k = filter_from test lists q c in (⊎_elim (λ d. absurd (none_contained q d)) (λ d. d) (firsts_hold q flat.iterators k.0), not-true (holds_impure env q) k.1)),
-    )

@@ -114,7 +114,7 @@ record IsFormed (all : List Def) (names : List (List ℕ)) (types : List TypeDef
 abbrev MayBeFormed : (all : List Def) → List (List ℕ) → List TypeDef → Signature → Type 0
 MayBeFormed all names types s = is_made s.origin ≡ true → IsFormed all names types s
 
--- so behind one type more
+-- so after one type more
 all_behind : (all : List Def) (name : List ℕ) (d : TypeDef) (names : List (List ℕ)) (types : List TypeDef) (sigs : List Signature) → AllByRecursion (MayBeFormed all names types) sigs → AllByRecursion (MayBeFormed all (name ∷ names) (d ∷ types)) sigs
 all_behind all name d names types [] h = tt
 all_behind all name d names types (s ∷ sigs) h = (

@@ -8,6 +8,7 @@ use Rattle.std.proofs.lemmas.Bool.{or_parts, or_from}
 use Rattle.std.proofs.lemmas.List.{append-nil, append_assoc}
 use Rattle.std.proofs.lemmas.Slice.Eq.{bytes_eq-Decides}
 use Rattle.isle_core.specs.declared.position.Pos.{Pos}
+use Rattle.isle_core.proofs.AllLaws.{all_append}
 use Rattle.isle_ast.specs.Tree as tree
 use Rattle.isle_ast.specs.Tree.{Def}
 use Rattle.isle_ast.specs.Positions.{place_of}
@@ -36,7 +37,7 @@ use Rattle.isle_sema.proofs.TermFaults.{is_made_twice}
 
 -- ---- names of types, and of made terms
 
--- names don't repeat where neither the first of them do, nor those behind them
+-- names don't repeat where neither the first of them do, nor those after them
 none_repeats : (before xs ys : List (List ℕ)) → repeats_after before xs ≡ false → repeats_after (before ++ xs) ys ≡ false → repeats_after before (xs ++ ys) ≡ false
 none_repeats before [] ys h k = ap (λ ns. repeats_after ns ys) (sym (append-nil before)) ∙ k
 none_repeats before (x ∷ xs) ys h k =
@@ -116,11 +117,6 @@ place_is (x ∷ names) (suc i) name d at = later_at x name names i (all_at (λ (
 -- each of these is another name
 abbrev AreOther : List ℕ → List (List ℕ) → Type 0
 AreOther first names = AllByRecursion (λ (name : List ℕ). bytes_eq first name ≡ false) names
-
--- what holds of two lists holds of one behind the other
-all_append : {X : Type 0} (P : X → Type 0) (xs ys : List X) → AllByRecursion P xs → AllByRecursion P ys → AllByRecursion P (xs ++ ys)
-all_append P [] ys h k = k
-all_append P (x ∷ xs) ys h k = (h.0, all_append P xs ys h.1 k)
 
 -- what follows of each follows of all
 pub all_to : {X : Type 0} (P Q : X → Type 0) (xs : List X) → ((x : X) → P x → Q x) → AllByRecursion P xs → AllByRecursion Q xs

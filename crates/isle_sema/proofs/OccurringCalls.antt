@@ -1,4 +1,4 @@
--- The impure calls of typed right sides have occurrences one behind the other, so each occurrence stands once.
+-- The impure calls of typed right sides have occurrences one after the other, so each occurrence stands once.
 use Rattle.std.proofs.Common.{◌≡◌, ⊎_elim, ℕ, suc, ◌+◌, ◌≤◌, Bool, true, false, cond, List, [], ◌∷◌, ◌++◌, map, refl, sym, subst, arith}
 use Rattle.std.specs.Prelude.{Contains, slice_get}
 use Rattle.std.proofs.lemmas.List.{append-nil, append_assoc}
@@ -27,13 +27,13 @@ use Rattle.isle_core.specs.ExprType.{Allowed, IsExprOf, AreExprsOf, AreBindingsO
 use Rattle.isle_core.specs.TypedVariables.{let_variables}
 use Rattle.isle_sema.proofs.SerializableCalls.{some_of, IsServed, takes_turns, has_cases, makes_variant, makes_struct, served}
 
--- at most one occurrence, the next behind n, and what holds behind it
+-- at most one occurrence, the next after n, and what holds after it
 abbrev pub IsNext : ℕ → List ℕ → (ℕ → Type 0) → Type 0
 IsNext n [] behind = behind n
 IsNext n (k ∷ []) behind = (k ≡ suc n) × behind (suc n)
 IsNext n (k ∷ j ∷ ks) behind = ⊥
 
--- the impure ones among these calls have the next occurrences behind n, up to the end
+-- the impure ones among these calls have the next occurrences after n, up to the end
 abbrev pub AreOccurring : Environment → (end n : ℕ) → List Path → Type 0
 AreOccurring env end n [] = n ≡ end
 AreOccurring env end n (p ∷ ps) = IsNext n (occurrence_at env p) (λ j. AreOccurring env end j ps)
@@ -41,7 +41,7 @@ AreOccurring env end n (p ∷ ps) = IsNext n (occurrence_at env p) (λ j. AreOcc
 -- ---- typed right sides
 
 module _ (env : Environment) (allowed : Allowed) (end : ℕ) where
-  -- the call of a typed term, if its place counts, behind those of its arguments
+  -- the call of a typed term, if its place counts, after those of its arguments
   turn_occurs : (kind : ReturnKind) (callee : Callee) (n k : ℕ) (term : TermId) (qs : Paths) (cs more : List Path) → calling env term ≡ ByTurns callee kind → ((after : List Path) → AreOccurring env end (n + k) after → AreOccurring env end n (cs ++ after)) → AreOccurring env end (n + suc k) more
       → AreOccurring env end n ((cs ++ Called term qs (suc (n + k)) ∷ []) ++ more)
   turn_occurs kind callee n k term qs cs more is h r =
@@ -79,7 +79,7 @@ module _ (env : Environment) (allowed : Allowed) (end : ℕ) where
   none_occurs n more r = let same : n + 0 ≡ n = omega arith in subst (λ j. AreOccurring env end j more) same r
 
   mutual
-    -- the calls of a typed expression, and those behind it
+    -- the calls of a typed expression, and those after it
     calls_occur : (vars : List (TypeId × ℕ)) (places : Places) (e : Expr) (n : ℕ) (ty : TypeId) (more : List Path) → IsExprOf env allowed vars ty e → AreOccurring env end (n + impure env e) more → AreOccurring env end n (calls env e places n ++ more)
     calls_occur vars places (expr.Var of x) n ty more h r = none_occurs n more r
     calls_occur vars places (expr.ConstBool b) n ty more h r = none_occurs n more r
@@ -122,7 +122,7 @@ expr_occurs env allowed vars places e n ty h = subst (AreOccurring env (n + impu
 
 -- ---- each occurrence once
 
--- occurrences behind n, each once
+-- occurrences after n, each once
 abbrev pub AreOnceBehind : ℕ → List ℕ → Type 0
 AreOnceBehind n ks = ((k : ℕ) → Contains ks k → suc n ≤ k) × EachOnce ks
 
@@ -148,7 +148,7 @@ with_next n (k ∷ j ∷ os) ks behind h go = absurd h
 list_same : (x y : Path) (xs ys : List Path) → x ∷ xs ≡ y ∷ ys → (x ≡ y) × (xs ≡ ys)
 list_same x y xs ys e = (cc, cc)
 
--- the occurrences of the firsts of such calls, and those behind the end
+-- the occurrences of the firsts of such calls, and those after the end
 pub occur_once : {seen xs ys : List Path} (env : Environment) (ps : List Path) → AreFirsts seen xs ys → (bs : List BindingId) → ys ≡ map (at ps) bs → (n end : ℕ) (ks : List ℕ) → AreOccurring env end n xs → AreOnceBehind end ks → AreOnceBehind n (occurrences env ps bs ++ ks)
 occur_once env ps (no_more seen) [] e n end ks h k = subst (λ m. AreOnceBehind m ks) (sym h) k
 occur_once env ps (no_more seen) (b ∷ bs) e n end ks h k = absurd cc

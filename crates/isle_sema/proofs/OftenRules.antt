@@ -23,14 +23,14 @@ use Rattle.isle_core.proofs.Contained.{contained_cases, none_contained}
 use Rattle.isle_ast.specs.Tree.{Def}
 use Rattle.isle_declarations.specs.Signatures.{Signature, RuleDef, rule_defs}
 use Rattle.isle_declarations.specs.Terms.{terms}
-use Rattle.isle_multis.specs.Multi.{marked, uses_one, uses_any}
+use Rattle.isle_templates.specs.Multi.{marked, uses_one, uses_any}
 use Rattle.isle_templates.specs.Elaborated.{condition_expanded, rule_expanded}
 use Rattle.isle_templates.specs.Renumbered.{condition_renamed, expr_renamed, order_of}
 use Rattle.isle_templates.specs.Substituted.{whole_templates}
 use Rattle.isle_terms.specs.Whole.{whole_of, termed, ret_type}
 use Rattle.isle_terms.proofs.MadeTerms.{first_there, made_of, term_made}
 use Rattle.isle_types.specs.TypeRows.{on}
-use Rattle.isle_variables.specs.Locals.{of_patterns}
+use Rattle.isle_terms.specs.Locals.{of_patterns}
 use Rattle.isle_sema.specs.Judging.{is_multi_call}
 use Rattle.isle_sema.specs.RulePass.{patterns_of, conditions_of, right_side_of, left_of, sites_of, rule_pass, rules_pass}
 use Rattle.isle_sema.specs.RuleRows.{declared_multis}

@@ -24,7 +24,7 @@ use Rattle.isle_core.proofs.PatternTests.{extracted_here}
 abbrev pub Often : Term → ReturnKind → Type 0
 Often t k = IsTrue (is_several k) → is_several (kind_of t.kind) ≡ true
 
--- ---- terms behind terms
+-- ---- terms after terms
 
 pub often_first : (K : ReturnKind → Type 0) (env : Environment) (xs ys : List CalledTerm) → AreOften K env (xs ++ ys) → AreOften K env xs
 often_first K env xs ys h o c = h o (Contains-append_left xs ys o c)

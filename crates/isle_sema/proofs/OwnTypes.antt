@@ -19,13 +19,13 @@ use Rattle.isle_terms.specs.Converters.{conversion, within}
 use Rattle.isle_terms.specs.TypeNames.{type_named}
 use Rattle.isle_terms.specs.Whole.{Whole, whole_of, termed, arg_types, ret_type, constant_type}
 use Rattle.isle_sema.specs.ExprPass.{known_type, local_tree, constant_tree, call_tree, expr_within, called_by, expr_type, let_tree, count_of, expr_pass, exprs_pass, lets_pass}
-use Rattle.isle_variables.specs.Locals.{local_named}
+use Rattle.isle_terms.specs.Locals.{local_named}
 use Rattle.isle_sema.specs.RuleRows.{differ, is_other_type, is_mistyped}
-use Rattle.isle_variables.specs.Scope.{Local, local_type, typed_local}
+use Rattle.isle_terms.specs.Scope.{Local, local_type, typed_local}
 use Rattle.isle_sema.specs.Site.{Site, UsedAt, CalledAt, ConstantAt, PartAt}
 use Rattle.isle_sema.proofs.KeptParts.{AreKept, kept_parts, kept_joined}
 use Rattle.isle_sema.proofs.RuleRoots.{mapped}
-use Rattle.isle_variables.proofs.ScopeLaws.{local_bound}
+use Rattle.isle_terms.proofs.ScopeLaws.{local_bound}
 use Rattle.isle_sema.proofs.TypedExprs.{call_is, let_is, IsOver, expr_typed}
 
 -- ---- no converter

@@ -9,9 +9,9 @@ use Rattle.std.proofs.lemmas.Slice.Eq.{bytes_eq-Decides}
 use Rattle.isle_core.specs.declared.TypeId.{TypeId}
 use Rattle.isle_core.proofs.Contained.{contained_cases, none_contained}
 use Rattle.isle_sema.specs.PatternPass.{first_expected, later_expected}
-use Rattle.isle_variables.specs.Scope.{Local, Scope, no_variables, found_in, met_by, met}
+use Rattle.isle_terms.specs.Scope.{Local, Scope, no_variables, found_in, met_by, met}
 use Rattle.isle_sema.specs.Templates.{params_met}
-use Rattle.isle_variables.proofs.ScopeLaws.{found_end}
+use Rattle.isle_terms.proofs.ScopeLaws.{found_end}
 
 -- parameters from this number on, each at the type at its place
 abbrev pub listed : ℕ → List (List ℕ) → List (Option TypeId) → List Local
@@ -22,7 +22,7 @@ listed i (param ∷ params) types = record { name = param; ty = first_expected t
 abbrev AreNew : List Local → List (List ℕ) → Type 0
 AreNew ls names = AllByRecursion (λ (name : List ℕ). found_in ls name ≡ None) names
 
--- nor behind one of another name
+-- nor after one of another name
 new_more : (ls : List Local) (l : Local) (names : List (List ℕ)) → AreNew ls names → AllByRecursion (λ (name : List ℕ). bytes_eq l.name name ≡ false) names → AreNew (ls ++ l ∷ []) names
 new_more ls l [] h k = tt
 new_more ls l (name ∷ names) h k = (found_end ls l name h.0 ∙ ap (λ b. cond b (Some l) None) k.0, new_more ls l names h.1 k.1)
@@ -69,7 +69,7 @@ listed_at (param ∷ params) (t ∷ tys) k l ty c e =
 
 -- ---- names at places
 
--- a name that differs from all is found behind none of them
+-- a name that differs from all is found after none of them
 other_all : (names : List (List ℕ)) (name : List ℕ) (i : ℕ) (other : List ℕ) → AllByRecursion (λ (n : List ℕ). bytes_eq name n ≡ false) names → slice_get names i ≡ Some other → bytes_eq name other ≡ false
 other_all [] name i other h e = cc
 other_all (n ∷ names) name zero other h e = subst (λ (m : List ℕ). bytes_eq name m ≡ false) (same_Some n other e) h.0

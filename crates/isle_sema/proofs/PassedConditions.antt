@@ -29,7 +29,7 @@ abbrev HavePaths : List (TypeId × ℕ) → Places → Type 0
 HavePaths vars places = (v : TypeId × ℕ) → Contains vars v → (p : Path) × (places v.1 ≡ Some p)
 
 module _ (env : Environment) (t : Term) (vars : List (TypeId × ℕ)) where
-  -- so their paths have their types, and may be read behind the tests
+  -- so their paths have their types, and may be read after the tests
   held_typed : (all : List Test) (sofar : List (TypeId × ℕ)) (places : Places) → AreHeld env t all vars places → HavePaths sofar places → ((v : TypeId × ℕ) → Contains sofar v → Contains vars v) → AreTypedPlaces env t sofar places
   held_typed all sofar places held there within ty x c = let at = there (ty, x) c in record { path = at.0; is = at.1; typed = (held ty x at.0 (within (ty, x) c) at.1).0 }
 
@@ -43,14 +43,14 @@ module _ (env : Environment) (t : Term) (vars : List (TypeId × ℕ)) where
   more_paths : (sofar xs : List (TypeId × ℕ)) (mid later : Places) → HavePaths sofar mid → ((x : ℕ) (p : Path) → mid x ≡ Some p → later x ≡ Some p) → ((v : TypeId × ℕ) → Contains xs v → (p : Path) × (later v.1 ≡ Some p)) → HavePaths (sofar ++ xs) later
   more_paths sofar xs mid later there keeps own v c = ⊎_elim (λ d. let s = there v d in (s.0, keeps v.1 s.0 s.1)) (λ d. own v d) (Contains-append_cases sofar xs v c)
 
--- the variables before each condition stand at paths of their types, which hold no impure call and may be read behind these tests
+-- the variables before each condition stand at paths of their types, which hold no impure call and may be read after these tests
 abbrev pub HasTypedConditions : Environment → Term → (all : List Test) (sofar : List (TypeId × ℕ)) → List IfLet → Places → Type 0
 HasTypedConditions env t all sofar [] places = Unit {0}
 HasTypedConditions env t all sofar (c ∷ cs) places =
     AreTypedPlaces env t sofar places × AreStandingPlaces env all [] sofar places × AreEarly env places × HasTypedConditions env t all (sofar ++ typed_variables c.lhs) cs (after env c.lhs (path env c.rhs places 0) places)
 
 module _ (env : Environment) (t : Term) (vars : List (TypeId × ℕ)) (one : HaveOneType vars) where
-  -- behind conditions
+  -- after conditions
   pub iflets_passed : (all : List Test) (cs : List IfLet) (sofar : List (TypeId × ℕ)) (places : Places) → AreIfLetsOf env sofar cs → AreEarly env places → AreHeld env t all vars places → HavePaths sofar places → HasConstraints all (iflets_tests env cs places) → ((v : TypeId × ℕ) → Contains (iflets_typed sofar cs) v → Contains vars v)
       → IsPassed env t all vars (iflets_tests env cs places) (iflets_typed sofar cs) (iflets_after env cs places)
   iflets_passed all [] sofar places h clear held there among within = record { held = held; equals = λ p q c. absurd (none_contained (Equal p q) c); there = there }
@@ -122,7 +122,7 @@ module _ (env : Environment) (t : Term) (vars : List (TypeId × ℕ)) (one : Hav
 -- ---- a rule
 
 module _ (env : Environment) (t : Term) (r : Rule) (args : ArePatternsOf env t.arg_tys r.args) (iflets : AreIfLetsOf env (all_typed r.args) r.iflets) (one : HaveOneType (rule_typed r)) where
-  -- behind its patterns
+  -- after its patterns
   pub patterns_passed : (all : List Test) → HasConstraints all (args_tests env r.args 0 no_places) → IsPassed env t all (rule_typed r) (args_tests env r.args 0 no_places) (all_typed r.args) (args_after env r.args 0 no_places)
   patterns_passed all among = args_passed env t all (rule_typed r) one r.args 0 t.arg_tys no_places args (args_are env t) (λ ty x p c e. absurd cc) among (λ v c. iflets_more r.iflets (all_typed r.args) v c)
 
@@ -130,7 +130,7 @@ module _ (env : Environment) (t : Term) (r : Rule) (args : ArePatternsOf env t.a
   args_clear : AreEarly env (args_after env r.args 0 no_places)
   args_clear = args_early env r.args 0 no_places (record { by = λ x. tt })
 
-  -- behind its conditions
+  -- after its conditions
   pub rule_passed : (all : List Test) → HasConstraints all (rule_tests env r) → IsPassed env t all (rule_typed r) (rule_tests env r) (rule_typed r) (rule_places env r)
   rule_passed all among =
       let first = args_tests env r.args 0 no_places in

@@ -23,8 +23,8 @@ use Rattle.isle_types.specs.declared.row.Row.TheVariants as row
 use Rattle.isle_types.specs.declared.row.Row.{Row}
 use Rattle.isle_types.specs.Fault.{or_later}
 use Rattle.isle_types.specs.TypeRows.{on}
-use Rattle.isle_variables.specs.Locals.{of_patterns}
-use Rattle.isle_variables.specs.Scope.{Scope, no_variables}
+use Rattle.isle_terms.specs.Locals.{of_patterns}
+use Rattle.isle_terms.specs.Scope.{Scope, no_variables}
 use Rattle.isle_terms.specs.Whole.{Whole, arg_types, ret_type}
 use Rattle.isle_sema.specs.PatternPass.{PatternsPass, patterns_pass}
 use Rattle.isle_sema.specs.ExprPass.{ExprPass, expr_pass}
@@ -41,7 +41,7 @@ use Rattle.isle_sema.specs.Fault.{OfRules, broken_in, fault_after}
 use Rattle.isle_sema.specs.Judging.{unjudged, judge, judge_all, lowest}
 use Rattle.isle_sema.specs.Known.{IsHead, MayBeCalled}
 use Rattle.isle_sema.specs.ElaboratedAt.{pattern_trees, condition_trees, ArePatternsAt, AreConditionsAt, IsExprOver, AreSides}
-use Rattle.isle_culprits.specs.declared.judged.Judged.{Judged}
+use Rattle.isle_terms.specs.declared.judged.Judged.{Judged}
 use Rattle.isle_sema.specs.declared.sides.Sides.{Sides}
 use Rattle.isle_sema.specs.declared.known.Called.{Called}
 use Rattle.isle_declarations.specs.Symbols.{index_of}

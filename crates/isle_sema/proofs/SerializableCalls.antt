@@ -91,7 +91,7 @@ pub record IsTypedPlace (env : Environment) (t : Term) (o : Option Path) (ty : T
 abbrev pub AreTypedPlaces : Environment → Term → List (TypeId × ℕ) → Places → Type 0
 AreTypedPlaces env t vars places = (ty : TypeId) (x : ℕ) → Contains vars (ty, x) → IsTypedPlace env t (places x) ty
 
--- where a variable stands may be read behind these tests wherever these calls were made
+-- where a variable stands may be read after these tests wherever these calls were made
 pub record IsStandingPlace (env : Environment) (tests : List Test) (done : List Path) (o : Option Path) : Type 0 where
   pub path : Path
   pub is : o ≡ Some path
@@ -245,7 +245,7 @@ module _ (env : Environment) (t : Term) (allowed : Allowed) (tests : List Test) 
 
   -- ---- the calls are ready
 
-  -- calls behind calls
+  -- calls after calls
   serializable_more : (ps done xs ys : List Path) → AreSerializableCalls env t tests ps done xs → ((later : List Path) → Among done later → Among xs later → AreSerializableCalls env t tests ps later ys) → AreSerializableCalls env t tests ps done (xs ++ ys)
   serializable_more ps done [] ys h go = go done (λ p c. c) (λ p c. absurd (none_contained p c))
   serializable_more ps done (x ∷ xs) ys h go = (h.0, serializable_more ps (x ∷ done) xs ys h.1 (λ later a b. go later (λ p c. a p (tail_contained x done p c)) (λ p c. ⊎_elim (λ (e : x ≡ p). a p (subst (Contains (x ∷ done)) e (head_contained x done))) (b p) (contained_cases x xs p c))))
@@ -426,7 +426,7 @@ module _ (env : Environment) (allowed : Allowed) where
 
 -- ---- each once
 
--- a call that is ready stays so behind more calls
+-- a call that is ready stays so after more calls
 call_later : (env : Environment) (t : Term) (tests : List Test) (ps done later : List Path) (p : Path) → Among done later → IsSerializableCall env t tests ps done p → IsSerializableCall env t tests ps later p
 call_later env t tests ps done later p a h = record {
   term = h.term;

@@ -1,5 +1,5 @@
 -- Rules whose parts have the types of their term are ready for a block.
-use Rattle.std.proofs.Common.{◌≡◌, ◌⊎◌, inl, inr, ⊎_elim, ℕ, ◌+◌, true, List, [], ◌∷◌, ◌++◌, map, Some, refl, sym, subst}
+use Rattle.std.proofs.Common.{◌≡◌, ◌⊎◌, ⊎_elim, ℕ, ◌+◌, true, List, [], ◌∷◌, ◌++◌, map, Some, refl, sym, subst}
 use Rattle.std.specs.Prelude.{All, Contains, filter, slice_get}
 use Rattle.std.specs.List.{AllByRecursion}
 use Rattle.std.proofs.lemmas.List.Elements.{recursion_from_All, Contains-append_left, Contains-append_right}
@@ -17,7 +17,7 @@ use Rattle.isle_core.specs.Path.{Path, Chosen, at, paths_of}
 use Rattle.isle_core.specs.Serializable.{StandsOn, IsTest, IsTestable, AreTestable, AreComparable, constraint_tests, IsSerializableList, IsSerializableRule, occurrences_of, IsSerializable}
 use Rattle.isle_core.specs.Rule.{Rule, Environment, rules_of}
 use Rattle.isle_core.specs.RuleSet.{is_test, equal_test}
-use Rattle.isle_core.specs.StandsFor.{EachOnce, AreFirsts, no_more, again, first, IsFlat, AreFlat, StandsFor}
+use Rattle.isle_core.specs.StandsFor.{AreFirsts, no_more, again, first, IsFlat, AreFlat, StandsFor}
 use Rattle.isle_core.specs.Iterators.{calls_multi}
 use Rattle.isle_core.specs.Single.{AreOften}
 use Rattle.isle_core.specs.OrderedCalls.{rule_calls}
@@ -25,6 +25,7 @@ use Rattle.isle_core.specs.RulePaths.{args_paths, iflets_paths, expr_paths, rule
 use Rattle.isle_core.specs.Tests.{Test, Is, Equal, HasItem, is_constraint, no_places, args_after, rule_tests, rule_places}
 use Rattle.isle_core.specs.TypedVariables.{rule_typed}
 use Rattle.isle_core.proofs.Contained.{head_contained, tail_contained, contained_cases, none_contained}
+use Rattle.isle_core.proofs.FirstItems.{firsts_hold, among_firsts, firsts_once}
 use Rattle.isle_core.proofs.ListLaws.{filter_from, filter_keeps}
 use Rattle.isle_ast.specs.Tree.{Def}
 use Rattle.isle_templates.specs.TypedRule.{IsRuleOf}
@@ -52,33 +53,6 @@ contained_map : {A B : Type 0} (f : A → B) (xs : List A) (x : A) → Contains 
 contained_map f [] x c = absurd (none_contained x c)
 contained_map f (y ∷ xs) x c = ⊎_elim (λ (s : y ≡ x). subst (λ z. Contains (map f (y ∷ xs)) (f z)) s (head_contained (f y) (map f xs))) (λ d. tail_contained (f y) (map f xs) (f x) (contained_map f xs x d)) (contained_cases y xs x c)
 
--- what is among items was seen before, or is among their firsts
-pub firsts_hold : {A : Type 0} {seen xs ys : List A} (x : A) → AreFirsts seen xs ys → Contains xs x → Contains seen x ⊎ Contains ys x
-firsts_hold x (no_more seen) c = absurd (none_contained x c)
-firsts_hold x (again seen y xs ys s more) c = ⊎_elim (λ (e : y ≡ x). inl (subst (Contains seen) e s)) (λ d. firsts_hold x more d) (contained_cases y xs x c)
-firsts_hold x (first seen y xs ys new more) c =
-    ⊎_elim (λ (e : y ≡ x). inr (subst (Contains (y ∷ ys)) e (head_contained y ys)))
-    (λ d. ⊎_elim (λ s. ⊎_elim (λ (e : y ≡ x). inr (subst (Contains (y ∷ ys)) e (head_contained y ys))) (λ k. inl k) (contained_cases y seen x s)) (λ k. inr (tail_contained y ys x k)) (firsts_hold x more d))
-    (contained_cases y xs x c)
-
--- what is among the firsts of items is among them
-pub among_firsts : {A : Type 0} {seen xs ys : List A} (x : A) → AreFirsts seen xs ys → Contains ys x → Contains xs x
-among_firsts x (no_more seen) c = c
-among_firsts x (again seen y xs ys s more) c = tail_contained y xs x (among_firsts x more c)
-among_firsts x (first seen y xs ys new more) c = ⊎_elim (λ (e : y ≡ x). subst (Contains (y ∷ xs)) e (head_contained y xs)) (λ d. tail_contained y xs x (among_firsts x more d)) (contained_cases y ys x c)
-
--- and was not seen before
-firsts_new : {A : Type 0} {seen xs ys : List A} (x : A) → AreFirsts seen xs ys → Contains ys x → Contains seen x → ⊥
-firsts_new x (no_more seen) c s = none_contained x c
-firsts_new x (again seen y xs ys again' more) c s = firsts_new x more c s
-firsts_new x (first seen y xs ys new more) c s = ⊎_elim (λ (e : y ≡ x). new (subst (Contains seen) (sym e) s)) (λ d. firsts_new x more d (tail_contained y seen x s)) (contained_cases y ys x c)
-
--- so none stands twice
-firsts_once : {A : Type 0} {seen xs ys : List A} → AreFirsts seen xs ys → EachOnce ys
-firsts_once (no_more seen) = tt
-firsts_once (again seen y xs ys s more) = firsts_once more
-firsts_once (first seen y xs ys new more) = (λ c. firsts_new y more c (head_contained y seen), firsts_once more)
-
 -- a constraint is the test of its binding's path
 is_same : (p q : Path) (c d : Constraint) → Is p c ≡ Is q d → (p ≡ q) × (c ≡ d)
 is_same p q c d e = (cc, cc)
@@ -93,7 +67,7 @@ test_ready env t ps before seen p c b e a h =
 list_same : {A : Type 0} (x y : A) (xs ys : List A) → x ∷ xs ≡ y ∷ ys → (x ≡ y) × (xs ≡ ys)
 list_same x y xs ys e = (cc, cc)
 
--- constraints of bindings are ready that are the firsts of tests which are: what is behind others was seen behind them
+-- constraints of bindings are ready that are the firsts of tests which are: what is after others was seen after them
 testable : {seen xs ys : List Test} (env : Environment) (t : Term) (ps : List Path) → AreFirsts seen xs ys → (before : List Test) (cs : List (BindingId × Constraint)) → AreTestableAt env t before xs → ys ≡ map (is_test ps) cs → AreAlso before seen → AreTestable env t ps seen cs
 testable env t ps (no_more seen) before [] h e a = tt
 testable env t ps (no_more seen) before (b ∷ cs) h e a = absurd cc
@@ -159,7 +133,7 @@ module _ (env : Environment) (t : Term) (ps : List Path) (fit : FitAnswers env p
     flats_serializable rs (n + impure env r.rhs) fs flat.1 h.1 often.1 (λ p c. among p (Contains-append_right (rule_paths env r n) (rules_paths env rs (n + impure env r.rhs)) p c)),
   )
 
-  -- their impure calls have occurrences one behind the other
+  -- their impure calls have occurrences one after the other
   flats_apart : (rs : List Rule) (n : ℕ) (fs : List FlatRule) → AreFlat env ps rs n fs → AllByRecursion (IsRuleOf env t) rs → AreOnceBehind n (occurrences_of env ps fs)
   flats_apart [] n [] flat h = ((λ k c. absurd (none_contained k c)), tt)
   flats_apart [] n (f ∷ fs) flat h = absurd flat

@@ -35,9 +35,9 @@ use Rattle.isle_terms.specs.TypeNames.{type_named}
 use Rattle.isle_terms.specs.Whole.{whole_of, termed, arg_types, ret_type, constant_type}
 use Rattle.isle_terms.proofs.MadeTerms.{first_there, term_made}
 use Rattle.isle_types.specs.TypeEnvironment.{type_env_of}
-use Rattle.isle_variables.specs.Locals.{local_named, bound_local, of_patterns}
-use Rattle.isle_variables.specs.NewVariables.{new_count}
-use Rattle.isle_variables.specs.Scope.{Local, Scope, local_type, typed_local}
+use Rattle.isle_terms.specs.Locals.{local_named, bound_local, of_patterns}
+use Rattle.isle_terms.specs.NewVariables.{new_count}
+use Rattle.isle_terms.specs.Scope.{Local, Scope, local_type, typed_local}
 use Rattle.isle_sema.specs.ExprPass.{local_tree, constant_tree, call_tree, expr_within, called_by, known_type, expr_pass, exprs_pass, lets_pass, count_of}
 use Rattle.isle_sema.specs.Judging.{is_multi_call}
 use Rattle.isle_sema.specs.PatternPass.{first_expected, later_expected}

@@ -13,15 +13,15 @@ use Rattle.isle_core.specs.RuleViews.{patterns_of as core_patterns}
 use Rattle.isle_ast.specs.Tree.{IfLet}
 use Rattle.isle_ast.specs.Views.{patterns_of as seen_patterns}
 use Rattle.isle_declarations.specs.Signatures.{Signature, RuleDef}
-use Rattle.isle_multis.specs.Multi.{marked, uses_one, uses_any, is_multi}
-use Rattle.isle_multis.proofs.ExpandedUses.{expanded_uses}
+use Rattle.isle_templates.specs.Multi.{marked, uses_one, uses_any, is_multi}
+use Rattle.isle_templates.proofs.ExpandedUses.{expanded_uses}
 use Rattle.isle_templates.specs.Elaborated.{condition_expanded, rule_expanded}
 use Rattle.isle_templates.specs.Renumbered.{condition_renamed, order_of, renamed, all_renamed}
 use Rattle.isle_templates.specs.Substituted.{expanded, whole_templates}
 use Rattle.isle_terms.specs.Whole.{Whole, termed, arg_types}
 use Rattle.isle_terms.proofs.MadeTerms.{first_there}
 use Rattle.isle_types.specs.TypeRows.{on}
-use Rattle.isle_variables.specs.Scope.{Scope, no_variables}
+use Rattle.isle_terms.specs.Scope.{Scope, no_variables}
 use Rattle.isle_sema.specs.RulePass.{iflet_tree, condition_expr, condition_pattern, condition_pass, conditions_pass, patterns_of, conditions_of, left_of, rule_pass}
 use Rattle.isle_sema.specs.RuleRows.{declared_multis}
 use Rattle.isle_sema.specs.Site.{Site}

@@ -1,4 +1,4 @@
--- What may be read behind tests and calls may be so behind more of them.
+-- What may be read after tests and calls may be so after more of them.
 use Rattle.std.proofs.Common.{◌≡◌, List, [], true, false, ⊎_elim, inl, inr}
 use Rattle.std.specs.Prelude.{Contains}
 use Rattle.std.proofs.lemmas.Bool.{or_parts}
@@ -49,15 +49,15 @@ mutual
   all_stand_behind env NoPath xs ys done later a b h = tt
   all_stand_behind env (APath p ps) xs ys done later a b h = (stands_behind env p xs ys done later a b h.0, all_stand_behind env ps xs ys done later a b h.1)
 
--- behind more tests
+-- after more tests
 pub stands_still : (env : Environment) (p : Path) (xs ys : List Test) (done : List Path) → AreAlso xs ys → StandsOn env xs done p → StandsOn env ys done p
 stands_still env p xs ys done a h = stands_behind env p xs ys done done a (λ q c. c) h
 
--- behind more calls
+-- after more calls
 pub all_stand_later : (env : Environment) (ps : Paths) (tests : List Test) (done later : List Path) → Among done later → AllStandOn env tests done ps → AllStandOn env tests later ps
 all_stand_later env ps tests done later b h = all_stand_behind env ps tests tests done later (λ x c. c) b h
 
--- ---- behind no calls
+-- ---- after no calls
 
 -- each of these paths holds an impure call
 abbrev pub AreLate : Environment → List Path → Type 0
@@ -74,7 +74,7 @@ within_early env (Extracted term q) tests done late e h = h
 within_early env p tests done late e h = tt
 
 mutual
-  -- what holds no impure call, and may be read behind calls each of which holds one, may be read behind none
+  -- what holds no impure call, and may be read after calls each of which holds one, may be read after none
   pub stands_early : (env : Environment) (p : Path) (tests : List Test) (done : List Path) → AreLate env done → holds_impure env p ≡ false → StandsOn env tests done p → StandsOn env tests [] p
   stands_early env (Called term ps instance) tests done late e h = let k = or_parts (takes_turn (calling env term)) (hold_impure env ps) e in
       called_early (Contains done (Called term ps instance)) (Contains {X = Path} [] (Called term ps instance)) (calling env term) k.0 (λ s. all_stand_early env ps tests done late k.1 s) h

@@ -14,17 +14,17 @@ use Rattle.isle_ast.specs.declared.tree.AstPattern.{AstPattern}
 use Rattle.isle_ast.specs.declared.tree.AstExpr.{AstExpr}
 use Rattle.isle_ast.specs.Tree.{Def}
 use Rattle.isle_ast.specs.Views.{pattern, patterns_of as seen_patterns, expr, exprs_of as seen_exprs}
-use Rattle.isle_culprits.specs.declared.judged.Judged.{Judged}
+use Rattle.isle_terms.specs.declared.judged.Judged.{Judged}
 use Rattle.isle_sema.specs.ElaboratedAt.{expr_trees, IsExprAt, AreExprsAt}
-use Rattle.isle_variables.specs.Locals.{Bound, locals_of}
-use Rattle.isle_variables.specs.Scope.{Local, Scope}
+use Rattle.isle_terms.specs.Locals.{Bound, locals_of}
+use Rattle.isle_terms.specs.Scope.{Local, Scope}
 use Rattle.isle_terms.proofs.TermSteps.{before, one_before}
 use Rattle.isle_terms.specs.Whole.{whole_of}
 use Rattle.isle_sema.specs.PatternPass.{PatternPass, PatternsPass, pattern_pass, patterns_pass, first_expected, later_expected}
 use Rattle.isle_terms.specs.TermPass.{tree_before}
 use Rattle.isle_sema.specs.ExprPass.{ExprPass, ExprsPass, expr_pass, exprs_pass, expr_before}
 use Rattle.isle_sema.specs.Judging.{judge, judge_all}
-use Rattle.isle_variables.proofs.LocalLaws.{kept_locals}
+use Rattle.isle_terms.proofs.LocalLaws.{kept_locals}
 
 -- ---- expected types
 

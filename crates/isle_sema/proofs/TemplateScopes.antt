@@ -15,15 +15,15 @@ use Rattle.isle_ast.specs.Tree as tree
 use Rattle.isle_ast.specs.Tree.{Pattern, Patterns, NoPattern, APattern}
 use Rattle.isle_declarations.specs.Signatures.{term_named}
 use Rattle.isle_declarations.specs.Terms.{terms}
-use Rattle.isle_variables.specs.NewVariables.{variables_in, all_variables_in}
+use Rattle.isle_terms.specs.NewVariables.{variables_in, all_variables_in}
 use Rattle.isle_sema.specs.PatternPass.{first_expected, later_expected, of_each, taken_by, term_tree, count_of, pattern_pass, patterns_pass}
-use Rattle.isle_variables.specs.Scope.{is_blank}
-use Rattle.isle_variables.specs.Scope.{Scope, bound_at, met, variable}
+use Rattle.isle_terms.specs.Scope.{is_blank}
+use Rattle.isle_terms.specs.Scope.{Scope, bound_at, met, variable}
 use Rattle.isle_sema.specs.Site.{PartAt, MetAt, TakenAt}
 use Rattle.isle_sema.specs.TemplateRows.{is_unbound}
 use Rattle.isle_sema.proofs.Firsts.{any_parts}
 use Rattle.isle_sema.proofs.RuleRoots.{mapped}
-use Rattle.isle_variables.proofs.ScopeLaws.{met_again}
+use Rattle.isle_terms.proofs.ScopeLaws.{met_again}
 use Rattle.isle_sema.proofs.TypedPatterns.{within_is, bind_pass, bound_tree_is, term_tree_is, any_and_tree, typed_list}
 use Rattle.isle_terms.proofs.MadeTerms.{first_there}
 use Rattle.isle_terms.specs.Converters.{conversion, within}

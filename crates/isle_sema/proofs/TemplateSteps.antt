@@ -16,7 +16,7 @@ use Rattle.isle_declarations.specs.Signatures.{ExtractorDef, extractor_named}
 use Rattle.isle_declarations.specs.Symbols.{index_of, added}
 use Rattle.isle_declarations.proofs.LookUps.{at_place, found_at}
 use Rattle.isle_sema.specs.PatternPass.{later_expected}
-use Rattle.isle_variables.specs.Scope.{Scope, met}
+use Rattle.isle_terms.specs.Scope.{Scope, met}
 use Rattle.isle_sema.specs.Fault.{or_later}
 use Rattle.isle_sema.specs.Templates.{params_met, template_tree, template_for}
 use Rattle.isle_sema.specs.TemplatesChecked.{extractor_row, extractors_fault, tree_of, IsTreeAt, AreTreesAt}
@@ -27,7 +27,7 @@ use Rattle.isle_terms.specs.Whole.{Whole}
 
 -- ---- parameters
 
--- the parameters from the i-th on, behind these variables
+-- the parameters from the i-th on, after these variables
 abbrev pub params_left : List (List ℕ) → List TypeId → ℕ → Scope → Scope
 params_left params tys i vars = params_met vars (drop i params) (map Some (drop i tys))
 

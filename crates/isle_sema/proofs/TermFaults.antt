@@ -81,7 +81,7 @@ not_external before d none = unchanged extern_of (λ (x : Extern). x.term) befor
 not_extracting : (before : List Def) (d : Def) → extractor_of d ≡ None → extractor_terms (extractors (before ++ d ∷ [])) ≡ extractor_terms (extractors before)
 not_extracting before d none = unchanged extractor_of (λ (x : ExtractorDef). x.term) before d none
 
--- the tests behind a definition of another kind are those in front of it
+-- the tests after a definition of another kind are those in front of it
 behind : (all before : List Def) (d : Def) (ds : List Def) → signature_of d ≡ None → extern_of d ≡ None → extractor_of d ≡ None → TermParts all (before ++ d ∷ []) ds → TermParts all before ds
 behind all before d ds a b c h = same_tests (undeclared before d a) (not_external before d b) (not_extracting before d c) h
 
@@ -242,7 +242,7 @@ terms_kept all before (tree.Passed head items pos ∷ ds) h =
 unconverted : (before : List Def) (d : Def) → converter_of d ≡ None → converters (before ++ d ∷ []) ≡ converters before
 unconverted before d none = filter_map-append converter_of before (d ∷ []) ∙ ap (λ o. converters before ++ cons_option o []) none ∙ append-nil (converters before)
 
--- and one more behind them
+-- and one more after them
 converted_more : (before : List Def) (d : Def) (c : Conversion) → converter_of d ≡ Some c → converters (before ++ d ∷ []) ≡ converters before ++ c ∷ []
 converted_more before d c some = filter_map-append converter_of before (d ∷ []) ∙ ap (λ o. converters before ++ cons_option o []) some
 

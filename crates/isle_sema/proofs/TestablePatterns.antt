@@ -112,7 +112,7 @@ parts_are env t opened p ty tys into h = from_start env t (λ k. part_path opene
 abbrev pub HasConstraints : (all ts : List Test) → Type 0
 HasConstraints all ts = (y : Test) → is_constraint y ≡ true → Contains ts y → Contains all y
 
--- what an extractor finds stands behind the test that it is something, where no impure call is held
+-- what an extractor finds stands after the test that it is something, where no impure call is held
 found_stands : {c : Calling} (env : Environment) (term : TermId) (tests : List Test) (done : List Path) (p : Path) → IsFinding c → StandsOn env tests done p → holds_impure env p ≡ false → HasConstraints tests (found_tests c (Extracted term p)) → StandsOn env tests done (answer_path c (Extracted term p))
 found_stands env term tests done p (finds name) s early among = s
 found_stands env term tests done p (lists name) s early among = (s, λ e. absurd (no_both e early))
@@ -124,7 +124,7 @@ result_stands env zero i tests done p h = h
 result_stands env (suc zero) i tests done p h = h
 result_stands env (suc (suc count)) i tests done p h = h
 
--- a part stands behind the tests of what takes it apart
+-- a part stands after the tests of what takes it apart
 pub part_stands : (env : Environment) (ty : TypeId) (opened : Opening) (tys : List TypeId) (tests : List Test) (done : List Path) (p : Path) (i : ℕ) → OpensInto env ty opened tys → StandsOn env tests done p → holds_impure env p ≡ false → HasConstraints tests (opening_tests opened p) → StandsOn env tests done (part_path opened i p)
 part_stands env ty (AsVariant of variant) tys tests done p i into s early among = (of, among (Is p (constraint.Variant of variant)) refl (head_contained (Is p (constraint.Variant of variant)) []))
 part_stands env ty (AsStruct of) tys tests done p i into s early among = (of, among (Is p (constraint.Struct of)) refl (head_contained (Is p (constraint.Struct of)) []))
@@ -132,12 +132,12 @@ part_stands env ty (ByExtractor term c count) tys tests done p i into s early am
 
 -- ---- constraints
 
--- a constraint tests what stands at its path, which may be read behind these tests
+-- a constraint tests what stands at its path, which may be read after these tests
 pub record IsTestableAt (env : Environment) (t : Term) (before : List Test) (p : Path) (c : Constraint) : Type 0 where
   pub test : IsTest env t p c
   pub stands : StandsOn env before [] p
 
--- the constraints among tests in order, behind these
+-- the constraints among tests in order, after these
 abbrev pub AreTestableAt : Environment → Term → (before : List Test) → List Test → Type 0
 AreTestableAt env t before [] = Unit {0}
 AreTestableAt env t before (Is p c ∷ ts) = IsTestableAt env t before p c × AreTestableAt env t (Is p c ∷ before) ts
@@ -152,7 +152,7 @@ constraints_testable env t before (Equal p q ∷ ts) h = constraints_testable en
 constraints_testable env t before (HasItem q ∷ ts) h = constraints_testable env t before ts h
 
 module _ (env : Environment) (t : Term) where
-  -- tests behind tests
+  -- tests after tests
   pub testable_more : (before xs ys : List Test) → AreTestableAt env t before xs → ((later : List Test) → AreAlso before later → HasConstraints later xs → AreTestableAt env t later ys) → AreTestableAt env t before (xs ++ ys)
   testable_more before [] ys h go = go before (λ x c. c) (λ y e c. absurd (none_contained y c))
   testable_more before (Is p c ∷ xs) ys h go = (
@@ -227,11 +227,11 @@ module _ (env : Environment) (t : Term) where
 
 -- ---- variables
 
--- a path that may be read behind these tests, whatever calls were made
+-- a path that may be read after these tests, whatever calls were made
 abbrev pub IsStanding : Environment → (tests : List Test) → Path → Type 0
 IsStanding env tests p = (done : List Path) → StandsOn env tests done p
 
--- where a variable stands is of its type, and may be read behind these tests
+-- where a variable stands is of its type, and may be read after these tests
 pub record IsPlacedAs (env : Environment) (t : Term) (tests : List Test) (o : Option Path) (ty : TypeId) : Type 0 where
   pub path : Path
   pub is : o ≡ Some path
@@ -242,11 +242,11 @@ pub record IsPlacedAs (env : Environment) (t : Term) (tests : List Test) (o : Op
 abbrev pub ArePlacedAs : Environment → Term → (tests : List Test) → List (TypeId × ℕ) → Places → Type 0
 ArePlacedAs env t tests vars places = (ty : TypeId) (x : ℕ) → Contains vars (ty, x) → IsPlacedAs env t tests (places x) ty
 
--- a variable that has a path has one of its type, which may be read behind these tests
+-- a variable that has a path has one of its type, which may be read after these tests
 abbrev pub AreHeld : Environment → Term → (tests : List Test) → List (TypeId × ℕ) → Places → Type 0
 AreHeld env t tests vars places = (ty : TypeId) (x : ℕ) (p : Path) → Contains vars (ty, x) → places x ≡ Some p → IsPathOf env t p ty × IsStanding env tests p
 
--- two paths of one type, which may be read behind these tests
+-- two paths of one type, which may be read after these tests
 pub record AreComparableAt (env : Environment) (t : Term) (tests : List Test) (p q : Path) : Type 0 where
   pub ty : TypeId
   pub left : IsPathOf env t p ty
@@ -254,7 +254,7 @@ pub record AreComparableAt (env : Environment) (t : Term) (tests : List Test) (p
   pub right : IsPathOf env t q ty
   pub right_stands : StandsOn env tests [] q
 
--- behind patterns that put these tests: what the places hold, what the tests equate, and that the patterns' variables have paths
+-- after patterns that put these tests: what the places hold, what the tests equate, and that the patterns' variables have paths
 pub record IsPassed (env : Environment) (t : Term) (all : List Test) (vars : List (TypeId × ℕ)) (ts : List Test) (xs : List (TypeId × ℕ)) (places : Places) : Type 0 where
   pub held : AreHeld env t all vars places
   pub equals : (p q : Path) → Contains ts (Equal p q) → AreComparableAt env t all p q
@@ -304,7 +304,7 @@ module _ (env : Environment) (t : Term) (all : List Test) (vars : List (TypeId �
   opening_passed : (opened : Opening) (p : Path) (places : Places) → AreHeld env t all vars places → IsPassed env t all vars (opening_tests opened p) [] places
   opening_passed opened p places h = record { held = h; equals = λ a b c. absurd (opening_no_equality opened p a b c); there = λ v c. absurd (none_contained v c) }
 
-  -- patterns behind patterns
+  -- patterns after patterns
   both_passed : (ts us : List Test) (xs ys : List (TypeId × ℕ)) (mid later : Places) → IsPassed env t all vars ts xs mid → IsPassed env t all vars us ys later → ((x : ℕ) (p : Path) → mid x ≡ Some p → later x ≡ Some p) → IsPassed env t all vars (ts ++ us) (xs ++ ys) later
   both_passed ts us xs ys mid later h k keeps = record {
     held = k.held;

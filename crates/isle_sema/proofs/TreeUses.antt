@@ -16,13 +16,13 @@ use Rattle.isle_declarations.specs.Signatures.{Signature, term_named}
 use Rattle.isle_declarations.specs.Symbols.{sym_of}
 use Rattle.isle_declarations.specs.Terms.{terms}
 use Rattle.isle_declarations.proofs.LookUps.{named_is}
-use Rattle.isle_multis.specs.Multi.{uses_one, uses_any}
+use Rattle.isle_templates.specs.Multi.{uses_one, uses_any}
 use Rattle.isle_terms.proofs.MadeTerms.{first_there}
 use Rattle.isle_terms.specs.Converters.{conversion}
 use Rattle.isle_terms.specs.Reduced.{typed_integer}
 use Rattle.isle_terms.specs.Whole.{Whole, termed, arg_types, ret_type, number_of, constant_type}
 use Rattle.isle_types.specs.TypeRows.{on}
-use Rattle.isle_variables.specs.Scope.{Scope, is_blank, met, variable}
+use Rattle.isle_terms.specs.Scope.{Scope, is_blank, met, variable}
 use Rattle.isle_sema.specs.PatternPass.{first_expected, later_expected, of_each, term_tree, pattern_within, taken_by, pattern_pass, patterns_pass}
 use Rattle.isle_sema.specs.RuleRows.{is_use_of}
 use Rattle.isle_sema.specs.Site.{Site}

@@ -15,10 +15,10 @@ use Rattle.isle_ast.specs.Tree.{Expr, Exprs, NoExpr, AnExpr, Lets, NoLet, ALet}
 use Rattle.isle_declarations.specs.Signatures.{Signature, term_named}
 use Rattle.isle_declarations.specs.Symbols.{sym_of}
 use Rattle.isle_declarations.specs.Terms.{terms}
-use Rattle.isle_variables.specs.Locals.{local_named, of_patterns, bound_local}
-use Rattle.isle_variables.specs.Scope.{Local, Scope, is_blank, local_type}
-use Rattle.isle_variables.proofs.LocalLaws.{one_named, latest_found}
-use Rattle.isle_variables.proofs.ScopeLaws.{known_local, found_there}
+use Rattle.isle_terms.specs.Locals.{local_named, of_patterns, bound_local}
+use Rattle.isle_terms.specs.Scope.{Local, Scope, is_blank, local_type}
+use Rattle.isle_terms.proofs.LocalLaws.{one_named, latest_found}
+use Rattle.isle_terms.proofs.ScopeLaws.{known_local, found_there}
 use Rattle.isle_terms.specs.Converters.{conversion, within}
 use Rattle.isle_terms.specs.Expected.{takes_integers}
 use Rattle.isle_terms.specs.TypeNames.{type_named}
@@ -95,7 +95,7 @@ record AreTreedExprs (p : ExprsPass) : Type 0 where
   trees : CoreExprs
   are : p.trees ≡ Some trees
 
--- and those of a `let`, and each variable behind them has a type
+-- and those of a `let`, and each variable after them has a type
 record AreTreedLets (p : LetsPass) : Type 0 where
   trees : LetBindings
   are : p.trees ≡ Some trees

@@ -23,8 +23,8 @@ use Rattle.isle_declarations.specs.Signatures.{Signature, signature_named, term_
 use Rattle.isle_declarations.specs.Symbols.{index_of, sym_of}
 use Rattle.isle_declarations.specs.Terms.{terms}
 use Rattle.isle_declarations.proofs.LookUps.{at_place, named_at, named_is}
-use Rattle.isle_variables.specs.Scope.{Local, Scope, no_variables, is_blank, found_in, local_type, bound_at, met_by, met, variable}
-use Rattle.isle_variables.proofs.ScopeLaws.{known_local, met_again, bound_new, found_there}
+use Rattle.isle_terms.specs.Scope.{Local, Scope, no_variables, is_blank, found_in, local_type, bound_at, met_by, met, variable}
+use Rattle.isle_terms.proofs.ScopeLaws.{known_local, met_again, bound_new, found_there}
 use Rattle.isle_terms.specs.Converters.{Conversion, converters, converter_between, conversion, within}
 use Rattle.isle_terms.specs.Expected.{is_integer_def, takes_integers}
 use Rattle.isle_terms.specs.Reduced.{integer_by, typed_integer}
@@ -194,7 +194,7 @@ within_treed w of expected (Some s) p q knows is h =
     let n = numbered (terms w.defs) s.term s there in
     (core_pattern.Term t.ret n.0 (core_patterns (q ∷ [])), term_there (ret_type w (Some s)) (number_of w (Some s)) (option_map (λ (y : CorePattern). y ∷ []) p) t.ret n.0 (q ∷ []) t.ret_is n.1 (ap (option_map (λ (y : CorePattern). y ∷ [])) h))
 
--- the parts of a term's pattern, behind the converter around it
+-- the parts of a term's pattern, after the converter around it
 behind_converter : (w : Whole) (by : Option Signature) (of expected : Option TypeId) (o : Option Signature) (scope : Scope) (ps : Patterns) → AreTakenWell w (taken_by by expected ++ TakenAt (within by of expected) o (count_of ps) ∷ (patterns_pass w (arg_types w o) scope ps).sites)
     → AreTakenWell w (TakenAt (within by of expected) o (count_of ps) ∷ (patterns_pass w (arg_types w o) scope ps).sites)
 behind_converter w by of expected o scope ps well = (taken_parts w (taken_by by expected) (TakenAt (within by of expected) o (count_of ps) ∷ (patterns_pass w (arg_types w o) scope ps).sites) well).1

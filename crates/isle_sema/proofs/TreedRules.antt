@@ -12,9 +12,9 @@ use Rattle.isle_ast.specs.Tree.{IfLet, Def}
 use Rattle.isle_ast.specs.Views.{patterns_of as seen_patterns}
 use Rattle.isle_declarations.specs.Signatures.{Signature, RuleDef, externs, rule_defs, func_named, term_named}
 use Rattle.isle_declarations.specs.Terms.{terms}
-use Rattle.isle_variables.specs.Locals.{of_patterns}
-use Rattle.isle_variables.specs.NewVariables.{new_count}
-use Rattle.isle_variables.specs.Scope.{Scope, no_variables}
+use Rattle.isle_terms.specs.Locals.{of_patterns}
+use Rattle.isle_terms.specs.NewVariables.{new_count}
+use Rattle.isle_terms.specs.Scope.{Scope, no_variables}
 use Rattle.isle_types.specs.TypeRows.{on}
 use Rattle.isle_types.specs.Fault.{or_later}
 use Rattle.isle_types.specs.declared.row.Row.TheVariants as row
@@ -42,7 +42,7 @@ use Rattle.isle_sema.proofs.TypedRules.{counted}
 
 -- ---- conditions
 
--- conditions have trees, and each variable behind them a type
+-- conditions have trees, and each variable after them a type
 pub record AreTreedConditions (p : ConditionsPass) : Type 0 where
   pub trees : List CoreIfLet
   pub are : p.trees ≡ Some trees

@@ -9,7 +9,7 @@ use Rattle.isle_core.proofs.Contained.{head_contained, tail_contained}
 use Rattle.isle_ast.specs.Tree.{Def}
 use Rattle.isle_declarations.specs.Repeats.{repeats}
 use Rattle.isle_declarations.specs.Signatures.{Signature, Template, Extracting, ByFunction, ByTemplate, ExtractorDef, extractors}
-use Rattle.isle_variables.specs.Scope.{Scope, no_variables, met}
+use Rattle.isle_terms.specs.Scope.{Scope, no_variables, met}
 use Rattle.isle_types.specs.TypeRows.{on}
 use Rattle.isle_terms.specs.DeclarationRows.{parameters_unfit, template_misfit}
 use Rattle.isle_terms.specs.TypeNames.{type_named}

@@ -18,16 +18,16 @@ use Rattle.isle_terms.proofs.MadeTerms.{first_there}
 use Rattle.isle_sema.specs.ExprPass.{expr_type}
 use Rattle.isle_sema.specs.ExprType.{own_type}
 use Rattle.isle_sema.proofs.TypesOwned.{type_is}
-use Rattle.isle_variables.specs.Locals.{of_patterns}
-use Rattle.isle_variables.specs.NewVariables.{new_count}
+use Rattle.isle_terms.specs.Locals.{of_patterns}
+use Rattle.isle_terms.specs.NewVariables.{new_count}
 use Rattle.isle_sema.specs.PatternPass.{pattern_pass, patterns_pass}
 use Rattle.isle_sema.specs.RulePass.{iflet_tree, condition_expr, condition_pattern, condition_pass, conditions_pass}
-use Rattle.isle_variables.specs.Scope.{behind}
-use Rattle.isle_variables.specs.Scope.{Scope, no_variables, variable}
+use Rattle.isle_terms.specs.Scope.{behind}
+use Rattle.isle_terms.specs.Scope.{Scope, no_variables, variable}
 use Rattle.isle_sema.proofs.KeptParts.{AreKept, kept_parts}
-use Rattle.isle_variables.proofs.LocalLaws.{pattern_variable}
+use Rattle.isle_terms.proofs.LocalLaws.{pattern_variable}
 use Rattle.isle_sema.proofs.OwnTypes.{own_typed}
-use Rattle.isle_variables.proofs.ScopeLaws.{IsNumbered, none_numbered, behind_numbered}
+use Rattle.isle_terms.proofs.ScopeLaws.{IsNumbered, none_numbered, behind_numbered}
 use Rattle.isle_sema.proofs.TypedExprs.{IsOver}
 use Rattle.isle_sema.proofs.TypedParts.{IsGivenIn}
 use Rattle.isle_sema.proofs.TypedPatterns.{KnowsTerms, AreTakenWell, taken_parts, pattern_typed, stands_in, variable_stands}
@@ -41,7 +41,7 @@ pub record IsStage (scope : Scope) (vars : List (TypeId × ℕ)) : Type 0 where
   pub stand : StandIn scope.variables vars
   pub known : (name : List ℕ) (v : TypeId × VarId) → variable scope name ≡ Some v → Contains vars (v.0, v.1.0)
 
--- behind a rule's patterns
+-- after a rule's patterns
 pub patterns_stage : (w : Whole) (expected : List (Option TypeId)) (ps : Patterns) (qs : List CorePattern) → (patterns_pass w expected no_variables ps).trees ≡ Some qs → IsStage (patterns_pass w expected no_variables ps).scope (all_typed qs)
 patterns_stage w expected ps qs h = record {
   numbered = (patterns_grow w expected no_variables ps).numbered none_numbered;
@@ -49,7 +49,7 @@ patterns_stage w expected ps qs h = record {
   known = λ name v at. ⊎_elim (λ (was : variable no_variables name ≡ Some v). absurd cc) (λ c. c) (variable_stands w expected no_variables ps qs name v h at);
 }
 
--- behind a condition
+-- after a condition
 condition_stage : (w : Whole) (expected : Option TypeId) (scope : Scope) (vars : List (TypeId × ℕ)) (next : ℕ) (p : Pattern) (q : CorePattern) → IsStage scope vars → (pattern_pass w expected scope p).tree ≡ Some q → IsStage (behind (pattern_pass w expected scope p).scope next) (vars ++ typed_variables q)
 condition_stage w expected scope vars next p q s h =
     let last = (pattern_pass w expected scope p).scope in
@@ -82,7 +82,7 @@ iflet_is (Some p) (Some e) c h =
     let same = same_Some {A = CoreIfLet} (record { lhs = p; rhs = e }) c h in
     record { lhs_is = ap (λ (x : CoreIfLet). Some x.lhs) same; rhs_is = ap (λ (x : CoreIfLet). Some x.rhs) same }
 
--- conditions that break no row, and what is behind them
+-- conditions that break no row, and what is after them
 pub record AreTypedConditions (env : Environment) (given : List (Option CorePattern)) (scope : Scope) (vars : List (TypeId × ℕ)) (cs : List CoreIfLet) : Type 0 where
   pub typed : AreWrittenIfLetsOf env given vars cs
   pub stage : IsStage scope (iflets_typed vars cs)

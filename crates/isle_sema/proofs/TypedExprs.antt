@@ -28,11 +28,11 @@ use Rattle.isle_declarations.specs.Signatures.{Signature, externs, rule_defs, fu
 use Rattle.isle_declarations.specs.Terms.{terms, is_made}
 use Rattle.isle_types.specs.TypeEnvironment.{type_env_of}
 use Rattle.isle_terms.specs.Reduced.{typed_integer}
-use Rattle.isle_variables.specs.Locals.{local_named, bound_local}
-use Rattle.isle_variables.specs.Scope.{Local, local_type, typed_local}
+use Rattle.isle_terms.specs.Locals.{local_named, bound_local}
+use Rattle.isle_terms.specs.Scope.{Local, local_type, typed_local}
 use Rattle.isle_sema.specs.Site.{Site, TruthAt, UsedAt, CalledAt, ConstantAt, BoundAt}
 use Rattle.isle_sema.specs.PatternPass.{first_expected, later_expected}
-use Rattle.isle_variables.specs.Scope.{is_blank}
+use Rattle.isle_terms.specs.Scope.{is_blank}
 use Rattle.isle_terms.specs.TypeNames.{type_named}
 use Rattle.isle_terms.specs.Expected.{takes_truths}
 use Rattle.isle_terms.specs.Whole.{Whole, termed, has_constructor, constant_type}
@@ -46,8 +46,8 @@ use Rattle.isle_sema.proofs.Conversions.{conversion_is}
 use Rattle.isle_core.specs.ExprType.{Allowed, IsTermKind, IsExprOf, AreExprsOf, AreBindingsOf}
 use Rattle.isle_core.specs.TypedVariables.{let_variables, IsNew}
 use Rattle.isle_sema.proofs.KeptParts.{AreKept, kept_parts}
-use Rattle.isle_variables.proofs.LocalLaws.{one_named}
-use Rattle.isle_variables.proofs.ScopeLaws.{local_is}
+use Rattle.isle_terms.proofs.LocalLaws.{one_named}
+use Rattle.isle_terms.proofs.ScopeLaws.{local_is}
 use Rattle.isle_sema.proofs.MadeForms.{made_term, constant_typed}
 use Rattle.isle_terms.proofs.MadeTerms.{term_made, term_is, types_are}
 use Rattle.isle_sema.proofs.RuleRoots.{mapped, signature_at}
@@ -323,12 +323,12 @@ over_more defs env locals vars next later var ty of is le over = record { given 
 
 -- ---- typed expressions
 
--- the variables of a `let` have their types, and those behind them are in scope
+-- the variables of a `let` have their types, and those after them are in scope
 record AreTypedLets (defs : List Def) (env : Environment) (allowed : Allowed) (vars : List (TypeId × ℕ)) (bs : LetBindings) (pass : LetsPass) : Type 0 where
   typed : AreBindingsOf env allowed vars bs
   over : IsOver defs env pass.locals (let_variables vars bs) pass.next
 
--- what a variable of a `let` and what is behind it keep
+-- what a variable of a `let` and what is after it keep
 bound_kept : (w : Whole) (allowed : Allowed) (ty : Option TypeId) (sites : List Site) → AreKept w allowed (BoundAt ty ∷ sites) → AreKept w allowed sites
 bound_kept w allowed ty sites k = record { placed = k.placed; known = k.known; typed = (or_parts (not (is_some ty)) (list_any (is_mistyped w) sites) k.typed).1; partial = k.partial; impure = k.impure }
 

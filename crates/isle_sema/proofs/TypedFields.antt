@@ -46,7 +46,7 @@ no_fields env t p c f = absurd (none_contained p c)
 pub one_field : (env : Environment) (t : Term) (q : Path) (ps : List Path) → (IsFieldPath q → (ty : TypeId) × IsPathOf env t q ty) → AreFieldsTyped env t ps → AreFieldsTyped env t (q ∷ ps)
 one_field env t q ps h k p c f = ⊎_elim (λ (e : q ≡ p). subst (λ r. (ty : TypeId) × IsPathOf env t r ty) e (h (subst IsFieldPath (sym e) f))) (λ d. k p d f) (contained_cases q ps p c)
 
--- paths behind paths
+-- paths after paths
 pub both_fields : (env : Environment) (t : Term) (xs ys : List Path) → AreFieldsTyped env t xs → AreFieldsTyped env t ys → AreFieldsTyped env t (xs ++ ys)
 both_fields env t xs ys h k p c f = ⊎_elim (λ d. h p d f) (λ d. k p d f) (Contains-append_cases xs ys p c)
 

@@ -27,10 +27,10 @@ use Rattle.isle_types.specs.Builtins.{type_id}
 use Rattle.isle_types.specs.TypeEnvironment.{type_env_of}
 use Rattle.isle_terms.specs.Whole.{whole_of}
 use Rattle.isle_sema.specs.PatternPass.{PatternPass, term_tree, pattern_within, taken_by, and_tree, bound_tree, count_of, of_each, first_expected, later_expected, pattern_pass, patterns_pass}
-use Rattle.isle_variables.specs.Scope.{is_blank}
+use Rattle.isle_terms.specs.Scope.{is_blank}
 use Rattle.isle_terms.specs.Reduced.{typed_integer}
 use Rattle.isle_sema.specs.RuleRows.{differ, is_taken_misfit, is_untaken, is_mistaken, is_misplaced, is_undeclared, is_other_type, is_met_otherwise}
-use Rattle.isle_variables.specs.Scope.{Scope, found_in, bound_at, met, variable}
+use Rattle.isle_terms.specs.Scope.{Scope, found_in, bound_at, met, variable}
 use Rattle.isle_sema.specs.Site.{Site, TruthAt, PartAt, MetAt, TakenAt}
 use Rattle.isle_core.specs.TypedVariables.{typed_variables, typed_within, all_typed}
 use Rattle.isle_terms.specs.TypeNames.{type_named}
@@ -45,7 +45,7 @@ use Rattle.isle_sema.proofs.Firsts.{any_parts}
 use Rattle.isle_terms.proofs.MadeTerms.{first_there}
 use Rattle.isle_sema.proofs.OpenedTerms.{IsOpened}
 pub use Rattle.isle_sema.proofs.RuleRoots.{IsMapped, mapped}
-use Rattle.isle_variables.proofs.ScopeLaws.{local_bound, met_again, bound_new, variable_other}
+use Rattle.isle_terms.proofs.ScopeLaws.{local_bound, met_again, bound_new, variable_other}
 use Rattle.isle_sema.proofs.TypedConstants.{integer_typed, truth_typed}
 
 -- two types that don't differ are one

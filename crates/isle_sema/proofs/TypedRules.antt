@@ -17,8 +17,8 @@ use Rattle.isle_declarations.specs.Terms.{terms}
 use Rattle.isle_declarations.proofs.LookUps.{at_place, named_at}
 use Rattle.isle_declarations.proofs.SymbolLaws.{index_below}
 use Rattle.isle_types.specs.TypeRows.{on}
-use Rattle.isle_variables.specs.Locals.{of_patterns}
-use Rattle.isle_variables.specs.Scope.{no_variables}
+use Rattle.isle_terms.specs.Locals.{of_patterns}
+use Rattle.isle_terms.specs.Scope.{no_variables}
 use Rattle.isle_terms.specs.TypeNames.{type_named}
 use Rattle.isle_terms.specs.Whole.{Whole, termed, arg_types, ret_type}
 use Rattle.isle_sema.specs.PatternPass.{PatternsPass, patterns_pass, count_of}

@@ -22,9 +22,9 @@ use Rattle.isle_declarations.specs.Symbols.{index_of, sym_of}
 use Rattle.isle_declarations.specs.Terms.{terms}
 use Rattle.isle_declarations.proofs.DistinctNames.{distinct_names}
 use Rattle.isle_declarations.proofs.LookUps.{named_is}
-use Rattle.isle_variables.specs.NewVariables.{variables_in}
+use Rattle.isle_terms.specs.NewVariables.{variables_in}
 use Rattle.isle_sema.specs.PatternPass.{pattern_pass}
-use Rattle.isle_variables.specs.Scope.{Local, Scope, found_in, typed_local}
+use Rattle.isle_terms.specs.Scope.{Local, Scope, found_in, typed_local}
 use Rattle.isle_sema.specs.Templates.{parameters, template_pass, template_tree, template_for, templates}
 use Rattle.isle_sema.specs.TemplateUses.{template_uses}
 use Rattle.isle_sema.proofs.Conversions.{conversion_is, term_alone, declared_there}

@@ -20,13 +20,13 @@ use Rattle.isle_declarations.specs.Bindings.{binding}
 use Rattle.isle_declarations.specs.Signatures.{term_named}
 use Rattle.isle_declarations.specs.Symbols.{sym_of}
 use Rattle.isle_declarations.specs.Terms.{terms}
-use Rattle.isle_variables.specs.Locals.{Bound, newest, local_named, bound_local, locals_of}
-use Rattle.isle_variables.specs.Scope.{Local, is_blank}
+use Rattle.isle_terms.specs.Locals.{Bound, newest, local_named, bound_local, locals_of}
+use Rattle.isle_terms.specs.Scope.{Local, is_blank}
 use Rattle.isle_terms.specs.TypeNames.{type_named}
 use Rattle.isle_terms.specs.Whole.{Whole, termed, arg_types, ret_type, constant_type}
 use Rattle.isle_sema.specs.ExprPass.{call_tree, constant_tree, expr_pass, expr_type, exprs_pass, known_type, let_tree, lets_pass, local_tree}
 use Rattle.isle_sema.specs.ExprType.{own_type, typed_lets}
-use Rattle.isle_variables.proofs.LocalLaws.{joined_locals}
+use Rattle.isle_terms.proofs.LocalLaws.{joined_locals}
 use Rattle.isle_sema.proofs.OwnTypes.{unconverted}
 
 -- ---- variables of the same types
@@ -108,7 +108,7 @@ type_is w xs ys next (tree.Let ls inner) x alike h =
 
 -- ---- variables one after the other
 
--- the variables from the i-th on behind these
+-- the variables from the i-th on after these
 abbrev pub typed_left : Whole → List Local → List AstLet → ℕ → List Local
 typed_left w locals ls i = typed_lets w locals (lets_of (map binding (drop i ls)))
 

@@ -16,8 +16,8 @@ use Rattle.isle_declarations.specs.Symbols.{sym_of}
 use Rattle.isle_declarations.specs.Terms.{terms}
 use Rattle.isle_declarations.proofs.LookUps.{named_is}
 use Rattle.isle_sema.specs.PatternPass.{first_expected, later_expected, of_each, term_tree, pattern_within, pattern_pass, patterns_pass}
-use Rattle.isle_variables.specs.Scope.{is_blank}
-use Rattle.isle_variables.specs.Scope.{Scope, met, variable}
+use Rattle.isle_terms.specs.Scope.{is_blank}
+use Rattle.isle_terms.specs.Scope.{Scope, met, variable}
 use Rattle.isle_sema.specs.TemplateUses.{templated_by, templated_with, templated, uses_in, all_uses_in, used_through, used_of, template_uses}
 use Rattle.isle_sema.specs.Templates.{template_pass, template_tree, is_treed, has_tree, template_for, templates, are_treed}
 use Rattle.isle_sema.proofs.NamedExtractors.{is_named, holds_at, template_there}

@@ -15,15 +15,15 @@ use Rattle.isle_declarations.specs.Signatures.{term_named}
 use Rattle.isle_declarations.specs.Symbols.{sym_of}
 use Rattle.isle_declarations.specs.Terms.{terms}
 use Rattle.isle_sema.specs.PatternPass.{first_expected, later_expected, of_each, term_tree, pattern_pass, patterns_pass}
-use Rattle.isle_variables.specs.Scope.{is_blank}
+use Rattle.isle_terms.specs.Scope.{is_blank}
 use Rattle.isle_terms.specs.Reduced.{typed_integer}
-use Rattle.isle_variables.specs.Scope.{Local, Scope, found_in, met_by, met, variable}
+use Rattle.isle_terms.specs.Scope.{Local, Scope, found_in, met_by, met, variable}
 use Rattle.isle_core.specs.TypedVariables.{HaveOneType, typed_variables, all_typed}
 use Rattle.isle_terms.specs.Converters.{conversion}
 use Rattle.isle_terms.specs.Whole.{Whole, termed, arg_types, ret_type, constant_type}
 use Rattle.isle_terms.proofs.MadeTerms.{first_there}
 use Rattle.isle_sema.proofs.RuleRoots.{mapped}
-use Rattle.isle_variables.proofs.ScopeLaws.{local_is, found_there, IsNumbered, met_numbered}
+use Rattle.isle_terms.proofs.ScopeLaws.{local_is, found_there, IsNumbered, met_numbered}
 use Rattle.isle_sema.proofs.TypedPatterns.{within_is, bind_pass, bound_tree_is, term_tree_is, any_and_tree, typed_list}
 
 -- ---- the scope grows

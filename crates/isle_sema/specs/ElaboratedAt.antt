@@ -12,11 +12,11 @@ use Rattle.isle_core.specs.Expr.{Exprs as CoreExprs, LetBindings}
 use Rattle.isle_core.specs.Rule.{IfLet as CoreIfLet}
 use Rattle.isle_core.specs.RuleViews.{pattern as elaborated_pattern, expr as elaborated_expr, iflet as elaborated_iflet, exprs_of, SeenBinding, bindings_of}
 use Rattle.isle_ast.specs.Tree.{Pattern, Patterns, Expr, Exprs, Lets, IfLet}
-use Rattle.isle_culprits.specs.declared.judged.Judged.{Judged}
+use Rattle.isle_terms.specs.declared.judged.Judged.{Judged}
 use Rattle.isle_sema.specs.declared.sides.Sides.{Sides}
 use Rattle.isle_declarations.specs.Signatures.{RuleDef}
-use Rattle.isle_variables.specs.Locals.{Bound, of_patterns, locals_of, bound_local}
-use Rattle.isle_variables.specs.Scope.{Scope}
+use Rattle.isle_terms.specs.Locals.{Bound, of_patterns, locals_of, bound_local}
+use Rattle.isle_terms.specs.Scope.{Scope}
 use Rattle.isle_sema.specs.Site.{BoundAt}
 use Rattle.isle_terms.specs.TypeNames.{type_named}
 use Rattle.isle_terms.specs.Whole.{Whole}

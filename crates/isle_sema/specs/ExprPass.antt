@@ -15,8 +15,8 @@ use Rattle.isle_terms.specs.Reduced.{typed_integer}
 use Rattle.isle_declarations.specs.Signatures.{Signature, term_named}
 use Rattle.isle_declarations.specs.Symbols.{sym_of}
 use Rattle.isle_declarations.specs.Terms.{terms}
-use Rattle.isle_variables.specs.Locals.{local_named, bound_local}
-use Rattle.isle_variables.specs.Scope.{Local, local_type, typed_local}
+use Rattle.isle_terms.specs.Locals.{local_named, bound_local}
+use Rattle.isle_terms.specs.Scope.{Local, local_type, typed_local}
 use Rattle.isle_sema.specs.Site.{Site, IntegerAt, TruthAt, PartAt, UsedAt, CalledAt, ConstantAt, BoundAt}
 use Rattle.isle_terms.specs.Converters.{conversion, within}
 use Rattle.isle_terms.specs.TypeNames.{type_named}
@@ -35,7 +35,7 @@ pub record ExprsPass : Type 0 where
   pub next : ℕ
   pub sites : List Site
 
--- the variables of a `let`, and those that are there behind them
+-- the variables of a `let`, and those that are there after them
 pub record LetsPass : Type 0 where
   pub trees : Option LetBindings
   pub locals : List Local

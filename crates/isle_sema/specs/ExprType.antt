@@ -4,13 +4,13 @@ use Rattle.isle_core.specs.declared.TypeId.{TypeId}
 use Rattle.isle_core.specs.RightSide.{bool_type}
 use Rattle.isle_ast.specs.Tree as tree
 use Rattle.isle_ast.specs.Tree.{Expr, Lets, NoLet, ALet}
-use Rattle.isle_variables.specs.Locals.{local_named, bound_local}
-use Rattle.isle_variables.specs.Scope.{Local}
+use Rattle.isle_terms.specs.Locals.{local_named, bound_local}
+use Rattle.isle_terms.specs.Scope.{Local}
 use Rattle.isle_terms.specs.TypeNames.{type_named}
 use Rattle.isle_terms.specs.Whole.{Whole, termed, ret_type, constant_type}
 use Rattle.isle_sema.specs.ExprPass.{known_type}
 
--- the variables of a `let` behind others, each with the type that is written; their numbers tell nothing here
+-- the variables of a `let` after others, each with the type that is written; their numbers tell nothing here
 abbrev pub typed_lets : Whole → List Local → Lets → List Local
 typed_lets w locals NoLet = locals
 typed_lets w locals (ALet var ty e ls) = typed_lets w (bound_local locals var (type_named w.defs ty) 0) ls

@@ -1,7 +1,7 @@
 -- What the typing table says of parts of a rule that were met so far.
 use denote.Ref.{Bor}
 use Rattle.std.specs.Prelude.{ℕ, List, length, Bool, false, ◌==◌, ◌&&◌, ◌||◌, not, Option, Some, None, fold, if◌then◌else◌}
-use Rattle.isle_culprits.specs.declared.judged.Judged.{Judged}
+use Rattle.isle_terms.specs.declared.judged.Judged.{Judged}
 use Rattle.isle_sema.specs.declared.known.Called.{Called}
 use Rattle.isle_types.specs.declared.row.Row.TheVariants as row
 use Rattle.isle_types.specs.declared.row.Row.{Row}

@@ -14,7 +14,7 @@ use Rattle.isle_declarations.specs.Signatures.{Signature, term_named}
 use Rattle.isle_declarations.specs.Symbols.{sym_of}
 use Rattle.isle_declarations.specs.Terms.{terms}
 use Rattle.isle_terms.specs.Reduced.{typed_integer}
-use Rattle.isle_variables.specs.Scope.{Scope, is_blank, bound_at, met, variable}
+use Rattle.isle_terms.specs.Scope.{Scope, is_blank, bound_at, met, variable}
 use Rattle.isle_sema.specs.Site.{Site, IntegerAt, TruthAt, PartAt, MetAt, TakenAt, ConstantAt}
 use Rattle.isle_terms.specs.Converters.{conversion, within}
 use Rattle.isle_terms.specs.TermPass.{tree_before}
@@ -68,7 +68,7 @@ named_sites scope name expected = if is_blank name then [] else MetAt expected (
 abbrev pub bound_tree : Option (TypeId × VarId) → Option CorePattern → Option CorePattern
 bound_tree v p = option_and_then (λ (b : TypeId × VarId). option_map (core_pattern.BindPattern b.0 b.1) p) v
 
--- the tree of `@`; behind `_` it is that of the pattern
+-- the tree of `@`; after `_` it is that of the pattern
 abbrev pub named_tree : Scope → List ℕ → Option CorePattern → Option CorePattern
 named_tree scope name p = if is_blank name then p else bound_tree (variable scope name) p
 

@@ -9,9 +9,9 @@ use Rattle.isle_ast.specs.Views.{patterns_of as seen_patterns}
 use Rattle.isle_declarations.specs.Symbols.{sym_of}
 use Rattle.isle_declarations.specs.Signatures.{RuleDef, term_named}
 use Rattle.isle_declarations.specs.Terms.{terms}
-use Rattle.isle_variables.specs.Locals.{of_patterns}
-use Rattle.isle_variables.specs.NewVariables.{new_count}
-use Rattle.isle_variables.specs.Scope.{Scope, no_variables, behind}
+use Rattle.isle_terms.specs.Locals.{of_patterns}
+use Rattle.isle_terms.specs.NewVariables.{new_count}
+use Rattle.isle_terms.specs.Scope.{Scope, no_variables, behind}
 use Rattle.isle_sema.specs.Site.{Site}
 use Rattle.isle_sema.specs.Templates.{templates}
 use Rattle.isle_templates.specs.Elaborated.{elaborated}
@@ -31,7 +31,7 @@ patterns_of w r = patterns_pass w (arg_types w (termed w r.term)) no_variables (
 abbrev pub iflet_tree : Option CorePattern → Option CoreExpr → Option CoreIfLet
 iflet_tree lhs rhs = option_and_then (λ (p : CorePattern). option_map (λ (e : CoreExpr). record { lhs = p; rhs = e }) rhs) lhs
 
--- the expression of a condition, at no type, over the variables so far; its numbers stand behind those of the variables that the pattern
+-- the expression of a condition, at no type, over the variables so far; its numbers stand after those of the variables that the pattern
 -- binds, as the text has them
 abbrev pub condition_expr : Whole → Scope → IfLet → ExprPass
 condition_expr w scope c = expr_pass w (of_patterns scope) (scope.next + new_count scope c.lhs) None c.rhs

@@ -13,7 +13,7 @@ use Rattle.isle_terms.specs.Whole.{Whole, termed, has_constructor, has_extractor
 use Rattle.isle_sema.specs.Site.{Site, IntegerAt, TruthAt, PartAt, MetAt, UsedAt, CalledAt, TakenAt, ConstantAt, BoundAt}
 use Rattle.isle_sema.specs.RulePass.{right_side_of, left_of, sites_of, written_pass}
 use Rattle.isle_sema.specs.Templates.{template_pass, templates}
-use Rattle.isle_multis.specs.Multi.{marked, is_multi}
+use Rattle.isle_templates.specs.Multi.{marked, is_multi}
 use Rattle.isle_templates.specs.Elaborated.{rule_expanded}
 use Rattle.isle_templates.specs.NodeCount.{rule_nodes}
 use Rattle.isle_templates.specs.Substituted.{whole_templates}

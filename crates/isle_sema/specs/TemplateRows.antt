@@ -6,7 +6,7 @@ use Rattle.isle_ast.specs.Tree.{Def}
 use Rattle.isle_declarations.specs.Signatures.{Extracting, ByFunction, ByTemplate, ExtractorDef, extractor_of, term_named}
 use Rattle.isle_declarations.specs.Symbols.{index_of}
 use Rattle.isle_declarations.specs.Terms.{terms}
-use Rattle.isle_variables.specs.NewVariables.{variables_in}
+use Rattle.isle_terms.specs.NewVariables.{variables_in}
 use Rattle.isle_sema.specs.RuleRows.{template_sites, is_met_otherwise}
 use Rattle.isle_sema.specs.Site.{Site, IntegerAt, TruthAt, PartAt, MetAt, UsedAt, CalledAt, TakenAt, ConstantAt, BoundAt}
 use Rattle.isle_sema.specs.TemplateUses.{template_uses}

@@ -6,7 +6,7 @@ use Rattle.isle_core.specs.Pattern.{Pattern as CorePattern}
 use Rattle.isle_declarations.specs.Signatures.{Signature, Template, Extracting, ByFunction, ByTemplate, ExtractorDef, extractors, extractor_named}
 use Rattle.isle_declarations.specs.Terms.{terms}
 use Rattle.isle_sema.specs.PatternPass.{PatternPass, first_expected, later_expected, pattern_pass}
-use Rattle.isle_variables.specs.Scope.{Scope, no_variables, met}
+use Rattle.isle_terms.specs.Scope.{Scope, no_variables, met}
 use Rattle.isle_terms.specs.Whole.{Whole, termed, arg_types, ret_type}
 
 -- variables and these parameters, each met where the type of its argument is expected

@@ -1,7 +1,7 @@
 //! Conditions with types in them.
 
 ghost use Rattle.std.specs.Prelude.{◌≡◌, IfOk, map, option_map};
-ghost use Rattle.isle_variables.specs.Locals.{of_patterns};
+ghost use Rattle.isle_terms.specs.Locals.{of_patterns};
 ghost use Rattle.isle_ast.specs.Views.{expr, iflet};
 ghost use Rattle.isle_core.specs.RuleViews.{pattern as elaborated_pattern, expr as elaborated_expr};
 ghost use Rattle.isle_sema.specs.ElaboratedAt.{condition_tree, IsExprOver, IsConditionAt, AreConditionsAt};
@@ -16,7 +16,7 @@ use crate::judging::Judging;
 use crate::known::Known;
 use isle_ast::{AstExpr, AstIfLet};
 use isle_core::{Expr, IfLet, Pattern, TypeId};
-use isle_variables::{Locals, Variables, new_count};
+use isle_terms::{Locals, Variables, new_count};
 use std::alloc::{AllocError, Global};
 
 /// Elaborates an expression over the variables of patterns, from this number on; returns the next number after it.
@@ -29,7 +29,9 @@ pub fn expr_over<'d>(
     expected: Option<TypeId>,
     e: &'d AstExpr,
 ) -> Result<(Option<Expr>, usize), AllocError>
-    ensures { IfOk result (λ found. IsExprOver (whole known.now) expected (expr e.now) vars.now next judged.old.rows judged.new.rows found) }
+    ensures { IfOk result (λ found.
+        IsExprOver (whole known.now) expected (expr e.now) vars.now next judged.old.rows
+        judged.new.rows found) }
 {
     let mut locals = Locals::new(alloc, vars, next);
     let found = expr_at(alloc, known, &mut locals, judged, expected, e)?;
@@ -43,7 +45,8 @@ fn type_over<'d>(
     vars: &Variables<'d>,
     e: &'d AstExpr,
 ) -> Result<Option<TypeId>, AllocError>
-    ensures { IfOk result (λ ty. ty ≡ own_type (whole known.now) (of_patterns vars.now) (expr e.now)) }
+    ensures { IfOk result (λ ty.
+        ty ≡ own_type (whole known.now) (of_patterns vars.now) (expr e.now)) }
 {
     let mut locals = Locals::new(alloc, vars, 0);
     own_type(known, &mut locals, e)
@@ -51,7 +54,8 @@ fn type_over<'d>(
 
 // A condition of these parts, where both are there.
 fn condition_of(lhs: Option<Pattern>, rhs: Option<Expr>) -> Option<IfLet>
-    ensures { condition_tree result ≡ iflet_tree (option_map elaborated_pattern lhs) (option_map elaborated_expr rhs) }
+    ensures { condition_tree result
+        ≡ iflet_tree (option_map elaborated_pattern lhs) (option_map elaborated_expr rhs) }
 {
     let lhs = lhs?;
     let rhs = rhs?;
@@ -66,7 +70,9 @@ fn condition_at<'d>(
     judged: &mut Judging<'_, 'd>,
     given: &'d AstIfLet,
 ) -> Result<Option<IfLet>, AllocError>
-    ensures { IfOk result (λ found. IsConditionAt (whole known.now) (iflet given.now) vars.old vars.new judged.old.rows judged.new.rows found) }
+    ensures { IfOk result (λ found.
+        IsConditionAt (whole known.now) (iflet given.now) vars.old vars.new judged.old.rows
+        judged.new.rows found) }
 {
     let count = new_count(alloc, vars, &given.lhs)?;
     let Some(next) = vars.next().checked_add(count) else {
@@ -87,7 +93,9 @@ pub fn conditions_at<'d>(
     judged: &mut Judging<'_, 'd>,
     given: &'d [AstIfLet],
 ) -> Result<Option<Vec<IfLet>>, AllocError>
-    ensures { IfOk result (λ found. AreConditionsAt (whole known.now) (map iflet given.now) vars.old vars.new judged.old.rows judged.new.rows found) }
+    ensures { IfOk result (λ found.
+        AreConditionsAt (whole known.now) (map iflet given.now) vars.old vars.new judged.old.rows
+        judged.new.rows found) }
 {
     let mut made = Vec::with_capacity(alloc, given.len())?;
     let mut complete = true;

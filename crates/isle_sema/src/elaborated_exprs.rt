@@ -9,7 +9,7 @@ ghost use Rattle.isle_declarations.specs.Signatures.{Signature};
 ghost use Rattle.isle_terms.specs.Whole.{Whole, ret_type, number_of};
 ghost use Rattle.isle_terms.specs.Whole.{whole};
 ghost use Rattle.isle_sema.specs.Known.{MayBeCalled};
-ghost use Rattle.isle_variables.specs.Scope.{Local};
+ghost use Rattle.isle_terms.specs.Scope.{Local};
 ghost use Rattle.isle_sema.specs.ExprPass.{integer_tree, constant_tree, local_tree, call_tree, expr_within};
 ghost use Rattle.isle_sema.specs.ExprPass.{expr_type, binding_tree, let_tree};
 ghost use Rattle.isle_sema.specs.ElaboratedAt.{expr_trees, seen_binding, binding_trees, IsExprAt, AreExprsAt};
@@ -19,9 +19,7 @@ use crate::judging::Judging;
 use crate::known::{Called, Known, argument_types, result_type, within};
 use isle_ast::{AstExpr, AstLet};
 use isle_core::{Boxed, Expr, LetBinding, List, Text, TypeEnv, TypeId, VarId};
-use isle_culprits::Thing;
-use isle_terms::{type_named, typed_integer};
-use isle_variables::Locals;
+use isle_terms::{Locals, Thing, type_named, typed_integer};
 use std::alloc::{AllocError, Global};
 
 // An integer where this type is expected.
@@ -45,7 +43,9 @@ fn constant_at(known: &Known, found: Option<TypeId>, name: &Text) -> Option<Expr
 // A call of a term on these expressions, where all are there.
 #[tactic(auto, using(isle_core::proofs::SeesRules::sees))]
 fn call_of(callee: &Option<Called>, args: Option<Vec<Expr>>) -> Option<Expr>
-    ensures { (w : Whole) (s : Option Signature) → MayBeCalled w s callee.now → option_map elaborated result ≡ call_tree (ret_type w s) (number_of w s) (expr_trees args) }
+    ensures { (w : Whole) (s : Option Signature) → MayBeCalled w s callee.now
+        → option_map elaborated result
+        ≡ call_tree (ret_type w s) (number_of w s) (expr_trees args) }
 {
     let args = args?;
     match callee {
@@ -60,7 +60,9 @@ fn converted(
     converter: &Option<Called>,
     found: Option<Expr>,
 ) -> Result<Option<Expr>, AllocError>
-    ensures { (w : Whole) (s : Option Signature) → MayBeCalled w s converter.now → IfOk result (λ e. option_map elaborated e ≡ expr_within w s (option_map elaborated found)) }
+    ensures { (w : Whole) (s : Option Signature) → MayBeCalled w s converter.now
+        → IfOk result
+        (λ e. option_map elaborated e ≡ expr_within w s (option_map elaborated found)) }
 {
     if converter.is_none() {
         return Ok(found);
@@ -76,7 +78,8 @@ fn converted(
 // A variable, where it is bound at a type that is known.
 #[tactic(auto, using(isle_core::proofs::SeesRules::sees))]
 fn variable_of(found: Option<(Option<TypeId>, usize)>) -> Option<Expr>
-    ensures { (l : Option Local) → found ≡ option_map (λ v. (v.ty, v.number)) l → option_map elaborated result ≡ local_tree l }
+    ensures { (l : Option Local) → found ≡ option_map (λ v. (v.ty, v.number)) l
+        → option_map elaborated result ≡ local_tree l }
 {
     let (ty, number) = found?;
     Some(Expr::Var(ty?, VarId(number)))
@@ -91,7 +94,9 @@ fn variable_at<'d>(
     expected: Option<TypeId>,
     name: &'d Text,
 ) -> Result<Option<Expr>, AllocError>
-    ensures { IfOk result (λ found. IsExprAt (whole known.now) expected (tree.Name name.now) vars.now vars.now judged.old.rows judged.new.rows found) }
+    ensures { IfOk result (λ found.
+        IsExprAt (whole known.now) expected (tree.Name name.now) vars.now vars.now judged.old.rows
+        judged.new.rows found) }
 {
     let found = vars.find(name);
     let bound = match found {
@@ -114,7 +119,9 @@ fn named_at<'d>(
     expected: Option<TypeId>,
     name: &'d Text,
 ) -> Result<Option<Expr>, AllocError>
-    ensures { IfOk result (λ found. IsExprAt (whole known.now) expected (tree.Constant name.now) vars.now vars.now judged.old.rows judged.new.rows found) }
+    ensures { IfOk result (λ found.
+        IsExprAt (whole known.now) expected (tree.Constant name.now) vars.now vars.now
+        judged.old.rows judged.new.rows found) }
 {
     let of = known.constant(name);
     let converter = known.conversion(of, expected);
@@ -144,7 +151,9 @@ fn let_of(
     bindings: Option<Vec<LetBinding>>,
     inner: Option<Expr>,
 ) -> Result<Option<Expr>, AllocError>
-    ensures { IfOk result (λ found. option_map elaborated found ≡ let_tree (binding_trees bindings) (option_map elaborated inner)) }
+    ensures { IfOk result (λ found.
+        option_map elaborated found
+        ≡ let_tree (binding_trees bindings) (option_map elaborated inner)) }
 {
     let Some(bindings) = bindings else {
         return Ok(None);
@@ -159,7 +168,8 @@ fn let_of(
 
 // A variable of this number with its value, where its type is declared.
 fn binding_of(number: usize, ty: Option<TypeId>, found: Option<Expr>) -> Option<LetBinding>
-    ensures { option_map seen_binding result ≡ binding_tree number ty (option_map elaborated found) }
+    ensures { option_map seen_binding result
+        ≡ binding_tree number ty (option_map elaborated found) }
 {
     let ty = ty?;
     let val = found?;
@@ -182,7 +192,9 @@ pub fn expr_at<'d>(
     expected: Option<TypeId>,
     e: &'d AstExpr,
 ) -> Result<Option<Expr>, AllocError>
-    ensures { IfOk result (λ found. IsExprAt (whole known.now) expected (expr e.now) vars.old vars.new judged.old.rows judged.new.rows found) }
+    ensures { IfOk result (λ found.
+        IsExprAt (whole known.now) expected (expr e.now) vars.old vars.new judged.old.rows
+        judged.new.rows found) }
 {
     match e {
         AstExpr::Int(n) => {
@@ -225,7 +237,9 @@ fn call_at<'d>(
     name: &'d Text,
     args: &'d [AstExpr],
 ) -> Result<Option<Expr>, AllocError>
-    ensures { IfOk result (λ found. IsExprAt (whole known.now) expected (tree.Call name.now (exprs_of (map expr args.now))) vars.old vars.new judged.old.rows judged.new.rows found) }
+    ensures { IfOk result (λ found.
+        IsExprAt (whole known.now) expected (tree.Call name.now (exprs_of (map expr args.now)))
+        vars.old vars.new judged.old.rows judged.new.rows found) }
 {
     let callee = known.called(name);
     let of = result_type(&callee);
@@ -251,7 +265,9 @@ fn exprs_at<'d>(
     types: &[TypeId],
     es: &'d [AstExpr],
 ) -> Result<Option<Vec<Expr>>, AllocError>
-    ensures { IfOk result (λ found. AreExprsAt (whole known.now) types.now (exprs_of (map expr es.now)) vars.old vars.new judged.old.rows judged.new.rows found) }
+    ensures { IfOk result (λ found.
+        AreExprsAt (whole known.now) types.now (exprs_of (map expr es.now)) vars.old vars.new
+        judged.old.rows judged.new.rows found) }
 {
     let mut typed = Vec::with_capacity(alloc, es.len())?;
     let mut complete = true;
@@ -273,7 +289,9 @@ fn lets_at<'d>(
     judged: &mut Judging<'_, 'd>,
     lets: &'d [AstLet],
 ) -> Result<Option<Vec<LetBinding>>, AllocError>
-    ensures { IfOk result (λ found. AreBindingsAt (whole known.now) (lets_of (map binding lets.now)) vars.old vars.new judged.old.rows judged.new.rows found) }
+    ensures { IfOk result (λ found.
+        AreBindingsAt (whole known.now) (lets_of (map binding lets.now)) vars.old vars.new
+        judged.old.rows judged.new.rows found) }
 {
     let mut typed = Vec::with_capacity(alloc, lets.len())?;
     let mut complete = true;
@@ -295,7 +313,9 @@ fn binding_at<'d>(
     judged: &mut Judging<'_, 'd>,
     l: &'d AstLet,
 ) -> Result<Option<LetBinding>, AllocError>
-    ensures { IfOk result (λ found. IsBindingAt (whole known.now) l.now.var l.now.ty (expr l.now.val) vars.old vars.new judged.old.rows judged.new.rows found) }
+    ensures { IfOk result (λ found.
+        IsBindingAt (whole known.now) l.now.var l.now.ty (expr l.now.val) vars.old vars.new
+        judged.old.rows judged.new.rows found) }
 {
     let ty = type_named(known.before, &l.ty);
     judged.bound(ty, &l.ty);

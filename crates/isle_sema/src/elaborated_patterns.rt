@@ -16,9 +16,7 @@ use crate::judging::Judging;
 use crate::known::{Called, Known, argument_types, result_type, within};
 use isle_ast::AstPattern;
 use isle_core::{Boxed, List, Pattern, Text, TypeEnv, TypeId, VarId};
-use isle_culprits::Thing;
-use isle_terms::typed_integer;
-use isle_variables::{Variables, is_blank};
+use isle_terms::{Thing, Variables, is_blank, typed_integer};
 use std::alloc::{AllocError, Global};
 
 // An integer where this type is expected.
@@ -46,7 +44,8 @@ fn bound_to(
     var: Option<(TypeId, VarId)>,
     inner: Option<Pattern>,
 ) -> Result<Option<Pattern>, AllocError>
-    ensures { IfOk result (λ found. option_map elaborated found ≡ bound_tree var (option_map elaborated inner)) }
+    ensures { IfOk result (λ found.
+        option_map elaborated found ≡ bound_tree var (option_map elaborated inner)) }
 {
     let Some(inner) = inner else {
         return Ok(None);
@@ -91,7 +90,9 @@ fn constant_at(known: &Known, found: Option<TypeId>, name: &Text) -> Option<Patt
 // A term on these patterns, where all are there.
 #[tactic(auto, using(isle_core::proofs::SeesRules::sees))]
 fn made_of(callee: &Option<Called>, parts: Option<Vec<Pattern>>) -> Option<Pattern>
-    ensures { (w : Whole) (s : Option Signature) → MayBeCalled w s callee.now → option_map elaborated result ≡ term_tree (ret_type w s) (number_of w s) (pattern_trees parts) }
+    ensures { (w : Whole) (s : Option Signature) → MayBeCalled w s callee.now
+        → option_map elaborated result
+        ≡ term_tree (ret_type w s) (number_of w s) (pattern_trees parts) }
 {
     let parts = parts?;
     match callee {
@@ -106,7 +107,9 @@ fn converted(
     converter: &Option<Called>,
     found: Option<Pattern>,
 ) -> Result<Option<Pattern>, AllocError>
-    ensures { (w : Whole) (s : Option Signature) → MayBeCalled w s converter.now → IfOk result (λ p. option_map elaborated p ≡ pattern_within w s (option_map elaborated found)) }
+    ensures { (w : Whole) (s : Option Signature) → MayBeCalled w s converter.now
+        → IfOk result
+        (λ p. option_map elaborated p ≡ pattern_within w s (option_map elaborated found)) }
 {
     if converter.is_none() {
         return Ok(found);
@@ -130,7 +133,9 @@ pub fn pattern_at<'d>(
     expected: Option<TypeId>,
     p: &'d AstPattern,
 ) -> Result<Option<Pattern>, AllocError>
-    ensures { IfOk result (λ found. IsPatternAt (whole known.now) expected (pattern p.now) vars.old vars.new judged.old.rows judged.new.rows found) }
+    ensures { IfOk result (λ found.
+        IsPatternAt (whole known.now) expected (pattern p.now) vars.old vars.new judged.old.rows
+        judged.new.rows found) }
 {
     match p {
         AstPattern::Int(n) => {
@@ -178,7 +183,9 @@ fn bind_at<'d>(
     name: &'d Text,
     inner: &'d AstPattern,
 ) -> Result<Option<Pattern>, AllocError>
-    ensures { IfOk result (λ found. IsPatternAt (whole known.now) expected (tree.Bind name.now (pattern inner.now)) vars.old vars.new judged.old.rows judged.new.rows found) }
+    ensures { IfOk result (λ found.
+        IsPatternAt (whole known.now) expected (tree.Bind name.now (pattern inner.now)) vars.old
+        vars.new judged.old.rows judged.new.rows found) }
 {
     if is_blank(name) {
         return pattern_at(alloc, known, vars, judged, expected, inner);
@@ -200,7 +207,9 @@ fn and_at<'d>(
     expected: Option<TypeId>,
     parts: &'d [AstPattern],
 ) -> Result<Option<Pattern>, AllocError>
-    ensures { IfOk result (λ found. IsPatternAt (whole known.now) expected (tree.And (patterns_of (map pattern parts.now))) vars.old vars.new judged.old.rows judged.new.rows found) }
+    ensures { IfOk result (λ found.
+        IsPatternAt (whole known.now) expected (tree.And (patterns_of (map pattern parts.now)))
+        vars.old vars.new judged.old.rows judged.new.rows found) }
 {
     let types = copies(alloc, expected, parts.len())?;
     let typed = patterns_at(alloc, known, vars, judged, types.as_slice(), parts)?;
@@ -218,7 +227,10 @@ fn term_at<'d>(
     name: &'d Text,
     parts: &'d [AstPattern],
 ) -> Result<Option<Pattern>, AllocError>
-    ensures { IfOk result (λ found. IsPatternAt (whole known.now) expected (tree.Term name.now (patterns_of (map pattern parts.now))) vars.old vars.new judged.old.rows judged.new.rows found) }
+    ensures { IfOk result (λ found.
+        IsPatternAt (whole known.now) expected
+        (tree.Term name.now (patterns_of (map pattern parts.now))) vars.old vars.new judged.old.rows
+        judged.new.rows found) }
 {
     let callee = known.called(name);
     let of = result_type(&callee);
@@ -244,7 +256,9 @@ pub fn patterns_at<'d>(
     types: &[TypeId],
     patterns: &'d [AstPattern],
 ) -> Result<Option<Vec<Pattern>>, AllocError>
-    ensures { IfOk result (λ found. ArePatternsAt (whole known.now) types.now (patterns_of (map pattern patterns.now)) vars.old vars.new judged.old.rows judged.new.rows found) }
+    ensures { IfOk result (λ found.
+        ArePatternsAt (whole known.now) types.now (patterns_of (map pattern patterns.now)) vars.old
+        vars.new judged.old.rows judged.new.rows found) }
 {
     let mut typed = Vec::with_capacity(alloc, patterns.len())?;
     let mut complete = true;

@@ -16,7 +16,7 @@ ghost use Rattle.isle_sema.specs.Known.{IsHead};
 ghost use Rattle.isle_sema.specs.RulesFound.{found_rule, IsRuleFound, AreRulesFound, AreHeadsDeclared};
 ghost use Rattle.isle_sema.specs.RuleRows.{declared_multis};
 ghost use Rattle.isle_sema.specs.Templates.{templates as written};
-ghost use Rattle.isle_multis.specs.Multi.{AreMultisTold};
+ghost use Rattle.isle_templates.specs.Multi.{AreMultisTold};
 ghost use Rattle.isle_templates.specs.Whole.{AreWhole};
 
 use crate::fault::Fault;
@@ -25,9 +25,9 @@ use crate::rows::lowest_row;
 use crate::sides::sides_of;
 use crate::templates::Extractors;
 use isle_core::{Expr, IfLet, List, Pattern, Rule, RuleId};
-use isle_culprits::{Breach, rule_culprit};
 use isle_declarations::RuleDef;
 use isle_templates::elaborated;
+use isle_terms::{Breach, rule_culprit};
 use isle_types::Row;
 use std::alloc::{AllocError, Global};
 
@@ -41,7 +41,10 @@ fn rule_from(
     iflets: Vec<IfLet>,
     rhs: Expr,
 ) -> Rule
-    ensures { elaborated_rule result ≡ rule_from (whole known.now) number (seen given.now) own.now.term (map elaborated_pattern args.items) (map elaborated_iflet iflets.items) (elaborated_expr rhs) }
+    ensures { elaborated_rule result
+        ≡ rule_from (whole known.now) number (seen given.now) own.now.term
+        (map elaborated_pattern args.items) (map elaborated_iflet iflets.items)
+        (elaborated_expr rhs) }
 {
     let name = match given.name {
         Some(name) => Some(known.sym(name)),
@@ -69,7 +72,9 @@ fn written_from(
     iflets: Option<Vec<IfLet>>,
     rhs: Option<Expr>,
 ) -> Option<Rule>
-    ensures { option_map elaborated_rule result ≡ written_from (whole known.now) number (seen given.now) own.now.term (pattern_trees args) (condition_trees iflets) (option_map elaborated_expr rhs) }
+    ensures { option_map elaborated_rule result
+        ≡ written_from (whole known.now) number (seen given.now) own.now.term (pattern_trees args)
+        (condition_trees iflets) (option_map elaborated_expr rhs) }
 {
     let args = args?;
     let iflets = iflets?;
@@ -103,7 +108,8 @@ fn rule_of<'d>(
     requires types { type_fault (seen_defs known.now) ≡ None }
     requires terms { term_fault (whole known.now) ≡ None }
     requires templates { AreWhole (written (whole known.now)) extractors.now.templates }
-    requires multis { AreMultisTold (written (whole known.now)) (declared_multis (whole known.now)) extractors.now.multis.items }
+    requires multis { AreMultisTold (written (whole known.now)) (declared_multis (whole known.now))
+        extractors.now.multis.items }
     ensures { IfOk result (λ found. IsRuleFound (whole known.now) number (seen given.now) found) }
 {
     let sides = sides_of(alloc, known, extractors.multis.as_slice(), own, given)?;
@@ -137,12 +143,14 @@ fn rule_at<'d>(
     number: usize,
     given: &RuleDef<'d>,
 ) -> Result<Result<Rule, Breach<'d>>, AllocError>
-    requires number { index_of (whole known.now).types.syms given.now.term.now ≡ Some given.now.number }
+    requires number { index_of (whole known.now).types.syms given.now.term.now
+        ≡ Some given.now.number }
     requires declared { is_some (termed (whole known.now) given.now.term.now) ≡ true }
     requires types { type_fault (seen_defs known.now) ≡ None }
     requires terms { term_fault (whole known.now) ≡ None }
     requires templates { AreWhole (written (whole known.now)) extractors.now.templates }
-    requires multis { AreMultisTold (written (whole known.now)) (declared_multis (whole known.now)) extractors.now.multis.items }
+    requires multis { AreMultisTold (written (whole known.now)) (declared_multis (whole known.now))
+        extractors.now.multis.items }
     ensures { IfOk result (λ found. IsRuleFound (whole known.now) number (seen given.now) found) }
 {
     match known.at(given.number) {
@@ -167,8 +175,10 @@ pub fn rules_at<'d>(
     requires types { type_fault (seen_defs known.now) ≡ None }
     requires terms { term_fault (whole known.now) ≡ None }
     requires templates { AreWhole (written (whole known.now)) extractors.now.templates }
-    requires multis { AreMultisTold (written (whole known.now)) (declared_multis (whole known.now)) extractors.now.multis.items }
-    ensures { IfOk result (λ found. AreRulesFound (whole known.now) (rule_defs (seen_defs known.now)) found) }
+    requires multis { AreMultisTold (written (whole known.now)) (declared_multis (whole known.now))
+        extractors.now.multis.items }
+    ensures { IfOk result (λ found.
+        AreRulesFound (whole known.now) (rule_defs (seen_defs known.now)) found) }
 {
     let mut rules = Vec::with_capacity(alloc, given.len())?;
     for (number, rule) in given.iter().enumerate() {

@@ -5,13 +5,12 @@ ghost use Rattle.isle_ast.specs.Views.{expr, lets_of};
 ghost use Rattle.isle_declarations.specs.Bindings.{binding};
 ghost use Rattle.isle_sema.specs.ExprType.{typed_lets, own_type};
 ghost use Rattle.isle_terms.specs.Whole.{whole};
-ghost use Rattle.isle_variables.specs.Locals.{locals_of};
+ghost use Rattle.isle_terms.specs.Locals.{locals_of};
 
 use crate::known::{Known, result_type};
 use isle_ast::{AstExpr, AstLet};
 use isle_core::TypeId;
-use isle_terms::type_named;
-use isle_variables::Locals;
+use isle_terms::{Locals, type_named};
 use std::alloc::AllocError;
 
 // Binds the variables of a `let` at the types that are written.
@@ -20,7 +19,9 @@ fn bind_each<'d>(
     vars: &mut Locals<'_, 'd>,
     lets: &'d [AstLet],
 ) -> Result<(), AllocError>
-    ensures { OnOk result (locals_of vars.new ≡ typed_lets (whole known.now) (locals_of vars.old) (lets_of (map binding lets.now))) }
+    ensures { OnOk result
+        (locals_of vars.new
+        ≡ typed_lets (whole known.now) (locals_of vars.old) (lets_of (map binding lets.now))) }
 {
     for l in lets {
         vars.bind(&l.var, type_named(known.before, &l.ty), 0)?;
@@ -37,7 +38,8 @@ pub fn own_type<'d>(
     vars: &mut Locals<'_, 'd>,
     e: &'d AstExpr,
 ) -> Result<Option<TypeId>, AllocError>
-    ensures { IfOk result (λ ty. ty ≡ own_type (whole known.now) (locals_of vars.old) (expr e.now)) }
+    ensures { IfOk result (λ ty.
+        ty ≡ own_type (whole known.now) (locals_of vars.old) (expr e.now)) }
 {
     match e {
         AstExpr::Int(_) => Ok(None),

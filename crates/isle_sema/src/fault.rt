@@ -4,7 +4,7 @@ ghost use Rattle.std.specs.Prelude.{IfOk};
 ghost use Rattle.isle_types.specs.Gathered.{TellsFault};
 
 use isle_core::{Error, OutOfMemory, Pos, Text, TypeEnv};
-use isle_culprits::{Culprit, push_culprit};
+use isle_terms::{Culprit, push_culprit};
 use isle_types::{Row, push_name, told, type_error};
 use std::alloc::Global;
 
@@ -37,7 +37,7 @@ impl<'d> Fault<'d> {
     }
 }
 
-// What a row refuses in a whole extractor or rule, in words behind the name of its term.
+// What a row refuses in a whole extractor or rule, in words after the name of its term.
 fn whole(row: Row) -> &'static str {
     match row {
         Row::ExtractorReachesItself => "': its extractor uses itself, by itself or through others",

@@ -14,9 +14,8 @@ ghost use Rattle.isle_sema.specs.ExprPass.{called_by};
 
 use crate::known::Called;
 use isle_core::{Text, TypeEnv, TypeId};
-use isle_culprits::{Counts, Firsts, Judged, Thing};
-use isle_multis::marked;
-use isle_terms::{takes_integers, takes_truths};
+use isle_templates::marked;
+use isle_terms::{Counts, Firsts, Judged, Thing, takes_integers, takes_truths};
 
 /// Which rows the parts that were met so far break, and the first part that breaks each: nothing is said of the latter,
 /// which is for the words of a fault.
@@ -87,7 +86,8 @@ impl<'m, 'd> Judging<'m, 'd> {
 
     /// Judges an integer where this type is expected.
     pub fn integer(&mut self, types: &TypeEnv, expected: Option<TypeId>, n: i128)
-        ensures { (w : Whole) → types.now ≡ w.types → self.new.rows ≡ judge w self.old.rows (IntegerAt expected) }
+        ensures { (w : Whole) → types.now ≡ w.types
+            → self.new.rows ≡ judge w self.old.rows (IntegerAt expected) }
     {
         self.rows.misplaced = !takes_integers(types, expected) | self.rows.misplaced;
         self.firsts
@@ -96,7 +96,8 @@ impl<'m, 'd> Judging<'m, 'd> {
 
     /// Judges `true` or `false` where this type is expected.
     pub fn truth(&mut self, types: &TypeEnv, expected: Option<TypeId>, b: bool)
-        ensures { (w : Whole) → types.now ≡ w.types → self.new.rows ≡ judge w self.old.rows (TruthAt expected) }
+        ensures { (w : Whole) → types.now ≡ w.types
+            → self.new.rows ≡ judge w self.old.rows (TruthAt expected) }
     {
         self.rows.misplaced = !takes_truths(types, expected) | self.rows.misplaced;
         self.firsts
@@ -141,7 +142,8 @@ impl<'m, 'd> Judging<'m, 'd> {
         count: usize,
         thing: Thing<'d>,
     )
-        ensures { (w : Whole) (s : Option Signature) → MayBeCalled w s callee.now → self.new.rows ≡ judge w self.old.rows (CalledAt expected s count) }
+        ensures { (w : Whole) (s : Option Signature) → MayBeCalled w s callee.now
+            → self.new.rows ≡ judge w self.old.rows (CalledAt expected s count) }
     {
         let Some(callee) = callee else {
             self.rows.unknown = true;
@@ -170,7 +172,8 @@ impl<'m, 'd> Judging<'m, 'd> {
         count: usize,
         thing: Thing<'d>,
     )
-        ensures { (w : Whole) (s : Option Signature) → MayBeCalled w s callee.now → self.new.rows ≡ judge w self.old.rows (TakenAt expected s count) }
+        ensures { (w : Whole) (s : Option Signature) → MayBeCalled w s callee.now
+            → self.new.rows ≡ judge w self.old.rows (TakenAt expected s count) }
     {
         let Some(callee) = callee else {
             self.rows.untaken = true;
@@ -197,7 +200,8 @@ impl<'m, 'd> Judging<'m, 'd> {
         converter: &Option<Called>,
         of: Option<TypeId>,
     )
-        ensures { (w : Whole) (s : Option Signature) → MayBeCalled w s converter.now → self.new.rows ≡ judge_all w self.old.rows (taken_by s expected) }
+        ensures { (w : Whole) (s : Option Signature) → MayBeCalled w s converter.now
+            → self.new.rows ≡ judge_all w self.old.rows (taken_by s expected) }
     {
         if converter.is_some() {
             self.taken(expected, converter, 1, Thing::Converter(of));
@@ -211,7 +215,8 @@ impl<'m, 'd> Judging<'m, 'd> {
         converter: &Option<Called>,
         of: Option<TypeId>,
     )
-        ensures { (w : Whole) (s : Option Signature) → MayBeCalled w s converter.now → self.new.rows ≡ judge_all w self.old.rows (called_by s expected) }
+        ensures { (w : Whole) (s : Option Signature) → MayBeCalled w s converter.now
+            → self.new.rows ≡ judge_all w self.old.rows (called_by s expected) }
     {
         if converter.is_some() {
             self.called(expected, converter, 1, Thing::Converter(of));
@@ -226,7 +231,8 @@ impl<'m, 'd> Judging<'m, 'd> {
         found: Option<TypeId>,
         name: &'d Text,
     )
-        ensures { self.new.rows ≡ judge (whole_of []) self.old.rows (ConstantAt in_pattern expected found) }
+        ensures { self.new.rows
+            ≡ judge (whole_of []) self.old.rows (ConstantAt in_pattern expected found) }
     {
         let differs = is_other_type(Some(found), expected);
         self.rows.undeclared = found.is_none() | self.rows.undeclared;

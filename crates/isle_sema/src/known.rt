@@ -61,7 +61,8 @@ impl<'s, 'd> Model for Known<'s, 'd> {
 
 /// Returns the types of a term's arguments: of a term that is not there, none.
 pub fn argument_types<'s>(callee: &Option<Called<'s>>) -> &'s [TypeId]
-    ensures { (w : Whole) (s : Option Signature) → MayBeCalled w s callee.now → arg_types w s ≡ map Some result.now }
+    ensures { (w : Whole) (s : Option Signature) → MayBeCalled w s callee.now
+        → arg_types w s ≡ map Some result.now }
 {
     match callee {
         Some(callee) => callee.args,
@@ -98,7 +99,8 @@ impl<'s, 'd> Known<'s, 'd> {
 
     /// Returns the term of the name of this number.
     pub fn at(&self, number: usize) -> Option<Called<'s>>
-        ensures { (name : List ℕ) → index_of (symbols (seen self.now)) name ≡ Some number → MayBeCalled (whole self.now) (termed (whole self.now) name) result }
+        ensures { (name : List ℕ) → index_of (symbols (seen self.now)) name ≡ Some number
+            → MayBeCalled (whole self.now) (termed (whole self.now) name) result }
     {
         let place = self.terms.place(number)?;
         let term = self.typed.get(place)?;
@@ -152,7 +154,8 @@ impl<'s, 'd> Known<'s, 'd> {
 
 /// Returns the type that a term gives: of a term that is not there, none.
 pub fn result_type(callee: &Option<Called>) -> Option<TypeId>
-    ensures { (w : Whole) (s : Option Signature) → MayBeCalled w s callee.now → result ≡ ret_type w s }
+    ensures { (w : Whole) (s : Option Signature) → MayBeCalled w s callee.now
+        → result ≡ ret_type w s }
 {
     match callee {
         Some(callee) => Some(callee.ret),
@@ -166,7 +169,8 @@ pub fn within(
     of: Option<TypeId>,
     expected: Option<TypeId>,
 ) -> Option<TypeId>
-    ensures { (w : Whole) (s : Option Signature) → MayBeCalled w s converter.now → result ≡ within s of expected }
+    ensures { (w : Whole) (s : Option Signature) → MayBeCalled w s converter.now
+        → result ≡ within s of expected }
 {
     match converter {
         Some(_) => of,

@@ -4,7 +4,7 @@ ghost use Rattle.std.specs.Prelude.{◌≡◌};
 ghost use Rattle.isle_sema.specs.Judging.{lowest, lowest_of_template};
 
 use crate::known::Called;
-use isle_culprits::Judged;
+use isle_terms::Judged;
 use isle_types::Row;
 
 /// Returns the lowest row that an extractor with a template breaks, by whether its term reaches itself, whether a

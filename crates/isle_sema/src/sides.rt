@@ -12,7 +12,7 @@ use crate::judging::Judging;
 use crate::known::{Called, Known};
 use isle_core::{Expr, IfLet, Pattern};
 use isle_declarations::RuleDef;
-use isle_variables::Variables;
+use isle_terms::Variables;
 use std::alloc::{AllocError, Global};
 
 /// The patterns, the conditions and the right side of a rule, where they have trees, and what the rows say of the parts
@@ -36,7 +36,8 @@ pub fn sides_of<'m, 'd>(
     given: &RuleDef<'d>,
 ) -> Result<Sides<'m, 'd>, AllocError>
     requires { IsHead (whole known.now) given.now.term.now own.now }
-    ensures { IfOk result (λ sides. AreSides (whole known.now) (seen given.now) multis.entry sides) }
+    ensures { IfOk result (λ sides.
+        AreSides (whole known.now) (seen given.now) multis.entry sides) }
 {
     let mut vars = Variables::new(alloc);
     let mut left = Judging::new(multis);

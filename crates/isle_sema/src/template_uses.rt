@@ -19,7 +19,8 @@ use std::alloc::{AllocError, Global};
 
 // Notes a term, if it is there and has a template.
 fn note_called(callee: &Option<Called>, found: &mut Vec<usize>) -> Result<(), AllocError>
-    ensures { (w : Whole) (s : Option Signature) → MayBeCalled w s callee.now → OnOk result (found.new.items ≡ found.old.items ++ templated w s) }
+    ensures { (w : Whole) (s : Option Signature) → MayBeCalled w s callee.now
+        → OnOk result (found.new.items ≡ found.old.items ++ templated w s) }
 {
     let Some(callee) = callee else {
         return Ok(());
@@ -40,7 +41,8 @@ fn note(
     p: &AstPattern,
     found: &mut Vec<usize>,
 ) -> Result<(), AllocError>
-    ensures { OnOk result (found.new.items ≡ found.old.items ++ uses_in (whole known.now) expected (pattern p.now)) }
+    ensures { OnOk result
+        (found.new.items ≡ found.old.items ++ uses_in (whole known.now) expected (pattern p.now)) }
 {
     match p {
         AstPattern::Int(_) => Ok(()),
@@ -73,7 +75,11 @@ fn note_each(
     parts: &[AstPattern],
     found: &mut Vec<usize>,
 ) -> Result<(), AllocError>
-    ensures { OnOk result (found.new.items ≡ found.old.items ++ all_uses_in (whole known.now) (map Some types.now) (patterns_of (map pattern parts.now))) }
+    ensures { OnOk result
+        (found.new.items
+        ≡ found.old.items
+        ++ all_uses_in (whole known.now) (map Some types.now)
+        (patterns_of (map pattern parts.now))) }
 {
     for (index, part) in parts.iter().enumerate() {
         note(known, types.get(index).copied(), part, found)?;
@@ -84,7 +90,9 @@ fn note_each(
 // The terms with templates that a term's template uses, where it has one.
 fn used_of(alloc: Global, known: &Known, term: &TermDef) -> Result<Vec<usize>, AllocError>
     requires { is_some (index_of (symbols (seen known.now)) term.now.term.now) ≡ true }
-    ensures { IfOk result (λ found. found.items ≡ used_of (whole known.now) (term_def term.now) (extractor_named (extractors (seen known.now)) term.now.term.now)) }
+    ensures { IfOk result (λ found.
+        found.items ≡ used_of (whole known.now) (term_def term.now)
+        (extractor_named (extractors (seen known.now)) term.now.term.now)) }
 {
     let mut found = Vec::new(alloc);
     let Some(number) = known.declarations.number(term.term) else {
@@ -119,7 +127,8 @@ pub fn used_templates(alloc: Global, known: &Known) -> Result<Vec<List<usize>>, 
 
 /// Tells whether a term is among those that reach themselves.
 pub fn reaches_itself(callee: &Option<Called>, closed: &[bool]) -> bool
-    ensures { (w : Whole) (x : ExtractorDef) → MayBeCalled w (termed w x.term) callee.now → AreClosedTold (template_uses w) closed.now → result ≡ is_on_walk w x }
+    ensures { (w : Whole) (x : ExtractorDef) → MayBeCalled w (termed w x.term) callee.now
+        → AreClosedTold (template_uses w) closed.now → result ≡ is_on_walk w x }
 {
     let Some(callee) = callee else {
         return false;

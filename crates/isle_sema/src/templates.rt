@@ -10,7 +10,7 @@ ghost use Rattle.isle_declarations.specs.Symbols.{index_of, symbols};
 ghost use Rattle.isle_declarations.specs.Terms.{terms as all_terms};
 ghost use Rattle.isle_declarations.specs.TermViews.{term_def};
 ghost use Rattle.isle_terms.specs.Whole.{Whole, arg_types, whole};
-ghost use Rattle.isle_variables.specs.Scope.{no_variables};
+ghost use Rattle.isle_terms.specs.Scope.{no_variables};
 ghost use Rattle.isle_walks.specs.Walks.{AreClosedTold};
 ghost use Rattle.isle_sema.specs.Known.{MayBeCalled};
 ghost use Rattle.isle_sema.specs.Templates.{params_met, template_for, templates};
@@ -26,11 +26,9 @@ use crate::rows::template_row;
 use crate::template_uses::{reaches_itself, used_templates};
 use isle_ast::AstPattern;
 use isle_core::{List, Pattern, Text};
-use isle_culprits::{Breach, template_culprit};
 use isle_declarations::{Extracting, ExtractorDef, TermDef};
-use isle_multis::multi_extractors;
-use isle_templates::{Templates, copied_at, whole_templates};
-use isle_variables::{Variables, misses_variable};
+use isle_templates::{Templates, copied_at, multi_extractors, whole_templates};
+use isle_terms::{Breach, Variables, misses_variable, template_culprit};
 use isle_walks::closed_walks;
 use std::alloc::{AllocError, Global};
 
@@ -40,7 +38,8 @@ fn parameters<'d>(
     callee: &Option<Called>,
     params: &'d [Text],
 ) -> Result<Variables<'d>, AllocError>
-    ensures { (w : Whole) (s : Option Signature) → MayBeCalled w s callee.now → IfOk result (λ vars. vars ≡ params_met no_variables params.now (arg_types w s)) }
+    ensures { (w : Whole) (s : Option Signature) → MayBeCalled w s callee.now
+        → IfOk result (λ vars. vars ≡ params_met no_variables params.now (arg_types w s)) }
 {
     let mut vars = Variables::new(alloc);
     let types = argument_types(callee);
@@ -57,7 +56,8 @@ fn template_of<'d>(
     closed: &[bool],
     given: &ExtractorDef<'d>,
 ) -> Result<Result<Option<Pattern>, Breach<'d>>, AllocError>
-    requires number { index_of (whole known.now).types.syms given.now.term.now ≡ Some given.now.number }
+    requires number { index_of (whole known.now).types.syms given.now.term.now
+        ≡ Some given.now.number }
     requires closed { AreClosedTold (template_uses (whole known.now)) closed.now }
     ensures { IfOk result (λ found. IsTried (whole known.now) (seen given.now) found) }
 {
@@ -90,7 +90,8 @@ fn templates_of<'d>(
 ) -> Result<Result<Vec<Option<Pattern>>, Fault<'d>>, AllocError>
     requires extractors { AreExtractors (seen_defs known.now) given.now }
     requires closed { AreClosedTold (template_uses (whole known.now)) closed.now }
-    ensures { IfOk result (λ found. AreTried (whole known.now) (extractors (seen_defs known.now)) found) }
+    ensures { IfOk result (λ found.
+        AreTried (whole known.now) (extractors (seen_defs known.now)) found) }
 {
     let mut trees = Vec::with_capacity(alloc, given.len())?;
     for extractor in given {
@@ -116,9 +117,11 @@ fn template_for(
     trees: &[Option<Pattern>],
     term: &TermDef,
 ) -> Result<Option<Pattern>, AllocError>
-    requires trees { map (option_map elaborated) trees.now ≡ map (tree_of (whole known.now)) (extractors (seen_defs known.now)) }
+    requires trees { map (option_map elaborated) trees.now
+        ≡ map (tree_of (whole known.now)) (extractors (seen_defs known.now)) }
     requires named { is_some (index_of (symbols (seen_defs known.now)) term.now.term.now) ≡ true }
-    ensures { IfOk result (λ found. option_map elaborated found ≡ template_for (whole known.now) (term_def term.now)) }
+    ensures { IfOk result (λ found.
+        option_map elaborated found ≡ template_for (whole known.now) (term_def term.now)) }
 {
     let Some(number) = known.declarations.number(term.term) else {
         return Ok(None);
@@ -136,9 +139,11 @@ fn by_terms(
     trees: &[Option<Pattern>],
     terms: &[TermDef],
 ) -> Result<Vec<Option<Pattern>>, AllocError>
-    requires trees { map (option_map elaborated) trees.now ≡ map (tree_of (whole known.now)) (extractors (seen_defs known.now)) }
+    requires trees { map (option_map elaborated) trees.now
+        ≡ map (tree_of (whole known.now)) (extractors (seen_defs known.now)) }
     requires terms { map term_def terms.now ≡ all_terms (seen_defs known.now) }
-    ensures { IfOk result (λ found. map (option_map elaborated) found.items ≡ templates (whole known.now)) }
+    ensures { IfOk result (λ found.
+        map (option_map elaborated) found.items ≡ templates (whole known.now)) }
 {
     let mut found = Vec::with_capacity(alloc, terms.len())?;
     for term in terms {
@@ -149,7 +154,8 @@ fn by_terms(
 
 // Of each term whether its declaration says `multi`.
 fn declared_multis(alloc: Global, terms: &[TermDef]) -> Result<Vec<bool>, AllocError>
-    ensures { IfOk result (λ flags. flags.items ≡ map (λ (s : Signature). s.multi) (map term_def terms.now)) }
+    ensures { IfOk result (λ flags.
+        flags.items ≡ map (λ (s : Signature). s.multi) (map term_def terms.now)) }
 {
     let mut flags = Vec::with_capacity(alloc, terms.len())?;
     for term in terms {

@@ -66,7 +66,8 @@ pub fn term_env<'d>(
     requires before { IsBefore (seen declarations.now) before.now }
     requires types { types.now ≡ type_env_of (seen declarations.now) }
     requires made { made.now ≡ map made_of (seen declarations.now) }
-    ensures ok { IfOk result (λ terms. TypedOnly (seen declarations.now) (environment types.now terms)) }
+    ensures ok { IfOk result (λ terms.
+        TypedOnly (seen declarations.now) (environment types.now terms)) }
     ensures err { IfErr result (λ e. IsUntyped (fault (seen declarations.now)) e) }
 {
     let terms = gathered_terms(alloc, declarations, made)?;

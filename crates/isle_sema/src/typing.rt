@@ -69,7 +69,8 @@ fn built_env<'d>(
     requires sound { type_fault (seen declarations.now) ≡ None }
     requires before { IsBefore (seen declarations.now) before.now }
     requires made { made.now ≡ map made_of (seen declarations.now) }
-    ensures ok { IfOk result (λ envs. TypedOnly (seen declarations.now) (environment envs.0 envs.1)) }
+    ensures ok { IfOk result (λ envs.
+        TypedOnly (seen declarations.now) (environment envs.0 envs.1)) }
     ensures err { IfErr result (λ e. IsUntyped (fault (seen declarations.now)) e) }
 {
     let types = type_env(alloc, declarations, before)?;

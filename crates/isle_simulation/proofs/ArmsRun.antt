@@ -122,7 +122,7 @@ record FieldStands (s : Setting) (u : Around) (known : Known) (part : ℕ → Bi
   found : field_of f.0 rs ≡ Some r
   stands : (b : BindingId) → slice_get s.bindings b.0 ≡ Some (part j) → Stands s.env s.term (at (paths_in s) b) (a_value r) (value_at s.env u.meaning u.args known (at (paths_in s) b))
 
--- the fields fit, and the locals behind them agree
+-- the fields fit, and the locals after them agree
 record PlacesFit (s : Setting) (u : Around) (bound : List ℕ) (known : Known) (locals : Env) (fs : List (List ℕ × TypeId)) (rs : FieldValues) (places : List (Option BindingId)) : Type 0 where
   binds : List TBind
   more : Env

@@ -1,7 +1,7 @@
 -- The statements of a lawful block call what its bindings call.
-use Rattle.std.proofs.Common.{◌≡◌, ⊎_elim, ◌⊎◌, inl, inr, ℕ, List, [], ◌∷◌, ◌++◌, Bool, true, false, Option, Some, None, refl, ap, ◌∙◌, subst, sym}
+use Rattle.std.proofs.Common.{◌≡◌, ⊎_elim, ◌⊎◌, inl, inr, ℕ, List, [], ◌∷◌, ◌++◌, Bool, true, false, cond, Option, Some, None, refl, ap, ◌∙◌, subst, sym}
 use Rattle.std.specs.Prelude.{Contains, slice_get}
-use Rattle.std.proofs.lemmas.List.Elements.{Contains-append_cases}
+use Rattle.std.specs.List.{AllByRecursion}
 use Rattle.isle_core.specs.declared.options.CodegenOptions.{CodegenOptions}
 use Rattle.isle_core.specs.declared.BindingId.{BindingId}
 use Rattle.isle_core.specs.declared.Sym.{Sym}
@@ -15,30 +15,30 @@ use Rattle.isle_core.specs.declared.rule_sets.Binding.TheVariants as binding
 use Rattle.isle_core.specs.declared.rule_sets.Constraint.{Constraint}
 use Rattle.isle_core.specs.declared.rule_sets.Constraint.TheVariants as constraint
 use Rattle.isle_core.specs.declared.values.Callee.{Callee}
-use Rattle.isle_core.specs.ArmPlaces.{bound_within}
-use Rattle.isle_core.specs.Bindable.{bound_by}
-use Rattle.isle_core.specs.Block as block
-use Rattle.isle_core.specs.Block.{Block, Stop, Step, Control}
+use Rattle.isle_core.specs.Block.{Block}
 use Rattle.isle_core.specs.BlockLawful.{IsLawfulBlock}
 use Rattle.isle_core.specs.Calling.{calling, extracting, kind_of}
 use Rattle.isle_core.specs.Form.{Form, form}
 use Rattle.isle_core.specs.Making.{MakesVariant, MakesStruct}
 use Rattle.isle_core.specs.Path.{at}
 use Rattle.isle_core.specs.Rule.{Environment}
-use Rattle.isle_core.specs.Setting.{Setting, setting, paths_in, gives_several}
-use Rattle.isle_core.specs.SingleArms.{HasSingleArms, IsSingle}
+use Rattle.isle_core.specs.Setting.{Setting, setting, paths_in}
+use Rattle.isle_core.specs.SingleArms.{HasSingleArms}
+use Rattle.isle_core.proofs.AllLaws.{all_by, all_each}
 use Rattle.isle_core.proofs.Contained.{contained_cases, none_contained}
 use Rattle.isle_tree.specs.Calls.{expr_calls, own_calls, stmt_calls, body_calls}
-use Rattle.isle_tree.specs.Program.{Body, Done, Then}
+use Rattle.isle_tree.specs.Program.{Body, Done}
 use Rattle.isle_tree.specs.declared.tree.Read.{Read}
 use Rattle.isle_simulation.specs.Completed.{completed}
 use Rattle.isle_simulation.specs.Statements.{callee_of as callee_made_of, made_named, binds_list, local_stmt}
-use Rattle.isle_simulation.specs.TermFunction.{mark_of, tail_body, tail_of, ends_in_return, log_lines}
+use Rattle.isle_simulation.specs.Manner.{bare_manner}
+use Rattle.isle_simulation.specs.TermFunction.{mark_in, tail_body, tail_in, ends_in_return, log_lines}
 use Rattle.isle_simulation.proofs.CompletedReady.{completed_ready}
 use Rattle.isle_simulation.proofs.CompletedRuns.{completed_single}
 use Rattle.isle_simulation.proofs.Made.{callee_made, extractor_made}
-use Rattle.isle_simulation.proofs.Ready.{IsReadyBind, AreReadyBinds, IsReadyFrom, IsReadyControl}
-use Rattle.isle_simulation.proofs.Written.{arm_stmt, block_body, bound_expr, callee_of, call_expr, extraction_expr, control_stmt, lets, made_expr, result_stmt, stop_before, written_read, written_body, logged_function}
+use Rattle.isle_simulation.proofs.MadeStatements.{EachMade, Anything, any_tested, block_holds}
+use Rattle.isle_simulation.proofs.Ready.{IsReadyBind}
+use Rattle.isle_simulation.proofs.Written.{arm_stmt, block_body, bound_expr, bound_stmt, callee_of, call_expr, extraction_expr, made_expr, result_stmt, written_read, written_body, logged_function}
 use Rattle.isle_simulation.proofs.LoggedLaws.{IsOwn, logged_of}
 use Rattle.isle_tree.specs.declared.tree.TExpr.{TExpr}
 use Rattle.isle_simulation.proofs.LocalStmts.{local_by}
@@ -111,67 +111,41 @@ bound_call s bound b o callee e is c = absurd is
 local_calls : (often : Bool) (n : ℕ) (e : TExpr) → stmt_calls (local_stmt often n e) ≡ expr_calls e
 local_calls often n e = local_by (λ st. stmt_calls st ≡ expr_calls e) often n e refl (λ borrow call is. ap expr_calls (sym is))
 
-lets_calls : (s : Setting) (bound : List ℕ) (binds : List BindingId) (more : Body) (callee : Callee) → AreReadyBinds s bound binds → Contains (body_calls (lets s bound binds more)) callee → IsBoundCall s.env s.bindings callee ⊎ Contains (body_calls more) callee
-lets_calls s bound [] more callee h c = inr c
-lets_calls s bound (b ∷ binds) more callee h c =
-    ⊎_elim
-    (λ k. inl (bound_call s bound b (slice_get s.bindings b.0) callee refl h.0 k))
-    (λ k. lets_calls s (bound ++ b.0 ∷ []) binds more callee h.1 k)
-    (Contains-append_cases (expr_calls (bound_expr s bound b (slice_get s.bindings b.0))) (body_calls (lets s (bound ++ b.0 ∷ []) binds more)) callee
-    (subst (λ cs. Contains (cs ++ body_calls (lets s (bound ++ b.0 ∷ []) binds more)) callee) (local_calls (binds_list s b) b.0 (bound_expr s bound b (slice_get s.bindings b.0))) c))
-
-result_calls : (kind : ReturnKind) (callee : Callee) (r : Read) → Contains (stmt_calls (result_stmt kind r)) callee → ⊥
-result_calls return_kind.Plain callee r c = none_contained callee c
-result_calls return_kind.Option callee r c = none_contained callee c
-result_calls return_kind.Iterator callee r c = none_contained callee c
-
-stop_calls : (several : Bool) (c : Control) (after : Body) → body_calls (stop_before several c after) ≡ body_calls after
-stop_calls true (block.Return place result) after = refl
-stop_calls true (block.Match source arms) after = refl
-stop_calls true (block.Equal a b body) after = refl
-stop_calls true (block.Loop result body) after = refl
-stop_calls false c after = refl
-
-arm_calls : (s : Setting) (bound : List ℕ) (source : BindingId) (c : Constraint) (places : List (Option BindingId)) (inside : Body) → stmt_calls (arm_stmt s bound source c places inside) ≡ body_calls inside
-arm_calls s bound source (constraint.ConstBool val) places inside = refl
-arm_calls s bound source (constraint.ConstInt val ty) places inside = refl
-arm_calls s bound source (constraint.ConstPrim val) places inside = refl
-arm_calls s bound source (constraint.Variant ty variant) places inside = refl
-arm_calls s bound source (constraint.Struct ty) places inside = refl
-arm_calls s bound source constraint.Some places inside = refl
-
-mutual
-  pub block_calls : (b : Block) (s : Setting) (bound made : List ℕ) (end : Body) (callee : Callee) → IsReadyFrom s bound made b → HasSingleArms b
-      → Contains (body_calls (block_body s bound b end)) callee → IsBoundCall s.env s.bindings callee ⊎ Contains (body_calls end) callee
-  block_calls Stop s bound made end callee h o c = inr c
-  block_calls (Step binds k more) s bound made end callee h o c =
-      ⊎_elim
-      (λ d. inl d)
-      (λ d. ⊎_elim
-      (λ x. inl (control_calls k s (bound_by bound binds) _ callee h.2 o.0 x))
-      (λ x. block_calls more s (bound_by bound binds) _ end callee h.3 o.1 (subst (λ cs. Contains cs callee) (stop_calls (gives_several s) k (block_body s (bound_by bound binds) more end)) x))
-      (Contains-append_cases (stmt_calls (control_stmt s (bound_by bound binds) k)) (body_calls (stop_before (gives_several s) k (block_body s (bound_by bound binds) more end))) callee d))
-      (lets_calls s bound binds (Then (control_stmt s (bound_by bound binds) k) (stop_before (gives_several s) k (block_body s (bound_by bound binds) more end))) callee h.0 c)
-
-  control_calls : (k : Control) (s : Setting) (bound made : List ℕ) (callee : Callee) → IsReadyControl s bound made k → IsSingle k → Contains (stmt_calls (control_stmt s bound k)) callee → IsBoundCall s.env s.bindings callee
-  control_calls (block.Match source (block.Arm d places body block.NoArm)) s bound made callee h o c =
-      ⊎_elim (λ x. x) (λ x. not_called callee x) (block_calls body s (bound_within bound places) made Done callee h.1.2.2 o (subst (λ xs. Contains xs callee) (arm_calls s bound source d places (block_body s (bound_within bound places) body Done)) c))
-  control_calls (block.Match source (block.Arm d places body (block.Arm e others inside arms))) s bound made callee h o c = absurd o
-  control_calls (block.Match source block.NoArm) s bound made callee h o c = absurd o
-  control_calls (block.Equal x y body) s bound made callee h o c = ⊎_elim (λ z. z) (λ z. not_called callee z) (block_calls body s bound made Done callee h.1 o c)
-  control_calls (block.Loop result body) s bound made callee h o c = ⊎_elim (λ z. z) (λ z. not_called callee z) (block_calls body s (bound ++ result.0 ∷ []) made Done callee h.1 o c)
-  control_calls (block.Return pos result) s bound made callee h o c = absurd (result_calls (kind_of s.term.kind) callee (written_read s bound false result) c)
-
-mark_calls : (mark : Option (Option (List ℕ × List ℕ))) (callee : Callee) → Contains (body_calls (tail_body mark)) callee → ⊥
-mark_calls None callee c = none_contained callee c
-mark_calls (Some mark) callee c = none_contained callee c
-
-tail_calls : (kind : ReturnKind) (name place : List ℕ) (b : Block) (callee : Callee) → Contains (body_calls (tail_of kind name place b)) callee → ⊥
-tail_calls kind name place b callee c = one (ends_in_return b) refl
+-- each statement that emission makes calls what the bindings call
+calls_made : (s : Setting) → EachMade own_calls (IsBoundCall s.env s.bindings) s Anything
+calls_made s = record {
+  bound = bound_calls;
+  result = λ locals result h. result_calls (kind_of s.term.kind) (written_read s locals false result);
+  stop = λ inside. tt;
+  log = λ line. tt;
+  equal = λ locals a b ty inside h k. tt;
+  arm = λ locals source over c places inside h is k w. arm_calls locals source c places inside;
+  loop = λ list item inside. tt;
+}
   where
-    one : (x : Bool) → ends_in_return b ≡ x → ⊥
-    one true e = none_contained callee (rw e at c)
-    one false e = mark_calls (mark_of kind name place) callee (rw e at c)
+    bound_calls : (locals : List ℕ) (b : BindingId) → IsReadyBind s locals (at (paths_in s) b) (slice_get s.bindings b.0) → AllByRecursion (IsBoundCall s.env s.bindings) (stmt_calls (bound_stmt s locals b))
+    bound_calls locals b h =
+        let e = bound_expr s locals b (slice_get s.bindings b.0) in
+        subst (AllByRecursion (IsBoundCall s.env s.bindings)) (sym (local_calls (binds_list s b) b.0 e))
+        (all_by (IsBoundCall s.env s.bindings) (expr_calls e) (λ callee c. bound_call s locals b (slice_get s.bindings b.0) callee refl h c))
+
+    result_calls : (kind : ReturnKind) (r : Read) → AllByRecursion (IsBoundCall s.env s.bindings) (stmt_calls (result_stmt kind r))
+    result_calls return_kind.Plain r = tt
+    result_calls return_kind.Option r = tt
+    result_calls return_kind.Iterator r = tt
+
+    arm_calls : (locals : List ℕ) (source : BindingId) (c : Constraint) (places : List (Option BindingId)) (inside : Body) → AllByRecursion (IsBoundCall s.env s.bindings) (own_calls (arm_stmt s locals source c places inside))
+    arm_calls locals source (constraint.ConstBool val) places inside = tt
+    arm_calls locals source (constraint.ConstInt val ty) places inside = tt
+    arm_calls locals source (constraint.ConstPrim val) places inside = tt
+    arm_calls locals source (constraint.Variant ty variant) places inside = tt
+    arm_calls locals source (constraint.Struct ty) places inside = tt
+    arm_calls locals source constraint.Some places inside = tt
+
+tail_calls : (P : Callee → Type 0) (mark : Option (Option (List ℕ × List ℕ))) (x : Bool) → AllByRecursion P (body_calls (cond x Done (tail_body mark)))
+tail_calls P mark true = tt
+tail_calls P None false = tt
+tail_calls P (Some mark) false = tt
 
 calls_own : IsOwn own_calls
 calls_own = record { if_eq = λ a b x y. refl; if_let = λ pat r x y. refl; arms = λ r x y. refl; loop = λ list item x y. refl; split = λ within x y. refl; log = λ term place. refl }
@@ -181,5 +155,8 @@ pub written_calls : (options : CodegenOptions) (files : Files) (env : Environmen
     → Contains (body_calls (logged_function options files env t bs b).body) callee → IsBoundCall env bs callee
 written_calls options files env t bs b callee h o c =
     let s = setting env t bs in
-    ⊎_elim (λ x. x) (λ x. absurd (tail_calls _ _ _ b callee x)) (block_calls (completed s [] b) s [] [] _ callee (completed_ready s b h) (completed_single s [] b o)
-    (subst (λ cs. Contains cs callee) (logged_of own_calls calls_own (written_body files env t bs b) (log_lines options files s b)) c))
+    let d = completed s [] b in
+    let end = tail_in files env t b in
+    all_each (IsBoundCall env bs) (body_calls (block_body s [] d end)) callee
+    (block_holds own_calls (IsBoundCall env bs) s Anything (calls_made s) bare_manner d [] [] end (completed_ready s b h) (completed_single s [] b o) (any_tested d) (tail_calls (IsBoundCall env bs) (mark_in files env t) (ends_in_return b)))
+    (subst (λ cs. Contains cs callee) (logged_of own_calls calls_own (written_body files env t bs b) (log_lines options files s b)) c)

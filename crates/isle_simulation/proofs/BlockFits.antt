@@ -42,7 +42,7 @@ last_fits return_kind.Option once r = tt
 last_fits return_kind.Iterator once r = absurd once
 
 -- a stop stands where several results are given
-stop_fits : (kind : ReturnKind) (c : Control) (after : Body) → FitsBody kind false after → FitsBody kind false (stop_before (is_several kind) c after)
+stop_fits : (kind : ReturnKind) (c : Control) (after : Body) → FitsBody kind false after → FitsBody kind false (stop_before false (is_several kind) c after)
 stop_fits return_kind.Plain c after h = h
 stop_fits return_kind.Option c after h = h
 stop_fits return_kind.Iterator (block.Return pos result) after h = ((tt, refl), h)
@@ -51,7 +51,7 @@ stop_fits return_kind.Iterator (block.Equal a b body) after h = h
 stop_fits return_kind.Iterator (block.Loop result body) after h = h
 
 -- and in no other function
-no_stop : (kind : ReturnKind) → AnswersOnce kind → (c : Control) (after : Body) → stop_before (is_several kind) c after ≡ after
+no_stop : (kind : ReturnKind) → AnswersOnce kind → (c : Control) (after : Body) → stop_before false (is_several kind) c after ≡ after
 no_stop return_kind.Plain once c after = refl
 no_stop return_kind.Option once c after = refl
 no_stop return_kind.Iterator once c after = absurd once
@@ -114,7 +114,7 @@ mutual
   block_fits : (b : Block) (s : Setting) (bound made : List ℕ) → IsReadyFrom s bound made b → HasSingleArms b → FitsBody (kind_of s.term.kind) false (block_body s bound b Done)
   block_fits Stop s bound made k o = tt
   block_fits (Step binds c more) s bound made k o =
-      lets_fit s bound binds (Then (control_stmt s (bound_by bound binds) c) (stop_before (gives_several s) c (block_body s (bound_by bound binds) more Done))) k.0
+      lets_fit s bound binds (Then (control_stmt s (bound_by bound binds) c) (stop_before false (gives_several s) c (block_body s (bound_by bound binds) more Done))) k.0
       (control_fits c s (bound_by bound binds) _ k.2 o.0, stop_fits (kind_of s.term.kind) c _ (block_fits more s (bound_by bound binds) _ k.3 o.1))
 
   control_fits : (c : Control) (s : Setting) (bound made : List ℕ) → IsReadyControl s bound made c → IsSingle c → FitsStmt (kind_of s.term.kind) false (control_stmt s bound c)
@@ -143,7 +143,7 @@ block_before : (b : Block) (s : Setting) → AnswersOnce (kind_of s.term.kind) �
 block_before Stop s once bound made end k o h = h
 block_before (Step binds c more) s once bound made end k o h =
     let after = block_body s (bound_by bound binds) more end in
-    lets_before s bound binds (Then (control_stmt s (bound_by bound binds) c) (stop_before (gives_several s) c after)) k.0
+    lets_before s bound binds (Then (control_stmt s (bound_by bound binds) c) (stop_before false (gives_several s) c after)) k.0
     (subst (λ x. FitsEnding (kind_of s.term.kind) (Then (control_stmt s (bound_by bound binds) c) x)) (sym (no_stop (kind_of s.term.kind) once c after))
     (fits_more (kind_of s.term.kind) (control_stmt s (bound_by bound binds) c) after (control_fits c s (bound_by bound binds) _ k.2 o.0) (block_before more s once (bound_by bound binds) _ end k.3 o.1 h)))
 
@@ -151,7 +151,7 @@ block_before (Step binds c more) s once bound made end k o h =
 return_last : (b : Block) (s : Setting) → AnswersOnce (kind_of s.term.kind) → (bound made : List ℕ) → IsReadyFrom s bound made b → HasSingleArms b → ends_in_return b ≡ true → FitsEnding (kind_of s.term.kind) (block_body s bound b Done)
 return_last Stop s once bound made k o e = cc
 return_last (Step binds (block.Return pos result) Stop) s once bound made k o e =
-    lets_before s bound binds (Then (control_stmt s (bound_by bound binds) (block.Return pos result)) (stop_before (gives_several s) (block.Return pos result) Done)) k.0
+    lets_before s bound binds (Then (control_stmt s (bound_by bound binds) (block.Return pos result)) (stop_before false (gives_several s) (block.Return pos result) Done)) k.0
     (subst (λ x. FitsEnding (kind_of s.term.kind) (Then (control_stmt s (bound_by bound binds) (block.Return pos result)) x)) (sym (no_stop (kind_of s.term.kind) once (block.Return pos result) Done))
     (last_fits (kind_of s.term.kind) once (written_read s (bound_by bound binds) false result)))
 return_last (Step binds (block.Match source arms) Stop) s once bound made k o e = cc
@@ -159,7 +159,7 @@ return_last (Step binds (block.Equal x y body) Stop) s once bound made k o e = c
 return_last (Step binds (block.Loop result body) Stop) s once bound made k o e = cc
 return_last (Step binds c (Step ds d more)) s once bound made k o e =
     let after = block_body s (bound_by bound binds) (Step ds d more) Done in
-    lets_before s bound binds (Then (control_stmt s (bound_by bound binds) c) (stop_before (gives_several s) c after)) k.0
+    lets_before s bound binds (Then (control_stmt s (bound_by bound binds) c) (stop_before false (gives_several s) c after)) k.0
     (subst (λ x. FitsEnding (kind_of s.term.kind) (Then (control_stmt s (bound_by bound binds) c) x)) (sym (no_stop (kind_of s.term.kind) once c after))
     (fits_more (kind_of s.term.kind) (control_stmt s (bound_by bound binds) c) after (control_fits c s (bound_by bound binds) _ k.2 o.0) (return_last (Step ds d more) s once (bound_by bound binds) _ k.3 o.1 e)))
 

@@ -142,7 +142,7 @@ result_is return_kind.Plain r h = h
 result_is return_kind.Option r h = h
 result_is return_kind.Iterator r h = h
 
-stop_is : (several : Bool) (c : Control) (after : Body) → IsBody after → IsBody (stop_before several c after)
+stop_is : (several : Bool) (c : Control) (after : Body) → IsBody after → IsBody (stop_before false several c after)
 stop_is true (block.Return place result) after h = (tt, h)
 stop_is true (block.Match source arms) after h = h
 stop_is true (block.Equal a b body) after h = h
@@ -220,7 +220,7 @@ mutual
   pub block_is : (b : Block) (s : Setting) (bound made : List ℕ) (end : Body) → HasRustNames s.env → HasCallees s.env → IsReadyFrom s bound made b → HasSingleArms b → IsBody end → IsBody (block_body s bound b end)
   block_is Stop s bound made end names fns k o h = h
   block_is (Step binds c more) s bound made end names fns k o h =
-      lets_are s bound binds (Then (control_stmt s (bound_by bound binds) c) (stop_before (gives_several s) c (block_body s (bound_by bound binds) more end))) names fns k.0
+      lets_are s bound binds (Then (control_stmt s (bound_by bound binds) c) (stop_before false (gives_several s) c (block_body s (bound_by bound binds) more end))) names fns k.0
       (control_is c s (bound_by bound binds) _ names fns k.2 o.0, stop_is (gives_several s) c _ (block_is more s (bound_by bound binds) _ end names fns k.3 o.1 h))
 
   control_is : (c : Control) (s : Setting) (bound made : List ℕ) → HasRustNames s.env → HasCallees s.env → IsReadyControl s bound made c → IsSingle c → IsStmt (control_stmt s bound c)

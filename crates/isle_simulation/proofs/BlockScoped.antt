@@ -136,7 +136,7 @@ result_scoped return_kind.Plain r fns params locals ss e h = (rw e tt, h)
 result_scoped return_kind.Option r fns params locals ss e h = (rw e tt, h)
 result_scoped return_kind.Iterator r fns params locals ss e h = (is_one _ e, h)
 
-stop_scoped : (several : Bool) (c : Control) (fns : Callables) (kind : ReturnKind) (params : ℕ) (locals : Locals) (after : Body) → IsBodyScoped fns kind params locals after → IsBodyScoped fns kind params locals (stop_before several c after)
+stop_scoped : (several : Bool) (c : Control) (fns : Callables) (kind : ReturnKind) (params : ℕ) (locals : Locals) (after : Body) → IsBodyScoped fns kind params locals after → IsBodyScoped fns kind params locals (stop_before false several c after)
 stop_scoped true (block.Return pos result) fns kind params locals after h = (tt, h)
 stop_scoped true (block.Match source arms) fns kind params locals after h = h
 stop_scoped true (block.Equal a b body) fns kind params locals after h = h
@@ -226,8 +226,8 @@ mutual
   block_scoped Stop s bound made locals end names l k o h = h locals
   block_scoped (Step binds c more) s bound made locals end names l k o h =
       let rest = block_body s (bound_by bound binds) more end in
-      lets_scoped s bound locals binds (Then (control_stmt s (bound_by bound binds) c) (stop_before (gives_several s) c rest)) names l k.0
-      (λ after held. control_scoped c s (bound_by bound binds) _ after (stop_before (gives_several s) c rest) names held k.2 o.0
+      lets_scoped s bound locals binds (Then (control_stmt s (bound_by bound binds) c) (stop_before false (gives_several s) c rest)) names l k.0
+      (λ after held. control_scoped c s (bound_by bound binds) _ after (stop_before false (gives_several s) c rest) names held k.2 o.0
       (stop_scoped (gives_several s) c (callables_of s.env) (kind_of s.term.kind) (length s.term.arg_tys) after rest (block_scoped more s (bound_by bound binds) _ after end names held k.3 o.1 h)))
 
   control_scoped : (c : Control) (s : Setting) (bound made : List ℕ) (locals : Locals) (ss : Body) → HasCallees s.env → LocalsHold s bound locals → IsReadyControl s bound made c → IsSingle c

@@ -91,7 +91,7 @@ bind_items s bound b (Some (binding.MakeVariant ty variant fields)) k is = subst
 bind_items s bound b (Some (binding.MakeStruct ty fields)) k is = subst (ItemsAre (IsBoundPath s bound)) (sym is.path) (all_ready_items s bound fields _ k is.parts)
 bind_items s bound b o k is = absurd is
 
--- behind a bind order
+-- after a bind order
 pub binds_closed : (s : Setting) (binds : List BindingId) (bound : List ℕ) → IsClosed s bound → AreReadyBinds s bound binds → IsClosed s (bound_by bound binds)
 binds_closed s [] bound k h = k
 binds_closed s (b ∷ binds) bound k h =

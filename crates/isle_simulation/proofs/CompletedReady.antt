@@ -26,7 +26,7 @@ use Rattle.isle_simulation.proofs.BoundTests.{found}
 use Rattle.isle_simulation.proofs.CompletedRuns.{HasLocal, needed_local, needs_local, step_occurrences, after_control_same, Adds, adds_none, bound_push, adds_both, adds_more, bound_by-append, adds_with, adds_binds, adds_step, adds_within}
 use Rattle.isle_simulation.proofs.Ready.{IsSpelled, IsReadyIn, AreReady, IsMadeReady, IsReadyBind, AreReadyBinds, IsReadyFrom, IsReadyControl, AreReadyArms}
 
--- ---- bind orders behind one another
+-- ---- bind orders after one another
 
 pub ready_append : (s : Setting) (xs ys : List BindingId) (bound : List ℕ) → AreReadyBinds s bound xs → AreReadyBinds s (bound_by bound xs) ys → AreReadyBinds s bound (xs ++ ys)
 ready_append s [] ys bound h k = k
@@ -147,7 +147,7 @@ struct_below : (s : Setting) (b : BindingId) (of : TypeId) (fields : List Bindin
     → AllByRecursion (λ (c : BindingId). c.0 < depth) fields
 struct_below s b of fields ty depth e k lt = all_below (paths_in s) b.0 depth fields lt (subst HasParts (at_before s.bindings b (binding.MakeStruct of fields) e) (typed_parts s.env s.term (at (paths_in s) b) ty k))
 
--- a made value behind its parts
+-- a made value after its parts
 made_ready : (s : Setting) (more : List ℕ) (b : BindingId) (fields es : List BindingId) (tys : List TypeId) → EachReady s more fields tys es → IsReadyBind s (bound_by more es) (at (paths_in s) b) (slice_get s.bindings b.0) → OneReady s more b (es ++ b ∷ [])
 made_ready s more b fields es tys h k = record {
   binds = ready_append s es (b ∷ []) more h.binds (k, tt);

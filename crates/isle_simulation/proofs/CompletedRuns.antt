@@ -20,6 +20,7 @@ use Rattle.isle_core.specs.Setting.{Setting, gives_several, paths_in}
 use Rattle.isle_core.specs.SingleArms.{HasSingleArms, IsSingle}
 use Rattle.isle_core.specs.Value.{Value, Made}
 use Rattle.isle_core.specs.ValueAt.{Held, Known, value_at, meets, equal_held}
+use Rattle.isle_core.proofs.AllLaws.{all_append}
 use Rattle.isle_core.proofs.BindingPaths.{at_before}
 use Rattle.isle_tree.specs.declared.tree.Operand.TheVariants as operand
 use Rattle.isle_simulation.specs.Completed.{local_parts, each_needed, with_parts, needed, needs, read_for, read_by, with_needs, completed_binds, step_binds, completed, completed_control, completed_arms}
@@ -36,10 +37,6 @@ abbrev pub IsLocalPath : Path → Type 0
 IsLocalPath (MadeVariant ty variant ps) = Unit {0}
 IsLocalPath (MadeStruct ty (APath p ps)) = Unit {0}
 IsLocalPath p = ⊥
-
-all_append : (P : BindingId → Type 0) (xs ys : List BindingId) → AllByRecursion P xs → AllByRecursion P ys → AllByRecursion P (xs ++ ys)
-all_append P [] ys h k = k
-all_append P (x ∷ xs) ys h k = (h.0, all_append P xs ys h.1 k)
 
 each_local : (s : Setting) (one : List ℕ → BindingId → List BindingId) → ((bound : List ℕ) (b : BindingId) → AllByRecursion (HasLocal s) (one bound b)) → (bound : List ℕ) (bs : List BindingId) → AllByRecursion (HasLocal s) (each_needed one bound bs)
 each_local s one h bound [] = tt
@@ -103,7 +100,7 @@ module _ (s : Setting) (m : Meaning) (args : List Value) where
   alone_still [] known made h = refl
   alone_still (n ∷ ns) known made h = ap (λ w. then_go w (bind_all s.env m args (paths_in s) ns)) (path_still s.env m args (at (paths_in s) n) known made (local_path s n h.0)) ∙ alone_still ns known made h.1
 
-  -- and behind them
+  -- and after them
   behind_still : (bs ns : List BindingId) (known : Known) (made : List Made) → AllByRecursion (HasLocal s) ns → bind_all s.env m args (paths_in s) (bs ++ ns) known made ≡ bind_all s.env m args (paths_in s) bs known made
   behind_still [] ns known made h = alone_still ns known made h
   behind_still (b ∷ bs) ns known made h = then_same (bind_one s.env m args (at (paths_in s) b) known made) _ (bind_all s.env m args (paths_in s) (bs ++ ns)) (bind_all s.env m args (paths_in s) bs) refl (λ known' made'. behind_still bs ns known' made' h)
@@ -197,7 +194,7 @@ mutual
       after_block_same s more inner (after_control (gives_several s) s.env (paths_in s) (made ++ occurrences s.env (paths_in s) (step_binds s bound bs c)) (completed_control s inner c))
       ∙ ap (λ ks. after_block (gives_several s) s.env (paths_in s) ks more) (after_control_same s c inner (made ++ occurrences s.env (paths_in s) (step_binds s bound bs c)) ∙ ap (λ ks. after_control (gives_several s) s.env (paths_in s) (made ++ ks) c) (step_occurrences s bs c bound))
 
-  -- the same calls may have been bound behind a step
+  -- the same calls may have been bound after a step
   pub after_control_same : (s : Setting) (c : Control) (bound made : List ℕ) → after_control (gives_several s) s.env (paths_in s) made (completed_control s bound c) ≡ after_control (gives_several s) s.env (paths_in s) made c
   after_control_same s (Match source arms) bound made = ap (λ ks. made ++ ks) (after_arms_same s arms bound made)
   after_control_same s (Equal a b body) bound made = ap (λ ks. made ++ ks) (after_block_same s body bound made)
@@ -264,7 +261,7 @@ pub bound_by-append : (xs ys : List BindingId) (bound : List ℕ) → bound_by b
 bound_by-append [] ys bound = refl
 bound_by-append (x ∷ xs) ys bound = bound_by-append xs ys (bound ++ x.0 ∷ [])
 
--- behind a binding with what it needs
+-- after a binding with what it needs
 pub adds_with : (s : Setting) (bound more : List ℕ) (b : BindingId) → Adds s bound more → Adds s (bound ++ b.0 ∷ []) (bound_by more (with_needs s more b))
 adds_with s bound more b a =
     let ns = needs s more (read_for (slice_get s.bindings b.0)) in

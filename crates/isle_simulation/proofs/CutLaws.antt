@@ -24,7 +24,7 @@ cut_within k [] calls le = refl
 cut_within zero (r ∷ rs) calls le = absurd (omega (arith, le))
 cut_within (suc k) (r ∷ rs) calls le = ap (λ (x : List Value × List Made). (r.0 ∷ x.0, x.1)) (cut_within k rs calls (omega (arith, le)))
 
--- what comes behind the last that is kept counts for nothing
+-- what comes after the last that is kept counts for nothing
 pub cut_more : (k : ℕ) (rs more : List (Value × List Made)) (calls others : List Made) → k < length rs → cut_after k (rs ++ more) calls ≡ cut_after k rs others
 cut_more k [] more calls others lt = absurd (omega (arith, lt))
 cut_more zero (r ∷ rs) more calls others lt = refl

@@ -16,12 +16,12 @@ name_contained name (y ∷ xs) x c =
     ⊎_elim (λ (e : y ≡ x). subst (λ z. Contains (name z ∷ map name xs) (name x)) (sym e) (head_contained (name x) (map name xs)))
     (λ d. tail_contained (name y) (map name xs) (name x) (name_contained name xs x d)) (contained_cases y xs x c)
 
--- a name is apart from those behind it
+-- a name is apart from those after it
 name_apart : {A : Type 0} (name : A → List ℕ) (x : A) (xs : List A) (y : A) → IsDistinct bytes_eq (name x ∷ map name xs) → Contains xs y → bytes_eq (name x) (name y) ≡ false
 unfolding IsDistinct
 name_apart name x xs y d c = All-contains (λ n. bytes_eq (name x) n ≡ false) (map name xs) (name y) (All-from_recursion (λ n. bytes_eq (name x) n ≡ false) (map name xs) d.0) (name_contained name xs y c)
 
--- names behind one are distinct
+-- names after one are distinct
 behind_name : (n : List ℕ) (ns : List (List ℕ)) → IsDistinct bytes_eq (n ∷ ns) → IsDistinct bytes_eq ns
 unfolding IsDistinct
 behind_name n ns d = d.1
@@ -43,7 +43,7 @@ found_by_name name (y ∷ xs) x d c = one (contained_cases y xs x c) (found_by_n
     one (inl e) rest = here (bytes_eq (name x) (name y)) refl (subst (λ z. bytes_eq (name x) (name z) ≡ true) (sym e) (nat_list_eq_equiv.refl (name x))) e
     one (inr k) rest = there (bytes_eq (name x) (name y)) refl (nat_list_eq_equiv.symm (name x) (name y) ∙ name_apart name y xs x d k) (rest k)
 
--- ---- items behind one that may be there
+-- ---- items after one that may be there
 
 -- an item more, or none
 pub after_option : {A : Type 0} (o : Option A) (xs : List A) (x : A) → Contains xs x → Contains (cons_option o xs) x
@@ -54,7 +54,7 @@ pub at_option : {A : Type 0} (o : Option A) (xs : List A) (x : A) → o ≡ Some
 at_option None xs x e = cc
 at_option (Some y) xs x e = subst (λ z. Contains (z ∷ xs) x) (sym (same_Some y x e)) (head_contained x xs)
 
--- names behind it are distinct
+-- names after it are distinct
 pub behind_option : {A : Type 0} (name : A → List ℕ) (o : Option A) (xs : List A) → IsDistinct bytes_eq (map name (cons_option o xs)) → IsDistinct bytes_eq (map name xs)
 behind_option name None xs d = d
 behind_option name (Some x) xs d = behind_name (name x) (map name xs) d

@@ -29,7 +29,7 @@ use Rattle.isle_simulation.proofs.ExternalTerms.{fn_contained, extractor_contain
 
 -- ---- names that are apart
 
--- so are those behind one
+-- so are those after one
 pub behind_one : (o : Option TraitFn) (fs : List TraitFn) → IsDistinct bytes_eq (fn_names (cons_option o fs)) → IsDistinct bytes_eq (fn_names fs)
 behind_one o fs d = behind_option (λ (f : TraitFn). f.name) o fs d
 

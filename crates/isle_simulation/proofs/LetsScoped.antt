@@ -354,7 +354,7 @@ let_holds s bound locals b (Some (binding.MakeStruct of fields)) names l is = re
 }
 let_holds s bound locals b o names l is = absurd is
 
--- so the statement is in scope, and its local is bound behind it
+-- so the statement is in scope, and its local is bound after it
 stmt_scoped : (fns : Callables) (of : ReturnKind) (params : ℕ) (locals : Locals) (often : Bool) (n : ℕ) (e : TExpr) → IsSome (stmt_holds fns params locals (local_stmt often n e)) → IsStmtScoped fns of params locals (local_stmt often n e)
 stmt_scoped fns of params locals often n e = local_by (λ st. IsSome (stmt_holds fns params locals st) → IsStmtScoped fns of params locals st) often n e (λ h. h) (λ borrow call is h. h)
 

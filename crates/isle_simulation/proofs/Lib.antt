@@ -28,6 +28,7 @@ pub mod ClosedItems
 pub mod ResultsGiven
 pub mod SeveralSimulation
 pub mod Made
+pub mod MadeStatements
 pub mod Shapes
 pub mod TermNames
 pub mod FoundByName

@@ -34,6 +34,7 @@ use Rattle.isle_simulation.proofs.CompletedReady.{completed_ready}
 use Rattle.isle_simulation.proofs.CompletedRuns.{completed_single}
 use Rattle.isle_simulation.proofs.Ready.{IsReadyFrom, IsReadyControl}
 use Rattle.isle_simulation.specs.Statements.{binds_list, local_stmt, looped_local}
+use Rattle.isle_simulation.specs.Manner.{lined_manner}
 use Rattle.isle_simulation.specs.Telling.{line_before, log_line}
 use Rattle.isle_simulation.proofs.LocalStmts.{local_by}
 use Rattle.isle_simulation.proofs.LoggedLaws.{logged_none}
@@ -113,7 +114,7 @@ result_results return_kind.Plain r = refl
 result_results return_kind.Option r = refl
 result_results return_kind.Iterator r = refl
 
-stop_results : (several : Bool) (c : Control) (after : Body) → of_body own_results (stop_before several c after) ≡ of_body own_results after
+stop_results : (several : Bool) (c : Control) (after : Body) → of_body own_results (stop_before false several c after) ≡ of_body own_results after
 stop_results true (block.Return place result) after = refl
 stop_results true (block.Match source arms) after = refl
 stop_results true (block.Equal a b body) after = refl
@@ -143,7 +144,7 @@ mutual
   block_results block.Stop s bound made end h o = omega arith
   block_results (block.Step binds c more) s bound made end h o =
       let here = of_stmt own_results (control_stmt s (bound_by bound binds) c) in
-      let there = of_body own_results (stop_before (gives_several s) c (block_body s (bound_by bound binds) more end)) in
+      let there = of_body own_results (stop_before false (gives_several s) c (block_body s (bound_by bound binds) more end)) in
       let one : length here ≡ length (control_positions c) = control_results c s (bound_by bound binds) _ h.2 o.0 in
       let others : length there ≡ length (return_positions more) + results_of end = ap length (stop_results (gives_several s) c (block_body s (bound_by bound binds) more end)) ∙ block_results more s (bound_by bound binds) _ end h.3 o.1 in
       let apart : length (control_positions c ++ return_positions more) ≡ length (control_positions c) + length (return_positions more) = length-append (control_positions c) (return_positions more) in
@@ -161,7 +162,7 @@ result_lines return_kind.Plain r = refl
 result_lines return_kind.Option r = refl
 result_lines return_kind.Iterator r = refl
 
-stop_lines : (several : Bool) (c : Control) (after : Body) → lines_of (stop_before several c after) ≡ lines_of after
+stop_lines : (several : Bool) (c : Control) (after : Body) → lines_of (stop_before false several c after) ≡ lines_of after
 stop_lines true (block.Return place result) after = refl
 stop_lines true (block.Match source arms) after = refl
 stop_lines true (block.Equal a b body) after = refl
@@ -190,7 +191,7 @@ mutual
   block_lines block.Stop s bound made end h o = refl
   block_lines (block.Step binds c more) s bound made end h o =
       lets_lines s bound binds _
-      ∙ ap (λ ls. ls ++ lines_of (stop_before (gives_several s) c (block_body s (bound_by bound binds) more end))) (control_lines c s (bound_by bound binds) _ h.2 o.0)
+      ∙ ap (λ ls. ls ++ lines_of (stop_before false (gives_several s) c (block_body s (bound_by bound binds) more end))) (control_lines c s (bound_by bound binds) _ h.2 o.0)
       ∙ stop_lines (gives_several s) c (block_body s (bound_by bound binds) more end)
       ∙ block_lines more s (bound_by bound binds) _ end h.3 o.1
 
@@ -230,7 +231,7 @@ lets_logged lines s bound (b ∷ binds) more =
     ∙ ap (λ n. Then (bound_stmt s bound b) (logged (drop n lines) (lets s (bound ++ b.0 ∷ []) binds more))) (ap length (local_results (binds_list s b) b.0 (bound_expr s bound b (slice_get s.bindings b.0))))
     ∙ ap (Then (bound_stmt s bound b)) (lets_logged lines s (bound ++ b.0 ∷ []) binds more)
 
-stop_logged : (lines : List LogLine) (several : Bool) (c : Control) (after : Body) → stop_before several c (logged lines after) ≡ logged lines (stop_before several c after)
+stop_logged : (lines : List LogLine) (several : Bool) (c : Control) (after : Body) → stop_before false several c (logged lines after) ≡ logged lines (stop_before false several c after)
 stop_logged lines true (block.Return place result) after = refl
 stop_logged lines true (block.Match source arms) after = refl
 stop_logged lines true (block.Equal a b body) after = refl
@@ -257,7 +258,7 @@ parted line ps qs lines = sym (append_assoc (map line ps) (map line qs) lines) �
 mutual
   -- statements with a line before each Return are those with these lines in order
   told_logged : (b : Block) (line : Pos → LogLine) (s : Setting) (bound made : List ℕ) (end : Body) (lines : List LogLine) → IsReadyFrom s bound made b → HasSingleArms b
-      → told_body (Some line) s bound b (logged lines end) ≡ logged (map line (return_positions b) ++ lines) (block_body s bound b end)
+      → told_body (lined_manner line) s bound b (logged lines end) ≡ logged (map line (return_positions b) ++ lines) (block_body s bound b end)
   told_logged block.Stop line s bound made end lines h o = refl
   told_logged (block.Step binds c more) line s bound made end lines h o =
       let now = bound_by bound binds in
@@ -267,14 +268,14 @@ mutual
       let left : drop (results_in (control_stmt s now c)) all ≡ rest =
       ap (λ n. drop n all) (control_results c s now _ h.2 o.0) ∙ drop_lines line (control_positions c) (return_positions more) lines in
       ap (lets s bound binds)
-      (ap (λ x. told_before (Some line) c (Then (told_control (Some line) s now c) (stop_before (gives_several s) c x))) (told_logged more line s now _ end lines h.3 o.1)
-      ∙ ap (λ x. told_before (Some line) c (Then (told_control (Some line) s now c) x)) (stop_logged rest (gives_several s) c after)
-      ∙ control_logged c line s now _ (return_positions more) lines (logged rest (stop_before (gives_several s) c after)) h.2 o.0
-      ∙ ap (λ ls. logged_before all (control_stmt s now c) (logged ls (stop_before (gives_several s) c after))) (sym left))
-      ∙ sym (lets_logged all s bound binds (Then (control_stmt s now c) (stop_before (gives_several s) c after)))
+      (ap (λ x. told_before (Some line) c (Then (told_control (lined_manner line) s now c) (stop_before false (gives_several s) c x))) (told_logged more line s now _ end lines h.3 o.1)
+      ∙ ap (λ x. told_before (Some line) c (Then (told_control (lined_manner line) s now c) x)) (stop_logged rest (gives_several s) c after)
+      ∙ control_logged c line s now _ (return_positions more) lines (logged rest (stop_before false (gives_several s) c after)) h.2 o.0
+      ∙ ap (λ ls. logged_before all (control_stmt s now c) (logged ls (stop_before false (gives_several s) c after))) (sym left))
+      ∙ sym (lets_logged all s bound binds (Then (control_stmt s now c) (stop_before false (gives_several s) c after)))
 
   control_logged : (c : Control) (line : Pos → LogLine) (s : Setting) (bound made : List ℕ) (others : List Pos) (lines : List LogLine) (after : Body) → IsReadyControl s bound made c → IsSingle c
-      → told_before (Some line) c (Then (told_control (Some line) s bound c) after) ≡ logged_before (map line (control_positions c ++ others) ++ lines) (control_stmt s bound c) after
+      → told_before (Some line) c (Then (told_control (lined_manner line) s bound c) after) ≡ logged_before (map line (control_positions c ++ others) ++ lines) (control_stmt s bound c) after
   control_logged (block.Match source (block.Arm c places body block.NoArm)) line s bound made others lines after h o =
       let ps = return_positions body in
       let inside = block_body s (bound_within bound places) body Done in
@@ -330,7 +331,7 @@ written_lines options files env t bs b h o =
     ∙ logging_lines options.emit_logging files s (return_positions b) (results_of (block_body s [] c end)) count
 
 told_by : (logging : Bool) (files : Files) (env : Environment) (t : Term) (bs : List Binding) (b : Block) → IsLawfulBlock (setting env t bs) b → HasSingleArms b
-    → function_with env t (told_body (cond logging (Some (log_line files (setting env t bs))) None) (setting env t bs) [] (completed (setting env t bs) [] b) (tail_in files env t b))
+    → function_with env t (told_body (record { telling = cond logging (Some (log_line files (setting env t bs))) None; inside = false }) (setting env t bs) [] (completed (setting env t bs) [] b) (tail_in files env t b))
     ≡ function_with env t (logged (cond logging (map (log_line files (setting env t bs)) (return_positions b)) []) (written_body files env t bs b))
 told_by true files env t bs b h o =
     let s = setting env t bs in
@@ -338,7 +339,7 @@ told_by true files env t bs b h o =
     let end = tail_in files env t b in
     let line = log_line files s in
     ap (function_with env t)
-    (ap (told_body (Some line) s [] c) (sym (logged_none end)) ∙ told_logged c line s [] [] end [] (completed_ready s b h) (completed_single s [] b o)
+    (ap (told_body (lined_manner line) s [] c) (sym (logged_none end)) ∙ told_logged c line s [] [] end [] (completed_ready s b h) (completed_single s [] b o)
     ∙ ap (λ ls. logged ls (block_body s [] c end)) (append-nil (map line (return_positions c)) ∙ ap (map line) (completed_positions b s [])))
 told_by false files env t bs b h o = ap (function_with env t) (sym (logged_none (written_body files env t bs b)))
 

@@ -46,7 +46,8 @@ use Rattle.isle_simulation.specs.Operands.{constant, in_place, tested, is_bound,
 use Rattle.isle_simulation.specs.Patterns.{some_pattern}
 use Rattle.isle_simulation.specs.References.{is_declared, result_type, is_reference_in, read_as}
 use Rattle.isle_simulation.specs.Statements.{callee_of, read_before, read_in, reads, call_on, call_of, extraction_of, read_of, field_before, field_reads, made_of, made_in, computed, stmt_before, binds_list, let_of, lets, if_eq, if_let, return_of, stop_before, list_local, loop_of, plain_read, told_body, told_control}
-use Rattle.isle_simulation.specs.Telling.{Telling, line_before, told_before, telling_of}
+use Rattle.isle_simulation.specs.Manner.{Manner, manner_of}
+use Rattle.isle_simulation.specs.Telling.{Telling, line_before, told_before}
 use Rattle.isle_simulation.specs.TermFunction.{tail_in, function_with, term_function}
 use Rattle.isle_simulation.proofs.ArmsRun.{arm_pattern}
 use Rattle.isle_simulation.proofs.OneBind.{spelled}
@@ -206,12 +207,12 @@ return_made return_kind.Plain o x e = rw e refl
 return_made return_kind.Option o x e = rw e refl
 return_made return_kind.Iterator o x e = rw e refl
 
-stop_made : (several : Bool) (c : Control) (o : Option Body) (after : Body) → o ≡ Some after → stop_before several c o ≡ Some (written.stop_before several c after)
-stop_made true (block.Return place result) o after e = ap (stmt_before (Some (Overflow false))) e
-stop_made true (block.Match source arms) o after e = e
-stop_made true (block.Equal a b body) o after e = e
-stop_made true (block.Loop result body) o after e = e
-stop_made false c o after e = e
+stop_made : (inside several : Bool) (c : Control) (o : Option Body) (after : Body) → o ≡ Some after → stop_before inside several c o ≡ Some (written.stop_before inside several c after)
+stop_made inside true (block.Return place result) o after e = ap (stmt_before (Some (Overflow inside))) e
+stop_made inside true (block.Match source arms) o after e = e
+stop_made inside true (block.Equal a b body) o after e = e
+stop_made inside true (block.Loop result body) o after e = e
+stop_made inside false c o after e = e
 
 loop_made : (o : Option ℕ) (list item : ℕ) (i : Option Body) (inside : Body) → o ≡ Some list → i ≡ Some inside → loop_of o item i ≡ Some (Loop (written.written_list o) item inside)
 loop_made o list item i inside e f = rw (e, f) refl
@@ -225,41 +226,41 @@ told_made (Some line) (block.Return place result) o after e = ap (option_map (li
 
 mutual
   -- the statements of a lawful block
-  block_made : (telling : Telling) (b : Block) (s : Setting) (bound made : List ℕ) (end : Body) → IsReadyFrom s bound made b → HasSingleArms b → told_body telling s bound b (Some end) ≡ Some (written.told_body telling s bound b end)
-  block_made telling Stop s bound made end k o = refl
-  block_made telling (Step binds c more) s bound made end k o =
+  block_made : (manner : Manner) (b : Block) (s : Setting) (bound made : List ℕ) (end : Body) → IsReadyFrom s bound made b → HasSingleArms b → told_body manner s bound b (Some end) ≡ Some (written.told_body manner s bound b end)
+  block_made manner Stop s bound made end k o = refl
+  block_made manner (Step binds c more) s bound made end k o =
       lets_made s bound binds _ _ k.0
-      (told_made telling c _ _ (before_made _ _ _ _ (control_made telling c s (bound_by bound binds) _ k.2 o.0) (stop_made (gives_several s) c _ _ (block_made telling more s (bound_by bound binds) _ end k.3 o.1))))
+      (told_made manner.telling c _ _ (before_made _ _ _ _ (control_made manner c s (bound_by bound binds) _ k.2 o.0) (stop_made manner.inside (gives_several s) c _ _ (block_made manner more s (bound_by bound binds) _ end k.3 o.1))))
 
-  control_made : (telling : Telling) (c : Control) (s : Setting) (bound made : List ℕ) → IsReadyControl s bound made c → IsSingle c → told_control telling s bound c ≡ Some (written.told_control telling s bound c)
-  control_made telling (block.Match source (Arm (constraint.ConstBool val) places body NoArm)) s bound made k o =
+  control_made : (manner : Manner) (c : Control) (s : Setting) (bound made : List ℕ) → IsReadyControl s bound made c → IsSingle c → told_control manner s bound c ≡ Some (written.told_control manner s bound c)
+  control_made manner (block.Match source (Arm (constraint.ConstBool val) places body NoArm)) s bound made k o =
       let v = over_value s bound source (constraint.ConstBool val) k.1.0 (λ e. cc) k.1.1 k.1.2.0 in
-      test_made _ _ _ _ _ _ (operand_there s bound source v.ty v.ready) (test_there s.env (constraint.ConstBool val) tt) (block_made telling body s (bound_within bound places) made Done k.1.2.2 o)
-  control_made telling (block.Match source (Arm (constraint.ConstInt val of) places body NoArm)) s bound made k o =
+      test_made _ _ _ _ _ _ (operand_there s bound source v.ty v.ready) (test_there s.env (constraint.ConstBool val) tt) (block_made manner body s (bound_within bound places) made Done k.1.2.2 o)
+  control_made manner (block.Match source (Arm (constraint.ConstInt val of) places body NoArm)) s bound made k o =
       let v = over_value s bound source (constraint.ConstInt val of) k.1.0 (λ e. cc) k.1.1 k.1.2.0 in
-      test_made _ _ _ _ _ _ (operand_there s bound source v.ty v.ready) (test_there s.env (constraint.ConstInt val of) tt) (block_made telling body s (bound_within bound places) made Done k.1.2.2 o)
-  control_made telling (block.Match source (Arm (constraint.ConstPrim val) places body NoArm)) s bound made k o =
+      test_made _ _ _ _ _ _ (operand_there s bound source v.ty v.ready) (test_there s.env (constraint.ConstInt val of) tt) (block_made manner body s (bound_within bound places) made Done k.1.2.2 o)
+  control_made manner (block.Match source (Arm (constraint.ConstPrim val) places body NoArm)) s bound made k o =
       let v = over_value s bound source (constraint.ConstPrim val) k.1.0 (λ e. cc) k.1.1 k.1.2.0 in
-      test_made _ _ _ _ _ _ (operand_there s bound source v.ty v.ready) (test_there s.env (constraint.ConstPrim val) tt) (block_made telling body s (bound_within bound places) made Done k.1.2.2 o)
-  control_made telling (block.Match source (Arm (constraint.Variant of variant) places body NoArm)) s bound made k o =
+      test_made _ _ _ _ _ _ (operand_there s bound source v.ty v.ready) (test_there s.env (constraint.ConstPrim val) tt) (block_made manner body s (bound_within bound places) made Done k.1.2.2 o)
+  control_made manner (block.Match source (Arm (constraint.Variant of variant) places body NoArm)) s bound made k o =
       let v = over_value s bound source (constraint.Variant of variant) k.1.0 (λ e. cc) k.1.1 k.1.2.0 in
-      pattern_made _ _ _ _ _ _ (arm_pattern s source v.ty (constraint.Variant of variant) places v.is k.1.2.1 tt).is (read_there s bound true source v.ty v.ready) (block_made telling body s (bound_within bound places) made Done k.1.2.2 o)
-  control_made telling (block.Match source (Arm (constraint.Struct of) places body NoArm)) s bound made k o =
+      pattern_made _ _ _ _ _ _ (arm_pattern s source v.ty (constraint.Variant of variant) places v.is k.1.2.1 tt).is (read_there s bound true source v.ty v.ready) (block_made manner body s (bound_within bound places) made Done k.1.2.2 o)
+  control_made manner (block.Match source (Arm (constraint.Struct of) places body NoArm)) s bound made k o =
       let v = over_value s bound source (constraint.Struct of) k.1.0 (λ e. cc) k.1.1 k.1.2.0 in
-      pattern_made _ _ _ _ _ _ (arm_pattern s source v.ty (constraint.Struct of) places v.is k.1.2.1 tt).is (read_there s bound true source v.ty v.ready) (block_made telling body s (bound_within bound places) made Done k.1.2.2 o)
-  control_made telling (block.Match source (Arm constraint.Some places body NoArm)) s bound made k o =
+      pattern_made _ _ _ _ _ _ (arm_pattern s source v.ty (constraint.Struct of) places v.is k.1.2.1 tt).is (read_there s bound true source v.ty v.ready) (block_made manner body s (bound_within bound places) made Done k.1.2.2 o)
+  control_made manner (block.Match source (Arm constraint.Some places body NoArm)) s bound made k o =
       let v = over_option s bound source k.1.0 k.1.1 k.1.2.0 in
-      pattern_made _ _ _ _ _ _ (some_made places k.1.2.1.0).1 (ap plain_read (option_there s bound source v.0 v.1)) (block_made telling body s (bound_within bound places) made Done k.1.2.2 o)
-  control_made telling (block.Match source (Arm c places body (Arm d others inside arms))) s bound made k o = absurd o
-  control_made telling (block.Match source NoArm) s bound made k o = absurd o
-  control_made telling (block.Equal x y body) s bound made k o =
-      test_made _ _ _ _ _ _ (operand_there s bound x k.0.0 k.0.1) (operand_there s bound y k.0.0 k.0.2) (block_made telling body s bound made Done k.1 o)
-  control_made telling (block.Loop result body) s bound made k o = loop_made _ k.0.source.0 result.0 _ _ (ap list_local k.0.is) (block_made telling body s (bound ++ result.0 ∷ []) made Done k.1 o)
-  control_made telling (block.Return pos result) s bound made k o = return_made (kind_of s.term.kind) _ _ (read_there s bound false result s.term.ret_ty k)
+      pattern_made _ _ _ _ _ _ (some_made places k.1.2.1.0).1 (ap plain_read (option_there s bound source v.0 v.1)) (block_made manner body s (bound_within bound places) made Done k.1.2.2 o)
+  control_made manner (block.Match source (Arm c places body (Arm d others inside arms))) s bound made k o = absurd o
+  control_made manner (block.Match source NoArm) s bound made k o = absurd o
+  control_made manner (block.Equal x y body) s bound made k o =
+      test_made _ _ _ _ _ _ (operand_there s bound x k.0.0 k.0.1) (operand_there s bound y k.0.0 k.0.2) (block_made manner body s bound made Done k.1 o)
+  control_made manner (block.Loop result body) s bound made k o = loop_made _ k.0.source.0 result.0 _ _ (ap list_local k.0.is) (block_made manner body s (bound ++ result.0 ∷ []) made Done k.1 o)
+  control_made manner (block.Return pos result) s bound made k o = return_made (kind_of s.term.kind) _ _ (read_there s bound false result s.term.ret_ty k)
 
 -- ---- functions
 
 pub function_made : (options : CodegenOptions) (files : Files) (env : Environment) (t : Term) (bs : List Binding) (b : Block) → IsLawfulBlock (setting env t bs) b → HasSingleArms b → term_function options files (setting env t bs) b ≡ Some (function_of options files env t bs b)
 function_made options files env t bs b h o =
     let s = setting env t bs in
-    ap (option_map (function_with env t)) (block_made (telling_of options files s) (completed s [] b) s [] [] (tail_in files env t b) (completed_ready s b h) (completed_single s [] b o))
+    ap (option_map (function_with env t)) (block_made (manner_of options files s) (completed s [] b) s [] [] (tail_in files env t b) (completed_ready s b h) (completed_single s [] b o))

@@ -4,12 +4,13 @@ use Rattle.std.specs.Prelude.{nat_le, slice_get}
 use Rattle.std.proofs.lemmas.Bool.{leb-true, leb-false}
 use Rattle.std.proofs.lemmas.List.{length-append, length-map, map-append}
 use Rattle.isle_core.specs.Answered.{Item, item_of}
-use Rattle.isle_core.specs.Cut.{cut_after, room_behind_one}
+use Rattle.isle_core.specs.Cut.{cut_after, room_after_one}
 use Rattle.isle_core.specs.Nameless.{nameless, nameless_made}
 use Rattle.isle_core.specs.Parts.{Given, give}
 use Rattle.isle_core.specs.Path.{Path}
 use Rattle.isle_core.specs.Rule.{Environment}
 use Rattle.isle_core.specs.SeveralRun.{choosing, on_turns}
+use Rattle.isle_core.specs.Space.{Space, room}
 use Rattle.isle_core.specs.Value.{Value, Made, GivesList}
 use Rattle.isle_core.specs.ValueAt.{Known, a_value}
 use Rattle.isle_core.specs.declared.types.ReturnKind.{ReturnKind}
@@ -19,7 +20,7 @@ use Rattle.isle_core.specs.Block as block
 use Rattle.isle_core.specs.Block.{Control}
 use Rattle.isle_tree.specs.declared.tree.Read.{Read}
 use Rattle.isle_tree.specs.Program.{Stmt, Overflow, Body, Done, Then}
-use Rattle.isle_tree.specs.Run.{Around, State, Env, Flow, Goes, Ends, Leaves, Stuck, read_value, then_run, after_scope, run_items, is_full, room, run_stmt, run_body}
+use Rattle.isle_tree.specs.Run.{Around, State, Env, Flow, Goes, Ends, Leaves, Stuck, read_value, then_run, after_scope, run_items, is_full, run_stmt, run_body}
 use Rattle.isle_simulation.specs.TermFunction.{is_return}
 use Rattle.isle_simulation.proofs.CutLaws.{values_in, cut_more, cut_last, Appends, turns_append}
 use Rattle.isle_simulation.proofs.NamelessLaws.{AreSameCalls}
@@ -57,9 +58,9 @@ GivesSo env k L f h = GoesWith env k L f h ⊎ EndsWith env k f h
 abbrev pub AnyLocals : Env → Type 0
 AnyLocals e = Unit {0}
 
--- ---- one behind the other
+-- ---- one after the other
 
--- what follows goes on from there; behind an end nothing more is kept
+-- what follows goes on from there; after an end nothing more is kept
 pub gives_then : (env : Environment) (k : ℕ) (L M : Env → Type 0) (f : Flow) (go : Env → State → Flow) (h l : Given) → GivesSo env k L f h
     → ((after : Env) (given : List Value) (those : List Made) → L after → length h.results ≤ k → IsSoFar env h given those → GivesSo env k M (go after (done given those)) l) → Appends h l → GivesSo env k M (then_run f go) l
 gives_then env k L M f go h l (inl x) next a = subst (λ y. GivesSo env k M (then_run y go) l) (sym x.is) (next x.after x.given x.those x.here x.within x.so)
@@ -76,7 +77,7 @@ gives_then env k L M f go h l (inr x) next a =
       made = x.made ∙ ap (λ (c : List Value × List Made). map nameless_made c.1) (sym cut);
     })
 
--- behind a body stand the outer locals
+-- after a body stand the outer locals
 pub gives_scope : (env : Environment) (k : ℕ) (L : Env → Type 0) (locals : Env) (f : Flow) (h : Given) → GivesSo env k L f h → GivesSo env k (λ e. e ≡ locals) (after_scope locals f) h
 gives_scope env k L locals f h (inl x) = inl (record { within = x.within; after = locals; here = refl; given = x.given; those = x.those; is = ap (after_scope locals) x.is; so = x.so })
 gives_scope env k L locals f h (inr x) = inr (record { past = x.past; given = x.given; those = x.those; is = ap (after_scope locals) x.is; given' = x.given'; made = x.made })
@@ -108,7 +109,7 @@ run_same (Leaves t) a b h = refl
 run_same Stuck a b h = refl
 
 -- a step's statements, and then the others
-pub step_then : (u : Around) (several : Bool) (c : Control) (st : Stmt) (rest : Body) (env : Env) (s : State) → run_body u (Then st (stop_before several c rest)) env s ≡ then_run (run_body u (Then st (stop_before several c Done)) env s) (run_body u rest)
+pub step_then : (u : Around) (several : Bool) (c : Control) (st : Stmt) (rest : Body) (env : Env) (s : State) → run_body u (Then st (stop_before false several c rest)) env s ≡ then_run (run_body u (Then st (stop_before false several c Done)) env s) (run_body u rest)
 step_then u true (block.Return pos result) st rest env s =
     run_same (run_stmt u st env s) _ _ (λ e t. run_assoc (run_stmt u (Overflow false) e t) (run_body u Done) (run_body u rest))
     ∙ run_assoc (run_stmt u st env s) (run_body u (Then (Overflow false) Done)) (run_body u rest)
@@ -125,7 +126,7 @@ alone (Leaves t) = refl
 alone Stuck = refl
 
 -- a step that gives no result has no stop
-pub step_alone : (u : Around) (several : Bool) (c : Control) (st : Stmt) (env : Env) (s : State) → is_return c ≡ false → run_body u (Then st (stop_before several c Done)) env s ≡ run_stmt u st env s
+pub step_alone : (u : Around) (several : Bool) (c : Control) (st : Stmt) (env : Env) (s : State) → is_return c ≡ false → run_body u (Then st (stop_before false several c Done)) env s ≡ run_stmt u st env s
 step_alone u true (block.Return pos result) st env s e = cc
 step_alone u true (block.Match source arms) st env s e = alone (run_stmt u st env s)
 step_alone u true (block.Equal a b body) st env s e = alone (run_stmt u st env s)
@@ -143,14 +144,14 @@ one_more rs given r v calls e f =
     ∙ sym (map-append nameless (values_in rs) (v ∷ [])) ∙ ap (map nameless) (sym (map-append (λ (r : Value × List Made). r.0) rs ((v, calls) ∷ [])))
 
 -- a result is appended, and the function ends where no more fits
-pub result_gives : (env : Environment) (u : Around) (kind : ReturnKind) (several : Bool) (pos : _) (result : _) (q : Read) (r v : Value) (locals : Env) (g : Given) (given : List Value) (those : List Made) → is_several kind ≡ true → several ≡ true → u.limit ≡ Some (room u.meaning)
-    → length g.results ≤ room_behind_one u.meaning → IsSoFar env g given those → read_value u locals q ≡ a_value r → nameless r ≡ nameless v
-    → GivesSo env (room_behind_one u.meaning) (λ e. e ≡ locals) (run_body u (Then (result_stmt kind q) (stop_before several (block.Return pos result) Done)) locals (done given those)) (give v g)
-result_gives env u return_kind.Plain several pos result q r v locals g given those k e limited le so read same = cc
-result_gives env u return_kind.Option several pos result q r v locals g given those k e limited le so read same = cc
-result_gives env u return_kind.Iterator false pos result q r v locals g given those k e limited le so read same = cc
-result_gives env u return_kind.Iterator true pos result q r v locals g given those k e limited le so read same =
-    gives_by env (room_behind_one u.meaning) (λ x. x ≡ locals) _ (stopped (is_full u.limit more)) (give v g) (rw read refl) (one (nat_le (room u.meaning) (length more)) refl)
+pub result_gives : (env : Environment) (u : Around) (space : Space) (kind : ReturnKind) (several : Bool) (pos : _) (result : _) (q : Read) (r v : Value) (locals : Env) (g : Given) (given : List Value) (those : List Made) → is_several kind ≡ true → several ≡ true → u.limit ≡ Some (room space)
+    → length g.results ≤ room_after_one space → IsSoFar env g given those → read_value u locals q ≡ a_value r → nameless r ≡ nameless v
+    → GivesSo env (room_after_one space) (λ e. e ≡ locals) (run_body u (Then (result_stmt kind q) (stop_before false several (block.Return pos result) Done)) locals (done given those)) (give v g)
+result_gives env u space return_kind.Plain several pos result q r v locals g given those k e limited le so read same = cc
+result_gives env u space return_kind.Option several pos result q r v locals g given those k e limited le so read same = cc
+result_gives env u space return_kind.Iterator false pos result q r v locals g given those k e limited le so read same = cc
+result_gives env u space return_kind.Iterator true pos result q r v locals g given those k e limited le so read same =
+    gives_by env (room_after_one space) (λ x. x ≡ locals) _ (stopped (is_full u.limit more)) (give v g) (rw read refl) (one (nat_le (room space) (length more)) refl)
   where
     more : List Value
     more = given ++ r ∷ []
@@ -158,7 +159,7 @@ result_gives env u return_kind.Iterator true pos result q r v locals g given tho
     stopped : Bool → Flow
     stopped full = then_run (cond full (Ends (GivesList more) (done more those)) (Goes locals (done more those))) (run_body u Done)
 
-    full : is_full u.limit more ≡ nat_le (room u.meaning) (length more)
+    full : is_full u.limit more ≡ nat_le (room space) (length more)
     full = ap (λ o. is_full o more) limited
 
     count : length more ≡ length g.results + 1
@@ -170,11 +171,11 @@ result_gives env u return_kind.Iterator true pos result q r v locals g given tho
     like : map nameless more ≡ map nameless (values_in (give v g).results)
     like = one_more g.results given r v g.calls so.given' same
 
-    one : (x : Bool) → nat_le (room u.meaning) (length more) ≡ x → GivesSo env (room_behind_one u.meaning) (λ y. y ≡ locals) (stopped (is_full u.limit more)) (give v g)
+    one : (x : Bool) → nat_le (room space) (length more) ≡ x → GivesSo env (room_after_one space) (λ y. y ≡ locals) (stopped (is_full u.limit more)) (give v g)
     one true is =
-        let fits : room u.meaning ≤ length more = leb-true (room u.meaning) (length more) is in
-        let last : room_behind_one u.meaning ≡ length g.results = omega (arith, fits, count, le) in
-        let cut : cut_after (room_behind_one u.meaning) (give v g).results g.calls ≡ (values_in g.results ++ v ∷ [], g.calls) = ap (λ n. cut_after n (give v g).results g.calls) last ∙ cut_last g.results (v, g.calls) g.calls in
+        let fits : room space ≤ length more = leb-true (room space) (length more) is in
+        let last : room_after_one space ≡ length g.results = omega (arith, fits, count, le) in
+        let cut : cut_after (room_after_one space) (give v g).results g.calls ≡ (values_in g.results ++ v ∷ [], g.calls) = ap (λ n. cut_after n (give v g).results g.calls) last ∙ cut_last g.results (v, g.calls) g.calls in
         inr (record {
           past = omega (arith, last, results);
           given = more;
@@ -184,7 +185,7 @@ result_gives env u return_kind.Iterator true pos result q r v locals g given tho
           made = so.made ∙ ap (λ (c : List Value × List Made). map nameless_made c.1) (sym cut);
         })
     one false is =
-        let fits : length more < room u.meaning = leb-false (room u.meaning) (length more) is in
+        let fits : length more < room space = leb-false (room space) (length more) is in
         inl (record { within = omega (arith, fits, count, results); after = locals; here = refl; given = more; those = those; is = ap stopped (full ∙ is); so = record { given' = like; made = so.made } })
 
 -- ---- items

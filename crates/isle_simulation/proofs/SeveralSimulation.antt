@@ -28,9 +28,10 @@ use Rattle.isle_core.specs.BlockRun.{bind_one, bind_all}
 use Rattle.isle_core.specs.CallRun as went
 use Rattle.isle_core.specs.CallRun.{Went, then_go, take_turn, make_call, make}
 use Rattle.isle_core.specs.ConstraintType.{IsConstraintOf}
-use Rattle.isle_core.specs.Cut.{cut_after, room_behind_one, cut_run}
+use Rattle.isle_core.specs.Cut.{cut_after, room_after_one, cut_run}
 use Rattle.isle_core.specs.HasType.{HaveTypes}
 use Rattle.isle_core.specs.Meaning.{Meaning}
+use Rattle.isle_core.specs.Space.{Space, room}
 use Rattle.isle_core.specs.NamesApart.{ValuesConstants}
 use Rattle.isle_core.specs.Nameless.{nameless, nameless_made, nameless_ran}
 use Rattle.isle_core.specs.Occurrences.{occurrences, after_control}
@@ -52,7 +53,7 @@ use Rattle.isle_tree.specs.declared.tree.Read.{Read}
 use Rattle.isle_tree.specs.declared.tree.Read.TheVariants as read
 use Rattle.isle_tree.specs.declared.tree.TPat.{TPat}
 use Rattle.isle_tree.specs.Program.{IfEq, IfLet, Loop, Body, Done, Then, Function, Program}
-use Rattle.isle_tree.specs.Run.{Around, State, Env, bind, look, value_of, read_value, on_list, fitted, Flow, Goes, Ends, then_run, after_scope, run_items, run_stmt, run_body, ended, nothing_done, around, room, function_run}
+use Rattle.isle_tree.specs.Run.{Around, State, Env, bind, look, value_of, read_value, on_list, fitted, Flow, Goes, Ends, then_run, after_scope, run_items, run_stmt, run_body, ended, nothing_done, around, function_run}
 use Rattle.isle_simulation.specs.Completed.{completed}
 use Rattle.isle_simulation.specs.Emitted.{HasPureExtractors, HasPureConstructors, impure_ran, AreSameRuns, AnswersBindings, RunsAsSeveral}
 use Rattle.isle_core.specs.NewItems.{IsNewItem, HasNewItems, HasNewItemsFrom, ControlNewItems}
@@ -146,7 +147,7 @@ binds_go s m args (b ∷ binds) bound known made several h =
 
 -- ---- what is known
 
--- behind a step no more calls were answered than those that it may have bound
+-- after a step no more calls were answered than those that it may have bound
 only_after : (several : Bool) (env : Environment) (ps : List Path) (made : List ℕ) (c : Control) (known : Known) → several ≡ true → KnowsOnly made known → KnowsOnly (after_control several env ps made c) known
 only_after true env ps made (block.Match source arms) known e only k apart = only k (λ d. apart (Contains-append_left made _ k d))
 only_after true env ps made (block.Equal a b body) known e only k apart = only k (λ d. apart (Contains-append_left made _ k d))
@@ -180,9 +181,9 @@ item_stands env t p tys vs rs g of same typed there = record {
 
 -- ---- blocks
 
-module _ (s : Setting) (u : Around) (g : Grounds s u) (several : gives_several s ≡ true) (limited : u.limit ≡ Some (room u.meaning)) where
+module _ (s : Setting) (u : Around) (space : Space) (g : Grounds s u) (several : gives_several s ≡ true) (limited : u.limit ≡ Some (room space)) where
   abbrev room_left : ℕ
-  room_left = room_behind_one u.meaning
+  room_left = room_after_one space
 
   -- what a block gives from there
   abbrev block_given : Block → Known → Given → Given
@@ -190,7 +191,7 @@ module _ (s : Setting) (u : Around) (g : Grounds s u) (several : gives_several s
 
   -- what a step does, and its stop
   abbrev step_flow : List ℕ → Control → Env → State → Flow
-  step_flow bound c locals st = run_body u (Then (control_stmt s bound c) (stop_before (gives_several s) c Done)) locals st
+  step_flow bound c locals st = run_body u (Then (control_stmt s bound c) (stop_before false (gives_several s) c Done)) locals st
 
   -- an item is chosen of a list that nothing bound holds an item of
   item_agrees : (bound : List ℕ) (result : BindingId) (known : Known) (locals : Env) (place : ℕ) (x : IsNewItem s bound result) (tys : List TypeId) (vss : List (List Value)) (vs rs : List Value) → IsClosed s bound → is_bound bound x.source ≡ true → Agree s u bound known locals
@@ -215,7 +216,7 @@ module _ (s : Setting) (u : Around) (g : Grounds s u) (several : gives_several s
           ∙ ap (chosen_held place) (still x.source there ∙ held)
           ∙ ap item_at (slice_get-map item_of vss place ∙ ap (option_map item_of) here)
 
-  -- a step behind its lets, and the steps after it
+  -- a step after its lets, and the steps after it
   step_gives : (bound : List ℕ) (binds : List BindingId) (c : Control) (more : Block) (locals : Env) (known : Known) (given those : _) (so : Given) (w : Went) → bind_all s.env u.meaning u.args (paths_in s) binds known so.calls ≡ w → DoesGo w → LetsRun s u bound binds known given those locals w
       → ((later : Known) (all behind : List Made) (after : Env) → AreSameCalls s.env behind all → Keeps (occurrences s.env (paths_in s) binds) known later → Agree s u (bound_by bound binds) later after
       → GivesSo s.env room_left (λ e. e ≡ after) (step_flow (bound_by bound binds) c after (done given behind)) (several_control s.env u.meaning u.args (paths_in s) c later (record { results = so.results; calls = all }))
@@ -231,12 +232,12 @@ module _ (s : Setting) (u : Around) (g : Grounds s u) (several : gives_several s
       let h = several_control s.env u.meaning u.args (paths_in s) c later here in
       subst (λ x. GivesSo s.env room_left AnyLocals (run_body u (block_body s bound (Step binds c more) Done) locals (done given those)) (behind_calls x so (λ now l. block_given more now (several_control s.env u.meaning u.args (paths_in s) c now l)))) (sym e)
       (gives_by s.env room_left AnyLocals (run_body u (block_body s bound (Step binds c more) Done) locals (done given those)) (then_run (step_flow inner c is.after (done given is.behind)) (run_body u others)) (block_given more later h)
-      (is.runs (Then stmt (stop_before (gives_several s) c others)) ∙ step_then u (gives_several s) c stmt others is.after (done given is.behind))
+      (is.runs (Then stmt (stop_before false (gives_several s) c others)) ∙ step_then u (gives_several s) c stmt others is.after (done given is.behind))
       (gives_then s.env room_left (λ e. e ≡ is.after) AnyLocals (step_flow inner c is.after (done given is.behind)) (run_body u others) h (block_given more later h) k.0
       (λ after given' those' same le l. subst (λ x. GivesSo s.env room_left AnyLocals (run_body u others x (done given' those')) (block_given more later h)) (sym same) (k.1 h given' those' le l))
       (block_appends more s.env u.meaning u.args (paths_in s) later h)))
 
-  -- two values that are compared, and the body behind that
+  -- two values that are compared, and the body after that
   equal_gives : (a b : Operand) (bound : List ℕ) (body : Block) (locals : Env) (known : Known) (so : Given) (given those : _) (r q : Value) (x : Bool) → value_of u locals a ≡ a_value r → value_of u locals b ≡ a_value q → same_in_run r q ≡ x
       → length so.results ≤ room_left → IsSoFar s.env so given those → GivesSo s.env room_left AnyLocals (run_body u (block_body s bound body Done) locals (done given those)) (block_given body known so)
       → GivesSo s.env room_left (λ e. e ≡ locals) (run_stmt u (IfEq a b (block_body s bound body Done)) locals (done given those)) (cond x (block_given body known so) so)
@@ -419,7 +420,7 @@ module _ (s : Setting) (u : Around) (g : Grounds s u) (several : gives_several s
     control_gives (block.Return pos result) bound made locals known so given those only le l k o n closed a =
         let v = written_reads s u bound known locals false result s.term.ret_ty g a k in
         subst (λ h. GivesSo s.env room_left (λ e. e ≡ locals) (step_flow bound (block.Return pos result) locals (done given those)) (give_held h so)) (sym v.block)
-        (result_gives s.env u (kind_of s.term.kind) (gives_several s) pos result (written_read s bound false result) v.r v.v locals so given those several several limited le l v.run v.same)
+        (result_gives s.env u space (kind_of s.term.kind) (gives_several s) pos result (written_read s bound false result) v.r v.v locals so given those several several limited le l v.run v.same)
 
 -- ---- functions
 
@@ -430,43 +431,43 @@ list_ran env given vs those calls e f =
     ap (λ x. Some (record { end = GivesList x; calls = map nameless_made (impure_calls env those) })) e ∙ ap (λ x. Some (record { end = GivesList (map nameless vs); calls = x })) f
 
 -- the run of statements that give so
-ran_so : (env : Environment) (m : Meaning) (L : Env → Type 0) (f : Flow) (h : Given) → GivesSo env (room_behind_one m) L f h → AreSameRuns env (ended return_kind.Iterator f) (Some (cut_run m h))
-ran_so env m L f h (inl x) =
+ran_so : (env : Environment) (space : Space) (L : Env → Type 0) (f : Flow) (h : Given) → GivesSo env (room_after_one space) L f h → AreSameRuns env (ended return_kind.Iterator f) (Some (cut_run space h))
+ran_so env space L f h (inl x) =
     ap (λ y. option_map (λ (q : Ran). nameless_ran (impure_ran env q)) (ended return_kind.Iterator y)) x.is
     ∙ list_ran env x.given (values_in h.results) x.those h.calls x.so.given' x.so.made
-    ∙ ap (λ (c : List Value × List Made). Some (nameless_ran (record { end = GivesList c.0; calls = c.1 }))) (sym (cut_within (room_behind_one m) h.results h.calls x.within))
-ran_so env m L f h (inr x) =
+    ∙ ap (λ (c : List Value × List Made). Some (nameless_ran (record { end = GivesList c.0; calls = c.1 }))) (sym (cut_within (room_after_one space) h.results h.calls x.within))
+ran_so env space L f h (inr x) =
     ap (λ y. option_map (λ (q : Ran). nameless_ran (impure_ran env q)) (ended return_kind.Iterator y)) x.is
-    ∙ list_ran env x.given (cut_after (room_behind_one m) h.results h.calls).0 x.those (cut_after (room_behind_one m) h.results h.calls).1 x.given' x.made
+    ∙ list_ran env x.given (cut_after (room_after_one space) h.results h.calls).0 x.those (cut_after (room_after_one space) h.results h.calls).1 x.given' x.made
 
 -- of a term that answers several times
-ran_several : (env : Environment) (m : Meaning) (kind : ReturnKind) (name place : List ℕ) (x : Bool) (f : Body → Flow) (h : Given) → is_several kind ≡ true → GivesSo env (room_behind_one m) AnyLocals (f Done) h
-    → AreSameRuns env (ended kind (f (cond x Done (tail_body (mark_of kind name place))))) (Some (cut_run m h))
-ran_several env m return_kind.Iterator name place true f h e x = ran_so env m AnyLocals (f Done) h x
-ran_several env m return_kind.Iterator name place false f h e x = ran_so env m AnyLocals (f Done) h x
-ran_several env m return_kind.Plain name place y f h e x = cc
-ran_several env m return_kind.Option name place y f h e x = cc
+ran_several : (env : Environment) (space : Space) (kind : ReturnKind) (name place : List ℕ) (x : Bool) (f : Body → Flow) (h : Given) → is_several kind ≡ true → GivesSo env (room_after_one space) AnyLocals (f Done) h
+    → AreSameRuns env (ended kind (f (cond x Done (tail_body (mark_of kind name place))))) (Some (cut_run space h))
+ran_several env space return_kind.Iterator name place true f h e x = ran_so env space AnyLocals (f Done) h x
+ran_several env space return_kind.Iterator name place false f h e x = ran_so env space AnyLocals (f Done) h x
+ran_several env space return_kind.Plain name place y f h e x = cc
+ran_several env space return_kind.Option name place y f h e x = cc
 
 -- the statements of a lawful block give what the block gives, in whatever function they stand
 several_flow : (files : Files) (env : Environment) (t : Term) (bs : List Binding) (b : Block) → is_several (kind_of t.kind) ≡ true → HasRustNames env → HasPureExtractors env bs → HasPureConstructors env → IsLawfulBlock (setting env t bs) b → HasSingleArms b → HasNewItems (setting env t bs) b
-    → (p : Program) (args : List Value) (m : Meaning) → HaveTypes env args t.arg_tys → AnswersBindings env m bs → ValuesConstants env m → (f : Function)
-    → AreSameRuns env (ended (kind_of t.kind) (run_body (around p m args (Some (room m)) f) (written_body files env t bs b) [] nothing_done)) (Some (cut_run m (several_outcome env m args (paths_of bs) b)))
-several_flow files env t bs b several names pure pure_made h o n p args m k answers values f =
+    → (p : Program) (args : List Value) (m : Meaning) (space : Space) → HaveTypes env args t.arg_tys → AnswersBindings env m bs → ValuesConstants env m → (f : Function)
+    → AreSameRuns env (ended (kind_of t.kind) (run_body (around p m args (Some (room space)) f) (written_body files env t bs b) [] nothing_done)) (Some (cut_run space (several_outcome env m args (paths_of bs) b)))
+several_flow files env t bs b several names pure pure_made h o n p args m space k answers values f =
     let s = setting env t bs in
-    let u = around p m args (Some (room m)) f in
+    let u = around p m args (Some (room space)) f in
     let grounds : Grounds s u = record { typed = k; answers = answers; constants = values; names = names; pure = pure; pure_made = pure_made } in
     let c = completed s [] b in
-    let r = block_gives s u grounds several refl c [] [] [] nothing_known nothing_given [] [] (λ j apart. refl) (omega arith) (record { given' = refl; made = refl }) (completed_ready s b h) (completed_single s [] b o)
+    let r = block_gives s u space grounds several refl c [] [] [] nothing_known nothing_given [] [] (λ j apart. refl) (omega arith) (record { given' = refl; made = refl }) (completed_ready s b h) (completed_single s [] b o)
     (completed_new b s [] [] (adds_none s []) n) (none_closed s) (none_agree s u nothing_known) in
-    ran_several env m (kind_of t.kind) (sym_text env t.name) (place_in files t.decl_pos) (ends_in_return b) (λ end. run_body u (block_body s [] c end) [] nothing_done) (several_run env m args (paths_of bs) c nothing_known nothing_given) several r
-    ∙ ap (λ x. Some (nameless_ran (cut_run m x))) (several_same s m args b [] nothing_known nothing_given)
+    ran_several env space (kind_of t.kind) (sym_text env t.name) (place_in files t.decl_pos) (ends_in_return b) (λ end. run_body u (block_body s [] c end) [] nothing_done) (several_run env m args (paths_of bs) c nothing_known nothing_given) several r
+    ∙ ap (λ x. Some (nameless_ran (cut_run space x))) (several_same s m args b [] nothing_known nothing_given)
 
 -- so the function of the term, with its log lines
 pub written_several : (options : CodegenOptions) (files : Files) (env : Environment) (t : Term) (bs : List Binding) (b : Block) → is_several (kind_of t.kind) ≡ true → HasRustNames env → HasPureExtractors env bs → HasPureConstructors env → IsLawfulBlock (setting env t bs) b → HasSingleArms b → HasNewItems (setting env t bs) b
     → RunsAsSeveral env t bs b (logged_function options files env t bs b)
-written_several options files env t bs b several names pure pure_made h o n p args m e k answers values =
+written_several options files env t bs b several names pure pure_made h o n p args m space e k answers values =
     let f = logged_function options files env t bs b in
-    let w = around p m args (Some (room m)) f in
-    ap (λ g. option_map (λ (q : Ran). nameless_ran (impure_ran env q)) (function_run p m args g)) e
+    let w = around p m args (Some (room space)) f in
+    ap (λ g. option_map (λ (q : Ran). nameless_ran (impure_ran env q)) (function_run p m space args g)) e
     ∙ ap (λ x. option_map (λ (q : Ran). nameless_ran (impure_ran env q)) (ended (kind_of t.kind) x)) (logged_runs (written_body files env t bs b) (log_lines options files (setting env t bs) b) w [] nothing_done)
-    ∙ several_flow files env t bs b several names pure pure_made h o n p args m k answers values f
+    ∙ several_flow files env t bs b several names pure pure_made h o n p args m space k answers values f

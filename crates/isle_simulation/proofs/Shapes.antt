@@ -72,7 +72,7 @@ arm_tested s bound b c places p r h = subst (λ o. IsTestedBy s bound b (written
 some_tested : (s : Setting) (bound : List ℕ) (b : BindingId) (o : Option TPat) (local : Option ℕ) (r : Read) → o ≡ Some (pattern.Some local) → plain_read (operand_of s.env s.bindings bound b) ≡ Some r → IsTestedBy s bound b (written_pattern o) r
 some_tested s bound b o local r e h = subst (λ x. IsTestedBy s bound b (written_pattern x) r) (sym e) h
 
--- a statement and others do what a step does, and the steps behind it
+-- a statement and others do what a step does, and the steps after it
 abbrev AreResultSteps : Setting → List ℕ → Body → Control → Block → Type 0
 AreResultSteps s bound (Then st ss) c more = DoesControl s bound st c × AreSteps s bound ss more
 AreResultSteps s bound Done c more = ⊥
@@ -87,7 +87,7 @@ result_shape s bound return_kind.Plain e pos b r after more h k = (subst (λ x. 
 result_shape s bound return_kind.Option e pos b r after more h k = (subst (λ x. IsResultOf s bound x b (expr.Some r)) (sym e) h, k)
 result_shape s bound return_kind.Iterator e pos b r after more h k = (subst (λ x. IsGivenOf s bound x b r) (sym e) h, k)
 
-stop_bare : (several : Bool) (c : Control) (after : Body) → bare (stop_before several c after) ≡ bare after
+stop_bare : (several : Bool) (c : Control) (after : Body) → bare (stop_before false several c after) ≡ bare after
 stop_bare true (block.Return place result) after = refl
 stop_bare true (block.Match source arms) after = refl
 stop_bare true (block.Equal a b body) after = refl
@@ -119,7 +119,7 @@ mutual
       let inner = bound_by more bs in
       let after = adds_step s binds c bound more a in
       let body = block_body s inner (completed s inner rest) end in
-      subst (λ x. AreSteps s bound x (Step binds c rest)) (sym (lets_bare s more bs (Then (control_stmt s inner (completed_control s inner c)) (stop_before (gives_several s) (completed_control s inner c) body)) ∙ ap (bare_before (control_stmt s inner (completed_control s inner c))) (stop_bare (gives_several s) (completed_control s inner c) body)))
+      subst (λ x. AreSteps s bound x (Step binds c rest)) (sym (lets_bare s more bs (Then (control_stmt s inner (completed_control s inner c)) (stop_before false (gives_several s) (completed_control s inner c) body)) ∙ ap (bare_before (control_stmt s inner (completed_control s inner c))) (stop_bare (gives_several s) (completed_control s inner c) body)))
       (control_shape c rest s bound binds (bound_by bound binds) inner _ (bare body) refl after k.2 o.0 (block_shape rest s (bound_by bound binds) inner _ end after k.3 o.1 e))
 
   control_shape : (c : Control) (rest : Block) (s : Setting) (outer : List ℕ) (binds : List BindingId) (bound more made : List ℕ) (after : Body) → bound_by outer binds ≡ bound → Adds s bound more
@@ -155,7 +155,7 @@ mutual
   control_shape (block.Return pos result) rest s outer binds bound more made after e a k o h =
       result_steps s outer binds bound _ (block.Return pos result) rest e (result_shape s bound (kind_of s.term.kind) refl pos result (written_read s more false result) after rest (read_shape s bound more false result s.term.ret_ty a k) h)
 
--- what stands behind the steps has no step
+-- what stands after the steps has no step
 mark_bare : (mark : Option (Option (List ℕ × List ℕ))) → bare (tail_body mark) ≡ Done
 mark_bare None = refl
 mark_bare (Some mark) = refl

@@ -18,6 +18,7 @@ use Rattle.isle_core.specs.ConstraintType.{IsConstraintOf}
 use Rattle.isle_core.specs.Value.{Value, Made, Ran, Gives, GivesSome, GivesNone, IsUnreachable}
 use Rattle.isle_core.specs.SameInRun.{same_in_run}
 use Rattle.isle_core.specs.Meaning.{Meaning}
+use Rattle.isle_core.specs.Space.{room}
 use Rattle.isle_core.specs.Nameless.{nameless, nameless_made, nameless_end, nameless_ran}
 use Rattle.isle_core.specs.Outcome.{Result, Value', Failure, Unmatched, Prescription}
 use Rattle.isle_core.specs.Path.{at, paths_of}
@@ -43,7 +44,7 @@ use Rattle.isle_tree.specs.declared.tree.Read.{Read}
 use Rattle.isle_tree.specs.declared.tree.Read.TheVariants as read
 use Rattle.isle_tree.specs.declared.tree.TPat.{TPat}
 use Rattle.isle_tree.specs.Program.{IfEq, IfLet, Body, Done, Then, Function, Program}
-use Rattle.isle_tree.specs.Run.{Around, Env, value_of, read_value, fitted, Flow, Goes, then_run, after_scope, run_stmt, run_body, ended, nothing_done, around, room, function_run}
+use Rattle.isle_tree.specs.Run.{Around, Env, value_of, read_value, fitted, Flow, Goes, then_run, after_scope, run_stmt, run_body, ended, nothing_done, around, function_run}
 use Rattle.isle_simulation.specs.Completed.{completed}
 use Rattle.isle_simulation.specs.Patterns.{pattern_of}
 use Rattle.isle_simulation.specs.TermFunction.{ends_in_return, mark_of, tail_body, log_lines}
@@ -97,13 +98,13 @@ does_by : (env : Environment) (kind : ReturnKind) (locals : Env) (f h : Flow) (w
 does_by env kind locals f h (went.Goes later calls) e r = record { those = r.those; is = e ∙ r.is; same = r.same }
 does_by env kind locals f h (went.Ends o) e r = ends_as_well [] env kind f h o e r
 
--- behind a body stand the outer locals
+-- after a body stand the outer locals
 scope_does : (env : Environment) (kind : ReturnKind) (u : Around) (locals : Env) (f : Body → Flow) (w : Went) → RunsSo env kind u f w → DoesSo env kind locals (after_scope locals (f Done)) w
 scope_does env kind u locals f (went.Goes later calls) r = record { those = r.those; is = ap (after_scope locals) (r.is Done); same = r.same }
 scope_does env kind u locals f (went.Ends o) r = let e = r Done in record { end = e.end; those = e.those; is = ap (after_scope locals) e.is; same = e.same; calls = e.calls }
 
 -- no stop stands where one result is given
-no_stop : (several : Bool) → several ≡ false → (c : Control) (after : Body) → stop_before several c after ≡ after
+no_stop : (several : Bool) → several ≡ false → (c : Control) (after : Body) → stop_before false several c after ≡ after
 no_stop false e c after = refl
 no_stop true e c after = cc
 
@@ -156,7 +157,7 @@ module _ (s : Setting) (u : Around) (g : Grounds s u) (few : gives_several s ≡
       → Runs bound made (Step binds c more) locals known calls those
   step_runs bound made binds c more locals known calls those (went.Ends o) e new is rest = record {
     runs = subst (λ x. RunsSo s.env (kind_of s.term.kind) u (λ end. run_body u (block_body s bound (Step binds c more) end) locals (done [] those)) (then_go (then_go x (control_run s.env u.meaning u.args (paths_in s) c)) (block_run s.env u.meaning u.args (paths_in s) more))) (sym e)
-        (λ end. is (Then (control_stmt s (bound_by bound binds) c) (stop_before (gives_several s) c (block_body s (bound_by bound binds) more end))));
+        (λ end. is (Then (control_stmt s (bound_by bound binds) c) (stop_before false (gives_several s) c (block_body s (bound_by bound binds) more end))));
     goes = subst (λ x. WentOn known (after_block (gives_several s) s.env (paths_in s) made (Step binds c more)) (then_go (then_go x (control_run s.env u.meaning u.args (paths_in s) c)) (block_run s.env u.meaning u.args (paths_in s) more))) (sym e) tt;
   }
   step_runs bound made binds c more locals known calls those (went.Goes later all) e new is rest =
@@ -169,13 +170,13 @@ module _ (s : Setting) (u : Around) (g : Grounds s u) (few : gives_several s ≡
       record {
         runs = subst (λ x. RunsSo s.env (kind_of s.term.kind) u (λ end. run_body u (block_body s bound (Step binds c more) end) locals (done [] those)) (then_go (then_go x (control_run s.env u.meaning u.args ps c)) (block_run s.env u.meaning u.args ps more))) (sym e)
             (runs_by s.env (kind_of s.term.kind) u (λ end. run_body u (block_body s bound (Step binds c more) end) locals (done [] those)) (λ end. then_run f (run_body u (block_body s (bound_by bound binds) more end))) (then_go w (block_run s.env u.meaning u.args ps more))
-            (λ end. is.runs (Then (control_stmt s (bound_by bound binds) c) (stop_before (gives_several s) c (block_body s (bound_by bound binds) more end)))
+            (λ end. is.runs (Then (control_stmt s (bound_by bound binds) c) (stop_before false (gives_several s) c (block_body s (bound_by bound binds) more end)))
             ∙ ap (λ x. then_run f (run_body u x)) (no_stop (gives_several s) few c (block_body s (bound_by bound binds) more end))) r.runs);
         goes = subst (λ x. WentOn known (after_block (gives_several s) s.env ps made (Step binds c more)) (then_go (then_go x (control_run s.env u.meaning u.args ps c)) (block_run s.env u.meaning u.args ps more))) (sym e)
             (goes_twice known later (after_block (gives_several s) s.env ps made (Step binds c more)) (then_go w (block_run s.env u.meaning u.args ps more)) (kept_grows ks known later new is.keeps) r.goes);
       }
 
-  -- two values that are compared, and the body behind that
+  -- two values that are compared, and the body after that
   equal_does : (a b : Operand) (bound made more : List ℕ) (body : Block) (locals : Env) (known : Known) (calls those : List Made) (r q : Value) (x : Bool) → value_of u locals a ≡ a_value r → value_of u locals b ≡ a_value q → same_in_run r q ≡ x
       → KnowsOnly made known → AreSameCalls s.env those calls → Runs bound made body locals known calls those
       → WentOn known (made ++ more) (block_run s.env u.meaning u.args (paths_in s) body known calls)
@@ -342,7 +343,7 @@ ran_same : (env : Environment) (kind : ReturnKind) (f : Flow) (o : Prescription)
 ran_same env kind f o e =
     ap (λ x. option_map (λ (q : Ran). nameless_ran (impure_ran env q)) (ended kind x)) e.is ∙ ap (λ x. Some (record { end = x; calls = map nameless_made (impure_calls env e.those) })) e.same ∙ ap (λ x. Some (record { end = nameless_end (end_of kind o.result); calls = x })) e.calls
 
--- behind a block that goes on stands the tail of its kind
+-- after a block that goes on stands the tail of its kind
 tail_runs : (env : Environment) (u : Around) (kind : ReturnKind) → AnswersOnce kind → (x : Bool) (name place : List ℕ) (f : Body → Flow) (w : Went) → (x ≡ true → (o : Prescription) × (w ≡ went.Ends o)) → RunsSo env kind u f w
     → AreSameRuns env (ended kind (f (cond x Done (tail_body (mark_of kind name place))))) (Some (ran_with (gave kind w).calls (end_of kind (gave kind w).result)))
 tail_runs env u kind once x name place f (went.Ends o) h r = ran_same env kind (f (cond x Done (tail_body (mark_of kind name place)))) o (r (cond x Done (tail_body (mark_of kind name place))))
@@ -389,9 +390,9 @@ written_flow files env t bs b once names pure pure_made h o p args m k answers v
 -- so the function of a term, with its log lines
 pub written_runs : (options : CodegenOptions) (files : Files) (env : Environment) (t : Term) (bs : List Binding) (b : Block) → AnswersOnce (kind_of t.kind) → HasRustNames env → HasPureExtractors env bs → HasPureConstructors env → IsLawfulBlock (setting env t bs) b → HasSingleArms b
     → RunsAsBlock env t bs b (logged_function options files env t bs b)
-written_runs options files env t bs b once names pure pure_made h o p args m e k answers values =
+written_runs options files env t bs b once names pure pure_made h o p args m space e k answers values =
     let f = logged_function options files env t bs b in
-    let w = around p m args (Some (room m)) f in
-    ap (λ g. option_map (λ (q : Ran). nameless_ran (impure_ran env q)) (function_run p m args g)) e
+    let w = around p m args (Some (room space)) f in
+    ap (λ g. option_map (λ (q : Ran). nameless_ran (impure_ran env q)) (function_run p m space args g)) e
     ∙ ap (λ x. option_map (λ (q : Ran). nameless_ran (impure_ran env q)) (ended (kind_of t.kind) x)) (logged_runs (written_body files env t bs b) (log_lines options files (setting env t bs) b) w [] nothing_done)
-    ∙ written_flow files env t bs b once names pure pure_made h o p args m k answers values (Some (room m)) f
+    ∙ written_flow files env t bs b once names pure pure_made h o p args m k answers values (Some (room space)) f

@@ -12,76 +12,54 @@ use Rattle.isle_core.specs.declared.types.ReturnKind.{ReturnKind}
 use Rattle.isle_core.specs.declared.types.ReturnKind.TheVariants as return_kind
 use Rattle.isle_core.specs.declared.types.Term.{Term}
 use Rattle.isle_core.specs.Calling.{kind_of}
-use Rattle.isle_core.specs.ArmPlaces.{bound_within}
-use Rattle.isle_core.specs.Block as block
-use Rattle.isle_core.specs.Block.{Block, Control}
-use Rattle.isle_core.specs.Bindable.{bound_by}
+use Rattle.isle_core.specs.Block.{Block}
 use Rattle.isle_core.specs.BlockLawful.{IsLawfulBlock}
 use Rattle.isle_core.specs.Rule.{Environment}
-use Rattle.isle_core.specs.Setting.{Setting, setting, gives_several}
-use Rattle.isle_core.specs.SingleArms.{HasSingleArms, IsSingle}
+use Rattle.isle_core.specs.Setting.{Setting, setting}
+use Rattle.isle_core.specs.SingleArms.{HasSingleArms}
 use Rattle.isle_tree.specs.Program.{Body, Done}
 use Rattle.isle_tree.specs.declared.tree.Read.{Read}
 use Rattle.isle_tree.specs.declared.tree.TExpr.{TExpr}
 use Rattle.isle_tree.specs.Walk.{of_stmt}
 use Rattle.isle_simulation.specs.Completed.{completed}
+use Rattle.isle_simulation.specs.Manner.{bare_manner}
 use Rattle.isle_simulation.specs.OfTerm.{own_marks, marks, IsOfTerm}
 use Rattle.isle_simulation.specs.TermFunction.{ends_in_return, mark_in, tail_body, tail_in, log_lines}
 use Rattle.isle_simulation.proofs.CompletedReady.{completed_ready}
 use Rattle.isle_simulation.proofs.CompletedRuns.{completed_single}
-use Rattle.isle_simulation.proofs.Ready.{IsReadyFrom, IsReadyControl}
-use Rattle.isle_simulation.proofs.Written.{arm_stmt, block_body, bound_expr, control_stmt, lets, result_stmt, stop_before, written_body, written_read, logged_function}
+use Rattle.isle_simulation.proofs.MadeStatements.{EachMade, Anything, any_tested, block_holds}
+use Rattle.isle_simulation.proofs.Written.{arm_stmt, bound_expr, result_stmt, written_body, written_read, logged_function}
 use Rattle.isle_simulation.proofs.LocalStmts.{local_by}
 use Rattle.isle_simulation.specs.Statements.{binds_list, local_stmt}
 use Rattle.isle_simulation.proofs.LoggedLaws.{IsOwn, logged_of}
 
-local_marks : (often : Bool) (n : ℕ) (e : TExpr) → of_stmt own_marks (local_stmt often n e) ≡ []
-local_marks often n e = local_by (λ st. of_stmt own_marks st ≡ []) often n e refl (λ borrow call is. refl)
+local_marks : (P : Option (List ℕ × List ℕ) → Type 0) (often : Bool) (n : ℕ) (e : TExpr) → AllByRecursion P (of_stmt own_marks (local_stmt often n e))
+local_marks P often n e = local_by (λ st. AllByRecursion P (of_stmt own_marks st)) often n e tt (λ borrow call is. tt)
 
--- lets have no mark
-lets_marks : (s : Setting) (bound : List ℕ) (binds : List BindingId) (more : Body) → marks (lets s bound binds more) ≡ marks more
-lets_marks s bound [] more = refl
-lets_marks s bound (b ∷ binds) more = ap (λ ms. ms ++ marks (lets s (bound ++ b.0 ∷ []) binds more)) (local_marks (binds_list s b) b.0 (bound_expr s bound b (slice_get s.bindings b.0))) ∙ lets_marks s (bound ++ b.0 ∷ []) binds more
+result_marks : (P : Option (List ℕ × List ℕ) → Type 0) (kind : ReturnKind) (r : Read) → AllByRecursion P (of_stmt own_marks (result_stmt kind r))
+result_marks P return_kind.Plain r = tt
+result_marks P return_kind.Option r = tt
+result_marks P return_kind.Iterator r = tt
 
-result_marks : (kind : ReturnKind) (r : Read) → of_stmt own_marks (result_stmt kind r) ≡ []
-result_marks return_kind.Plain r = refl
-result_marks return_kind.Option r = refl
-result_marks return_kind.Iterator r = refl
+arm_marks : (P : Option (List ℕ × List ℕ) → Type 0) (s : Setting) (locals : List ℕ) (source : BindingId) (c : Constraint) (places : List (Option BindingId)) (inside : Body) → AllByRecursion P (own_marks (arm_stmt s locals source c places inside))
+arm_marks P s locals source (constraint.ConstBool val) places inside = tt
+arm_marks P s locals source (constraint.ConstInt val ty) places inside = tt
+arm_marks P s locals source (constraint.ConstPrim val) places inside = tt
+arm_marks P s locals source (constraint.Variant ty variant) places inside = tt
+arm_marks P s locals source (constraint.Struct ty) places inside = tt
+arm_marks P s locals source constraint.Some places inside = tt
 
-stop_marks : (several : Bool) (c : Control) (after : Body) → marks (stop_before several c after) ≡ marks after
-stop_marks true (block.Return place result) after = refl
-stop_marks true (block.Match source arms) after = refl
-stop_marks true (block.Equal a b body) after = refl
-stop_marks true (block.Loop result body) after = refl
-stop_marks false c after = refl
-
-arm_marks : (s : Setting) (bound : List ℕ) (source : BindingId) (c : Constraint) (places : List (Option BindingId)) (inside : Body) → of_stmt own_marks (arm_stmt s bound source c places inside) ≡ marks inside
-arm_marks s bound source (constraint.ConstBool val) places inside = refl
-arm_marks s bound source (constraint.ConstInt val ty) places inside = refl
-arm_marks s bound source (constraint.ConstPrim val) places inside = refl
-arm_marks s bound source (constraint.Variant ty variant) places inside = refl
-arm_marks s bound source (constraint.Struct ty) places inside = refl
-arm_marks s bound source constraint.Some places inside = refl
-
-mutual
-  -- and what a step does has none
-  control_marks : (c : Control) (s : Setting) (bound made : List ℕ) → IsReadyControl s bound made c → IsSingle c → of_stmt own_marks (control_stmt s bound c) ≡ []
-  control_marks (block.Match source (block.Arm c places body block.NoArm)) s bound made h o =
-      arm_marks s bound source c places (block_body s (bound_within bound places) body Done) ∙ block_marks body s (bound_within bound places) made Done h.1.2.2 o
-  control_marks (block.Match source (block.Arm c places body (block.Arm d others inside arms))) s bound made h o = absurd o
-  control_marks (block.Match source block.NoArm) s bound made h o = absurd o
-  control_marks (block.Equal a b body) s bound made h o = block_marks body s bound made Done h.1 o
-  control_marks (block.Loop result body) s bound made h o = block_marks body s (bound ++ result.0 ∷ []) made Done h.1 o
-  control_marks (block.Return pos result) s bound made h o = result_marks (kind_of s.term.kind) (written_read s bound false result)
-
-  -- so those of a block are those of what follows
-  block_marks : (b : Block) (s : Setting) (bound made : List ℕ) (end : Body) → IsReadyFrom s bound made b → HasSingleArms b → marks (block_body s bound b end) ≡ marks end
-  block_marks block.Stop s bound made end h o = refl
-  block_marks (block.Step binds c more) s bound made end h o =
-      lets_marks s bound binds _
-      ∙ ap (λ ms. ms ++ marks (stop_before (gives_several s) c (block_body s (bound_by bound binds) more end))) (control_marks c s (bound_by bound binds) _ h.2 o.0)
-      ∙ stop_marks (gives_several s) c (block_body s (bound_by bound binds) more end)
-      ∙ block_marks more s (bound_by bound binds) _ end h.3 o.1
+-- no statement of a block has a mark
+marks_made : (P : Option (List ℕ × List ℕ) → Type 0) (s : Setting) → EachMade own_marks P s Anything
+marks_made P s = record {
+  bound = λ locals b h. local_marks P (binds_list s b) b.0 (bound_expr s locals b (slice_get s.bindings b.0));
+  result = λ locals result h. result_marks P (kind_of s.term.kind) (written_read s locals false result);
+  stop = λ inside. tt;
+  log = λ line. tt;
+  equal = λ locals a b ty inside h k. tt;
+  arm = λ locals source over c places inside h is k w. arm_marks P s locals source c places inside;
+  loop = λ list item inside. tt;
+}
 
 tail_marks : (mark : Option (Option (List ℕ × List ℕ))) (x : Bool) → AllByRecursion (λ (m : Option (List ℕ × List ℕ)). Some m ≡ mark) (marks (cond x Done (tail_body mark)))
 tail_marks mark true = tt
@@ -95,13 +73,15 @@ marks_own = record { if_eq = λ a b x y. refl; if_let = λ pat r x y. refl; arms
 pub written_of_term : (options : CodegenOptions) (files : Files) (env : Environment) (t : Term) (bs : List Binding) (b : Block) → IsLawfulBlock (setting env t bs) b → HasSingleArms b → IsOfTerm files env t (logged_function options files env t bs b)
 written_of_term options files env t bs b h o =
     let s = setting env t bs in
+    let d = completed s [] b in
+    let end = tail_in files env t b in
+    let So : Option (List ℕ × List ℕ) → Type 0 = λ m. Some m ≡ mark_in files env t in
     record {
       name = refl;
       params = refl;
       result = refl;
       kind = refl;
       tails =
-          subst (AllByRecursion (λ (m : Option (List ℕ × List ℕ)). Some m ≡ mark_in files env t))
-          (sym (logged_of own_marks marks_own (written_body files env t bs b) (log_lines options files s b) ∙ block_marks (completed s [] b) s [] [] (tail_in files env t b) (completed_ready s b h) (completed_single s [] b o)))
-          (tail_marks (mark_in files env t) (ends_in_return b));
+          subst (AllByRecursion So) (sym (logged_of own_marks marks_own (written_body files env t bs b) (log_lines options files s b)))
+          (block_holds own_marks So s Anything (marks_made So s) bare_manner d [] [] end (completed_ready s b h) (completed_single s [] b o) (any_tested d) (tail_marks (mark_in files env t) (ends_in_return b)));
     }

@@ -42,7 +42,8 @@ use Rattle.isle_simulation.specs.Operands.{in_place, tested, operand_of}
 use Rattle.isle_simulation.specs.Patterns.{pattern_of}
 use Rattle.isle_simulation.specs.References.{is_declared, result_type, is_reference_in, read_as}
 use Rattle.isle_simulation.specs.Statements.{made_of, local_stmt, binds_list, looped_local}
-use Rattle.isle_simulation.specs.Telling.{Telling, line_before, telling_of}
+use Rattle.isle_simulation.specs.Manner.{Manner, bare_manner, manner_of, arm_manner}
+use Rattle.isle_simulation.specs.Telling.{Telling, line_before}
 use Rattle.isle_simulation.specs.TermFunction.{tail_in, function_with, log_lines}
 use Rattle.isle_simulation.proofs.Logged.{logged}
 
@@ -120,12 +121,12 @@ result_stmt return_kind.Plain r = Return (expr.Read r)
 result_stmt return_kind.Option r = Return (expr.Some r)
 result_stmt return_kind.Iterator r = Extend r
 
-abbrev pub stop_before : (several : Bool) → Control → Body → Body
-stop_before true (block.Return place result) after = Then (Overflow false) after
-stop_before true (block.Match source arms) after = after
-stop_before true (block.Equal a b body) after = after
-stop_before true (block.Loop result body) after = after
-stop_before false c after = after
+abbrev pub stop_before : (inside several : Bool) → Control → Body → Body
+stop_before inside true (block.Return place result) after = Then (Overflow inside) after
+stop_before inside true (block.Match source arms) after = after
+stop_before inside true (block.Equal a b body) after = after
+stop_before inside true (block.Loop result body) after = after
+stop_before inside false c after = after
 
 abbrev pub written_list : Option ℕ → ℕ
 written_list (Some list) = list
@@ -144,27 +145,30 @@ told_before (Some line) (block.Equal a b body) after = after
 told_before (Some line) (block.Loop result body) after = after
 told_before (Some line) (block.Return place result) after = line_before (line place) after
 
+abbrev pub arm_body : Manner → Setting → Block → Body → Body
+arm_body manner s b made = made
+
 abbrev mutual
-  pub told_body : Telling → Setting → List ℕ → Block → Body → Body
-  told_body telling s bound block.Stop end = end
-  told_body telling s bound (block.Step binds c more) end =
-      lets s bound binds (told_before telling c (Then (told_control telling s (bound_by bound binds) c) (stop_before (gives_several s) c (told_body telling s (bound_by bound binds) more end))))
+  pub told_body : Manner → Setting → List ℕ → Block → Body → Body
+  told_body manner s bound block.Stop end = end
+  told_body manner s bound (block.Step binds c more) end =
+      lets s bound binds (told_before manner.telling c (Then (told_control manner s (bound_by bound binds) c) (stop_before manner.inside (gives_several s) c (told_body manner s (bound_by bound binds) more end))))
 
-  pub told_control : Telling → Setting → List ℕ → Control → Stmt
-  told_control telling s bound (block.Match source arms) = told_arms telling s bound source arms
-  told_control telling s bound (block.Equal a b body) = IfEq (written_operand s bound a) (written_operand s bound b) (told_body telling s bound body Done)
-  told_control telling s bound (block.Loop result body) = Loop (written_list (looped_local s result)) result.0 (told_body telling s (bound ++ result.0 ∷ []) body Done)
-  told_control telling s bound (block.Return place result) = result_stmt (kind_of s.term.kind) (written_read s bound false result)
+  pub told_control : Manner → Setting → List ℕ → Control → Stmt
+  told_control manner s bound (block.Match source arms) = told_arms manner s bound source arms
+  told_control manner s bound (block.Equal a b body) = IfEq (written_operand s bound a) (written_operand s bound b) (told_body manner s bound body Done)
+  told_control manner s bound (block.Loop result body) = Loop (written_list (looped_local s result)) result.0 (told_body manner s (bound ++ result.0 ∷ []) body Done)
+  told_control manner s bound (block.Return place result) = result_stmt (kind_of s.term.kind) (written_read s bound false result)
 
-  pub told_arms : Telling → Setting → List ℕ → BindingId → Arms → Stmt
-  told_arms telling s bound source block.NoArm = Tail None
-  told_arms telling s bound source (block.Arm c places body arms) = arm_stmt s bound source c places (told_body telling s (bound_within bound places) body Done)
+  pub told_arms : Manner → Setting → List ℕ → BindingId → Arms → Stmt
+  told_arms manner s bound source block.NoArm = Tail None
+  told_arms manner s bound source (block.Arm c places body arms) = arm_stmt s bound source c places (arm_body manner s body (told_body (arm_manner manner s body) s (bound_within bound places) body Done))
 
 abbrev pub block_body : Setting → List ℕ → Block → Body → Body
-block_body = told_body None
+block_body = told_body bare_manner
 
 abbrev pub control_stmt : Setting → List ℕ → Control → Stmt
-control_stmt = told_control None
+control_stmt = told_control bare_manner
 
 -- ---- functions
 
@@ -177,7 +181,7 @@ logged_function options files env t bs b = function_with env t (logged (log_line
 
 abbrev pub function_of : (options : CodegenOptions) → Files → Environment → Term → List Binding → Block → Function
 function_of options files env t bs b =
-    function_with env t (told_body (telling_of options files (setting env t bs)) (setting env t bs) [] (completed (setting env t bs) [] b) (tail_in files env t b))
+    function_with env t (told_body (manner_of options files (setting env t bs)) (setting env t bs) [] (completed (setting env t bs) [] b) (tail_in files env t b))
 
 abbrev pub end_of : ReturnKind → Result → End
 end_of return_kind.Plain (Value' v) = Gives v

@@ -78,7 +78,7 @@ read_by (Return pos result) = result ∷ []
 
 -- ---- blocks
 
--- a binding behind what it needs
+-- a binding after what it needs
 abbrev pub with_needs : Setting → List ℕ → BindingId → List BindingId
 with_needs s bound b = needs s bound (read_for (slice_get s.bindings b.0)) ++ b ∷ []
 

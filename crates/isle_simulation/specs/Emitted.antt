@@ -5,6 +5,7 @@ use Rattle.isle_printer.specs.Token.{is_word_byte}
 use Rattle.isle_core.specs.declared.types.Term.{Term}
 use Rattle.isle_core.specs.Value.{Value, Made, End, Ran}
 use Rattle.isle_core.specs.Meaning.{Meaning}
+use Rattle.isle_core.specs.Space.{Space}
 use Rattle.isle_core.specs.HasType.{HaveTypes}
 use Rattle.isle_core.specs.declared.rule_sets.Binding.{Binding}
 use Rattle.isle_core.specs.declared.rule_sets.Binding.TheVariants as binding
@@ -83,16 +84,16 @@ AreSameRuns env r q = option_map (λ (x : Ran). nameless_ran (impure_ran env x))
 -- in every program in which the function of a term that answers at most once is this, its run on well-typed arguments is the block's, but for calls
 -- of pure terms, under every meaning that answers its calls and gives constants values of their types
 abbrev pub RunsAsBlock : Environment → Term → List Binding → Block → Function → Type 0
-RunsAsBlock env t bs b f = (p : Program) (args : List Value) (m : Meaning)
+RunsAsBlock env t bs b f = (p : Program) (args : List Value) (m : Meaning) (space : Space)
     → function_of (sym_text env t.name) p.fns ≡ Some f → HaveTypes env args t.arg_tys → AnswersBindings env m bs → ValuesConstants env m
-    → AreSameRuns env (run p (sym_text env t.name) args m) (ran_of t (block_outcome env m args (paths_of bs) b (kind_of t.kind)))
+    → AreSameRuns env (run p (sym_text env t.name) args m space) (ran_of t (block_outcome env m args (paths_of bs) b (kind_of t.kind)))
 
 -- so of a term that answers several times: the function appends the first results of the block, as many as there is room for and at least one, and
 -- makes the calls up to the last of them, or all where the room isn't used up
 abbrev pub RunsAsSeveral : Environment → Term → List Binding → Block → Function → Type 0
-RunsAsSeveral env t bs b f = (p : Program) (args : List Value) (m : Meaning)
+RunsAsSeveral env t bs b f = (p : Program) (args : List Value) (m : Meaning) (space : Space)
     → function_of (sym_text env t.name) p.fns ≡ Some f → HaveTypes env args t.arg_tys → AnswersBindings env m bs → ValuesConstants env m
-    → AreSameRuns env (run p (sym_text env t.name) args m) (Some (cut_run m (several_outcome env m args (paths_of bs) b)))
+    → AreSameRuns env (run p (sym_text env t.name) args m space) (Some (cut_run space (several_outcome env m args (paths_of bs) b)))
 
 -- what a function gives in its surroundings: its end, and all calls that it makes
 abbrev pub body_run : Around → Function → Option Ran

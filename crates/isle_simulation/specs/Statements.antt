@@ -35,7 +35,8 @@ use Rattle.isle_tree.specs.Program.{Stmt, Let, LetList, IfEq, IfLet, Loop, Retur
 use Rattle.isle_simulation.specs.Patterns.{pattern_of}
 use Rattle.isle_simulation.specs.References.{is_declared, result_type, is_reference_in, read_as}
 use Rattle.isle_simulation.specs.Operands.{in_place, tested, operand_of}
-use Rattle.isle_simulation.specs.Telling.{Telling, told_before}
+use Rattle.isle_simulation.specs.Manner.{Manner, bare_manner, arm_manner, arm_body}
+use Rattle.isle_simulation.specs.Telling.{told_before}
 
 -- ---- what bound locals compute
 
@@ -219,13 +220,13 @@ return_of return_kind.Option (Some r) = Some (Return (expr.Some r))
 return_of return_kind.Iterator (Some r) = Some (Extend r)
 return_of kind None = None
 
--- behind one of several results the function stops where its list is full
-abbrev pub stop_before : (several : Bool) → Control → Option Body → Option Body
-stop_before true (block.Return pos result) after = stmt_before (Some (Overflow false)) after
-stop_before true (block.Match source arms) after = after
-stop_before true (block.Equal a b body) after = after
-stop_before true (block.Loop result body) after = after
-stop_before false c after = after
+-- after one of several results the closure around, or else the function, stops where its list is full
+abbrev pub stop_before : (inside several : Bool) → Control → Option Body → Option Body
+stop_before inside true (block.Return pos result) after = stmt_before (Some (Overflow inside)) after
+stop_before inside true (block.Match source arms) after = after
+stop_before inside true (block.Equal a b body) after = after
+stop_before inside true (block.Loop result body) after = after
+stop_before inside false c after = after
 
 -- the local of the list whose item a binding is
 abbrev pub list_local : Option Binding → Option ℕ
@@ -268,33 +269,33 @@ arm_stmt s bound source (constraint.Variant ty variant) places inside = if_let (
 arm_stmt s bound source (constraint.Struct ty) places inside = if_let (pattern_of s.env (constraint.Struct ty) places) (read_in s bound true source) inside
 arm_stmt s bound source constraint.Some places inside = if_let (pattern_of s.env constraint.Some places) (plain_read (operand_of s.env s.bindings bound source)) inside
 
--- a block's steps in order, each Return behind its log line where it is told and before its stop, and what follows; a match of several arms is
--- not built
+-- a block's steps in order, each Return after its log line if it is told and before its stop, and what follows; a match of several arms is not
+-- built
 abbrev mutual
-  pub told_body : Telling → Setting → List ℕ → Block → Option Body → Option Body
-  told_body telling s bound block.Stop end = end
-  told_body telling s bound (block.Step binds c more) end =
-      lets s bound binds (told_before telling c (stmt_before (told_control telling s (bound_by bound binds) c) (stop_before (gives_several s) c (told_body telling s (bound_by bound binds) more end))))
+  pub told_body : Manner → Setting → List ℕ → Block → Option Body → Option Body
+  told_body manner s bound block.Stop end = end
+  told_body manner s bound (block.Step binds c more) end =
+      lets s bound binds (told_before manner.telling c (stmt_before (told_control manner s (bound_by bound binds) c) (stop_before manner.inside (gives_several s) c (told_body manner s (bound_by bound binds) more end))))
 
-  pub told_control : Telling → Setting → List ℕ → Control → Option Stmt
-  told_control telling s bound (block.Match source arms) = told_arms telling s bound source arms
-  told_control telling s bound (block.Equal a b body) =
-      if_eq (operand_of s.env s.bindings bound a) (operand_of s.env s.bindings bound b) (told_body telling s bound body (Some Done))
-  told_control telling s bound (block.Loop result body) = loop_of (looped_local s result) result.0 (told_body telling s (bound ++ result.0 ∷ []) body (Some Done))
-  told_control telling s bound (block.Return pos result) = return_of (kind_of s.term.kind) (read_in s bound false result)
+  pub told_control : Manner → Setting → List ℕ → Control → Option Stmt
+  told_control manner s bound (block.Match source arms) = told_arms manner s bound source arms
+  told_control manner s bound (block.Equal a b body) =
+      if_eq (operand_of s.env s.bindings bound a) (operand_of s.env s.bindings bound b) (told_body manner s bound body (Some Done))
+  told_control manner s bound (block.Loop result body) = loop_of (looped_local s result) result.0 (told_body manner s (bound ++ result.0 ∷ []) body (Some Done))
+  told_control manner s bound (block.Return pos result) = return_of (kind_of s.term.kind) (read_in s bound false result)
 
-  pub told_arms : Telling → Setting → List ℕ → BindingId → Arms → Option Stmt
-  told_arms telling s bound source block.NoArm = None
-  told_arms telling s bound source (block.Arm c places body block.NoArm) =
-      arm_stmt s bound source c places (told_body telling s (bound_within bound places) body (Some Done))
-  told_arms telling s bound source (block.Arm c places body (block.Arm d others inside arms)) = None
+  pub told_arms : Manner → Setting → List ℕ → BindingId → Arms → Option Stmt
+  told_arms manner s bound source block.NoArm = None
+  told_arms manner s bound source (block.Arm c places body block.NoArm) =
+      arm_stmt s bound source c places (arm_body manner s body (told_body (arm_manner manner s body) s (bound_within bound places) body (Some Done)))
+  told_arms manner s bound source (block.Arm c places body (block.Arm d others inside arms)) = None
 
 -- the statements without log lines
 abbrev pub block_body : Setting → List ℕ → Block → Option Body → Option Body
-block_body = told_body None
+block_body = told_body bare_manner
 
 abbrev pub control_stmt : Setting → List ℕ → Control → Option Stmt
-control_stmt = told_control None
+control_stmt = told_control bare_manner
 
 abbrev pub arms_stmt : Setting → List ℕ → BindingId → Arms → Option Stmt
-arms_stmt = told_arms None
+arms_stmt = told_arms bare_manner

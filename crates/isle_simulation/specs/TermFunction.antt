@@ -16,7 +16,8 @@ use Rattle.isle_tree.specs.Program.{Tail, Body, Done, Then, Function}
 use Rattle.isle_simulation.specs.Completed.{completed}
 use Rattle.isle_simulation.specs.LogLines.{LogLine}
 use Rattle.isle_simulation.specs.Statements.{told_body}
-use Rattle.isle_simulation.specs.Telling.{log_line, telling_of}
+use Rattle.isle_simulation.specs.Manner.{manner_of}
+use Rattle.isle_simulation.specs.Telling.{log_line}
 use Rattle.isle_simulation.specs.TypeTexts.{type_text, parameter}
 
 -- a step that ends the run
@@ -58,7 +59,7 @@ tail_in files env t b = tail_of (kind_of t.kind) (sym_text env t.name) (place_in
 
 -- the statements of a term's function, with log lines where they are asked for
 abbrev pub root_body : (options : CodegenOptions) → Files → Setting → Block → Option Body
-root_body options files s b = told_body (telling_of options files s) s [] (completed s [] b) (Some (tail_in files s.env s.term b))
+root_body options files s b = told_body (manner_of options files s) s [] (completed s [] b) (Some (tail_in files s.env s.term b))
 
 -- the function of a term with these statements
 abbrev pub function_with : Environment → Term → Body → Function

@@ -51,7 +51,7 @@ literal_again I64 n = rw (parted-decimal n (type_name I64), numeral_again 10 n (
 literal_again I128 n = rw (parted-decimal n (type_name I128), numeral_again 10 n (omega arith) (omega arith)) refl
 literal_again ISize n = rw (parted-decimal n (type_name ISize), numeral_again 10 n (omega arith) (omega arith)) refl
 
--- ---- a literal is one word, behind a mark where the number lies below 0
+-- ---- a literal is one word, after a mark where the number lies below 0
 
 ending_in_word : (ty : IntType) → list_all is_word_byte (codes "_" ++ type_name ty) ≡ true
 ending_in_word U8 = refl

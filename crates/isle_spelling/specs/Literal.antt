@@ -47,7 +47,7 @@ signed_bits ISize n = n
 
 -- ---- reading a magnitude with its type
 
--- what stands before the first _, and what behind it
+-- what stands before the first _, and what after it
 abbrev pub parted : List ℕ → List ℕ × List ℕ
 parted [] = ([], [])
 parted (b ∷ bs) = if b == 95 then ([], bs) else (b ∷ (parted bs).0, (parted bs).1)
@@ -56,7 +56,7 @@ parted (b ∷ bs) = if b == 95 then ([], bs) else (b ∷ (parted bs).0, (parted 
 abbrev pub type_named : List ℕ → Option IntType
 type_named w = find (λ (ty : IntType). same_bytes (type_name ty) w) int_types
 
--- the number whose hexadecimal digits stand behind 0x
+-- the number whose hexadecimal digits stand after 0x
 abbrev pub after_0x : List ℕ → Option ℕ
 after_0x [] = None
 after_0x (a ∷ []) = None

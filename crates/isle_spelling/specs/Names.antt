@@ -18,7 +18,7 @@ is_decimal [] = false
 is_decimal (b ∷ []) = is_digit b
 is_decimal (b ∷ c ∷ bs) = not (b == 48) && list_all is_digit (b ∷ c ∷ bs)
 
--- letters, and behind them digits alone
+-- letters, and after them digits alone
 abbrev pub is_numbered : List ℕ → List ℕ → Bool
 is_numbered [] w = are_digits w
 is_numbered (p ∷ ps) [] = false

@@ -1,4 +1,4 @@
--- How a number of a primitive type is spelled: by its 128 bits, with no type behind it.
+-- How a number of a primitive type is spelled: by its 128 bits, with no type after it.
 use Rattle.std.specs.Prelude.{ℕ, ℤ, List, ◌++◌, ◌==◌, codes, if◌then◌else◌, Option, Some, None}
 use Rattle.std.specs.Int.{w128, cast_signed, cast_unsigned}
 use Rattle.isle_printer.specs.Number.{numeral}

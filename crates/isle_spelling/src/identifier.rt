@@ -2,11 +2,12 @@
 
 ghost use Rattle.std.specs.Prelude.{◌≡◌, ◌↔◌, ℕ, List, map, IsTrue};
 ghost use denote.Ref.{Bor};
-ghost use Rattle.std.specs.List.{list_any};
+ghost use Rattle.std.specs.List.{AllByRecursion, list_any};
 ghost use Rattle.std.specs.Str.{bytes_eq};
 ghost use Rattle.isle_spelling.specs.Identifier.{used_words, kept_words, is_begin, begins, IsIdentifier};
 
 use crate::names::are_word_bytes;
+use isle_core::Text;
 
 /// The words that Rust uses.
 const USED_WORDS: [&str; 38] = [
@@ -39,9 +40,10 @@ fn begins(bytes: &[u8]) -> bool
     }
 }
 
-// Whether the name is among the words.
-fn is_among(name: &str, words: &[&str]) -> bool
-    ensures { result ≡ list_any (bytes_eq name.now) (map (λ (word : Bor (List ℕ)). word.now) words.now) }
+/// Tells whether the name is among the words.
+pub fn is_among(name: &str, words: &[&str]) -> bool
+    ensures { result
+        ≡ list_any (bytes_eq name.now) (map (λ (word : Bor (List ℕ)). word.now) words.now) }
 {
     for word in words {
         if name == *word {
@@ -79,4 +81,16 @@ pub fn is_identifier(name: &str) -> bool
         return false;
     }
     !is_kept(name)
+}
+
+/// Tells whether items may have all the names.
+pub fn are_identifiers(names: &[Text]) -> bool
+    ensures { IsTrue result ↔ AllByRecursion IsIdentifier names.now }
+{
+    for name in names {
+        if !is_identifier(name.as_str()) {
+            return false;
+        }
+    }
+    true
 }

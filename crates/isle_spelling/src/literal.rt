@@ -44,7 +44,8 @@ fn push_word(out: &mut String, ty: IntType, n: u128) -> Result<(), AllocError>
 // The number that the type's bits stand for.
 fn push_bits(out: &mut String, ty: IntType, n: u128) -> Result<(), AllocError>
     requires { n < 2 ^ bits (width ty) }
-    ensures { OnOk result (string_bytes out.new ≡ string_bytes out.old ++ literal_text ty (of_bits ty n)) }
+    ensures { OnOk result
+        (string_bytes out.new ≡ string_bytes out.old ++ literal_text ty (of_bits ty n)) }
 {
     if !ty.is_signed() {
         return push_word(out, ty, n);

@@ -1,4 +1,4 @@
--- What comes of reading an external extractor behind two names.
+-- What comes of reading an external extractor after two names.
 use Rattle.std.proofs.Common.{◌≡◌, ℕ, List, length, Bool, true, false, refl, ap, sym, ◌∙◌, ◌<◌, Some, None}
 use Rattle.isle_lexer.specs.Lexeme.{Lexeme}
 use Rattle.isle_reading.specs.Reader.{run}

@@ -20,7 +20,7 @@ body_head_seen code_body_head.Struct = IsStruct
 abbrev pub flags_seen : CodeFlags → Flags
 flags_seen f = record { pure = f.pure; multi = f.multi; partial = f.partial; recursive = f.recursive }
 
--- the words behind a type's name
+-- the words after a type's name
 abbrev pub marks_seen : CodeMarks → Marks
 marks_seen m = record { is_extern = m.is_extern; is_nodebug = m.is_nodebug }
 

@@ -69,7 +69,8 @@ fn field(tokens: &mut Tokens<'_>, alloc: Global) -> Result<(Text, Text), Fail>
 // Fields up to a closing parenthesis, which is taken, of at most `most` tokens.
 #[tactic(auto, using(isle_reading::proofs::ListSteps::lists))]
 fn fields(tokens: &mut Tokens<'_>, alloc: Global, most: usize) -> Result<Vec<(Text, Text)>, Fail>
-    ensures { Reads (λ fields. fields.items) result (many most read_field) (left tokens.old) (left tokens.new) }
+    ensures { Reads (λ fields. fields.items) result (many most read_field) (left tokens.old)
+        (left tokens.new) }
 {
     let mut fields = Vec::new(alloc);
     for _ in 0..most {
@@ -92,7 +93,8 @@ pub fn names(
     most: usize,
     expected: Expected,
 ) -> Result<Vec<Text>, Fail>
-    ensures { Reads (λ names. names.items) result (many most read_name) (left tokens.old) (left tokens.new) }
+    ensures { Reads (λ names. names.items) result (many most read_name) (left tokens.old)
+        (left tokens.new) }
 {
     let mut names = Vec::new(alloc);
     for _ in 0..most {
@@ -136,7 +138,8 @@ fn shape(tokens: &mut Tokens<'_>, alloc: Global, most: usize) -> Result<AstField
 // A variant with fields.
 #[tactic(auto, using(isle_reading::proofs::Steps::chain), unfolding(isle_grammar::specs::Reading::read_shaped))]
 fn shaped(tokens: &mut Tokens<'_>, alloc: Global, most: usize) -> Result<AstVariant, Fail>
-    ensures { Reads (λ variant. variant) result (read_shaped most) (left tokens.old) (left tokens.new) }
+    ensures { Reads (λ variant. variant) result (read_shaped most) (left tokens.old)
+        (left tokens.new) }
 {
     tokens.open()?;
     let name = tokens.name(alloc)?;
@@ -147,7 +150,8 @@ fn shaped(tokens: &mut Tokens<'_>, alloc: Global, most: usize) -> Result<AstVari
 // A variant.
 #[tactic(auto, using(crate::proofs::TypeSteps::variant_steps))]
 fn variant(tokens: &mut Tokens<'_>, alloc: Global, most: usize) -> Result<AstVariant, Fail>
-    ensures { Reads (λ variant. variant) result (read_variant most) (left tokens.old) (left tokens.new) }
+    ensures { Reads (λ variant. variant) result (read_variant most) (left tokens.old)
+        (left tokens.new) }
 {
     match tokens.opens() {
         Some(_) => shaped(tokens, alloc, most),
@@ -164,7 +168,8 @@ fn variant(tokens: &mut Tokens<'_>, alloc: Global, most: usize) -> Result<AstVar
 // Variants up to a closing parenthesis, which is taken, of at most `most` tokens.
 #[tactic(auto, using(isle_reading::proofs::ListSteps::lists))]
 fn variants(tokens: &mut Tokens<'_>, alloc: Global, most: usize) -> Result<Vec<AstVariant>, Fail>
-    ensures { Reads (λ variants. variants.items) result (many most (read_variant most)) (left tokens.old) (left tokens.new) }
+    ensures { Reads (λ variants. variants.items) result (many most (read_variant most))
+        (left tokens.old) (left tokens.new) }
 {
     let mut variants = Vec::new(alloc);
     for _ in 0..most {
@@ -179,7 +184,7 @@ fn variants(tokens: &mut Tokens<'_>, alloc: Global, most: usize) -> Result<Vec<A
     Err(tokens.miss(Expected::Variant))
 }
 
-// What stands behind the first word of a body.
+// What stands after the first word of a body.
 #[tactic(auto, using(isle_reading::proofs::Steps::chain))]
 fn body_behind(
     tokens: &mut Tokens<'_>,
@@ -187,7 +192,8 @@ fn body_behind(
     most: usize,
     head: BodyHead,
 ) -> Result<AstBody, Fail>
-    ensures { Reads (λ body. body) result (body_behind most (body_head_seen head)) (left tokens.old) (left tokens.new) }
+    ensures { Reads (λ body. body) result (body_behind most (body_head_seen head)) (left tokens.old)
+        (left tokens.new) }
 {
     match head {
         BodyHead::Primitive => {

@@ -13,7 +13,7 @@ use crate::flags::{Flags, read_flags, read_marks};
 use crate::passed::passed_items;
 use isle_ast::{AstPattern, Def};
 use isle_core::{List, Pos, Text};
-use isle_forms::{arguments, decl_name, prio, rule_name, tail, template};
+use isle_expressions::{arguments, decl_name, prio, rule_name, tail, template};
 use isle_reading::{Expected, Fail, Tokens};
 use std::alloc::{AllocError, Global};
 
@@ -51,7 +51,8 @@ fn head_of(alloc: Global, word: &str) -> Result<Option<Head>, AllocError>
 // What a definition is, by the word that is next.
 #[tactic(auto, using(isle_reading::proofs::Steps::next))]
 fn next_head(tokens: &Tokens<'_>, alloc: Global) -> Result<Option<Head>, AllocError>
-    ensures { IfOk result (λ next. option_map head_seen next ≡ next_word head_of (left tokens.now)) }
+    ensures { IfOk result (λ next.
+        option_map head_seen next ≡ next_word head_of (left tokens.now)) }
 {
     match tokens.word() {
         Some(word) => head_of(alloc, word),
@@ -73,10 +74,11 @@ fn read_head(tokens: &mut Tokens<'_>, alloc: Global) -> Result<Head, Fail>
     }
 }
 
-// What stands behind `( type`, for the definition at that place.
+// What stands after `( type`, for the definition at that place.
 #[tactic(auto, using(isle_reading::proofs::Steps::chain), unfolding(isle_grammar::specs::Reading::read_type))]
 fn type_decl(tokens: &mut Tokens<'_>, alloc: Global, most: usize, pos: Pos) -> Result<Def, Fail>
-    ensures { Reads def result (read_type most pos.file pos.offset) (left tokens.old) (left tokens.new) }
+    ensures { Reads def result (read_type most pos.file pos.offset) (left tokens.old)
+        (left tokens.new) }
 {
     let name = tokens.name_as(alloc, Expected::Type)?;
     let marks = read_marks(tokens)?;
@@ -91,7 +93,7 @@ fn type_decl(tokens: &mut Tokens<'_>, alloc: Global, most: usize, pos: Pos) -> R
     })
 }
 
-// What stands behind the flags of `( decl`, for the definition at that place.
+// What stands after the flags of `( decl`, for the definition at that place.
 #[tactic(auto, using(isle_reading::proofs::Steps::chain), unfolding(isle_grammar::specs::Reading::read_declared))]
 fn declared(
     tokens: &mut Tokens<'_>,
@@ -100,7 +102,8 @@ fn declared(
     pos: Pos,
     flags: Flags,
 ) -> Result<Def, Fail>
-    ensures { Reads def result (read_declared most pos.file pos.offset (flags_seen flags)) (left tokens.old) (left tokens.new) }
+    ensures { Reads def result (read_declared most pos.file pos.offset (flags_seen flags))
+        (left tokens.old) (left tokens.new) }
 {
     let term = decl_name(tokens, alloc)?;
     tokens.open()?;
@@ -119,19 +122,21 @@ fn declared(
     })
 }
 
-// What stands behind `( decl`, for the definition at that place.
+// What stands after `( decl`, for the definition at that place.
 #[tactic(auto, using(isle_reading::proofs::Steps::chain), unfolding(isle_grammar::specs::Reading::read_decl))]
 fn decl(tokens: &mut Tokens<'_>, alloc: Global, most: usize, pos: Pos) -> Result<Def, Fail>
-    ensures { Reads def result (read_decl most pos.file pos.offset) (left tokens.old) (left tokens.new) }
+    ensures { Reads def result (read_decl most pos.file pos.offset) (left tokens.old)
+        (left tokens.new) }
 {
     let flags = read_flags(tokens)?;
     declared(tokens, alloc, most, pos, flags)
 }
 
-// What stands behind `( extractor`, for the definition at that place.
+// What stands after `( extractor`, for the definition at that place.
 #[tactic(auto, using(isle_reading::proofs::Steps::chain), unfolding(isle_grammar::specs::Reading::read_extractor))]
 fn extractor(tokens: &mut Tokens<'_>, alloc: Global, most: usize, pos: Pos) -> Result<Def, Fail>
-    ensures { Reads def result (read_extractor most pos.file pos.offset) (left tokens.old) (left tokens.new) }
+    ensures { Reads def result (read_extractor most pos.file pos.offset) (left tokens.old)
+        (left tokens.new) }
 {
     tokens.open()?;
     let term = tokens.name(alloc)?;
@@ -146,10 +151,11 @@ fn extractor(tokens: &mut Tokens<'_>, alloc: Global, most: usize, pos: Pos) -> R
     })
 }
 
-// What stands behind `( convert`, for the definition at that place.
+// What stands after `( convert`, for the definition at that place.
 #[tactic(auto, using(isle_reading::proofs::Steps::chain), unfolding(isle_grammar::specs::Reading::read_convert))]
 fn convert(tokens: &mut Tokens<'_>, alloc: Global, pos: Pos) -> Result<Def, Fail>
-    ensures { Reads def result (read_convert pos.file pos.offset) (left tokens.old) (left tokens.new) }
+    ensures { Reads def result (read_convert pos.file pos.offset) (left tokens.old)
+        (left tokens.new) }
 {
     let from = tokens.name_as(alloc, Expected::Type)?;
     let to = tokens.name_as(alloc, Expected::Type)?;
@@ -170,7 +176,8 @@ fn parts(
     alloc: Global,
     most: usize,
 ) -> Result<(Text, Vec<AstPattern>), Fail>
-    ensures { Reads (λ parts. (parts.0, map pattern parts.1.items)) result (read_parts most) (left tokens.old) (left tokens.new) }
+    ensures { Reads (λ parts. (parts.0, map pattern parts.1.items)) result (read_parts most)
+        (left tokens.old) (left tokens.new) }
 {
     tokens.open()?;
     let term = tokens.name(alloc)?;
@@ -178,11 +185,12 @@ fn parts(
     Ok((term, args))
 }
 
-// What stands behind `( rule`, for the definition at that place.
+// What stands after `( rule`, for the definition at that place.
 #[tactic(auto, using(isle_reading::proofs::Steps::chain), unfolding(isle_grammar::specs::Reading::read_rule))]
 fn rule(tokens: &mut Tokens<'_>, alloc: Global, most: usize, pos: Pos) -> Result<Def, Fail>
     requires { length (left tokens.old) ≤ most }
-    ensures { Reads def result (read_rule most pos.file pos.offset) (left tokens.old) (left tokens.new) }
+    ensures { Reads def result (read_rule most pos.file pos.offset) (left tokens.old)
+        (left tokens.new) }
 {
     let name = rule_name(tokens, alloc)?;
     let prio = prio(tokens)?;
@@ -199,7 +207,7 @@ fn rule(tokens: &mut Tokens<'_>, alloc: Global, most: usize, pos: Pos) -> Result
     })
 }
 
-// What stands behind the first word of a list that is passed over, at that place.
+// What stands after the first word of a list that is passed over, at that place.
 #[tactic(auto, using(isle_reading::proofs::Steps::chain), unfolding(isle_grammar::specs::Reading::read_passed))]
 fn passed(
     tokens: &mut Tokens<'_>,
@@ -208,7 +216,8 @@ fn passed(
     pos: Pos,
     head: Text,
 ) -> Result<Def, Fail>
-    ensures { Reads def result (read_passed most pos.file pos.offset head) (left tokens.old) (left tokens.new) }
+    ensures { Reads def result (read_passed most pos.file pos.offset head) (left tokens.old)
+        (left tokens.new) }
 {
     let items = passed_items(tokens, alloc, most)?;
     Ok(Def::Passed {
@@ -218,7 +227,7 @@ fn passed(
     })
 }
 
-// What stands behind the head of the definition at that place.
+// What stands after the head of the definition at that place.
 fn behind(
     tokens: &mut Tokens<'_>,
     alloc: Global,
@@ -227,7 +236,8 @@ fn behind(
     head: Head,
 ) -> Result<Def, Fail>
     requires { length (left tokens.old) ≤ most }
-    ensures { Reads def result (read_behind most pos.file pos.offset (head_seen head)) (left tokens.old) (left tokens.new) }
+    ensures { Reads def result (read_behind most pos.file pos.offset (head_seen head))
+        (left tokens.old) (left tokens.new) }
 {
     match head {
         Head::Type => type_decl(tokens, alloc, most, pos),
@@ -265,7 +275,8 @@ pub fn file_of(
     file: usize,
 ) -> Result<Vec<Def>, Fail>
     requires { length (left tokens.old) ≤ most }
-    ensures { Reads (λ read. defs read.items) result (read_file most file) (left tokens.old) (left tokens.new) }
+    ensures { Reads (λ read. defs read.items) result (read_file most file) (left tokens.old)
+        (left tokens.new) }
 {
     let mut definitions = Vec::new(alloc);
     for _ in 0..most {

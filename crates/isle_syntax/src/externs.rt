@@ -9,7 +9,7 @@ ghost use Rattle.isle_syntax.specs.ReadingViews.{extern_head_seen};
 
 use isle_ast::Def;
 use isle_core::{Pos, Text};
-use isle_forms::constant;
+use isle_expressions::constant;
 use isle_reading::{Expected, Fail, Tokens};
 use std::alloc::Global;
 
@@ -55,10 +55,11 @@ fn read_head(tokens: &mut Tokens<'_>) -> Result<ExternHead, Fail>
     }
 }
 
-// What stands behind `( extern constructor`.
+// What stands after `( extern constructor`.
 #[tactic(auto, using(isle_reading::proofs::Steps::chain), unfolding(isle_grammar::specs::Reading::read_constructor))]
 fn constructor(tokens: &mut Tokens<'_>, alloc: Global, pos: Pos) -> Result<Def, Fail>
-    ensures { Reads def result (read_constructor pos.file pos.offset) (left tokens.old) (left tokens.new) }
+    ensures { Reads def result (read_constructor pos.file pos.offset) (left tokens.old)
+        (left tokens.new) }
 {
     let term = tokens.name(alloc)?;
     let func = tokens.name(alloc)?;
@@ -69,7 +70,8 @@ fn constructor(tokens: &mut Tokens<'_>, alloc: Global, pos: Pos) -> Result<Def, 
 // The end of an external extractor that may fail.
 #[tactic(auto, using(isle_reading::proofs::Steps::chain), unfolding(isle_grammar::specs::Reading::read_fallible))]
 fn fallible(tokens: &mut Tokens<'_>, pos: Pos, term: Text, func: Text) -> Result<Def, Fail>
-    ensures { Reads def result (read_fallible pos.file pos.offset term func) (left tokens.old) (left tokens.new) }
+    ensures { Reads def result (read_fallible pos.file pos.offset term func) (left tokens.old)
+        (left tokens.new) }
 {
     tokens.close()?;
     Ok(Def::ExternExtractor {
@@ -80,10 +82,11 @@ fn fallible(tokens: &mut Tokens<'_>, pos: Pos, term: Text, func: Text) -> Result
     })
 }
 
-// The end of an external extractor that may not fail, behind its term.
+// The end of an external extractor that may not fail, after its term.
 #[tactic(auto, using(isle_reading::proofs::Steps::chain), unfolding(isle_grammar::specs::Reading::read_infallible))]
 fn infallible(tokens: &mut Tokens<'_>, alloc: Global, pos: Pos, term: Text) -> Result<Def, Fail>
-    ensures { Reads def result (read_infallible pos.file pos.offset term) (left tokens.old) (left tokens.new) }
+    ensures { Reads def result (read_infallible pos.file pos.offset term) (left tokens.old)
+        (left tokens.new) }
 {
     let func = tokens.name(alloc)?;
     tokens.close()?;
@@ -95,7 +98,7 @@ fn infallible(tokens: &mut Tokens<'_>, alloc: Global, pos: Pos, term: Text) -> R
     })
 }
 
-// What stands behind two names, of which the first may be the word `infallible`.
+// What stands after two names, of which the first may be the word `infallible`.
 #[tactic(auto, using(crate::proofs::DefinitionSteps::two_names))]
 fn extractor_behind(
     tokens: &mut Tokens<'_>,
@@ -104,7 +107,9 @@ fn extractor_behind(
     term: Text,
     func: Text,
 ) -> Result<Def, Fail>
-    ensures { Reads def result (extractor_behind pos.file pos.offset (bytes_eq term (codes "infallible")) term func) (left tokens.old) (left tokens.new) }
+    ensures { Reads def result
+        (extractor_behind pos.file pos.offset (bytes_eq term (codes "infallible")) term func)
+        (left tokens.old) (left tokens.new) }
 {
     if term.as_str() != "infallible" {
         return fallible(tokens, pos, term, func);
@@ -118,20 +123,22 @@ fn extractor_behind(
     }
 }
 
-// What stands behind `( extern extractor`.
+// What stands after `( extern extractor`.
 #[tactic(auto, using(isle_reading::proofs::Steps::chain), unfolding(isle_grammar::specs::Reading::read_extractor_function))]
 fn extractor(tokens: &mut Tokens<'_>, alloc: Global, pos: Pos) -> Result<Def, Fail>
-    ensures { Reads def result (read_extractor_function pos.file pos.offset) (left tokens.old) (left tokens.new) }
+    ensures { Reads def result (read_extractor_function pos.file pos.offset) (left tokens.old)
+        (left tokens.new) }
 {
     let term = tokens.name(alloc)?;
     let func = tokens.name(alloc)?;
     extractor_behind(tokens, alloc, pos, term, func)
 }
 
-// What stands behind `( extern const`.
+// What stands after `( extern const`.
 #[tactic(auto, using(isle_reading::proofs::Steps::chain), unfolding(isle_grammar::specs::Reading::read_const))]
 fn const_of(tokens: &mut Tokens<'_>, alloc: Global, pos: Pos) -> Result<Def, Fail>
-    ensures { Reads def result (read_const pos.file pos.offset) (left tokens.old) (left tokens.new) }
+    ensures { Reads def result (read_const pos.file pos.offset) (left tokens.old)
+        (left tokens.new) }
 {
     let name = constant(tokens, alloc)?;
     let ty = tokens.name_as(alloc, Expected::Type)?;
@@ -139,14 +146,15 @@ fn const_of(tokens: &mut Tokens<'_>, alloc: Global, pos: Pos) -> Result<Def, Fai
     Ok(Def::ExternConst { name, ty, pos })
 }
 
-// What stands behind the second word of an `extern`.
+// What stands after the second word of an `extern`.
 fn extern_behind(
     tokens: &mut Tokens<'_>,
     alloc: Global,
     pos: Pos,
     head: ExternHead,
 ) -> Result<Def, Fail>
-    ensures { Reads def result (extern_behind pos.file pos.offset (extern_head_seen head)) (left tokens.old) (left tokens.new) }
+    ensures { Reads def result (extern_behind pos.file pos.offset (extern_head_seen head))
+        (left tokens.old) (left tokens.new) }
 {
     match head {
         ExternHead::Constructor => constructor(tokens, alloc, pos),
@@ -155,10 +163,11 @@ fn extern_behind(
     }
 }
 
-/// Reads what stands behind `( extern`, for the definition at that place.
+/// Reads what stands after `( extern`, for the definition at that place.
 #[tactic(auto, using(isle_reading::proofs::Steps::chain), unfolding(isle_grammar::specs::Reading::read_extern))]
 pub fn external(tokens: &mut Tokens<'_>, alloc: Global, pos: Pos) -> Result<Def, Fail>
-    ensures { Reads def result (read_extern pos.file pos.offset) (left tokens.old) (left tokens.new) }
+    ensures { Reads def result (read_extern pos.file pos.offset) (left tokens.old)
+        (left tokens.new) }
 {
     let head = read_head(tokens)?;
     extern_behind(tokens, alloc, pos, head)

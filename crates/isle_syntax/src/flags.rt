@@ -16,7 +16,7 @@ pub struct Flags {
     pub recursive: bool,
 }
 
-/// The words behind a type's name.
+/// The words after a type's name.
 #[derive(Clone, Copy)]
 pub struct Marks {
     pub is_extern: bool,
@@ -51,7 +51,8 @@ fn with_flag(flags: Flags, word: &str) -> Option<Flags>
 // The flags with that which is next.
 #[tactic(auto, using(isle_reading::proofs::Steps::next))]
 fn next_flag(tokens: &Tokens<'_>, flags: Flags) -> Option<Flags>
-    ensures { option_map flags_seen result ≡ next_word (with_flag (flags_seen flags)) (left tokens.now) }
+    ensures { option_map flags_seen result
+        ≡ next_word (with_flag (flags_seen flags)) (left tokens.now) }
 {
     with_flag(flags, tokens.word()?)
 }
@@ -102,12 +103,13 @@ fn with_mark(marks: Marks, word: &str) -> Option<Marks>
 // The marks with that which is next.
 #[tactic(auto, using(isle_reading::proofs::Steps::next))]
 fn next_mark(tokens: &Tokens<'_>, marks: Marks) -> Option<Marks>
-    ensures { option_map marks_seen result ≡ next_word (with_mark (marks_seen marks)) (left tokens.now) }
+    ensures { option_map marks_seen result
+        ≡ next_word (with_mark (marks_seen marks)) (left tokens.now) }
 {
     with_mark(marks, tokens.word()?)
 }
 
-/// Reads the words behind a type's name.
+/// Reads the words after a type's name.
 #[tactic(auto, using(isle_reading::proofs::Steps::states), unfolding(isle_grammar::specs::Reading::read_marks))]
 pub fn read_marks(tokens: &mut Tokens<'_>) -> Result<Marks, Fail>
     ensures { Reads marks_seen result read_marks (left tokens.old) (left tokens.new) }

@@ -47,8 +47,11 @@ fn definitions(
     tokens: &[Token<'_>],
 ) -> Result<Vec<Def>, Fail>
     requires { left cursor.old ≡ tokens_seen tokens.now }
-    ensures spelt { IfOk result (λ read. FileS file (tokens_seen tokens.now) (defs read.items) × (depth (tokens_seen tokens.now) ≤ most_open)) }
-    ensures fault { (k : ℕ) → result ≡ Err (At k) → IsFault (IsFile file) (tokens_seen tokens.now) k }
+    ensures spelt { IfOk result (λ read.
+        FileS file (tokens_seen tokens.now) (defs read.items)
+        × (depth (tokens_seen tokens.now) ≤ most_open)) }
+    ensures fault { (k : ℕ) → result ≡ Err (At k)
+        → IsFault (IsFile file) (tokens_seen tokens.now) k }
 {
     file_of(cursor, alloc, tokens.len(), file)
 }
@@ -61,7 +64,8 @@ fn fail_at(
     left: usize,
     expected: Expected,
 ) -> ParseFail
-    ensures { (at : Pos) (m : Mismatch) → result ≡ fail.At at m → (at.file ≡ file) × (at.offset ≡ place_left (tokens_seen tokens.now) left end) }
+    ensures { (at : Pos) (m : Mismatch) → result ≡ fail.At at m
+        → (at.file ≡ file) × (at.offset ≡ place_left (tokens_seen tokens.now) left end) }
 {
     let offset = place_of(tokens, left, end);
     let to = Pos {
@@ -78,10 +82,15 @@ fn of_tokens(
     tokens: &[Token<'_>],
     end: usize,
 ) -> Result<Vec<Def>, ParseFail>
-    ensures ok { IfOk result (λ read. SpellsTokens file (tokens_seen tokens.now) (defs read.items)) }
-    ensures only { IfOk result (λ read. (others : List PureDef) → SpellsTokens file (tokens_seen tokens.now) others → others ≡ defs read.items) }
-    ensures fault { (at : Pos) (m : Mismatch) → result ≡ Err (fail.At at m) → (at.file ≡ file) × IsFaultAt (IsFile file) (tokens_seen tokens.now) end at.offset }
-    ensures none { (at : Pos) (m : Mismatch) → result ≡ Err (fail.At at m) → (others : List PureDef) → SpellsTokens file (tokens_seen tokens.now) others → ⊥ }
+    ensures ok { IfOk result (λ read.
+        SpellsTokens file (tokens_seen tokens.now) (defs read.items)) }
+    ensures only { IfOk result (λ read.
+        (others : List PureDef) → SpellsTokens file (tokens_seen tokens.now) others
+        → others ≡ defs read.items) }
+    ensures fault { (at : Pos) (m : Mismatch) → result ≡ Err (fail.At at m)
+        → (at.file ≡ file) × IsFaultAt (IsFile file) (tokens_seen tokens.now) end at.offset }
+    ensures none { (at : Pos) (m : Mismatch) → result ≡ Err (fail.At at m) → (others : List PureDef)
+        → SpellsTokens file (tokens_seen tokens.now) others → ⊥ }
 {
     let mut cursor = Tokens::new(tokens);
     match definitions(&mut cursor, alloc, file, tokens) {
@@ -95,10 +104,17 @@ fn of_tokens(
 /// none are spelt, and gives the place where the text goes wrong.
 pub fn parse(alloc: Global, lexer: Lexer<'_>) -> Result<Vec<Def>, ParseFail>
     requires untaken { IsUntaken lexer }
-    ensures ok { IfOk result (λ read. Spells (lexer_file lexer.entry) (lexer_text lexer.entry) (defs read.items)) }
-    ensures only { IfOk result (λ read. (others : List PureDef) → Spells (lexer_file lexer.entry) (lexer_text lexer.entry) others → others ≡ defs read.items) }
-    ensures fault { (at : Pos) (m : Mismatch) → result ≡ Err (fail.At at m) → (at.file ≡ lexer_file lexer.entry) × IsFaultAt (IsFile (lexer_file lexer.entry)) (lexemes (lexer_text lexer.entry)) (length (lexer_text lexer.entry)) at.offset }
-    ensures none { (at : Pos) (m : Mismatch) → result ≡ Err (fail.At at m) → (others : List PureDef) → Spells (lexer_file lexer.entry) (lexer_text lexer.entry) others → ⊥ }
+    ensures ok { IfOk result (λ read.
+        Spells (lexer_file lexer.entry) (lexer_text lexer.entry) (defs read.items)) }
+    ensures only { IfOk result (λ read.
+        (others : List PureDef) → Spells (lexer_file lexer.entry) (lexer_text lexer.entry) others
+        → others ≡ defs read.items) }
+    ensures fault { (at : Pos) (m : Mismatch) → result ≡ Err (fail.At at m)
+        → (at.file ≡ lexer_file lexer.entry)
+        × IsFaultAt (IsFile (lexer_file lexer.entry)) (lexemes (lexer_text lexer.entry))
+        (length (lexer_text lexer.entry)) at.offset }
+    ensures none { (at : Pos) (m : Mismatch) → result ≡ Err (fail.At at m) → (others : List PureDef)
+        → Spells (lexer_file lexer.entry) (lexer_text lexer.entry) others → ⊥ }
 {
     let file = lexer.file();
     let end = lexer.text_len();
@@ -110,7 +126,8 @@ pub fn parse(alloc: Global, lexer: Lexer<'_>) -> Result<Vec<Def>, ParseFail>
 
 // The failure at the comment that never ends.
 fn unclosed_at(file: usize, offset: usize) -> ParseFail
-    ensures { (at : Pos) (m : Mismatch) → result ≡ fail.At at m → (at.file ≡ file) × (at.offset ≡ offset) }
+    ensures { (at : Pos) (m : Mismatch) → result ≡ fail.At at m
+        → (at.file ≡ file) × (at.offset ≡ offset) }
 {
     let at = Pos { file, offset };
     let to = Pos {
@@ -125,9 +142,12 @@ fn unclosed_at(file: usize, offset: usize) -> ParseFail
 /// `parse`, and before all else where a comment never ends.
 pub fn parse_text(alloc: Global, file: usize, text: &str) -> Result<Vec<Def>, ParseFail>
     ensures ok { IfOk result (λ read. Spells file text.now (defs read.items)) }
-    ensures only { IfOk result (λ read. (others : List PureDef) → Spells file text.now others → others ≡ defs read.items) }
-    ensures fault { (at : Pos) (m : Mismatch) → result ≡ Err (fail.At at m) → (at.file ≡ file) × IsTextFault file text.now at.offset }
-    ensures none { (at : Pos) (m : Mismatch) → result ≡ Err (fail.At at m) → (others : List PureDef) → Spells file text.now others → ⊥ }
+    ensures only { IfOk result (λ read.
+        (others : List PureDef) → Spells file text.now others → others ≡ defs read.items) }
+    ensures fault { (at : Pos) (m : Mismatch) → result ≡ Err (fail.At at m)
+        → (at.file ≡ file) × IsTextFault file text.now at.offset }
+    ensures none { (at : Pos) (m : Mismatch) → result ≡ Err (fail.At at m) → (others : List PureDef)
+        → Spells file text.now others → ⊥ }
 {
     match tokens(alloc, text) {
         Ok(tokens) => of_tokens(alloc, file, tokens.as_slice(), text.len()),

@@ -80,7 +80,8 @@ fn anys(
     most: usize,
     depth: usize,
 ) -> Result<Vec<AstAny>, Fail>
-    ensures { Reads (λ items. map any items.items) result (many most (read_any most depth)) (left tokens.old) (left tokens.new) }
+    ensures { Reads (λ items. map any items.items) result (many most (read_any most depth))
+        (left tokens.old) (left tokens.new) }
 {
     let mut items = Vec::new(alloc);
     for _ in 0..most {
@@ -101,7 +102,8 @@ pub fn passed_items(
     alloc: Global,
     most: usize,
 ) -> Result<Vec<AstAny>, Fail>
-    ensures { Reads (λ items. map any items.items) result (many most (read_any most (most_open - 1))) (left tokens.old) (left tokens.new) }
+    ensures { Reads (λ items. map any items.items) result
+        (many most (read_any most (most_open - 1))) (left tokens.old) (left tokens.new) }
 {
     anys(tokens, alloc, most, most_inside())
 }

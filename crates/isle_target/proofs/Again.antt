@@ -74,7 +74,7 @@ result_apart kind.Plain name ts m = refl
 result_apart kind.Option name ts m = refl
 result_apart kind.Iterator name ts m = refl
 
--- a result is read again, where no < stands behind it
+-- a result is read again, where no < stands after it
 result_again : (how : ReturnKind) (name : List ℕ) (ts : List Token) → at (Mark (codes "<")) ts ≡ false → read_result (result_tokens how name ++ ts) ≡ Some ((how, name), ts)
 unfolding read_result
 result_again kind.Plain name ts e = rw (second_apart (Word (codes "Option")) (Mark (codes "<")) (Word name) ts e) refl
@@ -143,7 +143,7 @@ length-joined n [] = omega arith
 length-joined zero (ty ∷ tys) = omega (arith, length-append (typed_tokens 0 ty) (joined_tokens 1 tys), length-joined 1 tys)
 length-joined (suc n) (ty ∷ tys) = omega (arith, length-append (typed_tokens (suc n) ty) (joined_tokens (suc n + 1) tys), length-joined (suc n + 1) tys)
 
--- the parameters of a function with a rest behind them, from its name on
+-- the parameters of a function with a rest after them, from its name on
 params_joined : (how : ReturnKind) (name : List ℕ) (tys : List Ty) (t : Token) (ts : List Token)
     → let inside = joined_tokens 0 tys ++ (joined_end how name (length tys) ++ t ∷ ts) in read_joined how name (length inside) 0 inside ≡ Some (tys, t ∷ ts)
 params_joined how name tys t ts =
@@ -164,7 +164,7 @@ length-joined_types n [] = omega arith
 length-joined_types zero (ty ∷ tys) = omega (arith, length-joined_types 1 tys)
 length-joined_types (suc n) (ty ∷ tys) = omega (arith, length-joined_types (suc n + 1) tys)
 
--- from behind its ( on
+-- from after its ( on
 tuple_again : (tys : List (List ℕ)) (ts : List Token) → read_tuple_types (joined_types 0 tys ++ ts) ≡ if_tuple tys ts
 tuple_again tys ts =
     let inside = joined_types 0 tys ++ ts in
@@ -178,7 +178,7 @@ item_again [] ts = tuple_again [] ts
 item_again (ty ∷ []) ts = refl
 item_again (ty ∷ more ∷ tys) ts = tuple_again (ty ∷ more ∷ tys) ts
 
--- a plain answer's types don't begin as an option's, where no < stands behind them
+-- a plain answer's types don't begin as an option's, where no < stands after them
 plain_again : (tys : List (List ℕ)) (ts : List Token) → at (Mark (codes "<")) ts ≡ false → read_results (item_tokens tys ++ ts) ≡ Some ((kind.Plain, tys), ts)
 unfolding read_results
 plain_again [] ts e = rw (item_again [] ts) refl
@@ -299,7 +299,7 @@ spells_only text p h e =
 pub no_comment : (text : List ℕ) (p : Program) → tokens_of text ≡ program_tokens p → list_all is_read (tokens_of text) ≡ true
 no_comment text p e = ap (list_all is_read) e ∙ program_read p
 
--- what a printer has printed behind the head, the trait, the fixed items, the types and the functions
+-- what a printer has printed after the head, the trait, the fixed items, the types and the functions
 pub printed_program : (p : Program) (text : List ℕ) (fresh head body whole typed all : List Token)
     → fresh ≡ []
     → head ≡ fresh ++ (allow_part p.allow ++ uses_tokens)

@@ -51,7 +51,7 @@ args_again end (suc n) (r ∷ rs) ts c h lt =
 paren_closes : Closes (Mark (codes ")") ∷ [])
 paren_closes = record { found = λ ts. refl; apart = λ r ts h. refl; stops = λ ts. refl }
 
--- a call from behind its ( on
+-- a call from after its ( on
 behind_again : (borrow : Bool) (to : Callee) (rs : List Read) (ts : List Token) → AllByRecursion IsRead rs
     → read_call borrow to (Word (codes "ctx") ∷ ((args_tokens rs ++ Mark (codes ")") ∷ []) ++ ts)) ≡ Some (expr.Call borrow (record { callee = to; args = rs }), ts)
 behind_again borrow to rs ts h =
@@ -72,7 +72,7 @@ literal_no_call : (ty : IntType) (n : ℤ) (ts : List Token) → at (Mark (codes
 literal_no_call ty (pos n) ts e = rw e refl
 literal_no_call ty (negsuc n) ts e = refl
 
--- an operand is no call of a term's function, where no ( stands behind it
+-- an operand is no call of a term's function, where no ( stands after it
 operand_no_call : (o : Operand) (ts : List Token) → at (Mark (codes "(")) ts ≡ false → called_term_fn (operand_tokens o ++ ts) ≡ None
 operand_no_call (operand.Local n) ts e = rw e refl
 operand_no_call (operand.Arg n) ts e = rw e refl
@@ -98,7 +98,7 @@ length-fields : (fs : List (List ℕ × Read)) → length fs < length (field_rea
 length-fields [] = omega arith
 length-fields (f ∷ fs) = omega (arith, length-append (field_read_tokens f) (field_reads_tokens fs), length-fields fs)
 
--- the braces of a made value, where no { stands behind it
+-- the braces of a made value, where no { stands after it
 made_again : (fs : List (List ℕ × Read)) (ts : List Token) → AllByRecursion IsFieldRead fs → at (Mark (codes "{")) ts ≡ false → read_made_fields (made_tokens fs ++ ts) ≡ Some (fs, ts)
 unfolding read_made_fields
 made_again [] ts h e = rw e refl
@@ -107,11 +107,11 @@ made_again (f ∷ fs) ts h e =
     let fuel : length (f ∷ fs) < length inside = omega (arith, length-append (field_reads_tokens (f ∷ fs)) ts, length-fields (f ∷ fs)) in
     rw (fields_again (length inside) (f ∷ fs) ts h fuel) refl
 
--- the function of the trait that is called behind C::
+-- the function of the trait that is called after C::
 abbrev called_behind : List Token → Reads Callee
 called_behind ts = called_name ts >>= (λ name. Some (callee.External name.0, name.1))
 
--- a variant is no call, where no ( stands behind it
+-- a variant is no call, where no ( stands after it
 variant_no_call : (ty variant : List ℕ) (ts : List Token) → at (Mark (codes "(")) ts ≡ false → called (Word ty ∷ Mark (codes "::") ∷ Word variant ∷ ts) ≡ None
 variant_no_call ty variant ts e = one _
   where
@@ -119,7 +119,7 @@ variant_no_call ty variant ts e = one _
     one true = rw e refl
     one false = refl
 
--- no ( stands behind a made value
+-- no ( stands after a made value
 made_stop : (fs : List (List ℕ × Read)) (ts : List Token) → at (Mark (codes "(")) ts ≡ false → at (Mark (codes "(")) (made_tokens fs ++ ts) ≡ false
 made_stop [] ts e = e
 made_stop (f ∷ fs) ts e = refl
@@ -164,7 +164,7 @@ within_again : (o : Operand) (as_ref : Bool) (ts : List Token) → IsOperand o �
 within_again o true ts h = rw (suffixed_again o (as_ref_part true ++ Mark (codes "?") ∷ ts) refl refl refl) (tried_again o true ts h)
 within_again o false ts h = rw (suffixed_again o (Mark (codes "?") ∷ ts) refl refl refl) (tried_again o false ts h)
 
--- what is computed is read again, up to the ; behind it
+-- what is computed is read again, up to the ; after it
 pub expr_again : (e : TExpr) (ts : List Token) → IsExpr e → read_expr (expr_tokens e ++ Mark (codes ";") ∷ ts) ≡ Some (e, Mark (codes ";") ∷ ts)
 expr_again (expr.Read (read.Plain o)) ts h =
     let after = Mark (codes ";") ∷ ts in

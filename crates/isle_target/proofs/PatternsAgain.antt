@@ -17,7 +17,7 @@ use Rattle.isle_target.proofs.ReadsAgain.{operand_apart}
 
 -- ---- fields
 
--- a local is read again, behind ref or not
+-- a local is read again, after ref or not
 bound_again : (by_ref : Bool) (n : ℕ) (ts : List Token) → read_bound (ref_part by_ref ++ local_token n ∷ ts) ≡ Some ((by_ref, n), ts)
 unfolding read_bound
 bound_again true n ts = rw (numeral_again 10 n (omega arith) (omega arith)) refl
@@ -38,7 +38,7 @@ length-binds : (bs : List TBind) (more : Bool) → length bs < length (binds_tok
 length-binds [] more = omega (arith, length-append (more_part more) (Mark (codes "}") ∷ []))
 length-binds (b ∷ bs) more = omega (arith, length-append (bind_tokens b) (binds_tokens bs more), length-binds bs more)
 
--- what stands between braces is read again, where no { stands behind it
+-- what stands between braces is read again, where no { stands after it
 braced_again : (bs : List TBind) (more : Bool) (ts : List Token) → at (Mark (codes "{")) ts ≡ false → read_braced (braced_tokens bs more ++ ts) ≡ Some ((bs, more), ts)
 unfolding read_braced
 braced_again [] false ts e = rw e refl
@@ -51,7 +51,7 @@ braced_again (b ∷ bs) more ts e =
     let fuel : length (b ∷ bs) < length inside = omega (arith, length-append (binds_tokens (b ∷ bs) more) ts, length-binds (b ∷ bs) more) in
     rw (binds_again (length inside) (b ∷ bs) more ts fuel) refl
 
--- a struct's pattern has no :: behind its name
+-- a struct's pattern has no :: after its name
 braced_stop : (bs : List TBind) (more : Bool) (ts : List Token) → at (Mark (codes "::")) ts ≡ false → at (Mark (codes "::")) (braced_tokens bs more ++ ts) ≡ false
 braced_stop [] false ts e = e
 braced_stop [] true ts e = refl
@@ -67,7 +67,7 @@ constant_is (operand.Int ty z) h = h
 constant_is (operand.Raw z) h = h
 constant_is (operand.Name name) h = h
 
--- a pattern is read again, up to the = behind it
+-- a pattern is read again, up to the = after it
 pub pattern_again : (p : TPat) (ts : List Token) → IsPattern p → read_pattern (pattern_tokens p ++ Mark (codes "=") ∷ ts) ≡ Some (p, Mark (codes "=") ∷ ts)
 unfolding read_pattern
 pattern_again (pattern.Const o) ts h =

@@ -36,7 +36,7 @@ literal_apart : (w m : List ℕ) (ty : IntType) (n : ℤ) (ts : List Token) → 
 literal_apart w m ty (pos n) ts e = second_apart (Word w) (Mark m) (Word (literal_word ty n)) ts e
 literal_apart w m ty (negsuc n) ts e = refl
 
--- a form that is told by a word and a mark begins at no operand that the mark isn't behind
+-- a form that is told by a word and a mark begins at no operand that the mark isn't after
 pub operand_apart : (w m : List ℕ) (o : Operand) (ts : List Token) → at (Mark m) ts ≡ false → phrase (Word w ∷ Mark m ∷ []) (operand_tokens o ++ ts) ≡ None
 operand_apart w m (operand.Local n) ts e = second_apart (Word w) (Mark m) (local_token n) ts e
 operand_apart w m (operand.Arg n) ts e = second_apart (Word w) (Mark m) (param_token n) ts e
@@ -56,18 +56,18 @@ unfolding read_suffixed
 bare_again o ts h e =
     rw (operand_again o ts h) (stays (at (Mark (codes "?")) ts) (at (Mark (codes ".")) ts) (Some (expr.Try o false, rest ts)) (dotted o (rest ts)) (Some (expr.Read (read.Plain o), ts)) e)
 
--- and with a ? behind it, with .as_ref() before that or not
+-- and with a ? after it, with .as_ref() before that or not
 pub tried_again : (o : Operand) (as_ref : Bool) (ts : List Token) → IsOperand o → read_suffixed (operand_tokens o ++ (as_ref_part as_ref ++ Mark (codes "?") ∷ ts)) ≡ Some (expr.Try o as_ref, ts)
 unfolding read_suffixed
 tried_again o true ts h = rw (operand_again o (as_ref_part true ++ Mark (codes "?") ∷ ts) h) refl
 tried_again o false ts h = rw (operand_again o (Mark (codes "?") ∷ ts) h) refl
 
--- and with .clone() behind it
+-- and with .clone() after it
 pub cloned_again : (o : Operand) (ts : List Token) → IsOperand o → read_suffixed (operand_tokens o ++ (clone_part ++ ts)) ≡ Some (expr.Read (read.Clone o), ts)
 unfolding read_suffixed
 cloned_again o ts h = rw (operand_again o (clone_part ++ ts) h) refl
 
--- and with the number of a part behind it
+-- and with the number of a part after it
 pub part_again : (o : Operand) (part : ℕ) (ts : List Token) → IsOperand o → read_suffixed (operand_tokens o ++ Mark (codes ".") ∷ Word (numeral 10 part) ∷ ts) ≡ Some (expr.Tuple o part, ts)
 unfolding read_suffixed
 part_again o part ts h =

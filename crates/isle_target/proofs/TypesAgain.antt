@@ -73,7 +73,7 @@ none_again : (public : Bool) (ts : List Token) → at (Mark (codes "{")) ts ≡ 
 unfolding read_fields
 none_again public ts e f = rw (e, f) refl
 
--- fields are read again, up to the comma behind them
+-- fields are read again, up to the comma after them
 fields_again : (public : Bool) (fs : TFields) (ts : List Token) → read_fields public (fields_tokens public fs ++ Mark (codes ",") ∷ ts) ≡ Some (fs, Mark (codes ",") ∷ ts)
 fields_again public shape.Unit ts = none_again public (Mark (codes ",") ∷ ts) refl refl
 fields_again public (shape.Named fs) ts = braced_again public fs (Mark (codes ",") ∷ ts)

@@ -185,7 +185,7 @@ literal_second : (m : List ℕ) (ty : IntType) (n : ℤ) (ts : List Token) → a
 literal_second m ty (pos n) ts e = e
 literal_second m ty (negsuc n) ts e = refl
 
--- a mark that isn't behind an operand isn't its second token either
+-- a mark that isn't after an operand isn't its second token either
 pub operand_second : (m : List ℕ) (o : Operand) (ts : List Token) → at (Mark m) ts ≡ false → at (Mark m) (rest (operand_tokens o ++ ts)) ≡ false
 operand_second m (operand.Local n) ts e = e
 operand_second m (operand.Arg n) ts e = e

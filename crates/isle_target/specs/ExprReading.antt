@@ -9,14 +9,14 @@ use Rattle.isle_tree.specs.declared.tree.TExpr.TheVariants as expr
 use Rattle.isle_target.specs.Tokens.{◌>>=◌, Reads, phrase, at, rest, after, any_word}
 use Rattle.isle_target.specs.OperandReading.{after_prefix, read_suffixed, read_borrowed, read_read}
 
--- an option of what is read, from behind its ( on
+-- an option of what is read, from after its ( on
 abbrev pub read_some : List Token → Reads TExpr
 read_some ts = do
   r ← read_read ts
   ts1 ← after (Mark (codes ")")) r.1
   Some (expr.Some r.0, ts1)
 
--- one argument more, given how to read those behind it
+-- one argument more, given how to read those after it
 abbrev pub read_arg : (List Token → Reads (List Read)) → List Token → Reads (List Read)
 read_arg args ts = do
   ts1 ← after (Mark (codes ",")) ts
@@ -29,33 +29,33 @@ abbrev pub read_arg_or : Option (List Token) → (List Token → Reads (List Rea
 read_arg_or None args ts = read_arg args ts
 read_arg_or (Some behind) args ts = Some ([], behind)
 
--- the arguments behind the context, and what closes them, at most so many
+-- the arguments after the context, and what closes them, at most so many
 unfoldable pub read_args : (end : List Token) → ℕ → List Token → Reads (List Read)
 read_args end zero ts = None
 read_args end (suc n) ts = read_arg_or (phrase end ts) (read_args end n) ts
 
--- a name with a ( behind it
+-- a name with a ( after it
 abbrev pub called_name : List Token → Reads (List ℕ)
 called_name ts = do
   name ← any_word ts
   ts1 ← after (Mark (codes "(")) name.1
   Some (name.0, ts1)
 
--- the function of the trait that is called here, up to the ( behind its name
+-- the function of the trait that is called here, up to the ( after its name
 abbrev pub called_trait_fn : List Token → Reads Callee
 called_trait_fn ts = do
   ts1 ← phrase (Word (codes "C") ∷ Mark (codes "::") ∷ []) ts
   name ← called_name ts1
   Some (callee.External name.0, name.1)
 
--- the function of a term that is called here, up to the ( behind its name
+-- the function of a term that is called here, up to the ( after its name
 abbrev pub called_term_fn : List Token → Reads Callee
 called_term_fn ts = do
   name ← called_name ts
   term ← after_prefix (codes "constructor_") name.0
   Some (callee.Internal term, name.1)
 
--- the function that is called here, up to the ( behind its name: one of the trait where :: stands behind the first word, else one of a term
+-- the function that is called here, up to the ( after its name: one of the trait where :: stands after the first word, else one of a term
 abbrev pub called : List Token → Reads Callee
 called ts = if at (Mark (codes "::")) (rest ts) then called_trait_fn ts else called_term_fn ts
 
@@ -66,7 +66,7 @@ read_call borrow to ts = do
   args ← read_args (Mark (codes ")") ∷ []) (length ts1) ts1
   Some (expr.Call borrow (record { callee = to; args = args.0 }), args.1)
 
--- one field of a made value more, given how to read those behind it
+-- one field of a made value more, given how to read those after it
 abbrev pub read_field_read : (List Token → Reads (List (List ℕ × Read))) → List Token → Reads (List (List ℕ × Read))
 read_field_read fields ts = do
   name ← any_word ts
@@ -76,12 +76,12 @@ read_field_read fields ts = do
   more ← fields ts2
   Some ((name.0, r.0) ∷ more.0, more.1)
 
--- the fields of a made value, and the } behind them, at most so many
+-- the fields of a made value, and the } after them, at most so many
 unfoldable pub read_field_reads : ℕ → List Token → Reads (List (List ℕ × Read))
 read_field_reads zero ts = None
 read_field_reads (suc k) ts = if at (Mark (codes "}")) ts then Some ([], rest ts) else read_field_read (read_field_reads k) ts
 
--- fields between braces, from behind the { on: there is one
+-- fields between braces, from after the { on: there is one
 abbrev pub read_some_fields : List Token → Reads (List (List ℕ × Read))
 read_some_fields ts = if at (Mark (codes "}")) ts then None else read_field_reads (length ts) ts
 
@@ -105,7 +105,7 @@ read_struct_made ts = do
   fields ← read_made_fields ty.1
   Some (expr.Struct ty.0 fields.0, fields.1)
 
--- a made value where :: or { stands behind the first word, and else an operand with what goes on it
+-- a made value where :: or { stands after the first word, and else an operand with what goes on it
 abbrev pub read_made : List Token → Reads TExpr
 read_made ts =
     if at (Mark (codes "::")) (rest ts) then read_variant_made ts

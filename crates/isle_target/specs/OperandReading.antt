@@ -20,13 +20,13 @@ use Rattle.isle_target.specs.Tokens.{◌>>=◌, Reads, phrase, at, rest, after, 
 
 -- ---- words
 
--- what stands behind the prefix
+-- what stands after the prefix
 abbrev pub after_prefix : List ℕ → List ℕ → Option (List ℕ)
 after_prefix [] w = Some w
 after_prefix (p ∷ ps) [] = None
 after_prefix (p ∷ ps) (b ∷ bs) = if p == b then after_prefix ps bs else None
 
--- the number behind a prefix
+-- the number after a prefix
 abbrev pub numbered : List ℕ → List ℕ → Option ℕ
 numbered prefix w = after_prefix prefix w >>= numeral_of 10
 
@@ -68,7 +68,7 @@ number_at ty n = let z = signed_bits ty n in if int_eq (wrapped ty z) n then Som
 abbrev pub positive : IntType × ℕ → Option Operand
 positive l = number_at l.0 (pos l.1)
 
--- the integer of this type and magnitude behind a minus, which 0 has not
+-- the integer of this type and magnitude after a minus, which 0 has not
 abbrev pub negative : IntType × ℕ → Option Operand
 negative (ty, zero) = None
 negative (ty, suc n) = number_at ty (negsuc n)
@@ -86,7 +86,7 @@ read_word ts = do
   o ← if is_number w.0 then counted w.0 else named w.0
   Some (o, w.1)
 
--- an integer, from behind its minus on
+-- an integer, from after its minus on
 abbrev pub read_negative : List Token → Reads Operand
 read_negative ts = do
   w ← any_word ts
@@ -98,31 +98,31 @@ read_negative ts = do
 unfoldable pub read_operand : List Token → Reads Operand
 read_operand ts = if at (Mark (codes "-")) ts then read_negative (rest ts) else read_word ts
 
--- whether what stands behind an operand goes on it
+-- whether what stands after an operand goes on it
 abbrev pub goes_on : List Token → Bool
 goes_on ts = at (Mark (codes "?")) ts || at (Mark (codes ".")) ts
 
--- .clone() from behind its . on
+-- .clone() from after its . on
 abbrev pub read_clone : Operand → List Token → Reads TExpr
 read_clone o ts = do
   ts1 ← phrase (rest clone_part) ts
   Some (expr.Read (read.Clone o), ts1)
 
--- .as_ref()? from behind its . on
+-- .as_ref()? from after its . on
 abbrev pub read_as_ref : Operand → List Token → Reads TExpr
 read_as_ref o ts = do
   ts1 ← phrase (rest (as_ref_part true)) ts
   ts2 ← after (Mark (codes "?")) ts1
   Some (expr.Try o true, ts2)
 
--- the number of a part of a tuple from behind its . on
+-- the number of a part of a tuple from after its . on
 abbrev pub read_part : Operand → List Token → Reads TExpr
 read_part o ts = do
   w ← any_word ts
   part ← numeral_of 10 w.0
   Some (expr.Tuple o part, w.1)
 
--- what stands behind an operand's .
+-- what stands after an operand's .
 abbrev pub dotted : Operand → List Token → Reads TExpr
 dotted o ts = if at (Word (codes "clone")) ts then read_clone o ts else (if at (Word (codes "as_ref")) ts then read_as_ref o ts else read_part o ts)
 

@@ -21,7 +21,7 @@ read_local by_ref ts = do
 unfoldable pub read_bound : List Token → Reads (Bool × ℕ)
 read_bound ts = if at (Word (codes "ref")) ts then read_local true (rest ts) else read_local false ts
 
--- one field more, given how to read those behind it
+-- one field more, given how to read those after it
 abbrev pub read_bind : (List Token → Reads (List TBind × Bool)) → List Token → Reads (List TBind × Bool)
 read_bind binds ts = do
   field ← any_word ts
@@ -31,13 +31,13 @@ read_bind binds ts = do
   more ← binds ts2
   Some ((record { field = field.0; by_ref = local.0.0; local = local.0.1 } ∷ more.0.0, more.0.1), more.1)
 
--- what stands behind ..
+-- what stands after ..
 abbrev pub read_more : List Token → Reads (List TBind × Bool)
 read_more ts = do
   ts1 ← after (Mark (codes "}")) ts
   Some (([], true), ts1)
 
--- the fields, whether more are left out, and the } behind them, at most so many
+-- the fields, whether more are left out, and the } after them, at most so many
 unfoldable pub read_binds : ℕ → List Token → Reads (List TBind × Bool)
 read_binds zero ts = None
 read_binds (suc k) ts =
@@ -54,14 +54,14 @@ read_braced ts = if at (Mark (codes "{")) ts then read_some_binds (rest ts) else
 
 -- ---- patterns
 
--- a variant from behind its :: on
+-- a variant from after its :: on
 abbrev pub read_variant_pattern : List ℕ → List Token → Reads TPat
 read_variant_pattern ty ts = do
   variant ← any_word ts
   inside ← read_braced variant.1
   Some (pattern.Variant ty variant.0 inside.0.0 inside.0.1, inside.1)
 
--- a struct from behind its name on
+-- a struct from after its name on
 abbrev pub read_struct_pattern : List ℕ → List Token → Reads TPat
 read_struct_pattern ty ts = do
   inside ← read_braced ts
@@ -77,7 +77,7 @@ read_made_pattern ts = do
 abbrev pub inner_local : List ℕ → Option (Option ℕ)
 inner_local w = if same_bytes (codes "_") w then Some None else numbered (codes "v") w >>= (λ n. Some (Some n))
 
--- Some(..) from behind its ( on
+-- Some(..) from after its ( on
 abbrev pub read_inner : List Token → Reads TPat
 read_inner ts = do
   w ← any_word ts

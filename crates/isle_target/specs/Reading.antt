@@ -33,7 +33,7 @@ read_typed n ts = do
   ts2 ← after (Mark (codes ":")) ts1
   read_ty ts2
 
--- one parameter more, the n-th, given how to read those behind it
+-- one parameter more, the n-th, given how to read those after it
 abbrev pub read_param : ℕ → (List Token → Reads (List Ty)) → List Token → Reads (List Ty)
 read_param n params ts = do
   ty ← read_typed n ts
@@ -52,7 +52,7 @@ read_plain_result ts = do
   w ← any_word ts
   Some ((kind.Plain, w.0), w.1)
 
--- the type of an option, from behind its < on
+-- the type of an option, from after its < on
 abbrev pub read_option_result : List Token → Reads (ReturnKind × List ℕ)
 read_option_result ts = do
   w ← any_word ts
@@ -64,7 +64,7 @@ abbrev pub read_either_result : Option (List Token) → List Token → Reads (Re
 read_either_result None ts = read_plain_result ts
 read_either_result (Some inner) ts = read_option_result inner
 
--- what a function gives that answers once, from behind its ) on
+-- what a function gives that answers once, from after its ) on
 abbrev pub read_once_result : List Token → Reads (ReturnKind × List ℕ)
 read_once_result ts = do
   ts1 ← after (Mark (codes "->")) ts
@@ -78,7 +78,7 @@ read_several_result ts = do
   ts2 ← phrase returns_end w.1
   Some ((kind.Iterator, w.0), ts2)
 
--- how often a function answers, and what type, from behind its parameters on
+-- how often a function answers, and what type, from after its parameters on
 unfoldable pub read_result : List Token → Reads (ReturnKind × List ℕ)
 read_result ts = if at (Mark (codes ")")) ts then read_once_result (rest ts) else read_several_result ts
 
@@ -103,7 +103,7 @@ read_functions (suc n) (t ∷ ts) = do
   fs ← read_functions n f.1
   Some (f.0 ∷ fs)
 
--- one parameter more of a function of the trait, given how to read those behind it
+-- one parameter more of a function of the trait, given how to read those after it
 abbrev pub read_joined_param : ℕ → (List Token → Reads (List Ty)) → List Token → Reads (List Ty)
 read_joined_param n params ts = do
   ts1 ← phrase (comma n) ts
@@ -121,7 +121,7 @@ unfoldable pub read_joined : ReturnKind → (name : List ℕ) → ℕ → ℕ �
 read_joined how name zero n ts = None
 read_joined how name (suc k) n ts = read_joined_or (phrase (joined_end how name n) ts) n (read_joined how name k (n + 1)) ts
 
--- one type more of a tuple, given how to read those behind it
+-- one type more of a tuple, given how to read those after it
 abbrev pub read_joined_type : ℕ → (List Token → Reads (List (List ℕ))) → List Token → Reads (List (List ℕ))
 read_joined_type n tys ts = do
   ts1 ← phrase (comma n) ts
@@ -129,7 +129,7 @@ read_joined_type n tys ts = do
   more ← tys ty.1
   Some (ty.0 ∷ more.0, more.1)
 
--- those from number n on, and the ) behind them, at most so many
+-- those from number n on, and the ) after them, at most so many
 unfoldable pub read_joined_types : ℕ → ℕ → List Token → Reads (List (List ℕ))
 read_joined_types zero n ts = None
 read_joined_types (suc k) n ts = if at (Mark (codes ")")) ts then Some ([], rest ts) else read_joined_type n (read_joined_types k (n + 1)) ts
@@ -140,7 +140,7 @@ if_tuple [] ts = Some ([], ts)
 if_tuple (ty ∷ []) ts = None
 if_tuple (ty ∷ more ∷ tys) ts = Some (ty ∷ more ∷ tys, ts)
 
--- the types of a tuple from behind its ( on
+-- the types of a tuple from after its ( on
 abbrev pub read_tuple_types : List Token → Reads (List (List ℕ))
 read_tuple_types ts = do
   tys ← read_joined_types (length ts) 0 ts
@@ -162,7 +162,7 @@ read_plain_results ts = do
   tys ← read_item ts
   Some ((kind.Plain, tys.0), tys.1)
 
--- those of an option, from behind its < on
+-- those of an option, from after its < on
 abbrev pub read_option_results : List Token → Reads (ReturnKind × List (List ℕ))
 read_option_results ts = do
   tys ← read_item ts
@@ -194,7 +194,7 @@ read_once_fn ts = do
 abbrev pub if_listed : List ℕ → TraitFn → List Token → Reads TraitFn
 if_listed list f ts = if same_bytes list (returns_word f.name) then Some (f, ts) else None
 
--- one that answers several times, from behind the type of its list on
+-- one that answers several times, from after the type of its list on
 abbrev pub read_several_fn : List ℕ → List (List ℕ) → List Token → Reads TraitFn
 read_several_fn list tys ts = do
   ts1 ← after (Word (codes "fn")) ts
@@ -204,7 +204,7 @@ read_several_fn list tys ts = do
   ts3 ← phrase (trait_result kind.Iterator tys) params.1
   if_listed list (record { name = name.0; params = params.0; results = tys; kind = kind.Iterator }) ts3
 
--- the type of its list, from behind the type on, and such a function
+-- the type of its list, from after the type on, and such a function
 abbrev pub read_listed_fn : List Token → Reads TraitFn
 read_listed_fn ts = do
   list ← any_word ts
@@ -213,18 +213,18 @@ read_listed_fn ts = do
   ts2 ← phrase (Mark (codes ">") ∷ Mark (codes ";") ∷ []) tys.1
   read_several_fn list.0 tys.0 ts2
 
--- a function of the trait: behind the type of its list it answers several times
+-- a function of the trait: after the type of its list it answers several times
 unfoldable pub read_trait_fn : List Token → Reads TraitFn
 read_trait_fn ts = if at (Word (codes "type")) ts then read_listed_fn (rest ts) else read_once_fn ts
 
--- one function of the trait more, given how to read those behind it
+-- one function of the trait more, given how to read those after it
 abbrev pub read_trait_more : (List Token → Reads (List TraitFn)) → List Token → Reads (List TraitFn)
 read_trait_more more ts = do
   f ← read_trait_fn ts
   fs ← more f.1
   Some (f.0 ∷ fs.0, fs.1)
 
--- the functions of the trait, up to the } behind them, at most so many
+-- the functions of the trait, up to the } after them, at most so many
 unfoldable pub read_trait_fns : ℕ → List Token → Reads (List TraitFn)
 read_trait_fns zero ts = None
 read_trait_fns (suc n) ts = if at (Mark (codes "}")) ts then Some ([], ts) else read_trait_more (read_trait_fns n) ts
@@ -237,7 +237,7 @@ read_trait ts = do
   ts2 ← phrase close fs.1
   Some (fs.0, ts2)
 
--- whether the allow lines stand here, and the tokens behind them
+-- whether the allow lines stand here, and the tokens after them
 abbrev pub after_allow : Option (List Token) → List Token → Bool × List Token
 after_allow (Some rest) ts = (true, rest)
 after_allow None ts = (false, ts)

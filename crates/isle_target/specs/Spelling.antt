@@ -197,7 +197,7 @@ abbrev pub variants_tokens : List (List ℕ × TFields) → List Token
 variants_tokens [] = Mark (codes "}") ∷ []
 variants_tokens (v ∷ vs) = variant_tokens v ++ variants_tokens vs
 
--- what stands behind the fields of a struct
+-- what stands after the fields of a struct
 abbrev pub struct_end : TFields → List Token
 struct_end shape.Unit = Mark (codes ";") ∷ []
 struct_end (shape.Named fs) = []

@@ -62,11 +62,11 @@ read_loop body n ts = do
   ts2 ← phrase (next_part n) w.1
   read_inside body (Loop n item) ts2
 
--- a loop where . stands behind the first word, and else a list
+-- a loop where . stands after the first word, and else a list
 abbrev pub read_list_or_loop : (List Token → Reads Body) → ℕ → List Token → Reads Stmt
 read_list_or_loop body n ts = if at (Mark (codes ".")) (rest ts) then read_loop body n ts else read_list n ts
 
--- let mut, from behind the mut on
+-- let mut, from after the mut on
 abbrev pub read_let_mut : (List Token → Reads Body) → List Token → Reads Stmt
 read_let_mut body ts = do
   w ← any_word ts
@@ -88,13 +88,13 @@ read_stop inside ts = do
   ts1 ← phrase (stop_part inside) ts
   Some (Overflow inside, ts1)
 
--- a stop at a full list, from behind if returns. on
+-- a stop at a full list, from after if returns. on
 abbrev pub read_overflow : List Token → Reads Stmt
 read_overflow ts = do
   ts1 ← phrase full_part ts
   if at (Word (codes "true")) ts1 then read_stop true ts1 else read_stop false ts1
 
--- ---- statements, from behind their first word on, given how to read a body
+-- ---- statements, from after their first word on, given how to read a body
 
 -- let with one local
 abbrev pub read_let_one : List Token → Reads Stmt
@@ -126,7 +126,7 @@ read_if_eq body ts = do
   ts2 ← after (Mark (codes "{")) b.1
   read_inside body (IfEq a.0 b.0) ts2
 
--- if let, from behind the let on
+-- if let, from after the let on
 abbrev pub read_if_let : (List Token → Reads Body) → List Token → Reads Stmt
 read_if_let body ts = do
   pat ← read_pattern ts
@@ -135,7 +135,7 @@ read_if_let body ts = do
   ts2 ← after (Mark (codes "{")) r.1
   read_inside body (IfLet pat.0 r.0) ts2
 
--- if without a let: a stop where returns. stands behind it, and else a test
+-- if without a let: a stop where returns. stands after it, and else a test
 abbrev pub read_if_full : Option (List Token) → (List Token → Reads Body) → List Token → Reads Stmt
 read_if_full None body ts = read_if_eq body ts
 read_if_full (Some behind) body ts = read_overflow behind

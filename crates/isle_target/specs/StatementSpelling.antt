@@ -57,7 +57,7 @@ read_tokens (read.Plain o) = operand_tokens o
 read_tokens (read.Borrow o) = Mark (codes "&") ∷ operand_tokens o
 read_tokens (read.Clone o) = operand_tokens o ++ clone_part
 
--- a &, where something is behind one
+-- a &, where something is after one
 abbrev pub borrow_part : Bool → List Token
 borrow_part true = Mark (codes "&") ∷ []
 borrow_part false = []
@@ -79,7 +79,7 @@ abbrev pub callee_head : Callee → List Token
 callee_head (callee.External name) = call_head name
 callee_head (callee.Internal term) = term_call_head term
 
--- the arguments of a call, each behind a comma
+-- the arguments of a call, each after a comma
 abbrev pub args_tokens : List Read → List Token
 args_tokens [] = []
 args_tokens (r ∷ rs) = Mark (codes ",") ∷ (read_tokens r ++ args_tokens rs)
@@ -279,7 +279,7 @@ abbrev pub tail_tokens : Option (List ℕ × List ℕ) → List Token
 tail_tokens None = Word (codes "None") ∷ []
 tail_tokens (Some texts) = unreachable_head ++ texts_tokens texts.0 texts.1
 
--- statements, one behind the other
+-- statements, one after the other
 abbrev mutual
   pub stmt_tokens : Stmt → List Token
   stmt_tokens (Let n e) = let_tokens n e

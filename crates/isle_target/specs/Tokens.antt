@@ -9,7 +9,7 @@ abbrev pub ◌>>=◌ : {A B : Type 0} → Option A → (A → Option B) → Opti
 None >>= f = None
 (Some x) >>= f = f x
 
--- what is read, and the tokens behind it
+-- what is read, and the tokens after it
 abbrev pub Reads : Type 0 → Type 0
 Reads A = Option (A × List Token)
 
@@ -41,7 +41,7 @@ same_token Comment (Quoted b) = false
 same_token Comment Stray = false
 same_token Comment Comment = false
 
--- the tokens behind these
+-- the tokens after these
 abbrev pub phrase : List Token → List Token → Option (List Token)
 phrase [] ts = Some ts
 phrase (p ∷ ps) [] = None
@@ -52,12 +52,12 @@ abbrev pub at : Token → List Token → Bool
 at t [] = false
 at t (u ∷ us) = same_token t u
 
--- the tokens behind the next
+-- the tokens after the next
 abbrev pub rest : List Token → List Token
 rest [] = []
 rest (t ∷ ts) = ts
 
--- the tokens behind this one
+-- the tokens after this one
 abbrev pub after : Token → List Token → Option (List Token)
 after t ts = if at t ts then Some (rest ts) else None
 

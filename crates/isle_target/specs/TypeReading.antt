@@ -33,7 +33,7 @@ read_derive ts = do
 
 -- ---- fields
 
--- one field with a name more, given how to read those behind it
+-- one field with a name more, given how to read those after it
 abbrev pub read_field : Bool → (List Token → Reads (List (List ℕ × List ℕ))) → List Token → Reads (List (List ℕ × List ℕ))
 read_field public fields ts = do
   ts1 ← phrase (visible public) ts
@@ -44,7 +44,7 @@ read_field public fields ts = do
   more ← fields ts3
   Some ((name.0, ty.0) ∷ more.0, more.1)
 
--- fields with names, and the } behind them, at most so many
+-- fields with names, and the } after them, at most so many
 unfoldable pub read_named : Bool → ℕ → List Token → Reads (List (List ℕ × List ℕ))
 read_named public zero ts = None
 read_named public (suc k) ts = if at (Mark (codes "}")) ts then Some ([], rest ts) else read_field public (read_named public k) ts
@@ -58,18 +58,18 @@ read_place public n places ts = do
   more ← places ty.1
   Some (ty.0 ∷ more.0, more.1)
 
--- fields without names from number n on, and the ) behind them, at most so many
+-- fields without names from number n on, and the ) after them, at most so many
 unfoldable pub read_places : Bool → ℕ → ℕ → List Token → Reads (List (List ℕ))
 read_places public zero n ts = None
 read_places public (suc k) n ts = if at (Mark (codes ")")) ts then Some ([], rest ts) else read_place public n (read_places public k (n + 1)) ts
 
--- fields from behind their { on
+-- fields from after their { on
 abbrev pub read_braced : Bool → List Token → Reads TFields
 read_braced public ts = do
   fields ← read_named public (length ts) ts
   Some (shape.Named fields.0, fields.1)
 
--- fields from behind their ( on
+-- fields from after their ( on
 abbrev pub read_tuple : Bool → List Token → Reads TFields
 read_tuple public ts = do
   tys ← read_places public (length ts) 0 ts
@@ -93,7 +93,7 @@ read_variant variants ts = do
   more ← variants ts1
   Some ((name.0, fields.0) ∷ more.0, more.1)
 
--- variants, and the } behind them, at most so many
+-- variants, and the } after them, at most so many
 unfoldable pub read_variants : ℕ → List Token → Reads (List (List ℕ × TFields))
 read_variants zero ts = None
 read_variants (suc k) ts = if at (Mark (codes "}")) ts then Some ([], rest ts) else read_variant (read_variants k) ts

@@ -57,7 +57,7 @@ pub fn print_callee(out: &mut Printer, callee: &Callee) -> Result<(), AllocError
     }
 }
 
-/// Prints the arguments, each behind a comma. What is printed after an error is left open.
+/// Prints the arguments, each after a comma. What is printed after an error is left open.
 pub fn print_args(out: &mut Printer, args: &[Read]) -> Result<(), AllocError>
     requires { AllByRecursion IsRead args.now }
     ensures { OnOk result (out.new ≡ out.old ++ args_tokens args.now) }

@@ -22,7 +22,7 @@ fn print_some(out: &mut Printer, read: &Read) -> Result<(), AllocError>
     out.mark(")")
 }
 
-// Prints a call, behind a `&` or not.
+// Prints a call, after a `&` or not.
 fn print_borrowed(out: &mut Printer, borrow: bool, call: &TCall) -> Result<(), AllocError>
     requires { IsCall call.now }
     ensures { OnOk result (out.new ≡ out.old ++ expr_tokens (TExpr.Call borrow call.now)) }

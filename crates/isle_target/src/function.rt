@@ -44,7 +44,7 @@ fn print_head(out: &mut Printer, term: &str) -> Result<(), AllocError>
     print_generics(out)
 }
 
-/// Prints `:`, with a blank behind it. What is printed after an error is left open.
+/// Prints `:`, with a blank after it. What is printed after an error is left open.
 #[tactic(auto, unfolding(isle_printer::specs::Token::step, isle_printer::specs::Token::begun))]
 pub fn print_colon(out: &mut Printer) -> Result<(), AllocError>
     ensures { OnOk result (out.new ≡ out.old ++ Mark (codes ":") ∷ []) }
@@ -136,7 +136,7 @@ fn print_gives(out: &mut Printer, kind: ReturnKind, ty: &str) -> Result<(), Allo
     out.mark("{")
 }
 
-/// Prints the function of a term behind a line of its own. What is printed after an error is left open.
+/// Prints the function of a term after a line of its own. What is printed after an error is left open.
 pub fn print_function(out: &mut Printer, f: &Function) -> Result<(), AllocError>
     requires names { HasNames (function f.now) }
     requires forms { IsBody (body f.now.body) }

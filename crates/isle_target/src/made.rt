@@ -26,7 +26,7 @@ fn print_field_read(out: &mut Printer, field: &(Text, Read)) -> Result<(), Alloc
     out.mark(",")
 }
 
-// Prints the fields, each behind a blank, and what closes them.
+// Prints the fields, each after a blank, and what closes them.
 fn print_field_reads(out: &mut Printer, fields: &[(Text, Read)]) -> Result<(), AllocError>
     requires { AllByRecursion IsFieldRead fields.now }
     ensures { OnOk result (out.new ≡ out.old ++ field_reads_tokens fields.now) }
@@ -65,7 +65,8 @@ pub fn print_variant_made(
     requires ty { IsIdentifier ty.now }
     requires variant { IsIdentifier variant.now }
     requires fields { AllByRecursion IsFieldRead fields.now }
-    ensures { OnOk result (out.new ≡ out.old ++ expr_tokens (computed.Variant ty.now variant.now fields.now)) }
+    ensures { OnOk result
+        (out.new ≡ out.old ++ expr_tokens (computed.Variant ty.now variant.now fields.now)) }
 {
     out.word(ty)?;
     out.mark("::")?;

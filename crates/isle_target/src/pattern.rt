@@ -44,7 +44,7 @@ fn print_more(out: &mut Printer, more: bool) -> Result<(), AllocError>
     Ok(())
 }
 
-// Prints the fields, each behind a blank, and what closes them.
+// Prints the fields, each after a blank, and what closes them.
 fn print_binds(out: &mut Printer, binds: &[TBind], more: bool) -> Result<(), AllocError>
     requires { AllByRecursion IsBind binds.now }
     ensures { OnOk result (out.new ≡ out.old ++ binds_tokens binds.now more) }
@@ -83,7 +83,8 @@ fn print_variant_pattern(
     requires ty { IsIdentifier ty.now }
     requires variant { IsIdentifier variant.now }
     requires binds { AllByRecursion IsBind binds.now }
-    ensures { OnOk result (out.new ≡ out.old ++ pattern_tokens (TPat.Variant ty.now variant.now binds.now more)) }
+    ensures { OnOk result
+        (out.new ≡ out.old ++ pattern_tokens (TPat.Variant ty.now variant.now binds.now more)) }
 {
     out.mark("&")?;
     out.word(ty)?;
@@ -102,7 +103,8 @@ fn print_struct_pattern(
 ) -> Result<(), AllocError>
     requires ty { IsIdentifier ty.now }
     requires binds { AllByRecursion IsBind binds.now }
-    ensures { OnOk result (out.new ≡ out.old ++ pattern_tokens (TPat.Struct ty.now binds.now more)) }
+    ensures { OnOk result
+        (out.new ≡ out.old ++ pattern_tokens (TPat.Struct ty.now binds.now more)) }
 {
     out.mark("&")?;
     out.word(ty)?;

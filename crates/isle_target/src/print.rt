@@ -43,7 +43,8 @@ fn print_functions(out: &mut Printer, p: &Program) -> Result<(), AllocError>
 pub fn print_program(alloc: Global, p: &Program) -> Result<String, OutOfMemory>
     requires { IsWellFormed (program p.now) }
     ensures spells { IfOk result (λ text. SpellsOnly (string_bytes text) (program p.now)) }
-    ensures tokens { IfOk result (λ text. tokens_of (string_bytes text) ≡ program_tokens (program p.now)) }
+    ensures tokens { IfOk result (λ text.
+        tokens_of (string_bytes text) ≡ program_tokens (program p.now)) }
     ensures no_comment { IfOk result (λ text. HasNoComment (string_bytes text)) }
 {
     let mut out = Printer::new(alloc);

@@ -75,7 +75,8 @@ fn print_if_let(out: &mut Printer, pat: &TPat, read: &Read) -> Result<(), AllocE
 // Prints what is said where no rule matches, up to the term.
 #[tactic(auto, unfolding(crate::specs::StatementSpelling::no_rule, isle_printer::specs::Token::step, isle_printer::specs::Token::begun))]
 fn print_no_rule(out: &mut Printer) -> Result<(), AllocError>
-    ensures { OnOk result (out.new ≡ out.old ++ (unreachable_head ++ Quoted no_rule ∷ Mark (codes ",") ∷ [])) }
+    ensures { OnOk result
+        (out.new ≡ out.old ++ (unreachable_head ++ Quoted no_rule ∷ Mark (codes ",") ∷ [])) }
 {
     out.piece(NO_RULE)
 }
@@ -90,7 +91,9 @@ fn print_comma(out: &mut Printer) -> Result<(), AllocError>
 
 // Prints a term and its place, and the end of the call.
 fn print_texts(out: &mut Printer, term: &str, place: &str) -> Result<(), AllocError>
-    ensures { OnOk result (out.new ≡ out.old ++ Quoted term.now ∷ Mark (codes ",") ∷ Quoted place.now ∷ Mark (codes ")") ∷ []) }
+    ensures { OnOk result
+        (out.new ≡ out.old ++ Quoted term.now ∷ Mark (codes ",") ∷ Quoted place.now
+        ∷ Mark (codes ")") ∷ []) }
 {
     out.quoted(term)?;
     print_comma(out)?;
@@ -116,7 +119,7 @@ fn print_log(out: &mut Printer, term: &str, place: &str) -> Result<(), AllocErro
     out.mark(";")
 }
 
-// Prints what a function gives behind its last rule.
+// Prints what a function gives after its last rule.
 fn print_tail(out: &mut Printer, texts: &Option<(Text, Text)>) -> Result<(), AllocError>
     ensures { OnOk result (out.new ≡ out.old ++ tail_tokens texts.now) }
 {

@@ -126,7 +126,7 @@ fn print_variants(out: &mut Printer, variants: &[(Text, TFields)]) -> Result<(),
     out.mark("}")
 }
 
-// Prints what stands behind the fields of a struct.
+// Prints what stands after the fields of a struct.
 fn print_end(out: &mut Printer, fields: &TFields) -> Result<(), AllocError>
     ensures { OnOk result (out.new ≡ out.old ++ struct_end fields.now) }
 {
@@ -141,7 +141,8 @@ fn print_end(out: &mut Printer, fields: &TFields) -> Result<(), AllocError>
 fn print_enum(out: &mut Printer, name: &str, variants: &[(Text, TFields)]) -> Result<(), AllocError>
     requires name { IsIdentifier name.now }
     requires variants { AllByRecursion IsVariant variants.now }
-    ensures { OnOk result (out.new ≡ out.old ++ type_body_tokens name.now (TypeBody.Enum variants.now)) }
+    ensures { OnOk result
+        (out.new ≡ out.old ++ type_body_tokens name.now (TypeBody.Enum variants.now)) }
 {
     out.piece("pub enum ")?;
     out.word(name)?;
@@ -154,7 +155,8 @@ fn print_enum(out: &mut Printer, name: &str, variants: &[(Text, TFields)]) -> Re
 fn print_struct(out: &mut Printer, name: &str, fields: &TFields) -> Result<(), AllocError>
     requires name { IsIdentifier name.now }
     requires fields { AreFields fields.now }
-    ensures { OnOk result (out.new ≡ out.old ++ type_body_tokens name.now (TypeBody.Struct fields.now)) }
+    ensures { OnOk result
+        (out.new ≡ out.old ++ type_body_tokens name.now (TypeBody.Struct fields.now)) }
 {
     out.piece("pub struct ")?;
     out.word(name)?;
@@ -187,7 +189,7 @@ fn print_type(out: &mut Printer, item: &TypeItem) -> Result<(), AllocError>
     out.line()
 }
 
-/// Prints the declared types of a program, each behind a blank line. What is printed after an error is left open.
+/// Prints the declared types of a program, each after a blank line. What is printed after an error is left open.
 pub fn print_types(out: &mut Printer, items: &[TypeItem]) -> Result<(), AllocError>
     requires { AllByRecursion IsTypeItem items.now }
     ensures { OnOk result (out.new ≡ out.old ++ types_tokens items.now) }

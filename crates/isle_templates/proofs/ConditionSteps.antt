@@ -51,7 +51,7 @@ pub conditions_more : (g : IfLet → IfLet) (base : ℕ) (done : List CodeIfLet)
 conditions_more g base done x conditions h =
     subst (λ cs. AreConditions base cs conditions) (sym (ap (map g) (map-append elaborated done (x ∷ [])) ∙ map-append g (map elaborated done) (elaborated x ∷ []))) h
 
--- there are no fewer nodes with those behind them
+-- there are no fewer nodes with those after them
 pub too_many : (g : IfLet → IfLet) (base : ℕ) (all done rest : List CodeIfLet) (x : CodeIfLet) → done ++ x ∷ rest ≡ all → 4096 < base + total (map condition_nodes (map g (map elaborated done) ++ g (elaborated x) ∷ [])) → 4096 < base + total (map condition_nodes (map g (map elaborated all)))
 too_many g base all done rest x is h =
     let split : map g (map elaborated all) ≡ map g (map elaborated done) ++ (g (elaborated x) ∷ map g (map elaborated rest)) =
@@ -69,7 +69,7 @@ patterns_total (p ∷ ps) = ap (λ n. pattern_nodes p + n) (patterns_total ps)
 pub large_args : (templates : List (Option Pattern)) (r : Rule) (n : ℕ) → n ≡ min (expr_nodes r.rhs) (2 ^ 64 - 1) → 4096 < n + patterns_nodes (patterns_of (map (expanded templates) r.args)) → 4096 < rule_nodes (rule_expanded templates r)
 large_args templates r n is large = omega (arith, patterns_total (map (expanded templates) r.args))
 
--- conditions that are too large behind these patterns
+-- conditions that are too large after these patterns
 pub large_conditions : (templates : List (Option Pattern)) (r : Rule) (n m : ℕ) → n ≡ min (expr_nodes r.rhs) (2 ^ 64 - 1) → m ≡ n + patterns_nodes (patterns_of (map (expanded templates) r.args)) → 4096 < m + total (map condition_nodes (map (condition_expanded templates) r.iflets))
     → 4096 < rule_nodes (rule_expanded templates r)
 large_conditions templates r n m is sum large = omega (arith, patterns_total (map (expanded templates) r.args))

@@ -45,11 +45,11 @@ module _ (env : Environment) (written : List (Option Pattern)) (sound : AreWritt
   patterns_typed [] (p ∷ ps) h = absurd h
   patterns_typed (ty ∷ tys) [] h = absurd h
 
-  -- the variables behind one condition more
+  -- the variables after one condition more
   condition_same : (vars others : List (TypeId × ℕ)) (ty : TypeId) (c : IfLet) → SameVariables vars others → IsWrittenOf env written ty c.lhs → SameVariables (vars ++ typed_variables c.lhs) (others ++ typed_variables (whole c.lhs))
   condition_same vars others ty c same h = same_append vars (typed_variables c.lhs) others (typed_variables (whole c.lhs)) same (pattern_same ty c.lhs h)
 
-  -- the variables behind all conditions
+  -- the variables after all conditions
   conditions_same : (cs : List IfLet) (vars others : List (TypeId × ℕ)) → SameVariables vars others → AreWrittenIfLetsOf env written vars cs → SameVariables (iflets_typed vars cs) (iflets_typed others (map whole_condition cs))
   conditions_same [] vars others same h = same
   conditions_same (c ∷ cs) vars others same h = conditions_same cs (vars ++ typed_variables c.lhs) (others ++ typed_variables (whole c.lhs)) (condition_same vars others h.0.ty c same h.0.lhs) h.1

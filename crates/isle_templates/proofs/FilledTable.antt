@@ -1,4 +1,4 @@
--- A table of templates that is filled in an order in which each comes behind those that it uses.
+-- A table of templates that is filled in an order in which each comes after those that it uses.
 use Rattle.std.proofs.Common.{◌≡◌, ◌⊎◌, inl, inr, ⊎_elim, ℕ, zero, suc, ◌+◌, ◌<◌, ◌≤◌, List, [], ◌∷◌, length, map, take, set, get_or, Bool, true, false, eqb, Option, Some, None, refl, sym, ap, ◌∙◌, subst, arith}
 use Rattle.std.specs.Prelude.{Contains, slice_get, option_map, option_and_then}
 use Rattle.std.proofs.lemmas.Bool.{eqb-true, eq-eqb}
@@ -28,7 +28,7 @@ pub record IsFilled (written : List (Option Pattern)) (terms : List ℕ) (table 
   pub stands : StandFor filled table
   pub many : length table ≡ length written
 
--- ---- what a list has behind a change
+-- ---- what a list has after a change
 
 got_same : {X : Type 0} (xs : List X) (i : ℕ) (x : X) → i < length xs → slice_get (set xs i x) i ≡ Some x
 got_same [] i x lt = absurd (omega arith)

@@ -14,7 +14,7 @@ none_of : (o : Option ℕ) → is_some o ≡ false → o ≡ None
 none_of None e = refl
 none_of (Some n) e = cc
 
--- one that stands nowhere is not the first, and stands nowhere behind it
+-- one that stands nowhere is not the first, and stands nowhere after it
 nowhere : (first : Bool) (place : Option ℕ) → cond first (Some 0) (option_map suc place) ≡ None → (first ≡ false) × (place ≡ None)
 nowhere true place e = cc
 nowhere false None e = (refl, refl)
@@ -34,7 +34,7 @@ place_of_more (y ∷ ys) new x e =
     pick differs rest false is true was = ap (option_map suc) (rest ∙ ap (λ b. cond b (Some (length ys)) (place_of ys x)) was)
     pick differs rest false is false was = ap (option_map suc) (rest ∙ ap (λ b. cond b (Some (length ys)) (place_of ys x)) was)
 
--- what the map has behind an update
+-- what the map has after an update
 pub got : (old new : BTreeMap ℕ ℕ) (key x place : ℕ) → Updates nat_cmp old new key (Some place) → get nat_cmp new x ≡ cond (eqb key x) (Some place) (get nat_cmp old x)
 got old new key x place updates = one (is_at (nat_cmp key) x) refl (eqb key x) refl
   where

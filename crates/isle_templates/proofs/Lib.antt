@@ -29,3 +29,5 @@ pub mod ExpansionSteps
 pub mod TemplateOrder
 pub mod FilledTable
 pub mod ConditionSteps
+pub mod MarkedTerms
+pub mod ExpandedUses

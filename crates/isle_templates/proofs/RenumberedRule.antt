@@ -30,7 +30,7 @@ module _ (order : List ℕ) where
   among_rest : (xs ys : List ℕ) → AreAmong order (xs ++ ys) → AreAmong order ys
   among_rest xs ys among x c = among x (Contains-append_right xs ys x c)
 
-  -- the variables of patterns, and those behind conditions
+  -- the variables of patterns, and those after conditions
   patterns_renamed : (ps : List Pattern) → all_typed (map (renamed order) ps) ≡ new_all (all_typed ps)
   patterns_renamed [] = refl
   patterns_renamed (p ∷ ps) =

@@ -1,4 +1,4 @@
--- Rules with templates in place of the internal extractors that they use, and with variables numbered behind it.
+-- Rules with templates in place of the internal extractors that they use, and with variables numbered after it.
 use Rattle.std.specs.Prelude.{◌<◌, ◌≤◌, ◌≡◌, List, map, Option, Some, None}
 use Rattle.isle_core.specs.declared.rules.Pattern.{Pattern as CodePattern}
 use Rattle.isle_core.specs.Pattern.{Pattern}

@@ -16,3 +16,4 @@ pub mod Written
 pub mod Whole
 pub mod ElaboratedRule
 pub mod CountedConditions
+pub mod Multi

@@ -54,7 +54,7 @@ abbrev pub place_of : List ℕ → ℕ → Option ℕ
 place_of [] x = None
 place_of (y ∷ ys) x = if y == x then Some 0 else option_map suc (place_of ys x)
 
--- variables, with one that is not there yet behind them
+-- variables, with one that is not there yet after them
 abbrev pub joined : List ℕ → ℕ → List ℕ
 joined xs x = if is_some (place_of xs x) then xs else xs ++ x ∷ []
 

@@ -28,7 +28,9 @@ pub fn base_nodes(template: &Pattern) -> usize
 // So of parts.
 #[cycle(counting)]
 fn all_base_nodes(parts: &[Pattern]) -> usize
-    ensures { result ≡ min (patterns_nodes (all_substituted [] (patterns_of (map elaborated parts.now)))) (2 ^ 64 - 1) }
+    ensures { result
+        ≡ min (patterns_nodes (all_substituted [] (patterns_of (map elaborated parts.now))))
+        (2 ^ 64 - 1) }
 {
     let mut nodes: usize = 0;
     for p in parts {

@@ -31,7 +31,11 @@ impl Conditions {
 
     // Takes one more condition, and says whether there are few enough nodes with it.
     fn push(&mut self, lhs: Option<Counted>, rhs: Expr) -> Result<bool, AllocError>
-        ensures { IfOk result (λ taken. (base : ℕ) (cs : List Condition) (p : Tree) → AreConditions base cs self.old → IsCounted p lhs → AreConditionsTaken taken base (cs ++ record { lhs = p; rhs = elaborated_expr rhs } ∷ []) self.new) }
+        ensures { IfOk result (λ taken.
+            (base : ℕ) (cs : List Condition) (p : Tree) → AreConditions base cs self.old
+            → IsCounted p lhs
+            → AreConditionsTaken taken base
+            (cs ++ record { lhs = p; rhs = elaborated_expr rhs } ∷ []) self.new) }
     {
         let Some(Counted { pattern, nodes }) = lhs else {
             return Ok(false);
@@ -56,7 +60,10 @@ pub fn iflets_expanded(
     templates: &[Template],
 ) -> Result<Option<Conditions>, AllocError>
     requires { base ≤ 4096 }
-    ensures { IfOk result (λ found. (whole : List (Option Tree)) → StandFor whole templates.now → AreConditionsCounted base (map (condition_expanded whole) (map elaborated iflets.items)) found) }
+    ensures { IfOk result (λ found.
+        (whole : List (Option Tree)) → StandFor whole templates.now
+        → AreConditionsCounted base (map (condition_expanded whole) (map elaborated iflets.items))
+        found) }
 {
     let mut found = Conditions::new(alloc, iflets.len(), base)?;
     for IfLet { lhs, rhs } in iflets {

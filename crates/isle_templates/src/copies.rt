@@ -48,7 +48,9 @@ pub fn copied_at(
     patterns: &[Option<Pattern>],
     place: usize,
 ) -> Result<Option<Pattern>, AllocError>
-    ensures { IfOk result (λ found. option_map elaborated found ≡ option_and_then (λ p. p) (slice_get (map (option_map elaborated) patterns.now) place)) }
+    ensures { IfOk result (λ found.
+        option_map elaborated found
+        ≡ option_and_then (λ p. p) (slice_get (map (option_map elaborated) patterns.now) place)) }
 {
     match patterns.get(place) {
         Some(Some(p)) => Ok(Some(copied(alloc, p)?)),

@@ -28,7 +28,8 @@ pub fn bound(
     variable: VarId,
     inner: Option<Counted>,
 ) -> Result<Option<Counted>, AllocError>
-    ensures { IfOk result (λ found. (p : Tree) → IsCounted p inner → IsCounted (pattern.BindPattern ty variable p) found) }
+    ensures { IfOk result (λ found.
+        (p : Tree) → IsCounted p inner → IsCounted (pattern.BindPattern ty variable p) found) }
 {
     let Some(Counted { pattern, nodes }) = inner else {
         return Ok(None);
@@ -45,7 +46,8 @@ pub fn bound(
 /// Makes the pattern of a term on these parts.
 #[tactic(auto, using(isle_core::proofs::SeesRules::sees))]
 pub fn term_of(ty: TypeId, term: TermId, parts: Option<Parts>) -> Option<Counted>
-    ensures { (ps : List Tree) → AreCounted 1 ps parts → IsCounted (pattern.Term ty term (patterns_of ps)) result }
+    ensures { (ps : List Tree) → AreCounted 1 ps parts
+        → IsCounted (pattern.Term ty term (patterns_of ps)) result }
 {
     let Parts { patterns, nodes } = parts?;
     Some(Counted {
@@ -57,7 +59,8 @@ pub fn term_of(ty: TypeId, term: TermId, parts: Option<Parts>) -> Option<Counted
 /// Makes the pattern that matches where each of these parts does.
 #[tactic(auto, using(isle_core::proofs::SeesRules::sees))]
 pub fn and_of(ty: TypeId, parts: Option<Parts>) -> Option<Counted>
-    ensures { (ps : List Tree) → AreCounted 1 ps parts → IsCounted (pattern.And ty (patterns_of ps)) result }
+    ensures { (ps : List Tree) → AreCounted 1 ps parts
+        → IsCounted (pattern.And ty (patterns_of ps)) result }
 {
     let Parts { patterns, nodes } = parts?;
     Some(Counted {
@@ -81,7 +84,9 @@ impl Parts {
 
     /// Takes one more pattern, and says whether there are few enough nodes with it. The only error is want of memory.
     pub fn push(&mut self, part: Option<Counted>) -> Result<bool, AllocError>
-        ensures { IfOk result (λ taken. (base : ℕ) (ps : List Tree) (p : Tree) → AreParts base ps self.old → IsCounted p part → AreTaken taken base (ps ++ p ∷ []) self.new) }
+        ensures { IfOk result (λ taken.
+            (base : ℕ) (ps : List Tree) (p : Tree) → AreParts base ps self.old → IsCounted p part
+            → AreTaken taken base (ps ++ p ∷ []) self.new) }
     {
         let Some(Counted { pattern, nodes }) = part else {
             return Ok(false);
@@ -98,7 +103,10 @@ impl Parts {
     /// Takes what stands for a parameter that stands so often in a template, and says whether there are few enough
     /// nodes with it. The only error is want of memory.
     pub fn push_argument(&mut self, times: usize, part: Option<Counted>) -> Result<bool, AllocError>
-        ensures { IfOk result (λ taken. (base : ℕ) (of : ℕ → ℕ) (ps : List Tree) (p : Tree) → 0 < base → times ≡ of (length ps) → AreArguments base of ps self.old → IsCounted (needed_one times p) part → AreAccepted taken base of (ps ++ needed_one times p ∷ []) self.new) }
+        ensures { IfOk result (λ taken.
+            (base : ℕ) (of : ℕ → ℕ) (ps : List Tree) (p : Tree) → 0 < base → times ≡ of (length ps)
+            → AreArguments base of ps self.old → IsCounted (needed_one times p) part
+            → AreAccepted taken base of (ps ++ needed_one times p ∷ []) self.new) }
     {
         let Some(Counted { pattern, nodes }) = part else {
             return Ok(false);

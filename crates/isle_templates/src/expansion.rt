@@ -26,7 +26,9 @@ pub fn expanded(
     p: &Pattern,
     templates: &[Template],
 ) -> Result<Option<Counted>, AllocError>
-    ensures { IfOk result (λ found. (whole : List (Option Tree)) → StandFor whole templates.now → IsCounted (expanded whole (elaborated p.now)) found) }
+    ensures { IfOk result (λ found.
+        (whole : List (Option Tree)) → StandFor whole templates.now
+        → IsCounted (expanded whole (elaborated p.now)) found) }
 {
     match p {
         Pattern::BindPattern(ty, variable, inner) => {
@@ -57,7 +59,10 @@ fn term_expanded(
     term: TermId,
     templates: &[Template],
 ) -> Result<Option<Counted>, AllocError>
-    ensures { IfOk result (λ found. (whole : List (Option Tree)) → StandFor whole templates.now → IsCounted (opened (template_of whole term) ty term (map (expanded whole) (map elaborated parts.now))) found) }
+    ensures { IfOk result (λ found.
+        (whole : List (Option Tree)) → StandFor whole templates.now
+        → IsCounted (opened (template_of whole term) ty term
+        (map (expanded whole) (map elaborated parts.now))) found) }
 {
     match templates.get(term.index()) {
         None => term_on(alloc, parts, ty, term, templates),
@@ -76,7 +81,10 @@ fn term_on(
     term: TermId,
     templates: &[Template],
 ) -> Result<Option<Counted>, AllocError>
-    ensures { IfOk result (λ found. (whole : List (Option Tree)) → StandFor whole templates.now → IsCounted (pattern.Term ty term (patterns_of (map (expanded whole) (map elaborated parts.now)))) found) }
+    ensures { IfOk result (λ found.
+        (whole : List (Option Tree)) → StandFor whole templates.now
+        → IsCounted (pattern.Term ty term
+        (patterns_of (map (expanded whole) (map elaborated parts.now)))) found) }
 {
     let parts = all_expanded(alloc, parts, 1, templates)?;
     Ok(term_of(ty, term, parts))
@@ -92,7 +100,9 @@ pub fn all_expanded(
     templates: &[Template],
 ) -> Result<Option<Parts>, AllocError>
     requires { base ≤ 4096 }
-    ensures { IfOk result (λ found. (whole : List (Option Tree)) → StandFor whole templates.now → AreCounted base (map (expanded whole) (map elaborated parts.now)) found) }
+    ensures { IfOk result (λ found.
+        (whole : List (Option Tree)) → StandFor whole templates.now
+        → AreCounted base (map (expanded whole) (map elaborated parts.now)) found) }
 {
     let mut found = Parts::new(alloc, parts.len(), base)?;
     for p in parts {
@@ -113,7 +123,9 @@ fn argument(
     times: usize,
     templates: &[Template],
 ) -> Result<Option<Counted>, AllocError>
-    ensures { IfOk result (λ found. (whole : List (Option Tree)) → StandFor whole templates.now → IsCounted (needed_one times (expanded whole (elaborated p.now))) found) }
+    ensures { IfOk result (λ found.
+        (whole : List (Option Tree)) → StandFor whole templates.now
+        → IsCounted (needed_one times (expanded whole (elaborated p.now))) found) }
 {
     if times == 0 {
         return Ok(leaf(Pattern::Wildcard(TypeId(0))));
@@ -129,7 +141,10 @@ fn opened(
     template: &Whole,
     templates: &[Template],
 ) -> Result<Option<Counted>, AllocError>
-    ensures { IfOk result (λ found. (whole : List (Option Tree)) → StandFor whole templates.now → IsCounted (substituted (map (expanded whole) (map elaborated args.now)) (elaborated template.now.pattern)) found) }
+    ensures { IfOk result (λ found.
+        (whole : List (Option Tree)) → StandFor whole templates.now
+        → IsCounted (substituted (map (expanded whole) (map elaborated args.now))
+        (elaborated template.now.pattern)) found) }
 {
     let mut found = Parts::new(alloc, args.len(), template.nodes)?;
     for (parameter, arg) in args.iter().enumerate() {

@@ -1,5 +1,6 @@
-//! Templates: what stands for the internal extractors that patterns use, and how a rule's variables are numbered behind
+//! Templates: what stands for the internal extractors that patterns use, and how a rule's variables are numbered after
 //! it.
+//! Which terms are `multi` where a pattern uses them, with templates replaced.
 #![tactic(auto)]
 
 mod base_nodes;
@@ -9,6 +10,8 @@ mod counted;
 mod counting;
 mod expansion;
 mod expr_nodes;
+mod multi;
+mod multi_uses;
 mod order;
 mod parameters;
 mod renaming;
@@ -21,5 +24,7 @@ mod uses;
 mod variables;
 
 pub use copies::copied_at;
+pub use multi::multi_extractors;
+pub use multi_uses::marked;
 pub use rules::elaborated;
 pub use templates::{Templates, whole_templates};

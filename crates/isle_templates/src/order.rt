@@ -38,7 +38,7 @@ impl Order {
         }
     }
 
-    /// Puts a variable that is not there yet behind the others. The only error is want of memory.
+    /// Puts a variable that is not there yet after the others. The only error is want of memory.
     pub fn join(&mut self, variable: VarId) -> Result<(), AllocError>
         ensures { OnOk result (self.new ≡ joined self.old variable.0) }
     {

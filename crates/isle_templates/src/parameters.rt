@@ -41,7 +41,8 @@ impl Parameters {
 
     /// The parameters of a template. The only error is want of memory.
     pub fn of(alloc: Global, template: &Pattern) -> Result<Parameters, AllocError>
-        ensures { IfOk result (λ parameters. parameters ≡ pattern_variables (elaborated template.now)) }
+        ensures { IfOk result (λ parameters.
+            parameters ≡ pattern_variables (elaborated template.now)) }
     {
         let mut parameters = Parameters::new(alloc);
         note(&mut parameters, template)?;
@@ -75,7 +76,8 @@ impl Parameters {
 #[cycle(noting)]
 #[tactic(auto, using(isle_core::proofs::SeesRules::sees))]
 fn note(parameters: &mut Parameters, p: &Pattern) -> Result<(), AllocError>
-    ensures { OnOk result (parameters.new ≡ parameters.old ++ pattern_variables (elaborated p.now)) }
+    ensures { OnOk result
+        (parameters.new ≡ parameters.old ++ pattern_variables (elaborated p.now)) }
 {
     match p {
         Pattern::BindPattern(_, parameter, inner) => {
@@ -95,7 +97,9 @@ fn note(parameters: &mut Parameters, p: &Pattern) -> Result<(), AllocError>
 // Those of patterns, in order.
 #[cycle(noting)]
 fn note_each(parameters: &mut Parameters, parts: &[Pattern]) -> Result<(), AllocError>
-    ensures { OnOk result (parameters.new ≡ parameters.old ++ patterns_variables (patterns_of (map elaborated parts.now))) }
+    ensures { OnOk result
+        (parameters.new
+        ≡ parameters.old ++ patterns_variables (patterns_of (map elaborated parts.now))) }
 {
     for p in parts {
         note(parameters, p)?;

@@ -14,7 +14,8 @@ use std::alloc::{AllocError, Global};
 #[cycle(patterns)]
 #[tactic(auto, using(isle_core::proofs::SeesRules::sees, crate::proofs::RenamingSteps::patterns_each))]
 pub fn renamed(alloc: Global, order: &Order, p: &Pattern) -> Result<Pattern, AllocError>
-    ensures { IfOk result (λ q. elaborated_pattern q ≡ renamed order.now (elaborated_pattern p.now)) }
+    ensures { IfOk result (λ q.
+        elaborated_pattern q ≡ renamed order.now (elaborated_pattern p.now)) }
 {
     match p {
         Pattern::BindPattern(ty, variable, inner) => {
@@ -44,7 +45,9 @@ pub fn all_renamed(
     order: &Order,
     parts: &[Pattern],
 ) -> Result<Vec<Pattern>, AllocError>
-    ensures { IfOk result (λ qs. map elaborated_pattern qs.items ≡ map (renamed order.now) (map elaborated_pattern parts.now)) }
+    ensures { IfOk result (λ qs.
+        map elaborated_pattern qs.items
+        ≡ map (renamed order.now) (map elaborated_pattern parts.now)) }
 {
     let mut found = Vec::with_capacity(alloc, parts.len())?;
     for p in parts {
@@ -57,7 +60,8 @@ pub fn all_renamed(
 #[cycle(exprs)]
 #[tactic(auto, using(crate::proofs::SeesLets::sees, crate::proofs::RenamingSteps::exprs_each, crate::proofs::RenamingSteps::bindings_each))]
 pub fn expr_renamed(alloc: Global, order: &Order, e: &Expr) -> Result<Expr, AllocError>
-    ensures { IfOk result (λ d. elaborated_expr d ≡ expr_renamed order.now (elaborated_expr e.now)) }
+    ensures { IfOk result (λ d.
+        elaborated_expr d ≡ expr_renamed order.now (elaborated_expr e.now)) }
 {
     match e {
         Expr::Term(ty, term, args) => {
@@ -79,7 +83,9 @@ pub fn expr_renamed(alloc: Global, order: &Order, e: &Expr) -> Result<Expr, Allo
 // Expressions with new numbers, in order.
 #[cycle(exprs)]
 fn exprs_renamed(alloc: Global, order: &Order, args: &[Expr]) -> Result<Vec<Expr>, AllocError>
-    ensures { IfOk result (λ ds. map elaborated_expr ds.items ≡ map (expr_renamed order.now) (map elaborated_expr args.now)) }
+    ensures { IfOk result (λ ds.
+        map elaborated_expr ds.items
+        ≡ map (expr_renamed order.now) (map elaborated_expr args.now)) }
 {
     let mut found = Vec::with_capacity(alloc, args.len())?;
     for e in args {
@@ -95,7 +101,8 @@ fn bindings_renamed(
     order: &Order,
     bindings: &[LetBinding],
 ) -> Result<Vec<LetBinding>, AllocError>
-    ensures { IfOk result (λ bs. map binding bs.items ≡ map (binding_renamed order.now) (map binding bindings.now)) }
+    ensures { IfOk result (λ bs.
+        map binding bs.items ≡ map (binding_renamed order.now) (map binding bindings.now)) }
 {
     let mut found = Vec::with_capacity(alloc, bindings.len())?;
     for b in bindings {
@@ -112,7 +119,9 @@ pub fn iflets_renamed(
     order: &Order,
     iflets: &[IfLet],
 ) -> Result<Vec<IfLet>, AllocError>
-    ensures { IfOk result (λ cs. map elaborated_iflet cs.items ≡ map (condition_renamed order.now) (map elaborated_iflet iflets.now)) }
+    ensures { IfOk result (λ cs.
+        map elaborated_iflet cs.items
+        ≡ map (condition_renamed order.now) (map elaborated_iflet iflets.now)) }
 {
     let mut found = Vec::with_capacity(alloc, iflets.len())?;
     for condition in iflets {

@@ -1,4 +1,4 @@
-//! Rules with templates in place of terms, and with variables numbered behind it.
+//! Rules with templates in place of terms, and with variables numbered after it.
 
 ghost use Rattle.std.specs.Prelude.{List, Option, IfOk};
 ghost use Rattle.isle_core.specs.Pattern.{Pattern as Tree};
@@ -23,7 +23,9 @@ fn rule_expanded(
     templates: &[Template],
     given: Rule,
 ) -> Result<Option<Rule>, AllocError>
-    ensures { IfOk result (λ found. (whole : List (Option Tree)) → StandFor whole templates.now → IsRuleExpanded whole (rule given) found) }
+    ensures { IfOk result (λ found.
+        (whole : List (Option Tree)) → StandFor whole templates.now
+        → IsRuleExpanded whole (rule given) found) }
 {
     let nodes = expr_nodes(&given.rhs);
     if nodes > MOST_NODES {
@@ -55,7 +57,9 @@ pub fn elaborated(
     templates: &Templates,
     given: Rule,
 ) -> Result<Option<Rule>, AllocError>
-    ensures { IfOk result (λ found. (written : List (Option Tree)) → AreWhole written templates.now → IsElaborated written (rule given) found) }
+    ensures { IfOk result (λ found.
+        (written : List (Option Tree)) → AreWhole written templates.now
+        → IsElaborated written (rule given) found) }
 {
     match rule_expanded(alloc, templates.as_slice(), given)? {
         None => Ok(None),

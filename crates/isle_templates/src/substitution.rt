@@ -29,7 +29,9 @@ fn argument(
 // Two patterns that match one value.
 #[tactic(auto, using(isle_core::proofs::SeesRules::sees))]
 fn both(alloc: Global, ty: TypeId, first: Pattern, second: Pattern) -> Result<Pattern, AllocError>
-    ensures { IfOk result (λ p. elaborated p ≡ pattern.And ty (APattern (elaborated first) (APattern (elaborated second) NoPattern))) }
+    ensures { IfOk result (λ p.
+        elaborated p
+        ≡ pattern.And ty (APattern (elaborated first) (APattern (elaborated second) NoPattern))) }
 {
     let mut parts = Vec::with_capacity(alloc, 2)?;
     parts.push(first)?;
@@ -46,7 +48,8 @@ pub fn substituted(
     template: &Pattern,
     args: &[Pattern],
 ) -> Result<Pattern, AllocError>
-    ensures { IfOk result (λ p. elaborated p ≡ substituted (map elaborated args.now) (elaborated template.now)) }
+    ensures { IfOk result (λ p.
+        elaborated p ≡ substituted (map elaborated args.now) (elaborated template.now)) }
 {
     match template {
         Pattern::BindPattern(ty, param, inner) => {
@@ -82,7 +85,9 @@ fn each_substituted(
     parts: &[Pattern],
     args: &[Pattern],
 ) -> Result<Vec<Pattern>, AllocError>
-    ensures { IfOk result (λ ps. map elaborated ps.items ≡ map (substituted (map elaborated args.now)) (map elaborated parts.now)) }
+    ensures { IfOk result (λ ps.
+        map elaborated ps.items
+        ≡ map (substituted (map elaborated args.now)) (map elaborated parts.now)) }
 {
     let mut found = Vec::with_capacity(alloc, parts.len())?;
     for p in parts {

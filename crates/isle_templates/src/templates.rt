@@ -32,7 +32,8 @@ pub struct Templates {
 
 // What stands for a term whose template is this one, with no other in it.
 fn kept(alloc: Global, found: Option<Counted>) -> Result<Template, AllocError>
-    ensures { IfOk result (λ template. (p : Tree) → IsCounted p found → Stands (Some p) (Some template)) }
+    ensures { IfOk result (λ template.
+        (p : Tree) → IsCounted p found → Stands (Some p) (Some template)) }
 {
     let Some(Counted { pattern, .. }) = found else {
         return Ok(Template::Large);
@@ -55,7 +56,10 @@ fn whole(
     written: &Option<Pattern>,
     table: &[Template],
 ) -> Result<Template, AllocError>
-    ensures { IfOk result (λ template. (whole : List (Option Tree)) → StandFor whole table.now → Stands (option_map (expanded whole) (option_map elaborated written.now)) (Some template)) }
+    ensures { IfOk result (λ template.
+        (whole : List (Option Tree)) → StandFor whole table.now
+        → Stands (option_map (expanded whole) (option_map elaborated written.now))
+        (Some template)) }
 {
     match written {
         None => Ok(Template::Absent),
@@ -68,19 +72,21 @@ fn whole(
 
 // No template for any term.
 fn absent(alloc: Global, written: &[Option<Pattern>]) -> Result<Vec<Template>, AllocError>
-    ensures { IfOk result (λ table. table.items ≡ map (λ (o : Option CodePattern). Absent) written.now) }
+    ensures { IfOk result (λ table.
+        table.items ≡ map (λ (o : Option CodePattern). Absent) written.now) }
 {
     written.iter().map(|_| Template::Absent).collect(alloc)
 }
 
-// What stands for each term, made in an order in which each comes behind those that its template uses.
+// What stands for each term, made in an order in which each comes after those that its template uses.
 fn filled(
     alloc: Global,
     written: &[Option<Pattern>],
     order: &[usize],
 ) -> Result<Vec<Template>, AllocError>
     requires { IsOrder (uses (written_of written.now)) order.now }
-    ensures { IfOk result (λ table. StandFor (whole_templates (written_of written.now)) table.items) }
+    ensures { IfOk result (λ table.
+        StandFor (whole_templates (written_of written.now)) table.items) }
 {
     let mut table = absent(alloc, written)?;
     for term in order {
@@ -118,7 +124,9 @@ impl Templates {
     /// Replaces the templates that a pattern uses; `None` where there are more nodes than a rule may have. The only
     /// error is want of memory.
     pub fn expanded(&self, alloc: Global, p: &Pattern) -> Result<Option<Pattern>, AllocError>
-        ensures { IfOk result (λ found. (written : List (Option Tree)) → AreWhole written self.now → IsExpanded (whole_templates written) (elaborated p.now) found) }
+        ensures { IfOk result (λ found.
+            (written : List (Option Tree)) → AreWhole written self.now
+            → IsExpanded (whole_templates written) (elaborated p.now) found) }
     {
         match expanded(alloc, p, self.table.as_slice())? {
             None => Ok(None),

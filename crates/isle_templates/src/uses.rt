@@ -15,7 +15,9 @@ fn note_term(
     term: TermId,
     written: &[Option<Pattern>],
 ) -> Result<(), AllocError>
-    ensures { OnOk result (found.new.items ≡ found.old.items ++ used_one (template_of (written_of written.now) term) term) }
+    ensures { OnOk result
+        (found.new.items
+        ≡ found.old.items ++ used_one (template_of (written_of written.now) term) term) }
 {
     match written.get(term.index()) {
         None => Ok(()),
@@ -31,7 +33,8 @@ fn note_term(
 #[cycle(noting)]
 #[tactic(auto, using(isle_core::proofs::SeesRules::sees))]
 fn note(p: &Pattern, written: &[Option<Pattern>], found: &mut Vec<usize>) -> Result<(), AllocError>
-    ensures { OnOk result (found.new.items ≡ found.old.items ++ used_in (written_of written.now) (elaborated p.now)) }
+    ensures { OnOk result
+        (found.new.items ≡ found.old.items ++ used_in (written_of written.now) (elaborated p.now)) }
 {
     match p {
         Pattern::BindPattern(_, _, inner) => note(inner.get(), written, found),
@@ -55,7 +58,10 @@ fn note_each(
     written: &[Option<Pattern>],
     found: &mut Vec<usize>,
 ) -> Result<(), AllocError>
-    ensures { OnOk result (found.new.items ≡ found.old.items ++ all_used_in (written_of written.now) (patterns_of (map elaborated parts.now))) }
+    ensures { OnOk result
+        (found.new.items
+        ≡ found.old.items
+        ++ all_used_in (written_of written.now) (patterns_of (map elaborated parts.now))) }
 {
     for p in parts {
         note(p, written, found)?;
@@ -69,7 +75,8 @@ fn used_by(
     template: &Option<Pattern>,
     written: &[Option<Pattern>],
 ) -> Result<Vec<usize>, AllocError>
-    ensures { IfOk result (λ found. found.items ≡ used_by (written_of written.now) (option_map elaborated template.now)) }
+    ensures { IfOk result (λ found.
+        found.items ≡ used_by (written_of written.now) (option_map elaborated template.now)) }
 {
     let mut found = Vec::new(alloc);
     if let Some(p) = template {

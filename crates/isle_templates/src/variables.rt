@@ -17,7 +17,8 @@ use std::alloc::{AllocError, Global};
 #[cycle(patterns)]
 #[tactic(auto, using(isle_core::proofs::SeesRules::sees))]
 fn join_pattern(order: &mut Order, p: &Pattern) -> Result<(), AllocError>
-    ensures { OnOk result (order.new ≡ fold joined order.old (pattern_variables (elaborated_pattern p.now))) }
+    ensures { OnOk result
+        (order.new ≡ fold joined order.old (pattern_variables (elaborated_pattern p.now))) }
 {
     match p {
         Pattern::BindPattern(_, variable, inner) => {
@@ -37,7 +38,9 @@ fn join_pattern(order: &mut Order, p: &Pattern) -> Result<(), AllocError>
 // Those of patterns, in order.
 #[cycle(patterns)]
 fn join_patterns(order: &mut Order, parts: &[Pattern]) -> Result<(), AllocError>
-    ensures { OnOk result (order.new ≡ fold joined order.old (patterns_variables (patterns_of (map elaborated_pattern parts.now)))) }
+    ensures { OnOk result
+        (order.new ≡ fold joined order.old
+        (patterns_variables (patterns_of (map elaborated_pattern parts.now)))) }
 {
     for p in parts {
         join_pattern(order, p)?;
@@ -67,7 +70,9 @@ fn join_expr(order: &mut Order, e: &Expr) -> Result<(), AllocError>
 // Those that expressions bind, in order.
 #[cycle(exprs)]
 fn join_exprs(order: &mut Order, args: &[Expr]) -> Result<(), AllocError>
-    ensures { OnOk result (order.new ≡ fold joined order.old (all_bound_in (exprs_of (map elaborated_expr args.now)))) }
+    ensures { OnOk result
+        (order.new ≡ fold joined order.old
+        (all_bound_in (exprs_of (map elaborated_expr args.now)))) }
 {
     for e in args {
         join_expr(order, e)?;
@@ -78,7 +83,9 @@ fn join_exprs(order: &mut Order, args: &[Expr]) -> Result<(), AllocError>
 // Variables of a `let`, each before those within its value.
 #[cycle(exprs)]
 fn join_bindings(order: &mut Order, bindings: &[LetBinding]) -> Result<(), AllocError>
-    ensures { OnOk result (order.new ≡ fold joined order.old (bindings_bound_in (bindings_of (map binding bindings.now)))) }
+    ensures { OnOk result
+        (order.new ≡ fold joined order.old
+        (bindings_bound_in (bindings_of (map binding bindings.now)))) }
 {
     for b in bindings {
         order.join(b.var)?;
@@ -89,7 +96,9 @@ fn join_bindings(order: &mut Order, bindings: &[LetBinding]) -> Result<(), Alloc
 
 // Those of conditions, in order, those of each one's pattern first.
 fn join_iflets(order: &mut Order, iflets: &[IfLet]) -> Result<(), AllocError>
-    ensures { OnOk result (order.new ≡ fold joined order.old (flat_map condition_variables (map elaborated_iflet iflets.now))) }
+    ensures { OnOk result
+        (order.new ≡ fold joined order.old
+        (flat_map condition_variables (map elaborated_iflet iflets.now))) }
 {
     for condition in iflets {
         join_pattern(order, &condition.lhs)?;

@@ -108,7 +108,7 @@ converter_refused all bs c pos m met of declared none = record {
 
 -- ---- definitions that are no converters
 
--- the converters so far are those behind one more
+-- the converters so far are those after one more
 pub still_met : (all bs : List Def) (d : Def) (found : Converters) → converter_of d ≡ None → AreMet all bs found → AreMet all (bs ++ d ∷ []) found
 still_met all bs d found none met =
     let same : converters (bs ++ d ∷ []) ≡ converters bs = filter_map-append converter_of bs (d ∷ []) ∙ ap (λ o. converters bs ++ cons_option o []) none ∙ append-nil (converters bs) in

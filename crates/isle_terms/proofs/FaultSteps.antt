@@ -28,7 +28,7 @@ fault_from i ds = fault_after (λ bs d. term_row (here (seen ds) bs) d) (seen (t
 pub seen_more : (ds : List CodeDef) (i : ℕ) (x d : CodeDef) → i < length ds → x ≡ get_or ds i d → seen (take (i + 1) ds) ≡ seen (take i ds) ++ def x ∷ []
 seen_more ds i x d lt is = ap seen (take_more ds i d lt) ∙ map-append def (take i ds) (get_or ds i d ∷ []) ∙ ap (λ y. seen (take i ds) ++ def y ∷ []) (sym is)
 
--- that of one, or else of those behind it
+-- that of one, or else of those after it
 pub fault_step : (ds : List CodeDef) (i : ℕ) (x d : CodeDef) → i < length ds → x ≡ get_or ds i d
     → fault_from i ds ≡ or_later (option_map (λ (r : Row). (r, place_of (def x))) (term_row (here (seen ds) (seen (take i ds))) (def x))) (fault_from (i + 1) ds)
 fault_step ds i x d lt is =

@@ -6,3 +6,7 @@ pub mod EarlierNames
 pub mod DeclaredTerms
 pub mod DeclarationFaults
 pub mod FaultSteps
+pub mod VariableLaws
+pub mod ScopeLaws
+pub mod LocalLaws
+pub mod NamesIn

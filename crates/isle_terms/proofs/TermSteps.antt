@@ -46,7 +46,7 @@ inside w name rule ruled none at is =
 
 -- ---- what is left
 
--- the items from a place on are the one there and those behind it
+-- the items from a place on are the one there and those after it
 pub next_is : {A : Type 0} (xs : List A) (i : ℕ) (x d : A) → i < length xs → x ≡ get_or xs i d → drop i xs ≡ x ∷ drop (i + 1) xs
 next_is xs i x d lt is = drop_more xs i d lt ∙ ap (λ y. y ∷ drop (i + 1) xs) (sym is)
 

@@ -10,3 +10,7 @@ pub mod ConverterViews
 pub mod Misfits
 pub mod Reduced
 pub mod Expected
+pub mod Scope
+pub mod NewVariables
+pub mod Locals
+pub mod LocalViews

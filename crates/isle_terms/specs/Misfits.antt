@@ -56,7 +56,7 @@ abbrev pub IsDeclared : List Def → List ℕ → Option (Bor CodeSignature) →
 IsDeclared defs name None = signature_named (signatures defs) name ≡ None
 IsDeclared defs name (Some s) = (signature_named (signatures defs) name ≡ Some (signature s.now)) × (index_of (symbols defs) name ≡ Some s.now.number)
 
--- a definition is judged among all, behind these
+-- a definition is judged among all, after these
 abbrev pub here : (all before : List Def) → Context
 here all before = record { whole = whole_of all; before = before }
 
@@ -77,7 +77,7 @@ abbrev pub one_more : {X : Type 0} → Option X → ℕ → ℕ
 one_more None n = n
 one_more (Some x) n = n + 1
 
--- the counts behind one definition more
+-- the counts after one definition more
 abbrev pub counts_after : Def → Counts → Counts
 counts_after d c = record { signatures = one_more (signature_of d) c.signatures; externs = one_more (extern_of d) c.externs; extractors = one_more (extractor_of d) c.extractors }
 
@@ -94,7 +94,7 @@ pub record ArePlaced (all before : List Def) (counts : Counts) : Type 0 where
   pub externs : take counts.externs (extern_terms (externs all)) ≡ extern_terms (externs before)
   pub extractors : take counts.extractors (extractor_terms (extractors all)) ≡ extractor_terms (extractors before)
 
--- what was found of a definition, behind these: the lowest row that it breaks, or else it is met
+-- what was found of a definition, after these: the lowest row that it breaks, or else it is met
 pub record IsJudged (all before : List Def) (d : Def) (found : Option Misfit) (met : Converters) : Type 0 where
   pub row : option_map misfit_row found ≡ term_row (here all before) d
   pub after : found ≡ None → AreMet all (before ++ d ∷ []) met

@@ -54,7 +54,8 @@ fn fits(given: Conversion, signature: &Signature) -> bool
 
 // The types that a converter stands between, where both are declared.
 fn types_of(before: &Before, given: Conversion) -> Option<(TypeId, TypeId)>
-    ensures { (defs : List PureDef) → IsBefore defs before.now → result ≡ types_of defs (seen given.entry) }
+    ensures { (defs : List PureDef) → IsBefore defs before.now
+        → result ≡ types_of defs (seen given.entry) }
 {
     let from = type_named(before, given.from)?;
     let to = type_named(before, given.to)?;
@@ -75,7 +76,8 @@ impl Converters {
 
     /// Returns the number of the name of the term that makes a value of one type from a value of the other.
     pub fn between(&self, from: TypeId, to: TypeId) -> Option<usize>
-        ensures { (defs : List PureDef) (cs : List PureConversion) → AreFound defs cs self.now → IsNumberOf defs (converter_between defs cs from to) result }
+        ensures { (defs : List PureDef) (cs : List PureConversion) → AreFound defs cs self.now
+            → IsNumberOf defs (converter_between defs cs from to) result }
     {
         self.numbers.get(&(from.index(), to.index())).copied()
     }
@@ -90,7 +92,8 @@ impl Converters {
     ) -> Option<Converter>
         requires before { IsBefore (seen_defs declarations.now) before.now }
         requires terms { AreTerms (seen_defs declarations.now) terms.now }
-        ensures { (cs : List PureConversion) → AreFound (seen_defs declarations.now) cs self.now → IsKnown (seen_defs declarations.now) cs (seen given.entry) result }
+        ensures { (cs : List PureConversion) → AreFound (seen_defs declarations.now) cs self.now
+            → IsKnown (seen_defs declarations.now) cs (seen given.entry) result }
     {
         let (from, to) = types_of(before, given)?;
         if self.between(from, to).is_some() {

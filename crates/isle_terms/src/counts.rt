@@ -26,7 +26,7 @@ impl Counts {
         }
     }
 
-    /// Returns the counts behind one definition more.
+    /// Returns the counts after one definition more.
     pub fn after(self, given: &Def) -> Counts
         requires { self.signatures + self.externs + self.extractors + 1 < 2 ^ 64 }
         ensures { result ≡ counts_after (def given.now) self }

@@ -29,7 +29,9 @@ const MOST_ARGUMENTS: usize = 256;
 /// term.
 pub fn repeated<'d>(names: &Names<'_, 'd>, count: usize, term: &'d Text) -> Option<Misfit<'d>>
     requires { AreNames names.now }
-    ensures { option_map misfit_row result ≡ repeated_row (seen names.now.declarations.now) (take count (terms_of (signatures (seen names.now.declarations.now)))) term.now }
+    ensures { option_map misfit_row result
+        ≡ repeated_row (seen names.now.declarations.now)
+        (take count (terms_of (signatures (seen names.now.declarations.now)))) term.now }
 {
     if names.is_declared_before(term, count) {
         return Some(Misfit::DeclaredTwice(term));
@@ -48,7 +50,8 @@ pub fn misdeclared<'d>(
     args: &'d [Text],
     ret: &'d Text,
 ) -> Option<Misfit<'d>>
-    ensures { (all : List PureDef) → IsBefore all before.now → option_map misfit_row result ≡ misdeclared_row all is_both args.now ret.now }
+    ensures { (all : List PureDef) → IsBefore all before.now
+        → option_map misfit_row result ≡ misdeclared_row all is_both args.now ret.now }
 {
     if type_named(before, ret).is_none() {
         return Some(Misfit::TypeMissing(ret));
@@ -72,7 +75,12 @@ pub fn external_misfit<'d>(
     count: usize,
     term: &'d Text,
 ) -> Option<Misfit<'d>>
-    ensures { (bs : List PureDef) (func : List ℕ) (pos : Place) → take count (extern_terms (externs (seen names.now.declarations.now))) ≡ extern_terms (externs bs) → option_map misfit_row result ≡ term_row (here (seen names.now.declarations.now) bs) (ExternConstructor term.now func pos) }
+    ensures { (bs : List PureDef) (func : List ℕ) (pos : Place)
+        → take count (extern_terms (externs (seen names.now.declarations.now)))
+        ≡ extern_terms (externs bs)
+        → option_map misfit_row result
+        ≡ term_row (here (seen names.now.declarations.now) bs)
+        (ExternConstructor term.now func pos) }
 {
     let Some(declared) = names.declared(term) else {
         return Some(Misfit::Undeclared(term));
@@ -90,7 +98,12 @@ pub fn function_misfit<'d>(
     term: &'d Text,
     infallible: bool,
 ) -> Option<Misfit<'d>>
-    ensures { (bs : List PureDef) (func : List ℕ) (pos : Place) → take count (extractor_terms (extractors (seen names.now.declarations.now))) ≡ extractor_terms (extractors bs) → option_map misfit_row result ≡ term_row (here (seen names.now.declarations.now) bs) (ExternExtractor term.now func infallible pos) }
+    ensures { (bs : List PureDef) (func : List ℕ) (pos : Place)
+        → take count (extractor_terms (extractors (seen names.now.declarations.now)))
+        ≡ extractor_terms (extractors bs)
+        → option_map misfit_row result
+        ≡ term_row (here (seen names.now.declarations.now) bs)
+        (ExternExtractor term.now func infallible pos) }
 {
     let Some(declared) = names.declared(term) else {
         return Some(Misfit::Undeclared(term));
@@ -112,7 +125,13 @@ pub fn template_misfit<'d>(
     term: &'d Text,
     params: &'d [Text],
 ) -> Result<Option<Misfit<'d>>, AllocError>
-    ensures { IfOk result (λ found. (bs : List PureDef) (template : Pattern) (pos : Place) → take count (extractor_terms (extractors (seen names.now.declarations.now))) ≡ extractor_terms (extractors bs) → option_map misfit_row found ≡ term_row (here (seen names.now.declarations.now) bs) (Extractor term.now params.now template pos)) }
+    ensures { IfOk result (λ found.
+        (bs : List PureDef) (template : Pattern) (pos : Place)
+        → take count (extractor_terms (extractors (seen names.now.declarations.now)))
+        ≡ extractor_terms (extractors bs)
+        → option_map misfit_row found
+        ≡ term_row (here (seen names.now.declarations.now) bs)
+        (Extractor term.now params.now template pos)) }
 {
     let Some(declared) = names.declared(term) else {
         return Ok(Some(Misfit::Undeclared(term)));
@@ -129,7 +148,7 @@ pub fn template_misfit<'d>(
     Ok(None)
 }
 
-// How a converter is wrong that does not fit behind these.
+// How a converter is wrong that does not fit after these.
 fn converter_unfit<'d>(before: &Before, found: &Converters, given: Conversion<'d>) -> Misfit<'d>
     ensures { misfit_row result ≡ row.ConverterMisfit }
 {
@@ -152,7 +171,11 @@ pub fn converter_misfit<'d>(
     given: Conversion<'d>,
 ) -> Result<Option<Misfit<'d>>, AllocError>
     requires { AreNames names.now }
-    ensures { IfOk result (λ misfit. (bs : List PureDef) (pos : Place) → AreMet (seen names.now.declarations.now) bs found.old → IsJudged (seen names.now.declarations.now) bs (Converter given.entry.from.now given.entry.to.now given.entry.term.now pos) misfit found.new) }
+    ensures { IfOk result (λ misfit.
+        (bs : List PureDef) (pos : Place) → AreMet (seen names.now.declarations.now) bs found.old
+        → IsJudged (seen names.now.declarations.now) bs
+        (Converter given.entry.from.now given.entry.to.now given.entry.term.now pos) misfit
+        found.new) }
 {
     if names.declared(given.term).is_none() {
         return Ok(Some(Misfit::Undeclared(given.term)));
@@ -168,7 +191,11 @@ pub fn converter_misfit<'d>(
 
 /// Returns what is wrong with the head of a rule.
 pub fn head_misfit<'d>(names: &Names<'_, 'd>, term: &'d Text) -> Option<Misfit<'d>>
-    ensures { (bs : List PureDef) (name : Option (List ℕ)) (prio : ℤ) (args : List Pattern) (iflets : List IfLet) (rhs : Expr) (pos : Place) → option_map misfit_row result ≡ term_row (here (seen names.now.declarations.now) bs) (Rule name prio term.now args iflets rhs pos) }
+    ensures { (bs : List PureDef) (name : Option (List ℕ)) (prio : ℤ) (args : List Pattern)
+        (iflets : List IfLet) (rhs : Expr) (pos : Place)
+        → option_map misfit_row result
+        ≡ term_row (here (seen names.now.declarations.now) bs)
+        (Rule name prio term.now args iflets rhs pos) }
 {
     let Some(declared) = names.declared(term) else {
         return Some(Misfit::HeadUndeclared(term));

@@ -17,7 +17,8 @@ use std::alloc::{AllocError, Global};
 
 // A term comes from its external constructor, or else from its rules, where it has some.
 fn constructor_of(declarations: &Declarations, number: usize) -> ConstructorKind
-    ensures { (name : List ℕ) → index_of (symbols (defs declarations.now)) name ≡ Some number → result ≡ constructor_named (whole declarations.now) name }
+    ensures { (name : List ℕ) → index_of (symbols (defs declarations.now)) name ≡ Some number
+        → result ≡ constructor_named (whole declarations.now) name }
 {
     match declarations.func(number) {
         Some(func) => ConstructorKind::External { func: Sym(func) },
@@ -33,7 +34,8 @@ fn constructor_of(declarations: &Declarations, number: usize) -> ConstructorKind
 
 // A term is taken apart by its extractor, where it has one.
 fn extractor_of(declarations: &Declarations, number: usize) -> ExtractorKind
-    ensures { (name : List ℕ) → index_of (symbols (defs declarations.now)) name ≡ Some number → result ≡ extracting_named (whole declarations.now) name }
+    ensures { (name : List ℕ) → index_of (symbols (defs declarations.now)) name ≡ Some number
+        → result ≡ extracting_named (whole declarations.now) name }
 {
     match declarations.extractor(number) {
         Some(KnownExtractor::Function { number, infallible }) => ExtractorKind::External {
@@ -75,7 +77,8 @@ fn term_of(
     given: &TermDef,
 ) -> Result<Option<Term>, AllocError>
     requires before { IsBefore (defs declarations.now) before.now }
-    requires named { is_some (index_of (symbols (defs declarations.now)) given.now.term.now) ≡ true }
+    requires named { is_some (index_of (symbols (defs declarations.now)) given.now.term.now)
+        ≡ true }
     ensures { IfOk result (λ term. term ≡ term_pass (whole declarations.now) (seen given.now)) }
 {
     let Some(number) = declarations.number(given.term) else {
@@ -105,7 +108,9 @@ pub fn terms_of(
 ) -> Result<Option<Vec<Term>>, AllocError>
     requires before { IsBefore (defs declarations.now) before.now }
     requires terms { AreTerms (defs declarations.now) terms.now }
-    ensures { IfOk result (λ found. option_map (λ ts. ts.items) found ≡ terms_pass (whole declarations.now) (all_terms (defs declarations.now))) }
+    ensures { IfOk result (λ found.
+        option_map (λ ts. ts.items) found
+        ≡ terms_pass (whole declarations.now) (all_terms (defs declarations.now))) }
 {
     let mut found = Vec::with_capacity(alloc, terms.terms.len())?;
     for given in terms.terms.as_slice() {

@@ -25,7 +25,8 @@ pub fn type_named(before: &Before, name: &Text) -> Option<TypeId>
 
 /// Tells whether each of the names is that of a type.
 pub fn are_types(before: &Before, names: &[Text]) -> bool
-    ensures { (defs : List Def) → IsBefore defs before.now → result ≡ list_all (λ (n : List ℕ). is_some (type_named defs n)) names.now }
+    ensures { (defs : List Def) → IsBefore defs before.now
+        → result ≡ list_all (λ (n : List ℕ). is_some (type_named defs n)) names.now }
 {
     for name in names {
         if type_named(before, name).is_none() {
@@ -37,7 +38,8 @@ pub fn are_types(before: &Before, names: &[Text]) -> bool
 
 /// Returns the first of the names that is not that of a type.
 pub fn missing_type<'d>(before: &Before, names: &'d [Text]) -> Option<&'d Text>
-    ensures { (defs : List Def) → IsBefore defs before.now → is_some result ≡ not (list_all (λ (n : List ℕ). is_some (type_named defs n)) names.now) }
+    ensures { (defs : List Def) → IsBefore defs before.now
+        → is_some result ≡ not (list_all (λ (n : List ℕ). is_some (type_named defs n)) names.now) }
 {
     for name in names {
         if type_named(before, name).is_none() {
@@ -53,7 +55,9 @@ fn plain_types(
     before: &Before,
     names: &[Text],
 ) -> Result<Option<Vec<TypeId>>, AllocError>
-    ensures { (defs : List Def) → IsBefore defs before.now → IfOk result (λ found. option_map (λ types. types.items) found ≡ types_named defs names.now) }
+    ensures { (defs : List Def) → IsBefore defs before.now
+        → IfOk result
+        (λ found. option_map (λ types. types.items) found ≡ types_named defs names.now) }
 {
     let mut types = Vec::with_capacity(alloc, names.len())?;
     for name in names {
@@ -71,7 +75,10 @@ fn field_types(
     before: &Before,
     fields: &[(Text, Text)],
 ) -> Result<Option<Vec<TypeId>>, AllocError>
-    ensures { (defs : List Def) → IsBefore defs before.now → IfOk result (λ found. option_map (λ types. types.items) found ≡ types_named defs (map (λ f. f.1) fields.now)) }
+    ensures { (defs : List Def) → IsBefore defs before.now
+        → IfOk result
+        (λ found. option_map (λ types. types.items) found
+        ≡ types_named defs (map (λ f. f.1) fields.now)) }
 {
     let mut types = Vec::with_capacity(alloc, fields.len())?;
     for field in fields {
@@ -89,7 +96,10 @@ pub fn types_of(
     before: &Before,
     args: ArgTypes,
 ) -> Result<Option<Vec<TypeId>>, AllocError>
-    ensures { (defs : List Def) → IsBefore defs before.now → IfOk result (λ found. option_map (λ types. types.items) found ≡ types_named defs (arg_types args.entry)) }
+    ensures { (defs : List Def) → IsBefore defs before.now
+        → IfOk result
+        (λ found. option_map (λ types. types.items) found
+        ≡ types_named defs (arg_types args.entry)) }
 {
     match args {
         ArgTypes::Plain(names) => plain_types(alloc, before, names),

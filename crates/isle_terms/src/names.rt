@@ -21,7 +21,8 @@ pub struct Names<'k, 'd> {
 
 // Whether the place is one of the first of so many.
 fn is_before(place: Option<usize>, count: usize) -> bool
-    ensures { (names : List (List ℕ)) (name : List ℕ) → place ≡ index_of names name → result ≡ is_some (index_of (take count names) name) }
+    ensures { (names : List (List ℕ)) (name : List ℕ) → place ≡ index_of names name
+        → result ≡ is_some (index_of (take count names) name) }
 {
     match place {
         Some(place) => place < count,
@@ -41,7 +42,9 @@ impl<'k, 'd> Names<'k, 'd> {
 
     /// Tells whether one of the first so many declarations is of the term.
     pub fn is_declared_before(&self, term: &Text, count: usize) -> bool
-        ensures { result ≡ is_some (index_of (take count (terms_of (signatures (seen self.now.declarations.now)))) term.now) }
+        ensures { result
+            ≡ is_some (index_of
+            (take count (terms_of (signatures (seen self.now.declarations.now)))) term.now) }
     {
         match self.declarations.number(term) {
             Some(number) => is_before(self.declarations.declaration(number), count),
@@ -51,14 +54,21 @@ impl<'k, 'd> Names<'k, 'd> {
 
     /// Tells whether one of the first so many external constructors is of the term whose name has this number.
     pub fn is_external_before(&self, number: usize, count: usize) -> bool
-        ensures { (name : List ℕ) → index_of (symbols (seen self.now.declarations.now)) name ≡ Some number → result ≡ is_some (index_of (take count (extern_terms (externs (seen self.now.declarations.now)))) name) }
+        ensures { (name : List ℕ)
+            → index_of (symbols (seen self.now.declarations.now)) name ≡ Some number
+            → result ≡ is_some
+            (index_of (take count (extern_terms (externs (seen self.now.declarations.now)))) name) }
     {
         is_before(self.declarations.external(number), count)
     }
 
     /// Tells whether one of the first so many extractors is of the term whose name has this number.
     pub fn is_extracted_before(&self, number: usize, count: usize) -> bool
-        ensures { (name : List ℕ) → index_of (symbols (seen self.now.declarations.now)) name ≡ Some number → result ≡ is_some (index_of (take count (extractor_terms (extractors (seen self.now.declarations.now)))) name) }
+        ensures { (name : List ℕ)
+            → index_of (symbols (seen self.now.declarations.now)) name ≡ Some number
+            → result ≡ is_some
+            (index_of (take count (extractor_terms (extractors (seen self.now.declarations.now))))
+            name) }
     {
         is_before(self.declarations.extracting(number), count)
     }

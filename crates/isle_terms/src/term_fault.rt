@@ -31,7 +31,10 @@ fn misfit_of<'d>(
     given: &'d Def,
 ) -> Result<Option<Misfit<'d>>, AllocError>
     requires { AreNames names.now }
-    ensures { IfOk result (λ misfit. (bs : List PureDef) → ArePlaced (seen names.now.declarations.now) bs counts → AreMet (seen names.now.declarations.now) bs found.old → IsJudged (seen names.now.declarations.now) bs (def given.now) misfit found.new) }
+    ensures { IfOk result (λ misfit.
+        (bs : List PureDef) → ArePlaced (seen names.now.declarations.now) bs counts
+        → AreMet (seen names.now.declarations.now) bs found.old
+        → IsJudged (seen names.now.declarations.now) bs (def given.now) misfit found.new) }
 {
     match given {
         Def::Decl {

@@ -17,7 +17,7 @@ use Rattle.isle_codegen.specs.declared.compile_error.CompileError.TheVariants as
 use Rattle.isle_codegen.specs.declared.file_error.FileError.{FileError}
 use Rattle.isle_codegen.specs.declared.file_error.FileError.TheVariants as file
 use Rattle.isle_codegen.proofs.Accepted.{accepted_none, accepted_named, some_errors}
-use Rattle.isle_names.specs.declared.name_error.NameError.{NameError}
+use Rattle.isle_lawful_names.specs.declared.name_error.NameError.{NameError}
 use Rattle.isle_command_line.specs.Request.{Request, Running, Help, Version, Compile, Build, Prelude, Units, Isa, Run}
 use Rattle.isle_command_line.specs.declared.commands.Source.{Source}
 use Rattle.isle_command_line.specs.declared.commands.Source.TheVariants as source

@@ -6,14 +6,14 @@ use Rattle.isle_outside.specs.Directory.{Rose}
 use Rattle.isle_outside.specs.Sinks.{Took, TookPart}
 use Rattle.isle_outside.specs.declared.errors.IoCause.{IoCause}
 use Rattle.isle_outside.specs.declared.errors.IoCause.TheVariants as cause
-use Rattle.isle_names.specs.declared.name_error.NameUse.{NameUse}
-use Rattle.isle_names.specs.declared.name_error.NameUse.TheVariants as use_of
+use Rattle.isle_lawful_names.specs.declared.name_error.NameUse.{NameUse}
+use Rattle.isle_lawful_names.specs.declared.name_error.NameUse.TheVariants as use_of
 
 -- a text and the end of its line
 abbrev pub line : List ℕ → List ℕ
 line text = text ++ 10 ∷ []
 
--- what stands behind the name of a file that was not read: why, in words
+-- what stands after the name of a file that was not read: why, in words
 abbrev pub cause_end : IoCause → List ℕ
 cause_end cause.Fault = line (codes ": fault")
 cause_end cause.Absent = line (codes ": absent")
@@ -60,7 +60,7 @@ count_line = line (codes "isle: argument count")
 unfoldable pub argument_head : List ℕ
 argument_head = codes "isle: argument "
 
--- what stands behind the number of an argument
+-- what stands after the number of an argument
 unfoldable pub argument_end : List ℕ
 argument_end = codes " has another type\n"
 
@@ -84,7 +84,7 @@ answers_line at = answers_head ++ (numeral 10 at ++ codes "\n")
 unfoldable pub bad_name_head : List ℕ
 bad_name_head = codes "isle: bad name "
 
--- what stands behind it: what it stands for
+-- what stands after it: what it stands for
 abbrev pub use_end : NameUse → List ℕ
 use_end use_of.File = line (codes ": File")
 use_end use_of.TypeName = line (codes ": TypeName")

@@ -25,7 +25,7 @@ abbrev pub answers_names : Option (List ℕ) → List (List ℕ)
 answers_names None = []
 answers_names (Some name) = name ∷ []
 
--- the inputs of a run: the file of its source, and behind it the file of its answers
+-- the inputs of a run: the file of its source, and after it the file of its answers
 abbrev pub run_inputs : (source : List ℕ) → Running → List (List ℕ)
 run_inputs source r = source ∷ answers_names r.answers
 

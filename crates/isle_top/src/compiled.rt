@@ -34,8 +34,10 @@ pub fn compiled<D: Dir>(
         HasCause e options.now (D.files dir.old) names.now (D.counts dir.old) (D.counts dir.new)) }
     ensures files { D.files dir.new ≡ D.files dir.old }
     ensures later { (D.counts dir.old).faults ≤ (D.counts dir.new).faults }
-    ensures stays { (D.counts dir.old).faults ≡ 2 ^ 64 - 1 → (D.counts dir.new).faults ≡ 2 ^ 64 - 1 }
-    ensures given { (D.counts dir.new).given ≤ (D.counts dir.old).given + (2 ^ 24 + 1) * length names.now }
+    ensures stays { (D.counts dir.old).faults ≡ 2 ^ 64 - 1
+        → (D.counts dir.new).faults ≡ 2 ^ 64 - 1 }
+    ensures given { (D.counts dir.new).given
+        ≤ (D.counts dir.old).given + (2 ^ 24 + 1) * length names.now }
 {
     match strings_of(alloc, names) {
         Ok(inputs) => from_files(alloc, dir, inputs.as_slice(), options),

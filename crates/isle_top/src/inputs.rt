@@ -22,13 +22,16 @@ pub struct Inputs {
 
 // The text of the input of this number and name.
 fn text_at<D: Dir>(alloc: Global, index: usize, name: &str, dir: &mut D) -> Result<Text, ReadError>
-    ensures ok { IfOk result (λ text. IfSome (D.files dir.old) (λ fs. IsText text (bytes_of fs name.now))) }
+    ensures ok { IfOk result (λ text.
+        IfSome (D.files dir.old) (λ fs. IsText text (bytes_of fs name.now))) }
     ensures err { IfErr result (λ e.
         FailsTo e index (D.files dir.old) name.now (D.counts dir.old) (D.counts dir.new)) }
     ensures files { D.files dir.new ≡ D.files dir.old }
     ensures later { (D.counts dir.old).faults ≤ (D.counts dir.new).faults }
-    ensures stays { (D.counts dir.old).faults ≡ 2 ^ 64 - 1 → (D.counts dir.new).faults ≡ 2 ^ 64 - 1 }
-    ensures find { IfOk result (λ text. (D.counts dir.new).finds ≡ raised 1 (D.counts dir.old).finds) }
+    ensures stays { (D.counts dir.old).faults ≡ 2 ^ 64 - 1
+        → (D.counts dir.new).faults ≡ 2 ^ 64 - 1 }
+    ensures find { IfOk result (λ text.
+        (D.counts dir.new).finds ≡ raised 1 (D.counts dir.old).finds) }
     ensures steady { IfOk result (λ text. (D.counts dir.new).faults ≡ (D.counts dir.old).faults) }
     ensures given { (D.counts dir.new).given ≤ (D.counts dir.old).given + (2 ^ 24 + 1) }
 {
@@ -45,12 +48,14 @@ fn answers_text<D: Dir>(
     answers: Option<&str>,
     dir: &mut D,
 ) -> Result<Text, ReadError>
-    ensures ok { IfOk result (λ text. IsAnswersText (D.files dir.old) (option_copied answers.entry) text) }
+    ensures ok { IfOk result (λ text.
+        IsAnswersText (D.files dir.old) (option_copied answers.entry) text) }
     ensures err { IfErr result (λ e. IsSomeAnd (option_copied answers.entry)
         (λ file. FailsTo e 1 (D.files dir.old) file (D.counts dir.old) (D.counts dir.new))) }
     ensures files { D.files dir.new ≡ D.files dir.old }
     ensures later { (D.counts dir.old).faults ≤ (D.counts dir.new).faults }
-    ensures stays { (D.counts dir.old).faults ≡ 2 ^ 64 - 1 → (D.counts dir.new).faults ≡ 2 ^ 64 - 1 }
+    ensures stays { (D.counts dir.old).faults ≡ 2 ^ 64 - 1
+        → (D.counts dir.new).faults ≡ 2 ^ 64 - 1 }
     ensures looks { IfOk result (λ text.
         LooksUp (option_copied answers.entry) (D.counts dir.old) (D.counts dir.new)) }
     ensures steady { IfOk result (λ text. (D.counts dir.new).faults ≡ (D.counts dir.old).faults) }
@@ -70,13 +75,15 @@ fn source_at<D: Dir>(
     options: &CodegenOptions,
     dir: &mut D,
 ) -> Result<Files, ReadError>
-    ensures read { IfOk result (λ files. AreSource options.now (name.now ∷ []) (D.files dir.old) files) }
+    ensures read { IfOk result (λ files.
+        AreSource options.now (name.now ∷ []) (D.files dir.old) files) }
     ensures count { IfOk result (λ files. length files.file_texts ≡ length files.file_names) }
     ensures err { IfErr result (λ e.
         Fails e (D.files dir.old) (name.now ∷ []) (D.counts dir.old) (D.counts dir.new)) }
     ensures files { D.files dir.new ≡ D.files dir.old }
     ensures later { (D.counts dir.old).faults ≤ (D.counts dir.new).faults }
-    ensures stays { (D.counts dir.old).faults ≡ 2 ^ 64 - 1 → (D.counts dir.new).faults ≡ 2 ^ 64 - 1 }
+    ensures stays { (D.counts dir.old).faults ≡ 2 ^ 64 - 1
+        → (D.counts dir.new).faults ≡ 2 ^ 64 - 1 }
     ensures tried { IfOk result (λ files. IsTried 1 (D.counts dir.old) (D.counts dir.new)) }
     ensures steady { IfOk result (λ files. (D.counts dir.new).faults ≡ (D.counts dir.old).faults) }
     ensures given { (D.counts dir.new).given ≤ (D.counts dir.old).given + (2 ^ 24 + 1) }
@@ -101,14 +108,16 @@ pub fn read_inputs<D: Dir>(
     ensures ok { let file = option_copied answers.entry in
         IfOk result (λ read.
         AreInputs options.now source.now file (D.files dir.old) read.files read.answers) }
-    ensures count { IfOk result (λ read. length read.files.file_texts ≡ length read.files.file_names) }
+    ensures count { IfOk result (λ read.
+        length read.files.file_texts ≡ length read.files.file_names) }
     ensures tried { let names = source.now ∷ answers_names (option_copied answers.entry) in
         IfOk result (λ read. AllTried names (D.counts dir.old) (D.counts dir.new)) }
     ensures err { let names = source.now ∷ answers_names (option_copied answers.entry) in
         IfErr result (λ e. Fails e (D.files dir.old) names (D.counts dir.old) (D.counts dir.new)) }
     ensures files { D.files dir.new ≡ D.files dir.old }
     ensures later { (D.counts dir.old).faults ≤ (D.counts dir.new).faults }
-    ensures stays { (D.counts dir.old).faults ≡ 2 ^ 64 - 1 → (D.counts dir.new).faults ≡ 2 ^ 64 - 1 }
+    ensures stays { (D.counts dir.old).faults ≡ 2 ^ 64 - 1
+        → (D.counts dir.new).faults ≡ 2 ^ 64 - 1 }
     ensures given { let names = source.now ∷ answers_names (option_copied answers.entry) in
         (D.counts dir.new).given ≤ (D.counts dir.old).given + (2 ^ 24 + 1) * length names }
 {

@@ -8,7 +8,7 @@ ghost use Rattle.isle_top.specs.RunLine.{answers_names};
 use isle_command_line::{Command, RunLine, Source};
 use isle_core::Text;
 
-// The name of this number, of that of a source and that of a file of answers behind it.
+// The name of this number, of that of a source and that of a file of answers after it.
 fn run_input<'c>(source: &'c Text, answers: &'c Option<Text>, index: usize) -> &'c str
     ensures { (name : List ℕ) → slice_get (source.now ∷ answers_names answers.now) index ≡ Some name
         → result.now ≡ name }
@@ -21,7 +21,8 @@ fn run_input<'c>(source: &'c Text, answers: &'c Option<Text>, index: usize) -> &
 
 // The name of this number among a run's inputs.
 fn running_input(run: &RunLine, index: usize) -> &str
-    ensures { (name : List ℕ) → slice_get (job_of_run run.now).inputs index ≡ Some name → result.now ≡ name }
+    ensures { (name : List ℕ) → slice_get (job_of_run run.now).inputs index ≡ Some name
+        → result.now ≡ name }
 {
     match (run.trace, &run.source) {
         (false, Source::File(name)) => run_input(name, &run.answers, index),
@@ -41,7 +42,8 @@ fn running_term(run: &RunLine) -> &str
 
 /// Returns the name of the line's input of this number, or any where there is none (`specs/Jobs.antt`).
 pub fn input_name(request: &Command, index: usize) -> &str
-    ensures { (name : List ℕ) → slice_get (job_of (seen_command request.now)).inputs index ≡ Some name
+    ensures { (name : List ℕ)
+        → slice_get (job_of (seen_command request.now)).inputs index ≡ Some name
         → result.now ≡ name }
 {
     match request {

@@ -37,7 +37,7 @@ pub const OUT_OF_MEMORY: &str = "isle: out of memory\n";
 /// A line would go on.
 pub const MISSING_WORD: &str = "isle: missing word\n";
 
-// What stands behind the name of a file that was not read: why, in words.
+// What stands after the name of a file that was not read: why, in words.
 fn cause_end(cause: IoCause) -> &'static str
     ensures { result.now ≡ cause_end cause }
 {
@@ -52,7 +52,8 @@ fn cause_end(cause: IoCause) -> &'static str
 // Writes a name, each byte below 32 as `?`. It takes no memory.
 fn write_masked<S: Sink>(sink: &mut S, name: &str) -> Result<(), Failed>
     ensures ok { OnOk result (Took (S.taken sink.old) (S.taken sink.new) (map masked name.now)) }
-    ensures part { OnErr result (TookPart (S.taken sink.old) (S.taken sink.new) (map masked name.now)) }
+    ensures part { OnErr result
+        (TookPart (S.taken sink.old) (S.taken sink.new) (map masked name.now)) }
     ensures failed { OnErr result (Rose (S.faults sink.old) (S.faults sink.new)) }
     ensures later { S.faults sink.old ≤ S.faults sink.new }
 {
@@ -66,9 +67,10 @@ fn write_masked<S: Sink>(sink: &mut S, name: &str) -> Result<(), Failed>
     Ok(())
 }
 
-// Writes a name, each byte below 32 as `?`, and what stands behind it. It takes no memory.
+// Writes a name, each byte below 32 as `?`, and what stands after it. It takes no memory.
 fn write_name<S: Sink>(sink: &mut S, name: &str, end: &str) -> Result<(), Failed>
-    ensures ok { OnOk result (Took (S.taken sink.old) (S.taken sink.new) (map masked name.now ++ end.now)) }
+    ensures ok { OnOk result
+        (Took (S.taken sink.old) (S.taken sink.new) (map masked name.now ++ end.now)) }
     ensures part { OnErr result
         (TookPart (S.taken sink.old) (S.taken sink.new) (map masked name.now ++ end.now)) }
     ensures failed { OnErr result (Rose (S.faults sink.old) (S.faults sink.new)) }
@@ -82,7 +84,8 @@ fn write_name<S: Sink>(sink: &mut S, name: &str, end: &str) -> Result<(), Failed
 
 /// Writes the line of a file that was not read. It takes no memory.
 pub fn write_unread<S: Sink>(sink: &mut S, name: &str, cause: IoCause) -> Result<(), Failed>
-    ensures ok { OnOk result (Took (S.taken sink.old) (S.taken sink.new) (unread_line name.now cause)) }
+    ensures ok { OnOk result
+        (Took (S.taken sink.old) (S.taken sink.new) (unread_line name.now cause)) }
     ensures part { OnErr result
         (TookPart (S.taken sink.old) (S.taken sink.new) (unread_line name.now cause)) }
     ensures failed { OnErr result (Rose (S.faults sink.old) (S.faults sink.new)) }
@@ -93,7 +96,8 @@ pub fn write_unread<S: Sink>(sink: &mut S, name: &str, cause: IoCause) -> Result
 
 /// Writes the line of a name that may not be emitted, and of what it stands for. It takes no memory.
 pub fn write_bad_name<S: Sink>(sink: &mut S, name: &str, usage: NameUse) -> Result<(), Failed>
-    ensures ok { OnOk result (Took (S.taken sink.old) (S.taken sink.new) (bad_name_line name.now usage)) }
+    ensures ok { OnOk result
+        (Took (S.taken sink.old) (S.taken sink.new) (bad_name_line name.now usage)) }
     ensures part { OnErr result
         (TookPart (S.taken sink.old) (S.taken sink.new) (bad_name_line name.now usage)) }
     ensures failed { OnErr result (Rose (S.faults sink.old) (S.faults sink.new)) }
@@ -105,7 +109,8 @@ pub fn write_bad_name<S: Sink>(sink: &mut S, name: &str, usage: NameUse) -> Resu
 /// Writes the line of a word with which no line goes on. It takes no memory.
 pub fn write_bad_word<S: Sink>(sink: &mut S, word: &str) -> Result<(), Failed>
     ensures ok { OnOk result (Took (S.taken sink.old) (S.taken sink.new) (bad_word_line word.now)) }
-    ensures part { OnErr result (TookPart (S.taken sink.old) (S.taken sink.new) (bad_word_line word.now)) }
+    ensures part { OnErr result
+        (TookPart (S.taken sink.old) (S.taken sink.new) (bad_word_line word.now)) }
     ensures failed { OnErr result (Rose (S.faults sink.old) (S.faults sink.new)) }
     ensures later { S.faults sink.old ≤ S.faults sink.new }
 {
@@ -115,7 +120,8 @@ pub fn write_bad_word<S: Sink>(sink: &mut S, word: &str) -> Result<(), Failed>
 /// Writes that no term with rules has the name, with each byte below 32 as `?`. It takes no memory.
 pub fn write_no_term<S: Sink>(sink: &mut S, term: &str) -> Result<(), Failed>
     ensures ok { OnOk result (Took (S.taken sink.old) (S.taken sink.new) (no_term_line term.now)) }
-    ensures part { OnErr result (TookPart (S.taken sink.old) (S.taken sink.new) (no_term_line term.now)) }
+    ensures part { OnErr result
+        (TookPart (S.taken sink.old) (S.taken sink.new) (no_term_line term.now)) }
     ensures failed { OnErr result (Rose (S.faults sink.old) (S.faults sink.new)) }
     ensures later { S.faults sink.old ≤ S.faults sink.new }
 {
@@ -135,7 +141,8 @@ pub fn write_argument_count<S: Sink>(sink: &mut S) -> Result<(), Failed>
 /// Writes that the argument of this number is of another type. It takes no memory.
 pub fn write_argument<S: Sink>(sink: &mut S, argument: usize) -> Result<(), Failed>
     ensures ok { OnOk result (Took (S.taken sink.old) (S.taken sink.new) (argument_line argument)) }
-    ensures part { OnErr result (TookPart (S.taken sink.old) (S.taken sink.new) (argument_line argument)) }
+    ensures part { OnErr result
+        (TookPart (S.taken sink.old) (S.taken sink.new) (argument_line argument)) }
     ensures failed { OnErr result (Rose (S.faults sink.old) (S.faults sink.new)) }
     ensures later { S.faults sink.old ≤ S.faults sink.new }
 {
@@ -145,19 +152,22 @@ pub fn write_argument<S: Sink>(sink: &mut S, argument: usize) -> Result<(), Fail
 /// Writes the place where the answers go wrong. It takes no memory.
 pub fn write_bad_answers<S: Sink>(sink: &mut S, place: usize) -> Result<(), Failed>
     ensures ok { OnOk result (Took (S.taken sink.old) (S.taken sink.new) (answers_line place)) }
-    ensures part { OnErr result (TookPart (S.taken sink.old) (S.taken sink.new) (answers_line place)) }
+    ensures part { OnErr result
+        (TookPart (S.taken sink.old) (S.taken sink.new) (answers_line place)) }
     ensures failed { OnErr result (Rose (S.faults sink.old) (S.faults sink.new)) }
     ensures later { S.faults sink.old ≤ S.faults sink.new }
 {
     write_numbered(sink, answers_head(), place, "\n")
 }
 
-// Writes a fixed text, a name with each byte below 32 as `?`, and what stands behind it. It takes no memory.
+// Writes a fixed text, a name with each byte below 32 as `?`, and what stands after it. It takes no memory.
 fn write_named<S: Sink>(sink: &mut S, head: &str, name: &str, end: &str) -> Result<(), Failed>
     ensures ok { OnOk result
-        (Took (S.taken sink.old) (S.taken sink.new) (head.now ++ (map masked name.now ++ end.now))) }
+        (Took (S.taken sink.old) (S.taken sink.new)
+        (head.now ++ (map masked name.now ++ end.now))) }
     ensures part { OnErr result
-        (TookPart (S.taken sink.old) (S.taken sink.new) (head.now ++ (map masked name.now ++ end.now))) }
+        (TookPart (S.taken sink.old) (S.taken sink.new)
+        (head.now ++ (map masked name.now ++ end.now))) }
     ensures failed { OnErr result (Rose (S.faults sink.old) (S.faults sink.new)) }
     ensures later { S.faults sink.old ≤ S.faults sink.new }
 {
@@ -172,7 +182,8 @@ fn write_numbered<S: Sink>(sink: &mut S, head: &str, number: usize, end: &str) -
     ensures ok { OnOk result
         (Took (S.taken sink.old) (S.taken sink.new) (head.now ++ (numeral 10 number ++ end.now))) }
     ensures part { OnErr result
-        (TookPart (S.taken sink.old) (S.taken sink.new) (head.now ++ (numeral 10 number ++ end.now))) }
+        (TookPart (S.taken sink.old) (S.taken sink.new)
+        (head.now ++ (numeral 10 number ++ end.now))) }
     ensures failed { OnErr result (Rose (S.faults sink.old) (S.faults sink.new)) }
     ensures later { S.faults sink.old ≤ S.faults sink.new }
 {
@@ -182,9 +193,10 @@ fn write_numbered<S: Sink>(sink: &mut S, head: &str, number: usize, end: &str) -
     }
 }
 
-// Writes a number, and what stands behind it. It takes no memory.
+// Writes a number, and what stands after it. It takes no memory.
 fn write_count<S: Sink>(sink: &mut S, number: usize, end: &str) -> Result<(), Failed>
-    ensures ok { OnOk result (Took (S.taken sink.old) (S.taken sink.new) (numeral 10 number ++ end.now)) }
+    ensures ok { OnOk result
+        (Took (S.taken sink.old) (S.taken sink.new) (numeral 10 number ++ end.now)) }
     ensures part { OnErr result
         (TookPart (S.taken sink.old) (S.taken sink.new) (numeral 10 number ++ end.now)) }
     ensures failed { OnErr result (Rose (S.faults sink.old) (S.faults sink.new)) }
@@ -200,7 +212,8 @@ fn write_count<S: Sink>(sink: &mut S, number: usize, end: &str) -> Result<(), Fa
 /// memory.
 pub fn write_number<S: Sink>(sink: &mut S, number: usize) -> Result<(), Failed>
     ensures ok { OnOk result (Took (S.taken sink.old) (S.taken sink.new) (numeral 10 number)) }
-    ensures part { OnErr result (TookPart (S.taken sink.old) (S.taken sink.new) (numeral 10 number)) }
+    ensures part { OnErr result
+        (TookPart (S.taken sink.old) (S.taken sink.new) (numeral 10 number)) }
     ensures failed { OnErr result (Rose (S.faults sink.old) (S.faults sink.new)) }
     ensures later { S.faults sink.old ≤ S.faults sink.new }
 {
@@ -217,7 +230,8 @@ pub fn write_number<S: Sink>(sink: &mut S, number: usize) -> Result<(), Failed>
 fn write_digit<S: Sink>(sink: &mut S, digit: usize) -> Result<(), Failed>
     requires { digit < 10 }
     ensures ok { OnOk result (Took (S.taken sink.old) (S.taken sink.new) (glyph digit ∷ [])) }
-    ensures part { OnErr result (TookPart (S.taken sink.old) (S.taken sink.new) (glyph digit ∷ [])) }
+    ensures part { OnErr result
+        (TookPart (S.taken sink.old) (S.taken sink.new) (glyph digit ∷ [])) }
     ensures failed { OnErr result (Rose (S.faults sink.old) (S.faults sink.new)) }
     ensures later { S.faults sink.old ≤ S.faults sink.new }
 {
@@ -241,7 +255,7 @@ fn bad_name_head() -> &'static str
     "isle: bad name "
 }
 
-// What stands behind it: what it stands for.
+// What stands after it: what it stands for.
 fn use_end(usage: NameUse) -> &'static str
     ensures { result.now ≡ use_end usage }
 {
@@ -288,7 +302,7 @@ fn argument_head() -> &'static str
     "isle: argument "
 }
 
-// What stands behind the number of an argument.
+// What stands after the number of an argument.
 #[tactic(auto, unfolding(crate::specs::Lines::argument_end))]
 fn argument_end() -> &'static str
     ensures { result.now ≡ argument_end }

@@ -47,11 +47,13 @@ pub fn ran<D: Dir>(
         GivesLines source.now (seen_run run.now) (D.files dir.old) (string_bytes lines)) }
     ensures tried { let names = run_inputs source.now (seen_run run.now) in
         IfOk result (λ lines. AllTried names (D.counts dir.old) (D.counts dir.new)) }
-    ensures err { let around = surroundings (D.files dir.old) (D.counts dir.old) (D.counts dir.new) in
+    ensures err { let around = surroundings (D.files dir.old) (D.counts dir.old) (D.counts dir.new)
+        in
         IfErr result (FailsToRun source.now (seen_run run.now) around) }
     ensures files { D.files dir.new ≡ D.files dir.old }
     ensures later { (D.counts dir.old).faults ≤ (D.counts dir.new).faults }
-    ensures stays { (D.counts dir.old).faults ≡ 2 ^ 64 - 1 → (D.counts dir.new).faults ≡ 2 ^ 64 - 1 }
+    ensures stays { (D.counts dir.old).faults ≡ 2 ^ 64 - 1
+        → (D.counts dir.new).faults ≡ 2 ^ 64 - 1 }
     ensures given { let names = run_inputs source.now (seen_run run.now) in
         (D.counts dir.new).given ≤ (D.counts dir.old).given + (2 ^ 24 + 1) * length names }
 {

@@ -19,17 +19,22 @@ use std::alloc::Global;
 /// Returns the reply to a line (`specs/Jobs.antt`). Where the line is valid and no call of the directory fails, the
 /// only refusal is want of memory.
 pub fn reply<D: Dir>(alloc: Global, command: &Command, dir: &mut D) -> Result<String, Refusal>
-    ensures ok { let around = surroundings (D.files dir.old) (D.counts dir.old) (D.counts dir.new) in
-        IfOk result (λ text. IsReply (job_of (seen_command command.now)) around (string_bytes text)) }
-    ensures err { let around = surroundings (D.files dir.old) (D.counts dir.old) (D.counts dir.new) in
+    ensures ok { let around = surroundings (D.files dir.old) (D.counts dir.old) (D.counts dir.new)
+        in
+        IfOk result (λ text.
+        IsReply (job_of (seen_command command.now)) around (string_bytes text)) }
+    ensures err { let around = surroundings (D.files dir.old) (D.counts dir.old) (D.counts dir.new)
+        in
         IfErr result (λ e. (job_of (seen_command command.now)).fails e around) }
-    ensures not_built { (job_of (seen_command command.now)).built ≡ false → result ≡ Err Refusal.NotYet }
+    ensures not_built { (job_of (seen_command command.now)).built ≡ false
+        → result ≡ Err Refusal.NotYet }
     ensures untried { (job_of (seen_command command.now)).reads ≡ false → dir.new ≡ dir.old }
     ensures complete { (job_of (seen_command command.now)).valid (D.files dir.old)
         → (Rose (D.counts dir.old).faults (D.counts dir.new).faults → ⊥) → IfErr result IsWant }
     ensures files { D.files dir.new ≡ D.files dir.old }
     ensures later { (D.counts dir.old).faults ≤ (D.counts dir.new).faults }
-    ensures stays { (D.counts dir.old).faults ≡ 2 ^ 64 - 1 → (D.counts dir.new).faults ≡ 2 ^ 64 - 1 }
+    ensures stays { (D.counts dir.old).faults ≡ 2 ^ 64 - 1
+        → (D.counts dir.new).faults ≡ 2 ^ 64 - 1 }
     ensures given { let names = (job_of (seen_command command.now)).inputs in
         (D.counts dir.new).given ≤ (D.counts dir.old).given + (2 ^ 24 + 1) * length names }
 {
@@ -54,15 +59,18 @@ pub fn reply<D: Dir>(alloc: Global, command: &Command, dir: &mut D) -> Result<St
 
 // The reply to a run.
 fn run_reply<D: Dir>(alloc: Global, run: &RunLine, dir: &mut D) -> Result<String, Refusal>
-    ensures ok { let around = surroundings (D.files dir.old) (D.counts dir.old) (D.counts dir.new) in
+    ensures ok { let around = surroundings (D.files dir.old) (D.counts dir.old) (D.counts dir.new)
+        in
         IfOk result (λ text. IsReply (job_of_run run.now) around (string_bytes text)) }
-    ensures err { let around = surroundings (D.files dir.old) (D.counts dir.old) (D.counts dir.new) in
+    ensures err { let around = surroundings (D.files dir.old) (D.counts dir.old) (D.counts dir.new)
+        in
         IfErr result (λ e. (job_of_run run.now).fails e around) }
     ensures not_built { (job_of_run run.now).built ≡ false → result ≡ Err Refusal.NotYet }
     ensures untried { (job_of_run run.now).reads ≡ false → dir.new ≡ dir.old }
     ensures files { D.files dir.new ≡ D.files dir.old }
     ensures later { (D.counts dir.old).faults ≤ (D.counts dir.new).faults }
-    ensures stays { (D.counts dir.old).faults ≡ 2 ^ 64 - 1 → (D.counts dir.new).faults ≡ 2 ^ 64 - 1 }
+    ensures stays { (D.counts dir.old).faults ≡ 2 ^ 64 - 1
+        → (D.counts dir.new).faults ≡ 2 ^ 64 - 1 }
     ensures given { let names = (job_of_run run.now).inputs in
         (D.counts dir.new).given ≤ (D.counts dir.old).given + (2 ^ 24 + 1) * length names }
 {

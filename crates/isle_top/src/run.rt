@@ -27,13 +27,15 @@ pub fn run_words<D: Dir, O: Sink, E: Sink>(
     err: &mut E,
 ) -> Exit
     // At status 0 `out` took the reply, and nothing else, and its count stands; each input was asked for once.
-    ensures done { let around = surroundings (D.files dir.old) (D.counts dir.old) (D.counts dir.new) in
+    ensures done { let around = surroundings (D.files dir.old) (D.counts dir.old) (D.counts dir.new)
+        in
         result.0 ≡ 0 → (request : Request) × Asks (bytes_each words.now) request
         × (O.faults out.new ≡ O.faults out.old)
         × TookReply (job_of request) around (O.taken out.old) (O.taken out.new) }
 
     // At status 11 its count rose, and it took a part of the reply.
-    ensures part { let around = surroundings (D.files dir.old) (D.counts dir.old) (D.counts dir.new) in
+    ensures part { let around = surroundings (D.files dir.old) (D.counts dir.old) (D.counts dir.new)
+        in
         result.0 ≡ 11 → (request : Request) × Asks (bytes_each words.now) request
         × Rose (O.faults out.old) (O.faults out.new)
         × TookPartOfReply (job_of request) around (O.taken out.old) (O.taken out.new) }
@@ -42,9 +44,11 @@ pub fn run_words<D: Dir, O: Sink, E: Sink>(
     ensures untouched { result.0 ≢ 0 → result.0 ≢ 11 → out.new ≡ out.old }
 
     // Each other status has its cause, and its line on `err`; at status 0 nothing stands there.
-    ensures says { let around = surroundings (D.files dir.old) (D.counts dir.old) (D.counts dir.new) in
+    ensures says { let around = surroundings (D.files dir.old) (D.counts dir.old) (D.counts dir.new)
+        in
         let wrote = Wrote (E.taken err.old) (E.taken err.new) (E.faults err.old) (E.faults err.new) in
-        Says (Asks (bytes_each words.now)) (IsNoLine (bytes_each words.now) wrote) around (err.new ≡ err.old)
+        Says (Asks (bytes_each words.now)) (IsNoLine (bytes_each words.now) wrote) around
+        (err.new ≡ err.old)
         wrote result.0 }
 
     // Words that are no line end in 2, a line that is not built in 14; or with 12, want of memory.
@@ -90,7 +94,8 @@ pub fn run_words<D: Dir, O: Sink, E: Sink>(
 
 // The word of this number.
 fn word_at(words: &[String], index: usize) -> &str
-    ensures { (word : List ℕ) → slice_get (bytes_each words.now) index ≡ Some word → result.now ≡ word }
+    ensures { (word : List ℕ) → slice_get (bytes_each words.now) index ≡ Some word
+        → result.now ≡ word }
 {
     match words.get(index) {
         Some(word) => word.as_str(),
@@ -106,14 +111,18 @@ fn run_command<D: Dir, O: Sink, E: Sink>(
     out: &mut O,
     err: &mut E,
 ) -> Exit
-    ensures done { let around = surroundings (D.files dir.old) (D.counts dir.old) (D.counts dir.new) in
+    ensures done { let around = surroundings (D.files dir.old) (D.counts dir.old) (D.counts dir.new)
+        in
         result.0 ≡ 0 → (O.faults out.new ≡ O.faults out.old)
         × TookReply (job_of (seen_command request.now)) around (O.taken out.old) (O.taken out.new) }
-    ensures part { let around = surroundings (D.files dir.old) (D.counts dir.old) (D.counts dir.new) in
+    ensures part { let around = surroundings (D.files dir.old) (D.counts dir.old) (D.counts dir.new)
+        in
         result.0 ≡ 11 → Rose (O.faults out.old) (O.faults out.new)
-        × TookPartOfReply (job_of (seen_command request.now)) around (O.taken out.old) (O.taken out.new) }
+        × TookPartOfReply (job_of (seen_command request.now)) around (O.taken out.old)
+        (O.taken out.new) }
     ensures untouched { result.0 ≢ 0 → result.0 ≢ 11 → out.new ≡ out.old }
-    ensures says { let around = surroundings (D.files dir.old) (D.counts dir.old) (D.counts dir.new) in
+    ensures says { let around = surroundings (D.files dir.old) (D.counts dir.old) (D.counts dir.new)
+        in
         let wrote = Wrote (E.taken err.old) (E.taken err.new) (E.faults err.old) (E.faults err.new) in
         Says (λ a. a ≡ seen_command request.now) ⊥ around (err.new ≡ err.old) wrote result.0 }
     ensures not_built { (job_of (seen_command request.now)).built ≡ false → result.0 ≡ 14 }

@@ -53,7 +53,8 @@ fn errors_status(errors: &[Error]) -> Exit
 /// Writes a line, as far as the sink takes it.
 pub fn complain<E: Sink>(err: &mut E, line: &str)
     ensures later { E.faults err.old ≤ E.faults err.new }
-    ensures wrote { Wrote (E.taken err.old) (E.taken err.new) (E.faults err.old) (E.faults err.new) line.now }
+    ensures wrote { Wrote (E.taken err.old) (E.taken err.new) (E.faults err.old) (E.faults err.new)
+        line.now }
 {
     let _ = write_all(err, line.as_bytes());
 }

@@ -1,8 +1,9 @@
 -- What the function of a term does, by cases on the forms of statements.
-use Rattle.std.specs.Prelude.{ℕ, ◌-◌, nat_le, List, [], ◌∷◌, ◌++◌, ◌==◌, ◌&&◌, length, Bool, true, false, Option, Some, None, slice_get, fold, if◌then◌else◌}
+use Rattle.std.specs.Prelude.{ℕ, nat_le, List, [], ◌∷◌, ◌++◌, ◌==◌, ◌&&◌, length, Bool, true, false, Option, Some, None, slice_get, fold, if◌then◌else◌}
 use Rattle.isle_core.specs.Value.{Value, Truth, Int, Opaque, Variant, Struct, FieldValues, NoField, Field, Made, End, Gives, GivesSome, GivesNone, IsUnreachable, GivesList, Ran}
 use Rattle.isle_core.specs.SameInRun.{same_in_run}
 use Rattle.isle_core.specs.Meaning.{Meaning}
+use Rattle.isle_core.specs.Space.{Space, room}
 use Rattle.isle_core.specs.Having.{const_of}
 use Rattle.isle_core.specs.Answered.{Item, AValue, ATuple, Held, Absent, One, Optional, Listed, a_value, an_option, answer_held, answer}
 use Rattle.isle_core.specs.ValueAt.{held, value_before}
@@ -223,7 +224,7 @@ then_run (Ends end s) go = Ends end s
 then_run (Leaves s) go = Leaves s
 then_run Stuck go = Stuck
 
--- what was bound inside is gone behind it
+-- what was bound inside is gone after it
 abbrev pub after_scope : Env → Flow → Flow
 after_scope env (Goes inner s) = Goes env s
 after_scope env (Ends end s) = Ends end s
@@ -300,7 +301,7 @@ run_return w (expr.Variant ty variant fields) env s = Stuck
 run_return w (expr.Struct ty fields) env s = Stuck
 run_return w (expr.Tuple source part) env s = Stuck
 
--- what is done with each item of a list, in order; what was bound meanwhile is gone behind it
+-- what is done with each item of a list, in order; what was bound meanwhile is gone after it
 abbrev pub run_items : (Item → State → Flow) → Env → List Item → State → Flow
 run_items go env [] s = Goes env s
 run_items go env (i ∷ is) s = then_run (go i s) (λ inner t. run_items go env is t)
@@ -344,7 +345,7 @@ abbrev mutual
 
 -- ---- functions
 
--- a function that goes on behind its last statement ends with its results, where it gives several; any other has no end there
+-- a function that goes on after its last statement ends with its results, where it gives several; any other has no end there
 abbrev pub runs_out : ReturnKind → State → Option Ran
 runs_out kind.Plain s = None
 runs_out kind.Option s = None
@@ -362,10 +363,6 @@ abbrev pub function_of : List ℕ → List Function → Option Function
 function_of term [] = None
 function_of term (f ∷ fs) = if same_bytes term f.term then Some f else function_of term fs
 
--- how many results there is room for: as many as the list may have, less those that it has at entry
-abbrev pub room : Meaning → ℕ
-room m = m.max_returns - m.held
-
 -- what a function of a program runs in, where its results are limited so
 abbrev pub around : Program → Meaning → List Value → Option ℕ → Function → Around
 around p m args limit f = record { meaning = m; program = p; function = f; args = args; limit = limit }
@@ -375,10 +372,10 @@ abbrev pub limited_run : Program → Meaning → List Value → Option ℕ → F
 limited_run p m args limit f = ended f.kind (run_body (around p m args limit f) f.body [] nothing_done)
 
 -- the run of a function in its program, where there is one
-abbrev pub function_run : Program → Meaning → List Value → Option Function → Option Ran
-function_run p m args None = None
-function_run p m args (Some f) = limited_run p m args (Some (room m)) f
+abbrev pub function_run : Program → Meaning → Space → List Value → Option Function → Option Ran
+function_run p m space args None = None
+function_run p m space args (Some f) = limited_run p m args (Some (room space)) f
 
 -- the run of the function of a term in a program, where there is one
-abbrev pub run : Program → List ℕ → List Value → Meaning → Option Ran
-run p term args m = function_run p m args (function_of term p.fns)
+abbrev pub run : Program → List ℕ → List Value → Meaning → Space → Option Ran
+run p term args m space = function_run p m space args (function_of term p.fns)

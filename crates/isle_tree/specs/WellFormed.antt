@@ -48,7 +48,7 @@ IsRead (read.Plain o) = IsOperand o
 IsRead (read.Borrow o) = IsOperand o
 IsRead (read.Clone o) = IsOperand o
 
--- the name of a term: behind constructor_ it is a name of Rust
+-- the name of a term: after constructor_ it is a name of Rust
 abbrev pub IsTermName : List ℕ → Type 0
 IsTermName term = IsTrue (list_all is_word_byte term)
 
@@ -280,7 +280,7 @@ GivesKind kind.Iterator (Some (holds.One x)) = ⊥
 GivesKind kind.Iterator (Some (holds.Optional x)) = ⊥
 GivesKind kind.Iterator (Some (holds.Several x)) = ⊥
 
--- the locals behind one that is bound
+-- the locals after one that is bound
 abbrev pub after_let : Option Holds → ℕ → Locals → Locals
 after_let None n bound = bound
 after_let (Some h) n bound = bound ++ (n, h) ∷ []
@@ -309,7 +309,7 @@ pattern_locals (pattern.Variant ty variant binds more) h = field_locals binds
 pattern_locals (pattern.Struct ty binds more) h = field_locals binds
 pattern_locals (pattern.Some local) h = inner_locals local (inner_holds h)
 
--- the locals that are bound behind a statement: none of those inside it
+-- the locals that are bound after a statement: none of those inside it
 abbrev pub bound_after : Callables → ℕ → Stmt → Locals → Locals
 bound_after fns params (Let n e) bound = after_let (expr_holds fns params bound e) n bound
 bound_after fns params (LetList n call) bound = after_let (list_holds (called_holds fns params bound call)) n bound
@@ -429,7 +429,7 @@ FitsEnding kind Done = ⊥
 FitsEnding kind (Then s Done) = FitsLast kind s
 FitsEnding kind (Then s (Then t ss)) = FitsStmt kind false s × FitsEnding kind (Then t ss)
 
--- the statements of a function, outside all closures; one with several answers ends behind them
+-- the statements of a function, outside all closures; one with several answers ends after them
 abbrev pub FitsFunction : ReturnKind → Body → Type 0
 FitsFunction kind.Plain b = FitsEnding kind.Plain b
 FitsFunction kind.Option b = FitsEnding kind.Option b

@@ -35,7 +35,11 @@ impl<'p> Callables<'p> {
         trait_fns: &'p [TraitFn],
         fns: &'p [Function],
     ) -> Result<Callables<'p>, AllocError>
-        ensures { IfOk result (λ c. c ≡ record { trait_fns = trait_fns.now; heads = map function_head (map function fns.now) }) }
+        ensures { IfOk result (λ c.
+            c ≡ record {
+              trait_fns = trait_fns.now;
+              heads = map function_head (map function fns.now);
+            }) }
     {
         let callees = Callees::new(alloc, trait_fns)?;
         let terms = Terms::new(alloc, fns)?;
@@ -51,7 +55,8 @@ impl<'p> Callables<'p> {
 
     /// Returns the function of this term, whose head is the first of the term.
     pub fn head(&self, term: &str) -> Option<&Function>
-        ensures { option_map (λ f. function_head (function f.now)) result ≡ head_of self.now.heads term.now }
+        ensures { option_map (λ f. function_head (function f.now)) result
+            ≡ head_of self.now.heads term.now }
     {
         self.terms.named(term)
     }

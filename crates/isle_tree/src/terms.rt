@@ -59,7 +59,8 @@ impl<'p> Terms<'p> {
 
     /// Returns the first function of this term.
     pub fn named(&self, term: &str) -> Option<&Function>
-        ensures { option_map (λ f. function f.now) result ≡ function_of term.now (map function self.now) }
+        ensures { option_map (λ f. function f.now) result
+            ≡ function_of term.now (map function self.now) }
     {
         self.found.get(term).copied()
     }

@@ -1,6 +1,6 @@
 use isle_core::{Callee, IntType, List, ReturnKind, Text};
 
-/// A type of a place: behind a `&` or not, with its name.
+/// A type of a place: after a `&` or not, with its name.
 #[derive(Debug, Drop)]
 pub struct Ty {
     pub by_ref: bool,
@@ -125,7 +125,7 @@ impl Drop for Read {
     }
 }
 
-/// A call with its arguments behind `ctx`.
+/// A call with its arguments after `ctx`.
 #[derive(Debug, Drop)]
 pub struct TCall {
     pub callee: Callee,

@@ -2,12 +2,11 @@
 
 ghost use Rattle.std.specs.Prelude.{◌↔◌, IsTrue};
 ghost use Rattle.std.specs.List.{AllByRecursion};
-ghost use Rattle.isle_spelling.specs.Identifier.{IsIdentifier};
 ghost use Rattle.isle_tree.specs.WellFormed.{IsField, AreFields, IsVariant, IsTypeBody, IsTypeItem};
 
 use crate::tree::{TFields, TypeBody, TypeItem};
 use isle_core::Text;
-use isle_spelling::is_identifier;
+use isle_spelling::{are_identifiers, is_identifier};
 
 // Whether a field has a name of Rust, and so has its type.
 fn is_field(field: &(Text, Text)) -> bool
@@ -25,18 +24,6 @@ fn are_named(fields: &[(Text, Text)]) -> bool
 {
     for field in fields {
         if !is_field(field) {
-            return false;
-        }
-    }
-    true
-}
-
-// Whether all are names of Rust.
-fn are_identifiers(names: &[Text]) -> bool
-    ensures { IsTrue result ↔ AllByRecursion IsIdentifier names.now }
-{
-    for name in names {
-        if !is_identifier(name.as_str()) {
             return false;
         }
     }

@@ -19,7 +19,7 @@ use Rattle.isle_types.specs.Fault.{or_later, fault_after, type_row, type_fault}
 abbrev pub fault_from : ℕ → List CodeDef → Option (Row × Pos)
 fault_from i ds = fault_after (type_row (defs ds)) (defs (take i ds)) (defs (drop i ds))
 
--- that of one, or else of those behind it
+-- that of one, or else of those after it
 pub fault_step : (ds : List CodeDef) (i : ℕ) (x d : CodeDef) → i < length ds → x ≡ get_or ds i d
     → fault_from i ds ≡ or_later (option_map (λ (r : Row). (r, place_of (def x))) (type_row (defs ds) (defs (take i ds)) (def x))) (fault_from (i + 1) ds)
 fault_step ds i x d lt is =

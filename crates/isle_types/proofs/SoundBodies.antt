@@ -11,6 +11,7 @@ use Rattle.isle_core.specs.declared.types.TypeEnv.{TypeEnv}
 use Rattle.isle_core.specs.declared.types.Variant.{Variant}
 use Rattle.isle_core.specs.Rule.{Environment}
 use Rattle.isle_core.specs.Terms.{sym_text}
+use Rattle.isle_core.proofs.AllLaws.{all_append}
 use Rattle.isle_ast.specs.Tree.{Def, TypeDecl, Decl, ExternConstructor, ExternExtractor, ExternConst, Extractor, Converter, Rule, Passed}
 use Rattle.isle_ast.specs.declared.tree.AstBody.{AstBody}
 use Rattle.isle_ast.specs.declared.tree.AstBody.TheVariants.{Primitive, Enum, Struct}
@@ -85,10 +86,6 @@ some_more P (Some y) ys h k = (h, k)
 pub all_some : {X Y : Type 0} (P : Y → Type 0) (f : X → Option Y) (xs : List X) → AllByRecursion (λ (x : X). IfSome (f x) P) xs → AllByRecursion P (filter_map f xs)
 all_some P f [] h = tt
 all_some P f (x ∷ xs) h = some_more P (f x) (filter_map f xs) h.0 (all_some P f xs h.1)
-
-all_append : {X : Type 0} (P : X → Type 0) (xs ys : List X) → AllByRecursion P xs → AllByRecursion P ys → AllByRecursion P (xs ++ ys)
-all_append P [] ys h k = k
-all_append P (x ∷ xs) ys h k = (h.0, all_append P xs ys h.1 k)
 
 each_sound : (defs : List Def) (env : Environment) (ds : List Def) → env.types ≡ type_env_of defs → AllByRecursion (IsUnbroken defs) ds → AllByRecursion (λ (d : Def). AllStand (symbols defs) (def_names d)) ds
     → AllByRecursion (λ (d : Def). IfSome (type_def_in defs d) (IsSoundDef env)) ds

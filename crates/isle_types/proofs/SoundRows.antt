@@ -10,7 +10,7 @@ use Rattle.isle_types.specs.declared.row.Row.TheVariants as row
 use Rattle.isle_types.specs.TypeRows.{type_repeats, field_repeats, field_type_missing, many_fields, made_term_repeats, constant_misfit}
 use Rattle.isle_types.specs.Fault.{or_later, fault_after, type_row, type_fault}
 
--- a definition breaks no row, behind some
+-- a definition breaks no row, after some
 pub record IsUnbroken (all : List Def) (d : Def) : Type 0 where
   pub before : List Def
   pub apart : field_repeats d ≡ false

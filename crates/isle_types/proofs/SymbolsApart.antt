@@ -12,7 +12,7 @@ use Rattle.isle_declarations.proofs.SymbolLaws.{met, kept, none_of}
 
 -- ---- no text twice
 
--- a name that stands nowhere is not the first, and stands nowhere behind it
+-- a name that stands nowhere is not the first, and stands nowhere after it
 pub nowhere : (first : Bool) (place : Option ℕ) → cond first (Some 0) (option_map (λ (n : ℕ). n + 1) place) ≡ None → (first ≡ false) × (place ≡ None)
 nowhere true place e = absurd cc
 nowhere false None e = (refl, refl)
@@ -85,7 +85,7 @@ all_met : (names among : List (List ℕ)) → AllStand (fold added among names) 
 all_met [] among = tt
 all_met (x ∷ names) among = let m = met among x in ((m.0, kept names (added among x) x m.0 m.1), all_met names (added among x))
 
--- of lists one behind the other
+-- of lists one after the other
 pub all_first : {X : Type 0} (P : X → Type 0) (xs ys : List X) → AllByRecursion P (xs ++ ys) → AllByRecursion P xs
 all_first P [] ys h = tt
 all_first P (x ∷ xs) ys h = (h.0, all_first P xs ys h.1)

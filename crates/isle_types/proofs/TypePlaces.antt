@@ -20,7 +20,7 @@ use Rattle.isle_types.specs.TypeEnvironment.{type_in, def_in, type_def_in}
 use Rattle.isle_types.specs.TypeNames.{declared_names, type_names, declared_as, is_primitive, is_type, is_scalar}
 use Rattle.isle_types.proofs.SymbolsApart.{nowhere}
 
--- ---- lists one behind the other
+-- ---- lists one after the other
 
 index_behind : (xs ys : List (List ℕ)) (name : List ℕ) (m : ℕ) → index_of xs name ≡ None → index_of ys name ≡ Some m → index_of (xs ++ ys) name ≡ Some (length xs + m)
 index_behind [] ys name m e f = f ∙ ap Some (omega arith)

@@ -17,7 +17,7 @@ abbrev pub or_later : {X : Type 0} → Option X → Option X → Option X
 or_later None later = later
 or_later (Some first) later = Some first
 
--- the fault in these definitions, which follow those, by the row that each breaks behind those before it
+-- the fault in these definitions, which follow those, by the row that each breaks after those before it
 abbrev pub fault_after : (broken : (before : List Def) → Def → Option Row) → (before defs : List Def) → Option (Row × Pos)
 fault_after broken before [] = None
 fault_after broken before (d ∷ ds) = or_later (option_map (λ (r : Row). (r, place_of d)) (broken before d)) (fault_after broken (before ++ d ∷ []) ds)

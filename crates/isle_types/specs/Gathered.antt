@@ -52,7 +52,7 @@ body_row all body =
     else if any_fields are_many body then Some row.ManyFields
     else None
 
--- what was found of a definition, behind these: the lowest row that it breaks, or else it is met
+-- what was found of a definition, after these: the lowest row that it breaks, or else it is met
 pub record IsJudged (all before : List Def) (d : Def) (found : Option Misfit) (met : Before) : Type 0 where
   pub row : option_map misfit_row found ≡ type_row all before d
   pub after : found ≡ None → IsBefore (before ++ d ∷ []) met

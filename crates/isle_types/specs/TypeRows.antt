@@ -1,4 +1,4 @@
--- The rows of the typing table on types and constants: each tells whether a definition breaks it, among all of them, behind
+-- The rows of the typing table on types and constants: each tells whether a definition breaks it, among all of them, after
 -- those before it.
 use Rattle.std.specs.Prelude.{ℕ, List, Bool, false, ◌||◌, not, Option, Some, None, is_some, map}
 use Rattle.std.specs.List.{list_any}

@@ -69,7 +69,8 @@ pub fn repeated_term<'d>(
     names: &'d [Text],
 ) -> Result<Option<&'d Text>, AllocError>
     ensures found { IfOk result (λ found. is_some found ≡ repeats_after before.old names.now) }
-    ensures names { IfOk result (λ found. is_some found ≡ false → before.new ≡ before.old ++ names.now) }
+    ensures names { IfOk result (λ found.
+        is_some found ≡ false → before.new ≡ before.old ++ names.now) }
 {
     for name in names {
         if meets(before, name)? {

@@ -54,7 +54,8 @@ fn named_again<'d>(
     alloc: Global,
     fields: &'d [(Text, Text)],
 ) -> Result<Option<&'d Text>, AllocError>
-    ensures { IfOk result (λ found. is_some found ≡ repeats (map (λ (f : List ℕ × List ℕ). f.0) fields.now)) }
+    ensures { IfOk result (λ found.
+        is_some found ≡ repeats (map (λ (f : List ℕ × List ℕ). f.0) fields.now)) }
 {
     let mut before = Symbols::new(alloc);
     for field in fields {
@@ -81,7 +82,8 @@ fn field_of_variant_again<'d>(
     alloc: Global,
     variants: &'d [AstVariant],
 ) -> Result<Option<&'d Text>, AllocError>
-    ensures { IfOk result (λ found. is_some found ≡ list_any (λ (v : Variant). fields_repeat v.fields) variants.now) }
+    ensures { IfOk result (λ found.
+        is_some found ≡ list_any (λ (v : Variant). fields_repeat v.fields) variants.now) }
 {
     for variant in variants {
         let found = field_again(alloc, &variant.fields)?;
@@ -119,7 +121,10 @@ pub fn repeated_field<'d>(alloc: Global, body: &'d AstBody) -> Result<Option<&'d
 
 // The first of the fields' types that is not declared.
 fn named_missing<'d>(known: &KnownTypes, fields: &'d [(Text, Text)]) -> Option<&'d Text>
-    ensures { (defs : List PureDef) → AreKnown defs known.now → is_some result ≡ list_any (λ (name : List ℕ). not (is_type defs name)) (map (λ (f : List ℕ × List ℕ). f.1) fields.now) }
+    ensures { (defs : List PureDef) → AreKnown defs known.now
+        → is_some result
+        ≡ list_any (λ (name : List ℕ). not (is_type defs name))
+        (map (λ (f : List ℕ × List ℕ). f.1) fields.now) }
 {
     for field in fields {
         if !known.is_type(&field.1) {
@@ -131,7 +136,8 @@ fn named_missing<'d>(known: &KnownTypes, fields: &'d [(Text, Text)]) -> Option<&
 
 // The first of these types that is not declared.
 fn type_missing<'d>(known: &KnownTypes, types: &'d [Text]) -> Option<&'d Text>
-    ensures { (defs : List PureDef) → AreKnown defs known.now → is_some result ≡ list_any (λ (name : List ℕ). not (is_type defs name)) types.now }
+    ensures { (defs : List PureDef) → AreKnown defs known.now
+        → is_some result ≡ list_any (λ (name : List ℕ). not (is_type defs name)) types.now }
 {
     for ty in types {
         if !known.is_type(ty) {
@@ -143,7 +149,9 @@ fn type_missing<'d>(known: &KnownTypes, types: &'d [Text]) -> Option<&'d Text>
 
 // The first of the types of a variant's or a struct's fields that is not declared.
 fn field_type_missing<'d>(known: &KnownTypes, fields: &'d AstFields) -> Option<&'d Text>
-    ensures { (defs : List PureDef) → AreKnown defs known.now → is_some result ≡ list_any (λ (name : List ℕ). not (is_type defs name)) (field_types fields.now) }
+    ensures { (defs : List PureDef) → AreKnown defs known.now
+        → is_some result
+        ≡ list_any (λ (name : List ℕ). not (is_type defs name)) (field_types fields.now) }
 {
     match fields {
         AstFields::Unit => None,
@@ -154,7 +162,10 @@ fn field_type_missing<'d>(known: &KnownTypes, fields: &'d AstFields) -> Option<&
 
 // The same of the variants' fields.
 fn variant_type_missing<'d>(known: &KnownTypes, variants: &'d [AstVariant]) -> Option<&'d Text>
-    ensures { (defs : List PureDef) → AreKnown defs known.now → is_some result ≡ list_any (λ (v : Variant). list_any (λ (name : List ℕ). not (is_type defs name)) (field_types v.fields)) variants.now }
+    ensures { (defs : List PureDef) → AreKnown defs known.now
+        → is_some result
+        ≡ list_any (λ (v : Variant). list_any (λ (name : List ℕ). not (is_type defs name))
+        (field_types v.fields)) variants.now }
 {
     for variant in variants {
         let found = field_type_missing(known, &variant.fields);
@@ -167,7 +178,11 @@ fn variant_type_missing<'d>(known: &KnownTypes, variants: &'d [AstVariant]) -> O
 
 /// Returns a field's type that is not declared.
 pub fn missing_type<'d>(known: &KnownTypes, body: &'d AstBody) -> Option<&'d Text>
-    ensures { (defs : List PureDef) → AreKnown defs known.now → is_some result ≡ any_fields (λ (fields : Fields). list_any (λ (name : List ℕ). not (is_type defs name)) (field_types fields)) body.now }
+    ensures { (defs : List PureDef) → AreKnown defs known.now
+        → is_some result
+        ≡ any_fields
+        (λ (fields : Fields). list_any (λ (name : List ℕ). not (is_type defs name))
+        (field_types fields)) body.now }
 {
     match body {
         AstBody::Primitive(_) => None,

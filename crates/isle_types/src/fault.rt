@@ -27,7 +27,9 @@ fn body_misfit<'d>(
     name: &'d Text,
     body: &'d AstBody,
 ) -> Result<Option<Misfit<'d>>, AllocError>
-    ensures { IfOk result (λ found. (all : List PureDef) → AreKnown all known.now → option_map misfit_row found ≡ body_row all body.now) }
+    ensures { IfOk result (λ found.
+        (all : List PureDef) → AreKnown all known.now
+        → option_map misfit_row found ≡ body_row all body.now) }
 {
     if let Some(variant) = repeated_variant(alloc, body)? {
         return Ok(Some(Misfit::VariantTwice(variant)));
@@ -54,7 +56,10 @@ fn type_misfit<'d>(
     made: &'d [Text],
 ) -> Result<Option<Misfit<'d>>, AllocError>
     requires { made.now ≡ made_by name.now body.now }
-    ensures { IfOk result (λ found. (all bs : List PureDef) (is_extern is_nodebug : Bool) (pos : Place) → AreKnown all known.now → IsBefore bs before.old → IsJudged all bs (TypeDecl name.now is_extern is_nodebug body.now pos) found before.new) }
+    ensures { IfOk result (λ found.
+        (all bs : List PureDef) (is_extern is_nodebug : Bool) (pos : Place) → AreKnown all known.now
+        → IsBefore bs before.old
+        → IsJudged all bs (TypeDecl name.now is_extern is_nodebug body.now pos) found before.new) }
 {
     if meets(&mut before.types, name)? {
         return Ok(Some(Misfit::TypeTwice(name)));
@@ -75,7 +80,9 @@ fn constant_misfit<'d>(
     name: &'d Text,
     ty: &'d Text,
 ) -> Result<Option<Misfit<'d>>, AllocError>
-    ensures { IfOk result (λ found. (all bs : List PureDef) (pos : Place) → AreKnown all known.now → IsBefore bs before.old → IsJudged all bs (ExternConst name.now ty.now pos) found before.new) }
+    ensures { IfOk result (λ found.
+        (all bs : List PureDef) (pos : Place) → AreKnown all known.now → IsBefore bs before.old
+        → IsJudged all bs (ExternConst name.now ty.now pos) found before.new) }
 {
     if meets(&mut before.constants, name)? {
         return Ok(Some(Misfit::ConstantTwice(name)));
@@ -96,7 +103,9 @@ fn misfit_of<'d>(
     made: &'d [Text],
 ) -> Result<Option<Misfit<'d>>, AllocError>
     requires { made.now ≡ made_of (def given.now) }
-    ensures { IfOk result (λ found. (all bs : List PureDef) → AreKnown all known.now → IsBefore bs before.old → IsJudged all bs (def given.now) found before.new) }
+    ensures { IfOk result (λ found.
+        (all bs : List PureDef) → AreKnown all known.now → IsBefore bs before.old
+        → IsJudged all bs (def given.now) found before.new) }
 {
     if let Some((name, body)) = type_of(given) {
         return type_misfit(alloc, known, before, name, body, made);

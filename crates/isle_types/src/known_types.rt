@@ -46,7 +46,9 @@ impl<'d> KnownTypes<'d> {
 
     // Adds the type that a definition declares, where it is the first of its name.
     fn declare(&mut self, given: &'d Def) -> Result<(), AllocError>
-        ensures { OnOk result ((before : List PureDef) → AreKnown before self.old → AreKnown (before ++ def given.now ∷ []) self.new) }
+        ensures { OnOk result
+            ((before : List PureDef) → AreKnown before self.old
+            → AreKnown (before ++ def given.now ∷ []) self.new) }
     {
         if let Some((name, body)) = type_of(given) {
             if self.primitive.contains_key(name.as_str()) {
@@ -66,7 +68,8 @@ impl<'d> KnownTypes<'d> {
 
     /// Tells whether it is that of a builtin or a primitive type.
     pub fn is_scalar(&self, name: &Text) -> bool
-        ensures { (defs : List PureDef) → AreKnown defs self.now → result ≡ is_scalar defs name.now }
+        ensures { (defs : List PureDef) → AreKnown defs self.now
+            → result ≡ is_scalar defs name.now }
     {
         type_named(name.as_str()).is_some()
             || match self.primitive.get(name.as_str()) {

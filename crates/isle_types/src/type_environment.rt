@@ -4,7 +4,7 @@ ghost use Rattle.std.specs.Prelude.{◌≡◌, ◌++◌, IfOk, OnOk, map, option
 ghost use Rattle.isle_ast.specs.Views.{def, defs as seen};
 ghost use Rattle.isle_declarations.specs.DeclaredTypes.{constant_of, constants};
 ghost use Rattle.isle_types.specs.Builtins.{builtins};
-ghost use Rattle.isle_types.specs.TypeEnvironment.{sym_in, type_in, field_in, fields_in, variant_in, def_in};
+ghost use Rattle.isle_types.specs.TypeEnvironment.{type_in, field_in, fields_in, variant_in, def_in};
 ghost use Rattle.isle_types.specs.TypeEnvironment.{type_def_in, constant_in, type_env_of};
 ghost use Rattle.isle_types.specs.Gathered.{IsBefore, AreNames};
 
@@ -24,16 +24,6 @@ struct Names<'k, 'd> {
 }
 
 impl<'k, 'd> Names<'k, 'd> {
-    // The symbol of a name.
-    fn sym(&self, name: &Text) -> Sym
-        ensures { result ≡ sym_in (seen self.now.declarations.now) name.now }
-    {
-        match self.declarations.number(name) {
-            Some(number) => Sym(number),
-            None => Sym(0),
-        }
-    }
-
     // The type of a name.
     fn type_id(&self, name: &Text) -> TypeId
         requires { AreNames self.now }
@@ -50,12 +40,13 @@ fn named_fields(
     given: &[(Text, Text)],
 ) -> Result<Vec<Field>, AllocError>
     requires { AreNames names.now }
-    ensures { IfOk result (λ fields. fields.items ≡ map (field_in (seen names.now.declarations.now)) given.now) }
+    ensures { IfOk result (λ fields.
+        fields.items ≡ map (field_in (seen names.now.declarations.now)) given.now) }
 {
     let mut fields = Vec::with_capacity(alloc, given.len())?;
     for field in given {
         fields.push(Field {
-            name: names.sym(&field.0),
+            name: names.declarations.sym(&field.0),
             ty: names.type_id(&field.1),
         })?;
     }
@@ -65,7 +56,8 @@ fn named_fields(
 // The types of fields without names.
 fn tuple_types(alloc: Global, names: &Names, given: &[Text]) -> Result<Vec<TypeId>, AllocError>
     requires { AreNames names.now }
-    ensures { IfOk result (λ types. types.items ≡ map (type_in (seen names.now.declarations.now)) given.now) }
+    ensures { IfOk result (λ types.
+        types.items ≡ map (type_in (seen names.now.declarations.now)) given.now) }
 {
     let mut types = Vec::with_capacity(alloc, given.len())?;
     for name in given {
@@ -77,7 +69,8 @@ fn tuple_types(alloc: Global, names: &Names, given: &[Text]) -> Result<Vec<TypeI
 // The fields of a variant or a struct.
 fn fields_of(alloc: Global, names: &Names, given: &AstFields) -> Result<Fields, AllocError>
     requires { AreNames names.now }
-    ensures { IfOk result (λ fields. fields ≡ fields_in (seen names.now.declarations.now) given.now) }
+    ensures { IfOk result (λ fields.
+        fields ≡ fields_in (seen names.now.declarations.now) given.now) }
 {
     match given {
         AstFields::Unit => Ok(Fields::Unit),
@@ -99,13 +92,14 @@ fn variants_of(
     given: &[AstVariant],
 ) -> Result<Vec<Variant>, AllocError>
     requires { AreNames names.now }
-    ensures { IfOk result (λ variants. variants.items ≡ map (variant_in (seen names.now.declarations.now)) given.now) }
+    ensures { IfOk result (λ variants.
+        variants.items ≡ map (variant_in (seen names.now.declarations.now)) given.now) }
 {
     let mut variants = Vec::with_capacity(alloc, given.len())?;
     for variant in given {
         let fields = fields_of(alloc, names, &variant.fields)?;
         variants.push(Variant {
-            name: names.sym(&variant.name),
+            name: names.declarations.sym(&variant.name),
             fields,
         })?;
     }
@@ -123,13 +117,15 @@ fn type_def(
     pos: Pos,
 ) -> Result<TypeDef, AllocError>
     requires { AreNames names.now }
-    ensures { IfOk result (λ found. found ≡ def_in (seen names.now.declarations.now) name.now is_extern is_nodebug body.now pos) }
+    ensures { IfOk result (λ found.
+        found ≡ def_in (seen names.now.declarations.now) name.now is_extern is_nodebug body.now
+        pos) }
 {
-    let name = names.sym(name);
+    let name = names.declarations.sym(name);
     match body {
         AstBody::Primitive(rust) => Ok(TypeDef::Primitive {
             name,
-            rust: names.sym(rust),
+            rust: names.declarations.sym(rust),
             pos,
         }),
         AstBody::Enum(variants) => {
@@ -158,7 +154,8 @@ fn type_def(
 // The type that a definition declares.
 fn type_def_of(alloc: Global, names: &Names, given: &Def) -> Result<Option<TypeDef>, AllocError>
     requires { AreNames names.now }
-    ensures { IfOk result (λ found. found ≡ type_def_in (seen names.now.declarations.now) (def given.now)) }
+    ensures { IfOk result (λ found.
+        found ≡ type_def_in (seen names.now.declarations.now) (def given.now)) }
 {
     match given {
         Def::TypeDecl {
@@ -212,7 +209,9 @@ fn push_some<T: Drop>(things: &mut Vec<T>, found: Option<T>) -> Result<(), Alloc
 // The builtin types, and those declared.
 fn type_defs(alloc: Global, names: &Names, defs: &[Def]) -> Result<Vec<TypeDef>, AllocError>
     requires { AreNames names.now }
-    ensures { IfOk result (λ types. types.items ≡ builtins ++ filter_map (type_def_in (seen names.now.declarations.now)) (seen defs.now)) }
+    ensures { IfOk result (λ types.
+        types.items ≡ builtins
+        ++ filter_map (type_def_in (seen names.now.declarations.now)) (seen defs.now)) }
 {
     let mut types = builtin_types(alloc)?;
     for given in defs {
@@ -224,10 +223,11 @@ fn type_defs(alloc: Global, names: &Names, defs: &[Def]) -> Result<Vec<TypeDef>,
 // The constant that a definition declares, with its type.
 fn constant_in(names: &Names, given: &Def) -> Option<(Sym, TypeId)>
     requires { AreNames names.now }
-    ensures { result ≡ option_map (constant_in (seen names.now.declarations.now)) (constant_of (def given.now)) }
+    ensures { result
+        ≡ option_map (constant_in (seen names.now.declarations.now)) (constant_of (def given.now)) }
 {
     match constant_of(given) {
-        Some((name, ty)) => Some((names.sym(name), names.type_id(ty))),
+        Some((name, ty)) => Some((names.declarations.sym(name), names.type_id(ty))),
         None => None,
     }
 }
@@ -239,7 +239,9 @@ fn constants_of(
     defs: &[Def],
 ) -> Result<Vec<(Sym, TypeId)>, AllocError>
     requires { AreNames names.now }
-    ensures { IfOk result (λ found. found.items ≡ map (constant_in (seen names.now.declarations.now)) (constants (seen defs.now))) }
+    ensures { IfOk result (λ found.
+        found.items ≡ map (constant_in (seen names.now.declarations.now))
+        (constants (seen defs.now))) }
 {
     let mut found = Vec::new(alloc);
     for given in defs {

@@ -122,7 +122,7 @@ law_value n k (suc d) e =
     law_map shape_to shape_from (law_peek is_open (read_made n (read_value n d)) read_simple made_heads simple_heads
     (law_made n k (read_value n d) (omega (arith, e)) (law_value n (suc k) d (omega (arith, e)))) (law_simple n (suc k) (omega (arith, e))))
 
--- ---- a list, and nothing behind it
+-- ---- a list, and nothing after it
 
 abbrev pub PlainS : List Written → List Lexeme → List Lexeme → Type 0
 PlainS = Then OpenS (λ o. Many ValueS)

@@ -35,7 +35,7 @@ read_value n (suc d) = Peek is_open (read_made n (read_value n d)) read_simple
 unfoldable pub read_list : ℕ → ℕ → Reader (List Written)
 read_list n d = bind read_open (λ o. many n (read_value n d))
 
--- ( V* ) and nothing behind it
+-- ( V* ) and nothing after it
 unfoldable pub read_whole : ℕ → Reader (List Written)
 read_whole n = bind (read_list n (most_open - 1)) at_end
 

@@ -1,4 +1,4 @@
--- When a text spells a list of values: what the tokens begin with, and which tokens stand behind it.
+-- When a text spells a list of values: what the tokens begin with, and which tokens stand after it.
 use Rattle.std.specs.Prelude.{◌≡◌, ◌≤◌, ℕ, ℤ, List, [], ◌∷◌, true, false, Some, codes}
 use Rattle.std.specs.Str.{IsUtf8}
 use Rattle.isle_reading.specs.Nesting.{depth, most_open}
@@ -17,12 +17,12 @@ mutual
     -- ( N V* )
     made : (at n : ℕ) (w : List ℕ) (parts : Writtens) (ts rest : List Lexeme) → IsName w → ValuesS parts ts rest → ValueS (Made w parts) (Open at ∷ Word n w ∷ ts) rest
 
-  -- V*, and the parenthesis behind them
+  -- V*, and the parenthesis after them
   pub data ValuesS : Writtens → List Lexeme → List Lexeme → Type 0 where
     no_value : (at : ℕ) (ts : List Lexeme) → ValuesS NoValue (Close at ∷ ts) ts
     a_value : (v : Written) (others : Writtens) (ts mid rest : List Lexeme) → ValueS v ts mid → ValuesS others mid rest → ValuesS (AValue v others) ts rest
 
--- ( V* ) and nothing behind it
+-- ( V* ) and nothing after it
 pub data ListS : Writtens → List Lexeme → Type 0 where
   list : (at : ℕ) (vs : Writtens) (ts : List Lexeme) → ValuesS vs ts [] → ListS vs (Open at ∷ ts)
 

@@ -78,7 +78,8 @@ pub fn parts(
     most: usize,
     depth: usize,
 ) -> Result<Vec<Written>, Fail>
-    ensures { Reads (λ parts. map written parts.items) result (many most (read_value most depth)) (left tokens.old) (left tokens.new) }
+    ensures { Reads (λ parts. map written parts.items) result (many most (read_value most depth))
+        (left tokens.old) (left tokens.new) }
 {
     let mut values = Vec::new(alloc);
     for _ in 0..most {
@@ -101,16 +102,18 @@ pub fn list(
     most: usize,
     depth: usize,
 ) -> Result<Vec<Written>, Fail>
-    ensures { Reads (λ values. map written values.items) result (read_list most depth) (left tokens.old) (left tokens.new) }
+    ensures { Reads (λ values. map written values.items) result (read_list most depth)
+        (left tokens.old) (left tokens.new) }
 {
     tokens.open()?;
     parts(tokens, alloc, most, depth)
 }
 
-/// Reads a list of values, of at most `most` tokens, and nothing behind it.
+/// Reads a list of values, of at most `most` tokens, and nothing after it.
 #[tactic(auto, using(isle_reading::proofs::Steps::chain), unfolding(crate::specs::Reading::read_whole))]
 pub fn whole(tokens: &mut Tokens<'_>, alloc: Global, most: usize) -> Result<Vec<Written>, Fail>
-    ensures { Reads (λ values. map written values.items) result (read_whole most) (left tokens.old) (left tokens.new) }
+    ensures { Reads (λ values. map written values.items) result (read_whole most) (left tokens.old)
+        (left tokens.new) }
 {
     let values = list(tokens, alloc, most, most_inside())?;
     if tokens.len() == 0 {

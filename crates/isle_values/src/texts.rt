@@ -16,19 +16,22 @@ use std::alloc::Global;
 
 // The list that tokens spell.
 fn listed(alloc: Global, tokens: &[Token<'_>]) -> Result<Vec<Written>, Fail>
-    ensures got { IfOk result (λ read. ListS (seen read.items) (tokens_seen tokens.now) × (depth (tokens_seen tokens.now) ≤ most_open)) }
+    ensures got { IfOk result (λ read.
+        ListS (seen read.items) (tokens_seen tokens.now)
+        × (depth (tokens_seen tokens.now) ≤ most_open)) }
     ensures refused { IfErr result (λ fail. Refuses fail (values_of (tokens_seen tokens.now))) }
 {
     let mut cursor = Tokens::new(tokens);
     whole(&mut cursor, alloc, tokens.len())
 }
 
-/// Returns the list of values that a text spells, `( V* )` and nothing behind it. A V is `true`, `false`, an integer,
+/// Returns the list of values that a text spells, `( V* )` and nothing after it. A V is `true`, `false`, an integer,
 /// or `( N V* )` with a name N. None comes exactly where the text spells no such list with at most 256 parentheses open
 /// at once.
 pub fn values(alloc: Global, text: &str) -> Result<Option<List<Written>>, OutOfMemory>
     ensures some { IfOk result (λ read. IfSome read (λ vs. SpellsValues text.now (seen vs))) }
-    ensures only { IfOk result (λ read. IfSome read (λ vs. (others : Writtens) → SpellsValues text.now others → others ≡ seen vs)) }
+    ensures only { IfOk result (λ read.
+        IfSome read (λ vs. (others : Writtens) → SpellsValues text.now others → others ≡ seen vs)) }
     ensures none { result ≡ Ok None → (others : Writtens) → SpellsValues text.now others → ⊥ }
 {
     match tokens(alloc, text) {

@@ -79,7 +79,7 @@ long_way_closed graph from nodes there way lt long = ⊎_elim (λ found. found)
     absurd (omega arith))
     (closed_or_distinct graph from nodes way (omega arith))
 
--- the nodes that a walk passes behind its first
+-- the nodes that a walk passes after its first
 way_of : (graph : List (List ℕ)) (steps from : ℕ) → walks graph steps from ≡ true → (nodes : List ℕ) × IsWayFrom graph from nodes × (length nodes ≡ steps)
 way_of graph zero from e = ([], tt, refl)
 way_of graph (suc steps) from e =

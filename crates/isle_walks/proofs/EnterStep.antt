@@ -153,7 +153,7 @@ module _ (graph : List (List ℕ)) (path : List ℕ) (parts : List Part) (before
 
     -- what the nodes of the path lead to
     module _ (marks marks' : List Mark) (stays : (other : ℕ) → IsDone marks other → IsDone marks' other) (place next : ℕ) where
-      -- a part that doesn't begin behind an old place is old
+      -- a part that doesn't begin after an old place is old
       old_part : place < length path → (part : Part) → Contains (parts ++ own ∷ []) part → part.begin ≤ place → Contains parts part
       old_part old part c le = ⊎_elim (λ d. d) (λ is. let begins = ap (λ (p : Part). p.begin) is in absurd (omega arith)) (Contains-push_cases parts own part c)
 

@@ -59,7 +59,7 @@ module _ (graph : List (List ℕ)) (marks : List Mark) (path : List ℕ) (parts 
     followed = look_followed here;
   }
 
-  -- a place that no part begins behind is in the last part
+  -- a place that no part begins after is in the last part
   pub in_last : (at : ℕ) → at < length path → slice_index path at ≡ node → (last : Part) → IsLast parts last → last.begin ≤ at → (place : ℕ) → place < length path → IsDone marks node ⊎ IsBehind path parts place node
   in_last at lt is last is_last behind place there = inr (at, lt, is, λ part c le. none_behind part c)
     where

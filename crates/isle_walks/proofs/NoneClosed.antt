@@ -40,7 +40,7 @@ settled_more graph nodes node settled leads from e steps to on = by (has nodes f
         let inside = reached graph nodes node settled leads steps to (subst (λ n. reaches graph steps n to ≡ true) same on) in
         (among inside, λ is. true≢false (sym inside ∙ ap (has nodes) is ∙ h))
 
--- what stands behind these in an order reaches nothing twice
+-- what stands after these in an order reaches nothing twice
 ordered_settled : (graph : List (List ℕ)) (before order : List ℕ) → AreSettled graph before → IsOrdered graph before order → (node : ℕ) → Contains order node → (nodes : List ℕ) × AreSettled graph nodes × (has nodes node ≡ true)
 ordered_settled graph before [] settled ordered node c = absurd (none_contained node c)
 ordered_settled graph before (first ∷ rest) settled ordered node c =

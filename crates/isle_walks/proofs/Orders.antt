@@ -1,4 +1,4 @@
--- How a search in depth begins, looks at nodes, puts a node that is done behind its order, and ends.
+-- How a search in depth begins, looks at nodes, puts a node that is done after its order, and ends.
 use Rattle.std.proofs.Common.{◌≡◌, ◌⊎◌, inl, inr, ⊎_elim, ℕ, ◌<◌, ◌≤◌, List, [], ◌∷◌, ◌++◌, length, Bool, true, false, ◌||◌, eqb, refl, sym, ap, ◌∙◌, subst, arith, Contains, replicate, slice_index, slice_index_or, slice_set, length-set, true≢false, eq-eqb, eqb-true, le_antisymm}
 use Rattle.std.proofs.lemmas.Bool.{cases_eq, cases_lt}
 use Rattle.std.proofs.lemmas.Cmp.{nat_eq_equiv}
@@ -16,7 +16,7 @@ or_false : (b : Bool) → (b || false) ≡ b
 or_false true = refl
 or_false false = refl
 
--- a node that is put behind others is among them, and they stay
+-- a node that is put after others is among them, and they stay
 pub has_last : (nodes : List ℕ) (node : ℕ) → has (nodes ++ node ∷ []) node ≡ true
 has_last nodes node = list_any-append (eqb node) nodes (node ∷ []) ∙ ap (λ b. has nodes node || (b || false)) (eq-eqb node node refl) ∙ or_true (has nodes node)
 
@@ -30,7 +30,7 @@ has_others nodes last node differs = list_any-append (eqb node) nodes (last ∷ 
 pub grows_by : (nodes : List ℕ) (last : ℕ) → Grows nodes (nodes ++ last ∷ [])
 grows_by nodes last node e = list_any-append (eqb node) nodes (last ∷ []) ∙ ap (λ b. b || (eqb node last || false)) e
 
--- a node whose next ones are in an order may stand behind it
+-- a node whose next ones are in an order may stand after it
 ordered_more : (graph : List (List ℕ)) (before order : List ℕ) (node : ℕ) → IsOrdered graph before order → ((next : ℕ) → Contains (next_of graph node) next → Contains order next ⊎ Contains before next) → IsOrdered graph before (order ++ node ∷ [])
 ordered_more graph before [] node ordered leads = (λ next c. ⊎_elim (λ inside. absurd (none_contained next inside)) (λ d. d) (leads next c), tt)
 ordered_more graph before (first ∷ rest) node ordered leads = (

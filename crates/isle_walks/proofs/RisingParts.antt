@@ -1,4 +1,4 @@
--- Parts that begin one behind the other, and what the last of them tells.
+-- Parts that begin one after the other, and what the last of them tells.
 use Rattle.std.proofs.Common.{◌≡◌, ◌⊎◌, inl, inr, ⊎_elim, ℕ, ◌+◌, ◌-◌, ◌<◌, ◌≤◌, List, [], ◌∷◌, ◌++◌, length, take, refl, sym, ap, ◌∙◌, subst, arith, Contains, get_or, slice_index}
 use Rattle.std.proofs.lemmas.List.{get_or_push, length_push, take-append-le, take_all, take_more, length-take-le}
 use Rattle.std.proofs.lemmas.List.Elements.{Contains-append_left, Contains-push, Contains-push_cases}
@@ -22,7 +22,7 @@ front_is xs before rest last many is count taken =
     let long = ap length is ∙ length_push before last in
     taken ∙ ap (take (many - 1)) is ∙ take-append-le (many - 1) before (last ∷ []) (omega arith) ∙ take_all (many - 1) before (omega arith)
 
--- a part more, behind all others
+-- a part more, after all others
 pub rising_more : (parts : List Part) (last : Part) → AreRising parts → ((part : Part) → Contains parts part → IsBefore part last) → AreRising (parts ++ last ∷ [])
 rising_more [] last rising before = (λ part c. absurd (none_contained part c), tt)
 rising_more (first ∷ rest) last rising before = (
@@ -35,7 +35,7 @@ pub rising_less : (rest : List Part) (last : Part) → AreRising (rest ++ last �
 rising_less [] last rising = tt
 rising_less (first ∷ rest) last rising = (λ part c. rising.0 part (Contains-append_left rest (last ∷ []) part c), rising_less rest last rising.1)
 
--- the last part is behind all others
+-- the last part is after all others
 pub before_last : (rest : List Part) (last : Part) → AreRising (rest ++ last ∷ []) → (part : Part) → Contains rest part → IsBefore part last
 before_last [] last rising part c = absurd (none_contained part c)
 before_last (first ∷ rest) last rising part c = ⊎_elim
@@ -44,14 +44,14 @@ before_last (first ∷ rest) last rising part c = ⊎_elim
     (contained_cases first rest part c)
 
 module _ (graph : List (List ℕ)) (path : List ℕ) (rest : List Part) (last : Part) (waiting : List ℕ) (parted : AreParted graph path (rest ++ last ∷ []) waiting) where
-  -- no part begins behind the last one
+  -- no part begins after the last one
   pub at_most : (part : Part) → Contains (rest ++ last ∷ []) part → part.begin ≤ last.begin
   at_most part c = ⊎_elim
       (λ d. let before = before_last rest last parted.rising part d in omega arith)
       (λ is. subst (λ p. p.begin ≤ last.begin) is (omega arith))
       (Contains-push_cases rest last part c)
 
-  -- a part that doesn't begin behind the last one's begin is among the others
+  -- a part that doesn't begin after the last one's begin is among the others
   pub among_rest : (part : Part) → Contains (rest ++ last ∷ []) part → part.begin < last.begin → Contains rest part
   among_rest part c lt = ⊎_elim (λ d. d) (λ is. let same = ap (λ (p : Part). p.begin) is in absurd (omega arith)) (Contains-push_cases rest last part c)
 

@@ -20,7 +20,7 @@ module _ {graph : List (List ℕ)} {looked : List ℕ} {done : List Bool} {order
     pub kept : (began : List ℕ) → Grows began before → Grows began order
     kept began grows other e = ap (λ xs. has xs other) same ∙ grows other e
 
-    -- the node leads only to nodes that are done, and is put behind the order
+    -- the node leads only to nodes that are done, and is put after the order
     module _ (leads : LeadsInto graph order node) {order' : List ℕ} (order_is : order' ≡ order ++ node ∷ []) where
       pub closed_sound : {looked' : List ℕ} {done' : List Bool} → looked' ≡ looked → done' ≡ slice_set done node true → IsSoundAt graph looked' done' order'
       closed_sound {looked'} {done'} looked_is done_is =

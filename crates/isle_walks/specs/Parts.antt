@@ -42,16 +42,16 @@ pub record AreWaiting (graph : List (List ℕ)) (marks : List Mark) (waiting : L
 abbrev pub IsBefore : (first second : Part) → Type 0
 IsBefore first second = (first.begin < second.begin) × (first.from ≤ second.from)
 
--- each part begins before those behind it
+-- each part begins before those after it
 abbrev pub AreRising : List Part → Type 0
 AreRising [] = Unit {0}
 AreRising (first ∷ rest) = ((part : Part) → Contains rest part → IsBefore first part) × AreRising rest
 
--- some part begins behind the one place, and not behind the other
+-- some part begins after the one place, and not after the other
 abbrev pub BeginsIn : List Part → (behind to : ℕ) → Type 0
 BeginsIn parts behind to = (part : Part) × Contains parts part × (behind < part.begin) × (part.begin ≤ to)
 
--- each node of the path leads to each, but where a part begins behind the one that is led to; a part's first node reaches all that waits for the part
+-- each node of the path leads to each, but where a part begins after the one that is led to; a part's first node reaches all that waits for the part
 pub record AreParted (graph : List (List ℕ)) (path : List ℕ) (parts : List Part) (waiting : List ℕ) : Type 0 where
   pub linked : (from to : ℕ) → from < length path → to < length path → LeadsTo graph (slice_index path from) (slice_index path to) ⊎ BeginsIn parts to from
   pub reached : (part : Part) → Contains parts part → (place : ℕ) → part.from ≤ place → place < length waiting → Reaches graph (slice_index path part.begin) (slice_index waiting place)

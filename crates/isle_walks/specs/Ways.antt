@@ -2,17 +2,17 @@
 use Rattle.std.specs.Prelude.{◌≡◌, ◌⊎◌, ℕ, List, [], ◌∷◌, true, Contains}
 use Rattle.isle_walks.specs.Walks.{next_of, reaches}
 
--- a node leads to the first of these, and each of them to the one behind it
+-- a node leads to the first of these, and each of them to the one after it
 abbrev pub IsWayFrom : List (List ℕ) → (from : ℕ) → List ℕ → Type 0
 IsWayFrom graph from [] = Unit {0}
 IsWayFrom graph from (next ∷ rest) = Contains (next_of graph from) next × IsWayFrom graph next rest
 
--- each of these nodes leads to the one behind it
+-- each of these nodes leads to the one after it
 abbrev pub IsWay : List (List ℕ) → List ℕ → Type 0
 IsWay graph [] = Unit {0}
 IsWay graph (node ∷ rest) = IsWayFrom graph node rest
 
--- a node leads to the first of these, each of them to the one behind it, and the last of all is this node
+-- a node leads to the first of these, each of them to the one after it, and the last of all is this node
 abbrev pub IsWayTo : List (List ℕ) → (from : ℕ) → List ℕ → (to : ℕ) → Type 0
 IsWayTo graph from [] to = from ≡ to
 IsWayTo graph from (next ∷ rest) to = Contains (next_of graph from) next × IsWayTo graph next rest to

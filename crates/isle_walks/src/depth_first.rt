@@ -15,17 +15,20 @@ struct DepthFirst {
     looked: Vec<usize>,
     // Of each node, whether it is done.
     done: Vec<bool>,
-    // The nodes that are done, each behind those that it leads to.
+    // The nodes that are done, each after those that it leads to.
     order: Vec<usize>,
 }
 
 // Returns the place of the first node from there on that isn't done, or how many nodes there are.
 fn first_left(nodes: &[usize], from: usize, done: &[bool]) -> usize
     requires from { from ≤ length nodes.now }
-    requires there { (place : ℕ) → place < length nodes.now → slice_index nodes.now place < length done.now }
+    requires there { (place : ℕ) → place < length nodes.now
+        → slice_index nodes.now place < length done.now }
     ensures within { (from ≤ result) × (result ≤ length nodes.now) }
-    ensures done { (place : ℕ) → from ≤ place → place < result → slice_index_or done.now (slice_index nodes.now place) false ≡ true }
-    ensures left { result < length nodes.now → slice_index_or done.now (slice_index nodes.now result) false ≡ false }
+    ensures done { (place : ℕ) → from ≤ place → place < result
+        → slice_index_or done.now (slice_index nodes.now place) false ≡ true }
+    ensures left { result < length nodes.now
+        → slice_index_or done.now (slice_index nodes.now result) false ≡ false }
 {
     for place in from..nodes.len() {
         if !done[nodes[place]] {
@@ -54,7 +57,9 @@ impl DepthFirst {
         requires there { node < length graph.now }
         ensures sound { IsSound graph.now self.new }
         ensures same { self.new.order.items ≡ self.old.order.items }
-        ensures left { MatchOption result (LeadsInto graph.now self.new.order.items node) (λ next. Contains (next_of graph.now node) next × (has self.new.order.items next ≡ false)) }
+        ensures left { MatchOption result (LeadsInto graph.now self.new.order.items node)
+            (λ next. Contains (next_of graph.now node) next
+            × (has self.new.order.items next ≡ false)) }
     {
         let nodes = graph[node].as_slice();
         let place = first_left(nodes, self.looked[node], self.done.as_slice());
@@ -62,11 +67,13 @@ impl DepthFirst {
         nodes.get(place).copied()
     }
 
-    // Puts a node behind the order.
+    // Puts a node after the order.
     fn close(&mut self, node: usize) -> Result<(), AllocError>
         requires { node < length self.old.done.items }
-        ensures order { IfOk result (λ _. self.new.order.items ≡ self.old.order.items ++ node ∷ []) }
-        ensures done { IfOk result (λ _. self.new.done.items ≡ slice_set self.old.done.items node true) }
+        ensures order { IfOk result (λ _.
+            self.new.order.items ≡ self.old.order.items ++ node ∷ []) }
+        ensures done { IfOk result (λ _.
+            self.new.done.items ≡ slice_set self.old.done.items node true) }
         ensures looked { self.new.looked.items ≡ self.old.looked.items }
     {
         self.order.push(node)?;
@@ -74,7 +81,7 @@ impl DepthFirst {
         Ok(())
     }
 
-    // Puts a node behind the order once all is there that it leads to, and so on; or tells that a node is on a closed
+    // Puts a node after the order once all is there that it leads to, and so on; or tells that a node is on a closed
     // walk, since a path passes more nodes than there are.
     fn finish(
         &mut self,

@@ -59,7 +59,8 @@ fn mark_all(marks: &mut [Mark], nodes: &[usize], mark: Mark)
     requires there { (node : ℕ) → Contains nodes.now node → node < length marks.old }
     ensures many { length marks.new ≡ length marks.old }
     ensures marked { (node : ℕ) → Contains nodes.now node → mark_of marks.new node ≡ mark }
-    ensures same { (node : ℕ) → (Contains nodes.now node → ⊥) → mark_of marks.new node ≡ mark_of marks.old node }
+    ensures same { (node : ℕ) → (Contains nodes.now node → ⊥)
+        → mark_of marks.new node ≡ mark_of marks.old node }
 {
     for &node in nodes {
         marks[node] = mark;
@@ -182,8 +183,10 @@ impl Search {
         requires nodes { AreNodes graph.now }
         requires searched { IsSearched graph.now self.old }
         ensures searched { IfOk result (λ _. IsSearched graph.now self.new) }
-        ensures less { IfOk result (λ more. more ≡ true → left_of graph.now self.new < left_of graph.now self.old) }
-        ensures all { IfOk result (λ more. more ≡ false → AreAllDone graph.now self.new.marks.items) }
+        ensures less { IfOk result (λ more.
+            more ≡ true → left_of graph.now self.new < left_of graph.now self.old) }
+        ensures all { IfOk result (λ more.
+            more ≡ false → AreAllDone graph.now self.new.marks.items) }
     {
         let last = self.last_part();
         if self.waiting.len() == last.from {

@@ -5,6 +5,6 @@ use Rattle.isle_answers.specs.Reading.{read_cases}
 use Rattle.isle_answers.specs.Views.{case_seen}
 use Rattle.isle_answers.proofs.cases.cases.Given as goal
 
--- behind what was read, the rest reads as all
+-- after what was read, the rest reads as all
 abbrev pub invariant-loop : goal.invariant-loop
 invariant-loop l = run (read_cases l.most l.depth (l.most - l.counter) (map case_seen l.cases.items)) (left l.tokens) ≡ run (read_cases l.most l.depth l.most []) (left l.fn.tokens)

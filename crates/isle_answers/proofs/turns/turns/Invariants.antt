@@ -6,6 +6,6 @@ use Rattle.isle_answers.specs.Reading.{read_turns}
 use Rattle.isle_answers.specs.Views.{answer_seen}
 use Rattle.isle_answers.proofs.turns.turns.Given as goal
 
--- behind what was read, the rest reads as all
+-- after what was read, the rest reads as all
 abbrev pub invariant-loop : goal.invariant-loop
 invariant-loop l = run (read_turns l.most l.depth (l.most - l.counter) (reverse (map answer_seen l.turns.items))) (left l.tokens) ≡ run (read_turns l.most l.depth l.most []) (left l.fn.tokens)

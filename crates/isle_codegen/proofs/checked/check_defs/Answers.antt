@@ -2,15 +2,15 @@ use Rattle.std.proofs.Common.{rules, ◌≡◌, [], Err, sym, ap, subst}
 use Rattle.isle_core.specs.RuleViews.{environment}
 use Rattle.isle_ast.specs.Views.{defs as seen}
 use Rattle.isle_sema.proofs.BuiltRules.{typed_built, typed_scoped, typed_terms}
-use Rattle.isle_names.specs.declared.name_error.NameFail.TheVariants.{Name}
-use Rattle.isle_names.specs.NameFault.{IsNameFail}
+use Rattle.isle_lawful_names.specs.declared.name_error.NameFail.TheVariants.{Name}
+use Rattle.isle_lawful_names.specs.NameFault.{IsNameFail}
 use Rattle.isle_rulesets.specs.Grouping.{AreRuleSets}
 use Rattle.isle_codegen.specs.Causes.{IsUncompiled}
 use Rattle.isle_codegen.proofs.Placed.{terms_placed}
 use Rattle.isle_codegen.proofs.Refusals.{rules_found, recursion_found}
 use Rattle.isle_codegen.proofs.RulesApart.{typed_roots}
-use Rattle.isle_recursion.proofs.ListedTerms.{sets_there, sets_once}
-use Rattle.isle_recursion.proofs.RuleErrors.{list_of_rules}
+use Rattle.isle_checks.proofs.ListedTerms.{sets_there, sets_once}
+use Rattle.isle_checks.proofs.RuleErrors.{list_of_rules}
 use Rattle.isle_codegen.proofs.checked.check_defs.Goals as goal
 
 pub check_named-requires-clause-built : goal.check_named-requires-clause-built

@@ -1,46 +1,56 @@
 use Rattle.std.proofs.Common.{◌≡◌, Bool, get_or, sym, ap, ◌∙◌, subst}
-use Rattle.std.specs.Prelude.{option_map}
+use Rattle.std.proofs.lemmas.Result.{IfOk-weaker}
 use Rattle.isle_core.specs.declared.types.Term.{Term}
+use Rattle.isle_core.specs.BlockLawful.{IsLawfulBlock}
 use Rattle.isle_core.specs.BlockViews.{block}
 use Rattle.isle_core.specs.Calling.{is_several, kind_of}
+use Rattle.isle_core.specs.Places.{LiesIn}
 use Rattle.isle_core.specs.RuleViews.{environment}
 use Rattle.isle_core.specs.Setting.{setting}
 use Rattle.isle_blocks.specs.AllTests.{MakesTests}
 use Rattle.isle_tree.specs.Views.{function}
-use Rattle.isle_simulation.specs.TermFunction.{term_function}
-use Rattle.isle_codegen.proofs.Emissions.{calls_once, is_emitted, is_given, at_place, term_is}
+use Rattle.isle_codegen.proofs.Emissions.{calls_once, is_emitted, at_place, term_is}
 use Rattle.isle_codegen.proofs.tree.emit_one.Goals as goal
 
-pub unreachable-requires : goal.unreachable-requires
-unreachable-requires c =
-    let terms = c.args.termenv.now.terms in
-    let h = c.requires.can in
+pub term_function-requires : goal.term_function-requires
+term_function-requires c =
+    let s = c.args.sources.now in
+    let env = environment s.typeenv.now s.termenv.now in
+    let terms = s.termenv.now.terms in
+    let h = c.requires in
     let x = c.index-as_slice-index.result in
     let is : x ≡ get_or terms c.args.term.0 x = c.index-as_slice-index.is ∙ ap (λ xs. get_or xs c.index.result x) c.as_slice.ensures ∙ ap (λ i. get_or terms i x) c.index.ensures in
     let there = at_place terms c.args.term.0 x h.term is h.found in
-    let env = environment c.args.typeenv.now c.args.termenv.now in
+    let same : x ≡ h.term = term_is s.files.now env c.args.term c.args.rules.now x h there in
     let b = block c.in_ok-block.block in
-    let often : is_several (kind_of h.term.kind) ≡ c.is_several.result = ap (λ (t : Term). is_several (kind_of t.kind)) (sym (term_is c.args.files.now env c.args.term c.args.rules.now x h there)) ∙ sym c.is_several.ensures in
-    is_given c.args.options.now c.args.files.now env c.args.term c.args.rules.now x b h there
-    (c.in_ok-block.ensures.lawful env h.term h.ready (λ several. calls_once c.args.files.now env c.args.term c.args.rules.now h) often) c.in_ok-block.ensures.single
-    (ap (option_map function) (sym c.in-None.is) ∙ c.in_ok-function.ensures ∙ ap (λ bs. term_function c.args.options.now c.args.files.now (setting env x bs) b) c.as_slice-2.ensures)
+    let often : is_several (kind_of h.term.kind) ≡ c.is_several.result = ap (λ (t : Term). is_several (kind_of t.kind)) (sym same) ∙ sym c.is_several.ensures in
+    let lawful = c.in_ok-block.ensures.lawful env h.term h.ready (λ several. calls_once s.files.now env c.args.term c.args.rules.now h) often in
+    record {
+      lawful = subst (λ (t : Term). IsLawfulBlock (setting env t c.args.rules.now.bindings) b) (sym same) lawful;
+      single = c.in_ok-block.ensures.single;
+      declared = subst (λ (t : Term). LiesIn s.files.now t.decl_pos) (sym same) h.placed;
+    }
 
 pub returns : goal.returns
 returns c =
-    let terms = c.args.termenv.now.terms in
-    let h = c.requires.can in
+    let s = c.args.sources.now in
+    let env = environment s.typeenv.now s.termenv.now in
+    let terms = s.termenv.now.terms in
+    let h = c.requires in
     let x = c.index-as_slice-index.result in
     let is : x ≡ get_or terms c.args.term.0 x = c.index-as_slice-index.is ∙ ap (λ xs. get_or xs c.index.result x) c.as_slice.ensures ∙ ap (λ i. get_or terms i x) c.index.ensures in
     let there = at_place terms c.args.term.0 x h.term is h.found in
-    let env = environment c.args.typeenv.now c.args.termenv.now in
+    let same : x ≡ h.term = term_is s.files.now env c.args.term c.args.rules.now x h there in
     let b = block c.in_ok-block.block in
-    let often : is_several (kind_of h.term.kind) ≡ c.is_several.result = ap (λ (t : Term). is_several (kind_of t.kind)) (sym (term_is c.args.files.now env c.args.term c.args.rules.now x h there)) ∙ sym c.is_several.ensures in
-    is_emitted c.args.options.now c.args.files.now env c.args.term c.args.rules.now x b (function c.in-Some.function) h there
-    (c.in_ok-block.ensures.lawful env h.term h.ready (λ several. calls_once c.args.files.now env c.args.term c.args.rules.now h) often) c.in_ok-block.ensures.single
+    let often : is_several (kind_of h.term.kind) ≡ c.is_several.result = ap (λ (t : Term). is_several (kind_of t.kind)) (sym same) ∙ sym c.is_several.ensures in
+    IfOk-weaker c.term_function.result _ _
+    (λ f given. is_emitted s.options.now s.files.now env c.args.term c.args.rules.now x b (function f) h there
+    (c.in_ok-block.ensures.lawful env h.term h.ready (λ several. calls_once s.files.now env c.args.term c.args.rules.now h) often) c.in_ok-block.ensures.single
     (record {
-      once = λ single m args kind. c.in_ok-block.ensures.means env m h.term args kind h.ready often single;
+      once = λ single m args kind apart. c.in_ok-block.ensures.means env m h.term args kind h.ready often single apart;
       several = λ several. c.in_ok-block.ensures.several env h.term h.ready often several h.lists;
     })
     c.in_ok-block.ensures.tests
     (subst (λ (several : Bool). MakesTests several c.args.rules.now b) (sym often) c.in_ok-block.ensures.makes)
-    (sym (ap (option_map function) (sym c.in-Some.is) ∙ c.in_ok-function.ensures ∙ ap (λ bs. term_function c.args.options.now c.args.files.now (setting env x bs) b) c.as_slice-2.ensures))
+    given)
+    c.term_function.ensures

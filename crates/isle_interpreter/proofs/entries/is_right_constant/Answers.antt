@@ -2,7 +2,7 @@ use Rattle.std.proofs.Common.{rules, ◌≡◌, true, false, subst}
 use Rattle.std.specs.Prelude.{◌↔◌, IsTrue, IfOk}
 use Rattle.isle_core.specs.ValueViews.{value}
 use Rattle.isle_tree.specs.Views.{program}
-use Rattle.isle_naming.specs.Sets.{has_name}
+use Rattle.isle_operand_names.specs.Sets.{has_name}
 use Rattle.isle_interpreter.specs.Entries.{has_constant, is_typed, FitsPlaces}
 use Rattle.isle_interpreter.proofs.EntryTests.{added, not_added, given_again, given_fits, clashes_so}
 use Rattle.isle_interpreter.proofs.entries.is_right_constant.Goals as goal

@@ -1,4 +1,4 @@
-use Rattle.isle_naming.proofs.SetNames.{name_more}
+use Rattle.isle_operand_names.proofs.SetNames.{name_more}
 use Rattle.isle_interpreter.proofs.served.added.Goals as goal
 
 pub returns-clause-more : goal.returns-clause-more

@@ -3,7 +3,7 @@ use Rattle.std.specs.Prelude.{slice_get, option_map}
 use Rattle.std.specs.Option.{option_copied}
 use Rattle.isle_core.specs.declared.types.Field.{Field}
 use Rattle.isle_operands.proofs.FieldPlaces.{type_in_tuple, type_in_named}
-use Rattle.isle_operands.proofs.Got.{got}
+use Rattle.isle_core.proofs.Got.{got}
 use Rattle.isle_operands.proofs.forms.type_at.Goals as goal
 
 pub returns-in-Some : goal.returns-in-Some

@@ -3,7 +3,7 @@ use Rattle.std.specs.Prelude.{slice_get}
 use Rattle.std.specs.Option.{option_copied}
 use Rattle.isle_operands.specs.Contexts.{env_of}
 use Rattle.isle_simulation.specs.Operands as Operands
-use Rattle.isle_operands.proofs.Got.{got}
+use Rattle.isle_core.proofs.Got.{got}
 use Rattle.isle_operands.proofs.PathAt.{path_of, path_none}
 use Rattle.isle_operands.proofs.operands.in_place.Goals as goal
 

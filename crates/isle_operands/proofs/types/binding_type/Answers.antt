@@ -4,7 +4,7 @@ use Rattle.isle_core.specs.Path.{path_over}
 use Rattle.isle_simulation.specs.References.{type_at}
 use Rattle.isle_operands.specs.Contexts.{env_of}
 use Rattle.isle_operands.specs.ConstTypes.{type_in}
-use Rattle.isle_operands.proofs.Got.{got}
+use Rattle.isle_core.proofs.Got.{got}
 use Rattle.isle_operands.proofs.types.binding_type.Goals as goal
 
 pub returns-in-ConstPrim : goal.returns-in-ConstPrim

@@ -2,7 +2,7 @@ use Rattle.std.proofs.Common.{◌&&◌, not, sym, ◌∙◌, refl}
 use Rattle.isle_core.specs.declared.Sym.{Sym}
 use Rattle.isle_core.specs.declared.TypeId.{TypeId}
 use Rattle.isle_core.specs.Terms.{sym_text}
-use Rattle.isle_naming.specs.Sets.{has_name}
+use Rattle.isle_operand_names.specs.Sets.{has_name}
 use Rattle.isle_types.proofs.KnownLaws.{any_more}
 use Rattle.isle_run.proofs.LeftOut.{any_found, none_left}
 use Rattle.isle_run.proofs.left_out.any_left_out.Goals as goal

@@ -5,7 +5,7 @@ use Rattle.isle_core.specs.declared.Sym.{Sym}
 use Rattle.isle_core.specs.declared.TypeId.{TypeId}
 use Rattle.isle_core.specs.Rule.{Environment}
 use Rattle.isle_core.specs.Terms.{sym_text}
-use Rattle.isle_naming.specs.Sets.{has_name}
+use Rattle.isle_operand_names.specs.Sets.{has_name}
 use Rattle.isle_run.proofs.left_out.any_left_out.Given as goal
 
 abbrev pub invariant-loop-constant : goal.invariant-loop-constant

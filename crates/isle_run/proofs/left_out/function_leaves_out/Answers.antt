@@ -1,7 +1,7 @@
 use Rattle.std.proofs.Common.{◌∙◌, ap, map, sym}
 use Rattle.isle_core.specs.declared.types.TypeEnv.{TypeEnv}
 use Rattle.isle_core.specs.ValueViews.{meaning}
-use Rattle.isle_naming.specs.Names.{function_names}
+use Rattle.isle_operand_names.specs.Names.{function_names}
 use Rattle.isle_tree.specs.Views.{function}
 use Rattle.isle_run.proofs.LeftOut.{sets_tell}
 use Rattle.isle_run.proofs.left_out.function_leaves_out.Goals as goal

@@ -2,7 +2,8 @@ use Rattle.std.proofs.Common.{◌≡◌, ap, ◌∙◌}
 use Rattle.std.specs.Prelude.{slice_get}
 use Rattle.isle_values.specs.Views.{written}
 use Rattle.isle_run_inputs.specs.ValuesAt.{value_at_any}
-use Rattle.isle_run_inputs.proofs.Rest.{got, values_more}
+use Rattle.isle_core.proofs.Got.{got}
+use Rattle.isle_run_inputs.proofs.Rest.{values_more}
 use Rattle.isle_run_inputs.proofs.values.each_at.Goals as goal
 
 pub loop-index-preserved : goal.loop-index-preserved

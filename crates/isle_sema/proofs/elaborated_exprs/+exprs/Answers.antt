@@ -16,8 +16,8 @@ use Rattle.isle_terms.specs.Whole.{termed, arg_types, ret_type}
 use Rattle.isle_sema.specs.ExprPass.{ExprPass, ExprsPass, integer_tree, call_tree, expr_within, count_of, expr_pass, exprs_pass}
 use Rattle.isle_sema.specs.ElaboratedAt.{expr_trees, seen_binding, binding_trees}
 use Rattle.isle_terms.specs.Whole.{whole}
-use Rattle.isle_variables.specs.Locals.{locals_of}
-use Rattle.isle_culprits.specs.declared.judged.Judged.{Judged}
+use Rattle.isle_terms.specs.Locals.{locals_of}
+use Rattle.isle_terms.specs.declared.judged.Judged.{Judged}
 use Rattle.isle_terms.specs.Converters.{conversion, within}
 use Rattle.isle_sema.specs.Known.{MayBeCalled}
 use Rattle.isle_sema.proofs.ConvertedParts.{expr_converted}

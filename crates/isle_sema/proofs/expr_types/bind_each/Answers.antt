@@ -3,7 +3,7 @@ use Rattle.isle_ast.specs.Views.{lets_of, defs as seen}
 use Rattle.isle_declarations.specs.Bindings.{binding}
 use Rattle.isle_terms.specs.Whole.{whole}
 use Rattle.isle_types.specs.Gathered.{IsBefore}
-use Rattle.isle_variables.specs.Locals.{locals_of}
+use Rattle.isle_terms.specs.Locals.{locals_of}
 use Rattle.isle_sema.specs.ExprType.{typed_lets}
 use Rattle.isle_sema.proofs.TypesOwned.{typed_more, typed_all}
 use Rattle.isle_sema.proofs.expr_types.bind_each.Goals as goal

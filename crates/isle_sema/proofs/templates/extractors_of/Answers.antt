@@ -3,7 +3,7 @@ use Rattle.std.specs.Prelude.{option_map}
 use Rattle.isle_ast.specs.declared.tree.Def.{Def}
 use Rattle.isle_ast.specs.Views.{defs as seen_defs}
 use Rattle.isle_core.specs.RuleViews.{pattern as elaborated}
-use Rattle.isle_multis.specs.Multi.{AreMultisTold}
+use Rattle.isle_templates.specs.Multi.{AreMultisTold}
 use Rattle.isle_templates.specs.declared.templates.Templates.{Templates}
 use Rattle.isle_templates.specs.Uses.{uses}
 use Rattle.isle_templates.specs.Whole.{AreWholeFound}

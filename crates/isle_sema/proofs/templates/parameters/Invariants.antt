@@ -1,5 +1,5 @@
 use Rattle.std.proofs.Common.{◌≡◌, map, Some}
-use Rattle.isle_variables.specs.Scope.{no_variables}
+use Rattle.isle_terms.specs.Scope.{no_variables}
 use Rattle.isle_sema.specs.Templates.{params_met}
 use Rattle.isle_sema.proofs.TemplateSteps.{params_left}
 use Rattle.isle_sema.proofs.templates.parameters.Given as goal

@@ -1,5 +1,5 @@
 use Rattle.std.proofs.Common.{◌≡◌, rules}
-use Rattle.isle_multis.specs.Multi.{marked}
+use Rattle.isle_templates.specs.Multi.{marked}
 use Rattle.isle_sema.specs.Site.{TakenAt}
 use Rattle.isle_sema.proofs.Judgements.{when_called, taken_judged}
 use Rattle.isle_sema.proofs.judging.Judging.taken.Goals as goal

@@ -1,6 +1,0 @@
-use Rattle.std.proofs.Common.{◌≡◌, map, take}
-use Rattle.isle_items.specs.TypeItems.{text_at}
-use Rattle.isle_items.proofs.items.texts.Given as goal
-
-abbrev pub invariant-loop-ty : goal.invariant-loop-ty
-invariant-loop-ty l = l.texts.items ≡ map (text_at l.types) (take l.ty-index l.given)

@@ -1,3 +1,0 @@
-pub mod TypeItems
-pub mod LawfulNames
-pub mod NameSet

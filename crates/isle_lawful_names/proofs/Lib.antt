@@ -1,0 +1,14 @@
+pub mod ItemSteps
+pub mod SetSteps
+pub mod ListLaws
+pub mod FieldNames
+pub mod TextLaws
+pub mod ItemLaws
+pub mod SymbolsApart
+pub mod HasRustNames
+pub mod AllNames
+pub mod FoundLaws
+pub mod LawfulLaws
+pub mod NameSteps
+pub mod TermSteps
+pub mod TypeSteps

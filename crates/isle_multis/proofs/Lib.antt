@@ -1,2 +1,0 @@
-pub mod MarkedTerms
-pub mod ExpandedUses

@@ -1,5 +1,0 @@
-pub mod Claims
-pub mod Functions
-pub mod Judges
-pub mod NameFault
-pub mod Words

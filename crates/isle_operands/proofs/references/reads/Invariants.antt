@@ -1,8 +1,0 @@
-use Rattle.std.proofs.Common.{◌≡◌}
-use Rattle.isle_operands.specs.Typed.{setting_in}
-use Rattle.isle_simulation.specs.Statements.{reads}
-use Rattle.isle_operands.proofs.ReadSteps.{ReadsFrom}
-use Rattle.isle_operands.proofs.references.reads.Given as goal
-
-abbrev pub invariant-loop-index : goal.invariant-loop-index
-invariant-loop-index l = ReadsFrom (setting_in l.typed) l.bound l.tys l.bindings l.index l.reads.items ≡ reads (setting_in l.typed) l.bound l.tys l.bindings

@@ -1,5 +1,0 @@
-//! Terms that use themselves.
-#![tactic(auto)]
-
-pub mod recursion;
-mod uses;

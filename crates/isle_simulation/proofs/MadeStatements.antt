@@ -1,0 +1,128 @@
+-- What holds of each single statement that emission makes holds of all statements of a lawful block: one walk, over which the laws of
+-- calls, marks, operands and types go.
+use Rattle.std.proofs.Common.{ℕ, List, [], ◌∷◌, ◌++◌, Bool, true, false, Option, Some, None}
+use Rattle.std.specs.Prelude.{slice_get}
+use Rattle.std.specs.List.{AllByRecursion}
+use Rattle.isle_core.specs.declared.BindingId.{BindingId}
+use Rattle.isle_core.specs.declared.TypeId.{TypeId}
+use Rattle.isle_core.specs.declared.rule_sets.Constraint.{Constraint}
+use Rattle.isle_core.specs.declared.rule_sets.Constraint.TheVariants as constraint
+use Rattle.isle_core.specs.ArmPlaces.{ArePlacesOf, bound_within}
+use Rattle.isle_core.specs.Bindable.{bound_by}
+use Rattle.isle_core.specs.Block.{Block, Stop, Step, Control, Match, Equal, Loop, Return, Arms, NoArm, Arm}
+use Rattle.isle_core.specs.BlockLawful.{Source, IsConstraintOver}
+use Rattle.isle_core.specs.Calling.{kind_of}
+use Rattle.isle_core.specs.Path.{at}
+use Rattle.isle_core.specs.Setting.{Setting, gives_several, paths_in}
+use Rattle.isle_core.specs.SingleArms.{HasSingleArms, IsSingle}
+use Rattle.isle_core.proofs.AllLaws.{all_append}
+use Rattle.isle_tree.specs.Program as tree
+use Rattle.isle_tree.specs.Program.{Stmt, IfEq, Overflow, Log, Body, Done, Then}
+use Rattle.isle_tree.specs.Walk.{of_stmt, of_body}
+use Rattle.isle_simulation.specs.LogLines.{LogLine}
+use Rattle.isle_simulation.specs.Manner.{Manner, arm_manner}
+use Rattle.isle_simulation.specs.Telling.{Telling}
+use Rattle.isle_simulation.proofs.Ready.{IsReady, IsReadyIn, IsReadyBind, AreReadyBinds, IsReadyFrom, IsReadyControl}
+use Rattle.isle_simulation.proofs.Written.{written_operand, written_read, bound_stmt, lets, result_stmt, stop_before, written_list, arm_stmt, told_before, told_body, told_control}
+
+-- what the arms of a block test
+abbrev mutual
+  pub AllTested : (BindingId → Constraint → Type 0) → Block → Type 0
+  AllTested Tested Stop = Unit {0}
+  AllTested Tested (Step binds c more) = AllTestedBy Tested c × AllTested Tested more
+
+  pub AllTestedBy : (BindingId → Constraint → Type 0) → Control → Type 0
+  AllTestedBy Tested (Match source arms) = AllTestedIn Tested source arms
+  AllTestedBy Tested (Equal a b body) = AllTested Tested body
+  AllTestedBy Tested (Loop result body) = AllTested Tested body
+  AllTestedBy Tested (Return pos result) = Unit {0}
+
+  pub AllTestedIn : (BindingId → Constraint → Type 0) → BindingId → Arms → Type 0
+  AllTestedIn Tested source NoArm = Unit {0}
+  AllTestedIn Tested source (Arm c places body arms) = Tested source c × AllTested Tested body × AllTestedIn Tested source arms
+
+-- any constraint
+abbrev pub Anything : BindingId → Constraint → Type 0
+Anything source c = Unit {0}
+
+mutual
+  pub any_tested : (b : Block) → AllTested Anything b
+  any_tested Stop = tt
+  any_tested (Step binds c more) = (any_tested_by c, any_tested more)
+
+  any_tested_by : (c : Control) → AllTestedBy Anything c
+  any_tested_by (Match source arms) = any_tested_in source arms
+  any_tested_by (Equal a b body) = any_tested body
+  any_tested_by (Loop result body) = any_tested body
+  any_tested_by (Return pos result) = tt
+
+  any_tested_in : (source : BindingId) (arms : Arms) → AllTestedIn Anything source arms
+  any_tested_in source NoArm = tt
+  any_tested_in source (Arm c places body arms) = (tt, any_tested body, any_tested_in source arms)
+
+-- what a single statement gives is so, of each that emission makes: the statements inside it left aside
+pub record EachMade {A : Type 0} (each : Stmt → List A) (P : A → Type 0) (s : Setting) (Tested : BindingId → Constraint → Type 0) : Type 0 where
+  pub bound : (locals : List ℕ) (b : BindingId) → IsReadyBind s locals (at (paths_in s) b) (slice_get s.bindings b.0) → AllByRecursion P (of_stmt each (bound_stmt s locals b))
+  pub result : (locals : List ℕ) (result : BindingId) → IsReady s locals result s.term.ret_ty → AllByRecursion P (of_stmt each (result_stmt (kind_of s.term.kind) (written_read s locals false result)))
+  pub stop : (inside : Bool) → AllByRecursion P (each (Overflow inside))
+  pub log : (line : LogLine) → AllByRecursion P (each (Log line.0 line.1))
+  pub equal : (locals : List ℕ) (a b : BindingId) (ty : TypeId) (inside : Body) → IsReady s locals a ty → IsReady s locals b ty → AllByRecursion P (each (IfEq (written_operand s locals a) (written_operand s locals b) inside))
+  pub arm : (locals : List ℕ) (source : BindingId) (over : Source) (c : Constraint) (places : List (Option BindingId)) (inside : Body)
+      → IsReadyIn s locals source over → IsConstraintOver s.env c over → ArePlacesOf s source c places → Tested source c → AllByRecursion P (each (arm_stmt s locals source c places inside))
+  pub loop : (list item : ℕ) (inside : Body) → AllByRecursion P (each (tree.Loop list item inside))
+
+module _ {A : Type 0} (each : Stmt → List A) (P : A → Type 0) (s : Setting) (Tested : BindingId → Constraint → Type 0) (made : EachMade each P s Tested) where
+  abbrev Holds : List A → Type 0
+  Holds = AllByRecursion P
+
+  both : (xs ys : List A) → Holds xs → Holds ys → Holds (xs ++ ys)
+  both = all_append P
+
+  lets_hold : (locals : List ℕ) (binds : List BindingId) (more : Body) → AreReadyBinds s locals binds → Holds (of_body each more) → Holds (of_body each (lets s locals binds more))
+  lets_hold locals [] more h k = k
+  lets_hold locals (b ∷ binds) more h k = both (of_stmt each (bound_stmt s locals b)) (of_body each (lets s (locals ++ b.0 ∷ []) binds more)) (made.bound locals b h.0) (lets_hold (locals ++ b.0 ∷ []) binds more h.1 k)
+
+  told_holds : (telling : Telling) (c : Control) (after : Body) → Holds (of_body each after) → Holds (of_body each (told_before telling c after))
+  told_holds None c after h = h
+  told_holds (Some line) (Match source arms) after h = h
+  told_holds (Some line) (Equal a b body) after h = h
+  told_holds (Some line) (Loop result body) after h = h
+  told_holds (Some line) (Return pos result) after h = both (each (Log (line pos).0 (line pos).1)) (of_body each after) (made.log (line pos)) h
+
+  stop_holds : (inside several : Bool) (c : Control) (after : Body) → Holds (of_body each after) → Holds (of_body each (stop_before inside several c after))
+  stop_holds inside true (Return pos result) after h = both (each (Overflow inside)) (of_body each after) (made.stop inside) h
+  stop_holds inside true (Match source arms) after h = h
+  stop_holds inside true (Equal a b body) after h = h
+  stop_holds inside true (Loop result body) after h = h
+  stop_holds inside false c after h = h
+
+  -- an arm's test, and what is inside it
+  arm_holds : (locals : List ℕ) (source : BindingId) (c : Constraint) (places : List (Option BindingId)) (inside : Body)
+      → Holds (each (arm_stmt s locals source c places inside)) → Holds (of_body each inside) → Holds (of_stmt each (arm_stmt s locals source c places inside))
+  arm_holds locals source (constraint.ConstBool val) places inside h k = both _ (of_body each inside) h k
+  arm_holds locals source (constraint.ConstInt val ty) places inside h k = both _ (of_body each inside) h k
+  arm_holds locals source (constraint.ConstPrim val) places inside h k = both _ (of_body each inside) h k
+  arm_holds locals source (constraint.Variant ty variant) places inside h k = both _ (of_body each inside) h k
+  arm_holds locals source (constraint.Struct ty) places inside h k = both _ (of_body each inside) h k
+  arm_holds locals source constraint.Some places inside h k = both _ (of_body each inside) h k
+
+  mutual
+    pub block_holds : (manner : Manner) (b : Block) (locals calls : List ℕ) (end : Body) → IsReadyFrom s locals calls b → HasSingleArms b → AllTested Tested b → Holds (of_body each end) → Holds (of_body each (told_body manner s locals b end))
+    block_holds manner Stop locals calls end h o w k = k
+    block_holds manner (Step binds c more) locals calls end h o w k =
+        let now = bound_by locals binds in
+        let rest = stop_before manner.inside (gives_several s) c (told_body manner s now more end) in
+        lets_hold locals binds _ h.0
+        (told_holds manner.telling c (Then (told_control manner s now c) rest)
+        (both (of_stmt each (told_control manner s now c)) (of_body each rest) (control_holds manner c now _ h.2 o.0 w.0) (stop_holds manner.inside (gives_several s) c (told_body manner s now more end) (block_holds manner more now _ end h.3 o.1 w.1 k))))
+
+    control_holds : (manner : Manner) (c : Control) (locals calls : List ℕ) → IsReadyControl s locals calls c → IsSingle c → AllTestedBy Tested c → Holds (of_stmt each (told_control manner s locals c))
+    control_holds manner (Match source (Arm c places body NoArm)) locals calls h o w =
+        let inside = told_body (arm_manner manner s body) s (bound_within locals places) body Done in
+        arm_holds locals source c places inside (made.arm locals source h.1.0 c places inside h.1.1 h.1.2.0 h.1.2.1 w.0) (block_holds (arm_manner manner s body) body (bound_within locals places) calls Done h.1.2.2 o w.1 tt)
+    control_holds manner (Match source (Arm c places body (Arm d others inside arms))) locals calls h o w = absurd o
+    control_holds manner (Match source NoArm) locals calls h o w = absurd o
+    control_holds manner (Equal a b body) locals calls h o w =
+        both _ (of_body each (told_body manner s locals body Done)) (made.equal locals a b h.0.0 _ h.0.1 h.0.2) (block_holds manner body locals calls Done h.1 o w tt)
+    control_holds manner (Loop result body) locals calls h o w = both _ (of_body each (told_body manner s (locals ++ result.0 ∷ []) body Done)) (made.loop _ result.0 _) (block_holds manner body (locals ++ result.0 ∷ []) calls Done h.1 o w tt)
+    control_holds manner (Return pos result) locals calls h o w = made.result locals result h

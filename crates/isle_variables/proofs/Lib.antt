@@ -1,4 +1,0 @@
-pub mod VariableLaws
-pub mod ScopeLaws
-pub mod LocalLaws
-pub mod NamesIn

@@ -1,4 +1,0 @@
-pub mod Scope
-pub mod NewVariables
-pub mod Locals
-pub mod LocalViews
