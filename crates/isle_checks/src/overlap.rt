@@ -159,8 +159,8 @@ pub fn check(alloc: Global, termenv: &TermEnv) -> Result<Vec<(TermId, RuleSet)>,
     checked(alloc, None, termenv)
 }
 
-/// Does what `check` does, and tells the names of terms and rules in the words of overlaps. Where there are errors, they
-/// are looked for twice.
+/// Does what `check` does, and tells the names of terms and rules in the words of overlaps. If there are errors,
+/// they are looked for twice.
 pub fn check_named(
     alloc: Global,
     types: &TypeEnv,

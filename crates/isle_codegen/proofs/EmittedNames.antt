@@ -21,7 +21,7 @@ name_of_term env id t e = ap (λ (o : Option Term). option_map_or (λ (u : Term)
 
 -- a function has the name of its term
 pub emitted_name : (options : CodegenOptions) (files : Files) (env : Environment) (id : TermId) (s : RuleSet) (f : Function) → IsEmitted options files env id s f → f.term ≡ term_name env id
-emitted_name options files env id s f h = (of_its_term options files env h.term s.bindings h.block f h.lawful h.single h.given).name ∙ sym (name_of_term env id h.term h.found)
+emitted_name options files env id s f h = (of_its_term options files env h.term s.bindings h.block f h.lawful h.given).name ∙ sym (name_of_term env id h.term h.found)
 
 -- and so have all
 pub emitted_names : (options : CodegenOptions) (files : Files) (env : Environment) (sets : List (TermId × RuleSet)) (fs : List Function) → AreEmitted options files env sets fs

@@ -59,7 +59,7 @@ are_declared options files env (s ∷ sets) (f ∷ fs) h = (
   record {
     term = h.0.term;
     found = h.0.found;
-    of_term = of_its_term options files env h.0.term s.1.bindings h.0.block f h.0.lawful h.0.single h.0.given;
+    of_term = of_its_term options files env h.0.term s.1.bindings h.0.block f h.0.lawful h.0.given;
   },
   are_declared options files env sets fs h.1,
 )
@@ -80,13 +80,13 @@ are_from_blocks options files env (s ∷ sets) (f ∷ fs) stand h = (
     lawful = h.0.lawful;
     single = h.0.single;
     means = h.0.means;
-    shape = has_shape options files env h.0.term s.1.bindings h.0.block f h.0.lawful h.0.single h.0.given;
+    shape = has_shape options files env h.0.term s.1.bindings h.0.block f h.0.lawful h.0.given;
     statements = h.0.given;
-    lines = its_lines options files env h.0.term s.1.bindings h.0.block f h.0.lawful h.0.single h.0.given;
+    lines = its_lines options files env h.0.term s.1.bindings h.0.block f h.0.lawful h.0.given;
     tests = h.0.tests;
     makes = h.0.makes;
     returns = returns_of_rules env (paths_of s.1.bindings) (rules_of env s.0) s.1.rules 0 (return_positions h.0.block) stand.0.flat (tests_positions s.1 h.0.block h.0.tests);
-    calls = λ callee c. bound_called env s.0 s.1 stand.0 callee (function_calls options files env h.0.term s.1.bindings h.0.block f h.0.lawful h.0.single h.0.given callee c);
+    calls = λ callee c. bound_called env s.0 s.1 stand.0 callee (function_calls options files env h.0.term s.1.bindings h.0.block f h.0.lawful h.0.given callee c);
   },
   are_from_blocks options files env sets fs stand.1 h.1,
 )
@@ -101,7 +101,7 @@ are_well_formed : (options : CodegenOptions) (files : Files) (env : Environment)
 are_well_formed options files env p [] [] same c h = tt
 are_well_formed options files env p (s ∷ sets) (f ∷ fs) same c h =
     let e : IsEmittable env h.0.term = subst (IsEmittable env) (some_same c.0.term h.0.term (sym c.0.found ∙ h.0.found)) c.0.emittable in (
-      emitted_well_formed options files env h.0.term s.1.bindings h.0.block f h.0.lawful h.0.single h.0.given e c.0.names c.0.fns c.0.term_fns p same,
+      emitted_well_formed options files env h.0.term s.1.bindings h.0.block f h.0.lawful h.0.given e c.0.names c.0.fns c.0.term_fns p same,
       are_well_formed options files env p sets fs same c.1 h.1,
     )
 are_well_formed options files env p [] (f ∷ fs) same c h = absurd h

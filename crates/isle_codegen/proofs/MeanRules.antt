@@ -206,7 +206,7 @@ module _ (defs : List Def) (options : CodegenOptions) (files : Files) (env : Env
     runs : AreSameRuns env (run p (term_name env id) args m space) (ran_of the_term (outcome_of env m args (rules_of env id) kind []))
     runs =
         ap (λ (n : List ℕ). option_map (λ (q : Ran). nameless_ran (impure_ran env q)) (run p n args m space)) its_name
-        ∙ runs_as_block options files env the_term h.set.bindings h.emitted.block h.function h.emitted.lawful h.emitted.single h.emitted.given once names fns term_fns p args m space
+        ∙ runs_as_block options files env the_term h.set.bindings h.emitted.block h.function h.emitted.lawful h.emitted.given once names fns term_fns p args m space
         by_name types (bindings_answered env id h.set h.stands m lawful) lawful.declared
         ∙ ap (λ (o : Prescription). option_map nameless_ran (ran_of the_term o)) same_outcome
 
@@ -230,7 +230,7 @@ module _ (defs : List Def) (options : CodegenOptions) (files : Files) (env : Env
     prescribed = h.emitted.means.several several m args the_term.arg_tys (rules_of env id) (served_set m args types lawful);
     runs =
         ap (λ (n : List ℕ). option_map (λ (q : Ran). nameless_ran (impure_ran env q)) (run p n args m space)) its_name
-        ∙ runs_as_several options files env the_term h.set.bindings h.emitted.block h.function h.emitted.lawful h.emitted.single h.emitted.given several h.emitted.lawful.items names fns term_fns p args m space
+        ∙ runs_as_several options files env the_term h.set.bindings h.emitted.block h.function h.emitted.lawful h.emitted.given several h.emitted.lawful.items names fns term_fns p args m space
         by_name types (bindings_answered env id h.set h.stands m lawful) lawful.declared;
   }
 

@@ -1,5 +1,5 @@
 -- The operands that stand in statements.
-use Rattle.std.proofs.Common.{List, [], ◌∷◌}
+use Rattle.std.proofs.Common.{List, [], ◌∷◌, ◌++◌}
 use Rattle.isle_tree.specs.declared.tree.Operand.{Operand}
 use Rattle.isle_tree.specs.declared.tree.Read.{Read}
 use Rattle.isle_tree.specs.declared.tree.Read.TheVariants as read
@@ -7,7 +7,7 @@ use Rattle.isle_tree.specs.declared.tree.TExpr.{TExpr}
 use Rattle.isle_tree.specs.declared.tree.TExpr.TheVariants as expr
 use Rattle.isle_tree.specs.declared.tree.TPat.{TPat}
 use Rattle.isle_tree.specs.declared.tree.TPat.TheVariants as pattern
-use Rattle.isle_tree.specs.Program.{Stmt, Let, LetList, IfEq, IfLet, Match, Loop, Return, Extend, Overflow, Log, Split, Tail, Body}
+use Rattle.isle_tree.specs.Program.{Stmt, Let, LetList, IfEq, IfLet, Match, Loop, Return, Extend, Overflow, Log, Split, Tail, Body, Arms, NoArm, Arm}
 use Rattle.isle_tree.specs.Walk.{of_body}
 
 -- the operand of a read
@@ -42,13 +42,18 @@ pattern_operands (pattern.Variant ty variant binds more) = []
 pattern_operands (pattern.Struct ty binds more) = []
 pattern_operands (pattern.Some local) = []
 
--- those of a statement, the statements inside it left aside; a match is not built
+-- those of the patterns of arms
+abbrev pub patterns_operands : Arms → List Operand
+patterns_operands NoArm = []
+patterns_operands (Arm pat inside arms) = pattern_operands pat ++ patterns_operands arms
+
+-- those of a statement, the statements inside it left aside
 abbrev pub own_operands : Stmt → List Operand
 own_operands (Let n e) = expr_operands e
 own_operands (LetList n call) = reads_operands call.args
 own_operands (IfEq a b inside) = a ∷ b ∷ []
 own_operands (IfLet pat r inside) = read_operand r ∷ pattern_operands pat
-own_operands (Match r arms) = []
+own_operands (Match r arms) = read_operand r ∷ patterns_operands arms
 own_operands (Loop list item inside) = []
 own_operands (Return e) = expr_operands e
 own_operands (Extend r) = read_operand r ∷ []

@@ -25,7 +25,7 @@ use Rattle.isle_core.specs.ArmPlaces.{ArePlacesOf, bound_within}
 use Rattle.isle_core.specs.Bindable.{IsPlain, bound_by}
 use Rattle.isle_core.specs.Block as block
 use Rattle.isle_core.specs.Block.{Block, Stop, Step, Control}
-use Rattle.isle_core.specs.BlockLawful.{Source, IsConstraintOver, IsLawfulBlock}
+use Rattle.isle_core.specs.BlockLawful.{Source, AValue, AnOption, IsConstraintOver, IsLawfulBlock}
 use Rattle.isle_core.specs.Calling.{calling, extracting, kind_of}
 use Rattle.isle_core.specs.Constants.{int_value}
 use Rattle.isle_core.specs.Form.{Form, form, form_of_variant, variant_form}
@@ -36,10 +36,10 @@ use Rattle.isle_core.specs.PathType.{IsPathOf}
 use Rattle.isle_core.specs.Rule.{Environment, Rule}
 use Rattle.isle_core.specs.RuleSet.{is_test, equal_test}
 use Rattle.isle_core.specs.Setting.{Setting, setting, paths_in}
-use Rattle.isle_core.specs.SingleArms.{HasSingleArms, IsSingle}
 use Rattle.isle_core.specs.StandsFor.{StandsFor}
 use Rattle.isle_core.specs.Terms.{sym_text}
 use Rattle.isle_core.specs.Tests.{Is}
+use Rattle.isle_core.proofs.AllLaws.{all_append}
 use Rattle.isle_core.proofs.BindingPaths.{IsThere, contains_at}
 use Rattle.isle_blocks.specs.RuleTests.{IsRuleTest, of_rule, of_inner, TestsRules, DoesRules, ArmsTestRules}
 use Rattle.isle_core.proofs.FlatRules.{flat_rule}
@@ -49,9 +49,10 @@ use Rattle.isle_tree.specs.declared.tree.Operand.TheVariants as operand
 use Rattle.isle_tree.specs.declared.tree.Read.{Read}
 use Rattle.isle_tree.specs.declared.tree.TBind.{TBind}
 use Rattle.isle_tree.specs.declared.tree.TPat.{TPat}
+use Rattle.isle_tree.specs.Program as tree
 use Rattle.isle_tree.specs.Program.{Body, Function}
 use Rattle.isle_tree.specs.Walk.{of_stmt}
-use Rattle.isle_simulation.specs.Completed.{completed, completed_control, step_binds}
+use Rattle.isle_simulation.specs.Completed.{completed, completed_control, completed_arms, step_binds}
 use Rattle.isle_simulation.specs.Manner.{manner_of}
 use Rattle.isle_simulation.specs.Operands.{constant, in_place, is_bound}
 use Rattle.isle_simulation.specs.Patterns.{pattern_of, pattern_named, leaves_out}
@@ -61,16 +62,15 @@ use Rattle.isle_simulation.specs.TermFunction.{mark_of, tail_body, tail_of, tail
 use Rattle.isle_simulation.proofs.ArmsRun.{ArmPattern, arm_pattern}
 use Rattle.isle_simulation.proofs.BoundTests.{found}
 use Rattle.isle_simulation.proofs.CompletedReady.{completed_ready}
-use Rattle.isle_simulation.proofs.CompletedRuns.{completed_single}
 use Rattle.isle_simulation.proofs.LocalStmts.{local_by}
 use Rattle.isle_simulation.proofs.Made.{over_value, over_option, some_made, test_there, function_made}
-use Rattle.isle_simulation.proofs.MadeStatements.{AllTested, AllTestedBy, AllTestedIn, EachMade, block_holds}
+use Rattle.isle_simulation.proofs.MadeStatements.{AllTested, AllTestedBy, AllTestedIn, AreArmsOf, EachMade, block_holds}
 use Rattle.isle_simulation.proofs.OneBind.{spelled}
 use Rattle.isle_simulation.proofs.PathValues.{IsConstant}
 use Rattle.isle_simulation.proofs.Ready.{IsSpelled, IsReady, IsReadyIn, AreReady, IsReadyBind}
-use Rattle.isle_simulation.proofs.Written.{written, written_test, written_operand, written_place, written_read, written_pattern, callee_of, reads, call_expr, extraction_expr, field_reads, made_expr, bound_expr, bound_stmt, result_stmt, arm_stmt, function_of}
+use Rattle.isle_simulation.proofs.Written.{written, written_test, written_operand, written_place, written_read, written_pattern, callee_of, reads, call_expr, extraction_expr, field_reads, made_expr, bound_expr, bound_stmt, result_stmt, arm_stmt, written_arm, match_read, function_of}
 use Rattle.isle_codegen.specs.Spoken.{constant_path, IsSpoken, on_path, tested}
-use Rattle.isle_codegen.proofs.Operands.{read_operand, reads_operands, fields_operands, expr_operands, pattern_operands, own_operands, body_operands}
+use Rattle.isle_codegen.proofs.Operands.{read_operand, reads_operands, fields_operands, expr_operands, pattern_operands, patterns_operands, own_operands, body_operands}
 
 -- a local, an argument, a struct without fields, or a constant that the rules speak of
 pub data IsSpokenOperand (env : Environment) (rules : List Rule) : Operand → Type 0 where
@@ -113,17 +113,19 @@ test_spoken env set rules _ _ stand is (of_inner inner source e) = absurd is
 -- ---- blocks whose bind orders are completed
 
 mutual
-  completed_tests : (set : RuleSet) (s : Setting) (bound : List ℕ) (b : Block) → HasSingleArms b → TestsRules set b → TestsRules set (completed s bound b)
-  completed_tests set s bound Stop o h = tt
-  completed_tests set s bound (Step bs c more) o h = (does_tests set s (bound_by bound (step_binds s bound bs c)) c o.0 h.0, completed_tests set s (bound_by bound (step_binds s bound bs c)) more o.1 h.1)
+  completed_tests : (set : RuleSet) (s : Setting) (bound : List ℕ) (b : Block) → TestsRules set b → TestsRules set (completed s bound b)
+  completed_tests set s bound Stop h = tt
+  completed_tests set s bound (Step bs c more) h = (does_tests set s (bound_by bound (step_binds s bound bs c)) c h.0, completed_tests set s (bound_by bound (step_binds s bound bs c)) more h.1)
 
-  does_tests : (set : RuleSet) (s : Setting) (bound : List ℕ) (c : Control) → IsSingle c → DoesRules set c → DoesRules set (completed_control s bound c)
-  does_tests set s bound (block.Match source (block.Arm c places body block.NoArm)) o h = (h.0, completed_tests set s (bound_within bound places) body o h.1, tt)
-  does_tests set s bound (block.Match source (block.Arm c places body (block.Arm d others inside arms))) o h = absurd o
-  does_tests set s bound (block.Match source block.NoArm) o h = absurd o
-  does_tests set s bound (block.Equal a b body) o h = (h.0, completed_tests set s bound body o h.1)
-  does_tests set s bound (block.Loop result body) o h = completed_tests set s (bound ++ result.0 ∷ []) body o h
-  does_tests set s bound (block.Return place result) o h = h
+  does_tests : (set : RuleSet) (s : Setting) (bound : List ℕ) (c : Control) → DoesRules set c → DoesRules set (completed_control s bound c)
+  does_tests set s bound (block.Match source arms) h = arms_tests set s bound source arms h
+  does_tests set s bound (block.Equal a b body) h = (h.0, completed_tests set s bound body h.1)
+  does_tests set s bound (block.Loop result body) h = completed_tests set s (bound ++ result.0 ∷ []) body h
+  does_tests set s bound (block.Return place result) h = h
+
+  arms_tests : (set : RuleSet) (s : Setting) (bound : List ℕ) (source : BindingId) (arms : block.Arms) → ArmsTestRules set source arms → ArmsTestRules set source (completed_arms s bound arms)
+  arms_tests set s bound source block.NoArm h = tt
+  arms_tests set s bound source (block.Arm c places body arms) h = (h.0, completed_tests set s (bound_within bound places) body h.1, arms_tests set s bound source arms h.2)
 
 -- ---- forms
 
@@ -301,6 +303,40 @@ module _ (env : Environment) (t : Term) (set : RuleSet) (rules : List Rule) (sta
       let v = over_option s bound source over ready is in
       (bound_so bound source v.1.bound', pattern_so (pattern_of env constraint.Some places) _ (some_made places at.0).1 tt)
 
+  -- what a match of several arms reads
+  match_so : (bound : List ℕ) (source : BindingId) (over : Source) (c : Constraint) → IsReadyIn s bound source over → IsConstraintOver env c over → So (read_operand (match_read s bound source c))
+  match_so bound source over (constraint.ConstBool val) ready is = let v = over_value s bound source (constraint.ConstBool val) over (λ e. cc) ready is in ready_so bound source v.ty v.ready
+  match_so bound source over (constraint.ConstInt val ty) ready is = let v = over_value s bound source (constraint.ConstInt val ty) over (λ e. cc) ready is in ready_so bound source v.ty v.ready
+  match_so bound source over (constraint.ConstPrim val) ready is = let v = over_value s bound source (constraint.ConstPrim val) over (λ e. cc) ready is in ready_so bound source v.ty v.ready
+  match_so bound source over (constraint.Variant of variant) ready is =
+      let v = over_value s bound source (constraint.Variant of variant) over (λ e. cc) ready is in
+      read_so true (is_reference_in s source) (written_operand s bound source) (ready_so bound source v.ty v.ready)
+  match_so bound source over (constraint.Struct of) ready is =
+      let v = over_value s bound source (constraint.Struct of) over (λ e. cc) ready is in
+      read_so true (is_reference_in s source) (written_operand s bound source) (ready_so bound source v.ty v.ready)
+  match_so bound source over constraint.Some ready is = let v = over_option s bound source over ready is in bound_so bound source v.1.bound'
+
+  -- the pattern of one of them
+  case_so : (source : BindingId) (over : Source) (c : Constraint) (places : List (Option BindingId)) → IsConstraintOver env c over → ArePlacesOf s source c places → IsRuleTest set source c → AllSo (pattern_operands (written_arm env c places))
+  case_so source over (constraint.ConstBool val) places is at w = (test_so source (constraint.ConstBool val) tt w, tt)
+  case_so source over (constraint.ConstInt val ty) places is at w = (test_so source (constraint.ConstInt val ty) tt w, tt)
+  case_so source over (constraint.ConstPrim val) places is at w = (test_so source (constraint.ConstPrim val) tt w, tt)
+  case_so source (AValue ty) (constraint.Variant of variant) places is at w =
+      let a = arm_pattern s source ty (constraint.Variant of variant) places is at tt in
+      pattern_so (pattern_of env (constraint.Variant of variant) places) _ a.is (named_so a.f.ty a.f.variant (leaves_out (typed_fields env a.f.fields) places) a.binds)
+  case_so source (AnOption tys) (constraint.Variant of variant) places is at w = cc
+  case_so source (AValue ty) (constraint.Struct of) places is at w =
+      let a = arm_pattern s source ty (constraint.Struct of) places is at tt in
+      pattern_so (pattern_of env (constraint.Struct of) places) _ a.is (named_so a.f.ty a.f.variant (leaves_out (typed_fields env a.f.fields) places) a.binds)
+  case_so source (AnOption tys) (constraint.Struct of) places is at w = cc
+  case_so source over constraint.Some places is at w = pattern_so (pattern_of env constraint.Some places) _ (some_made places at.0).1 tt
+
+  -- so each of them
+  cases_so : (source : BindingId) (over : Source) (arms : tree.Arms) → AreArmsOf s (IsRuleTest set) source over arms → AllSo (patterns_operands arms)
+  cases_so source over tree.NoArm k = tt
+  cases_so source over (tree.Arm pat inside arms) k =
+      all_append So (pattern_operands pat) (patterns_operands arms) (subst (λ x. AllSo (pattern_operands x)) (sym k.0.is) (case_so source over k.0.c k.0.places k.0.over' k.0.parts k.0.tested)) (cases_so source over arms k.1)
+
   -- each operand that emission makes
   operands_made : EachMade own_operands So s (IsRuleTest set)
   operands_made = record {
@@ -310,6 +346,7 @@ module _ (env : Environment) (t : Term) (set : RuleSet) (rules : List Rule) (sta
     log = λ line. tt;
     equal = λ bound a b ty inside h k. (ready_so bound a ty h, (ready_so bound b ty k, tt));
     arm = arm_so;
+    several = λ bound source over c arms ready is k. (match_so bound source over c ready is, cases_so source over arms k);
     loop = λ list item inside. tt;
   }
 
@@ -330,9 +367,9 @@ module _ (env : Environment) (t : Term) (set : RuleSet) (rules : List Rule) (sta
   one_function f g e = cc
 
   -- each operand of the function of a block that tests what the rules test
-  pub function_so : (options : CodegenOptions) (files : Files) (b : Block) (f : Function) → IsLawfulBlock s b → HasSingleArms b → TestsRules set b → term_function options files s b ≡ Some f → AllSo (body_operands f.body)
-  function_so options files b f lawful single tests given =
+  pub function_so : (options : CodegenOptions) (files : Files) (b : Block) (f : Function) → IsLawfulBlock s b → TestsRules set b → term_function options files s b ≡ Some f → AllSo (body_operands f.body)
+  function_so options files b f lawful tests given =
       let d = completed s [] b in
-      subst (λ (g : Function). AllSo (body_operands g.body)) (one_function (function_of options files env t set.bindings b) f (sym (function_made options files env t set.bindings b lawful single) ∙ given))
-      (block_holds own_operands So s (IsRuleTest set) operands_made (manner_of options files s) d [] [] (tail_in files env t b) (completed_ready s b lawful) (completed_single s [] b single)
-      (tests_all set d (completed_tests set s [] b single tests)) (tail_so _ _ _ b))
+      subst (λ (g : Function). AllSo (body_operands g.body)) (one_function (function_of options files env t set.bindings b) f (sym (function_made options files env t set.bindings b lawful) ∙ given))
+      (block_holds own_operands So s (IsRuleTest set) operands_made (manner_of options files s) d [] [] (tail_in files env t b) (completed_ready s b lawful)
+      (tests_all set d (completed_tests set s [] b tests)) (tail_so _ _ _ b))

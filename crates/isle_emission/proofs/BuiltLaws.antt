@@ -14,16 +14,17 @@ use Rattle.isle_core.specs.Setting.{Setting, gives_several}
 use Rattle.isle_tree.specs.declared.tree.Operand.{Operand}
 use Rattle.isle_tree.specs.declared.tree.Read.{Read}
 use Rattle.isle_tree.specs.declared.tree.TPat.{TPat}
+use Rattle.isle_tree.specs.Program as tree
 use Rattle.isle_tree.specs.Program.{Stmt, Overflow, Body, Done}
-use Rattle.isle_simulation.specs.Completed.{step_binds, completed, completed_control}
+use Rattle.isle_simulation.specs.Completed.{step_binds, completed_control}
 use Rattle.isle_simulation.specs.References.{is_reference_in, read_as}
 use Rattle.isle_simulation.specs.Operands.{operand_of, tested}
-use Rattle.isle_simulation.specs.Patterns.{pattern_of}
-use Rattle.isle_simulation.specs.Statements.{read_in, plain_read, bound_expr, binds_list, local_stmt, let_of, lets, stmt_before, stop_before, if_eq, if_let, return_of, loop_of, looped_local, arm_stmt}
+use Rattle.isle_simulation.specs.Patterns.{pattern_of, arm_pattern}
+use Rattle.isle_simulation.specs.Statements.{read_in, plain_read, bound_expr, binds_list, local_stmt, let_of, lets, stmt_before, stop_before, if_eq, if_let, return_of, loop_of, looped_local, arm_stmt, match_read, match_of, arm_before}
 use Rattle.isle_simulation.specs.Manner.{Manner}
 use Rattle.isle_simulation.specs.Telling.{Telling, line_before, told_before}
-use Rattle.isle_emission.specs.Built.{AreComputed, IsTested, IsBuilt, IsBuiltControl, AreBuilt}
-use Rattle.isle_emission.specs.MadeBodies.{made_body, made_control, made_arms}
+use Rattle.isle_emission.specs.Built.{AreComputed, IsTested, IsBuilt, IsBuiltControl, AreBuilt, AreCasesBuilt}
+use Rattle.isle_emission.specs.MadeBodies.{made_body, made_control, made_arms, made_each}
 
 -- ---- what statements are made of
 
@@ -95,6 +96,19 @@ test_some s bound source (constraint.Variant ty variant) places i h = fits_there
 test_some s bound source (constraint.Struct ty) places i h = fits_there (pattern_of s.env (constraint.Struct ty) places) (read_in s bound true source) i h
 test_some s bound source constraint.Some places i h = fits_there (pattern_of s.env constraint.Some places) (plain_read (operand_of s.env s.bindings bound source)) i h
 
+-- what a match reads, and its arms
+match_some : (r : Option Read) (o : Option tree.Arms) → IsSome (match_of r o) → IsSome r × IsSome o
+match_some (Some r) (Some arms) h = (refl, refl)
+match_some (Some r) None h = absurd cc
+match_some None o h = absurd cc
+
+-- the pattern of an arm, what is within, and the other arms
+arm_some : (p : Option TPat) (i : Option Body) (o : Option tree.Arms) → IsSome (arm_before p i o) → IsSome p × IsSome i × IsSome o
+arm_some (Some p) (Some i) (Some arms) h = (refl, refl, refl)
+arm_some (Some p) (Some i) None h = absurd cc
+arm_some (Some p) None o h = absurd cc
+arm_some None i o h = absurd cc
+
 -- ---- blocks
 
 mutual
@@ -127,4 +141,13 @@ mutual
   arms_built manner (Arm c places body NoArm) s bound source h =
       let k = test_some s bound source c places (made_body manner s (bound_within bound places) body (Some Done)) h in
       (k.0, block_built manner body s (bound_within bound places) (Some Done) k.1)
-  arms_built manner (Arm c places body (Arm d others inside arms)) s bound source h = cc
+  arms_built manner (Arm c places body (Arm d others inside arms)) s bound source h =
+      let k = match_some (match_read s bound source c) (made_each manner s bound (Arm c places body (Arm d others inside arms))) h in
+      let l = arm_some (arm_pattern s.env c places) (made_body manner s (bound_within bound places) body (Some Done)) (made_each manner s bound (Arm d others inside arms)) k.1 in
+      (k.0, l.0, block_built manner body s (bound_within bound places) (Some Done) l.1, cases_built manner (Arm d others inside arms) s bound l.2)
+
+  cases_built : (manner : Manner) (arms : Arms) (s : Setting) (bound : List ℕ) → IsSome (made_each manner s bound arms) → AreCasesBuilt s bound arms
+  cases_built manner NoArm s bound h = tt
+  cases_built manner (Arm c places body arms) s bound h =
+      let k = arm_some (arm_pattern s.env c places) (made_body manner s (bound_within bound places) body (Some Done)) (made_each manner s bound arms) h in
+      (k.0, block_built manner body s (bound_within bound places) (Some Done) k.1, cases_built manner arms s bound k.2)

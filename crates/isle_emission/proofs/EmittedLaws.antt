@@ -6,7 +6,6 @@ use Rattle.isle_core.specs.declared.rule_sets.Binding.{Binding}
 use Rattle.isle_core.specs.Block.{Block}
 use Rattle.isle_core.specs.BlockLawful.{IsLawfulBlock}
 use Rattle.isle_core.specs.Rule.{Environment}
-use Rattle.isle_core.specs.SingleArms.{HasSingleArms}
 use Rattle.isle_emission.specs.Built.{IsBuilt}
 use Rattle.isle_emission.proofs.BuiltLaws.{some_of, block_built}
 use Rattle.isle_simulation.specs.Manner.{manner_of}
@@ -53,11 +52,11 @@ pub is_well_formed : (options : CodegenOptions) (o : Origin) (f : Function) → 
 is_well_formed options o f h e p fns = one (slice_get o.env.terms o.id.0) h e
   where
     one : (t : Option Term) → IsSomeAnd t (λ u. MayEmit o.files (setting o.env u o.bindings) o.block) → IsSomeAnd t (λ u. term_function options o.files (setting o.env u o.bindings) o.block ≡ Some f) → IsFunction p f
-    one (Some t) may is = emitted_well_formed options o.files o.env t o.bindings o.block f may.lawful may.single is may.emittable may.names may.fns may.term_fns p fns
+    one (Some t) may is = emitted_well_formed options o.files o.env t o.bindings o.block f may.lawful is may.emittable may.names may.fns may.term_fns p fns
     one None may is = absurd may
 
 pub is_shaped : (options : CodegenOptions) (o : Origin) (f : Function) → MayEmitTerm o → IsGiven options o f → HasBlockShape o f
-is_shaped options o f h e = both (slice_get o.env.terms o.id.0) _ _ _ (λ t may is. has_shape options o.files o.env t o.bindings o.block f may.lawful may.single is) h e
+is_shaped options o f h e = both (slice_get o.env.terms o.id.0) _ _ _ (λ t may is. has_shape options o.files o.env t o.bindings o.block f may.lawful is) h e
 
 -- it runs as the block of its kind of term
 runs_so : (options : CodegenOptions) (o : Origin) (f : Function) (t : Term) → MayEmit o.files (setting o.env t o.bindings) o.block → term_function options o.files (setting o.env t o.bindings) o.block ≡ Some f
@@ -65,26 +64,26 @@ runs_so : (options : CodegenOptions) (o : Origin) (f : Function) (t : Term) → 
 runs_so options o f t may is = of (kind_of t.kind) refl
   where
     of : (k : ReturnKind) → kind_of t.kind ≡ k → RunsAs (is_several k) (setting o.env t o.bindings) o.block f
-    of kind.Plain e = runs_as_block options o.files o.env t o.bindings o.block f may.lawful may.single is (subst AnswersOnce (sym e) tt) may.names may.fns may.term_fns
-    of kind.Option e = runs_as_block options o.files o.env t o.bindings o.block f may.lawful may.single is (subst AnswersOnce (sym e) tt) may.names may.fns may.term_fns
-    of kind.Iterator e = let several = ap is_several e in runs_as_several options o.files o.env t o.bindings o.block f may.lawful may.single is several may.lawful.items may.names may.fns may.term_fns
+    of kind.Plain e = runs_as_block options o.files o.env t o.bindings o.block f may.lawful is (subst AnswersOnce (sym e) tt) may.names may.fns may.term_fns
+    of kind.Option e = runs_as_block options o.files o.env t o.bindings o.block f may.lawful is (subst AnswersOnce (sym e) tt) may.names may.fns may.term_fns
+    of kind.Iterator e = let several = ap is_several e in runs_as_several options o.files o.env t o.bindings o.block f may.lawful is several may.lawful.items may.names may.fns may.term_fns
 
 pub is_run : (options : CodegenOptions) (o : Origin) (f : Function) → MayEmitTerm o → IsGiven options o f → RunsAsItsBlock o f
 is_run options o f h e = both (slice_get o.env.terms o.id.0) _ _ _ (runs_so options o f) h e
 
 pub is_logged : (options : CodegenOptions) (o : Origin) (f : Function) → MayEmitTerm o → IsGiven options o f → HasLogLines options o f
-is_logged options o f h e = both (slice_get o.env.terms o.id.0) _ _ _ (λ t may is. its_lines options o.files o.env t o.bindings o.block f may.lawful may.single is) h e
+is_logged options o f h e = both (slice_get o.env.terms o.id.0) _ _ _ (λ t may is. its_lines options o.files o.env t o.bindings o.block f may.lawful is) h e
 
 pub is_alike : (options : CodegenOptions) (o : Origin) (f : Function) → MayEmitTerm o → IsGiven options o f → RunsUnderAll o f
 is_alike options o f h e other g k = one (slice_get o.env.terms o.id.0) h e k
   where
     one : (t : Option Term) → IsSomeAnd t (λ u. MayEmit o.files (setting o.env u o.bindings) o.block) → IsSomeAnd t (λ u. term_function options o.files (setting o.env u o.bindings) o.block ≡ Some f)
         → IsSomeAnd t (λ u. term_function other o.files (setting o.env u o.bindings) o.block ≡ Some g) → RunAlike f g
-    one (Some t) may is also = run_alike options other o.files o.env t o.bindings o.block f g may.lawful may.single is also
+    one (Some t) may is also = run_alike options other o.files o.env t o.bindings o.block f g may.lawful is also
     one None may is also = absurd may
 
 -- and all of its block is built
-pub all_built : (options : CodegenOptions) (files : Files) (env : Environment) (t : Term) (bs : List Binding) (b : Block) → IsLawfulBlock (setting env t bs) b → HasSingleArms b → IsBuilt (setting env t bs) [] b
-all_built options files env t bs b lawful single =
+pub all_built : (options : CodegenOptions) (files : Files) (env : Environment) (t : Term) (bs : List Binding) (b : Block) → IsLawfulBlock (setting env t bs) b → IsBuilt (setting env t bs) [] b
+all_built options files env t bs b lawful =
     let s = setting env t bs in
-    block_built (manner_of options files s) b s [] (Some (tail_in files env t b)) (some_of (function_with env t) _ (ap is_some (function_made options files env t bs b lawful single)))
+    block_built (manner_of options files s) b s [] (Some (tail_in files env t b)) (some_of (function_with env t) _ (ap is_some (function_made options files env t bs b lawful)))

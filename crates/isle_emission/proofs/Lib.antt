@@ -3,6 +3,7 @@ pub mod Onto
 pub mod PushedLets
 pub mod NeededLets
 pub mod StatementSteps
+pub mod CaseSteps
 pub mod Roots
 pub mod EmittedLaws
 pub mod BuiltLaws

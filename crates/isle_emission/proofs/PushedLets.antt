@@ -5,7 +5,7 @@ use Rattle.isle_core.specs.declared.BindingId.{BindingId}
 use Rattle.isle_core.specs.Bindable.{bound_by}
 use Rattle.isle_core.specs.Setting.{Setting}
 use Rattle.isle_tree.specs.declared.tree.Stmt.{Stmt as CodeStmt}
-use Rattle.isle_tree.specs.Program.{Stmt, Body}
+use Rattle.isle_tree.specs.Program.{Body}
 use Rattle.isle_tree.specs.Views.{stmt}
 use Rattle.isle_simulation.specs.Statements.{bound_expr, binds_list, stmt_before, let_of, lets}
 use Rattle.isle_emission.specs.BodyOnto.{body_onto}

@@ -1,5 +1,5 @@
 -- The loop that makes statements, and what one statement is made of, over plain variables.
-use Rattle.std.proofs.Common.{◌≡◌, ℕ, ◌+◌, ◌<◌, List, [], ◌∷◌, ◌++◌, length, drop, get_or, map, Bool, false, true, Option, Some, None, refl, sym, ap, ◌∙◌, subst}
+use Rattle.std.proofs.Common.{◌≡◌, ℕ, ◌+◌, ◌<◌, List, [], ◌∷◌, ◌++◌, length, drop, get_or, map, Bool, false, true, Option, Some, None, refl, sym, ap, ◌∙◌, subst, arith}
 use Rattle.std.proofs.lemmas.List.{drop_more}
 use Rattle.isle_core.specs.declared.BindingId.{BindingId}
 use Rattle.isle_core.specs.declared.blocks.EvalStep.{EvalStep as CodeStep}
@@ -132,24 +132,23 @@ equal_made manner s bound new a b body x y ss r is is_x is_y same made =
     ∙ ap (λ ls. if_eq (operand_of s.env s.bindings ls a) (operand_of s.env s.bindings ls b) i) same
     ∙ ap (if_eq (operand_of s.env s.bindings bound a) (operand_of s.env s.bindings bound b)) (made (Some Done))
 
--- arms that are built are one
-pub one_built : (s : Setting) (bound : List ℕ) (source : BindingId) (xs : List CodeArm) → AreBuilt s bound source (arms_of (map arm xs)) → length xs ≡ 1
-one_built s bound source [] h = absurd h
-one_built s bound source (x ∷ []) h = refl
-one_built s bound source (x ∷ y ∷ xs) h = absurd h
+-- there is an arm
+pub some_built : (s : Setting) (bound : List ℕ) (source : BindingId) (xs : List CodeArm) → AreBuilt s bound source (arms_of (map arm xs)) → 0 < length xs
+some_built s bound source [] h = absurd h
+some_built s bound source (x ∷ xs) h = omega arith
 
--- and it is built
-pub arm_built : (s : Setting) (bound : List ℕ) (source : BindingId) (xs : List CodeArm) (x : CodeArm) → AreBuilt s bound source (arms_of (map arm xs)) → x ≡ get_or xs 0 x → IsBuiltArm s bound source (arm x)
-arm_built s bound source [] x h item = absurd h
-arm_built s bound source (y ∷ []) x h item = subst (λ z. IsBuiltArm s bound source (arm z)) (sym item) h
-arm_built s bound source (y ∷ z ∷ xs) x h item = absurd h
+-- and it is built, where it is one
+pub arm_built : (s : Setting) (bound : List ℕ) (source : BindingId) (xs : List CodeArm) (x : CodeArm) → AreBuilt s bound source (arms_of (map arm xs)) → length xs ≡ 1 → x ≡ get_or xs 0 x → IsBuiltArm s bound source (arm x)
+arm_built s bound source [] x h one item = absurd h
+arm_built s bound source (y ∷ []) x h one item = subst (λ z. IsBuiltArm s bound source (arm z)) (sym item) h
+arm_built s bound source (y ∷ z ∷ xs) x h one item = absurd (omega (arith, one))
 
 -- the statement of the one arm is that of the arms
 pub one_arm : (manner : Manner) (s : Setting) (bound : List ℕ) (source : BindingId) (xs : List CodeArm) (x : CodeArm)
-    → AreBuilt s bound source (arms_of (map arm xs)) → x ≡ get_or xs 0 x → made_arms manner s bound source (arms_of (map arm (x ∷ []))) ≡ made_arms manner s bound source (arms_of (map arm xs))
-one_arm manner s bound source [] x h item = absurd h
-one_arm manner s bound source (y ∷ []) x h item = ap (λ z. made_arms manner s bound source (arms_of (map arm (z ∷ [])))) item
-one_arm manner s bound source (y ∷ z ∷ xs) x h item = absurd h
+    → length xs ≡ 1 → x ≡ get_or xs 0 x → made_arms manner s bound source (arms_of (map arm (x ∷ []))) ≡ made_arms manner s bound source (arms_of (map arm xs))
+one_arm manner s bound source [] x one item = absurd (omega (arith, one))
+one_arm manner s bound source (y ∷ []) x one item = ap (λ z. made_arms manner s bound source (arms_of (map arm (z ∷ [])))) item
+one_arm manner s bound source (y ∷ z ∷ xs) x one item = absurd (omega (arith, one))
 
 -- the statement of an arm
 pub arm_made : (manner : Manner) (s : Setting) (bound new : List ℕ) (source : BindingId) (i : Option Body) (r : Option Stmt) (x : CodeArm) (seen : SeenArm)

@@ -6,6 +6,7 @@ pub mod PushedLets
 pub mod Emitter
 pub mod Built
 pub mod MadeBodies
+pub mod Cases
 pub mod Tests
 pub mod Views
 pub mod Origin

@@ -8,6 +8,7 @@ use Rattle.isle_core.specs.Block.{Block, Control, Arms}
 use Rattle.isle_core.specs.BlockViews.{step}
 use Rattle.isle_core.specs.Setting.{Setting}
 use Rattle.isle_tree.specs.declared.tree.Stmt.{Stmt as CodeStmt}
+use Rattle.isle_tree.specs.Program as tree
 use Rattle.isle_tree.specs.Program.{Stmt, Body}
 use Rattle.isle_tree.specs.Views.{stmt}
 use Rattle.isle_emission.specs.BodyOnto.{body_onto}
@@ -15,7 +16,7 @@ use Rattle.isle_emission.specs.declared.emitter.Emitter.{Emitter}
 use Rattle.isle_emission.specs.Emitter.{setting_in, manner_in}
 use Rattle.isle_emission.specs.Views.{steps_block, match_arms}
 use Rattle.isle_simulation.specs.Completed.{step_binds, completed, completed_control, completed_arms}
-use Rattle.isle_simulation.specs.Statements.{told_body, told_control, told_arms}
+use Rattle.isle_simulation.specs.Statements.{told_body, told_control, told_arms, told_each}
 use Rattle.isle_simulation.specs.Manner.{Manner}
 
 -- those of a block, and what follows
@@ -29,6 +30,10 @@ made_control manner s bound c = told_control manner s bound (completed_control s
 -- that of the arms of a match
 abbrev pub made_arms : Manner → Setting → List ℕ → BindingId → Arms → Option Stmt
 made_arms manner s bound source arms = told_arms manner s bound source (completed_arms s bound arms)
+
+-- those of several, each by itself
+abbrev pub made_each : Manner → Setting → List ℕ → Arms → Option tree.Arms
+made_each manner s bound arms = told_each manner s bound (completed_arms s bound arms)
 
 -- so of what an emitter makes
 abbrev pub body_for : Emitter → List ℕ → Block → Option Body → Option Body

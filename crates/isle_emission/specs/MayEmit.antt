@@ -4,19 +4,17 @@ use Rattle.isle_core.specs.Block.{Block}
 use Rattle.isle_core.specs.BlockLawful.{IsLawfulBlock}
 use Rattle.isle_core.specs.Places.{LiesIn}
 use Rattle.isle_core.specs.Setting.{Setting}
-use Rattle.isle_core.specs.SingleArms.{HasSingleArms}
 use Rattle.isle_emission.specs.Origin.{Origin, InSetting}
 use Rattle.isle_simulation.specs.Emitted.{IsEmittable}
 use Rattle.isle_simulation.specs.RustNames.{HasRustNames}
 use Rattle.isle_simulation.specs.TermFns.{HasTermFns}
 use Rattle.isle_simulation.specs.TraitFns.{HasFnNames}
 
--- the term may be emitted, the block is lawful for it and has one arm in each Match (more are not built), its declaration lies in the
--- files, functions of the trait and of terms may be called by their names, and types, variants, fields and constants have names of Rust
+-- the term may be emitted, the block is lawful for it, its declaration lies in the files, functions of the trait and of terms may be called
+-- by their names, and types, variants, fields and constants have names of Rust
 pub record MayEmit (files : Files) (s : Setting) (b : Block) : Type 0 where
   pub emittable : IsEmittable s.env s.term
   pub lawful : IsLawfulBlock s b
-  pub single : HasSingleArms b
   pub declared : LiesIn files s.term.decl_pos
   pub fns : HasFnNames s.env
   pub term_fns : HasTermFns s.env

@@ -7,7 +7,6 @@ use Rattle.isle_core.specs.BlockLawful.{IsLawfulBlock}
 use Rattle.isle_core.specs.Places.{LiesIn}
 use Rattle.isle_core.specs.RuleViews.{environment}
 use Rattle.isle_core.specs.Setting.{Setting, setting}
-use Rattle.isle_core.specs.SingleArms.{HasSingleArms}
 use Rattle.isle_tree.specs.Program.{Function}
 use Rattle.isle_emission.specs.declared.sources.Sources.{Sources}
 use Rattle.isle_simulation.specs.TermFunction as TermFunction
@@ -16,10 +15,9 @@ use Rattle.isle_simulation.specs.TermFunction as TermFunction
 abbrev pub setting_with : Sources → Term → RuleSet → Setting
 setting_with s t rules = setting (environment s.typeenv.now s.termenv.now) t rules.bindings
 
--- the block is lawful and has one arm in each Match (more are not built), and the term's declaration lies in the files
+-- the block is lawful, and the term's declaration lies in the files
 pub record IsForTerm (s : Sources) (t : Term) (rules : RuleSet) (b : Block) : Type 0 where
   pub lawful : IsLawfulBlock (setting_with s t rules) b
-  pub single : HasSingleArms b
   pub declared : LiesIn s.files.now t.decl_pos
 
 -- the function of the term

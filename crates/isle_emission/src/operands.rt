@@ -43,6 +43,7 @@ impl Emitter<'_> {
         let operand = self.operand(bound, binding)?;
         Ok(read_as(wanted, is_reference(&self.typed, binding), operand))
     }
+
     /// Makes the reads of bindings as they are handed to parameters of these types, in order: one for each type.
     pub fn reads(
         &self,

@@ -1,14 +1,17 @@
 //! The statements of a block.
 
-ghost use Rattle.std.specs.Prelude.{◌≡◌, ◌++◌, ◌∷◌, [], List as ListOf, ℕ, false, Some as Is, IsSome, map, IfOk, OnOk};
+ghost use Rattle.std.specs.Prelude.{◌≡◌, ◌++◌, ◌∷◌, [], List as ListOf, ℕ, false, Some as Is};
+ghost use Rattle.std.specs.Prelude.{IsSome, map, IfOk, OnOk};
 ghost use Rattle.isle_core.specs.ArmPlaces.{bound_within};
 ghost use Rattle.isle_core.specs.Block.{Equal, Loop};
 ghost use Rattle.isle_core.specs.BlockViews as BlockViews;
 ghost use Rattle.isle_core.specs.Calling as Calling;
-ghost use Rattle.isle_tree.specs.Program.{Done};
+ghost use Rattle.isle_tree.specs.Program.{Done, NoArm};
 ghost use Rattle.isle_tree.specs.Views.{stmt};
 ghost use Rattle.isle_emission.specs.BodyOnto.{body_onto, AreMadeAs};
 ghost use Rattle.isle_emission.specs.Built.{HasOperand, IsBuilt, IsBuiltControl, IsBuiltArm, AreBuilt, IsBuiltStep};
+ghost use Rattle.isle_emission.specs.Built.{IsBuiltCase};
+ghost use Rattle.isle_emission.specs.Cases.{cases_onto, PushesCase};
 ghost use Rattle.isle_emission.specs.Emitter.{setting_in, manner_in};
 ghost use Rattle.isle_emission.specs.MadeBodies.{body_for, control_for, arm_for, arms_for, PushesStep};
 ghost use Rattle.isle_emission.specs.Views.{steps_block, match_arms};
@@ -19,7 +22,7 @@ use crate::tests::{Test, test_within};
 use isle_core::{BindingId, Block, ControlFlow, EvalStep, List, MatchArm, OutOfMemory, ReturnKind};
 use isle_operands::{kind_of, looped_local};
 use isle_scope::Scope;
-use isle_tree::{Read, Stmt, TExpr};
+use isle_tree::{Read, Stmt, TExpr, TPat};
 use std::alloc::AllocError;
 
 // Makes a return: of a term that may answer nothing an option; one of several results is appended to the others.
@@ -45,6 +48,15 @@ fn loop_within(list: usize, item: usize, inside: Vec<Stmt>) -> Stmt
         item,
         body: List::new(inside),
     }
+}
+
+// Makes the match of these arms over what is read.
+#[tactic(auto, using(isle_tree::proofs::Sees::sees))]
+fn match_over(read: Read, cases: Vec<(TPat, List<Stmt>)>) -> Stmt
+    ensures { Is (stmt result) ≡ Statements.match_of (Is read)
+        (cases_onto cases.items (Is NoArm)) }
+{
+    Stmt::Match(read, List::new(cases))
 }
 
 // Binds what a place binds.
@@ -242,7 +254,30 @@ impl Emitter<'_> {
         Ok(test_within(test, inside))
     }
 
-    // Makes the test of a binding against the one arm's constraint.
+    // Adds one of several arms, within which its block stands and its places are bound.
+    #[cycle(statements)]
+    fn push_case(
+        &self,
+        bound: &mut Scope,
+        arm: &MatchArm,
+        out: &mut Vec<(TPat, List<Stmt>)>,
+    ) -> Result<(), OutOfMemory>
+        requires { IsBuiltCase (setting_in self.now) bound.old (BlockViews.arm arm.now) }
+        ensures case { OnOk result (PushesCase (manner_in self.now) (setting_in self.now) bound.old
+            (BlockViews.arm arm.now) out.old.items out.new.items) }
+        ensures bound { OnOk result (bound.new ≡ bound.old) }
+    {
+        let places = arm.bindings.as_slice();
+        let pat = self.arm_pattern(arm.constraint, places)?;
+        let outer = bound.len();
+        self.enter(bound, places, &arm.body)?;
+        let inside = self.block_stmts(bound, &arm.body)?;
+        bound.truncate(outer);
+        out.push((pat, List::new(inside)))?;
+        Ok(())
+    }
+
+    // Makes the test of a binding against the one arm's constraint, or the match of several arms.
     #[cycle(statements)]
     fn arms_stmt(
         &self,
@@ -255,6 +290,14 @@ impl Emitter<'_> {
             arms_for self.now bound.old source (match_arms arms.now)) }
         ensures bound { OnOk result (bound.new ≡ bound.old) }
     {
-        self.arm_stmt(bound, source, &arms[0])
+        if arms.len() == 1 {
+            return self.arm_stmt(bound, source, &arms[0]);
+        }
+        let mut cases = Vec::new(self.alloc);
+        for arm in arms {
+            self.push_case(bound, arm, &mut cases)?;
+        }
+        let read = self.match_read(bound, source, arms[0].constraint)?;
+        Ok(match_over(read, cases))
     }
 }

@@ -4,10 +4,12 @@ ghost use Rattle.std.specs.Prelude.{◌≡◌, IfOk, IsSome, Some as Is, map};
 ghost use Rattle.isle_tree.specs.Program.{Done};
 ghost use Rattle.isle_tree.specs.Views.{stmt};
 ghost use Rattle.isle_emission.specs.BodyOnto.{body_onto};
-ghost use Rattle.isle_emission.specs.Built.{IsTested};
+ghost use Rattle.isle_emission.specs.Built.{IsTested, HasPattern, HasRead};
 ghost use Rattle.isle_emission.specs.Emitter.{setting_in};
 ghost use Rattle.isle_emission.specs.Tests.{test_stmt, IsTestOf};
 ghost use Rattle.isle_simulation.specs.Operands.{tested as tested_in};
+ghost use Rattle.isle_simulation.specs.Patterns as Patterns;
+ghost use Rattle.isle_simulation.specs.Statements as Statements;
 
 use crate::emitter::Emitter;
 use isle_core::{BindingId, Constraint, List};
@@ -43,6 +45,48 @@ impl Emitter<'_> {
         match tested(self.alloc, &self.typed.context, constraint)? {
             Some(operand) => Ok(operand),
             None => unreachable!(),
+        }
+    }
+
+    /// Makes the pattern of one of several arms: also that of a constant.
+    pub fn arm_pattern(
+        &self,
+        constraint: Constraint,
+        places: &[Option<BindingId>],
+    ) -> Result<TPat, AllocError>
+        requires { HasPattern (setting_in self.now) constraint places.now }
+        ensures { IfOk result (λ pat.
+            Is pat ≡ Patterns.arm_pattern (setting_in self.now).env constraint places.now) }
+    {
+        match constraint {
+            Constraint::ConstBool { .. }
+            | Constraint::ConstInt { .. }
+            | Constraint::ConstPrim { .. } => Ok(TPat::Const(self.tested(constraint)?)),
+            Constraint::Variant { .. } | Constraint::Struct { .. } | Constraint::Some => {
+                self.pattern_of(constraint, places)
+            }
+        }
+    }
+
+    /// Makes what a match of several arms reads, the first of this constraint: a variant or a struct over a reference.
+    pub fn match_read(
+        &self,
+        bound: &Scope,
+        source: BindingId,
+        constraint: Constraint,
+    ) -> Result<Read, AllocError>
+        requires { HasRead (setting_in self.now) bound.now source constraint }
+        ensures { IfOk result (λ read.
+            Is read ≡ Statements.match_read (setting_in self.now) bound.now source constraint) }
+    {
+        match constraint {
+            Constraint::Variant { .. } | Constraint::Struct { .. } => {
+                self.read(bound, true, source)
+            }
+            Constraint::ConstBool { .. }
+            | Constraint::ConstInt { .. }
+            | Constraint::ConstPrim { .. }
+            | Constraint::Some => Ok(Read::Plain(self.operand(bound, source)?)),
         }
     }
 

@@ -24,12 +24,13 @@ use Rattle.isle_tree.specs.declared.tree.TPat.{TPat}
 use Rattle.isle_tree.specs.declared.tree.TPat.TheVariants as pattern
 use Rattle.isle_tree.specs.declared.tree.TExpr.{TExpr}
 use Rattle.isle_tree.specs.declared.tree.TExpr.TheVariants as expr
-use Rattle.isle_tree.specs.Program.{Program, Stmt, Let, LetList, IfEq, IfLet, Match, Loop, Return, Extend, Overflow, Log, Split, Tail, Body, Done, Then, Function}
-use Rattle.isle_tree.specs.WellFormed.{GivesSeveral, FitsStmt, FitsBody, FitsLast, FitsEnding, FitsFunction}
-use Rattle.isle_tree.specs.Run.{Around, State, nothing_done, one_made, one_given, Env, Flow, Goes, Ends, Leaves, Stuck, look, value_of, name_value, bind, read_value, read_values, field_before, read_fields, on_value, on_list, value_in, constant, are_same, fit, fitted, then_run, after_scope, run_bind, run_call, run_try, run_variant, run_struct, part_of, run_part, run_let, ends_with, run_return, run_items, stops, run_stmt, run_body, ended, around, limited_run, function_run}
+use Rattle.isle_tree.specs.Program.{Program, Stmt, Let, LetList, IfEq, IfLet, Match, Loop, Return, Extend, Overflow, Log, Split, Tail, Body, Done, Then, Arms, NoArm, Arm, Function}
+use Rattle.isle_tree.specs.WellFormed.{GivesSeveral, FitsStmt, FitsBody, FitsArms, FitsLast, FitsEnding, FitsFunction}
+use Rattle.isle_tree.specs.Caller.{with_call}
+use Rattle.isle_tree.specs.Run.{Around, State, nothing_done, one_given, Env, Flow, Goes, Ends, Leaves, Stuck, look, value_of, name_value, bind, read_value, read_values, field_before, read_fields, on_value, on_list, value_in, constant, are_same, fit, fitted, then_run, after_scope, run_bind, run_call, run_try, run_variant, run_struct, part_of, run_part, run_let, ends_with, run_return, run_items, stops, run_stmt, run_body, run_arms, ended, around, limited_run, function_run}
 use Rattle.isle_interpreter.specs.Entries.{Constant, Cases, Turns, entries, IsUnanswered}
-use Rattle.isle_tree.specs.Calls.{expr_calls, stmt_calls, body_calls}
-use Rattle.isle_operand_names.specs.Names.{operand_names, read_names, reads_names, fields_names, expr_names, pattern_names, stmt_names, body_names}
+use Rattle.isle_tree.specs.Calls.{expr_calls, stmt_calls, body_calls, arms_calls}
+use Rattle.isle_operand_names.specs.Names.{operand_names, read_names, reads_names, fields_names, expr_names, pattern_names, patterns_names, stmt_names, body_names, arms_names}
 use Rattle.isle_interpreter.specs.Refusals.{AreAnswered}
 use Rattle.isle_interpreter.proofs.AnswersHold.{goes_same, both_unanswered, no_constants, no_turns, no_cases}
 use Rattle.isle_interpreter.proofs.Answering.{by_turns, by_cases}
@@ -158,7 +159,7 @@ module _ (m given : Meaning) (has : HasAnswers m given) where
     same_call : (n : ℕ) (callee : Callee) (o : Option (List Value)) (env : Env) (s : State) → Alike (callee ∷ []) → run_call one n callee o env s ≡ run_call other n callee o env s
     same_call n callee None env s alike = refl
     same_call n callee (Some vs) env s alike =
-        ap (λ a. run_bind n (answer_held a) env (one_made s (record { callee = callee; args = vs }))) (alike callee (zero, omega arith, refl) vs s.made)
+        ap (λ a. run_bind n (answer_held a) env (record { made = with_call s.made callee vs; given = s.given })) (alike callee (zero, omega arith, refl) vs s.made)
 
     same_let : (n : ℕ) (e : TExpr) (env : Env) (s : State) → Alike (expr_calls e) → Same (expr_names e) → run_let one n e env s ≡ run_let other n e env s
     same_let n (expr.Call borrow call) env s alike same =
@@ -236,7 +237,10 @@ module _ (m given : Meaning) (has : HasAnswers m given) where
             same_fitted (fit one pat (read_value one env r)) env (Goes env s) (λ more. run_body one inside (env ++ more) s) (λ more. run_body other inside (env ++ more) s)
             (λ more. same_body closed inside (env ++ more) s fits alike (back_same (pattern_names pat ++ read_names r) (body_names inside) same))
             ∙ same_pattern pat r env (λ more. after_scope env (run_body other inside (env ++ more) s)) (Goes env s) (front_same (pattern_names pat) (read_names r) own) (back_same (pattern_names pat) (read_names r) own)
-        same_stmt closed (Match r arms) env s fits alike same = refl
+        same_stmt closed (Match r arms) env s fits alike same =
+            let own = front_same (read_names r ++ patterns_names arms) (arms_names arms) same in
+            ap (λ h. run_arms one arms h env s) (same_read env r (front_same (read_names r) (patterns_names arms) own))
+            ∙ same_arms closed arms (read_value other env r) env s fits alike (back_same (read_names r) (patterns_names arms) own) (back_same (read_names r ++ patterns_names arms) (arms_names arms) same)
         same_stmt closed (Loop list item inside) env s fits alike same =
             same_list (look env list) (λ is. run_items (λ i t. run_body one inside (bind env item (One i)) t) env is s) (λ is. run_items (λ i t. run_body other inside (bind env item (One i)) t) env is s)
             (λ is. same_items (λ i t. run_body one inside (bind env item (One i)) t) (λ i t. run_body other inside (bind env item (One i)) t) env is s (λ i t. same_body closed inside (bind env item (One i)) t fits alike same))
@@ -251,6 +255,15 @@ module _ (m given : Meaning) (has : HasAnswers m given) where
             then_same (run_stmt one t env s) (run_stmt other t env s) (run_body one ss) (run_body other ss)
             (same_stmt closed t env s fits.0 (front (stmt_calls t) (body_calls ss) alike) (front_same (stmt_names t) (body_names ss) same))
             (λ inner u. same_body closed ss inner u fits.1 (back (stmt_calls t) (body_calls ss) alike) (back_same (stmt_names t) (body_names ss) same))
+
+        same_arms : (closed : Bool) (arms : Arms) (h : Held) (env : Env) (s : State) → FitsArms of closed arms → Alike (arms_calls arms) → Same (patterns_names arms) → Same (arms_names arms) → run_arms one arms h env s ≡ run_arms other arms h env s
+        same_arms closed NoArm h env s fits alike named same = refl
+        same_arms closed (Arm pat inside arms) h env s fits alike named same =
+            same_fitted (fit one pat h) env (run_arms one arms h env s) (λ more. run_body one inside (env ++ more) s) (λ more. run_body other inside (env ++ more) s)
+            (λ more. same_body closed inside (env ++ more) s fits.0 (front (body_calls inside) (arms_calls arms) alike) (front_same (body_names inside) (arms_names arms) same))
+            ∙ ap (λ o. fitted o (λ more. after_scope env (run_body other inside (env ++ more) s)) (run_arms one arms h env s)) (same_fit pat h (front_same (pattern_names pat) (patterns_names arms) named))
+            ∙ ap (fitted (fit other pat h) (λ more. after_scope env (run_body other inside (env ++ more) s)))
+            (same_arms closed arms h env s fits.1 (back (body_calls inside) (arms_calls arms) alike) (back_same (pattern_names pat) (patterns_names arms) named) (back_same (body_names inside) (arms_names arms) same))
 
       same_last : (t : Stmt) (env : Env) (s : State) → FitsLast of t → Same (stmt_names t) → run_stmt one t env s ≡ run_stmt other t env s
       same_last (Return e) env s fits same = same_return e env s same

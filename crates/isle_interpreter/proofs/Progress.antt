@@ -10,10 +10,11 @@ use Rattle.isle_tree.specs.declared.holds.Holds.TheVariants as holds
 use Rattle.isle_tree.specs.declared.holds.Item.TheVariants as item
 use Rattle.isle_tree.specs.declared.tree.TExpr.{TExpr}
 use Rattle.isle_tree.specs.declared.tree.TExpr.TheVariants as expr
-use Rattle.isle_tree.specs.Program.{Stmt, Let, LetList, IfEq, IfLet, Match, Loop, Return, Extend, Overflow, Log, Split, Tail, Body, Done, Then}
-use Rattle.isle_tree.specs.WellFormed.{Locals, Callables, IsExpr, IsStmt, IsBody, local_holds, operand_holds, read_holds, is_value, are_field_values, made_holds, pattern_locals, each_holds, called_holds, expr_holds, GivesKind, after_let, bound_after, IsStmtScoped, IsBodyScoped, FitsLet, IsReturned, FitsStmt, FitsBody, FitsTail, FitsLast, FitsEnding, FitsFunction}
-use Rattle.isle_tree.specs.Run.{Around, State, one_given, Env, Flow, Goes, Ends, Leaves, Stuck, look, bind, value_of, read_value, read_fields, fit, run_variant, run_struct, on_value, then_run, run_let, ends_with, run_return, is_full, tail_end, run_stmt, run_body, ended}
-use Rattle.isle_tree.specs.Calls.{expr_calls, stmt_calls, body_calls}
+use Rattle.isle_tree.specs.Program.{Stmt, Let, LetList, IfEq, IfLet, Match, Loop, Return, Extend, Overflow, Log, Split, Tail, Body, Done, Then, Arms, NoArm, Arm}
+use Rattle.isle_tree.specs.WellFormed.{Locals, Callables, IsExpr, IsStmt, IsBody, AreArms, local_holds, operand_holds, read_holds, is_value, are_field_values, made_holds, pattern_locals, each_holds, called_holds, expr_holds, GivesKind, after_let, bound_after, IsStmtScoped, IsBodyScoped, AreArmsScoped, FitsLet, IsReturned, FitsStmt, FitsBody, FitsArms, FitsTail, FitsLast, FitsEnding, FitsFunction}
+use Rattle.isle_tree.specs.Caller.{by_meaning}
+use Rattle.isle_tree.specs.Run.{Around, State, one_given, Env, Flow, Goes, Ends, Leaves, Stuck, look, bind, value_of, read_value, read_fields, fit, run_variant, run_struct, on_value, then_run, run_let, ends_with, run_return, is_full, tail_end, run_stmt, run_body, run_arms, ended}
+use Rattle.isle_tree.specs.Calls.{expr_calls, stmt_calls, body_calls, arms_calls}
 use Rattle.isle_interpreter.specs.Ends.{EndFits}
 use Rattle.isle_interpreter.proofs.AnswersHold.{HoldsIn}
 use Rattle.isle_interpreter.proofs.LocalsHold.{Agree, HoldsIfKnown, known_local, one_more, known_operand, known_read, known_value, told_fields, bound_pattern}
@@ -86,14 +87,14 @@ well_return of fns w (expr.Tuple o i) bound env st is gives fits a = absurd fits
 
 -- ---- statements
 
-module _ (of : ReturnKind) (fns : Callables) (w : Around) where
+module _ (of : ReturnKind) (fns : Callables) (w : Around) (asks : w.caller ≡ by_meaning w.meaning) where
   well_let : (closed : Bool) (n : ℕ) (e : TExpr) (bound : Locals) (env : Env) (st : State) → IsExpr e → IsSome (expr_holds fns (length w.args) bound e) → FitsLet of e → Answering fns w.meaning (expr_calls e) → Agree bound env
       → Well of closed (after_let (expr_holds fns (length w.args) bound e) n bound) (run_let w n e env st)
   well_let closed n (expr.Read r) bound env st is some fits answering a = well_known of closed n (read_holds (length w.args) bound r) (read_value w env r) bound env st a some (known_read w bound env r is a)
   well_let closed n (expr.Call borrow call) bound env st is some fits answering a =
       let called = called_holds fns (length w.args) bound call in
       let same = once_is called some in
-      subst (λ o. Well of closed (after_let o n bound) (run_let w n (expr.Call borrow call) env st)) (sym same) (well_call of closed fns w n call bound env st is.args a answering called refl (subst IsSome same some))
+      subst (λ o. Well of closed (after_let o n bound) (run_let w n (expr.Call borrow call) env st)) (sym same) (well_call of closed fns w n call bound env st asks is.args a answering called refl (subst IsSome same some))
   well_let closed n (expr.Some r) bound env st is some fits answering a = by (is_value (read_holds (length w.args) bound r)) refl some
     where
       by : (b : Bool) → is_value (read_holds (length w.args) bound r) ≡ b → IsSome (if b then Some (holds.Optional item.Value) else None) → Well of closed (after_let (if b then Some (holds.Optional item.Value) else None) n bound) (on_value (read_value w env r) (λ v. Goes (bind env n (an_option (Some v))) st))
@@ -135,13 +136,15 @@ module _ (of : ReturnKind) (fns : Callables) (w : Around) where
     well_stmt closed (LetList n call) bound env st is there fits answering a =
         let called = called_holds fns (length w.args) bound call in
         let same = list_is called there in
-        subst (λ o. Well of closed (after_let o n bound) (run_stmt w (LetList n call) env st)) (sym same) (well_call of closed fns w n call bound env st is.args a answering called refl (subst IsSome same there))
+        subst (λ o. Well of closed (after_let o n bound) (run_stmt w (LetList n call) env st)) (sym same) (well_call of closed fns w n call bound env st asks is.args a answering called refl (subst IsSome same there))
     well_stmt closed (IfLet pat r inside) bound env st is there fits answering a =
         let ls = pattern_locals pat (read_holds (length w.args) bound r) in
-        well_fitted of closed bound ls env st (fit w pat (read_value w env r)) (λ inner. run_body w inside inner st) a
+        well_fitted of closed bound ls env (fit w pat (read_value w env r)) (λ inner. run_body w inside inner st) (Goes env st) a
         (bound_pattern w pat (read_holds (length w.args) bound r) (read_value w env r) there.0 (known_read w bound env r is.1 a))
         (λ inner k. well_body closed inside (bound ++ ls) inner st is.2 there.1 fits answering k)
-    well_stmt closed (Match r arms) bound env st is there fits answering a = absurd is
+        a
+    well_stmt closed (Match r arms) bound env st is there fits answering a =
+        well_arms closed arms bound (read_holds (length w.args) bound r) (read_value w env r) env st is.2 there fits answering (known_read w bound env r is.0 a) a
     well_stmt closed (Loop list n inside) bound env st is there fits answering a =
         well_loop of closed n (run_body w inside) (local_holds bound list) (look env list) bound env st a there.0 (known_local list bound env a)
         (λ inner t k. well_body closed inside (after_let (each_holds (local_holds bound list)) n bound) inner t is there.1 fits answering k)
@@ -160,6 +163,15 @@ module _ (of : ReturnKind) (fns : Callables) (w : Around) where
         (well_stmt closed s bound env st is.0 there.0 fits.0 (front_answering fns w.meaning (stmt_calls s) (body_calls ss) answering) a)
         (λ inner t k. well_body closed ss (bound_after fns (length w.args) s bound) inner t is.1 there.1 fits.1 (rest_answering fns w.meaning (stmt_calls s) (body_calls ss) answering) k)
 
+    -- the arms over what holds this
+    well_arms : (closed : Bool) (arms : Arms) (bound : Locals) (o : Option Holds) (g : Held) (env : Env) (st : State) → AreArms arms → AreArmsScoped fns of (length w.args) bound o arms → FitsArms of closed arms → Answering fns w.meaning (arms_calls arms)
+        → HoldsIfKnown o g → Agree bound env → Well of closed bound (run_arms w arms g env st)
+    well_arms closed NoArm bound o g env st is there fits answering t a = a
+    well_arms closed (Arm pat inside arms) bound o g env st is there fits answering t a =
+        well_fitted of closed bound (pattern_locals pat o) env (fit w pat g) (λ inner. run_body w inside inner st) (run_arms w arms g env st) a (bound_pattern w pat o g there.0 t)
+        (λ inner k. well_body closed inside (bound ++ pattern_locals pat o) inner st is.1 there.1 fits.0 (front_answering fns w.meaning (body_calls inside) (arms_calls arms) answering) k)
+        (well_arms closed arms bound o g env st is.2 there.2 fits.1 (rest_answering fns w.meaning (body_calls inside) (arms_calls arms) answering) t a)
+
 -- ---- functions end
 
 -- there is an end of the function, as its kind has it
@@ -168,7 +180,7 @@ pub record HasEnd (of : ReturnKind) (flow : Flow) : Type 0 where
   pub is : ended of flow ≡ Some ran
   pub fits : EndFits of ran.end
 
-module _ (fns : Callables) (w : Around) where
+module _ (fns : Callables) (w : Around) (asks : w.caller ≡ by_meaning w.meaning) where
   tail_fits : (of : ReturnKind) (texts : Option (List ℕ × List ℕ)) → FitsTail of texts → EndFits of (tail_end texts)
   tail_fits kind.Plain None fits = absurd fits
   tail_fits kind.Plain (Some texts) fits = tt
@@ -206,7 +218,7 @@ module _ (fns : Callables) (w : Around) where
       record { end = last.end; left = last.left; is = ap (λ flow. then_run flow (run_body w Done)) last.is; fits = last.fits }
   ending_ends of (Then s (Then t ss)) bound env st is there fits answering a =
       then_ends of (bound_after fns (length w.args) s bound) (run_stmt w s env st) (run_body w (Then t ss))
-      (well_stmt of fns w false s bound env st is.0 there.0 fits.0 (front_answering fns w.meaning (stmt_calls s) (body_calls (Then t ss)) answering) a)
+      (well_stmt of fns w asks false s bound env st is.0 there.0 fits.0 (front_answering fns w.meaning (stmt_calls s) (body_calls (Then t ss)) answering) a)
       (λ inner u k. ending_ends of (Then t ss) (bound_after fns (length w.args) s bound) inner u is.1 there.1 fits.1 (rest_answering fns w.meaning (stmt_calls s) (body_calls (Then t ss)) answering) k)
 
   does_end : (of : ReturnKind) (flow : Flow) → DoesEnd of flow → HasEnd of flow
@@ -224,4 +236,4 @@ module _ (fns : Callables) (w : Around) where
       → HasEnd of (run_body w b env st)
   function_ends kind.Plain b bound env st is there fits answering a = does_end kind.Plain (run_body w b env st) (ending_ends kind.Plain b bound env st is there fits answering a)
   function_ends kind.Option b bound env st is there fits answering a = does_end kind.Option (run_body w b env st) (ending_ends kind.Option b bound env st is there fits answering a)
-  function_ends kind.Iterator b bound env st is there fits answering a = list_ends (run_body w b env st) (well_body kind.Iterator fns w false b bound env st is there fits answering a)
+  function_ends kind.Iterator b bound env st is there fits answering a = list_ends (run_body w b env st) (well_body kind.Iterator fns w asks false b bound env st is there fits answering a)

@@ -87,5 +87,5 @@ runs p term args m space f well may =
     let count : length args ≡ length f.params = named_length p.types (type_names f.params) args may.typed ∙ length-map f.params (λ (ty : Ty). ty.name) in
     let scoped : IsBodyScoped (callables p) f.kind (length args) [] f.body = subst (λ n. IsBodyScoped (callables p) f.kind n [] f.body) (sym count) is.scoped in
     let w : Around = around p m args (Some (room space)) f in
-    let ends = function_ends (callables p) w f.kind f.body [] [] nothing_done is.forms scoped is.fits (answering p m f may.right may.answered) tt in
+    let ends = function_ends (callables p) w refl f.kind f.body [] [] nothing_done is.forms scoped is.fits (answering p m f may.right may.answered) tt in
     record { ran = ends.ran; is = ap (function_run p m space args) may.found ∙ ends.is; fits = ends.fits }

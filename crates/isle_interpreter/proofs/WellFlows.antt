@@ -17,7 +17,8 @@ use Rattle.isle_tree.specs.declared.holds.Item.{Item as ItemHeld}
 use Rattle.isle_tree.specs.declared.holds.Item.TheVariants as item
 use Rattle.isle_tree.specs.declared.tree.TCall.{TCall}
 use Rattle.isle_tree.specs.WellFormed.{Locals, Callables, IsRead, are_values, callee_holds, inner_holds, once_holds, list_holds, each_holds, part_holds, after_let, GivesSeveral}
-use Rattle.isle_tree.specs.Run.{Around, State, one_made, Env, Flow, Goes, Ends, Leaves, Stuck, bind, read_values, fitted, on_value, on_list, then_run, after_scope, run_bind, run_call, run_try, part_of, run_part, run_items, stops}
+use Rattle.isle_tree.specs.Caller.{by_meaning, with_call}
+use Rattle.isle_tree.specs.Run.{Around, State, Env, Flow, Goes, Ends, Leaves, Stuck, bind, read_values, fitted, on_value, on_list, then_run, after_scope, run_bind, run_call, run_try, part_of, run_part, run_items, stops}
 use Rattle.isle_interpreter.specs.Ends.{EndFits}
 use Rattle.isle_interpreter.proofs.AnswersHold.{IsItem, HoldsIn}
 use Rattle.isle_interpreter.proofs.LocalsHold.{Agree, HoldsIfKnown, one_more, HasValue, HaveValues, told_values, Bound, both_agree}
@@ -81,10 +82,10 @@ module _ (of : ReturnKind) (closed : Bool) where
   well_left bound env (Leaves st) a h = h
   well_left bound env Stuck a h = h
 
-  pub well_fitted : (bound ls : Locals) (env : Env) (st : State) (o : Option Env) (go : Env → Flow) → Agree bound env → Bound ls o → ((inner : Env) → Agree (bound ++ ls) inner → NotStuck (go inner))
-      → Well bound (fitted o (λ more. after_scope env (go (env ++ more))) (Goes env st))
-  well_fitted bound ls env st None go a k next = a
-  well_fitted bound ls env st (Some more) go a k next = well_left bound env (go (env ++ more)) a (next (env ++ more) (both_agree bound ls env more a k))
+  pub well_fitted : (bound ls : Locals) (env : Env) (o : Option Env) (go : Env → Flow) (other : Flow) → Agree bound env → Bound ls o → ((inner : Env) → Agree (bound ++ ls) inner → NotStuck (go inner)) → Well bound other
+      → Well bound (fitted o (λ more. after_scope env (go (env ++ more))) other)
+  well_fitted bound ls env None go other a k next left = left
+  well_fitted bound ls env (Some more) go other a k next left = well_left bound env (go (env ++ more)) a (next (env ++ more) (both_agree bound ls env more a k))
 
   pub well_bind : (n : ℕ) (h : Holds) (g : Held) (bound : Locals) (env : Env) (st : State) → Agree bound env → HoldsIn h g → Well (bound ++ (n, h) ∷ []) (run_bind n g env st)
   well_bind n h (One i) bound env st a k = one_more bound env n h (One i) a k
@@ -131,17 +132,17 @@ module _ (of : ReturnKind) (closed : Bool) where
           subst (λ o. Well (bound ++ (n, holds.One item.Value) ∷ []) (run_part n o env st)) (sym there.is) (one_more bound env n (holds.One item.Value) (a_value there.v) a tt)
       by false f g = absurd cc
 
-  pub well_call : (fns : Callables) (w : Around) (n : ℕ) (call : TCall) (bound : Locals) (env : Env) (st : State) → AllByRecursion IsRead call.args → Agree bound env
+  pub well_call : (fns : Callables) (w : Around) (n : ℕ) (call : TCall) (bound : Locals) (env : Env) (st : State) → w.caller ≡ by_meaning w.meaning → AllByRecursion IsRead call.args → Agree bound env
       → Answering fns w.meaning (call.callee ∷ [])
       → (o : Option Holds) → o ≡ (if are_values (length w.args) bound call.args then callee_holds fns call.callee (length call.args) else None) → IsSome o
       → Well (after_let o n bound) (run_call w n call.callee (read_values w env call.args) env st)
-  well_call fns w n call bound env st is a answering o e some = by (are_values (length w.args) bound call.args) refl e
+  well_call fns w n call bound env st asks is a answering o e some = by (are_values (length w.args) bound call.args) refl e
     where
       holding : (b : Option Holds) → callee_holds fns call.callee (length call.args) ≡ b → o ≡ b → HaveValues (read_values w env call.args) → Well (after_let o n bound) (run_call w n call.callee (read_values w env call.args) env st)
       holding None f g have = absurd cc
       holding (Some h) f g have =
           let held_so = answering call.callee (search rules) (length call.args) h f have.vs st.made in
-          rw (g, have.are) (well_bind n h (answer_held (answer w.meaning call.callee have.vs st.made)) bound env (one_made st (record { callee = call.callee; args = have.vs })) a held_so)
+          rw (g, have.are, asks) (well_bind n h (answer_held (answer w.meaning call.callee have.vs st.made)) bound env (record { made = with_call st.made call.callee have.vs; given = st.given }) a held_so)
 
       by : (b : Bool) → are_values (length w.args) bound call.args ≡ b → o ≡ (if b then callee_holds fns call.callee (length call.args) else None) → Well (after_let o n bound) (run_call w n call.callee (read_values w env call.args) env st)
       by true f g = holding (callee_holds fns call.callee (length call.args)) refl g (told_values w bound env call.args is a f)

@@ -67,11 +67,19 @@ fn fits_stmt(kind: ReturnKind, closed: bool, s: &Stmt) -> bool
         Stmt::Let(_, e) => fits_let(kind, e),
         Stmt::IfEq(_, _, inside) | Stmt::IfLet(_, _, inside) | Stmt::Loop { body: inside, .. } =>
             fits_body(kind, closed, inside.as_slice()),
+        Stmt::Match(_, given) => {
+            for arm in given.as_slice() {
+                if !fits_body(kind, closed, arm.1.as_slice()) {
+                    return false;
+                }
+            }
+            true
+        }
         Stmt::Return(e) => is_returned(e),
         Stmt::Extend(_) => gives_several(kind),
         Stmt::Overflow { inside } => fits_stop(kind, closed, *inside),
         Stmt::LetList { .. } | Stmt::Log { .. } => true,
-        Stmt::Match(..) | Stmt::Split { .. } | Stmt::Tail(_) => false,
+        Stmt::Split { .. } | Stmt::Tail(_) => false,
     }
 }
 

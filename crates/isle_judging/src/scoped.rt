@@ -1,8 +1,9 @@
 //! Whether each operand of statements is in scope and holds what is asked of it.
 
-ghost use Rattle.std.specs.Prelude.{◌≡◌, ◌↔◌, IsTrue, IsSome, IfOk, OnOk};
+ghost use Rattle.std.specs.Prelude.{◌≡◌, ◌++◌, ◌↔◌, IsTrue, IsSome, IfOk, OnOk};
 ghost use Rattle.isle_tree.specs.Views.{stmt, body};
-ghost use Rattle.isle_tree.specs.WellFormed.{GivesKind, after_let, IsStmtScoped, IsBodyScoped, bound_after};
+ghost use Rattle.isle_tree.specs.WellFormed.{GivesKind, after_let, read_holds, ReadsPattern, pattern_locals};
+ghost use Rattle.isle_tree.specs.WellFormed.{local_holds, each_holds, IsStmtScoped, IsBodyScoped, bound_after};
 
 use crate::binding::enter;
 use crate::holding::{
@@ -11,7 +12,7 @@ use crate::holding::{
 };
 use isle_core::ReturnKind;
 use isle_scope::Table;
-use isle_tree::{Callables, Holds, Item, Stmt};
+use isle_tree::{Callables, Holds, Item, Read, Stmt, TPat};
 use std::alloc::AllocError;
 
 // Whether a return in a function of the kind may give it.
@@ -37,6 +38,58 @@ fn bind(bound: &mut Table<Holds>, local: usize, holds: Option<Holds>) -> Result<
             Ok(true)
         }
     }
+}
+
+// Whether a pattern may be read over what is read, and each operand of the statements after it is in scope. What is
+// bound is the same after them.
+#[cycle(scoped)]
+fn is_arm_scoped(
+    callees: &Callables,
+    kind: ReturnKind,
+    params: usize,
+    bound: &mut Table<Holds>,
+    pat: &TPat,
+    read: &Read,
+    inside: &[Stmt],
+) -> Result<bool, AllocError>
+    ensures scoped { IfOk result (λ b. IsTrue b
+        ↔ (ReadsPattern pat.now (read_holds params bound.old read.now)
+        × IsBodyScoped callees.now kind params
+        (bound.old ++ pattern_locals pat.now (read_holds params bound.old read.now))
+        (body inside.now))) }
+    ensures bound { OnOk result (bound.new ≡ bound.old) }
+{
+    let len = bound.len();
+    let reads = enter(bound, params, pat, read)?;
+    let scoped = is_body_scoped(callees, kind, params, bound, inside)?;
+    bound.truncate(len);
+    Ok(reads && scoped)
+}
+
+// Whether a loop may go over the list, and each operand of the statements inside is in scope. What is bound is the same
+// after them.
+#[cycle(scoped)]
+fn is_loop_scoped(
+    callees: &Callables,
+    kind: ReturnKind,
+    params: usize,
+    bound: &mut Table<Holds>,
+    list: usize,
+    item: usize,
+    inside: &[Stmt],
+) -> Result<bool, AllocError>
+    ensures scoped { IfOk result (λ b. IsTrue b
+        ↔ (IsSome (each_holds (local_holds bound.old list))
+        × IsBodyScoped callees.now kind params
+        (after_let (each_holds (local_holds bound.old list)) item bound.old) (body inside.now))) }
+    ensures bound { OnOk result (bound.new ≡ bound.old) }
+{
+    let len = bound.len();
+    let each = each_holds(local_holds(bound, list));
+    let listed = bind(bound, item, each)?;
+    let scoped = is_body_scoped(callees, kind, params, bound, inside)?;
+    bound.truncate(len);
+    Ok(listed && scoped)
 }
 
 // Whether each operand of a statement is in scope; its own local is bound after it.
@@ -66,32 +119,28 @@ fn is_stmt_scoped(
             is_body_scoped(callees, kind, params, bound, inside.as_slice())
         }
         Stmt::IfLet(pat, read, inside) => {
-            let len = bound.len();
-            let reads = enter(bound, params, pat, read)?;
-            let scoped = is_body_scoped(callees, kind, params, bound, inside.as_slice())?;
-            bound.truncate(len);
-            Ok(reads && scoped)
+            is_arm_scoped(callees, kind, params, bound, pat, read, inside.as_slice())
+        }
+        Stmt::Match(read, given) => {
+            for arm in given.as_slice() {
+                let inside = arm.1.as_slice();
+                if !is_arm_scoped(callees, kind, params, bound, &arm.0, read, inside)? {
+                    return Ok(false);
+                }
+            }
+            Ok(true)
         }
         Stmt::Return(e) => Ok(gives_kind(kind, expr_holds(callees, bound, params, e))),
         Stmt::LetList { local, call } => {
             let holds = list_holds(called_holds(callees, bound, params, call));
             bind(bound, *local, holds)
         }
-        Stmt::Loop {
-            list,
-            item,
-            body: inside,
-        } => {
-            let len = bound.len();
-            let each = each_holds(local_holds(bound, *list));
-            let listed = bind(bound, *item, each)?;
-            let scoped = is_body_scoped(callees, kind, params, bound, inside.as_slice())?;
-            bound.truncate(len);
-            Ok(listed && scoped)
+        Stmt::Loop { list, item, body } => {
+            is_loop_scoped(callees, kind, params, bound, *list, *item, body.as_slice())
         }
         Stmt::Extend(read) => Ok(is_value(read_holds(bound, params, read))),
         Stmt::Overflow { .. } | Stmt::Log { .. } | Stmt::Tail(_) => Ok(true),
-        Stmt::Match(..) | Stmt::Split { .. } => Ok(false),
+        Stmt::Split { .. } => Ok(false),
     }
 }
 

@@ -1,15 +1,16 @@
 //! Which operands and statements are of a form that is built, their integers lying in their types.
 
 ghost use Rattle.std.specs.Prelude.{◌↔◌, IsTrue};
-ghost use Rattle.isle_tree.specs.Views.{stmt, body};
+ghost use Rattle.isle_tree.specs.Views.{stmt, body, arms};
 ghost use Rattle.std.specs.List.{AllByRecursion};
-ghost use Rattle.isle_tree.specs.WellFormed.{IsOperand, IsRead, IsFieldRead, IsCallee, IsCall, IsExpr, IsStmt, IsBody};
+ghost use Rattle.isle_tree.specs.WellFormed.{IsOperand, IsRead, IsFieldRead, IsCallee, IsCall, IsExpr};
+ghost use Rattle.isle_tree.specs.WellFormed.{IsPattern, HasSeveral, IsStmt, IsBody};
 
 use crate::names::is_term_name;
 use crate::patterns::is_pattern;
-use isle_core::{Callee, IntType, Text};
+use isle_core::{Callee, IntType, List, Text};
 use isle_spelling::{is_field_name, is_identifier, is_name};
-use isle_tree::{Operand, Read, Stmt, TCall, TExpr};
+use isle_tree::{Operand, Read, Stmt, TCall, TExpr, TPat};
 
 /// Tells whether an operand is of a form that is built.
 pub fn is_operand(o: &Operand) -> bool
@@ -129,6 +130,43 @@ fn is_expr(e: &TExpr) -> bool
     }
 }
 
+// Whether both operands of a test are.
+fn are_operands(a: &Operand, b: &Operand) -> bool
+    ensures { IsTrue result ↔ (IsOperand a.now × IsOperand b.now) }
+{
+    if !is_operand(a) {
+        return false;
+    }
+    is_operand(b)
+}
+
+// Whether a pattern is, and what it is held against.
+fn is_held(pat: &TPat, read: &Read) -> bool
+    ensures { IsTrue result ↔ (IsPattern pat.now × IsRead read.now) }
+{
+    if !is_pattern(pat) {
+        return false;
+    }
+    is_read(read)
+}
+
+// Whether there are two arms or more.
+fn are_several(given: &[(TPat, List<Stmt>)]) -> bool
+    ensures { IsTrue result ↔ HasSeveral (arms given.now) }
+{
+    given.len() > 1
+}
+
+// Whether what is matched on is, with two arms or more.
+fn is_matched(read: &Read, given: &[(TPat, List<Stmt>)]) -> bool
+    ensures { IsTrue result ↔ (IsRead read.now × HasSeveral (arms given.now)) }
+{
+    if !is_read(read) {
+        return false;
+    }
+    are_several(given)
+}
+
 // Whether a statement is.
 #[cycle(shapes)]
 #[tactic(auto, using(isle_tree::proofs::Sees::sees))]
@@ -138,28 +176,36 @@ fn is_stmt(s: &Stmt) -> bool
     match s {
         Stmt::Let(_, e) | Stmt::Return(e) => is_expr(e),
         Stmt::IfEq(a, b, inside) => {
-            if !is_operand(a) {
-                return false;
-            }
-            if !is_operand(b) {
+            if !are_operands(a, b) {
                 return false;
             }
             is_body(inside.as_slice())
         }
         Stmt::IfLet(pat, read, inside) => {
-            if !is_pattern(pat) {
-                return false;
-            }
-            if !is_read(read) {
+            if !is_held(pat, read) {
                 return false;
             }
             is_body(inside.as_slice())
+        }
+        Stmt::Match(read, given) => {
+            if !is_matched(read, given.as_slice()) {
+                return false;
+            }
+            for arm in given.as_slice() {
+                if !is_pattern(&arm.0) {
+                    return false;
+                }
+                if !is_body(arm.1.as_slice()) {
+                    return false;
+                }
+            }
+            true
         }
         Stmt::LetList { call, .. } => is_call(call),
         Stmt::Loop { body: inside, .. } => is_body(inside.as_slice()),
         Stmt::Extend(read) => is_read(read),
         Stmt::Overflow { .. } | Stmt::Log { .. } | Stmt::Tail(_) => true,
-        Stmt::Match(..) | Stmt::Split { .. } => false,
+        Stmt::Split { .. } => false,
     }
 }
 

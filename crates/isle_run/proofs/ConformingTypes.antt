@@ -346,7 +346,7 @@ module _ (options : CodegenOptions) (files : Files) (env : Environment) (checked
 
       here : AllByRecursion FitsAt (places p f)
       here = function_fits env b.0.term b.0.set.bindings p Named names tells_types f (d.0.of_term.params ∙ ap (λ (t : Term). map (parameter env) t.arg_tys) same) (d.0.of_term.result ∙ ap (λ (t : Term). type_text env t.ret_ty) same)
-          options files b.0.block b.0.lawful b.0.single b.0.statements
+          options files b.0.block b.0.lawful b.0.statements
 
   of_place : (xs : List Place) (x : Place) → AllByRecursion FitsAt xs → Contains xs x → FitsAt x
   of_place [] x h c = absurd (none_contained x c)

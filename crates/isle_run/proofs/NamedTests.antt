@@ -17,19 +17,17 @@ use Rattle.isle_core.specs.Block.{Block, Stop, Step, Control}
 use Rattle.isle_core.specs.BlockLawful.{IsLawfulBlock}
 use Rattle.isle_core.specs.Rule.{Environment}
 use Rattle.isle_core.specs.Setting.{Setting, setting, gives_several}
-use Rattle.isle_core.specs.SingleArms.{HasSingleArms, IsSingle}
 use Rattle.isle_core.specs.Terms.{sym_text}
 use Rattle.isle_core.proofs.Contained.{head_contained}
-use Rattle.isle_blocks.specs.AllTests.{HoldsTest, DoesTest}
+use Rattle.isle_blocks.specs.AllTests.{HoldsTest, DoesTest, HasTestWithin, HasArm}
 use Rattle.isle_tree.specs.Program.{Body, Done, Then, Function}
-use Rattle.isle_simulation.specs.Completed.{completed, completed_control, step_binds}
+use Rattle.isle_simulation.specs.Completed.{completed, completed_control, completed_arms, step_binds}
 use Rattle.isle_simulation.specs.Manner.{Manner, manner_of}
 use Rattle.isle_simulation.specs.Telling.{Telling}
 use Rattle.isle_simulation.specs.TermFunction.{tail_in, term_function}
-use Rattle.isle_simulation.proofs.CompletedRuns.{completed_single}
 use Rattle.isle_simulation.proofs.Made.{function_made}
-use Rattle.isle_simulation.proofs.Written.{written_operand, arm_stmt, bound_stmt, lets, stop_before, told_before, told_body, told_control, function_of}
-use Rattle.isle_operand_names.specs.Names.{operand_names, stmt_names, body_names}
+use Rattle.isle_simulation.proofs.Written.{written_operand, written_arm, match_read, told_each, arm_stmt, bound_stmt, lets, stop_before, told_before, told_body, told_control, function_of}
+use Rattle.isle_operand_names.specs.Names.{operand_names, read_names, pattern_names, patterns_names, stmt_names, body_names, arms_names}
 
 module _ (env : Environment) (t : Term) (bs : List Binding) (source : BindingId) (c : Sym) where
   abbrev s : Setting
@@ -43,21 +41,28 @@ module _ (env : Environment) (t : Term) (bs : List Binding) (source : BindingId)
 
   -- ---- bind orders that are completed
 
-  mutual
-    completed_holds : (bound : List ℕ) (b : Block) → HasSingleArms b → HoldsTest source Test b → HoldsTest source Test (completed s bound b)
-    completed_holds bound Stop o h = h
-    completed_holds bound (Step binds k more) o (inl h) = inl (does_hold (bound_by bound (step_binds s bound binds k)) k o.0 h)
-    completed_holds bound (Step binds k more) o (inr h) = inr (completed_holds (bound_by bound (step_binds s bound binds k)) more o.1 h)
+  arm_kept : (bound : List ℕ) (arms : block.Arms) → HasArm Test arms → HasArm Test (completed_arms s bound arms)
+  arm_kept bound block.NoArm h = absurd h
+  arm_kept bound (block.Arm d places body arms) (inl same) = inl same
+  arm_kept bound (block.Arm d places body arms) (inr h) = inr (arm_kept bound arms h)
 
-    does_hold : (bound : List ℕ) (k : Control) → IsSingle k → DoesTest source Test k → DoesTest source Test (completed_control s bound k)
-    does_hold bound (block.Match over (block.Arm d places body block.NoArm)) o (inl h) = inl h
-    does_hold bound (block.Match over (block.Arm d places body block.NoArm)) o (inr (inl h)) = inr (inl (completed_holds (bound_within bound places) body o h))
-    does_hold bound (block.Match over (block.Arm d places body block.NoArm)) o (inr (inr h)) = absurd h
-    does_hold bound (block.Match over (block.Arm d places body (block.Arm e others inside arms))) o h = absurd o
-    does_hold bound (block.Match over block.NoArm) o h = absurd o
-    does_hold bound (block.Equal a b body) o h = completed_holds bound body o h
-    does_hold bound (block.Loop result body) o h = completed_holds (bound ++ result.0 ∷ []) body o h
-    does_hold bound (block.Return place result) o h = absurd h
+  mutual
+    completed_holds : (bound : List ℕ) (b : Block) → HoldsTest source Test b → HoldsTest source Test (completed s bound b)
+    completed_holds bound Stop h = h
+    completed_holds bound (Step binds k more) (inl h) = inl (does_hold (bound_by bound (step_binds s bound binds k)) k h)
+    completed_holds bound (Step binds k more) (inr h) = inr (completed_holds (bound_by bound (step_binds s bound binds k)) more h)
+
+    does_hold : (bound : List ℕ) (k : Control) → DoesTest source Test k → DoesTest source Test (completed_control s bound k)
+    does_hold bound (block.Match over arms) (inl h) = inl (h.0, arm_kept bound arms h.1)
+    does_hold bound (block.Match over arms) (inr h) = inr (arms_hold bound arms h)
+    does_hold bound (block.Equal a b body) h = completed_holds bound body h
+    does_hold bound (block.Loop result body) h = completed_holds (bound ++ result.0 ∷ []) body h
+    does_hold bound (block.Return place result) h = absurd h
+
+    arms_hold : (bound : List ℕ) (arms : block.Arms) → HasTestWithin source Test arms → HasTestWithin source Test (completed_arms s bound arms)
+    arms_hold bound block.NoArm h = absurd h
+    arms_hold bound (block.Arm d places body arms) (inl h) = inl (completed_holds (bound_within bound places) body h)
+    arms_hold bound (block.Arm d places body arms) (inr h) = inr (arms_hold bound arms h)
 
   -- ---- statements
 
@@ -98,36 +103,60 @@ module _ (env : Environment) (t : Term) (bs : List Binding) (source : BindingId)
       here : Contains (stmt_names (arm_stmt s bound over Test places inside)) name
       here = Contains-append_left (operand_names (written_operand s bound over) ++ name ∷ []) (body_names inside) name (Contains-append_right (operand_names (written_operand s bound over)) (name ∷ []) name (head_contained name []))
 
+  -- of several arms the pattern of that which tests for it
+  pattern_names_it : (manner : Manner) (arms : block.Arms) (bound : List ℕ) → HasArm Test arms → Contains (patterns_names (told_each manner s bound arms)) name
+  pattern_names_it manner block.NoArm bound h = absurd h
+  pattern_names_it manner (block.Arm d places body arms) bound (inl same) =
+      Contains-append_left (pattern_names (written_arm s.env d places)) (patterns_names (told_each manner s bound arms)) name
+      (subst (λ (x : Constraint). Contains (pattern_names (written_arm s.env x places)) name) (sym same) (head_contained name []))
+  pattern_names_it manner (block.Arm d places body arms) bound (inr h) = Contains-append_right (pattern_names (written_arm s.env d places)) (patterns_names (told_each manner s bound arms)) name (pattern_names_it manner arms bound h)
+
   mutual
-    block_names_it : (manner : Manner) (b : Block) (bound : List ℕ) (end : Body) → HasSingleArms b → HoldsTest source Test b → IsNamedIn (told_body manner s bound b end)
-    block_names_it manner Stop bound end o h = absurd h
-    block_names_it manner (Step binds k more) bound end o (inl h) =
+    block_names_it : (manner : Manner) (b : Block) (bound : List ℕ) (end : Body) → HoldsTest source Test b → IsNamedIn (told_body manner s bound b end)
+    block_names_it manner Stop bound end h = absurd h
+    block_names_it manner (Step binds k more) bound end (inl h) =
         let now = bound_by bound binds in
         let rest = stop_before manner.inside (gives_several s) k (told_body manner s now more end) in
-        in_lets bound binds _ (in_told manner.telling k (Then (told_control manner s now k) rest) (Contains-append_left (stmt_names (told_control manner s now k)) (body_names rest) name (control_names_it manner k now o.0 h)))
-    block_names_it manner (Step binds k more) bound end o (inr h) =
+        in_lets bound binds _ (in_told manner.telling k (Then (told_control manner s now k) rest) (Contains-append_left (stmt_names (told_control manner s now k)) (body_names rest) name (control_names_it manner k now h)))
+    block_names_it manner (Step binds k more) bound end (inr h) =
         let now = bound_by bound binds in
         let rest = stop_before manner.inside (gives_several s) k (told_body manner s now more end) in
         in_lets bound binds _ (in_told manner.telling k (Then (told_control manner s now k) rest)
-        (Contains-append_right (stmt_names (told_control manner s now k)) (body_names rest) name (in_stop manner.inside (gives_several s) k (told_body manner s now more end) (block_names_it manner more now end o.1 h))))
+        (Contains-append_right (stmt_names (told_control manner s now k)) (body_names rest) name (in_stop manner.inside (gives_several s) k (told_body manner s now more end) (block_names_it manner more now end h))))
 
-    control_names_it : (manner : Manner) (k : Control) (bound : List ℕ) → IsSingle k → DoesTest source Test k → Contains (stmt_names (told_control manner s bound k)) name
-    control_names_it manner (block.Match over (block.Arm d places body block.NoArm)) bound o (inl (e, inl same)) = tested_arm bound over d places (told_body manner s (bound_within bound places) body Done) same
-    control_names_it manner (block.Match over (block.Arm d places body block.NoArm)) bound o (inl (e, inr h)) = absurd h
-    control_names_it manner (block.Match over (block.Arm d places body block.NoArm)) bound o (inr (inl h)) = within_arm bound over d places _ (block_names_it manner body (bound_within bound places) Done o h)
-    control_names_it manner (block.Match over (block.Arm d places body block.NoArm)) bound o (inr (inr h)) = absurd h
-    control_names_it manner (block.Match over (block.Arm d places body (block.Arm e others inside arms))) bound o h = absurd o
-    control_names_it manner (block.Match over block.NoArm) bound o h = absurd o
-    control_names_it manner (block.Equal a b body) bound o h =
-        Contains-append_right (operand_names (written_operand s bound a) ++ operand_names (written_operand s bound b)) (body_names (told_body manner s bound body Done)) name (block_names_it manner body bound Done o h)
-    control_names_it manner (block.Loop result body) bound o h = block_names_it manner body (bound ++ result.0 ∷ []) Done o h
-    control_names_it manner (block.Return place result) bound o h = absurd h
+    control_names_it : (manner : Manner) (k : Control) (bound : List ℕ) → DoesTest source Test k → Contains (stmt_names (told_control manner s bound k)) name
+    control_names_it manner (block.Match over (block.Arm d places body block.NoArm)) bound (inl (e, inl same)) = tested_arm bound over d places (told_body manner s (bound_within bound places) body Done) same
+    control_names_it manner (block.Match over (block.Arm d places body block.NoArm)) bound (inl (e, inr h)) = absurd h
+    control_names_it manner (block.Match over (block.Arm d places body block.NoArm)) bound (inr (inl h)) = within_arm bound over d places _ (block_names_it manner body (bound_within bound places) Done h)
+    control_names_it manner (block.Match over (block.Arm d places body block.NoArm)) bound (inr (inr h)) = absurd h
+    control_names_it manner (block.Match over (block.Arm d places body (block.Arm e others inside arms))) bound (inl h) =
+        let those = told_each manner s bound (block.Arm d places body (block.Arm e others inside arms)) in
+        let read = match_read s bound over d in
+        Contains-append_left (read_names read ++ patterns_names those) (arms_names those) name
+        (Contains-append_right (read_names read) (patterns_names those) name (pattern_names_it manner (block.Arm d places body (block.Arm e others inside arms)) bound h.1))
+    control_names_it manner (block.Match over (block.Arm d places body (block.Arm e others inside arms))) bound (inr h) =
+        let those = told_each manner s bound (block.Arm d places body (block.Arm e others inside arms)) in
+        Contains-append_right (read_names (match_read s bound over d) ++ patterns_names those) (arms_names those) name
+        (arms_name_it manner (block.Arm d places body (block.Arm e others inside arms)) bound h)
+    control_names_it manner (block.Match over block.NoArm) bound (inl h) = absurd h.1
+    control_names_it manner (block.Match over block.NoArm) bound (inr h) = absurd h
+    control_names_it manner (block.Equal a b body) bound h =
+        Contains-append_right (operand_names (written_operand s bound a) ++ operand_names (written_operand s bound b)) (body_names (told_body manner s bound body Done)) name (block_names_it manner body bound Done h)
+    control_names_it manner (block.Loop result body) bound h = block_names_it manner body (bound ++ result.0 ∷ []) Done h
+    control_names_it manner (block.Return place result) bound h = absurd h
+
+    arms_name_it : (manner : Manner) (arms : block.Arms) (bound : List ℕ) → HasTestWithin source Test arms → Contains (arms_names (told_each manner s bound arms)) name
+    arms_name_it manner block.NoArm bound h = absurd h
+    arms_name_it manner (block.Arm d places body arms) bound (inl h) =
+        Contains-append_left (body_names (told_body manner s (bound_within bound places) body Done)) (arms_names (told_each manner s bound arms)) name (block_names_it manner body (bound_within bound places) Done h)
+    arms_name_it manner (block.Arm d places body arms) bound (inr h) =
+        Contains-append_right (body_names (told_body manner s (bound_within bound places) body Done)) (arms_names (told_each manner s bound arms)) name (arms_name_it manner arms bound h)
 
   one_function : (a b : Function) → Some a ≡ Some b → a ≡ b
   one_function a b e = cc
 
   -- so of the function of a block
-  pub function_names_it : (options : CodegenOptions) (files : Files) (b : Block) (f : Function) → IsLawfulBlock s b → HasSingleArms b → HoldsTest source Test b → term_function options files s b ≡ Some f → IsNamedIn f.body
-  function_names_it options files b f lawful single holds given =
-      subst (λ (g : Function). IsNamedIn g.body) (one_function (function_of options files env t bs b) f (sym (function_made options files env t bs b lawful single) ∙ given))
-      (block_names_it (manner_of options files s) (completed s [] b) [] (tail_in files env t b) (completed_single s [] b single) (completed_holds [] b single holds))
+  pub function_names_it : (options : CodegenOptions) (files : Files) (b : Block) (f : Function) → IsLawfulBlock s b → HoldsTest source Test b → term_function options files s b ≡ Some f → IsNamedIn f.body
+  function_names_it options files b f lawful holds given =
+      subst (λ (g : Function). IsNamedIn g.body) (one_function (function_of options files env t bs b) f (sym (function_made options files env t bs b lawful) ∙ given))
+      (block_names_it (manner_of options files s) (completed s [] b) [] (tail_in files env t b) (completed_holds [] b holds))

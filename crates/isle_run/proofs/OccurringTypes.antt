@@ -20,6 +20,7 @@ use Rattle.isle_core.specs.declared.types.TypeDef.TheVariants as def
 use Rattle.isle_core.specs.declared.types.Variant.{Variant}
 use Rattle.isle_core.specs.declared.values.Callee.{Callee}
 use Rattle.isle_core.specs.Block.{Block}
+use Rattle.isle_core.specs.BlockLawful.{Source}
 use Rattle.isle_core.specs.Calling.{calling, extracting, kind_of}
 use Rattle.isle_core.specs.Form.{Form, form}
 use Rattle.isle_core.specs.HasType.{typed_fields}
@@ -31,6 +32,7 @@ use Rattle.isle_core.proofs.AllLaws.{all_append}
 use Rattle.isle_tree.specs.declared.tree.Read.{Read}
 use Rattle.isle_tree.specs.declared.tree.TBind.{TBind}
 use Rattle.isle_tree.specs.declared.tree.TraitFn.{TraitFn}
+use Rattle.isle_tree.specs.Program as tree
 use Rattle.isle_tree.specs.Program.{Body}
 use Rattle.isle_tree.specs.Walk.{of_stmt}
 use Rattle.isle_lawful_names.specs.TypeItems.{fields_shape, items_in, type_item, variant_item}
@@ -40,9 +42,9 @@ use Rattle.isle_simulation.specs.TermFunction.{ends_in_return, mark_of, tail_bod
 use Rattle.isle_simulation.specs.TraitFns.{constructor_fn, constructor_fn_of, extractor_fn, extracted_of, func_of, trait_fns_in}
 use Rattle.isle_simulation.specs.TypeTexts.{def_text, type_text, parameter}
 use Rattle.isle_simulation.proofs.LocalStmts.{local_by}
-use Rattle.isle_simulation.proofs.MadeStatements.{EachMade, Anything}
-use Rattle.isle_simulation.proofs.Written.{written_pattern, callee_of, call_expr, extraction_expr, field_reads, made_expr, bound_expr, bound_stmt, result_stmt, arm_stmt, written_read}
-use Rattle.isle_operand_names.specs.Occurring.{second_names, shape_types, variants_types, item_types, param_types, trait_types, expr_types, pattern_types, own_types, all_types}
+use Rattle.isle_simulation.proofs.MadeStatements.{AreArmsOf, EachMade, Anything}
+use Rattle.isle_simulation.proofs.Written.{written_pattern, callee_of, call_expr, extraction_expr, field_reads, made_expr, bound_expr, bound_stmt, result_stmt, arm_stmt, written_arm, written_read}
+use Rattle.isle_operand_names.specs.Occurring.{second_names, shape_types, variants_types, item_types, param_types, trait_types, expr_types, pattern_types, arms_types, own_types, all_types}
 use Rattle.isle_run.proofs.PlacedExprs.{named_enum, named_struct}
 
 module _ (env : Environment) (Free : List ℕ → Type 0) (free : (ty : TypeId) → Free (type_text env ty)) where
@@ -196,6 +198,19 @@ module _ (env : Environment) (Free : List ℕ → Type 0) (free : (ty : TypeId) 
     arm_free bound over (constraint.Struct of) places inside = pattern_free (form s.env (MakesStruct of)) places (struct_free of)
     arm_free bound over constraint.Some places inside = some_free places
 
+    -- so the pattern of one of several arms
+    case_free : (c : Constraint) (places : List (Option BindingId)) → AllFree (pattern_types (written_arm s.env c places))
+    case_free (constraint.ConstBool val) places = tt
+    case_free (constraint.ConstInt val of) places = tt
+    case_free (constraint.ConstPrim val) places = tt
+    case_free (constraint.Variant of variant) places = pattern_free (form s.env (MakesVariant of variant)) places (variant_free of variant)
+    case_free (constraint.Struct of) places = pattern_free (form s.env (MakesStruct of)) places (struct_free of)
+    case_free constraint.Some places = some_free places
+
+    cases_free : (source : BindingId) (over : Source) (arms : tree.Arms) → AreArmsOf s Anything source over arms → AllFree (arms_types arms)
+    cases_free source over tree.NoArm k = tt
+    cases_free source over (tree.Arm pat inside arms) k = both (pattern_types pat) (arms_types arms) (subst (λ x. AllFree (pattern_types x)) (sym k.0.is) (case_free k.0.c k.0.places)) (cases_free source over arms k.1)
+
     -- each type in a statement that emission makes
     pub types_made : EachMade own_types Free s Anything
     types_made = record {
@@ -205,6 +220,7 @@ module _ (env : Environment) (Free : List ℕ → Type 0) (free : (ty : TypeId) 
       log = λ line. tt;
       equal = λ bound a b ty inside h k. tt;
       arm = λ bound source over c places inside h is k w. arm_free bound source c places inside;
+      several = λ bound source over c arms h is k. cases_free source over arms k;
       loop = λ list item inside. tt;
     }
 

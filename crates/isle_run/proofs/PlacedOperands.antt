@@ -12,15 +12,15 @@ use Rattle.isle_tree.specs.declared.tree.TExpr.{TExpr}
 use Rattle.isle_tree.specs.declared.tree.TExpr.TheVariants as expr
 use Rattle.isle_tree.specs.declared.tree.TPat.{TPat}
 use Rattle.isle_tree.specs.declared.tree.TPat.TheVariants as pattern
-use Rattle.isle_tree.specs.Program.{Stmt, Let, LetList, IfEq, IfLet, Match, Loop, Return, Extend, Overflow, Log, Split, Tail, Body, Done, Then, Function, Program}
-use Rattle.isle_tree.specs.Walk.{of_stmt}
-use Rattle.isle_tree.specs.WellFormed.{IsStmt, IsBody}
-use Rattle.isle_operand_names.specs.Names.{operand_names, read_names, reads_names, fields_names, expr_names, pattern_names, stmt_names, body_names}
+use Rattle.isle_tree.specs.Program.{Stmt, Let, LetList, IfEq, IfLet, Match, Loop, Return, Extend, Overflow, Log, Split, Tail, Body, Done, Then, Arms, NoArm, Arm, Function, Program}
+use Rattle.isle_tree.specs.Walk.{of_stmt, of_arms}
+use Rattle.isle_tree.specs.WellFormed.{IsStmt, IsBody, AreArms}
+use Rattle.isle_operand_names.specs.Names.{operand_names, read_names, reads_names, fields_names, expr_names, pattern_names, patterns_names, stmt_names, body_names, arms_names}
 use Rattle.isle_places.specs.DeclaredTypes.{Asked, variant_asked, struct_asked}
 use Rattle.isle_places.specs.Told.{Told, AValue, AnOption, ATuple, AnOptionalTuple, AList, AListOfTuples, Untold, Tells, field_told, operand_told, operand_of, pattern_told, read_told}
-use Rattle.isle_places.specs.Places.{Place, own_or, where_told, at, reads_places, call_places, params_of, fields_places, expr_places, plain_told, option_told, returned, both_places, pattern_places, told_after, told_inside, stmt_places, body_places}
+use Rattle.isle_places.specs.Places.{Place, own_or, where_told, at, reads_places, call_places, params_of, fields_places, expr_places, plain_told, option_told, returned, both_places, pattern_places, told_after, told_inside, stmt_places, body_places, arms_places}
 use Rattle.isle_places.specs.Signatures.{signature_of}
-use Rattle.isle_codegen.proofs.Operands.{read_operand, reads_operands, fields_operands, expr_operands, pattern_operands, own_operands, body_operands}
+use Rattle.isle_codegen.proofs.Operands.{read_operand, reads_operands, fields_operands, expr_operands, pattern_operands, patterns_operands, own_operands, body_operands}
 use Rattle.isle_core.proofs.AllLaws.{all_append, all_front, all_back}
 
 module _ (Q : Operand → Type 0) where
@@ -104,7 +104,7 @@ module _ (Q : Operand → Type 0) where
         let now = tells ++ pattern_told p pat (read_told f tells r) in
         both (pattern_places f tells pat r) (body_places p f now inside) (pattern_so f tells pat r (all_front Q (pattern_operands pat) (body_operands inside) h.1) h.0)
         (body_so inside p f now is.2 (all_back Q (pattern_operands pat) (body_operands inside) h.1))
-    stmt_so (Match r arms) p f tells is h = absurd is
+    stmt_so (Match r arms) p f tells is h = arms_so arms p f tells r is.2 h.0 (all_front Q (patterns_operands arms) (of_arms own_operands arms) h.1) (all_back Q (patterns_operands arms) (of_arms own_operands arms) h.1)
     stmt_so (Loop list item inside) p f tells is h = body_so inside p f (told_inside list item tells) is h
     stmt_so (Return e) p f tells is h = returned_so p f.kind f.result e h
     stmt_so (Extend r) p f tells is h = read_at r (AValue f.result) h.0
@@ -119,6 +119,15 @@ module _ (Q : Operand → Type 0) where
     body_so (Then st ss) p f tells is h =
         both (stmt_places p f tells st) (body_places p f (told_after p f tells st) ss) (stmt_so st p f tells is.0 (all_front Q (of_stmt own_operands st) (body_operands ss) h))
         (body_so ss p f (told_after p f tells st) is.1 (all_back Q (of_stmt own_operands st) (body_operands ss) h))
+
+    -- of those of the arms of a match
+    arms_so : (arms : Arms) (p : Program) (f : Function) (tells : Tells) (r : Read) → AreArms arms → Q (read_operand r) → AllSo (patterns_operands arms) → AllSo (of_arms own_operands arms) → PlacesSo (arms_places p f tells r arms)
+    arms_so NoArm p f tells r is k h l = tt
+    arms_so (Arm pat inside arms) p f tells r is k h l =
+        let now = tells ++ pattern_told p pat (read_told f tells r) in
+        both (pattern_places f tells pat r ++ body_places p f now inside) (arms_places p f tells r arms)
+        (both (pattern_places f tells pat r) (body_places p f now inside) (pattern_so f tells pat r (all_front Q (pattern_operands pat) (patterns_operands arms) h) k) (body_so inside p f now is.1 (all_front Q (body_operands inside) (of_arms own_operands arms) l)))
+        (arms_so arms p f tells r is.2 k (all_back Q (pattern_operands pat) (patterns_operands arms) h) (all_back Q (body_operands inside) (of_arms own_operands arms) l))
 
   -- ---- names
 
@@ -164,6 +173,11 @@ module _ (Q : Operand → Type 0) where
   pattern_named (pattern.Struct ty binds more) h = tt
   pattern_named (pattern.Some n) h = tt
 
+  patterns_named : (arms : Arms) → AllSo (patterns_operands arms) → NamesSo (patterns_names arms)
+  patterns_named NoArm h = tt
+  patterns_named (Arm pat inside arms) h =
+      joined (pattern_names pat) (patterns_names arms) (pattern_named pat (all_front Q (pattern_operands pat) (patterns_operands arms) h)) (patterns_named arms (all_back Q (pattern_operands pat) (patterns_operands arms) h))
+
   mutual
     stmt_named : (st : Stmt) → IsStmt st → AllSo (of_stmt own_operands st) → NamesSo (stmt_names st)
     stmt_named (Let n e) is h = expr_named e h
@@ -173,7 +187,10 @@ module _ (Q : Operand → Type 0) where
         joined (pattern_names pat ++ read_names r) (body_names inside)
         (joined (pattern_names pat) (read_names r) (pattern_named pat (all_front Q (pattern_operands pat) (body_operands inside) h.1)) (read_named r h.0))
         (body_named inside is.2 (all_back Q (pattern_operands pat) (body_operands inside) h.1))
-    stmt_named (Match r arms) is h = absurd is
+    stmt_named (Match r arms) is h =
+        joined (read_names r ++ patterns_names arms) (arms_names arms)
+        (joined (read_names r) (patterns_names arms) (read_named r h.0) (patterns_named arms (all_front Q (patterns_operands arms) (of_arms own_operands arms) h.1)))
+        (arms_named arms is.2 (all_back Q (patterns_operands arms) (of_arms own_operands arms) h.1))
     stmt_named (Loop list item inside) is h = body_named inside is h
     stmt_named (Return e) is h = expr_named e h
     stmt_named (Extend r) is h = read_named r h.0
@@ -187,3 +204,9 @@ module _ (Q : Operand → Type 0) where
     body_named Done is h = tt
     body_named (Then st ss) is h =
         joined (stmt_names st) (body_names ss) (stmt_named st is.0 (all_front Q (of_stmt own_operands st) (body_operands ss) h)) (body_named ss is.1 (all_back Q (of_stmt own_operands st) (body_operands ss) h))
+
+    -- of those of the bodies of arms
+    arms_named : (arms : Arms) → AreArms arms → AllSo (of_arms own_operands arms) → NamesSo (arms_names arms)
+    arms_named NoArm is h = tt
+    arms_named (Arm pat inside arms) is h =
+        joined (body_names inside) (arms_names arms) (body_named inside is.1 (all_front Q (body_operands inside) (of_arms own_operands arms) h)) (arms_named arms is.2 (all_back Q (body_operands inside) (of_arms own_operands arms) h))

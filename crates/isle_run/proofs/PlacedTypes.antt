@@ -10,15 +10,16 @@ use Rattle.isle_core.specs.declared.VariantId.{VariantId}
 use Rattle.isle_core.specs.declared.files.Files.{Files}
 use Rattle.isle_core.specs.declared.rule_sets.Binding.{Binding}
 use Rattle.isle_core.specs.declared.rule_sets.Binding.TheVariants as binding
+use Rattle.isle_core.specs.declared.rule_sets.Constraint.{Constraint}
 use Rattle.isle_core.specs.declared.rule_sets.Constraint.TheVariants as constraint
 use Rattle.isle_core.specs.declared.types.ReturnKind.{ReturnKind}
 use Rattle.isle_core.specs.declared.types.ReturnKind.TheVariants as kind
 use Rattle.isle_core.specs.declared.types.Term.{Term}
-use Rattle.isle_core.specs.ArmPlaces.{AreParts, bound_within}
+use Rattle.isle_core.specs.ArmPlaces.{AreParts, ArePlacesOf, bound_within}
 use Rattle.isle_core.specs.Bindable.{bound_by}
 use Rattle.isle_core.specs.Block as block
 use Rattle.isle_core.specs.Block.{Block, Stop, Step, Control}
-use Rattle.isle_core.specs.BlockLawful.{IsLawfulBlock}
+use Rattle.isle_core.specs.BlockLawful.{Source, IsConstraintOver, IsLawfulBlock}
 use Rattle.isle_core.specs.Calling.{kind_of}
 use Rattle.isle_core.specs.ConstraintType.{IsConstraintOf}
 use Rattle.isle_core.specs.Form.{Form, form, form_types}
@@ -28,7 +29,6 @@ use Rattle.isle_core.specs.Path.{Path, ConstBool, ConstInt, ConstPrim, VariantFi
 use Rattle.isle_core.specs.PathType.{IsPathOf}
 use Rattle.isle_core.specs.Rule.{Environment}
 use Rattle.isle_core.specs.Setting.{Setting, setting, gives_several, paths_in}
-use Rattle.isle_core.specs.SingleArms.{HasSingleArms}
 use Rattle.isle_core.specs.Terms.{sym_text}
 use Rattle.isle_core.specs.Value.{Value}
 use Rattle.isle_core.proofs.BindingPaths.{path_at}
@@ -39,10 +39,12 @@ use Rattle.isle_tree.specs.declared.tree.TBind.{TBind}
 use Rattle.isle_tree.specs.declared.tree.TCall.{TCall}
 use Rattle.isle_tree.specs.declared.tree.TExpr.TheVariants as expr
 use Rattle.isle_tree.specs.declared.tree.TPat.{TPat}
+use Rattle.isle_tree.specs.declared.tree.TPat.TheVariants as pattern
 use Rattle.isle_tree.specs.Program.{Stmt, IfEq, IfLet, Loop, Return, Body, Done, Then, Function, Program}
 use Rattle.isle_simulation.specs.Completed.{completed}
 use Rattle.isle_simulation.specs.Operands.{in_place, is_bound}
 use Rattle.isle_simulation.specs.Patterns.{bind_before, field_binds, form_pattern, leaves_out, pattern_named, pattern_of, some_pattern}
+use Rattle.isle_simulation.specs.References.{is_reference_in, read_as}
 use Rattle.isle_simulation.specs.RustNames.{HasRustNames}
 use Rattle.isle_simulation.specs.Statements.{binds_list, list_local, looped_local}
 use Rattle.isle_simulation.specs.Manner.{Manner, manner_of}
@@ -54,8 +56,8 @@ use Rattle.isle_simulation.proofs.CompletedReady.{completed_ready}
 use Rattle.isle_simulation.proofs.LocalStmts.{local_by}
 use Rattle.isle_simulation.proofs.Made.{over_value, over_option, function_made}
 use Rattle.isle_simulation.proofs.PathTypes.{one_type}
-use Rattle.isle_simulation.proofs.Ready.{IsSpelled, IsReady, IsReadyBind, AreReadyBinds, IsReadyFrom, IsReadyControl}
-use Rattle.isle_simulation.proofs.Written.{written, written_test, written_operand, written_read, written_pattern, written_list, bound_expr, bound_stmt, lets, result_stmt, stop_before, told_before, told_body, told_control, function_of}
+use Rattle.isle_simulation.proofs.Ready.{IsSpelled, IsReady, IsReadyIn, IsReadyBind, AreReadyBinds, IsReadyFrom, IsReadyControl, AreReadyArms}
+use Rattle.isle_simulation.proofs.Written.{written, written_test, written_operand, written_read, written_pattern, written_arm, match_read, told_each, written_list, bound_expr, bound_stmt, lets, result_stmt, stop_before, told_before, told_body, told_control, function_of}
 use Rattle.isle_places.specs.DeclaredTypes.{Asked, These, Anything, Nowhere as NoFields, variant_asked, struct_asked}
 use Rattle.isle_places.specs.Places as placing
 use Rattle.isle_places.specs.Places.{Place, expr_places, plain_told, option_told, both_places, told_after, stmt_places, body_places, places}
@@ -339,6 +341,74 @@ module _ (env : Environment) (t : Term) (bs : List Binding) (p : Program) (Named
       (both _ _ (untold_fits (written_operand s bound source)) (i (tells ++ (b.0, within x) ∷ []) (told_more tells b.0 (within x) r h)), r)
   some_arm bound tells source (b ∷ c ∷ places) inside r is le parts i = absurd (omega (arith, le))
 
+  -- ---- several arms
+
+  read_over : (wanted is : Bool) (o : Operand) → operand_of (read_as wanted is o) ≡ o
+  read_over true true o = refl
+  read_over true false o = refl
+  read_over false true o = refl
+  read_over false false o = refl
+
+  -- what a match reads is what its source stands for
+  match_operand : (bound : List ℕ) (source : BindingId) (c : Constraint) → operand_of (match_read s bound source c) ≡ written_operand s bound source
+  match_operand bound source (constraint.Variant of variant) = read_over true (is_reference_in s source) (written_operand s bound source)
+  match_operand bound source (constraint.Struct of) = read_over true (is_reference_in s source) (written_operand s bound source)
+  match_operand bound source (constraint.ConstBool val) = refl
+  match_operand bound source (constraint.ConstInt val of) = refl
+  match_operand bound source (constraint.ConstPrim val) = refl
+  match_operand bound source constraint.Some = refl
+
+  -- how it is read is the same for the places of an arm
+  plain_places : (tells : Tells) (pat : TPat) (q : Read) (inside : Body) → placing.arm_places p f tells pat q inside ≡ placing.arm_places p f tells pat (read.Plain (operand_of q)) inside
+  plain_places tells (pattern.Const o) q inside = refl
+  plain_places tells (pattern.Variant ty variant binds more) q inside = refl
+  plain_places tells (pattern.Struct ty binds more) q inside = refl
+  plain_places tells (pattern.Some local) q inside = refl
+
+  read_another : (tells : Tells) (pat : TPat) (q r : Read) (inside : Body) → operand_of q ≡ operand_of r → PlacesFit (placing.arm_places p f tells pat q inside) → PlacesFit (placing.arm_places p f tells pat r inside)
+  read_another tells pat q r inside e h =
+      subst PlacesFit (plain_places tells pat q inside ∙ ap (λ (o : Operand). placing.arm_places p f tells pat (read.Plain o) inside) e ∙ sym (plain_places tells pat r inside)) h
+
+  constant_case : (bound : List ℕ) (tells : Tells) (source : BindingId) (ty : TypeId) (o : Operand) (q : Path) (inside : Body) → Right tells → IsReady s bound source ty → IsPathOf env t q ty → IsSpelled q → o ≡ written (in_place env 0 q)
+      → BodyFits inside → PlacesFit (placing.arm_places p f tells (pattern.Const o) (read.Plain (written_operand s bound source)) inside)
+  constant_case bound tells source ty o q inside r ready is spells e i =
+      let other = written_operand s bound source in
+      let right = subst (λ (x : Operand). IsRight env t q (operand_told f tells x)) (sym e) (place_right env t f params tells 0 q spells) in
+      let fits = subst (λ (x : Operand). Fits x (type_text env ty)) (sym e) (place_fits 0 q ty is spells) in
+      both (both_places f tells o other) (body_places p f (tells ++ []) inside)
+      (both (placing.at o (operand_told f tells other)) (placing.at other (operand_told f tells o)) (told_fits o (at (paths_in s) source) (operand_told f tells other) ty (ready_right bound tells source ty r ready) ready.path fits)
+      (told_fits other q (operand_told f tells o) ty right is (ready_fits bound source ty ready)))
+      (i (tells ++ []) (all_append (λ (y : ℕ × Told). IsRight env t (path y.0) y.1) tells [] r tt))
+
+  -- one of several arms
+  case_fits : (bound : List ℕ) (tells : Tells) (source : BindingId) (over : Source) (c : Constraint) (places : List (Option BindingId)) (q : Read) (inside : Body) → operand_of q ≡ written_operand s bound source → Right tells → IsReadyIn s bound source over
+      → IsConstraintOver env c over → ArePlacesOf s source c places → BodyFits inside → PlacesFit (placing.arm_places p f tells (written_arm env c places) q inside)
+  case_fits bound tells source over (constraint.ConstBool val) places q inside e r ready is parts i =
+      let c = constraint.ConstBool val in
+      let v = over_value s bound source c over (λ e. cc) ready is in
+      read_another tells (pattern.Const (written_test env c)) (read.Plain (written_operand s bound source)) q inside (sym e) (constant_case bound tells source v.ty (written_test env c) (ConstBool v.ty val) inside r v.ready (refl, v.is) tt refl i)
+  case_fits bound tells source over (constraint.ConstInt val of) places q inside e r ready is parts i =
+      let c = constraint.ConstInt val of in
+      let v = over_value s bound source c over (λ e. cc) ready is in
+      read_another tells (pattern.Const (written_test env c)) (read.Plain (written_operand s bound source)) q inside (sym e) (constant_case bound tells source v.ty (written_test env c) (ConstInt of val) inside r v.ready v.is tt refl i)
+  case_fits bound tells source over (constraint.ConstPrim val) places q inside e r ready is parts i =
+      let c = constraint.ConstPrim val in
+      let v = over_value s bound source c over (λ e. cc) ready is in
+      read_another tells (pattern.Const (written_test env c)) (read.Plain (written_operand s bound source)) q inside (sym e) (constant_case bound tells source v.ty (written_test env c) (ConstPrim val) inside r v.ready v.is tt refl i)
+  case_fits bound tells source over (constraint.Variant of variant) places q inside e r ready is parts i =
+      let c = constraint.Variant of variant in
+      let v = over_value s bound source c over (λ e. cc) ready is in
+      let a = arm_pattern s source v.ty c places v.is parts tt in
+      read_another tells (written_arm env c places) (written_read s bound true source) q inside (read_over true (is_reference_in s source) (written_operand s bound source) ∙ sym e) (variant_arm bound tells source v.ty of variant places _ inside r v.ready v.is parts.1 a.is i).0
+  case_fits bound tells source over (constraint.Struct of) places q inside e r ready is parts i =
+      let c = constraint.Struct of in
+      let v = over_value s bound source c over (λ e. cc) ready is in
+      let a = arm_pattern s source v.ty c places v.is parts tt in
+      read_another tells (written_arm env c places) (written_read s bound true source) q inside (read_over true (is_reference_in s source) (written_operand s bound source) ∙ sym e) (struct_arm bound tells source v.ty of places _ inside r v.ready v.is parts.1 a.is i).0
+  case_fits bound tells source over constraint.Some places q inside e r ready is parts i =
+      let v = over_option s bound source over ready is in
+      read_another tells (written_arm env constraint.Some places) (read.Plain (written_operand s bound source)) q inside (sym e) (some_arm bound tells source places inside r v.1.bound' parts.0 parts.1 i).0
+
   -- ---- blocks
 
   stop_fits : (inside several : Bool) (c : Control) (after : Body) → BodyFits after → BodyFits (stop_before inside several c after)
@@ -373,28 +443,30 @@ module _ (env : Environment) (t : Term) (bs : List Binding) (p : Program) (Named
         (then_fits (told_control manner s now c) rest (control_fits manner c now _ h.2) (stop_fits manner.inside (gives_several s) c (told_body manner s now more end) (block_fits manner more now _ end h.3 k))))
 
     control_fits : (manner : Manner) (c : Control) (bound made : List ℕ) → IsReadyControl s bound made c → (tells : Tells) → Right tells → StmtFits tells (told_control manner s bound c)
-    control_fits manner (block.Match source (block.Arm (constraint.ConstBool val) places body arms)) bound made k tells r =
+    control_fits manner (block.Match source (block.Arm (constraint.ConstBool val) places body block.NoArm)) bound made k tells r =
         let v = over_value s bound source (constraint.ConstBool val) k.1.0 (λ e. cc) k.1.1 k.1.2.0 in
         test_fits bound tells source v.ty (written_test env (constraint.ConstBool val)) (ConstBool v.ty val) (told_body manner s (bound_within bound places) body Done) r v.ready (refl, v.is) tt refl (block_fits manner body (bound_within bound places) made Done k.1.2.2 done_fits)
-    control_fits manner (block.Match source (block.Arm (constraint.ConstInt val of) places body arms)) bound made k tells r =
+    control_fits manner (block.Match source (block.Arm (constraint.ConstInt val of) places body block.NoArm)) bound made k tells r =
         let v = over_value s bound source (constraint.ConstInt val of) k.1.0 (λ e. cc) k.1.1 k.1.2.0 in
         test_fits bound tells source v.ty (written_test env (constraint.ConstInt val of)) (ConstInt of val) (told_body manner s (bound_within bound places) body Done) r v.ready v.is tt refl (block_fits manner body (bound_within bound places) made Done k.1.2.2 done_fits)
-    control_fits manner (block.Match source (block.Arm (constraint.ConstPrim val) places body arms)) bound made k tells r =
+    control_fits manner (block.Match source (block.Arm (constraint.ConstPrim val) places body block.NoArm)) bound made k tells r =
         let v = over_value s bound source (constraint.ConstPrim val) k.1.0 (λ e. cc) k.1.1 k.1.2.0 in
         test_fits bound tells source v.ty (written_test env (constraint.ConstPrim val)) (ConstPrim val) (told_body manner s (bound_within bound places) body Done) r v.ready v.is tt refl (block_fits manner body (bound_within bound places) made Done k.1.2.2 done_fits)
-    control_fits manner (block.Match source (block.Arm (constraint.Variant of variant) places body arms)) bound made k tells r =
+    control_fits manner (block.Match source (block.Arm (constraint.Variant of variant) places body block.NoArm)) bound made k tells r =
         let c = constraint.Variant of variant in
         let v = over_value s bound source c k.1.0 (λ e. cc) k.1.1 k.1.2.0 in
         let a = arm_pattern s source v.ty c places v.is k.1.2.1 tt in
         variant_arm bound tells source v.ty of variant places _ (told_body manner s (bound_within bound places) body Done) r v.ready v.is k.1.2.1.1 a.is (block_fits manner body (bound_within bound places) made Done k.1.2.2 done_fits)
-    control_fits manner (block.Match source (block.Arm (constraint.Struct of) places body arms)) bound made k tells r =
+    control_fits manner (block.Match source (block.Arm (constraint.Struct of) places body block.NoArm)) bound made k tells r =
         let c = constraint.Struct of in
         let v = over_value s bound source c k.1.0 (λ e. cc) k.1.1 k.1.2.0 in
         let a = arm_pattern s source v.ty c places v.is k.1.2.1 tt in
         struct_arm bound tells source v.ty of places _ (told_body manner s (bound_within bound places) body Done) r v.ready v.is k.1.2.1.1 a.is (block_fits manner body (bound_within bound places) made Done k.1.2.2 done_fits)
-    control_fits manner (block.Match source (block.Arm constraint.Some places body arms)) bound made k tells r =
+    control_fits manner (block.Match source (block.Arm constraint.Some places body block.NoArm)) bound made k tells r =
         let v = over_option s bound source k.1.0 k.1.1 k.1.2.0 in
         some_arm bound tells source places (told_body manner s (bound_within bound places) body Done) r v.1.bound' k.1.2.1.0 k.1.2.1.1 (block_fits manner body (bound_within bound places) made Done k.1.2.2 done_fits)
+    control_fits manner (block.Match source (block.Arm c places body (block.Arm d others inside arms))) bound made k tells r =
+        (cases_fit manner (block.Arm c places body (block.Arm d others inside arms)) bound made source k.1.0 (match_read s bound source c) (match_operand bound source c) k.1.1 k.1.2 tells r, r)
     control_fits manner (block.Match source block.NoArm) bound made k tells r = (tt, r)
     control_fits manner (block.Equal a b body) bound made k tells r =
         let ty = k.0.0 in
@@ -409,6 +481,15 @@ module _ (env : Environment) (t : Term) (bs : List Binding) (p : Program) (Named
         (block_fits manner body (bound ++ given.0 ∷ []) made Done k.1 done_fits (placing.told_inside (written_list (looped_local s given)) given.0 tells) (told_more tells given.0 _ r item), r)
     control_fits manner (block.Return place given) bound made k tells r =
         result_fits (kind_of t.kind) (written_read s bound false given) tells r (subst (Fits (operand_of (written_read s bound false given))) (sym result) (read_fits bound false given t.ret_ty k))
+
+    -- each of several arms over what is read
+    cases_fit : (manner : Manner) (arms : block.Arms) (bound made : List ℕ) (source : BindingId) (over : Source) (q : Read) → operand_of q ≡ written_operand s bound source → IsReadyIn s bound source over → AreReadyArms s bound made source over arms
+        → (tells : Tells) → Right tells → PlacesFit (placing.arms_places p f tells q (told_each manner s bound arms))
+    cases_fit manner block.NoArm bound made source over q e ready k tells r = tt
+    cases_fit manner (block.Arm c places body arms) bound made source over q e ready k tells r =
+        let inside = told_body manner s (bound_within bound places) body Done in
+        both (placing.arm_places p f tells (written_arm env c places) q inside) (placing.arms_places p f tells q (told_each manner s bound arms))
+        (case_fits bound tells source over c places q inside e r ready k.0 k.1 (block_fits manner body (bound_within bound places) made Done k.2 done_fits)) (cases_fit manner arms bound made source over q e ready k.3 tells r)
 
   -- ---- functions
 
@@ -427,8 +508,8 @@ module _ (env : Environment) (t : Term) (bs : List Binding) (p : Program) (Named
   one_function a b e = cc
 
   -- the function of a lawful block
-  pub function_fits : (options : CodegenOptions) (files : Files) (b : Block) → IsLawfulBlock s b → HasSingleArms b → term_function options files s b ≡ Some f → PlacesFit (places p f)
-  function_fits options files b lawful single given =
-      let same : function_of options files env t bs b ≡ f = one_function (function_of options files env t bs b) f (sym (function_made options files env t bs b lawful single) ∙ given) in
+  pub function_fits : (options : CodegenOptions) (files : Files) (b : Block) → IsLawfulBlock s b → term_function options files s b ≡ Some f → PlacesFit (places p f)
+  function_fits options files b lawful given =
+      let same : function_of options files env t bs b ≡ f = one_function (function_of options files env t bs b) f (sym (function_made options files env t bs b lawful) ∙ given) in
       subst (λ (body : Body). PlacesFit (body_places p f [] body)) (ap (λ (g : Function). g.body) same)
       (block_fits (manner_of options files s) (completed s [] b) [] [] (tail_in files env t b) (completed_ready s b lawful) (tail_fits _ _ _ b) [] tt)

@@ -44,7 +44,6 @@ use Rattle.isle_simulation.specs.Manner.{manner_of}
 use Rattle.isle_simulation.specs.Completed.{completed}
 use Rattle.isle_simulation.specs.TypeTexts.{def_text, type_text, parameter}
 use Rattle.isle_simulation.proofs.CompletedReady.{completed_ready}
-use Rattle.isle_simulation.proofs.CompletedRuns.{completed_single}
 use Rattle.isle_simulation.proofs.Made.{function_made}
 use Rattle.isle_simulation.proofs.MadeStatements.{Anything, any_tested, block_holds}
 use Rattle.isle_simulation.proofs.Written.{function_of}
@@ -173,7 +172,7 @@ module _ (options : CodegenOptions) (files : Files) (env : Environment) (checked
       let found = ⊎_elim (λ l. l) (λ l. absurd l) (k.is.tested (Is q (constraint.ConstPrim c)) tests) in
       let source = ⊎_elim (λ l. tested_at ps k.flat.constraints q (constraint.ConstPrim c) l) (λ l. absurd (not_equal ps k.flat.equals q (constraint.ConstPrim c) l)) (in_either (map (is_test ps) k.flat.constraints) (map (equal_test ps) k.flat.equals) (Is q (constraint.ConstPrim c)) found) in
       let tried = tried_of id b.term r ps b.set.rules k.flat b.stands.flat k.is.prio (λ e. below b.term b.found e) in
-      function_names_it env b.term b.set.bindings source.0 c options files b.block f b.lawful b.single (b.makes k.flat source.0 (constraint.ConstPrim c) k.there tried source.1) b.statements
+      function_names_it env b.term b.set.bindings source.0 c options files b.block f b.lawful (b.makes k.flat source.0 (constraint.ConstPrim c) k.there tried source.1) b.statements
 
   -- the function of each term with rules is among the functions
   with_function : (ids : List TermId) (fs : List Function) (id : TermId) (name : List ℕ) → AreFromBlocks options files env ids fs → Contains ids id → ((f : Function) → IsFromBlock options files env id f → Contains (body_names f.body) name) → Contains (function_names fs) name
@@ -207,12 +206,12 @@ module _ (options : CodegenOptions) (files : Files) (env : Environment) (checked
     function_free : (id : TermId) (f : Function) → IsFromBlock options files env id f → AllByRecursion Free (function_types f)
     function_free id f b =
         let s = setting env b.term b.set.bindings in
-        let same : function_of options files env b.term b.set.bindings b.block ≡ f = one_function _ f (sym (function_made options files env b.term b.set.bindings b.block b.lawful b.single) ∙ b.statements) in
+        let same : function_of options files env b.term b.set.bindings b.block ≡ f = one_function _ f (sym (function_made options files env b.term b.set.bindings b.block b.lawful) ∙ b.statements) in
         subst (λ (g : Function). AllByRecursion Free (function_types g)) same
         (both (param_types (map (parameter env) b.term.arg_tys)) _ (params_free env Free type_free b.term.arg_tys) (
           type_free b.term.ret_ty,
           block_holds own_types Free s Anything (types_made env Free type_free s refl) (manner_of options files s) (completed s [] b.block) [] [] (tail_in files env b.term b.block)
-              (completed_ready s b.block b.lawful) (completed_single s [] b.block b.single) (any_tested (completed s [] b.block)) (tail_free env Free type_free _ _ _ b.block),
+              (completed_ready s b.block b.lawful) (any_tested (completed s [] b.block)) (tail_free env Free type_free _ _ _ b.block),
         ))
 
     functions_free : (ids : List TermId) (fs : List Function) → AreFromBlocks options files env ids fs → AllByRecursion Free (flat_map function_types fs)

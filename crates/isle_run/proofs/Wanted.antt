@@ -159,7 +159,7 @@ module _ (options : CodegenOptions) (files : Files) (env : Environment) (checked
   operands : AllByRecursion So (body_operands f.body)
   operands =
       let b = the_function.block in
-      function_so env b.term b.set rules b.stands options files b.block f b.lawful b.single b.tests b.statements
+      function_so env b.term b.set rules b.stands options files b.block f b.lawful b.tests b.statements
 
   placed : AllByRecursion (λ (x : Place). So x.0) (places p f)
   placed = body_so So f.body p f [] formed operands

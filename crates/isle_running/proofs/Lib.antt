@@ -4,8 +4,8 @@ pub mod Fits
 pub mod LastBound
 pub mod MadeFields
 pub mod Makes
+pub mod MatchArms
 pub mod NamedValues
-pub mod NotBuilt
 pub mod ReadValues
 pub mod SourceLaws
 pub mod Tests

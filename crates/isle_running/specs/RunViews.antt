@@ -4,6 +4,7 @@ use Rattle.isle_core.specs.Answered.{Item, AValue, ATuple, Held, Absent, One, Op
 use Rattle.isle_core.specs.Value.{Value, GivesList}
 use Rattle.isle_core.specs.SameInRun.{same_in_run}
 use Rattle.isle_core.specs.ValueViews.{value, values, end, made, meaning}
+use Rattle.isle_tree.specs.Caller.{by_meaning}
 use Rattle.isle_tree.specs.Run.{Around, State, Env, Flow, Goes, Ends, Leaves, Stuck}
 use Rattle.isle_tree.specs.Views.{function, program}
 use Rattle.isle_running.specs.declared.around.Around.{Around as CodeAround}
@@ -42,6 +43,7 @@ locals = map local
 -- what a function runs in, with what its calls are answered, and the room for its results
 abbrev pub within : CodeAround → Frame → Around
 within w f = record {
+  caller = by_meaning (meaning f.calls.answers);
   meaning = meaning f.calls.answers;
   program = program w.program.now;
   function = function w.function.now;

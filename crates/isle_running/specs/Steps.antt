@@ -41,9 +41,19 @@ struct_held ty (Some fs) = a_value (Struct ty fs)
 abbrev pub run_inside : Body → Around → Env → State → Flow
 run_inside inside w env s = after_scope env (run_body w inside env s)
 
+-- statements where a pattern fits, whose bindings are left, and its own; or else what follows
+abbrev pub run_arm : TPat → Held → Body → Flow → Around → Env → State → Flow
+run_arm pat held inside other w env s = fitted (fit w pat held) (λ bound. after_scope env (run_body w inside (env ++ bound) s)) other
+
 -- statements where a pattern fits, whose bindings are left, and its own
 abbrev pub run_where : TPat → Held → Body → Around → Env → State → Flow
-run_where pat held inside w env s = fitted (fit w pat held) (λ bound. after_scope env (run_body w inside (env ++ bound) s)) (Goes env s)
+run_where pat held inside w env s = run_arm pat held inside (Goes env s) w env s
+
+-- from a frame to another an arm goes as the code does, or its pattern doesn't fit, and nothing was done
+abbrev pub ArmRunsSo : TPat → Held → Body → CodeAround → (old new : Frame) → Option CodeFlow → Type 0
+ArmRunsSo pat held inside w old new (Some end) = (other : Flow) → run_arm pat held inside other (within w old) (locals old.locals) (state old) ≡ flow end new
+ArmRunsSo pat held inside w old new None =
+    ((other : Flow) → run_arm pat held inside other (within w old) (locals old.locals) (state old) ≡ other) × (state new ≡ state old)
 
 -- how the test of two operands goes
 abbrev pub test : Around → Env → (a b : Operand) → Option Bool

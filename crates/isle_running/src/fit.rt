@@ -12,26 +12,29 @@ ghost use Rattle.isle_running.specs.declared.around.Around.{Around};
 use crate::constants::is_constant;
 use crate::fields::{fit_struct, fit_variant};
 use crate::frame::Frame;
-use crate::holding::{Holding, item_within, value_in};
+use crate::holding::{Holding, item_copied, item_within, value_held};
 use isle_core::Value;
 use isle_tree::TPat;
 use std::alloc::{AllocError, Global};
 
 // Binds what is within an option, where there is something.
 fn fit_some(
+    alloc: Global,
     local: Option<usize>,
-    holding: Holding,
+    holding: &Holding,
     frame: &mut Frame<'_>,
 ) -> Result<bool, AllocError>
-    ensures fits { IfOk result (FitsSo (run.fit_some local (held holding)) frame.old frame.new) }
+    ensures fits { IfOk result
+        (FitsSo (run.fit_some local (held holding.now)) frame.old frame.new) }
     ensures kept { IfOk result (λ fits. fits ≡ false → frame.new.locals ≡ frame.old.locals) }
     ensures calls { frame.new.calls ≡ frame.old.calls }
     ensures given { frame.new.given.items ≡ frame.old.given.items }
     ensures follows { OnOk result (Follows frame.old frame.new) }
 {
     match item_within(holding) {
-        Some(item) => {
+        Some(found) => {
             if let Some(local) = local {
+                let item = item_copied(alloc, found)?;
                 frame.locals.bind(local, Holding::One(item))?;
             }
             Ok(true)
@@ -82,21 +85,21 @@ fn fit_value(
 pub fn fit(
     alloc: Global,
     pat: &TPat,
-    holding: Holding,
+    holding: &Holding,
     frame: &mut Frame<'_>,
 ) -> Result<bool, AllocError>
     ensures fits { (w : Around)
         → IfOk result
-        (FitsSo (run.fit (within w frame.old) pat.now (held holding)) frame.old frame.new) }
+        (FitsSo (run.fit (within w frame.old) pat.now (held holding.now)) frame.old frame.new) }
     ensures kept { IfOk result (λ fits. fits ≡ false → frame.new.locals ≡ frame.old.locals) }
     ensures calls { frame.new.calls ≡ frame.old.calls }
     ensures given { frame.new.given.items ≡ frame.old.given.items }
     ensures follows { OnOk result (Follows frame.old frame.new) }
 {
     match pat {
-        TPat::Some(local) => fit_some(*local, holding, frame),
-        TPat::Const(_) | TPat::Variant { .. } | TPat::Struct { .. } => match value_in(holding) {
-            Some(given) => fit_value(alloc, pat, &given, frame),
+        TPat::Some(local) => fit_some(alloc, *local, holding, frame),
+        TPat::Const(_) | TPat::Variant { .. } | TPat::Struct { .. } => match value_held(holding) {
+            Some(given) => fit_value(alloc, pat, given, frame),
             None => Ok(false),
         },
     }

@@ -85,6 +85,19 @@ pub fn value_in(holding: Holding) -> Option<Value>
     }
 }
 
+/// Gives the value that a place holds, where it is one, and leaves it there.
+pub fn value_held(holding: &Holding) -> Option<&Value>
+    ensures { option_map (λ found. value found.now) result ≡ value_in (held holding.now) }
+{
+    match holding {
+        Holding::One(Item::Value(value)) => Some(value),
+        Holding::One(Item::Tuple(_))
+        | Holding::Optional(_)
+        | Holding::Listed(_)
+        | Holding::Absent => None,
+    }
+}
+
 // Copies the value at an index, where there is one.
 fn value_at(alloc: Global, given: &[Value], index: usize) -> Result<Option<Value>, AllocError>
     ensures { IfOk result (λ copy. option_map value copy ≡ slice_get (values given.now) index) }
@@ -109,12 +122,12 @@ pub fn part_of(alloc: Global, holding: Holding, part: usize) -> Result<Option<Va
 }
 
 /// Gives what is within an option that a place holds, where something is.
-pub fn item_within(holding: Holding) -> Option<Item>
-    ensures { option_map item result ≡ item_within (held holding) }
+pub fn item_within(holding: &Holding) -> Option<&Item>
+    ensures { option_map (λ found. item found.now) result ≡ item_within (held holding.now) }
 {
     match holding {
-        Holding::Optional(option) => option,
-        Holding::One(_) | Holding::Listed(_) | Holding::Absent => None,
+        Holding::Optional(Some(found)) => Some(found),
+        Holding::Optional(None) | Holding::One(_) | Holding::Listed(_) | Holding::Absent => None,
     }
 }
 

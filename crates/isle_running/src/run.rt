@@ -9,7 +9,7 @@ ghost use Rattle.isle_tree.specs.Views.{stmt, body};
 ghost use Rattle.isle_running.specs.RunViews.{held, locals, within, state, flow, tested};
 ghost use Rattle.isle_running.specs.declared.frame.Frame.{Frame};
 ghost use Rattle.isle_running.specs.Frames.{Follows};
-ghost use Rattle.isle_running.specs.Steps.{RunsSo, run_inside, run_where, run_turn, run_loop, test};
+ghost use Rattle.isle_running.specs.Steps.{RunsSo, ArmRunsSo, run_inside, run_where, run_turn, run_loop, test};
 
 use crate::around::Around;
 use crate::fit::fit;
@@ -132,6 +132,16 @@ fn run_stmt(
             let holding = read_value(alloc, around, frame, read)?;
             run_where(alloc, around, pat, holding, inside.as_slice(), frame)
         }
+        Stmt::Match(read, arms) => {
+            let holding = read_value(alloc, around, frame, read)?;
+            for arm in arms.as_slice() {
+                let ran = run_arm(alloc, around, &arm.0, &holding, arm.1.as_slice(), frame)?;
+                if let Some(end) = ran {
+                    return Ok(end);
+                }
+            }
+            Ok(Flow::Goes)
+        }
         Stmt::Return(given) => run_return(alloc, around, frame, given),
         Stmt::Tail(None) => Ok(Flow::Ends(End::Nothing)),
         Stmt::Tail(Some(_)) => Ok(Flow::Ends(End::Unreachable)),
@@ -145,7 +155,7 @@ fn run_stmt(
         }
         Stmt::Overflow { inside } => Ok(run_overflow(around, frame, *inside)),
         Stmt::Log { .. } => Ok(Flow::Goes),
-        Stmt::Match(..) | Stmt::Split { .. } => Ok(Flow::Stuck),
+        Stmt::Split { .. } => Ok(Flow::Stuck),
     }
 }
 
@@ -168,6 +178,33 @@ fn run_inside(
     Ok(end)
 }
 
+// Runs statements where a pattern fits what is read, and leaves what they and the pattern bound; tells how they end,
+// where it fits.
+#[cycle(running)]
+fn run_arm(
+    alloc: Global,
+    around: &Around<'_>,
+    pat: &TPat,
+    holding: &Holding,
+    statements: &[Stmt],
+    frame: &mut Frame<'_>,
+) -> Result<Option<Flow>, AllocError>
+    ensures runs { IfOk result
+        (ArmRunsSo pat.now (held holding.now) (body statements.now) around.now frame.old
+        frame.new) }
+    ensures kept { OnOk result (frame.new.locals ≡ frame.old.locals) }
+    ensures follows { OnOk result (Follows frame.old frame.new) }
+{
+    let count = frame.locals.len();
+    if fit(alloc, pat, holding, frame)? {
+        let end = run_body(alloc, around, statements, frame)?;
+        frame.locals.truncate(count);
+        Ok(Some(end))
+    } else {
+        Ok(None)
+    }
+}
+
 // Runs statements where a pattern fits what is read, and leaves what they and the pattern bound.
 #[cycle(running)]
 fn run_where(
@@ -184,13 +221,10 @@ fn run_where(
     ensures kept { OnOk result (frame.new.locals ≡ frame.old.locals) }
     ensures follows { OnOk result (Follows frame.old frame.new) }
 {
-    let count = frame.locals.len();
-    if fit(alloc, pat, holding, frame)? {
-        let end = run_body(alloc, around, statements, frame)?;
-        frame.locals.truncate(count);
-        Ok(end)
-    } else {
-        Ok(Flow::Goes)
+    let ran = run_arm(alloc, around, pat, &holding, statements, frame)?;
+    match ran {
+        Some(end) => Ok(end),
+        None => Ok(Flow::Goes),
     }
 }
 

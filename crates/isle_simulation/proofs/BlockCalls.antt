@@ -1,5 +1,5 @@
 -- The statements of a lawful block call what its bindings call.
-use Rattle.std.proofs.Common.{◌≡◌, ⊎_elim, ◌⊎◌, inl, inr, ℕ, List, [], ◌∷◌, ◌++◌, Bool, true, false, cond, Option, Some, None, refl, ap, ◌∙◌, subst, sym}
+use Rattle.std.proofs.Common.{◌≡◌, ⊎_elim, ◌⊎◌, inl, inr, ℕ, List, [], ◌∷◌, Bool, true, false, cond, Option, Some, None, refl, ap, ◌∙◌, subst, sym}
 use Rattle.std.specs.Prelude.{Contains, slice_get}
 use Rattle.std.specs.List.{AllByRecursion}
 use Rattle.isle_core.specs.declared.options.CodegenOptions.{CodegenOptions}
@@ -23,7 +23,6 @@ use Rattle.isle_core.specs.Making.{MakesVariant, MakesStruct}
 use Rattle.isle_core.specs.Path.{at}
 use Rattle.isle_core.specs.Rule.{Environment}
 use Rattle.isle_core.specs.Setting.{Setting, setting, paths_in}
-use Rattle.isle_core.specs.SingleArms.{HasSingleArms}
 use Rattle.isle_core.proofs.AllLaws.{all_by, all_each}
 use Rattle.isle_core.proofs.Contained.{contained_cases, none_contained}
 use Rattle.isle_tree.specs.Calls.{expr_calls, own_calls, stmt_calls, body_calls}
@@ -34,7 +33,6 @@ use Rattle.isle_simulation.specs.Statements.{callee_of as callee_made_of, made_n
 use Rattle.isle_simulation.specs.Manner.{bare_manner}
 use Rattle.isle_simulation.specs.TermFunction.{mark_in, tail_body, tail_in, ends_in_return, log_lines}
 use Rattle.isle_simulation.proofs.CompletedReady.{completed_ready}
-use Rattle.isle_simulation.proofs.CompletedRuns.{completed_single}
 use Rattle.isle_simulation.proofs.Made.{callee_made, extractor_made}
 use Rattle.isle_simulation.proofs.MadeStatements.{EachMade, Anything, any_tested, block_holds}
 use Rattle.isle_simulation.proofs.Ready.{IsReadyBind}
@@ -120,6 +118,7 @@ calls_made s = record {
   log = λ line. tt;
   equal = λ locals a b ty inside h k. tt;
   arm = λ locals source over c places inside h is k w. arm_calls locals source c places inside;
+  several = λ locals source over c arms h is k. tt;
   loop = λ list item inside. tt;
 }
   where
@@ -151,12 +150,12 @@ calls_own : IsOwn own_calls
 calls_own = record { if_eq = λ a b x y. refl; if_let = λ pat r x y. refl; arms = λ r x y. refl; loop = λ list item x y. refl; split = λ within x y. refl; log = λ term place. refl }
 
 -- each call of a term's function is among the bindings of its block
-pub written_calls : (options : CodegenOptions) (files : Files) (env : Environment) (t : Term) (bs : List Binding) (b : Block) (callee : Callee) → IsLawfulBlock (setting env t bs) b → HasSingleArms b
+pub written_calls : (options : CodegenOptions) (files : Files) (env : Environment) (t : Term) (bs : List Binding) (b : Block) (callee : Callee) → IsLawfulBlock (setting env t bs) b
     → Contains (body_calls (logged_function options files env t bs b).body) callee → IsBoundCall env bs callee
-written_calls options files env t bs b callee h o c =
+written_calls options files env t bs b callee h c =
     let s = setting env t bs in
     let d = completed s [] b in
     let end = tail_in files env t b in
     all_each (IsBoundCall env bs) (body_calls (block_body s [] d end)) callee
-    (block_holds own_calls (IsBoundCall env bs) s Anything (calls_made s) bare_manner d [] [] end (completed_ready s b h) (completed_single s [] b o) (any_tested d) (tail_calls (IsBoundCall env bs) (mark_in files env t) (ends_in_return b)))
+    (block_holds own_calls (IsBoundCall env bs) s Anything (calls_made s) bare_manner d [] [] end (completed_ready s b h) (any_tested d) (tail_calls (IsBoundCall env bs) (mark_in files env t) (ends_in_return b)))
     (subst (λ cs. Contains cs callee) (logged_of own_calls calls_own (written_body files env t bs b) (log_lines options files s b)) c)

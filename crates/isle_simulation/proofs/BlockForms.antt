@@ -15,7 +15,7 @@ use Rattle.isle_core.specs.declared.types.ReturnKind.TheVariants as return_kind
 use Rattle.isle_core.specs.declared.types.Term.{Term}
 use Rattle.isle_core.specs.declared.rule_sets.Binding.{Binding}
 use Rattle.isle_core.specs.declared.rule_sets.Binding.TheVariants as binding
-use Rattle.isle_core.specs.ArmPlaces.{bound_within}
+use Rattle.isle_core.specs.ArmPlaces.{ArePlacesOf, bound_within}
 use Rattle.isle_core.specs.HasType.{typed_fields, IsOfDef, HasType}
 use Rattle.isle_core.specs.Calling.{calling, extracting, kind_of}
 use Rattle.isle_core.specs.Constants.{int_of_def, int_value}
@@ -23,24 +23,26 @@ use Rattle.isle_core.specs.Form.{Form, form, form_types}
 use Rattle.isle_core.specs.Making.{Making, MakesVariant, MakesStruct}
 use Rattle.isle_core.specs.Path.{Path, Paths, Arg, ConstBool, ConstInt, ConstPrim, MadeStruct, NoPath, APath, at}
 use Rattle.isle_core.specs.Block as block
-use Rattle.isle_core.specs.Block.{Block, Stop, Step, Control, Arm, NoArm}
+use Rattle.isle_core.specs.Block.{Block, Stop, Step, Control, Arms, Arm, NoArm}
+use Rattle.isle_core.specs.BlockLawful.{Source, AValue, AnOption, IsConstraintOver}
 use Rattle.isle_core.specs.Bindable.{IsPlain, bound_by}
 use Rattle.isle_core.specs.ConstraintType.{IsConstraintOf}
 use Rattle.isle_core.specs.PathType.{IsPathOf, ArePathsOf}
 use Rattle.isle_core.specs.PatternType.{IsNumericDef}
 use Rattle.isle_core.specs.Rule.{Environment}
-use Rattle.isle_core.specs.SingleArms.{HasSingleArms, IsSingle}
 use Rattle.isle_core.specs.Setting.{Setting, paths_in, gives_several}
 use Rattle.isle_core.specs.Terms.{sym_text}
+use Rattle.isle_core.specs.Value.{Value, Truth, Int, Opaque, Variant, Struct}
 use Rattle.isle_spelling.specs.Names.{IsName, IsFieldName}
 use Rattle.isle_tree.specs.declared.tree.Operand.{Operand}
 use Rattle.isle_tree.specs.declared.tree.Operand.TheVariants as operand
 use Rattle.isle_tree.specs.declared.tree.Read.{Read}
 use Rattle.isle_tree.specs.declared.tree.TBind.{TBind}
 use Rattle.isle_tree.specs.Program.{Body, Done, Then}
-use Rattle.isle_tree.specs.WellFormed.{IsOperand, IsRead, IsFieldRead, IsExpr, IsBind, IsPattern, IsStmt, IsBody}
+use Rattle.isle_tree.specs.WellFormed.{IsOperand, IsRead, IsFieldRead, IsExpr, IsConstant as IsPatternConstant, IsBind, IsPattern, IsStmt, IsBody, AreArms}
 use Rattle.isle_simulation.specs.Operands.{constant, in_place, is_bound}
 use Rattle.isle_simulation.specs.Patterns.{bind_before, field_binds, pattern_named, some_pattern, pattern_of}
+use Rattle.isle_simulation.specs.Manner.{bare_manner}
 use Rattle.isle_simulation.specs.References.{is_declared, is_reference_in, read_as}
 use Rattle.isle_simulation.specs.RustNames.{IsVariantName, HasRustNames}
 use Rattle.isle_simulation.specs.Statements.{made_named, binds_list, local_stmt}
@@ -51,8 +53,8 @@ use Rattle.isle_simulation.proofs.CalledTerms.{HasCallees, callee_is}
 use Rattle.isle_simulation.proofs.ExternalTerms.{extracted_is}
 use Rattle.isle_simulation.proofs.Made.{over_value, over_option, some_made}
 use Rattle.isle_simulation.proofs.PathValues.{IsConstant}
-use Rattle.isle_simulation.proofs.Ready.{IsSpelled, IsReady, AreReady, IsMadeReady, IsReadyBind, AreReadyBinds, IsReadyFrom, IsReadyControl}
-use Rattle.isle_simulation.proofs.Written.{written, written_operand, written_read, written_place, written_test, written_pattern, callee_of, reads, call_expr, extraction_expr, field_reads, made_expr, bound_expr, block_body, control_stmt, lets, result_stmt, stop_before}
+use Rattle.isle_simulation.proofs.Ready.{IsSpelled, IsReady, IsReadyIn, AreReady, IsMadeReady, IsReadyBind, AreReadyBinds, IsReadyFrom, IsReadyControl, AreReadyArms}
+use Rattle.isle_simulation.proofs.Written.{written, written_operand, written_read, written_place, written_test, written_pattern, written_arm, match_read, told_each, callee_of, reads, call_expr, extraction_expr, field_reads, made_expr, bound_expr, block_body, control_stmt, lets, result_stmt, stop_before}
 use Rattle.isle_tree.specs.declared.tree.TExpr.{TExpr}
 use Rattle.isle_simulation.proofs.LocalStmts.{local_by}
 
@@ -213,43 +215,86 @@ arm_is s c places names p =
 some_is : (places : List (Option BindingId)) → length places ≤ 1 → IsPattern (written_pattern (some_pattern places))
 some_is places le = subst (λ o. IsPattern (written_pattern o)) (sym (some_made places le).1) tt
 
+-- a number of a pattern is a constant
+number_pattern : (v : Value) → IsOperand (written (constant v)) → IsPatternConstant (written (constant v))
+number_pattern (Truth b) h = tt
+number_pattern (Int ty n) h = h
+number_pattern (Opaque ty n) h = h
+number_pattern (Variant ty name fields) h = h
+number_pattern (Struct ty fields) h = h
+
+-- so the pattern of one of several arms
+pattern_of_arm : (s : Setting) (source : BindingId) (over : Source) (c : Constraint) (places : List (Option BindingId)) → HasRustNames s.env → IsConstraintOver s.env c over → ArePlacesOf s source c places → IsPattern (written_arm s.env c places)
+pattern_of_arm s source over (constraint.ConstBool val) places names is parts = tt
+pattern_of_arm s source (AValue ty) (constraint.ConstInt val of) places names is parts = number_pattern (int_value s.env of val) (tested_is s.env (constraint.ConstInt val of) ty names is tt)
+pattern_of_arm s source (AnOption tys) (constraint.ConstInt val of) places names is parts = cc
+pattern_of_arm s source (AValue ty) (constraint.ConstPrim val) places names is parts = tested_is s.env (constraint.ConstPrim val) ty names is tt
+pattern_of_arm s source (AnOption tys) (constraint.ConstPrim val) places names is parts = cc
+pattern_of_arm s source (AValue ty) (constraint.Variant of variant) places names is parts = arm_is s (constraint.Variant of variant) places names (arm_pattern s source ty (constraint.Variant of variant) places is parts tt)
+pattern_of_arm s source (AnOption tys) (constraint.Variant of variant) places names is parts = cc
+pattern_of_arm s source (AValue ty) (constraint.Struct of) places names is parts = arm_is s (constraint.Struct of) places names (arm_pattern s source ty (constraint.Struct of) places is parts tt)
+pattern_of_arm s source (AnOption tys) (constraint.Struct of) places names is parts = cc
+pattern_of_arm s source over constraint.Some places names is parts = some_is places parts.0
+
+-- and what a match reads
+match_is : (s : Setting) (bound : List ℕ) (source : BindingId) (over : Source) (c : Constraint) → HasRustNames s.env → IsReadyIn s bound source over → IsConstraintOver s.env c over → IsRead (match_read s bound source c)
+match_is s bound source (AValue ty) (constraint.ConstBool val) names ready is = operand_is s bound source ty names ready
+match_is s bound source (AValue ty) (constraint.ConstInt val of) names ready is = operand_is s bound source ty names ready
+match_is s bound source (AValue ty) (constraint.ConstPrim val) names ready is = operand_is s bound source ty names ready
+match_is s bound source (AValue ty) (constraint.Variant of variant) names ready is = written_is s bound true source ty names ready
+match_is s bound source (AValue ty) (constraint.Struct of) names ready is = written_is s bound true source ty names ready
+match_is s bound source (AValue ty) constraint.Some names ready is = absurd is
+match_is s bound source (AnOption tys) constraint.Some names ready is = source_is s bound source ready.bound'
+match_is s bound source (AnOption tys) (constraint.ConstBool val) names ready is = cc
+match_is s bound source (AnOption tys) (constraint.ConstInt val of) names ready is = cc
+match_is s bound source (AnOption tys) (constraint.ConstPrim val) names ready is = cc
+match_is s bound source (AnOption tys) (constraint.Variant of variant) names ready is = cc
+match_is s bound source (AnOption tys) (constraint.Struct of) names ready is = cc
+
 -- ---- blocks
 
 mutual
   -- the statements of a block
-  pub block_is : (b : Block) (s : Setting) (bound made : List ℕ) (end : Body) → HasRustNames s.env → HasCallees s.env → IsReadyFrom s bound made b → HasSingleArms b → IsBody end → IsBody (block_body s bound b end)
-  block_is Stop s bound made end names fns k o h = h
-  block_is (Step binds c more) s bound made end names fns k o h =
+  pub block_is : (b : Block) (s : Setting) (bound made : List ℕ) (end : Body) → HasRustNames s.env → HasCallees s.env → IsReadyFrom s bound made b → IsBody end → IsBody (block_body s bound b end)
+  block_is Stop s bound made end names fns k h = h
+  block_is (Step binds c more) s bound made end names fns k h =
       lets_are s bound binds (Then (control_stmt s (bound_by bound binds) c) (stop_before false (gives_several s) c (block_body s (bound_by bound binds) more end))) names fns k.0
-      (control_is c s (bound_by bound binds) _ names fns k.2 o.0, stop_is (gives_several s) c _ (block_is more s (bound_by bound binds) _ end names fns k.3 o.1 h))
+      (control_is c s (bound_by bound binds) _ names fns k.2, stop_is (gives_several s) c _ (block_is more s (bound_by bound binds) _ end names fns k.3 h))
 
-  control_is : (c : Control) (s : Setting) (bound made : List ℕ) → HasRustNames s.env → HasCallees s.env → IsReadyControl s bound made c → IsSingle c → IsStmt (control_stmt s bound c)
-  control_is (block.Match source (Arm (constraint.ConstBool val) places body NoArm)) s bound made names fns k o =
+  control_is : (c : Control) (s : Setting) (bound made : List ℕ) → HasRustNames s.env → HasCallees s.env → IsReadyControl s bound made c → IsStmt (control_stmt s bound c)
+  control_is (block.Match source (Arm (constraint.ConstBool val) places body NoArm)) s bound made names fns k =
       let v = over_value s bound source (constraint.ConstBool val) k.1.0 (λ e. cc) k.1.1 k.1.2.0 in
-      (operand_is s bound source v.ty names v.ready, tested_is s.env (constraint.ConstBool val) v.ty names v.is tt, block_is body s (bound_within bound places) made Done names fns k.1.2.2 o tt)
-  control_is (block.Match source (Arm (constraint.ConstInt val of) places body NoArm)) s bound made names fns k o =
+      (operand_is s bound source v.ty names v.ready, tested_is s.env (constraint.ConstBool val) v.ty names v.is tt, block_is body s (bound_within bound places) made Done names fns k.1.2.2 tt)
+  control_is (block.Match source (Arm (constraint.ConstInt val of) places body NoArm)) s bound made names fns k =
       let v = over_value s bound source (constraint.ConstInt val of) k.1.0 (λ e. cc) k.1.1 k.1.2.0 in
-      (operand_is s bound source v.ty names v.ready, tested_is s.env (constraint.ConstInt val of) v.ty names v.is tt, block_is body s (bound_within bound places) made Done names fns k.1.2.2 o tt)
-  control_is (block.Match source (Arm (constraint.ConstPrim val) places body NoArm)) s bound made names fns k o =
+      (operand_is s bound source v.ty names v.ready, tested_is s.env (constraint.ConstInt val of) v.ty names v.is tt, block_is body s (bound_within bound places) made Done names fns k.1.2.2 tt)
+  control_is (block.Match source (Arm (constraint.ConstPrim val) places body NoArm)) s bound made names fns k =
       let v = over_value s bound source (constraint.ConstPrim val) k.1.0 (λ e. cc) k.1.1 k.1.2.0 in
-      (operand_is s bound source v.ty names v.ready, tested_is s.env (constraint.ConstPrim val) v.ty names v.is tt, block_is body s (bound_within bound places) made Done names fns k.1.2.2 o tt)
-  control_is (block.Match source (Arm (constraint.Variant of variant) places body NoArm)) s bound made names fns k o =
+      (operand_is s bound source v.ty names v.ready, tested_is s.env (constraint.ConstPrim val) v.ty names v.is tt, block_is body s (bound_within bound places) made Done names fns k.1.2.2 tt)
+  control_is (block.Match source (Arm (constraint.Variant of variant) places body NoArm)) s bound made names fns k =
       let v = over_value s bound source (constraint.Variant of variant) k.1.0 (λ e. cc) k.1.1 k.1.2.0 in (
         arm_is s (constraint.Variant of variant) places names (arm_pattern s source v.ty (constraint.Variant of variant) places v.is k.1.2.1 tt),
         written_is s bound true source v.ty names v.ready,
-        block_is body s (bound_within bound places) made Done names fns k.1.2.2 o tt,
+        block_is body s (bound_within bound places) made Done names fns k.1.2.2 tt,
       )
-  control_is (block.Match source (Arm (constraint.Struct of) places body NoArm)) s bound made names fns k o =
+  control_is (block.Match source (Arm (constraint.Struct of) places body NoArm)) s bound made names fns k =
       let v = over_value s bound source (constraint.Struct of) k.1.0 (λ e. cc) k.1.1 k.1.2.0 in (
         arm_is s (constraint.Struct of) places names (arm_pattern s source v.ty (constraint.Struct of) places v.is k.1.2.1 tt),
         written_is s bound true source v.ty names v.ready,
-        block_is body s (bound_within bound places) made Done names fns k.1.2.2 o tt,
+        block_is body s (bound_within bound places) made Done names fns k.1.2.2 tt,
       )
-  control_is (block.Match source (Arm constraint.Some places body NoArm)) s bound made names fns k o =
+  control_is (block.Match source (Arm constraint.Some places body NoArm)) s bound made names fns k =
       let v = over_option s bound source k.1.0 k.1.1 k.1.2.0 in
-      (some_is places k.1.2.1.0, source_is s bound source v.1.bound', block_is body s (bound_within bound places) made Done names fns k.1.2.2 o tt)
-  control_is (block.Match source (Arm c places body (Arm d others inside arms))) s bound made names fns k o = absurd o
-  control_is (block.Match source NoArm) s bound made names fns k o = absurd o
-  control_is (block.Equal x y body) s bound made names fns k o = (operand_is s bound x k.0.0 names k.0.1, operand_is s bound y k.0.0 names k.0.2, block_is body s bound made Done names fns k.1 o tt)
-  control_is (block.Loop result body) s bound made names fns k o = block_is body s (bound ++ result.0 ∷ []) made Done names fns k.1 o tt
-  control_is (block.Return pos result) s bound made names fns k o = result_is (kind_of s.term.kind) (written_read s bound false result) (written_is s bound false result s.term.ret_ty names k)
+      (some_is places k.1.2.1.0, source_is s bound source v.1.bound', block_is body s (bound_within bound places) made Done names fns k.1.2.2 tt)
+  control_is (block.Match source (Arm c places body (Arm d others inside arms))) s bound made names fns k =
+      (match_is s bound source k.1.0 c names k.1.1 k.1.2.0, tt, each_is (Arm c places body (Arm d others inside arms)) s bound made source k.1.0 names fns k.1.2)
+  control_is (block.Match source NoArm) s bound made names fns k = absurd k.0
+  control_is (block.Equal x y body) s bound made names fns k = (operand_is s bound x k.0.0 names k.0.1, operand_is s bound y k.0.0 names k.0.2, block_is body s bound made Done names fns k.1 tt)
+  control_is (block.Loop result body) s bound made names fns k = block_is body s (bound ++ result.0 ∷ []) made Done names fns k.1 tt
+  control_is (block.Return pos result) s bound made names fns k = result_is (kind_of s.term.kind) (written_read s bound false result) (written_is s bound false result s.term.ret_ty names k)
+
+  -- each of several arms
+  each_is : (arms : Arms) (s : Setting) (bound made : List ℕ) (source : BindingId) (over : Source) → HasRustNames s.env → HasCallees s.env → AreReadyArms s bound made source over arms → AreArms (told_each bare_manner s bound arms)
+  each_is NoArm s bound made source over names fns k = tt
+  each_is (Arm c places body arms) s bound made source over names fns k =
+      (pattern_of_arm s source over c places names k.0 k.1, block_is body s (bound_within bound places) made Done names fns k.2 tt, each_is arms s bound made source over names fns k.3)

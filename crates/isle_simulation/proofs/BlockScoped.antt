@@ -18,28 +18,31 @@ use Rattle.isle_core.specs.Form.{form}
 use Rattle.isle_core.specs.HasType.{typed_fields}
 use Rattle.isle_core.specs.Path.{VariantField, StructField, Inner, at, Chosen, Path}
 use Rattle.isle_core.specs.Block as block
-use Rattle.isle_core.specs.Block.{Block, Stop, Step, Control, Arm, NoArm}
+use Rattle.isle_core.specs.Block.{Block, Stop, Step, Control, Arms, Arm, NoArm}
+use Rattle.isle_core.specs.BlockLawful.{Source, AValue, AnOption, IsConstraintOver}
 use Rattle.isle_core.specs.Bindable.{bound_by}
 use Rattle.isle_core.specs.PathType.{IsPathOf, IsTupleOf, IsOptionOf, IsListOf}
 use Rattle.isle_core.specs.Rule.{Environment}
-use Rattle.isle_core.specs.SingleArms.{HasSingleArms, IsSingle}
 use Rattle.isle_core.specs.Setting.{Setting, paths_in, gives_several}
 use Rattle.isle_core.proofs.BindingPaths.{HasParts, at_before, path_at, typed_parts, option_parts, list_parts, tuple_parts}
 use Rattle.isle_tree.specs.declared.holds.Holds.{Holds}
 use Rattle.isle_tree.specs.declared.holds.Holds.TheVariants as holds
 use Rattle.isle_tree.specs.declared.holds.Item.TheVariants as item
+use Rattle.isle_tree.specs.declared.tree.Operand.{Operand}
 use Rattle.isle_tree.specs.declared.tree.Read.{Read}
 use Rattle.isle_tree.specs.declared.tree.Read.TheVariants as read
 use Rattle.isle_tree.specs.declared.tree.TBind.{TBind}
+use Rattle.isle_tree.specs.declared.tree.TPat.{TPat}
 use Rattle.isle_tree.specs.declared.tree.TPat.TheVariants as pattern
 use Rattle.isle_tree.specs.Program.{IfLet, Body, Done, Then, Loop}
-use Rattle.isle_tree.specs.WellFormed.{Locals, Callables, read_holds, is_value, inner_holds, ReadsPattern, field_locals, inner_locals, pattern_locals, IsBodyScoped, each_holds, local_holds, after_let}
+use Rattle.isle_tree.specs.WellFormed.{Locals, Callables, read_holds, is_value, inner_holds, ReadsPattern, field_locals, inner_locals, pattern_locals, IsBodyScoped, AreArmsScoped, each_holds, local_holds, after_let}
+use Rattle.isle_simulation.specs.Manner.{bare_manner}
 use Rattle.isle_simulation.specs.Patterns.{bind_before, field_binds, leaves_out, pattern_named, some_pattern, pattern_of}
 use Rattle.isle_simulation.specs.References.{is_declared}
 use Rattle.isle_simulation.proofs.ArmsRun.{same_binds, IsForm, ArmPattern, arm_pattern}
 use Rattle.isle_simulation.proofs.Made.{over_value, over_option, some_made}
-use Rattle.isle_simulation.proofs.Ready.{IsReady, IsOptionReady, IsReadyFrom, IsReadyControl, IsLoopReady}
-use Rattle.isle_simulation.proofs.Written.{written_operand, written_read, written_pattern, block_body, control_stmt, result_stmt, stop_before, written_list}
+use Rattle.isle_simulation.proofs.Ready.{IsReady, IsOptionReady, IsReadyIn, IsReadyFrom, IsReadyControl, AreReadyArms, IsLoopReady}
+use Rattle.isle_simulation.proofs.Written.{written_operand, written_read, written_test, written_pattern, written_arm, match_read, told_each, block_body, control_stmt, result_stmt, stop_before, written_list}
 use Rattle.isle_simulation.specs.TermFns.{callables_of}
 use Rattle.isle_simulation.proofs.CalledTerms.{HasCallees}
 use Rattle.isle_simulation.proofs.LetsScoped.{one_value, tested_holds, items, HoldsAs, LocalsHold, none_hold, more_hold, operand_one, operand_option, read_one, is_one, within_holds, lets_scoped}
@@ -218,70 +221,140 @@ form_scoped s bound locals source ty c places inside ss l ready is parts form h 
 within_hold : (s : Setting) (bound : List ℕ) (places : List (Option BindingId)) (locals : Locals) → places ≡ [] → LocalsHold s bound locals → LocalsHold s (bound_within bound places) locals
 within_hold s bound places locals e l = subst (λ ps. LocalsHold s (bound_within bound ps) locals) (sym e) l
 
+-- what a match over such reads holds
+abbrev HoldsOver : Setting → Source → Option Holds → Type 0
+HoldsOver s (AValue ty) held = held ≡ one_value
+HoldsOver s (AnOption tys) held = held ≡ Some (holds.Optional (items s.env tys))
+
+match_holds : (s : Setting) (bound : List ℕ) (locals : Locals) (source : BindingId) (over : Source) (c : Constraint) → LocalsHold s bound locals → IsReadyIn s bound source over → IsConstraintOver s.env c over
+    → HoldsOver s over (read_holds (length s.term.arg_tys) locals (match_read s bound source c))
+match_holds s bound locals source (AValue ty) (constraint.ConstBool val) l ready is = operand_one s bound locals source ty l ready
+match_holds s bound locals source (AValue ty) (constraint.ConstInt val of) l ready is = operand_one s bound locals source ty l ready
+match_holds s bound locals source (AValue ty) (constraint.ConstPrim val) l ready is = operand_one s bound locals source ty l ready
+match_holds s bound locals source (AValue ty) (constraint.Variant of variant) l ready is = read_one s bound locals true source ty l ready
+match_holds s bound locals source (AValue ty) (constraint.Struct of) l ready is = read_one s bound locals true source ty l ready
+match_holds s bound locals source (AValue ty) constraint.Some l ready is = absurd is
+match_holds s bound locals source (AnOption tys) constraint.Some l ready is = operand_option s bound locals source tys l ready
+match_holds s bound locals source (AnOption tys) (constraint.ConstBool val) l ready is = cc
+match_holds s bound locals source (AnOption tys) (constraint.ConstInt val of) l ready is = cc
+match_holds s bound locals source (AnOption tys) (constraint.ConstPrim val) l ready is = cc
+match_holds s bound locals source (AnOption tys) (constraint.Variant of variant) l ready is = cc
+match_holds s bound locals source (AnOption tys) (constraint.Struct of) l ready is = cc
+
+-- the pattern may be read over what holds this, and what it binds is there within
+abbrev IsArmScoped : Setting → List ℕ → Locals → List (Option BindingId) → TPat → Option Holds → Type 0
+IsArmScoped s bound locals places pat held = ReadsPattern pat held × LocalsHold s (bound_within bound places) (locals ++ pattern_locals pat held)
+
+constant_arm : (s : Setting) (bound : List ℕ) (locals : Locals) (places : List (Option BindingId)) (o : Operand) (held : Option Holds) → LocalsHold s bound locals → held ≡ one_value → places ≡ [] → IsArmScoped s bound locals places (pattern.Const o) held
+constant_arm s bound locals places o held l e none = (is_one held e, subst (LocalsHold s (bound_within bound places)) (sym (append-nil locals)) (within_hold s bound places locals none l))
+
+form_arm : (s : Setting) (bound : List ℕ) (locals : Locals) (source : BindingId) (ty : TypeId) (c : Constraint) (places : List (Option BindingId)) (held : Option Holds) → LocalsHold s bound locals → held ≡ one_value → IsConstraintOf s.env c ty → ArePlacesOf s source c places → IsForm c
+    → IsArmScoped s bound locals places (written_pattern (pattern_of s.env c places)) held
+form_arm s bound locals source ty c places held l e is parts form =
+    let p = arm_pattern s source ty c places is parts form in
+    let k = named_pattern s.env p.f.ty p.f.variant (leaves_out (typed_fields s.env p.f.fields) places) p.binds held (is_one held e) in
+    subst (λ o. IsArmScoped s bound locals places (written_pattern o) held) (sym p.is)
+    (k.0, subst (λ more. LocalsHold s (bound_within bound places) (locals ++ more)) (sym k.1) (form_hold s source ty c places bound locals p parts form l))
+
+some_arm : (s : Setting) (bound : List ℕ) (locals : Locals) (source : BindingId) (tys : List TypeId) (places : List (Option BindingId)) (held : Option Holds) → LocalsHold s bound locals → IsOptionReady s bound source tys → held ≡ Some (holds.Optional (items s.env tys)) → ArePlacesOf s source constraint.Some places
+    → IsArmScoped s bound locals places (written_pattern (some_pattern places)) held
+some_arm s bound locals source tys places held l ready e parts =
+    let p = some_made places parts.0 in
+    subst (λ o. IsArmScoped s bound locals places (written_pattern o) held) (sym p.1) (
+      subst (λ x. IsSome (inner_holds x)) (sym e) refl,
+      subst (λ x. LocalsHold s (bound_within bound places) (locals ++ inner_locals p.0 (inner_holds x))) (sym e) (some_hold s source tys places bound locals p.0 p.1 ready.path parts l),
+    )
+
+-- so of one of several arms
+arm_scoped : (s : Setting) (bound : List ℕ) (locals : Locals) (source : BindingId) (over : Source) (c : Constraint) (places : List (Option BindingId)) (held : Option Holds) → LocalsHold s bound locals → IsReadyIn s bound source over → HoldsOver s over held
+    → IsConstraintOver s.env c over → ArePlacesOf s source c places → IsArmScoped s bound locals places (written_arm s.env c places) held
+arm_scoped s bound locals source (AValue ty) (constraint.ConstBool val) places held l ready e is parts = constant_arm s bound locals places (written_test s.env (constraint.ConstBool val)) held l e parts
+arm_scoped s bound locals source (AValue ty) (constraint.ConstInt val of) places held l ready e is parts = constant_arm s bound locals places (written_test s.env (constraint.ConstInt val of)) held l e parts
+arm_scoped s bound locals source (AValue ty) (constraint.ConstPrim val) places held l ready e is parts = constant_arm s bound locals places (written_test s.env (constraint.ConstPrim val)) held l e parts
+arm_scoped s bound locals source (AValue ty) (constraint.Variant of variant) places held l ready e is parts = form_arm s bound locals source ty (constraint.Variant of variant) places held l e is parts tt
+arm_scoped s bound locals source (AValue ty) (constraint.Struct of) places held l ready e is parts = form_arm s bound locals source ty (constraint.Struct of) places held l e is parts tt
+arm_scoped s bound locals source (AValue ty) constraint.Some places held l ready e is parts = absurd is
+arm_scoped s bound locals source (AnOption tys) constraint.Some places held l ready e is parts = some_arm s bound locals source tys places held l ready e parts
+arm_scoped s bound locals source (AnOption tys) (constraint.ConstBool val) places held l ready e is parts = cc
+arm_scoped s bound locals source (AnOption tys) (constraint.ConstInt val of) places held l ready e is parts = cc
+arm_scoped s bound locals source (AnOption tys) (constraint.ConstPrim val) places held l ready e is parts = cc
+arm_scoped s bound locals source (AnOption tys) (constraint.Variant of variant) places held l ready e is parts = cc
+arm_scoped s bound locals source (AnOption tys) (constraint.Struct of) places held l ready e is parts = cc
+
 mutual
   -- what a block reads, where what follows reads what is there whatever is bound
-  block_scoped : (b : Block) (s : Setting) (bound made : List ℕ) (locals : Locals) (end : Body) → HasCallees s.env → LocalsHold s bound locals → IsReadyFrom s bound made b → HasSingleArms b
+  block_scoped : (b : Block) (s : Setting) (bound made : List ℕ) (locals : Locals) (end : Body) → HasCallees s.env → LocalsHold s bound locals → IsReadyFrom s bound made b
       → ((after : Locals) → IsBodyScoped (callables_of s.env) (kind_of s.term.kind) (length s.term.arg_tys) after end)
       → IsBodyScoped (callables_of s.env) (kind_of s.term.kind) (length s.term.arg_tys) locals (block_body s bound b end)
-  block_scoped Stop s bound made locals end names l k o h = h locals
-  block_scoped (Step binds c more) s bound made locals end names l k o h =
+  block_scoped Stop s bound made locals end names l k h = h locals
+  block_scoped (Step binds c more) s bound made locals end names l k h =
       let rest = block_body s (bound_by bound binds) more end in
       lets_scoped s bound locals binds (Then (control_stmt s (bound_by bound binds) c) (stop_before false (gives_several s) c rest)) names l k.0
-      (λ after held. control_scoped c s (bound_by bound binds) _ after (stop_before false (gives_several s) c rest) names held k.2 o.0
-      (stop_scoped (gives_several s) c (callables_of s.env) (kind_of s.term.kind) (length s.term.arg_tys) after rest (block_scoped more s (bound_by bound binds) _ after end names held k.3 o.1 h)))
+      (λ after held. control_scoped c s (bound_by bound binds) _ after (stop_before false (gives_several s) c rest) names held k.2
+      (stop_scoped (gives_several s) c (callables_of s.env) (kind_of s.term.kind) (length s.term.arg_tys) after rest (block_scoped more s (bound_by bound binds) _ after end names held k.3 h)))
 
-  control_scoped : (c : Control) (s : Setting) (bound made : List ℕ) (locals : Locals) (ss : Body) → HasCallees s.env → LocalsHold s bound locals → IsReadyControl s bound made c → IsSingle c
+  control_scoped : (c : Control) (s : Setting) (bound made : List ℕ) (locals : Locals) (ss : Body) → HasCallees s.env → LocalsHold s bound locals → IsReadyControl s bound made c
       → IsBodyScoped (callables_of s.env) (kind_of s.term.kind) (length s.term.arg_tys) locals ss → IsBodyScoped (callables_of s.env) (kind_of s.term.kind) (length s.term.arg_tys) locals (Then (control_stmt s bound c) ss)
-  control_scoped (block.Match source (Arm (constraint.ConstBool val) places body NoArm)) s bound made locals ss names l k o h =
+  control_scoped (block.Match source (Arm (constraint.ConstBool val) places body NoArm)) s bound made locals ss names l k h =
       let v = over_value s bound source (constraint.ConstBool val) k.1.0 (λ e. cc) k.1.1 k.1.2.0 in (
         (
           is_one _ (operand_one s bound locals source v.ty l v.ready),
           is_one _ (tested_holds s.env (constraint.ConstBool val) (length s.term.arg_tys) locals tt),
-          block_scoped body s (bound_within bound places) made locals Done names (within_hold s bound places locals k.1.2.1 l) k.1.2.2 o (λ after. tt),
+          block_scoped body s (bound_within bound places) made locals Done names (within_hold s bound places locals k.1.2.1 l) k.1.2.2 (λ after. tt),
         ),
         h,
       )
-  control_scoped (block.Match source (Arm (constraint.ConstInt val of) places body NoArm)) s bound made locals ss names l k o h =
+  control_scoped (block.Match source (Arm (constraint.ConstInt val of) places body NoArm)) s bound made locals ss names l k h =
       let v = over_value s bound source (constraint.ConstInt val of) k.1.0 (λ e. cc) k.1.1 k.1.2.0 in (
         (
           is_one _ (operand_one s bound locals source v.ty l v.ready),
           is_one _ (tested_holds s.env (constraint.ConstInt val of) (length s.term.arg_tys) locals tt),
-          block_scoped body s (bound_within bound places) made locals Done names (within_hold s bound places locals k.1.2.1 l) k.1.2.2 o (λ after. tt),
+          block_scoped body s (bound_within bound places) made locals Done names (within_hold s bound places locals k.1.2.1 l) k.1.2.2 (λ after. tt),
         ),
         h,
       )
-  control_scoped (block.Match source (Arm (constraint.ConstPrim val) places body NoArm)) s bound made locals ss names l k o h =
+  control_scoped (block.Match source (Arm (constraint.ConstPrim val) places body NoArm)) s bound made locals ss names l k h =
       let v = over_value s bound source (constraint.ConstPrim val) k.1.0 (λ e. cc) k.1.1 k.1.2.0 in (
         (
           is_one _ (operand_one s bound locals source v.ty l v.ready),
           is_one _ (tested_holds s.env (constraint.ConstPrim val) (length s.term.arg_tys) locals tt),
-          block_scoped body s (bound_within bound places) made locals Done names (within_hold s bound places locals k.1.2.1 l) k.1.2.2 o (λ after. tt),
+          block_scoped body s (bound_within bound places) made locals Done names (within_hold s bound places locals k.1.2.1 l) k.1.2.2 (λ after. tt),
         ),
         h,
       )
-  control_scoped (block.Match source (Arm (constraint.Variant of variant) places body NoArm)) s bound made locals ss names l k o h =
+  control_scoped (block.Match source (Arm (constraint.Variant of variant) places body NoArm)) s bound made locals ss names l k h =
       let v = over_value s bound source (constraint.Variant of variant) k.1.0 (λ e. cc) k.1.1 k.1.2.0 in
       form_scoped s bound locals source v.ty (constraint.Variant of variant) places (block_body s (bound_within bound places) body Done) ss l v.ready v.is k.1.2.1 tt
-      (λ after held. block_scoped body s (bound_within bound places) made after Done names held k.1.2.2 o (λ last. tt)) h
-  control_scoped (block.Match source (Arm (constraint.Struct of) places body NoArm)) s bound made locals ss names l k o h =
+      (λ after held. block_scoped body s (bound_within bound places) made after Done names held k.1.2.2 (λ last. tt)) h
+  control_scoped (block.Match source (Arm (constraint.Struct of) places body NoArm)) s bound made locals ss names l k h =
       let v = over_value s bound source (constraint.Struct of) k.1.0 (λ e. cc) k.1.1 k.1.2.0 in
       form_scoped s bound locals source v.ty (constraint.Struct of) places (block_body s (bound_within bound places) body Done) ss l v.ready v.is k.1.2.1 tt
-      (λ after held. block_scoped body s (bound_within bound places) made after Done names held k.1.2.2 o (λ last. tt)) h
-  control_scoped (block.Match source (Arm constraint.Some places body NoArm)) s bound made locals ss names l k o h =
+      (λ after held. block_scoped body s (bound_within bound places) made after Done names held k.1.2.2 (λ last. tt)) h
+  control_scoped (block.Match source (Arm constraint.Some places body NoArm)) s bound made locals ss names l k h =
       let v = over_option s bound source k.1.0 k.1.1 k.1.2.0 in
       some_scoped s bound locals source v.0 places (block_body s (bound_within bound places) body Done) ss l v.1 k.1.2.1
-      (λ after held. block_scoped body s (bound_within bound places) made after Done names held k.1.2.2 o (λ last. tt)) h
-  control_scoped (block.Match source (Arm c places body (Arm d others inside arms))) s bound made locals ss names l k o h = absurd o
-  control_scoped (block.Match source NoArm) s bound made locals ss names l k o h = absurd o
-  control_scoped (block.Equal x y body) s bound made locals ss names l k o h =
-      ((is_one _ (operand_one s bound locals x k.0.0 l k.0.1), is_one _ (operand_one s bound locals y k.0.0 l k.0.2), block_scoped body s bound made locals Done names l k.1 o (λ after. tt)), h)
-  control_scoped (block.Loop result body) s bound made locals ss names l k o h =
-      loop_scoped s bound locals result (block_body s (bound ++ result.0 ∷ []) body Done) ss k.0 l (λ after held. block_scoped body s (bound ++ result.0 ∷ []) made after Done names held k.1 o (λ last. tt)) h
-  control_scoped (block.Return pos result) s bound made locals ss names l k o h =
+      (λ after held. block_scoped body s (bound_within bound places) made after Done names held k.1.2.2 (λ last. tt)) h
+  control_scoped (block.Match source (Arm c places body (Arm d others inside arms))) s bound made locals ss names l k h =
+      let held = read_holds (length s.term.arg_tys) locals (match_read s bound source c) in
+      (each_scoped (Arm c places body (Arm d others inside arms)) s bound made locals source k.1.0 held names l k.1.1 (match_holds s bound locals source k.1.0 c l k.1.1 k.1.2.0) k.1.2, h)
+  control_scoped (block.Match source NoArm) s bound made locals ss names l k h = absurd k.0
+  control_scoped (block.Equal x y body) s bound made locals ss names l k h =
+      ((is_one _ (operand_one s bound locals x k.0.0 l k.0.1), is_one _ (operand_one s bound locals y k.0.0 l k.0.2), block_scoped body s bound made locals Done names l k.1 (λ after. tt)), h)
+  control_scoped (block.Loop result body) s bound made locals ss names l k h =
+      loop_scoped s bound locals result (block_body s (bound ++ result.0 ∷ []) body Done) ss k.0 l (λ after held. block_scoped body s (bound ++ result.0 ∷ []) made after Done names held k.1 (λ last. tt)) h
+  control_scoped (block.Return pos result) s bound made locals ss names l k h =
       result_scoped (kind_of s.term.kind) (written_read s bound false result) (callables_of s.env) (length s.term.arg_tys) locals ss (read_one s bound locals false result s.term.ret_ty l k) h
 
+  -- each of several arms, over what holds this
+  each_scoped : (arms : Arms) (s : Setting) (bound made : List ℕ) (locals : Locals) (source : BindingId) (over : Source) (held : Option Holds) → HasCallees s.env → LocalsHold s bound locals → IsReadyIn s bound source over → HoldsOver s over held
+      → AreReadyArms s bound made source over arms → AreArmsScoped (callables_of s.env) (kind_of s.term.kind) (length s.term.arg_tys) locals held (told_each bare_manner s bound arms)
+  each_scoped NoArm s bound made locals source over held names l ready e k = tt
+  each_scoped (Arm c places body arms) s bound made locals source over held names l ready e k =
+      let p = arm_scoped s bound locals source over c places held l ready e k.0 k.1 in
+      (p.0, block_scoped body s (bound_within bound places) made (locals ++ pattern_locals (written_arm s.env c places) held) Done names p.1 k.2 (λ after. tt), each_scoped arms s bound made locals source over held names l ready e k.3)
+
 -- what the block of a function reads
-pub root_scoped : (b : Block) (s : Setting) (end : Body) → HasCallees s.env → IsReadyFrom s [] [] b → HasSingleArms b
+pub root_scoped : (b : Block) (s : Setting) (end : Body) → HasCallees s.env → IsReadyFrom s [] [] b
     → ((after : Locals) → IsBodyScoped (callables_of s.env) (kind_of s.term.kind) (length s.term.arg_tys) after end)
     → IsBodyScoped (callables_of s.env) (kind_of s.term.kind) (length s.term.arg_tys) [] (block_body s [] b end)
-root_scoped b s end names k o h = block_scoped b s [] [] [] end names (none_hold s) k o h
+root_scoped b s end names k h = block_scoped b s [] [] [] end names (none_hold s) k h

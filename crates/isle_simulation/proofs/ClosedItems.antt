@@ -10,6 +10,7 @@ use Rattle.isle_core.specs.declared.rule_sets.Constraint.{Constraint}
 use Rattle.isle_core.specs.declared.rule_sets.Constraint.TheVariants as constraint
 use Rattle.isle_core.specs.ArmPlaces.{AreParts, ArePlacesOf, bound_within}
 use Rattle.isle_core.specs.Bindable.{bound_by}
+use Rattle.isle_core.specs.BlockLawful.{Source, AValue, AnOption}
 use Rattle.isle_core.specs.Block.{Block, Stop, Step, Control, Match, Equal, Loop, Return, Arms, NoArm, Arm}
 use Rattle.isle_core.specs.Path.{Path, Arg, ConstBool, ConstInt, ConstPrim, Chosen, MadeStruct, VariantField, StructField, Inner, NoPath, at, at_all}
 use Rattle.isle_core.specs.Readable.{IsInPlace}
@@ -22,7 +23,7 @@ use Rattle.isle_simulation.proofs.BoundTests.{found}
 use Rattle.isle_simulation.proofs.CompletedReady.{contained, last_bound}
 use Rattle.isle_simulation.proofs.CompletedRuns.{IsLocalPath, Adds, bound_push, adds_both, adds_step, adds_within, local_path}
 use Rattle.isle_simulation.proofs.ItemsWithin.{ItemsAre, AllItemsAre, items_mean, first_items_are}
-use Rattle.isle_simulation.proofs.Ready.{IsSpelled, IsReady, AreReady, IsReadyBind, AreReadyBinds}
+use Rattle.isle_simulation.proofs.Ready.{IsSpelled, IsReady, IsReadyIn, AreReady, IsReadyBind, AreReadyBinds}
 
 -- the path of a binding that is bound
 pub record IsBoundPath (s : Setting) (bound : List ℕ) (q : Path) : Type 0 where
@@ -71,6 +72,11 @@ plain_items P p h = absurd h
 
 pub ready_items : (s : Setting) (bound : List ℕ) (b : BindingId) (ty : TypeId) → IsClosed s bound → IsReady s bound b ty → ItemsAre (IsBoundPath s bound) (at (paths_in s) b)
 ready_items s bound b ty k r = ⊎_elim (λ e. k.by b e) (λ h. spelled_items (IsBoundPath s bound) (at (paths_in s) b) h) r.place
+
+-- so of what a match is over
+pub over_items : (s : Setting) (bound : List ℕ) (b : BindingId) (over : Source) → IsClosed s bound → IsReadyIn s bound b over → ItemsAre (IsBoundPath s bound) (at (paths_in s) b)
+over_items s bound b (AValue ty) k r = ready_items s bound b ty k r
+over_items s bound b (AnOption tys) k r = k.by b r.bound'
 
 all_ready_items : (s : Setting) (bound : List ℕ) (bs : List BindingId) (tys : List TypeId) → IsClosed s bound → AreReady s bound bs tys → AllItemsAre (IsBoundPath s bound) (at_all (paths_in s) bs)
 all_ready_items s bound [] [] k r = tt

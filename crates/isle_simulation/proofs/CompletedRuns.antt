@@ -17,7 +17,6 @@ use Rattle.isle_core.specs.Occurrences.{occurrence_at, occurrences, after_block,
 use Rattle.isle_core.specs.Path.{Path, MadeVariant, MadeStruct, NoPath, APath, at}
 use Rattle.isle_core.specs.Rule.{Environment}
 use Rattle.isle_core.specs.Setting.{Setting, gives_several, paths_in}
-use Rattle.isle_core.specs.SingleArms.{HasSingleArms, IsSingle}
 use Rattle.isle_core.specs.Value.{Value, Made}
 use Rattle.isle_core.specs.ValueAt.{Held, Known, value_at, meets, equal_held}
 use Rattle.isle_core.proofs.AllLaws.{all_append}
@@ -147,20 +146,6 @@ module _ (s : Setting) (m : Meaning) (args : List Value) where
 -- binding made values changes nothing
 pub completed_runs : (s : Setting) (m : Meaning) (args : List Value) (bound : List ℕ) (b : Block) (known : Known) (made : List Made) → block_run s.env m args (paths_in s) (completed s bound b) known made ≡ block_run s.env m args (paths_in s) b known made
 completed_runs s m args bound b known made = block_same s m args b bound known made
-
-mutual
-  -- each Match has still one arm
-  pub completed_single : (s : Setting) (bound : List ℕ) (b : Block) → HasSingleArms b → HasSingleArms (completed s bound b)
-  completed_single s bound Stop h = tt
-  completed_single s bound (Step bs c more) h = (control_single s (bound_by bound (step_binds s bound bs c)) c h.0, completed_single s (bound_by bound (step_binds s bound bs c)) more h.1)
-
-  control_single : (s : Setting) (bound : List ℕ) (c : Control) → IsSingle c → IsSingle (completed_control s bound c)
-  control_single s bound (Match source (Arm c places body NoArm)) h = completed_single s (bound_within bound places) body h
-  control_single s bound (Match source (Arm c places body (Arm d others inside arms))) h = absurd h
-  control_single s bound (Match source NoArm) h = absurd h
-  control_single s bound (Equal a b body) h = completed_single s bound body h
-  control_single s bound (Loop result body) h = completed_single s (bound ++ result.0 ∷ []) body h
-  control_single s bound (Return pos result) h = tt
 
 -- ---- occurrences
 

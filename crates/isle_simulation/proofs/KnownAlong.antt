@@ -1,7 +1,7 @@
 -- What is known along a way through a block: which impure calls may have been answered.
-use Rattle.std.proofs.Common.{◌≡◌, ℕ, List, ◌++◌, Some, None, sym, ◌∙◌, refl}
+use Rattle.std.proofs.Common.{◌≡◌, ⊎_elim, ℕ, List, ◌++◌, Some, None, sym, ◌∙◌, refl}
 use Rattle.std.specs.Prelude.{Contains}
-use Rattle.std.proofs.lemmas.List.Elements.{Contains-append_left, Contains-append_right}
+use Rattle.std.proofs.lemmas.List.Elements.{Contains-append_cases, Contains-append_left, Contains-append_right}
 use Rattle.isle_core.specs.CallRun as went
 use Rattle.isle_core.specs.CallRun.{Went}
 use Rattle.isle_core.specs.Occurrences.{AreNew}
@@ -48,6 +48,14 @@ on_right made more known (went.Ends o) h = tt
 pub on_first : (more others : List ℕ) (known : Known) (w : Went) → WentOn known more w → WentOn known (more ++ others) w
 on_first more others known (went.Goes later calls) h = on_left more others known later h
 on_first more others known (went.Ends o) h = tt
+
+-- and more between
+pub on_between : (made more others : List ℕ) (known : Known) (w : Went) → WentOn known (made ++ others) w → WentOn known (made ++ (more ++ others)) w
+on_between made more others known (went.Goes later calls) h = record {
+  grows = h.grows;
+  only = λ k apart. h.only k (λ c. ⊎_elim (λ d. apart (Contains-append_left made (more ++ others) k d)) (λ d. apart (Contains-append_right made (more ++ others) k (Contains-append_right more others k d))) (Contains-append_cases made others k c));
+}
+on_between made more others known (went.Ends o) h = tt
 
 -- the same is known as before
 pub same_later : (known : Known) (made : List ℕ) → KnowsOnly made known → IsLater known made known

@@ -19,6 +19,7 @@ pub mod CompletedReady
 pub mod Logged
 pub mod LoggedLaws
 pub mod LoggedLines
+pub mod EachArm
 pub mod KnownAlong
 pub mod Simulation
 pub mod ItemsWithin

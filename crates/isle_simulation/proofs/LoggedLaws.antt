@@ -7,9 +7,10 @@ use Rattle.isle_core.specs.SameInRun.{same_in_run}
 use Rattle.isle_core.specs.declared.types.ReturnKind.{ReturnKind}
 use Rattle.isle_core.specs.declared.types.ReturnKind.TheVariants as kind
 use Rattle.isle_tree.specs.Program.{Stmt, Let, LetList, IfEq, IfLet, Match, Loop, Return, Extend, Overflow, Log, Split, Tail, Body, Done, Then, Arms, NoArm, Arm}
-use Rattle.isle_tree.specs.Run.{Around, State, Env, Flow, Goes, Ends, Leaves, Stuck, bind, look, value_of, read_value, on_value, on_list, fit, fitted, then_run, after_scope, run_items, run_stmt, run_body}
+use Rattle.isle_tree.specs.Run.{Around, State, Env, Flow, Goes, Ends, Leaves, Stuck, bind, look, value_of, read_value, on_value, on_list, fit, fitted, then_run, after_scope, run_items, run_stmt, run_body, run_arms}
 use Rattle.isle_tree.specs.Walk.{of_stmt, of_body, of_arms}
-use Rattle.isle_tree.specs.WellFormed.{Callables, Locals, IsStmt, IsBody, IsStmtScoped, IsBodyScoped, FitsStmt, FitsBody, FitsEnding, FitsFunction, bound_after, after_let, pattern_locals, read_holds, each_holds, local_holds}
+use Rattle.isle_tree.specs.declared.holds.Holds.{Holds}
+use Rattle.isle_tree.specs.WellFormed.{Callables, Locals, HasSeveral, IsStmt, IsBody, AreArms, IsStmtScoped, IsBodyScoped, AreArmsScoped, FitsStmt, FitsBody, FitsArms, FitsEnding, FitsFunction, bound_after, after_let, pattern_locals, read_holds, each_holds, local_holds}
 use Rattle.isle_simulation.specs.Bare.{bare, bare_before, bare_arms, body_before}
 use Rattle.isle_simulation.specs.LogLines.{LogLine}
 use Rattle.isle_simulation.proofs.Logged.{first_before, logged, logged_before, logged_arms, results_in, results_of}
@@ -94,7 +95,7 @@ mutual
       (value_same (value_of w env a) _ _ (λ v. value_same (value_of w env b) _ _ (λ u. ap (λ f. cond (same_in_run v u) (after_scope env f) (Goes env s)) (logged_runs inside lines w env s))))
   before_runs (IfLet pat r inside) lines w after env s =
       ap (λ f. then_run f (run_body w after)) (fitted_same (fit w pat (read_value w env r)) _ _ (Goes env s) (λ bound. ap (after_scope env) (logged_runs inside lines w (env ++ bound) s)))
-  before_runs (Match r arms) lines w after env s = refl
+  before_runs (Match r arms) lines w after env s = ap (λ f. then_run f (run_body w after)) (arms_runs arms lines w (read_value w env r) env s)
   before_runs (Loop list item inside) lines w after env s =
       ap (λ f. then_run f (run_body w after)) (list_same (look env list) _ _ (λ is. items_same is env s _ _ (λ i t. logged_runs inside lines w (bind env item (One i)) t)))
   before_runs (Return e) lines w after env s = line_runs lines w (Then (Return e) after) env s
@@ -104,11 +105,22 @@ mutual
   before_runs (Split inside within) lines w after env s = refl
   before_runs (Tail mark) lines w after env s = refl
 
+  arms_runs : (arms : Arms) (lines : List LogLine) (w : Around) (h : Held) (env : Env) (s : State) → run_arms w (logged_arms lines arms) h env s ≡ run_arms w arms h env s
+  arms_runs NoArm lines w h env s = refl
+  arms_runs (Arm pat inside arms) lines w h env s =
+      ap (fitted (fit w pat h) (λ bound. after_scope env (run_body w (logged lines inside) (env ++ bound) s))) (arms_runs arms (drop (results_of inside) lines) w h env s)
+      ∙ fitted_same (fit w pat h) _ _ (run_arms w arms h env s) (λ bound. ap (after_scope env) (logged_runs inside lines w (env ++ bound) s))
+
 -- ---- forms
 
 line_is : (lines : List LogLine) (b : Body) → IsBody b → IsBody (first_before lines b)
 line_is [] b h = h
 line_is (l ∷ lines) b h = (tt, h)
+
+several_kept : (arms : Arms) (lines : List LogLine) → HasSeveral arms → HasSeveral (logged_arms lines arms)
+several_kept NoArm lines h = absurd h
+several_kept (Arm pat inside NoArm) lines h = absurd h
+several_kept (Arm pat inside (Arm other body arms)) lines h = tt
 
 mutual
   pub logged_is : (b : Body) (lines : List LogLine) → IsBody b → IsBody (logged lines b)
@@ -120,7 +132,7 @@ mutual
   before_is (LetList n call) lines after h k = (h, k)
   before_is (IfEq a b inside) lines after h k = ((h.0, h.1, logged_is inside lines h.2), k)
   before_is (IfLet pat r inside) lines after h k = ((h.0, h.1, logged_is inside lines h.2), k)
-  before_is (Match r arms) lines after h k = absurd h
+  before_is (Match r arms) lines after h k = ((h.0, several_kept arms lines h.1, arms_are arms lines h.2), k)
   before_is (Loop list item inside) lines after h k = (logged_is inside lines h, k)
   before_is (Return e) lines after h k = line_is lines (Then (Return e) after) (h, k)
   before_is (Extend r) lines after h k = line_is lines (Then (Extend r) after) (h, k)
@@ -128,6 +140,10 @@ mutual
   before_is (Log term place) lines after h k = (h, k)
   before_is (Split inside within) lines after h k = absurd h
   before_is (Tail mark) lines after h k = (h, k)
+
+  arms_are : (arms : Arms) (lines : List LogLine) → AreArms arms → AreArms (logged_arms lines arms)
+  arms_are NoArm lines h = tt
+  arms_are (Arm pat inside arms) lines h = (h.0, logged_is inside lines h.1, arms_are arms (drop (results_of inside) lines) h.2)
 
 -- ---- scopes
 
@@ -147,7 +163,7 @@ mutual
   before_scoped (LetList n call) lines after fns of params bound h k = (h, k)
   before_scoped (IfEq a b inside) lines after fns of params bound h k = ((h.0, h.1, logged_scoped inside lines fns of params bound h.2), k)
   before_scoped (IfLet pat r inside) lines after fns of params bound h k = ((h.0, logged_scoped inside lines fns of params (bound ++ pattern_locals pat (read_holds params bound r)) h.1), k)
-  before_scoped (Match r arms) lines after fns of params bound h k = absurd h
+  before_scoped (Match r arms) lines after fns of params bound h k = (arms_scoped arms lines fns of params bound (read_holds params bound r) h, k)
   before_scoped (Loop list item inside) lines after fns of params bound h k = ((h.0, logged_scoped inside lines fns of params (after_let (each_holds (local_holds bound list)) item bound) h.1), k)
   before_scoped (Return e) lines after fns of params bound h k = line_scoped lines (Then (Return e) after) fns of params bound (h, k)
   before_scoped (Extend r) lines after fns of params bound h k = line_scoped lines (Then (Extend r) after) fns of params bound (h, k)
@@ -155,6 +171,11 @@ mutual
   before_scoped (Log term place) lines after fns of params bound h k = (h, k)
   before_scoped (Split inside within) lines after fns of params bound h k = absurd h
   before_scoped (Tail mark) lines after fns of params bound h k = (h, k)
+
+  arms_scoped : (arms : Arms) (lines : List LogLine) (fns : Callables) (of : ReturnKind) (params : ℕ) (bound : Locals) (held : Option Holds) → AreArmsScoped fns of params bound held arms → AreArmsScoped fns of params bound held (logged_arms lines arms)
+  arms_scoped NoArm lines fns of params bound held h = tt
+  arms_scoped (Arm pat inside arms) lines fns of params bound held h =
+      (h.0, logged_scoped inside lines fns of params (bound ++ pattern_locals pat held) h.1, arms_scoped arms (drop (results_of inside) lines) fns of params bound held h.2)
 
 -- ---- kinds
 
@@ -172,7 +193,7 @@ mutual
   before_fits (LetList n call) lines after of closed h k = (h, k)
   before_fits (IfEq a b inside) lines after of closed h k = (logged_fits inside lines of closed h, k)
   before_fits (IfLet pat r inside) lines after of closed h k = (logged_fits inside lines of closed h, k)
-  before_fits (Match r arms) lines after of closed h k = absurd h
+  before_fits (Match r arms) lines after of closed h k = (arms_fit arms lines of closed h, k)
   before_fits (Loop list item inside) lines after of closed h k = (logged_fits inside lines of closed h, k)
   before_fits (Return e) lines after of closed h k = line_fits lines (Then (Return e) after) of closed (h, k)
   before_fits (Extend r) lines after of closed h k = line_fits lines (Then (Extend r) after) of closed (h, k)
@@ -180,6 +201,10 @@ mutual
   before_fits (Log term place) lines after of closed h k = (h, k)
   before_fits (Split inside within) lines after of closed h k = absurd h
   before_fits (Tail mark) lines after of closed h k = absurd h
+
+  arms_fit : (arms : Arms) (lines : List LogLine) (of : ReturnKind) (closed : Bool) → FitsArms of closed arms → FitsArms of closed (logged_arms lines arms)
+  arms_fit NoArm lines of closed h = tt
+  arms_fit (Arm pat inside arms) lines of closed h = (logged_fits inside lines of closed h.0, arms_fit arms (drop (results_of inside) lines) of closed h.1)
 
 line_ending : (lines : List LogLine) (s : Stmt) (ss : Body) (of : ReturnKind) → FitsEnding of (Then s ss) → FitsEnding of (first_before lines (Then s ss))
 line_ending [] s ss of h = h
@@ -191,7 +216,7 @@ before_ending (Let n e) lines t ts of h k = (h, k)
 before_ending (LetList n call) lines t ts of h k = (h, k)
 before_ending (IfEq a b inside) lines t ts of h k = (logged_fits inside lines of false h, k)
 before_ending (IfLet pat r inside) lines t ts of h k = (logged_fits inside lines of false h, k)
-before_ending (Match r arms) lines t ts of h k = absurd h
+before_ending (Match r arms) lines t ts of h k = (arms_fit arms lines of false h, k)
 before_ending (Loop list item inside) lines t ts of h k = (logged_fits inside lines of false h, k)
 before_ending (Return e) lines t ts of h k = line_ending lines (Return e) (Then t ts) of (h, k)
 before_ending (Extend r) lines t ts of h k = line_ending lines (Extend r) (Then t ts) of (h, k)

@@ -17,10 +17,10 @@ use Rattle.isle_core.specs.declared.types.Term.{Term}
 use Rattle.isle_core.specs.declared.types.TypeDef.{TypeDef}
 use Rattle.isle_core.specs.declared.types.TypeDef.TheVariants as def
 use Rattle.isle_core.specs.declared.values.Callee.{Callee}
-use Rattle.isle_core.specs.ArmPlaces.{bound_within}
+use Rattle.isle_core.specs.ArmPlaces.{ArePlacesOf, bound_within}
 use Rattle.isle_core.specs.Bindable.{IsPlain, bound_by}
 use Rattle.isle_core.specs.Block as block
-use Rattle.isle_core.specs.Block.{Block, Stop, Step, Control, Arm, NoArm}
+use Rattle.isle_core.specs.Block.{Block, Stop, Step, Control, Arms, Arm, NoArm}
 use Rattle.isle_core.specs.BlockLawful.{Source, AValue, AnOption, IsConstraintOver, IsLawfulBlock}
 use Rattle.isle_core.specs.Calling.{Calling, ByTurns, ByCases, NoCall, calling, extracting, kind_of}
 use Rattle.isle_core.specs.Constants.{int_of_def}
@@ -33,19 +33,19 @@ use Rattle.isle_core.specs.Path.{Path, Paths, Arg, ConstBool, ConstInt, ConstPri
 use Rattle.isle_core.specs.PathType.{IsPathOf, ArePathsOf}
 use Rattle.isle_core.specs.Rule.{Environment}
 use Rattle.isle_core.specs.Setting.{Setting, setting, gives_several, paths_in}
-use Rattle.isle_core.specs.SingleArms.{HasSingleArms, IsSingle}
 use Rattle.isle_core.specs.Terms.{sym_text}
 use Rattle.isle_tree.specs.declared.tree.Operand.{Operand}
 use Rattle.isle_tree.specs.declared.tree.Operand.TheVariants as operand
 use Rattle.isle_tree.specs.declared.tree.Read.{Read}
 use Rattle.isle_tree.specs.declared.tree.TPat.{TPat}
 use Rattle.isle_tree.specs.declared.tree.TPat.TheVariants as pattern
-use Rattle.isle_tree.specs.Program.{Stmt, IfEq, IfLet, Loop, Overflow, Body, Done, Then}
+use Rattle.isle_tree.specs.Program as tree
+use Rattle.isle_tree.specs.Program.{Stmt, IfEq, IfLet, Match, Loop, Overflow, Body, Done, Then}
 use Rattle.isle_simulation.specs.Completed.{completed}
 use Rattle.isle_simulation.specs.Operands.{constant, in_place, tested, is_bound, operand_of}
-use Rattle.isle_simulation.specs.Patterns.{some_pattern}
+use Rattle.isle_simulation.specs.Patterns.{some_pattern, arm_pattern as pattern_in_arm}
 use Rattle.isle_simulation.specs.References.{is_declared, result_type, is_reference_in, read_as}
-use Rattle.isle_simulation.specs.Statements.{callee_of, read_before, read_in, reads, call_on, call_of, extraction_of, read_of, field_before, field_reads, made_of, made_in, computed, stmt_before, binds_list, let_of, lets, if_eq, if_let, return_of, stop_before, list_local, loop_of, plain_read, told_body, told_control}
+use Rattle.isle_simulation.specs.Statements.{callee_of, read_before, read_in, reads, call_on, call_of, extraction_of, read_of, field_before, field_reads, made_of, made_in, computed, stmt_before, binds_list, let_of, lets, if_eq, if_let, return_of, stop_before, list_local, loop_of, plain_read, match_read, match_of, arm_before, told_body, told_control, told_each}
 use Rattle.isle_simulation.specs.Manner.{Manner, manner_of}
 use Rattle.isle_simulation.specs.Telling.{Telling, line_before, told_before}
 use Rattle.isle_simulation.specs.TermFunction.{tail_in, function_with, term_function}
@@ -53,11 +53,10 @@ use Rattle.isle_simulation.proofs.ArmsRun.{arm_pattern}
 use Rattle.isle_simulation.proofs.OneBind.{spelled}
 use Rattle.isle_simulation.proofs.BoundTests.{found}
 use Rattle.isle_simulation.proofs.CompletedReady.{completed_ready}
-use Rattle.isle_simulation.proofs.CompletedRuns.{completed_single}
 use Rattle.isle_simulation.proofs.PathValues.{IsConstant}
-use Rattle.isle_simulation.proofs.Ready.{IsSpelled, IsReady, IsOptionReady, IsReadyIn, AreReady, IsMadeReady, IsReadyBind, AreReadyBinds, IsReadyFrom, IsReadyControl}
+use Rattle.isle_simulation.proofs.Ready.{IsSpelled, IsReady, IsOptionReady, IsReadyIn, AreReady, IsMadeReady, IsReadyBind, AreReadyBinds, IsReadyFrom, IsReadyControl, AreReadyArms}
 use Rattle.isle_simulation.proofs.Written as written
-use Rattle.isle_simulation.proofs.Written.{written_test, written_operand, written_read, written_place, written_pattern, call_expr, extraction_expr, made_expr, function_of}
+use Rattle.isle_simulation.proofs.Written.{written_test, written_operand, written_read, written_place, written_pattern, written_arm, call_expr, extraction_expr, made_expr, function_of}
 
 -- ---- what a match is over
 
@@ -224,43 +223,85 @@ told_made (Some line) (block.Equal a b body) o after e = e
 told_made (Some line) (block.Loop result body) o after e = e
 told_made (Some line) (block.Return place result) o after e = ap (option_map (line_before (line place))) e
 
+-- what a match reads is there
+match_there : (s : Setting) (bound : List ℕ) (source : BindingId) (over : Source) (c : Constraint) → IsReadyIn s bound source over → IsConstraintOver s.env c over → match_read s bound source c ≡ Some (written.match_read s bound source c)
+match_there s bound source (AValue ty) (constraint.ConstBool val) ready is = ap plain_read (operand_there s bound source ty ready)
+match_there s bound source (AValue ty) (constraint.ConstInt val of) ready is = ap plain_read (operand_there s bound source ty ready)
+match_there s bound source (AValue ty) (constraint.ConstPrim val) ready is = ap plain_read (operand_there s bound source ty ready)
+match_there s bound source (AValue ty) (constraint.Variant of variant) ready is = read_there s bound true source ty ready
+match_there s bound source (AValue ty) (constraint.Struct of) ready is = read_there s bound true source ty ready
+match_there s bound source (AValue ty) constraint.Some ready is = absurd is
+match_there s bound source (AnOption tys) constraint.Some ready is = ap plain_read (option_there s bound source tys ready)
+match_there s bound source (AnOption tys) (constraint.ConstBool val) ready is = cc
+match_there s bound source (AnOption tys) (constraint.ConstInt val of) ready is = cc
+match_there s bound source (AnOption tys) (constraint.ConstPrim val) ready is = cc
+match_there s bound source (AnOption tys) (constraint.Variant of variant) ready is = cc
+match_there s bound source (AnOption tys) (constraint.Struct of) ready is = cc
+
+pub pattern_there : (o : Option TPat) (pat : TPat) → o ≡ Some pat → o ≡ Some (written_pattern o)
+pattern_there o pat e = rw e refl
+
+-- so the pattern of one of several arms
+pub arm_there : (s : Setting) (source : BindingId) (over : Source) (c : Constraint) (places : List (Option BindingId)) → IsConstraintOver s.env c over → ArePlacesOf s source c places → pattern_in_arm s.env c places ≡ Some (written_arm s.env c places)
+arm_there s source over (constraint.ConstBool val) places is parts = ap (option_map pattern.Const) (test_there s.env (constraint.ConstBool val) tt)
+arm_there s source over (constraint.ConstInt val of) places is parts = ap (option_map pattern.Const) (test_there s.env (constraint.ConstInt val of) tt)
+arm_there s source over (constraint.ConstPrim val) places is parts = ap (option_map pattern.Const) (test_there s.env (constraint.ConstPrim val) tt)
+arm_there s source (AValue ty) (constraint.Variant of variant) places is parts = pattern_there _ _ (arm_pattern s source ty (constraint.Variant of variant) places is parts tt).is
+arm_there s source (AnOption tys) (constraint.Variant of variant) places is parts = cc
+arm_there s source (AValue ty) (constraint.Struct of) places is parts = pattern_there _ _ (arm_pattern s source ty (constraint.Struct of) places is parts tt).is
+arm_there s source (AnOption tys) (constraint.Struct of) places is parts = cc
+arm_there s source over constraint.Some places is parts = pattern_there _ _ (some_made places parts.0).1
+
+match_made : (r : Option Read) (q : Read) (o : Option tree.Arms) (arms : tree.Arms) → r ≡ Some q → o ≡ Some arms → match_of r o ≡ Some (Match q arms)
+match_made r q o arms e f = rw (e, f) refl
+
+before_arms : (p : Option TPat) (pat : TPat) (i : Option Body) (inside : Body) (o : Option tree.Arms) (arms : tree.Arms) → p ≡ Some pat → i ≡ Some inside → o ≡ Some arms → arm_before p i o ≡ Some (tree.Arm pat inside arms)
+before_arms p pat i inside o arms e f g = rw (e, f, g) refl
+
 mutual
   -- the statements of a lawful block
-  block_made : (manner : Manner) (b : Block) (s : Setting) (bound made : List ℕ) (end : Body) → IsReadyFrom s bound made b → HasSingleArms b → told_body manner s bound b (Some end) ≡ Some (written.told_body manner s bound b end)
-  block_made manner Stop s bound made end k o = refl
-  block_made manner (Step binds c more) s bound made end k o =
+  block_made : (manner : Manner) (b : Block) (s : Setting) (bound made : List ℕ) (end : Body) → IsReadyFrom s bound made b → told_body manner s bound b (Some end) ≡ Some (written.told_body manner s bound b end)
+  block_made manner Stop s bound made end k = refl
+  block_made manner (Step binds c more) s bound made end k =
       lets_made s bound binds _ _ k.0
-      (told_made manner.telling c _ _ (before_made _ _ _ _ (control_made manner c s (bound_by bound binds) _ k.2 o.0) (stop_made manner.inside (gives_several s) c _ _ (block_made manner more s (bound_by bound binds) _ end k.3 o.1))))
+      (told_made manner.telling c _ _ (before_made _ _ _ _ (control_made manner c s (bound_by bound binds) _ k.2) (stop_made manner.inside (gives_several s) c _ _ (block_made manner more s (bound_by bound binds) _ end k.3))))
 
-  control_made : (manner : Manner) (c : Control) (s : Setting) (bound made : List ℕ) → IsReadyControl s bound made c → IsSingle c → told_control manner s bound c ≡ Some (written.told_control manner s bound c)
-  control_made manner (block.Match source (Arm (constraint.ConstBool val) places body NoArm)) s bound made k o =
+  control_made : (manner : Manner) (c : Control) (s : Setting) (bound made : List ℕ) → IsReadyControl s bound made c → told_control manner s bound c ≡ Some (written.told_control manner s bound c)
+  control_made manner (block.Match source (Arm (constraint.ConstBool val) places body NoArm)) s bound made k =
       let v = over_value s bound source (constraint.ConstBool val) k.1.0 (λ e. cc) k.1.1 k.1.2.0 in
-      test_made _ _ _ _ _ _ (operand_there s bound source v.ty v.ready) (test_there s.env (constraint.ConstBool val) tt) (block_made manner body s (bound_within bound places) made Done k.1.2.2 o)
-  control_made manner (block.Match source (Arm (constraint.ConstInt val of) places body NoArm)) s bound made k o =
+      test_made _ _ _ _ _ _ (operand_there s bound source v.ty v.ready) (test_there s.env (constraint.ConstBool val) tt) (block_made manner body s (bound_within bound places) made Done k.1.2.2)
+  control_made manner (block.Match source (Arm (constraint.ConstInt val of) places body NoArm)) s bound made k =
       let v = over_value s bound source (constraint.ConstInt val of) k.1.0 (λ e. cc) k.1.1 k.1.2.0 in
-      test_made _ _ _ _ _ _ (operand_there s bound source v.ty v.ready) (test_there s.env (constraint.ConstInt val of) tt) (block_made manner body s (bound_within bound places) made Done k.1.2.2 o)
-  control_made manner (block.Match source (Arm (constraint.ConstPrim val) places body NoArm)) s bound made k o =
+      test_made _ _ _ _ _ _ (operand_there s bound source v.ty v.ready) (test_there s.env (constraint.ConstInt val of) tt) (block_made manner body s (bound_within bound places) made Done k.1.2.2)
+  control_made manner (block.Match source (Arm (constraint.ConstPrim val) places body NoArm)) s bound made k =
       let v = over_value s bound source (constraint.ConstPrim val) k.1.0 (λ e. cc) k.1.1 k.1.2.0 in
-      test_made _ _ _ _ _ _ (operand_there s bound source v.ty v.ready) (test_there s.env (constraint.ConstPrim val) tt) (block_made manner body s (bound_within bound places) made Done k.1.2.2 o)
-  control_made manner (block.Match source (Arm (constraint.Variant of variant) places body NoArm)) s bound made k o =
+      test_made _ _ _ _ _ _ (operand_there s bound source v.ty v.ready) (test_there s.env (constraint.ConstPrim val) tt) (block_made manner body s (bound_within bound places) made Done k.1.2.2)
+  control_made manner (block.Match source (Arm (constraint.Variant of variant) places body NoArm)) s bound made k =
       let v = over_value s bound source (constraint.Variant of variant) k.1.0 (λ e. cc) k.1.1 k.1.2.0 in
-      pattern_made _ _ _ _ _ _ (arm_pattern s source v.ty (constraint.Variant of variant) places v.is k.1.2.1 tt).is (read_there s bound true source v.ty v.ready) (block_made manner body s (bound_within bound places) made Done k.1.2.2 o)
-  control_made manner (block.Match source (Arm (constraint.Struct of) places body NoArm)) s bound made k o =
+      pattern_made _ _ _ _ _ _ (arm_pattern s source v.ty (constraint.Variant of variant) places v.is k.1.2.1 tt).is (read_there s bound true source v.ty v.ready) (block_made manner body s (bound_within bound places) made Done k.1.2.2)
+  control_made manner (block.Match source (Arm (constraint.Struct of) places body NoArm)) s bound made k =
       let v = over_value s bound source (constraint.Struct of) k.1.0 (λ e. cc) k.1.1 k.1.2.0 in
-      pattern_made _ _ _ _ _ _ (arm_pattern s source v.ty (constraint.Struct of) places v.is k.1.2.1 tt).is (read_there s bound true source v.ty v.ready) (block_made manner body s (bound_within bound places) made Done k.1.2.2 o)
-  control_made manner (block.Match source (Arm constraint.Some places body NoArm)) s bound made k o =
+      pattern_made _ _ _ _ _ _ (arm_pattern s source v.ty (constraint.Struct of) places v.is k.1.2.1 tt).is (read_there s bound true source v.ty v.ready) (block_made manner body s (bound_within bound places) made Done k.1.2.2)
+  control_made manner (block.Match source (Arm constraint.Some places body NoArm)) s bound made k =
       let v = over_option s bound source k.1.0 k.1.1 k.1.2.0 in
-      pattern_made _ _ _ _ _ _ (some_made places k.1.2.1.0).1 (ap plain_read (option_there s bound source v.0 v.1)) (block_made manner body s (bound_within bound places) made Done k.1.2.2 o)
-  control_made manner (block.Match source (Arm c places body (Arm d others inside arms))) s bound made k o = absurd o
-  control_made manner (block.Match source NoArm) s bound made k o = absurd o
-  control_made manner (block.Equal x y body) s bound made k o =
-      test_made _ _ _ _ _ _ (operand_there s bound x k.0.0 k.0.1) (operand_there s bound y k.0.0 k.0.2) (block_made manner body s bound made Done k.1 o)
-  control_made manner (block.Loop result body) s bound made k o = loop_made _ k.0.source.0 result.0 _ _ (ap list_local k.0.is) (block_made manner body s (bound ++ result.0 ∷ []) made Done k.1 o)
-  control_made manner (block.Return pos result) s bound made k o = return_made (kind_of s.term.kind) _ _ (read_there s bound false result s.term.ret_ty k)
+      pattern_made _ _ _ _ _ _ (some_made places k.1.2.1.0).1 (ap plain_read (option_there s bound source v.0 v.1)) (block_made manner body s (bound_within bound places) made Done k.1.2.2)
+  control_made manner (block.Match source (Arm c places body (Arm d others inside arms))) s bound made k =
+      match_made _ _ _ _ (match_there s bound source k.1.0 c k.1.1 k.1.2.0) (each_made manner (Arm c places body (Arm d others inside arms)) s bound made source k.1.0 k.1.2)
+  control_made manner (block.Match source NoArm) s bound made k = absurd k.0
+  control_made manner (block.Equal x y body) s bound made k =
+      test_made _ _ _ _ _ _ (operand_there s bound x k.0.0 k.0.1) (operand_there s bound y k.0.0 k.0.2) (block_made manner body s bound made Done k.1)
+  control_made manner (block.Loop result body) s bound made k = loop_made _ k.0.source.0 result.0 _ _ (ap list_local k.0.is) (block_made manner body s (bound ++ result.0 ∷ []) made Done k.1)
+  control_made manner (block.Return pos result) s bound made k = return_made (kind_of s.term.kind) _ _ (read_there s bound false result s.term.ret_ty k)
+
+  -- each of several arms
+  each_made : (manner : Manner) (arms : Arms) (s : Setting) (bound made : List ℕ) (source : BindingId) (over : Source) → AreReadyArms s bound made source over arms → told_each manner s bound arms ≡ Some (written.told_each manner s bound arms)
+  each_made manner NoArm s bound made source over k = refl
+  each_made manner (Arm c places body arms) s bound made source over k =
+      before_arms _ _ _ _ _ _ (arm_there s source over c places k.0 k.1) (block_made manner body s (bound_within bound places) made Done k.2) (each_made manner arms s bound made source over k.3)
 
 -- ---- functions
 
-pub function_made : (options : CodegenOptions) (files : Files) (env : Environment) (t : Term) (bs : List Binding) (b : Block) → IsLawfulBlock (setting env t bs) b → HasSingleArms b → term_function options files (setting env t bs) b ≡ Some (function_of options files env t bs b)
-function_made options files env t bs b h o =
+pub function_made : (options : CodegenOptions) (files : Files) (env : Environment) (t : Term) (bs : List Binding) (b : Block) → IsLawfulBlock (setting env t bs) b → term_function options files (setting env t bs) b ≡ Some (function_of options files env t bs b)
+function_made options files env t bs b h =
     let s = setting env t bs in
-    ap (option_map (function_with env t)) (block_made (manner_of options files s) (completed s [] b) s [] [] (tail_in files env t b) (completed_ready s b h) (completed_single s [] b o))
+    ap (option_map (function_with env t)) (block_made (manner_of options files s) (completed s [] b) s [] [] (tail_in files env t b) (completed_ready s b h))

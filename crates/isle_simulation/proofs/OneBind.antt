@@ -38,7 +38,7 @@ use Rattle.isle_core.proofs.AnsweredByTurn.{turn_is, turn_held, turn_typed}
 use Rattle.isle_tree.specs.declared.tree.Read.TheVariants as read
 use Rattle.isle_tree.specs.declared.tree.TExpr.{TExpr}
 use Rattle.isle_tree.specs.declared.tree.TExpr.TheVariants as expr
-use Rattle.isle_tree.specs.Run.{Around, State, Env, Flow, bind, value_of, read_values, Goes, Ends, then_run, run_bind, run_call, run_try, part_of, run_part, run_let}
+use Rattle.isle_tree.specs.Run.{Around, State, Env, Flow, bind, value_of, read_values, Goes, Ends, then_run, run_bind, run_call, run_called, run_try, part_of, run_part, run_let}
 use Rattle.isle_simulation.proofs.AnsweredByCase.{constructor_answers, extractor_answers}
 use Rattle.isle_simulation.proofs.HeldAnswers.{kind_there, held_kind, results_there, held_case, held_extracted}
 use Rattle.isle_simulation.proofs.BoundTests.{found}
@@ -224,6 +224,7 @@ call_binds s u bound n term parameters k callee kind called known given made tho
           ap (λ o. run_let u n (call_expr s bound o (callee_of (calling s.env term)) parameters) locals (done given those)) found'
           ∙ ap (λ d. run_call u n (callee_of d) (read_values u locals (reads s bound called.arg_tys parameters)) locals (done given those)) c
           ∙ ap (λ vs. run_call u n callee vs locals (done given those)) l.run
+          ∙ ap (λ k. run_called n (k callee l.rs those) locals (done given those)) g.asks
           ∙ ap (λ x. run_bind n (answer_held x) locals (done given here)) (turn_is s.env u.meaning term callee kind fit c l.rs those ∙ turn_like s.env u.meaning callee those made impure same)
           ∙ bind_there n answered locals (done given here) (kind_there kind answered is);
       made = impure_push s.env those made (record { callee = callee; args = l.rs }) (record { callee = callee; args = l.vs }) impure same (same_args callee l.rs l.vs l.same);
@@ -257,6 +258,7 @@ case_binds s u bound n term parameters k callee kind called known given made tho
           ap (λ o. run_let u n (call_expr s bound o (callee_of (calling s.env term)) parameters) locals (done given those)) found'
           ∙ ap (λ d. run_call u n (callee_of d) (read_values u locals (reads s bound called.arg_tys parameters)) locals (done given those)) c
           ∙ ap (λ vs. run_call u n callee vs locals (done given those)) l.run
+          ∙ ap (λ k. run_called n (k callee l.rs those) locals (done given those)) g.asks
           ∙ ap (λ y. run_bind n (answer_held y) locals (done given here)) (x.is l.rs l.vs those l.same)
           ∙ bind_there n answered locals (done given here) (results_there s.env kind (called.ret_ty ∷ []) answered (x.holds l.vs));
       made = pure_push s.env those made (record { callee = callee; args = l.rs }) (g.pure_made term callee kind c) same;
@@ -285,6 +287,7 @@ extractor_binds s u bound n term parameter callee kind called known given made t
           ap (λ o. run_let u n (extraction_expr s bound o (callee_of (extracting s.env term)) parameter) locals (done given those)) found'
           ∙ ap (λ d. run_call u n (callee_of d) (read_values u locals (reads s bound (called.ret_ty ∷ []) (parameter ∷ []))) locals (done given those)) c
           ∙ ap (λ vs. run_call u n callee vs locals (done given those)) l.run
+          ∙ ap (λ k. run_called n (k callee l.rs those) locals (done given those)) g.asks
           ∙ ap (λ y. run_bind n (answer_held y) locals (done given here)) (x.is l.rs l.vs those l.same)
           ∙ bind_there n answered locals (done given here) (results_there s.env kind called.arg_tys answered (x.holds l.vs));
       made = pure_push s.env those made (record { callee = callee; args = l.rs }) pure same;

@@ -31,6 +31,7 @@ use Rattle.isle_core.specs.Terms.{sym_text}
 use Rattle.isle_core.specs.Value.{Value, Truth, Int, Opaque, Variant, Struct, NoField}
 use Rattle.isle_core.specs.ValueAt.{Held, Known, a_value, held, value_at, is_const, meets}
 use Rattle.isle_core.proofs.BindingPaths.{at_before, binding_at}
+use Rattle.isle_tree.specs.Caller.{by_meaning}
 use Rattle.isle_tree.specs.Run.{Around, Env, name_value, value_of}
 use Rattle.isle_simulation.specs.Emitted.{AnswersBindings, HasPureExtractors, HasPureConstructors}
 use Rattle.isle_simulation.specs.Operands.{constant, in_place}
@@ -42,6 +43,7 @@ use Rattle.isle_simulation.proofs.Written.{written, written_test}
 
 -- what a run of a block and one of its function are judged under
 pub record Grounds (s : Setting) (u : Around) : Type 0 where
+  pub asks : u.caller ≡ by_meaning u.meaning
   pub typed : HaveTypes s.env u.args s.term.arg_tys
   pub answers : AnswersBindings s.env u.meaning s.bindings
   pub constants : ValuesConstants s.env u.meaning

@@ -22,8 +22,8 @@ use Rattle.isle_core.specs.declared.types.Term.{Term}
 use Rattle.isle_core.specs.ArmPlaces.{ArePlacesOf, bound_within}
 use Rattle.isle_core.specs.Bindable.{bound_by}
 use Rattle.isle_core.specs.Block as block
-use Rattle.isle_core.specs.Block.{Block, Stop, Step, Control, Arm, NoArm}
-use Rattle.isle_core.specs.BlockLawful.{IsLawfulBlock}
+use Rattle.isle_core.specs.Block.{Block, Stop, Step, Control, Arms, Arm, NoArm}
+use Rattle.isle_core.specs.BlockLawful.{Source, IsLawfulBlock}
 use Rattle.isle_core.specs.BlockRun.{bind_one, bind_all}
 use Rattle.isle_core.specs.CallRun as went
 use Rattle.isle_core.specs.CallRun.{Went, then_go, take_turn, make_call, make}
@@ -42,8 +42,7 @@ use Rattle.isle_core.specs.PathType.{IsListOf}
 use Rattle.isle_core.specs.Rule.{Environment}
 use Rattle.isle_core.specs.SameInRun.{same_in_run}
 use Rattle.isle_core.specs.Setting.{Setting, setting, gives_several, paths_in}
-use Rattle.isle_core.specs.SeveralRun.{choosing, give_held, behind_calls, on_turns, on_items, list_of, several_run, several_control, several_outcome}
-use Rattle.isle_core.specs.SingleArms.{HasSingleArms, IsSingle}
+use Rattle.isle_core.specs.SeveralRun.{choosing, give_held, behind_calls, on_turns, on_items, list_of, several_run, several_control, several_arms, several_outcome}
 use Rattle.isle_core.specs.Terms.{sym_text, impure_calls}
 use Rattle.isle_core.specs.Value.{Value, Made, Ran, GivesList}
 use Rattle.isle_core.specs.ValueAt.{Held, One, Optional, Listed, Known, a_value, nothing_known, chosen_held, item_at, value_at, meets, equal_held, values_at}
@@ -53,10 +52,11 @@ use Rattle.isle_tree.specs.declared.tree.Read.{Read}
 use Rattle.isle_tree.specs.declared.tree.Read.TheVariants as read
 use Rattle.isle_tree.specs.declared.tree.TPat.{TPat}
 use Rattle.isle_tree.specs.Program.{IfEq, IfLet, Loop, Body, Done, Then, Function, Program}
-use Rattle.isle_tree.specs.Run.{Around, State, Env, bind, look, value_of, read_value, on_list, fitted, Flow, Goes, Ends, then_run, after_scope, run_items, run_stmt, run_body, ended, nothing_done, around, function_run}
+use Rattle.isle_tree.specs.Run.{Around, State, Env, bind, look, value_of, read_value, on_list, fit, fitted, Flow, Goes, then_run, after_scope, run_items, run_stmt, run_body, run_arms, ended, nothing_done, around, function_run}
 use Rattle.isle_simulation.specs.Completed.{completed}
 use Rattle.isle_simulation.specs.Emitted.{HasPureExtractors, HasPureConstructors, impure_ran, AreSameRuns, AnswersBindings, RunsAsSeveral}
-use Rattle.isle_core.specs.NewItems.{IsNewItem, HasNewItems, HasNewItemsFrom, ControlNewItems}
+use Rattle.isle_core.specs.NewItems.{IsNewItem, HasNewItems, HasNewItemsFrom, ControlNewItems, ArmsNewItems}
+use Rattle.isle_simulation.specs.Manner.{bare_manner}
 use Rattle.isle_simulation.specs.Operands.{is_bound}
 use Rattle.isle_simulation.specs.Patterns.{pattern_of}
 use Rattle.isle_simulation.specs.RustNames.{HasRustNames}
@@ -64,11 +64,12 @@ use Rattle.isle_simulation.specs.Statements.{list_local}
 use Rattle.isle_simulation.specs.TermFunction.{is_return, ends_in_return, mark_of, tail_body, log_lines}
 use Rattle.isle_simulation.proofs.ArmsRun.{FitsBy, IsForm, ArmFits, arm_fits, some_fits}
 use Rattle.isle_simulation.proofs.BindsRun.{LetsRun, lets_run}
-use Rattle.isle_simulation.proofs.ClosedItems.{IsClosed, none_closed, ready_items, binds_closed, within_closed, loop_closed, none_of_it, completed_new}
+use Rattle.isle_simulation.proofs.ClosedItems.{IsClosed, none_closed, ready_items, over_items, binds_closed, within_closed, loop_closed, none_of_it, completed_new}
 use Rattle.isle_simulation.proofs.CompletedReady.{completed_ready}
-use Rattle.isle_simulation.proofs.CompletedRuns.{adds_none, completed_single}
+use Rattle.isle_simulation.proofs.CompletedRuns.{adds_none}
 use Rattle.isle_simulation.proofs.CompletedSeveral.{several_same}
 use Rattle.isle_simulation.proofs.CutLaws.{values_in, cut_within, block_appends}
+use Rattle.isle_simulation.proofs.EachArm.{ReadsOver, match_reads, fits_where_met}
 use Rattle.isle_simulation.proofs.ItemsWithin.{choosing_same}
 use Rattle.isle_simulation.proofs.KnownAlong.{KnowsOnly, kept_only, new_unanswered}
 use Rattle.isle_simulation.proofs.LocalsAgree.{Stands, Agree, none_agree, bind_agrees, operand_reads, option_reads, written_reads}
@@ -78,10 +79,10 @@ use Rattle.isle_simulation.proofs.NamelessLaws.{AreSameCalls, run_same}
 use Rattle.isle_simulation.proofs.OneBind.{done, Keeps}
 use Rattle.isle_simulation.proofs.PathTypes.{one_listed}
 use Rattle.isle_simulation.proofs.PathValues.{Grounds, constraint_tests, IsConstant}
-use Rattle.isle_simulation.proofs.Ready.{IsReady, IsOptionReady, IsLoopReady, IsReadyBind, AreReadyBinds, IsReadyFrom, IsReadyControl}
+use Rattle.isle_simulation.proofs.Ready.{IsReady, IsOptionReady, IsReadyIn, IsLoopReady, IsReadyBind, AreReadyBinds, IsReadyFrom, IsReadyControl, AreReadyArms}
 use Rattle.isle_simulation.proofs.ResultsAt.{AreResultsAt, value_of_one}
 use Rattle.isle_simulation.proofs.ResultsGiven.{IsSoFar, GivesSo, AnyLocals, gives_then, gives_scope, gives_by, gives_any, gives_same, step_then, step_alone, result_gives, list_gives}
-use Rattle.isle_simulation.proofs.Written.{written_operand, written_read, written_test, written_pattern, written_list, stop_before, block_body, control_stmt, written_body, logged_function}
+use Rattle.isle_simulation.proofs.Written.{written_operand, written_read, written_test, written_pattern, written_arm, match_read, told_each, written_list, stop_before, block_body, control_stmt, written_body, logged_function}
 use Rattle.isle_core.specs.Readable.{IsInPlace}
 
 -- ---- bindings go on
@@ -336,6 +337,18 @@ module _ (s : Setting) (u : Around) (space : Space) (g : Grounds s u) (several :
       same_source : {b c : BindingId} → binding.Iterator b ≡ binding.Iterator c → b ≡ c
       same_source e = cc
 
+  -- one of several arms, and those after it
+  arm_gives : (bound : List ℕ) (places : List (Option BindingId)) (body : Block) (pat : TPat) (x : Bool) (h : Held) (locals : Env) (known : Known) (so : Given) (given those : _) (others : Flow) (rest : Given) → FitsBy s u bound known locals places pat h x
+      → ((inner : Env) → Agree s u (bound_within bound places) known inner → GivesSo s.env room_left AnyLocals (run_body u (block_body s (bound_within bound places) body Done) inner (done given those)) (block_given body known so))
+      → GivesSo s.env room_left (λ e. e ≡ locals) others rest
+      → GivesSo s.env room_left (λ e. e ≡ locals) (fitted (fit u pat h) (λ more. after_scope locals (run_body u (block_body s (bound_within bound places) body Done) (locals ++ more) (done given those))) others) (cond x (block_given body known so) rest)
+  arm_gives bound places body pat false h locals known so given those others rest k runs next =
+      gives_by s.env room_left (λ e. e ≡ locals) _ others rest (ap (λ o. fitted o (λ more. after_scope locals (run_body u (block_body s (bound_within bound places) body Done) (locals ++ more) (done given those))) others) k) next
+  arm_gives bound places body pat true h locals known so given those others rest k runs next =
+      let inside = block_body s (bound_within bound places) body Done in
+      gives_by s.env room_left (λ e. e ≡ locals) _ (after_scope locals (run_body u inside (locals ++ k.0) (done given those))) (block_given body known so) (ap (λ o. fitted o (λ more. after_scope locals (run_body u inside (locals ++ more) (done given those))) others) k.1)
+      (gives_scope s.env room_left AnyLocals locals (run_body u inside (locals ++ k.0) (done given those)) (block_given body known so) (runs (locals ++ k.0) k.2))
+
   -- an arm of a constant binds nothing
   within_agrees : (bound : List ℕ) (places : List (Option BindingId)) (known : Known) (locals : Env) → places ≡ [] → Agree s u bound known locals → Agree s u (bound_within bound places) known locals
   within_agrees bound places known locals e a = subst (λ ps. Agree s u (bound_within bound ps) known locals) (sym e) a
@@ -347,10 +360,10 @@ module _ (s : Setting) (u : Around) (space : Space) (g : Grounds s u) (several :
       gives_by s.env room_left (λ y. y ≡ locals) (step_flow bound c locals (done given those)) (run_stmt u (control_stmt s bound c) locals (done given those)) h (step_alone u (gives_several s) c (control_stmt s bound c) locals (done given those) e) x
 
   mutual
-    block_gives : (b : Block) (bound made : List ℕ) (locals : Env) (known : Known) (so : Given) (given those : _) → KnowsOnly made known → length so.results ≤ room_left → IsSoFar s.env so given those → IsReadyFrom s bound made b → HasSingleArms b → HasNewItemsFrom s bound b → IsClosed s bound → Agree s u bound known locals
+    block_gives : (b : Block) (bound made : List ℕ) (locals : Env) (known : Known) (so : Given) (given those : _) → KnowsOnly made known → length so.results ≤ room_left → IsSoFar s.env so given those → IsReadyFrom s bound made b → HasNewItemsFrom s bound b → IsClosed s bound → Agree s u bound known locals
         → GivesSo s.env room_left AnyLocals (run_body u (block_body s bound b Done) locals (done given those)) (block_given b known so)
-    block_gives Stop bound made locals known so given those only le l k o n closed a = gives_any s.env room_left (λ e. e ≡ locals) (Goes locals (done given those)) so (gives_same s.env room_left locals so given those le l)
-    block_gives (Step binds c more) bound made locals known so given those only le l k o n closed a =
+    block_gives Stop bound made locals known so given those only le l k n closed a = gives_any s.env room_left (λ e. e ≡ locals) (Goes locals (done given those)) so (gives_same s.env room_left locals so given those le l)
+    block_gives (Step binds c more) bound made locals known so given those only le l k n closed a =
         let ps = paths_in s in
         let ks = occurrences s.env ps binds in
         let new = new_unanswered made ks known only k.1 in
@@ -360,67 +373,82 @@ module _ (s : Setting) (u : Around) (space : Space) (g : Grounds s u) (several :
         (lets_run s u bound binds known given so.calls those locals g l.made k.0 k.1.once new a)
         (λ later all behind after same keeps agree.
         let only' = kept_only made ks known later only keeps in (
-          control_gives c inner (made ++ ks) after later (record { results = so.results; calls = all }) given behind only' le (record { given' = l.given'; made = same }) k.2 o.0 n.0 inside agree,
+          control_gives c inner (made ++ ks) after later (record { results = so.results; calls = all }) given behind only' le (record { given' = l.given'; made = same }) k.2 n.0 inside agree,
           λ h given' those' le' l'.
-              block_gives more inner (after_control (gives_several s) s.env ps (made ++ ks) c) after later h given' those' (only_after (gives_several s) s.env ps (made ++ ks) c later several only') le' l' k.3 o.1 n.1 inside agree,
+              block_gives more inner (after_control (gives_several s) s.env ps (made ++ ks) c) after later h given' those' (only_after (gives_several s) s.env ps (made ++ ks) c later several only') le' l' k.3 n.1 inside agree,
         ))
 
-    control_gives : (c : Control) (bound made : List ℕ) (locals : Env) (known : Known) (so : Given) (given those : _) → KnowsOnly made known → length so.results ≤ room_left → IsSoFar s.env so given those → IsReadyControl s bound made c → IsSingle c → ControlNewItems s bound c → IsClosed s bound → Agree s u bound known locals
+    control_gives : (c : Control) (bound made : List ℕ) (locals : Env) (known : Known) (so : Given) (given those : _) → KnowsOnly made known → length so.results ≤ room_left → IsSoFar s.env so given those → IsReadyControl s bound made c → ControlNewItems s bound c → IsClosed s bound → Agree s u bound known locals
         → GivesSo s.env room_left (λ e. e ≡ locals) (step_flow bound c locals (done given those)) (several_control s.env u.meaning u.args (paths_in s) c known so)
-    control_gives (block.Match source (Arm (constraint.ConstBool val) places body NoArm)) bound made locals known so given those only le l k o n closed a =
+    control_gives (block.Match source (Arm (constraint.ConstBool val) places body NoArm)) bound made locals known so given those only le l k n closed a =
         let x = over_value s bound source (constraint.ConstBool val) k.1.0 (λ e. cc) k.1.1 k.1.2.0 in
         only_stmt bound (block.Match source (Arm (constraint.ConstBool val) places body NoArm)) locals given those _ refl
         (constant_gives bound source x.ty (constraint.ConstBool val) places body locals known so given those le l a x.ready x.is tt
-        (block_gives body (bound_within bound places) made locals known so given those only le l k.1.2.2 o n.0 (within_closed s bound source (constraint.ConstBool val) places (ready_items s bound source x.ty closed x.ready) k.1.2.1 closed) (within_agrees bound places known locals k.1.2.1 a)))
-    control_gives (block.Match source (Arm (constraint.ConstInt val of) places body NoArm)) bound made locals known so given those only le l k o n closed a =
+        (block_gives body (bound_within bound places) made locals known so given those only le l k.1.2.2 n.0 (within_closed s bound source (constraint.ConstBool val) places (ready_items s bound source x.ty closed x.ready) k.1.2.1 closed) (within_agrees bound places known locals k.1.2.1 a)))
+    control_gives (block.Match source (Arm (constraint.ConstInt val of) places body NoArm)) bound made locals known so given those only le l k n closed a =
         let x = over_value s bound source (constraint.ConstInt val of) k.1.0 (λ e. cc) k.1.1 k.1.2.0 in
         only_stmt bound (block.Match source (Arm (constraint.ConstInt val of) places body NoArm)) locals given those _ refl
         (constant_gives bound source x.ty (constraint.ConstInt val of) places body locals known so given those le l a x.ready x.is tt
-        (block_gives body (bound_within bound places) made locals known so given those only le l k.1.2.2 o n.0 (within_closed s bound source (constraint.ConstInt val of) places (ready_items s bound source x.ty closed x.ready) k.1.2.1 closed) (within_agrees bound places known locals k.1.2.1 a)))
-    control_gives (block.Match source (Arm (constraint.ConstPrim val) places body NoArm)) bound made locals known so given those only le l k o n closed a =
+        (block_gives body (bound_within bound places) made locals known so given those only le l k.1.2.2 n.0 (within_closed s bound source (constraint.ConstInt val of) places (ready_items s bound source x.ty closed x.ready) k.1.2.1 closed) (within_agrees bound places known locals k.1.2.1 a)))
+    control_gives (block.Match source (Arm (constraint.ConstPrim val) places body NoArm)) bound made locals known so given those only le l k n closed a =
         let x = over_value s bound source (constraint.ConstPrim val) k.1.0 (λ e. cc) k.1.1 k.1.2.0 in
         only_stmt bound (block.Match source (Arm (constraint.ConstPrim val) places body NoArm)) locals given those _ refl
         (constant_gives bound source x.ty (constraint.ConstPrim val) places body locals known so given those le l a x.ready x.is tt
-        (block_gives body (bound_within bound places) made locals known so given those only le l k.1.2.2 o n.0 (within_closed s bound source (constraint.ConstPrim val) places (ready_items s bound source x.ty closed x.ready) k.1.2.1 closed) (within_agrees bound places known locals k.1.2.1 a)))
-    control_gives (block.Match source (Arm (constraint.Variant of variant) places body NoArm)) bound made locals known so given those only le l k o n closed a =
+        (block_gives body (bound_within bound places) made locals known so given those only le l k.1.2.2 n.0 (within_closed s bound source (constraint.ConstPrim val) places (ready_items s bound source x.ty closed x.ready) k.1.2.1 closed) (within_agrees bound places known locals k.1.2.1 a)))
+    control_gives (block.Match source (Arm (constraint.Variant of variant) places body NoArm)) bound made locals known so given those only le l k n closed a =
         let x = over_value s bound source (constraint.Variant of variant) k.1.0 (λ e. cc) k.1.1 k.1.2.0 in
         only_stmt bound (block.Match source (Arm (constraint.Variant of variant) places body NoArm)) locals given those _ refl
         (form_gives bound source x.ty (constraint.Variant of variant) places body locals known so given those le l a x.ready x.is k.1.2.1 tt
-        (λ inner agree. block_gives body (bound_within bound places) made inner known so given those only le l k.1.2.2 o n.0 (within_closed s bound source (constraint.Variant of variant) places (ready_items s bound source x.ty closed x.ready) k.1.2.1 closed) agree))
-    control_gives (block.Match source (Arm (constraint.Struct of) places body NoArm)) bound made locals known so given those only le l k o n closed a =
+        (λ inner agree. block_gives body (bound_within bound places) made inner known so given those only le l k.1.2.2 n.0 (within_closed s bound source (constraint.Variant of variant) places (ready_items s bound source x.ty closed x.ready) k.1.2.1 closed) agree))
+    control_gives (block.Match source (Arm (constraint.Struct of) places body NoArm)) bound made locals known so given those only le l k n closed a =
         let x = over_value s bound source (constraint.Struct of) k.1.0 (λ e. cc) k.1.1 k.1.2.0 in
         only_stmt bound (block.Match source (Arm (constraint.Struct of) places body NoArm)) locals given those _ refl
         (form_gives bound source x.ty (constraint.Struct of) places body locals known so given those le l a x.ready x.is k.1.2.1 tt
-        (λ inner agree. block_gives body (bound_within bound places) made inner known so given those only le l k.1.2.2 o n.0 (within_closed s bound source (constraint.Struct of) places (ready_items s bound source x.ty closed x.ready) k.1.2.1 closed) agree))
-    control_gives (block.Match source (Arm constraint.Some places body NoArm)) bound made locals known so given those only le l k o n closed a =
+        (λ inner agree. block_gives body (bound_within bound places) made inner known so given those only le l k.1.2.2 n.0 (within_closed s bound source (constraint.Struct of) places (ready_items s bound source x.ty closed x.ready) k.1.2.1 closed) agree))
+    control_gives (block.Match source (Arm constraint.Some places body NoArm)) bound made locals known so given those only le l k n closed a =
         let x = over_option s bound source k.1.0 k.1.1 k.1.2.0 in
         only_stmt bound (block.Match source (Arm constraint.Some places body NoArm)) locals given those _ refl
         (some_gives bound source x.0 places body locals known so given those le l a x.1 k.1.2.1
-        (λ inner agree. block_gives body (bound_within bound places) made inner known so given those only le l k.1.2.2 o n.0 (within_closed s bound source constraint.Some places (closed.by source x.1.bound') k.1.2.1 closed) agree))
-    control_gives (block.Match source (Arm c places body (Arm d others inside arms))) bound made locals known so given those only le l k o n closed a = absurd o
-    control_gives (block.Match source NoArm) bound made locals known so given those only le l k o n closed a = absurd o
-    control_gives (block.Equal x y body) bound made locals known so given those only le l k o n closed a =
+        (λ inner agree. block_gives body (bound_within bound places) made inner known so given those only le l k.1.2.2 n.0 (within_closed s bound source constraint.Some places (closed.by source x.1.bound') k.1.2.1 closed) agree))
+    control_gives (block.Match source (Arm c places body (Arm d others inside arms))) bound made locals known so given those only le l k n closed a =
+        let h = read_value u locals (match_read s bound source c) in
+        let x = match_reads s u bound known locals source k.1.0 c g a k.1.1 k.1.2.0 in
+        only_stmt bound (block.Match source (Arm c places body (Arm d others inside arms))) locals given those _ refl
+        (arms_give (Arm c places body (Arm d others inside arms)) bound made source k.1.0 h locals known so given those only le l k.1.1 x k.1.2 n closed a)
+    control_gives (block.Match source NoArm) bound made locals known so given those only le l k n closed a = absurd k.0
+    control_gives (block.Equal x y body) bound made locals known so given those only le l k n closed a =
         let v = operand_reads s u bound known locals x k.0.0 g a k.0.1 in
         let w = operand_reads s u bound known locals y k.0.0 g a k.0.2 in
-        let r = block_gives body bound made locals known so given those only le l k.1 o n closed a in
+        let r = block_gives body bound made locals known so given those only le l k.1 n closed a in
         let f = step_flow bound (block.Equal x y body) locals (done given those) in
         let inner = block_given body known so in
         subst (λ h. GivesSo s.env room_left (λ e. e ≡ locals) f (cond (equal_held h (value_at s.env u.meaning u.args known (at (paths_in s) y))) inner so)) (sym v.block)
         (subst (λ h. GivesSo s.env room_left (λ e. e ≡ locals) f (cond (equal_held (a_value v.v) h) inner so)) (sym w.block)
         (only_stmt bound (block.Equal x y body) locals given those (cond (equal_held (a_value v.v) (a_value w.v)) inner so) refl
         (equal_gives (written_operand s bound x) (written_operand s bound y) bound body locals known so given those v.r w.r _ v.run w.run (run_same s.env k.0.0 v.r w.r v.v w.v v.same w.same v.typed w.typed) le l r)))
-    control_gives (block.Loop result body) bound made locals known so given those only le l k o n closed a =
+    control_gives (block.Loop result body) bound made locals known so given those only le l k n closed a =
         let inside = loop_closed s bound result n.0.source n.0.path (subst (λ (b : BindingId). is_bound bound b ≡ true) (one_source k.0.source n.0.source (sym k.0.is ∙ n.0.is)) k.0.bound') closed in
         only_stmt bound (block.Loop result body) locals given those _ refl
         (loop_gives bound result body locals known so given those k.0 n.0 closed le l a
-        (λ place inner so' given' those' le' l' agree. block_gives body (bound ++ result.0 ∷ []) made inner (choosing known (at (paths_in s) n.0.source) place) so' given' those' only le' l' k.1 o n.1 inside agree))
+        (λ place inner so' given' those' le' l' agree. block_gives body (bound ++ result.0 ∷ []) made inner (choosing known (at (paths_in s) n.0.source) place) so' given' those' only le' l' k.1 n.1 inside agree))
       where
         one_source : (b c : BindingId) → Some (binding.Iterator b) ≡ Some (binding.Iterator c) → b ≡ c
         one_source b c e = cc
-    control_gives (block.Return pos result) bound made locals known so given those only le l k o n closed a =
+    control_gives (block.Return pos result) bound made locals known so given those only le l k n closed a =
         let v = written_reads s u bound known locals false result s.term.ret_ty g a k in
         subst (λ h. GivesSo s.env room_left (λ e. e ≡ locals) (step_flow bound (block.Return pos result) locals (done given those)) (give_held h so)) (sym v.block)
         (result_gives s.env u space (kind_of s.term.kind) (gives_several s) pos result (written_read s bound false result) v.r v.v locals so given those several several limited le l v.run v.same)
+
+    -- several arms over what is read
+    arms_give : (arms : Arms) (bound made : List ℕ) (source : BindingId) (over : Source) (h : Held) (locals : Env) (known : Known) (so : Given) (given those : _) → KnowsOnly made known → length so.results ≤ room_left → IsSoFar s.env so given those → IsReadyIn s bound source over
+        → ReadsOver s.env over h (value_at s.env u.meaning u.args known (at (paths_in s) source)) → AreReadyArms s bound made source over arms → ArmsNewItems s bound arms → IsClosed s bound → Agree s u bound known locals
+        → GivesSo s.env room_left (λ e. e ≡ locals) (run_arms u (told_each bare_manner s bound arms) h locals (done given those)) (several_arms s.env u.meaning u.args (paths_in s) arms (value_at s.env u.meaning u.args known (at (paths_in s) source)) known so)
+    arms_give NoArm bound made source over h locals known so given those only le l ready x k n closed a = gives_same s.env room_left locals so given those le l
+    arms_give (Arm c places body arms) bound made source over h locals known so given those only le l ready x k n closed a =
+        arm_gives bound places body (written_arm s.env c places) (meets s.env u.meaning c (value_at s.env u.meaning u.args known (at (paths_in s) source))) h locals known so given those _ _
+        (fits_where_met s u bound known locals source over c places h g a ready x k.0 k.1)
+        (λ inner agree. block_gives body (bound_within bound places) made inner known so given those only le l k.2 n.0 (within_closed s bound source c places (over_items s bound source over closed ready) k.1 closed) agree)
+        (arms_give arms bound made source over h locals known so given those only le l ready x k.3 n.1 closed a)
 
 -- ---- functions
 
@@ -449,25 +477,25 @@ ran_several env space return_kind.Plain name place y f h e x = cc
 ran_several env space return_kind.Option name place y f h e x = cc
 
 -- the statements of a lawful block give what the block gives, in whatever function they stand
-several_flow : (files : Files) (env : Environment) (t : Term) (bs : List Binding) (b : Block) → is_several (kind_of t.kind) ≡ true → HasRustNames env → HasPureExtractors env bs → HasPureConstructors env → IsLawfulBlock (setting env t bs) b → HasSingleArms b → HasNewItems (setting env t bs) b
+several_flow : (files : Files) (env : Environment) (t : Term) (bs : List Binding) (b : Block) → is_several (kind_of t.kind) ≡ true → HasRustNames env → HasPureExtractors env bs → HasPureConstructors env → IsLawfulBlock (setting env t bs) b → HasNewItems (setting env t bs) b
     → (p : Program) (args : List Value) (m : Meaning) (space : Space) → HaveTypes env args t.arg_tys → AnswersBindings env m bs → ValuesConstants env m → (f : Function)
     → AreSameRuns env (ended (kind_of t.kind) (run_body (around p m args (Some (room space)) f) (written_body files env t bs b) [] nothing_done)) (Some (cut_run space (several_outcome env m args (paths_of bs) b)))
-several_flow files env t bs b several names pure pure_made h o n p args m space k answers values f =
+several_flow files env t bs b several names pure pure_made h n p args m space k answers values f =
     let s = setting env t bs in
     let u = around p m args (Some (room space)) f in
-    let grounds : Grounds s u = record { typed = k; answers = answers; constants = values; names = names; pure = pure; pure_made = pure_made } in
+    let grounds : Grounds s u = record { asks = refl; typed = k; answers = answers; constants = values; names = names; pure = pure; pure_made = pure_made } in
     let c = completed s [] b in
-    let r = block_gives s u space grounds several refl c [] [] [] nothing_known nothing_given [] [] (λ j apart. refl) (omega arith) (record { given' = refl; made = refl }) (completed_ready s b h) (completed_single s [] b o)
+    let r = block_gives s u space grounds several refl c [] [] [] nothing_known nothing_given [] [] (λ j apart. refl) (omega arith) (record { given' = refl; made = refl }) (completed_ready s b h)
     (completed_new b s [] [] (adds_none s []) n) (none_closed s) (none_agree s u nothing_known) in
     ran_several env space (kind_of t.kind) (sym_text env t.name) (place_in files t.decl_pos) (ends_in_return b) (λ end. run_body u (block_body s [] c end) [] nothing_done) (several_run env m args (paths_of bs) c nothing_known nothing_given) several r
     ∙ ap (λ x. Some (nameless_ran (cut_run space x))) (several_same s m args b [] nothing_known nothing_given)
 
 -- so the function of the term, with its log lines
-pub written_several : (options : CodegenOptions) (files : Files) (env : Environment) (t : Term) (bs : List Binding) (b : Block) → is_several (kind_of t.kind) ≡ true → HasRustNames env → HasPureExtractors env bs → HasPureConstructors env → IsLawfulBlock (setting env t bs) b → HasSingleArms b → HasNewItems (setting env t bs) b
+pub written_several : (options : CodegenOptions) (files : Files) (env : Environment) (t : Term) (bs : List Binding) (b : Block) → is_several (kind_of t.kind) ≡ true → HasRustNames env → HasPureExtractors env bs → HasPureConstructors env → IsLawfulBlock (setting env t bs) b → HasNewItems (setting env t bs) b
     → RunsAsSeveral env t bs b (logged_function options files env t bs b)
-written_several options files env t bs b several names pure pure_made h o n p args m space e k answers values =
+written_several options files env t bs b several names pure pure_made h n p args m space e k answers values =
     let f = logged_function options files env t bs b in
     let w = around p m args (Some (room space)) f in
     ap (λ g. option_map (λ (q : Ran). nameless_ran (impure_ran env q)) (function_run p m space args g)) e
     ∙ ap (λ x. option_map (λ (q : Ran). nameless_ran (impure_ran env q)) (ended (kind_of t.kind) x)) (logged_runs (written_body files env t bs b) (log_lines options files (setting env t bs) b) w [] nothing_done)
-    ∙ several_flow files env t bs b several names pure pure_made h o n p args m space k answers values f
+    ∙ several_flow files env t bs b several names pure pure_made h n p args m space k answers values f

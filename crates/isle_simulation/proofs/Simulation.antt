@@ -25,27 +25,27 @@ use Rattle.isle_core.specs.Path.{at, paths_of}
 use Rattle.isle_core.specs.ValueAt.{Held, Optional, Known, a_value, nothing_known, value_at, meets, equal_held}
 use Rattle.isle_core.specs.Places.{place_in}
 use Rattle.isle_core.specs.Block as block
-use Rattle.isle_core.specs.Block.{Block, Stop, Step, Control, Arm, NoArm}
+use Rattle.isle_core.specs.Block.{Block, Stop, Step, Control, Arms, Arm, NoArm}
 use Rattle.isle_core.specs.CallRun as went
 use Rattle.isle_core.specs.CallRun.{Went, then_go, result_of}
 use Rattle.isle_core.specs.RuleSet.{gave}
-use Rattle.isle_core.specs.BlockRun.{bind_all, block_run, control_run, block_outcome}
+use Rattle.isle_core.specs.BlockRun.{bind_all, block_run, control_run, arms_run, block_outcome}
 use Rattle.isle_core.specs.Bindable.{bound_by}
-use Rattle.isle_core.specs.BlockLawful.{IsLawfulBlock}
-use Rattle.isle_core.specs.Occurrences.{occurrences, after_block, after_control}
+use Rattle.isle_core.specs.BlockLawful.{Source, IsLawfulBlock}
+use Rattle.isle_core.specs.Occurrences.{occurrences, after_block, after_control, after_arms}
 use Rattle.isle_core.specs.Terms.{sym_text, impure_calls}
 use Rattle.isle_core.specs.Rule.{Environment}
 use Rattle.isle_core.specs.HasType.{HaveTypes}
 use Rattle.isle_core.specs.NamesApart.{ValuesConstants}
 use Rattle.isle_core.specs.Setting.{Setting, setting, gives_several, paths_in}
-use Rattle.isle_core.specs.SingleArms.{HasSingleArms, IsSingle}
 use Rattle.isle_tree.specs.declared.tree.Operand.{Operand}
 use Rattle.isle_tree.specs.declared.tree.Read.{Read}
 use Rattle.isle_tree.specs.declared.tree.Read.TheVariants as read
 use Rattle.isle_tree.specs.declared.tree.TPat.{TPat}
 use Rattle.isle_tree.specs.Program.{IfEq, IfLet, Body, Done, Then, Function, Program}
-use Rattle.isle_tree.specs.Run.{Around, Env, value_of, read_value, fitted, Flow, Goes, then_run, after_scope, run_stmt, run_body, ended, nothing_done, around, function_run}
+use Rattle.isle_tree.specs.Run.{Around, Env, value_of, read_value, fit, fitted, Flow, Goes, then_run, after_scope, run_stmt, run_body, run_arms, ended, nothing_done, around, function_run}
 use Rattle.isle_simulation.specs.Completed.{completed}
+use Rattle.isle_simulation.specs.Manner.{bare_manner}
 use Rattle.isle_simulation.specs.Patterns.{pattern_of}
 use Rattle.isle_simulation.specs.TermFunction.{ends_in_return, mark_of, tail_body, log_lines}
 use Rattle.isle_simulation.proofs.LoggedLaws.{logged_runs}
@@ -54,16 +54,17 @@ use Rattle.isle_simulation.specs.Emitted.{HasPureExtractors, HasPureConstructors
 use Rattle.isle_simulation.specs.RustNames.{HasRustNames}
 use Rattle.isle_simulation.proofs.ArmsRun.{FitsBy, IsForm, ArmFits, arm_fits, some_fits}
 use Rattle.isle_simulation.proofs.BindsRun.{LetsRun, lets_run}
+use Rattle.isle_simulation.proofs.EachArm.{ReadsOver, match_reads, fits_where_met}
 use Rattle.isle_simulation.proofs.OneBind.{AreUnanswered, Keeps, done, EndsSo, ends_on, ends_as_well}
 use Rattle.isle_simulation.proofs.CompletedReady.{completed_ready}
-use Rattle.isle_simulation.proofs.CompletedRuns.{completed_runs, completed_single}
-use Rattle.isle_simulation.proofs.KnownAlong.{KnowsOnly, IsLater, WentOn, kept_grows, kept_only, new_unanswered, on_left, on_right, on_first, same_later, goes_twice}
+use Rattle.isle_simulation.proofs.CompletedRuns.{completed_runs}
+use Rattle.isle_simulation.proofs.KnownAlong.{KnowsOnly, IsLater, WentOn, kept_grows, kept_only, new_unanswered, on_left, on_right, on_first, on_between, same_later, goes_twice}
 use Rattle.isle_simulation.proofs.LocalsAgree.{Agree, none_agree, agree_later, operand_reads, option_reads, written_reads}
 use Rattle.isle_simulation.proofs.Made.{over_value, over_option}
 use Rattle.isle_simulation.proofs.NamelessLaws.{AreSameCalls, run_same}
 use Rattle.isle_simulation.proofs.PathValues.{Grounds, constraint_tests, IsConstant}
-use Rattle.isle_simulation.proofs.Ready.{IsReady, IsOptionReady, IsReadyFrom, IsReadyControl}
-use Rattle.isle_simulation.proofs.Written.{written_operand, written_read, written_test, written_pattern, block_body, control_stmt, end_of, result_stmt, stop_before, written_body, logged_function}
+use Rattle.isle_simulation.proofs.Ready.{IsReady, IsOptionReady, IsReadyIn, IsReadyFrom, IsReadyControl, AreReadyArms}
+use Rattle.isle_simulation.proofs.Written.{written_operand, written_read, written_test, written_pattern, written_arm, match_read, told_each, block_body, control_stmt, end_of, result_stmt, stop_before, written_body, logged_function}
 
 -- ---- how statements go
 
@@ -253,55 +254,78 @@ module _ (s : Setting) (u : Around) (g : Grounds s u) (few : gives_several s ≡
       let h = value_of u locals (written_operand s bound source) in
       pattern_does bound made source constraint.Some places body locals known calls those (read.Plain (written_operand s bound source)) (Optional (option_map item_of o.o)) only same o.block (some_fits s u bound known locals source tys places h a ready.path parts o) runs
 
+  -- one of several arms, and those after it
+  arm_does : (bound made : List ℕ) (places : List (Option BindingId)) (body : Block) (pat : TPat) (x : Bool) (h : Held) (locals : Env) (known : Known) (calls those : List Made) (rest : List ℕ) (others : Flow) (w : Went) → FitsBy s u bound known locals places pat h x
+      → ((inner : Env) → Agree s u (bound_within bound places) known inner → Runs (bound_within bound places) made body inner known calls those) → Does s.env (kind_of s.term.kind) locals known (made ++ rest) others w
+      → Does s.env (kind_of s.term.kind) locals known (made ++ (after_block (gives_several s) s.env (paths_in s) made body ++ rest))
+      (fitted (fit u pat h) (λ more. after_scope locals (run_body u (block_body s (bound_within bound places) body Done) (locals ++ more) (done [] those))) others) (cond x (block_run s.env u.meaning u.args (paths_in s) body known calls) w)
+  arm_does bound made places body pat false h locals known calls those rest others w k runs next = record {
+    runs = does_by s.env (kind_of s.term.kind) locals _ others w (ap (λ o. fitted o (λ more. after_scope locals (run_body u (block_body s (bound_within bound places) body Done) (locals ++ more) (done [] those))) others) k) next.runs;
+    goes = on_between made (after_block (gives_several s) s.env (paths_in s) made body) rest known w next.goes;
+  }
+  arm_does bound made places body pat true h locals known calls those rest others w k runs next =
+      let inside = block_body s (bound_within bound places) body Done in
+      let went_so = block_run s.env u.meaning u.args (paths_in s) body known calls in
+      let after = after_block (gives_several s) s.env (paths_in s) made body in
+      let r = runs (locals ++ k.0) k.2 in
+      record {
+        runs = does_by s.env (kind_of s.term.kind) locals _ (after_scope locals (run_body u inside (locals ++ k.0) (done [] those))) went_so (ap (λ o. fitted o (λ more. after_scope locals (run_body u inside (locals ++ more) (done [] those))) others) k.1)
+            (scope_does s.env (kind_of s.term.kind) u locals (λ end. run_body u (block_body s (bound_within bound places) body end) (locals ++ k.0) (done [] those)) went_so r.runs);
+        goes = on_right made (after ++ rest) known went_so (on_first after rest known went_so r.goes);
+      }
+
   -- an arm of a constant binds nothing
   within_agrees : (bound : List ℕ) (places : List (Option BindingId)) (known : Known) (locals : Env) → places ≡ [] → Agree s u bound known locals → Agree s u (bound_within bound places) known locals
   within_agrees bound places known locals e a = subst (λ ps. Agree s u (bound_within bound ps) known locals) (sym e) a
 
   mutual
-    block_runs : (b : Block) (bound made : List ℕ) (locals : Env) (known : Known) (calls those : List Made) → KnowsOnly made known → AreSameCalls s.env those calls → IsReadyFrom s bound made b → HasSingleArms b → Agree s u bound known locals → Runs bound made b locals known calls those
-    block_runs Stop bound made locals known calls those only same k o a = record { runs = record { after = locals; those = those; is = λ end. refl; same = same }; goes = same_later known made only }
-    block_runs (Step binds c more) bound made locals known calls those only same k o a =
+    block_runs : (b : Block) (bound made : List ℕ) (locals : Env) (known : Known) (calls those : List Made) → KnowsOnly made known → AreSameCalls s.env those calls → IsReadyFrom s bound made b → Agree s u bound known locals → Runs bound made b locals known calls those
+    block_runs Stop bound made locals known calls those only same k a = record { runs = record { after = locals; those = those; is = λ end. refl; same = same }; goes = same_later known made only }
+    block_runs (Step binds c more) bound made locals known calls those only same k a =
         let ks = occurrences s.env (paths_in s) binds in
         let new = new_unanswered made ks known only k.1 in
         step_runs bound made binds c more locals known calls those (bind_all s.env u.meaning u.args (paths_in s) binds known calls) refl new
         (lets_run s u bound binds known [] calls those locals g same k.0 k.1.once new a)
         (λ later all behind after same' keeps agree. (
-          control_runs c (bound_by bound binds) (made ++ ks) after later all behind (kept_only made ks known later only keeps) same' k.2 o.0 agree,
-          λ last all' behind' same'' is. block_runs more (bound_by bound binds) (after_control (gives_several s) s.env (paths_in s) (made ++ ks) c) after last all' behind' is.only same'' k.3 o.1 (agree_later s u (bound_by bound binds) later last after is.grows agree),
+          control_runs c (bound_by bound binds) (made ++ ks) after later all behind (kept_only made ks known later only keeps) same' k.2 agree,
+          λ last all' behind' same'' is. block_runs more (bound_by bound binds) (after_control (gives_several s) s.env (paths_in s) (made ++ ks) c) after last all' behind' is.only same'' k.3 (agree_later s u (bound_by bound binds) later last after is.grows agree),
         ))
 
-    control_runs : (c : Control) (bound made : List ℕ) (locals : Env) (known : Known) (calls those : List Made) → KnowsOnly made known → AreSameCalls s.env those calls → IsReadyControl s bound made c → IsSingle c → Agree s u bound known locals
+    control_runs : (c : Control) (bound made : List ℕ) (locals : Env) (known : Known) (calls those : List Made) → KnowsOnly made known → AreSameCalls s.env those calls → IsReadyControl s bound made c → Agree s u bound known locals
         → Does s.env (kind_of s.term.kind) locals known (after_control (gives_several s) s.env (paths_in s) made c) (run_stmt u (control_stmt s bound c) locals (done [] those)) (control_run s.env u.meaning u.args (paths_in s) c known calls)
-    control_runs (block.Match source (Arm (constraint.ConstBool val) places body NoArm)) bound made locals known calls those only same k o a =
+    control_runs (block.Match source (Arm (constraint.ConstBool val) places body NoArm)) bound made locals known calls those only same k a =
         let x = over_value s bound source (constraint.ConstBool val) k.1.0 (λ e. cc) k.1.1 k.1.2.0 in
         constant_does bound made source x.ty (constraint.ConstBool val) places body locals known calls those only same a x.ready x.is tt
-        (block_runs body (bound_within bound places) made locals known calls those only same k.1.2.2 o (within_agrees bound places known locals k.1.2.1 a))
-    control_runs (block.Match source (Arm (constraint.ConstInt val of) places body NoArm)) bound made locals known calls those only same k o a =
+        (block_runs body (bound_within bound places) made locals known calls those only same k.1.2.2 (within_agrees bound places known locals k.1.2.1 a))
+    control_runs (block.Match source (Arm (constraint.ConstInt val of) places body NoArm)) bound made locals known calls those only same k a =
         let x = over_value s bound source (constraint.ConstInt val of) k.1.0 (λ e. cc) k.1.1 k.1.2.0 in
         constant_does bound made source x.ty (constraint.ConstInt val of) places body locals known calls those only same a x.ready x.is tt
-        (block_runs body (bound_within bound places) made locals known calls those only same k.1.2.2 o (within_agrees bound places known locals k.1.2.1 a))
-    control_runs (block.Match source (Arm (constraint.ConstPrim val) places body NoArm)) bound made locals known calls those only same k o a =
+        (block_runs body (bound_within bound places) made locals known calls those only same k.1.2.2 (within_agrees bound places known locals k.1.2.1 a))
+    control_runs (block.Match source (Arm (constraint.ConstPrim val) places body NoArm)) bound made locals known calls those only same k a =
         let x = over_value s bound source (constraint.ConstPrim val) k.1.0 (λ e. cc) k.1.1 k.1.2.0 in
         constant_does bound made source x.ty (constraint.ConstPrim val) places body locals known calls those only same a x.ready x.is tt
-        (block_runs body (bound_within bound places) made locals known calls those only same k.1.2.2 o (within_agrees bound places known locals k.1.2.1 a))
-    control_runs (block.Match source (Arm (constraint.Variant of variant) places body NoArm)) bound made locals known calls those only same k o a =
+        (block_runs body (bound_within bound places) made locals known calls those only same k.1.2.2 (within_agrees bound places known locals k.1.2.1 a))
+    control_runs (block.Match source (Arm (constraint.Variant of variant) places body NoArm)) bound made locals known calls those only same k a =
         let x = over_value s bound source (constraint.Variant of variant) k.1.0 (λ e. cc) k.1.1 k.1.2.0 in
         form_does bound made source x.ty (constraint.Variant of variant) places body locals known calls those only same a x.ready x.is k.1.2.1 tt
-        (λ inner agree. block_runs body (bound_within bound places) made inner known calls those only same k.1.2.2 o agree)
-    control_runs (block.Match source (Arm (constraint.Struct of) places body NoArm)) bound made locals known calls those only same k o a =
+        (λ inner agree. block_runs body (bound_within bound places) made inner known calls those only same k.1.2.2 agree)
+    control_runs (block.Match source (Arm (constraint.Struct of) places body NoArm)) bound made locals known calls those only same k a =
         let x = over_value s bound source (constraint.Struct of) k.1.0 (λ e. cc) k.1.1 k.1.2.0 in
         form_does bound made source x.ty (constraint.Struct of) places body locals known calls those only same a x.ready x.is k.1.2.1 tt
-        (λ inner agree. block_runs body (bound_within bound places) made inner known calls those only same k.1.2.2 o agree)
-    control_runs (block.Match source (Arm constraint.Some places body NoArm)) bound made locals known calls those only same k o a =
+        (λ inner agree. block_runs body (bound_within bound places) made inner known calls those only same k.1.2.2 agree)
+    control_runs (block.Match source (Arm constraint.Some places body NoArm)) bound made locals known calls those only same k a =
         let x = over_option s bound source k.1.0 k.1.1 k.1.2.0 in
         some_does bound made source x.0 places body locals known calls those only same a x.1 k.1.2.1
-        (λ inner agree. block_runs body (bound_within bound places) made inner known calls those only same k.1.2.2 o agree)
-    control_runs (block.Match source (Arm c places body (Arm d others inside arms))) bound made locals known calls those only same k o a = absurd o
-    control_runs (block.Match source NoArm) bound made locals known calls those only same k o a = absurd o
-    control_runs (block.Equal x y body) bound made locals known calls those only same k o a =
+        (λ inner agree. block_runs body (bound_within bound places) made inner known calls those only same k.1.2.2 agree)
+    control_runs (block.Match source (Arm c places body (Arm d others inside arms))) bound made locals known calls those only same k a =
+        let h = read_value u locals (match_read s bound source c) in
+        let x = match_reads s u bound known locals source k.1.0 c g a k.1.1 k.1.2.0 in
+        arms_run_so (Arm c places body (Arm d others inside arms)) bound made source k.1.0 h locals known calls those only same k.1.1 x k.1.2 a
+    control_runs (block.Match source NoArm) bound made locals known calls those only same k a = absurd k.0
+    control_runs (block.Equal x y body) bound made locals known calls those only same k a =
         let v = operand_reads s u bound known locals x k.0.0 g a k.0.1 in
         let w = operand_reads s u bound known locals y k.0.0 g a k.0.2 in
-        let r = block_runs body bound made locals known calls those only same k.1 o a in
+        let r = block_runs body bound made locals known calls those only same k.1 a in
         let after = after_block (gives_several s) s.env (paths_in s) made body in
         let f = run_stmt u (IfEq (written_operand s bound x) (written_operand s bound y) (block_body s bound body Done)) locals (done [] those) in
         let inner = block_run s.env u.meaning u.args (paths_in s) body known calls in
@@ -309,14 +333,25 @@ module _ (s : Setting) (u : Around) (g : Grounds s u) (few : gives_several s ≡
         (subst (λ h. Does s.env (kind_of s.term.kind) locals known (made ++ after) f (cond (equal_held (a_value v.v) h) inner (went.Goes known calls))) (sym w.block)
         (equal_does (written_operand s bound x) (written_operand s bound y) bound made after body locals known calls those v.r w.r _ v.run w.run (run_same s.env k.0.0 v.r w.r v.v w.v v.same w.same v.typed w.typed) only same r
         (on_right made after known inner r.goes)))
-    control_runs (block.Loop result body) bound made locals known calls those only same k o a = absurd (let bad : false ≡ true = sym few ∙ k.0.several in cc)
-    control_runs (block.Return pos result) bound made locals known calls those only same k o a =
+    control_runs (block.Loop result body) bound made locals known calls those only same k a = absurd (let bad : false ≡ true = sym few ∙ k.0.several in cc)
+    control_runs (block.Return pos result) bound made locals known calls those only same k a =
         let v = written_reads s u bound known locals false result s.term.ret_ty g a k in
         record {
           runs = subst (λ h. EndsSo [] s.env (kind_of s.term.kind) (run_stmt u (result_stmt (kind_of s.term.kind) (written_read s bound false result)) locals (done [] those)) (record { result = result_of h; calls = calls })) (sym v.block)
               (return_does s.env u (kind_of s.term.kind) few (written_read s bound false result) v.r v.v locals calls those v.run v.same same);
           goes = tt;
         }
+
+    -- several arms over what is read
+    arms_run_so : (arms : Arms) (bound made : List ℕ) (source : BindingId) (over : Source) (h : Held) (locals : Env) (known : Known) (calls those : List Made) → KnowsOnly made known → AreSameCalls s.env those calls → IsReadyIn s bound source over
+        → ReadsOver s.env over h (value_at s.env u.meaning u.args known (at (paths_in s) source)) → AreReadyArms s bound made source over arms → Agree s u bound known locals
+        → Does s.env (kind_of s.term.kind) locals known (made ++ after_arms (gives_several s) s.env (paths_in s) made arms) (run_arms u (told_each bare_manner s bound arms) h locals (done [] those))
+        (arms_run s.env u.meaning u.args (paths_in s) arms (value_at s.env u.meaning u.args known (at (paths_in s) source)) known calls)
+    arms_run_so NoArm bound made source over h locals known calls those only same ready x k a = skip s.env (kind_of s.term.kind) locals known made [] _ (went.Goes known calls) calls those only same refl refl
+    arms_run_so (Arm c places body arms) bound made source over h locals known calls those only same ready x k a =
+        arm_does bound made places body (written_arm s.env c places) (meets s.env u.meaning c (value_at s.env u.meaning u.args known (at (paths_in s) source))) h locals known calls those (after_arms (gives_several s) s.env (paths_in s) made arms) _ _
+        (fits_where_met s u bound known locals source over c places h g a ready x k.0 k.1) (λ inner agree. block_runs body (bound_within bound places) made inner known calls those only same k.2 agree)
+        (arms_run_so arms bound made source over h locals known calls those only same ready x k.3 a)
 
 -- ---- functions
 
@@ -370,29 +405,29 @@ ends_as return_kind.Option once Unmatched = refl
 ends_as return_kind.Iterator once r = absurd once
 
 -- the statements of a lawful block run as the block, in whatever function they stand and however its results are limited
-pub written_flow : (files : Files) (env : Environment) (t : Term) (bs : List Binding) (b : Block) → AnswersOnce (kind_of t.kind) → HasRustNames env → HasPureExtractors env bs → HasPureConstructors env → IsLawfulBlock (setting env t bs) b → HasSingleArms b
+pub written_flow : (files : Files) (env : Environment) (t : Term) (bs : List Binding) (b : Block) → AnswersOnce (kind_of t.kind) → HasRustNames env → HasPureExtractors env bs → HasPureConstructors env → IsLawfulBlock (setting env t bs) b
     → (p : Program) (args : List Value) (m : Meaning) → HaveTypes env args t.arg_tys → AnswersBindings env m bs → ValuesConstants env m → (limit : Option ℕ) (f : Function)
     → AreSameRuns env (ended (kind_of t.kind) (run_body (around p m args limit f) (written_body files env t bs b) [] nothing_done)) (ran_of t (block_outcome env m args (paths_of bs) b (kind_of t.kind)))
-written_flow files env t bs b once names pure pure_made h o p args m k answers values limit g =
+written_flow files env t bs b once names pure pure_made h p args m k answers values limit g =
     let kind = kind_of t.kind in
     let name = sym_text env t.name in
     let place = place_in files t.decl_pos in
     let s = setting env t bs in
     let u = around p m args limit g in
-    let grounds : Grounds s u = record { typed = k; answers = answers; constants = values; names = names; pure = pure; pure_made = pure_made } in
+    let grounds : Grounds s u = record { asks = refl; typed = k; answers = answers; constants = values; names = names; pure = pure; pure_made = pure_made } in
     let c = completed s [] b in
     let f : Body → Flow = λ end. run_body u (block_body s [] c end) [] (done [] []) in
-    let r = block_runs s u grounds (few_of (kind_of t.kind) once) c [] [] [] nothing_known [] [] (λ j apart. refl) refl (completed_ready s b h) (completed_single s [] b o) (none_agree s u nothing_known) in
+    let r = block_runs s u grounds (few_of (kind_of t.kind) once) c [] [] [] nothing_known [] [] (λ j apart. refl) refl (completed_ready s b h) (none_agree s u nothing_known) in
     let outcome = block_outcome env m args (paths_of bs) b kind in
     tail_runs env u kind once (ends_in_return b) name place f (block_run env m args (paths_of bs) b nothing_known []) (λ x. returns b env m args bs nothing_known [] x) (subst (RunsSo env kind u f) (completed_runs s m args [] b nothing_known []) r.runs)
     ∙ ap (λ x. option_map nameless_ran (option_map (ran_with outcome.calls) x)) (sym (ends_as kind once outcome.result))
 
 -- so the function of a term, with its log lines
-pub written_runs : (options : CodegenOptions) (files : Files) (env : Environment) (t : Term) (bs : List Binding) (b : Block) → AnswersOnce (kind_of t.kind) → HasRustNames env → HasPureExtractors env bs → HasPureConstructors env → IsLawfulBlock (setting env t bs) b → HasSingleArms b
+pub written_runs : (options : CodegenOptions) (files : Files) (env : Environment) (t : Term) (bs : List Binding) (b : Block) → AnswersOnce (kind_of t.kind) → HasRustNames env → HasPureExtractors env bs → HasPureConstructors env → IsLawfulBlock (setting env t bs) b
     → RunsAsBlock env t bs b (logged_function options files env t bs b)
-written_runs options files env t bs b once names pure pure_made h o p args m space e k answers values =
+written_runs options files env t bs b once names pure pure_made h p args m space e k answers values =
     let f = logged_function options files env t bs b in
     let w = around p m args (Some (room space)) f in
     ap (λ g. option_map (λ (q : Ran). nameless_ran (impure_ran env q)) (function_run p m space args g)) e
     ∙ ap (λ x. option_map (λ (q : Ran). nameless_ran (impure_ran env q)) (ended (kind_of t.kind) x)) (logged_runs (written_body files env t bs b) (log_lines options files (setting env t bs) b) w [] nothing_done)
-    ∙ written_flow files env t bs b once names pure pure_made h o p args m k answers values (Some (room space)) f
+    ∙ written_flow files env t bs b once names pure pure_made h p args m k answers values (Some (room space)) f

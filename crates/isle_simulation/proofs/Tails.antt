@@ -1,5 +1,5 @@
 -- The function of a term is as the term is declared.
-use Rattle.std.proofs.Common.{◌≡◌, ℕ, List, [], ◌∷◌, ◌++◌, Bool, true, false, cond, Option, Some, None, refl, sym, ap, subst, ◌∙◌}
+use Rattle.std.proofs.Common.{◌≡◌, ℕ, List, [], Bool, true, false, cond, Option, Some, None, refl, sym, subst}
 use Rattle.std.specs.List.{AllByRecursion}
 use Rattle.std.specs.Prelude.{slice_get}
 use Rattle.isle_core.specs.declared.options.CodegenOptions.{CodegenOptions}
@@ -16,7 +16,6 @@ use Rattle.isle_core.specs.Block.{Block}
 use Rattle.isle_core.specs.BlockLawful.{IsLawfulBlock}
 use Rattle.isle_core.specs.Rule.{Environment}
 use Rattle.isle_core.specs.Setting.{Setting, setting}
-use Rattle.isle_core.specs.SingleArms.{HasSingleArms}
 use Rattle.isle_tree.specs.Program.{Body, Done}
 use Rattle.isle_tree.specs.declared.tree.Read.{Read}
 use Rattle.isle_tree.specs.declared.tree.TExpr.{TExpr}
@@ -26,7 +25,6 @@ use Rattle.isle_simulation.specs.Manner.{bare_manner}
 use Rattle.isle_simulation.specs.OfTerm.{own_marks, marks, IsOfTerm}
 use Rattle.isle_simulation.specs.TermFunction.{ends_in_return, mark_in, tail_body, tail_in, log_lines}
 use Rattle.isle_simulation.proofs.CompletedReady.{completed_ready}
-use Rattle.isle_simulation.proofs.CompletedRuns.{completed_single}
 use Rattle.isle_simulation.proofs.MadeStatements.{EachMade, Anything, any_tested, block_holds}
 use Rattle.isle_simulation.proofs.Written.{arm_stmt, bound_expr, result_stmt, written_body, written_read, logged_function}
 use Rattle.isle_simulation.proofs.LocalStmts.{local_by}
@@ -58,6 +56,7 @@ marks_made P s = record {
   log = λ line. tt;
   equal = λ locals a b ty inside h k. tt;
   arm = λ locals source over c places inside h is k w. arm_marks P s locals source c places inside;
+  several = λ locals source over c arms h is k. tt;
   loop = λ list item inside. tt;
 }
 
@@ -70,8 +69,8 @@ marks_own : IsOwn own_marks
 marks_own = record { if_eq = λ a b x y. refl; if_let = λ pat r x y. refl; arms = λ r x y. refl; loop = λ list item x y. refl; split = λ within x y. refl; log = λ term place. refl }
 
 -- the function of a term has its name, its types and its kind, and says where it is declared
-pub written_of_term : (options : CodegenOptions) (files : Files) (env : Environment) (t : Term) (bs : List Binding) (b : Block) → IsLawfulBlock (setting env t bs) b → HasSingleArms b → IsOfTerm files env t (logged_function options files env t bs b)
-written_of_term options files env t bs b h o =
+pub written_of_term : (options : CodegenOptions) (files : Files) (env : Environment) (t : Term) (bs : List Binding) (b : Block) → IsLawfulBlock (setting env t bs) b → IsOfTerm files env t (logged_function options files env t bs b)
+written_of_term options files env t bs b h =
     let s = setting env t bs in
     let d = completed s [] b in
     let end = tail_in files env t b in
@@ -83,5 +82,5 @@ written_of_term options files env t bs b h o =
       kind = refl;
       tails =
           subst (AllByRecursion So) (sym (logged_of own_marks marks_own (written_body files env t bs b) (log_lines options files s b)))
-          (block_holds own_marks So s Anything (marks_made So s) bare_manner d [] [] end (completed_ready s b h) (completed_single s [] b o) (any_tested d) (tail_marks (mark_in files env t) (ends_in_return b)));
+          (block_holds own_marks So s Anything (marks_made So s) bare_manner d [] [] end (completed_ready s b h) (any_tested d) (tail_marks (mark_in files env t) (ends_in_return b)));
     }

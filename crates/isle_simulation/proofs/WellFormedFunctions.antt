@@ -12,7 +12,6 @@ use Rattle.isle_core.specs.BlockLawful.{IsLawfulBlock}
 use Rattle.isle_core.specs.Terms.{sym_text}
 use Rattle.isle_core.specs.Rule.{Environment}
 use Rattle.isle_core.specs.Setting.{setting}
-use Rattle.isle_core.specs.SingleArms.{HasSingleArms}
 use Rattle.isle_tree.specs.Program.{Done, Program}
 use Rattle.isle_tree.specs.WellFormed.{Locals, Callables, callables, IsBody, IsBodyScoped, IsFunction}
 use Rattle.isle_core.specs.declared.types.ReturnKind.{ReturnKind}
@@ -21,7 +20,6 @@ use Rattle.isle_simulation.specs.RustNames.{HasRustNames}
 use Rattle.isle_simulation.specs.TermFunction.{ends_in_return, mark_of, tail_body, tail_of, log_lines}
 use Rattle.isle_simulation.specs.TypeTexts.{parameter}
 use Rattle.isle_simulation.proofs.CompletedReady.{completed_ready}
-use Rattle.isle_simulation.proofs.CompletedRuns.{completed_single}
 use Rattle.isle_simulation.specs.Emitted.{IsEmittable}
 use Rattle.isle_simulation.specs.TermFns.{callables_of}
 use Rattle.isle_simulation.proofs.CalledTerms.{HasCallees}
@@ -47,8 +45,8 @@ tail_scoped (Some mark) false fns kind params locals = (tt, tt)
 tail_scoped None false fns kind params locals = tt
 
 -- the function of a term that may be emitted and whose block is lawful, in a program with the functions that the environment gives
-pub written_well_formed : (options : CodegenOptions) (files : Files) (env : Environment) (t : Term) (bs : List Binding) (b : Block) → IsEmittable env t → HasRustNames env → IsLawfulBlock (setting env t bs) b → HasSingleArms b → HasCallees env → (p : Program) → callables p ≡ callables_of env → IsFunction p (logged_function options files env t bs b)
-written_well_formed options files env t bs b h names k o fns p same =
+pub written_well_formed : (options : CodegenOptions) (files : Files) (env : Environment) (t : Term) (bs : List Binding) (b : Block) → IsEmittable env t → HasRustNames env → IsLawfulBlock (setting env t bs) b → HasCallees env → (p : Program) → callables p ≡ callables_of env → IsFunction p (logged_function options files env t bs b)
+written_well_formed options files env t bs b h names k fns p same =
     let s = setting env t bs in
     let kind = kind_of t.kind in
     let name = sym_text env t.name in
@@ -56,14 +54,13 @@ written_well_formed options files env t bs b h names k o fns p same =
     let mark = mark_of kind name place in
     let c = completed s [] b in
     let ready = completed_ready s b k in
-    let single = completed_single s [] b o in
     let body = written_body files env t bs b in
     let lines = log_lines options files s b in
     record {
       names = has_names env t (logged lines body) h;
-      forms = logged_is body lines (block_is c s [] [] (tail_of kind name place b) names fns ready single (tail_is mark (ends_in_return b)));
+      forms = logged_is body lines (block_is c s [] [] (tail_of kind name place b) names fns ready (tail_is mark (ends_in_return b)));
       scoped = logged_scoped body lines (callables p) kind (length (map (parameter env) t.arg_tys)) [] (subst (λ (ts : Callables). IsBodyScoped ts kind (length (map (parameter env) t.arg_tys)) [] body) (sym same)
           (subst (λ n. IsBodyScoped (callables_of env) kind n [] body) (sym (length-map t.arg_tys (parameter env)))
-          (root_scoped c s (tail_of kind name place b) fns ready single (λ locals. tail_scoped mark (ends_in_return b) (callables_of env) kind (length t.arg_tys) locals))));
-      fits = logged_fits_function body lines kind (function_fits b s name place ready single);
+          (root_scoped c s (tail_of kind name place b) fns ready (λ locals. tail_scoped mark (ends_in_return b) (callables_of env) kind (length t.arg_tys) locals))));
+      fits = logged_fits_function body lines kind (function_fits b s name place ready);
     }

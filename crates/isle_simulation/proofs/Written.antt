@@ -36,7 +36,8 @@ use Rattle.isle_tree.specs.declared.tree.TExpr.{TExpr}
 use Rattle.isle_tree.specs.declared.tree.TExpr.TheVariants as expr
 use Rattle.isle_tree.specs.declared.tree.TPat.{TPat}
 use Rattle.isle_tree.specs.declared.tree.TPat.TheVariants as pattern
-use Rattle.isle_tree.specs.Program.{Stmt, IfEq, IfLet, Loop, Return, Extend, Overflow, Tail, Body, Done, Then, Function}
+use Rattle.isle_tree.specs.Program as tree
+use Rattle.isle_tree.specs.Program.{Stmt, IfEq, IfLet, Match, Loop, Return, Extend, Overflow, Tail, Body, Done, Then, Function}
 use Rattle.isle_simulation.specs.Completed.{completed}
 use Rattle.isle_simulation.specs.Operands.{in_place, tested, operand_of}
 use Rattle.isle_simulation.specs.Patterns.{pattern_of}
@@ -138,6 +139,22 @@ arm_stmt s bound source (constraint.Struct ty) places inside = IfLet (written_pa
 arm_stmt s bound source constraint.Some places inside = IfLet (written_pattern (pattern_of s.env constraint.Some places)) (read.Plain (written_operand s bound source)) inside
 arm_stmt s bound source c places inside = IfEq (written_operand s bound source) (written_test s.env c) inside
 
+abbrev pub written_arm : Environment → Constraint → List (Option BindingId) → TPat
+written_arm env (constraint.ConstBool val) places = pattern.Const (written_test env (constraint.ConstBool val))
+written_arm env (constraint.ConstInt val ty) places = pattern.Const (written_test env (constraint.ConstInt val ty))
+written_arm env (constraint.ConstPrim val) places = pattern.Const (written_test env (constraint.ConstPrim val))
+written_arm env (constraint.Variant ty variant) places = written_pattern (pattern_of env (constraint.Variant ty variant) places)
+written_arm env (constraint.Struct ty) places = written_pattern (pattern_of env (constraint.Struct ty) places)
+written_arm env constraint.Some places = written_pattern (pattern_of env constraint.Some places)
+
+abbrev pub match_read : Setting → List ℕ → BindingId → Constraint → Read
+match_read s bound source (constraint.Variant ty variant) = written_read s bound true source
+match_read s bound source (constraint.Struct ty) = written_read s bound true source
+match_read s bound source (constraint.ConstBool val) = read.Plain (written_operand s bound source)
+match_read s bound source (constraint.ConstInt val ty) = read.Plain (written_operand s bound source)
+match_read s bound source (constraint.ConstPrim val) = read.Plain (written_operand s bound source)
+match_read s bound source constraint.Some = read.Plain (written_operand s bound source)
+
 abbrev pub told_before : Telling → Control → Body → Body
 told_before None c after = after
 told_before (Some line) (block.Match source arms) after = after
@@ -162,7 +179,15 @@ abbrev mutual
 
   pub told_arms : Manner → Setting → List ℕ → BindingId → Arms → Stmt
   told_arms manner s bound source block.NoArm = Tail None
-  told_arms manner s bound source (block.Arm c places body arms) = arm_stmt s bound source c places (arm_body manner s body (told_body (arm_manner manner s body) s (bound_within bound places) body Done))
+  told_arms manner s bound source (block.Arm c places body block.NoArm) = arm_stmt s bound source c places (arm_body manner s body (told_body (arm_manner manner s body) s (bound_within bound places) body Done))
+  told_arms manner s bound source (block.Arm c places body (block.Arm d others inside arms)) =
+      Match (match_read s bound source c)
+      (tree.Arm (written_arm s.env c places) (arm_body manner s body (told_body (arm_manner manner s body) s (bound_within bound places) body Done)) (told_each manner s bound (block.Arm d others inside arms)))
+
+  pub told_each : Manner → Setting → List ℕ → Arms → tree.Arms
+  told_each manner s bound block.NoArm = tree.NoArm
+  told_each manner s bound (block.Arm c places body arms) =
+      tree.Arm (written_arm s.env c places) (arm_body manner s body (told_body (arm_manner manner s body) s (bound_within bound places) body Done)) (told_each manner s bound arms)
 
 abbrev pub block_body : Setting → List ℕ → Block → Body → Body
 block_body = told_body bare_manner

@@ -13,6 +13,7 @@ use Rattle.isle_core.specs.Terms.{sym_text}
 use Rattle.isle_tree.specs.declared.tree.TBind.{TBind}
 use Rattle.isle_tree.specs.declared.tree.TPat.{TPat}
 use Rattle.isle_tree.specs.declared.tree.TPat.TheVariants as pattern
+use Rattle.isle_simulation.specs.Operands.{tested}
 use Rattle.isle_simulation.specs.References.{is_declared}
 
 -- a field bound before others
@@ -58,3 +59,12 @@ pattern_of env (constraint.ConstBool val) places = None
 pattern_of env (constraint.ConstInt val ty) places = None
 pattern_of env (constraint.ConstPrim val) places = None
 pattern_of env constraint.Some places = some_pattern places
+
+-- the pattern of one of several arms: also that of a constant
+abbrev pub arm_pattern : Environment → Constraint → List (Option BindingId) → Option TPat
+arm_pattern env (constraint.ConstBool val) places = option_map pattern.Const (tested env (constraint.ConstBool val))
+arm_pattern env (constraint.ConstInt val ty) places = option_map pattern.Const (tested env (constraint.ConstInt val ty))
+arm_pattern env (constraint.ConstPrim val) places = option_map pattern.Const (tested env (constraint.ConstPrim val))
+arm_pattern env (constraint.Variant ty variant) places = pattern_of env (constraint.Variant ty variant) places
+arm_pattern env (constraint.Struct ty) places = pattern_of env (constraint.Struct ty) places
+arm_pattern env constraint.Some places = pattern_of env constraint.Some places

@@ -16,10 +16,11 @@ use Rattle.isle_tree.specs.declared.tree.TPat.TheVariants as pattern
 use Rattle.isle_tree.specs.declared.tree.TExpr.{TExpr}
 use Rattle.isle_tree.specs.declared.tree.TExpr.TheVariants as expr
 use Rattle.isle_tree.specs.Program.{Stmt, Let, LetList, IfEq, IfLet, Match, Loop, Return, Extend, Overflow, Log, Split, Tail, Body, Done, Then}
+use Rattle.isle_tree.specs.Program as tree
 use Rattle.isle_simulation.specs.Bare.{bare}
 use Rattle.isle_simulation.specs.Operands.{tested, operand_of}
-use Rattle.isle_simulation.specs.Patterns.{pattern_of}
-use Rattle.isle_simulation.specs.Statements.{looped_local, plain_read, read_in}
+use Rattle.isle_simulation.specs.Patterns.{pattern_of, arm_pattern}
+use Rattle.isle_simulation.specs.Statements.{looped_local, plain_read, read_in, match_read}
 
 -- the operand is that of the binding, where these are bound
 abbrev pub IsOperandOf : Setting → List ℕ → BindingId → Operand → Type 0
@@ -62,7 +63,7 @@ IsGivenOf s bound return_kind.Plain b r = ⊥
 IsGivenOf s bound return_kind.Option b r = ⊥
 IsGivenOf s bound return_kind.Iterator b r = IsReadOf s bound false b r
 
--- what is tested for is the one arm's constraint, and the statements inside do its body; several arms are not built
+-- what is tested for is the one arm's constraint, and the statements inside do its body; several arms have no such test
 abbrev pub IsArmOf : Setting → List ℕ → Operand → (does : List ℕ → Block → Type 0) → Arms → Type 0
 IsArmOf s bound q does block.NoArm = ⊥
 IsArmOf s bound q does (block.Arm c places body block.NoArm) = (tested s.env c ≡ Some q) × does (bound_within bound places) body
@@ -75,7 +76,7 @@ IsTestOf s bound o q does (block.Equal a b body) = IsOperandOf s bound a o × Is
 IsTestOf s bound o q does (block.Loop result body) = ⊥
 IsTestOf s bound o q does (block.Return pos result) = ⊥
 
--- the pattern is the one arm's, and the statements inside do its body; several arms are not built
+-- the pattern is the one arm's, and the statements inside do its body; several arms stand in a match
 abbrev pub IsPatternArm : Setting → List ℕ → TPat → (does : List ℕ → Block → Type 0) → Arms → Type 0
 IsPatternArm s bound pat does block.NoArm = ⊥
 IsPatternArm s bound pat does (block.Arm c places body block.NoArm) = (pattern_of s.env c places ≡ Some pat) × does (bound_within bound places) body
@@ -94,6 +95,19 @@ IsPatternTest s bound pat r does (block.Match source arms) = IsTestedBy s bound 
 IsPatternTest s bound pat r does (block.Equal a b body) = ⊥
 IsPatternTest s bound pat r does (block.Loop result body) = ⊥
 IsPatternTest s bound pat r does (block.Return pos result) = ⊥
+
+-- what a match of several arms reads is what a test of its first constraint reads; one arm has no match
+abbrev pub IsMatchRead : Setting → List ℕ → BindingId → Arms → Read → Type 0
+IsMatchRead s bound source block.NoArm r = ⊥
+IsMatchRead s bound source (block.Arm c places body block.NoArm) r = ⊥
+IsMatchRead s bound source (block.Arm c places body (block.Arm d others more arms)) r = match_read s bound source c ≡ Some r
+
+-- the match is the step's, over its source, and its arms are these
+abbrev pub IsMatchOf : Setting → List ℕ → Read → (do_arms : Arms → Type 0) → Control → Type 0
+IsMatchOf s bound r do_arms (block.Match source arms) = IsMatchRead s bound source arms r × do_arms arms
+IsMatchOf s bound r do_arms (block.Equal a b body) = ⊥
+IsMatchOf s bound r do_arms (block.Loop result body) = ⊥
+IsMatchOf s bound r do_arms (block.Return pos result) = ⊥
 
 -- the return is the step's
 abbrev pub IsReturnOf : Setting → List ℕ → TExpr → Control → Type 0
@@ -124,12 +138,12 @@ abbrev mutual
   AreSteps s bound Done (block.Step binds c more) = ⊥
   AreSteps s bound (Then st ss) block.Stop = ⊥
 
-  -- the statement does what the step does; those of several arms are not built, and the others are not bare
+  -- the statement does what the step does; the others are not bare
   pub DoesControl : Setting → List ℕ → Stmt → Control → Type 0
   DoesControl s bound (IfEq o q inside) c = IsTestOf s bound o q (λ within body. AreSteps s within inside body) c
   DoesControl s bound (Return e) c = IsReturnOf s bound e c
   DoesControl s bound (IfLet pat r inside) c = IsPatternTest s bound pat r (λ within body. AreSteps s within inside body) c
-  DoesControl s bound (Match read arms) c = ⊥
+  DoesControl s bound (Match read arms) c = IsMatchOf s bound read (DoArms s bound arms) c
   DoesControl s bound (Loop list item inside) c = IsLoopOf s bound list item (λ within body. AreSteps s within inside body) c
   DoesControl s bound (Extend read) c = IsExtendOf s bound read c
   DoesControl s bound (Let local e) c = ⊥
@@ -138,6 +152,14 @@ abbrev mutual
   DoesControl s bound (Log term place) c = ⊥
   DoesControl s bound (Split inside within) c = ⊥
   DoesControl s bound (Tail mark) c = ⊥
+
+  -- each arm in order has the pattern of the block's, and the statements inside do its body
+  pub DoArms : Setting → List ℕ → tree.Arms → Arms → Type 0
+  DoArms s bound tree.NoArm block.NoArm = Unit {0}
+  DoArms s bound (tree.Arm pat inside arms) (block.Arm c places body more) =
+      (arm_pattern s.env c places ≡ Some pat) × AreSteps s (bound_within bound places) inside body × DoArms s bound arms more
+  DoArms s bound tree.NoArm (block.Arm c places body more) = ⊥
+  DoArms s bound (tree.Arm pat inside arms) block.NoArm = ⊥
 
 -- the body of a function, where nothing is bound yet
 abbrev pub HasShape : Setting → Body → Block → Type 0

@@ -31,8 +31,9 @@ use Rattle.isle_tree.specs.declared.tree.Read.{Read}
 use Rattle.isle_tree.specs.declared.tree.Read.TheVariants as read
 use Rattle.isle_tree.specs.declared.tree.TExpr.{TExpr}
 use Rattle.isle_tree.specs.declared.tree.TExpr.TheVariants as expr
-use Rattle.isle_tree.specs.Program.{Stmt, Let, LetList, IfEq, IfLet, Loop, Return, Extend, Overflow, Body, Done, Then}
-use Rattle.isle_simulation.specs.Patterns.{pattern_of}
+use Rattle.isle_tree.specs.Program as tree
+use Rattle.isle_tree.specs.Program.{Stmt, Let, LetList, IfEq, IfLet, Match, Loop, Return, Extend, Overflow, Body, Done, Then}
+use Rattle.isle_simulation.specs.Patterns.{pattern_of, arm_pattern}
 use Rattle.isle_simulation.specs.References.{is_declared, result_type, is_reference_in, read_as}
 use Rattle.isle_simulation.specs.Operands.{in_place, tested, operand_of}
 use Rattle.isle_simulation.specs.Manner.{Manner, bare_manner, arm_manner, arm_body}
@@ -269,8 +270,29 @@ arm_stmt s bound source (constraint.Variant ty variant) places inside = if_let (
 arm_stmt s bound source (constraint.Struct ty) places inside = if_let (pattern_of s.env (constraint.Struct ty) places) (read_in s bound true source) inside
 arm_stmt s bound source constraint.Some places inside = if_let (pattern_of s.env constraint.Some places) (plain_read (operand_of s.env s.bindings bound source)) inside
 
--- a block's steps in order, each Return after its log line if it is told and before its stop, and what follows; a match of several arms is not
--- built
+-- what a match of several arms reads: by the form of the first constraint a reference, or the operand as it is
+abbrev pub match_read : Setting → List ℕ → BindingId → Constraint → Option Read
+match_read s bound source (constraint.Variant ty variant) = read_in s bound true source
+match_read s bound source (constraint.Struct ty) = read_in s bound true source
+match_read s bound source (constraint.ConstBool val) = plain_read (operand_of s.env s.bindings bound source)
+match_read s bound source (constraint.ConstInt val ty) = plain_read (operand_of s.env s.bindings bound source)
+match_read s bound source (constraint.ConstPrim val) = plain_read (operand_of s.env s.bindings bound source)
+match_read s bound source constraint.Some = plain_read (operand_of s.env s.bindings bound source)
+
+-- a match of these arms over what is read
+abbrev pub match_of : Option Read → Option tree.Arms → Option Stmt
+match_of (Some r) (Some arms) = Some (Match r arms)
+match_of (Some r) None = None
+match_of None arms = None
+
+-- an arm before others
+abbrev pub arm_before : Option TPat → Option Body → Option tree.Arms → Option tree.Arms
+arm_before (Some pat) (Some inside) (Some arms) = Some (tree.Arm pat inside arms)
+arm_before (Some pat) (Some inside) None = None
+arm_before (Some pat) None arms = None
+arm_before None inside arms = None
+
+-- a block's steps in order, each Return after its log line if it is told and before its stop, and what follows
 abbrev mutual
   pub told_body : Manner → Setting → List ℕ → Block → Option Body → Option Body
   told_body manner s bound block.Stop end = end
@@ -288,7 +310,17 @@ abbrev mutual
   told_arms manner s bound source block.NoArm = None
   told_arms manner s bound source (block.Arm c places body block.NoArm) =
       arm_stmt s bound source c places (arm_body manner s body (told_body (arm_manner manner s body) s (bound_within bound places) body (Some Done)))
-  told_arms manner s bound source (block.Arm c places body (block.Arm d others inside arms)) = None
+  told_arms manner s bound source (block.Arm c places body (block.Arm d others inside arms)) =
+      match_of (match_read s bound source c)
+      (arm_before (arm_pattern s.env c places) (arm_body manner s body (told_body (arm_manner manner s body) s (bound_within bound places) body (Some Done)))
+      (told_each manner s bound (block.Arm d others inside arms)))
+
+  -- each of several arms
+  pub told_each : Manner → Setting → List ℕ → Arms → Option tree.Arms
+  told_each manner s bound block.NoArm = Some tree.NoArm
+  told_each manner s bound (block.Arm c places body arms) =
+      arm_before (arm_pattern s.env c places) (arm_body manner s body (told_body (arm_manner manner s body) s (bound_within bound places) body (Some Done)))
+      (told_each manner s bound arms)
 
 -- the statements without log lines
 abbrev pub block_body : Setting → List ℕ → Block → Option Body → Option Body

@@ -1,5 +1,6 @@
 pub mod Names
 pub mod Prints
+pub mod PrintedStatements
 pub mod Words
 pub mod ReadsAgain
 pub mod ExprsAgain

@@ -30,8 +30,8 @@ use Rattle.isle_tree.specs.declared.tree.TExpr.TheVariants as expr
 use Rattle.isle_tree.specs.declared.tree.TBind.{TBind}
 use Rattle.isle_tree.specs.declared.tree.TPat.{TPat}
 use Rattle.isle_tree.specs.declared.tree.TPat.TheVariants as pattern
-use Rattle.isle_tree.specs.Program.{Stmt, Let, LetList, IfEq, IfLet, Match, Loop, Return, Extend, Overflow, Log, Split, Tail, Body, Done, Then, Function, Program}
-use Rattle.isle_target.specs.StatementSpelling.{local_token, truth_token, operand_tokens, clone_part, read_tokens, borrow_part, callee_head, args_tokens, call_tokens, field_read_tokens, field_reads_tokens, made_tokens, as_ref_part, expr_tokens, ref_part, bind_tokens, binds_tokens, braced_tokens, pattern_tokens, close, list_tokens, default_part, list_end, let_list_tokens, loop_head, overflow_tokens, if_eq_head, if_let_head, log_tokens, tail_tokens, stmt_tokens, body_tokens}
+use Rattle.isle_tree.specs.Program.{Stmt, Let, LetList, IfEq, IfLet, Match, Loop, Return, Extend, Overflow, Log, Split, Tail, Body, Done, Then, Arms, NoArm, Arm, Function, Program}
+use Rattle.isle_target.specs.StatementSpelling.{local_token, truth_token, operand_tokens, clone_part, read_tokens, borrow_part, callee_head, args_tokens, call_tokens, field_read_tokens, field_reads_tokens, made_tokens, as_ref_part, expr_tokens, ref_part, bind_tokens, binds_tokens, braced_tokens, pattern_tokens, close, list_tokens, default_part, list_end, let_list_tokens, loop_head, overflow_tokens, if_eq_head, if_let_head, match_head, arm_head, log_tokens, tail_tokens, stmt_tokens, body_tokens, arms_tokens}
 use Rattle.isle_target.specs.Spelling.{typed_tokens, param_tokens, params_tokens, result_tokens, result_part, function_tokens, functions_tokens, allow_part, comma, joined_tokens, returns_param, joined_end, joined_types, item_tokens, results_tokens, list_type, trait_fn_tokens, trait_fns_tokens, trait_tokens, visible, named_tokens, places_tokens, fields_tokens, variant_tokens, variants_tokens, struct_end, type_body_tokens, derive_tokens, type_tokens, types_tokens, program_tokens}
 
 -- none of the tokens is a comment
@@ -126,6 +126,12 @@ pattern_read (pattern.Some (Some n)) = refl
 let_head_read : (p : TPat) (r : Read) → AreRead (if_let_head p r)
 let_head_read p r = both_read (pattern_tokens p) _ (pattern_read p) (both_read (read_tokens r) (Mark (codes "{") ∷ []) (read_read r) refl)
 
+match_read : (r : Read) → AreRead (match_head r)
+match_read r = both_read (read_tokens r) (Mark (codes "{") ∷ []) (read_read r) refl
+
+arm_read : (p : TPat) → AreRead (arm_head p)
+arm_read p = both_read (pattern_tokens p) (Mark (codes "=>") ∷ Mark (codes "{") ∷ []) (pattern_read p) refl
+
 list_read : (c : Callee) → AreRead (list_tokens c)
 list_read (callee.External name) = refl
 list_read (callee.Internal term) = refl
@@ -158,7 +164,7 @@ mutual
   stmt_read (LetList n call) = filled_read n call.callee call.args
   stmt_read (IfEq a b inside) = both_read (if_eq_head a b) (body_tokens inside ++ close) (head_read a b) (both_read (body_tokens inside) close (body_read inside) refl)
   stmt_read (IfLet p r inside) = both_read (if_let_head p r) (body_tokens inside ++ close) (let_head_read p r) (both_read (body_tokens inside) close (body_read inside) refl)
-  stmt_read (Match r arms) = refl
+  stmt_read (Match r arms) = both_read (match_head r) (arms_tokens arms) (match_read r) (arms_read arms)
   stmt_read (Loop l i inside) = both_read (loop_head l i) (body_tokens inside ++ close) (loop_read l i) (both_read (body_tokens inside) close (body_read inside) refl)
   stmt_read (Return e) = both_read (expr_tokens e) (Mark (codes ";") ∷ []) (expr_read e) refl
   stmt_read (Extend r) = both_read (read_tokens r) _ (read_read r) refl
@@ -170,6 +176,12 @@ mutual
   body_read : (b : Body) → AreRead (body_tokens b)
   body_read Done = refl
   body_read (Then s ss) = both_read (stmt_tokens s) (body_tokens ss) (stmt_read s) (body_read ss)
+
+  arms_read : (a : Arms) → AreRead (arms_tokens a)
+  arms_read NoArm = refl
+  arms_read (Arm p inside arms) =
+      both_read (arm_head p) (body_tokens inside ++ (close ++ arms_tokens arms)) (arm_read p)
+      (both_read (body_tokens inside) (close ++ arms_tokens arms) (body_read inside) (both_read close (arms_tokens arms) refl (arms_read arms)))
 
 typed_read : (n : ℕ) (ty : Ty) → AreRead (typed_tokens n ty)
 typed_read n ty = both_read (borrow_part ty.by_ref) (Word ty.name ∷ []) (borrow_read ty.by_ref) refl

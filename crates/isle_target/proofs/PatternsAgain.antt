@@ -1,7 +1,7 @@
 -- Patterns are read as what they were spelled from.
 use Rattle.std.proofs.Common.{◌≡◌, ℕ, zero, suc, ◌<◌, List, [], ◌∷◌, ◌++◌, length, length-append, Bool, true, false, Some, None, refl, append_assoc, arith}
 use Rattle.std.specs.Prelude.{codes}
-use Rattle.isle_printer.specs.Token.{Token, Mark}
+use Rattle.isle_printer.specs.Token.{Token, Word, Mark}
 use Rattle.isle_printer.proofs.Readback.{numeral_again}
 use Rattle.isle_tree.specs.declared.tree.Operand.{Operand}
 use Rattle.isle_tree.specs.declared.tree.Operand.TheVariants as operand
@@ -12,7 +12,7 @@ use Rattle.isle_tree.specs.WellFormed.{IsOperand, IsConstant, IsPattern}
 use Rattle.isle_target.specs.StatementSpelling.{local_token, ref_part, bind_tokens, more_part, binds_tokens, braced_tokens, pattern_tokens}
 use Rattle.isle_target.specs.Tokens.{at}
 use Rattle.isle_target.specs.PatternReading.{read_bound, read_binds, read_braced, read_pattern}
-use Rattle.isle_target.proofs.Words.{operand_again, operand_no_mark}
+use Rattle.isle_target.proofs.Words.{operand_again, operand_no_mark, operand_no_rest}
 use Rattle.isle_target.proofs.ReadsAgain.{operand_apart}
 
 -- ---- fields
@@ -67,15 +67,25 @@ constant_is (operand.Int ty z) h = h
 constant_is (operand.Raw z) h = h
 constant_is (operand.Name name) h = h
 
--- a pattern is read again, up to the = after it
-pub pattern_again : (p : TPat) (ts : List Token) → IsPattern p → read_pattern (pattern_tokens p ++ Mark (codes "=") ∷ ts) ≡ Some (p, Mark (codes "=") ∷ ts)
+-- what may stand after a pattern
+pub record EndsPattern (ts : List Token) : Type 0 where
+  pub no_paren : at (Mark (codes "(")) ts ≡ false
+  pub no_brace : at (Mark (codes "{")) ts ≡ false
+  pub no_path : at (Mark (codes "::")) ts ≡ false
+
+-- a pattern is read again, up to what may stand after it
+pub pattern_again : (p : TPat) (ts : List Token) → IsPattern p → EndsPattern ts → read_pattern (pattern_tokens p ++ ts) ≡ Some (p, ts)
 unfolding read_pattern
-pattern_again (pattern.Const o) ts h =
-    let after = Mark (codes "=") ∷ ts in
-    rw (operand_no_mark (codes "&") o after refl, operand_apart (codes "Some") (codes "(") o after refl, operand_again o after (constant_is o h)) refl
-pattern_again (pattern.Variant ty variant bs more) ts h = rw (braced_again bs more (Mark (codes "=") ∷ ts) refl) refl
-pattern_again (pattern.Struct ty bs more) ts h =
-    let after = Mark (codes "=") ∷ ts in
-    rw (braced_stop bs more after refl, braced_again bs more after refl) refl
-pattern_again (pattern.Some None) ts h = refl
-pattern_again (pattern.Some (Some n)) ts h = rw (numeral_again 10 n (omega arith) (omega arith)) refl
+pattern_again (pattern.Const o) ts h e =
+    rw (operand_no_mark (codes "&") o ts refl, operand_apart (codes "Some") (codes "(") o ts e.no_paren, operand_again o ts (constant_is o h)) refl
+pattern_again (pattern.Variant ty variant bs more) ts h e = rw (braced_again bs more ts e.no_brace) refl
+pattern_again (pattern.Struct ty bs more) ts h e = rw (braced_stop bs more ts e.no_path, braced_again bs more ts e.no_brace) refl
+pattern_again (pattern.Some None) ts h e = refl
+pattern_again (pattern.Some (Some n)) ts h e = rw (numeral_again 10 n (omega arith) (omega arith)) refl
+
+-- no pattern begins with _
+pub pattern_no_rest : (p : TPat) (ts : List Token) → IsPattern p → at (Word (codes "_")) (pattern_tokens p ++ ts) ≡ false
+pattern_no_rest (pattern.Const o) ts h = operand_no_rest o ts (constant_is o h)
+pattern_no_rest (pattern.Variant ty variant bs more) ts h = refl
+pattern_no_rest (pattern.Struct ty bs more) ts h = refl
+pattern_no_rest (pattern.Some local) ts h = refl

@@ -23,7 +23,7 @@ use Rattle.isle_printer.specs.Number.{numeral, glyph}
 use Rattle.isle_printer.proofs.Readback.{numeral_again}
 use Rattle.isle_tree.specs.declared.tree.Operand.{Operand}
 use Rattle.isle_tree.specs.declared.tree.Operand.TheVariants as operand
-use Rattle.isle_spelling.specs.Identifier.{used_words, is_begin, IsIdentifier}
+use Rattle.isle_spelling.specs.Identifier.{used_words, kept_words, is_begin, IsIdentifier}
 use Rattle.isle_spelling.specs.Literal.{literal_word, literal_tokens, signed_bits}
 use Rattle.isle_spelling.specs.Names.{is_digit, are_digits}
 use Rattle.isle_spelling.specs.Raw.{raw_word}
@@ -134,13 +134,13 @@ apart_by p v w e f = one (same_bytes v w) refl
     one true h = let other : p v ≡ true = ap p (same_bytes_sound v w h) ∙ f in cc
     one false h = h
 
--- whether Rust doesn't use the word
-abbrev is_unused : List ℕ → Bool
-is_unused w = not (list_any (bytes_eq w) used_words)
+-- whether Rust neither uses the word nor keeps it
+abbrev is_free : List ℕ → Bool
+is_free w = not (list_any (bytes_eq w) used_words) && not (list_any (bytes_eq w) kept_words)
 
--- a name is no word that Rust uses
-pub used_apart : (v w : List ℕ) → is_unused v ≡ false → IsIdentifier w → same_bytes v w ≡ false
-used_apart v w e h = apart_by is_unused v w e (ap not h.unused)
+-- a name is no word that Rust uses or keeps
+pub used_apart : (v w : List ℕ) → is_free v ≡ false → IsIdentifier w → same_bytes v w ≡ false
+used_apart v w e h = apart_by is_free v w e (and_from _ _ (ap not h.unused) (ap not h.free))
 
 begin_no_digit : (b : ℕ) → is_begin b ≡ true → (nat_le 48 b && nat_le b 57) ≡ false
 begin_no_digit b h = grind (arith, nat_tests)
@@ -200,11 +200,11 @@ abbrev is_begun : List ℕ → Bool
 is_begun [] = false
 is_begun (b ∷ bs) = (b == 118) || (b == 97) || (b == 116) || (b == 102)
 
--- a word that Rust uses, which begins as no number, local, parameter or truth does
+-- a word that Rust uses or keeps, which begins as no number, local, parameter or truth does
 pub record StandsApart (w : List ℕ) : Type 0 where
   pub number : is_number w ≡ false
   pub begun : is_begun w ≡ false
-  pub used : is_unused w ≡ false
+  pub used : is_free w ≡ false
 
 literal_no_word : (w : List ℕ) (ty : IntType) (n : ℤ) (ts : List Token) → is_number w ≡ false → at (Word w) (literal_tokens ty n ++ ts) ≡ false
 literal_no_word w ty (pos n) ts e = apart_by is_number w (literal_word ty n) e (literal_number ty n)
@@ -220,9 +220,12 @@ operand_no_word w (operand.Int ty z) ts k h = literal_no_word w ty (wrapped ty z
 operand_no_word w (operand.Raw z) ts k h = apart_by is_number w (raw_word z) k.number refl
 operand_no_word w (operand.Name name) ts k h = used_apart w name k.used h.identifier
 
--- no operand begins with let, or with mut
+-- no operand begins with let, with mut or with _
 pub operand_no_let : (o : Operand) (ts : List Token) → IsOperand o → at (Word (codes "let")) (operand_tokens o ++ ts) ≡ false
 operand_no_let o ts h = operand_no_word (codes "let") o ts (record { number = refl; begun = refl; used = refl }) h
 
 pub operand_no_mut : (o : Operand) (ts : List Token) → IsOperand o → at (Word (codes "mut")) (operand_tokens o ++ ts) ≡ false
 operand_no_mut o ts h = operand_no_word (codes "mut") o ts (record { number = refl; begun = refl; used = refl }) h
+
+pub operand_no_rest : (o : Operand) (ts : List Token) → IsOperand o → at (Word (codes "_")) (operand_tokens o ++ ts) ≡ false
+operand_no_rest o ts h = operand_no_word (codes "_") o ts (record { number = refl; begun = refl; used = refl }) h

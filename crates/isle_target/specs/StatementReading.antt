@@ -8,8 +8,9 @@ use Rattle.isle_printer.specs.Token.{Token, Word, Mark, Quoted}
 use Rattle.isle_target.specs.Tokens.{◌>>=◌, Reads, phrase, at, rest, after, any_word, any_quoted}
 use Rattle.isle_target.specs.OperandReading.{numbered, read_operand, read_read}
 use Rattle.isle_target.specs.PatternReading.{read_pattern}
-use Rattle.isle_tree.specs.Program.{Stmt, Let, LetList, IfEq, IfLet, Loop, Return, Extend, Overflow, Log, Tail, Body, Done, Then}
-use Rattle.isle_target.specs.StatementSpelling.{local_token, returns_word, any_list, default_part, list_end, into_part, while_part, next_part, extend_head, full_part, stop_part, no_rule, unreachable_head, log_head}
+use Rattle.isle_tree.specs.declared.tree.Read.{Read}
+use Rattle.isle_tree.specs.Program.{Stmt, Let, LetList, IfEq, IfLet, Match, Loop, Return, Extend, Overflow, Log, Tail, Body, Done, Then, Arms, NoArm, Arm}
+use Rattle.isle_target.specs.StatementSpelling.{local_token, returns_word, any_list, default_part, list_end, into_part, while_part, next_part, extend_head, full_part, stop_part, match_end, no_rule, unreachable_head, log_head}
 use Rattle.isle_target.specs.ExprReading.{read_args, called_name, called_term_fn, read_expr}
 
 -- ---- lists and loops
@@ -146,6 +147,41 @@ read_if body ts =
     if at (Word (codes "let")) ts then read_if_let body (rest ts)
     else read_if_full (phrase (Word (codes "returns") ∷ Mark (codes ".") ∷ []) ts) body ts
 
+-- the arm for all else, and what closes a match
+abbrev pub read_match_end : List Token → Reads Arms
+read_match_end ts = do
+  ts1 ← phrase match_end ts
+  Some (NoArm, ts1)
+
+-- one arm more, given how to read those after it
+abbrev pub read_arm : (List Token → Reads Body) → (List Token → Reads Arms) → List Token → Reads Arms
+read_arm body arms ts = do
+  pat ← read_pattern ts
+  ts1 ← phrase (Mark (codes "=>") ∷ Mark (codes "{") ∷ []) pat.1
+  inside ← body ts1
+  ts2 ← after (Mark (codes "}")) inside.1
+  more ← arms ts2
+  Some (Arm pat.0 inside.0 more.0, more.1)
+
+-- arms up to that for all else, at most this many
+unfoldable pub read_arms : (List Token → Reads Body) → ℕ → List Token → Reads Arms
+read_arms body zero ts = None
+read_arms body (suc n) ts = if at (Word (codes "_")) ts then read_match_end ts else read_arm body (read_arms body n) ts
+
+-- a match of two arms or more
+abbrev pub several_arms : Read → Arms → List Token → Option (Stmt × List Token)
+several_arms r NoArm ts = None
+several_arms r (Arm pat inside NoArm) ts = None
+several_arms r (Arm pat inside (Arm other body arms)) ts = Some (Match r (Arm pat inside (Arm other body arms)), ts)
+
+-- match
+abbrev pub read_match : (List Token → Reads Body) → List Token → Reads Stmt
+read_match body ts = do
+  r ← read_read ts
+  ts1 ← after (Mark (codes "{")) r.1
+  arms ← read_arms body (length ts1) ts1
+  several_arms r.0 arms.0 arms.1
+
 -- unreachable
 abbrev pub read_unreachable : List Token → Reads Stmt
 read_unreachable ts = do
@@ -176,7 +212,8 @@ read_stmt body ts =
     else (if at (Word (codes "unreachable")) ts then read_unreachable (rest ts)
     else (if at (Word (codes "returns")) ts then read_extend (rest ts)
     else (if at (Word (codes "log")) ts then read_log (rest ts)
-    else None))))))
+    else (if at (Word (codes "match")) ts then read_match body (rest ts)
+    else None)))))))
 
 -- one statement more
 abbrev pub read_then : (List Token → Reads Body) → List Token → Reads Body
@@ -185,9 +222,9 @@ read_then body ts = do
   ss ← body s.1
   Some (Then s.0 ss.0, ss.1)
 
--- the words that statements begin with; those of forms that are not built are not among them
+-- the words that statements begin with
 abbrev pub first_words : List (List ℕ)
-first_words = codes "let" ∷ codes "if" ∷ codes "return" ∷ codes "None" ∷ codes "unreachable" ∷ codes "returns" ∷ codes "log" ∷ []
+first_words = codes "let" ∷ codes "if" ∷ codes "return" ∷ codes "None" ∷ codes "unreachable" ∷ codes "returns" ∷ codes "log" ∷ codes "match" ∷ []
 
 -- whether a statement begins here
 abbrev pub begins : List Token → Bool

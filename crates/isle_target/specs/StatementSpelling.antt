@@ -17,7 +17,7 @@ use Rattle.isle_tree.specs.declared.tree.TPat.{TPat}
 use Rattle.isle_tree.specs.declared.tree.TPat.TheVariants as pattern
 use Rattle.isle_spelling.specs.Literal.{literal_tokens}
 use Rattle.isle_spelling.specs.Raw.{raw_word}
-use Rattle.isle_tree.specs.Program.{Stmt, Let, LetList, IfEq, IfLet, Match, Loop, Return, Extend, Overflow, Log, Split, Tail, Body, Done, Then}
+use Rattle.isle_tree.specs.Program.{Stmt, Let, LetList, IfEq, IfLet, Match, Loop, Return, Extend, Overflow, Log, Split, Tail, Body, Done, Then, Arms, NoArm, Arm}
 
 -- what is spelled of a form that is not built
 abbrev pub not_built : List Token
@@ -250,6 +250,18 @@ if_eq_head a b = Word (codes "if") ∷ (operand_tokens a ++ Mark (codes "==") �
 abbrev pub if_let_head : TPat → Read → List Token
 if_let_head pat r = Word (codes "if") ∷ Word (codes "let") ∷ (pattern_tokens pat ++ Mark (codes "=") ∷ (read_tokens r ++ Mark (codes "{") ∷ []))
 
+-- match READ {
+abbrev pub match_head : Read → List Token
+match_head r = Word (codes "match") ∷ (read_tokens r ++ Mark (codes "{") ∷ [])
+
+-- PAT => {
+abbrev pub arm_head : TPat → List Token
+arm_head pat = pattern_tokens pat ++ Mark (codes "=>") ∷ Mark (codes "{") ∷ []
+
+-- _ => {} }
+abbrev pub match_end : List Token
+match_end = Word (codes "_") ∷ Mark (codes "=>") ∷ Mark (codes "{") ∷ Mark (codes "}") ∷ Mark (codes "}") ∷ []
+
 -- what is said where no rule of a term that must answer matches
 unfoldable pub no_rule : List ℕ
 no_rule = codes "no rule matched for term {} at {}; should it be partial?"
@@ -286,7 +298,7 @@ abbrev mutual
   stmt_tokens (LetList n call) = let_list_tokens n call
   stmt_tokens (IfEq a b inside) = if_eq_head a b ++ (body_tokens inside ++ close)
   stmt_tokens (IfLet pat r inside) = if_let_head pat r ++ (body_tokens inside ++ close)
-  stmt_tokens (Match read arms) = not_built
+  stmt_tokens (Match r arms) = match_head r ++ arms_tokens arms
   stmt_tokens (Loop list item inside) = loop_head list item ++ (body_tokens inside ++ close)
   stmt_tokens (Return e) = return_tokens e
   stmt_tokens (Extend r) = extend_tokens r
@@ -298,3 +310,8 @@ abbrev mutual
   pub body_tokens : Body → List Token
   body_tokens Done = []
   body_tokens (Then s ss) = stmt_tokens s ++ body_tokens ss
+
+  -- the arms of a match, and what closes it
+  pub arms_tokens : Arms → List Token
+  arms_tokens NoArm = match_end
+  arms_tokens (Arm pat inside arms) = arm_head pat ++ (body_tokens inside ++ (close ++ arms_tokens arms))

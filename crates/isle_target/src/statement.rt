@@ -5,6 +5,7 @@ ghost use Rattle.isle_printer.specs.Token.{Mark, Quoted};
 ghost use Rattle.isle_tree.specs.Views.{stmt, body};
 ghost use Rattle.isle_tree.specs.WellFormed.{IsOperand, IsRead, IsExpr, IsPattern, IsStmt, IsBody};
 ghost use Rattle.isle_target.specs.StatementSpelling.{let_tokens, return_tokens, if_eq_head, if_let_head};
+ghost use Rattle.isle_target.specs.StatementSpelling.{match_head, arm_head, match_end, close};
 ghost use Rattle.isle_target.specs.StatementSpelling.{no_rule, unreachable_head, log_head, log_tokens};
 ghost use Rattle.isle_target.specs.StatementSpelling.{tail_tokens, stmt_tokens, body_tokens};
 
@@ -72,6 +73,39 @@ fn print_if_let(out: &mut Printer, pat: &TPat, read: &Read) -> Result<(), AllocE
     out.piece(" {")
 }
 
+// Prints `match READ {`.
+#[tactic(auto, unfolding(isle_printer::specs::Token::step, isle_printer::specs::Token::begun))]
+fn print_match(out: &mut Printer, read: &Read) -> Result<(), AllocError>
+    requires { IsRead read.now }
+    ensures { OnOk result (out.new ≡ out.old ++ match_head read.now) }
+{
+    out.piece("match ")?;
+    print_read(out, read)?;
+    out.piece(" {")
+}
+
+// Prints `PAT => {`.
+#[tactic(auto, unfolding(isle_printer::specs::Token::step, isle_printer::specs::Token::begun))]
+fn print_arm_head(out: &mut Printer, pat: &TPat) -> Result<(), AllocError>
+    requires { IsPattern pat.now }
+    ensures { OnOk result (out.new ≡ out.old ++ arm_head pat.now) }
+{
+    print_pattern(out, pat)?;
+    out.piece(" => {")
+}
+
+// Prints the arm for all else on a line, and what closes a match on another.
+#[tactic(auto, unfolding(isle_printer::specs::Token::step, isle_printer::specs::Token::begun))]
+fn print_match_end(out: &mut Printer) -> Result<(), AllocError>
+    ensures { OnOk result (out.new ≡ out.old ++ match_end) }
+{
+    out.line()?;
+    out.piece("_ => {}")?;
+    out.dedent();
+    out.line()?;
+    out.mark("}")
+}
+
 // Prints what is said where no rule matches, up to the term.
 #[tactic(auto, unfolding(crate::specs::StatementSpelling::no_rule, isle_printer::specs::Token::step, isle_printer::specs::Token::begun))]
 fn print_no_rule(out: &mut Printer) -> Result<(), AllocError>
@@ -132,6 +166,20 @@ fn print_tail(out: &mut Printer, texts: &Option<(Text, Text)>) -> Result<(), All
     }
 }
 
+// Prints an arm of a match, which begins on a line of its own.
+#[cycle(statements)]
+fn print_arm(out: &mut Printer, pat: &TPat, inside: &[Stmt]) -> Result<(), AllocError>
+    requires pat { IsPattern pat.now }
+    requires inside { IsBody (body inside.now) }
+    ensures { OnOk result
+        (out.new ≡ out.old ++ (arm_head pat.now ++ (body_tokens (body inside.now) ++ close))) }
+{
+    out.line()?;
+    print_arm_head(out, pat)?;
+    print_body(out, inside)?;
+    out.mark("}")
+}
+
 // Prints a statement.
 #[cycle(statements)]
 #[tactic(auto, using(isle_tree::proofs::Sees::sees))]
@@ -151,6 +199,14 @@ fn print_stmt(out: &mut Printer, s: &Stmt) -> Result<(), AllocError>
             print_body(out, inside.as_slice())?;
             out.mark("}")
         }
+        Stmt::Match(read, given) => {
+            print_match(out, read)?;
+            out.indent();
+            for arm in given.as_slice() {
+                print_arm(out, &arm.0, arm.1.as_slice())?;
+            }
+            print_match_end(out)
+        }
         Stmt::Return(e) => print_return(out, e),
         Stmt::Tail(texts) => print_tail(out, texts),
         Stmt::LetList { local, call } => print_let_list(out, *local, call),
@@ -166,7 +222,7 @@ fn print_stmt(out: &mut Printer, s: &Stmt) -> Result<(), AllocError>
         Stmt::Extend(read) => print_extend(out, read),
         Stmt::Overflow { inside } => print_overflow(out, *inside),
         Stmt::Log { term, place } => print_log(out, term.as_str(), place.as_str()),
-        Stmt::Match(..) | Stmt::Split { .. } => Ok(()),
+        Stmt::Split { .. } => Ok(()),
     }
 }
 

@@ -4,6 +4,7 @@ pub mod Items
 pub mod WellFormed
 pub mod Plain
 pub mod Callees
+pub mod Caller
 pub mod Run
 pub mod Terms
 pub mod Walk

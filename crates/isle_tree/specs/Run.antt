@@ -5,7 +5,7 @@ use Rattle.isle_core.specs.SameInRun.{same_in_run}
 use Rattle.isle_core.specs.Meaning.{Meaning}
 use Rattle.isle_core.specs.Space.{Space, room}
 use Rattle.isle_core.specs.Having.{const_of}
-use Rattle.isle_core.specs.Answered.{Item, AValue, ATuple, Held, Absent, One, Optional, Listed, a_value, an_option, answer_held, answer}
+use Rattle.isle_core.specs.Answered.{Item, AValue, ATuple, Held, Absent, One, Optional, Listed, a_value, an_option, answer_held}
 use Rattle.isle_core.specs.ValueAt.{held, value_before}
 use Rattle.isle_core.specs.declared.types.ReturnKind.{ReturnKind}
 use Rattle.isle_core.specs.declared.types.ReturnKind.TheVariants as kind
@@ -20,11 +20,13 @@ use Rattle.isle_tree.specs.declared.tree.TBind.{TBind}
 use Rattle.isle_tree.specs.declared.tree.TPat.{TPat}
 use Rattle.isle_tree.specs.declared.tree.TPat.TheVariants as pattern
 use Rattle.isle_tree.specs.declared.tree.TExpr.TheVariants as expr
-use Rattle.isle_tree.specs.Program.{Stmt, Let, LetList, IfEq, IfLet, Match, Loop, Return, Extend, Overflow, Log, Split, Tail, Body, Done, Then, Function, Program}
+use Rattle.isle_tree.specs.Caller.{Called, Answered, Ended, Unanswered, Caller, by_meaning}
+use Rattle.isle_tree.specs.Program.{Stmt, Let, LetList, IfEq, IfLet, Match, Loop, Return, Extend, Overflow, Log, Split, Tail, Body, Done, Then, Arms, NoArm, Arm, Function, Program}
 
--- what a function runs in: how calls are answered, the program, the function itself, its arguments, and how many results there is
--- room for, where that is limited
+-- what a function runs in: who answers its calls, what constants stand for, the program, the function itself, its arguments, and how many
+-- results there is room for, where that is limited
 pub record Around : Type 0 where
+  pub caller : Caller
   pub meaning : Meaning
   pub program : Program
   pub function : Function
@@ -39,10 +41,6 @@ pub record State : Type 0 where
 -- nothing was done
 abbrev pub nothing_done : State
 nothing_done = record { made = []; given = [] }
-
--- a call more
-abbrev pub one_made : State → Made → State
-one_made s c = record { made = s.made ++ c ∷ []; given = s.given }
 
 -- a result more
 abbrev pub one_given : State → Value → State
@@ -235,10 +233,16 @@ after_scope env Stuck = Stuck
 abbrev pub run_bind : ℕ → Held → Env → State → Flow
 run_bind n h env s = on_held h (λ g. Goes (bind env n g) s)
 
--- a call with these arguments is made, and its local holds the answer
+-- what a call leaves: its local holds the answer, or the function ends as the whole run does
+abbrev pub run_called : ℕ → Called → Env → State → Flow
+run_called n (Answered a made) env s = run_bind n (answer_held a) env (record { made = made; given = s.given })
+run_called n (Ended end made) env s = Ends end (record { made = made; given = s.given })
+run_called n Unanswered env s = Stuck
+
+-- a call with these arguments
 abbrev pub run_call : Around → ℕ → Callee → Option (List Value) → Env → State → Flow
 run_call w n callee None env s = Stuck
-run_call w n callee (Some vs) env s = run_bind n (answer_held (answer w.meaning callee vs s.made)) env (one_made s (record { callee = callee; args = vs }))
+run_call w n callee (Some vs) env s = run_called n (w.caller callee vs s.made) env s
 
 -- ? gives what is within an option; over nothing the function ends with nothing
 abbrev pub run_try : ℕ → Held → Env → State → Flow
@@ -321,7 +325,7 @@ abbrev pub tail_end : Option (List ℕ × List ℕ) → End
 tail_end None = GivesNone
 tail_end (Some texts) = IsUnreachable
 
--- a statement, and statements in order; a log line means nothing; several patterns and closures are not built
+-- a statement, and statements in order; a match runs the first arm whose pattern fits; a log line means nothing; closures are not built
 abbrev mutual
   pub run_stmt : Around → Stmt → Env → State → Flow
   run_stmt w (Let n e) env s = run_let w n e env s
@@ -330,7 +334,7 @@ abbrev mutual
       on_value (value_of w env a) (λ v. on_value (value_of w env b) (λ u.
       if same_in_run v u then after_scope env (run_body w inside env s) else Goes env s))
   run_stmt w (IfLet pat r inside) env s = fitted (fit w pat (read_value w env r)) (λ bound. after_scope env (run_body w inside (env ++ bound) s)) (Goes env s)
-  run_stmt w (Match r arms) env s = Stuck
+  run_stmt w (Match r arms) env s = run_arms w arms (read_value w env r) env s
   run_stmt w (Loop list item inside) env s = on_list (look env list) (λ is. run_items (λ i t. run_body w inside (bind env item (One i)) t) env is s)
   run_stmt w (Return e) env s = run_return w e env s
   run_stmt w (Extend r) env s = on_value (read_value w env r) (λ v. Goes env (one_given s v))
@@ -342,6 +346,12 @@ abbrev mutual
   pub run_body : Around → Body → Env → State → Flow
   run_body w Done env s = Goes env s
   run_body w (Then t ts) env s = then_run (run_stmt w t env s) (run_body w ts)
+
+  -- the arms of a match over what is read
+  pub run_arms : Around → Arms → Held → Env → State → Flow
+  run_arms w NoArm h env s = Goes env s
+  run_arms w (Arm pat inside arms) h env s =
+      fitted (fit w pat h) (λ bound. after_scope env (run_body w inside (env ++ bound) s)) (run_arms w arms h env s)
 
 -- ---- functions
 
@@ -365,7 +375,7 @@ function_of term (f ∷ fs) = if same_bytes term f.term then Some f else functio
 
 -- what a function of a program runs in, where its results are limited so
 abbrev pub around : Program → Meaning → List Value → Option ℕ → Function → Around
-around p m args limit f = record { meaning = m; program = p; function = f; args = args; limit = limit }
+around p m args limit f = record { caller = by_meaning m; meaning = m; program = p; function = f; args = args; limit = limit }
 
 -- the run of a function, its results limited so
 abbrev pub limited_run : Program → Meaning → List Value → Option ℕ → Function → Option Ran

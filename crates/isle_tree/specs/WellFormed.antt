@@ -29,7 +29,7 @@ use Rattle.isle_tree.specs.declared.tree.TPat.TheVariants as pattern
 use Rattle.isle_spelling.specs.Identifier.{IsIdentifier}
 use Rattle.isle_spelling.specs.Names.{IsName, IsFieldName}
 pub use Rattle.isle_tree.specs.Items.{IsTy, AreResults, IsTraitFn, IsField, AreFields, IsVariant, IsTypeBody, IsTypeItem}
-use Rattle.isle_tree.specs.Program.{Stmt, Let, LetList, IfEq, IfLet, Match, Loop, Return, Extend, Overflow, Log, Split, Tail, Body, Done, Then, Function, Program}
+use Rattle.isle_tree.specs.Program.{Stmt, Let, LetList, IfEq, IfLet, Match, Loop, Return, Extend, Overflow, Log, Split, Tail, Body, Done, Then, Arms, NoArm, Arm, Function, Program}
 
 -- ---- the forms that are built, and that integers lie in their type
 
@@ -96,7 +96,13 @@ IsPattern (pattern.Variant ty variant binds more) = IsIdentifier ty × IsIdentif
 IsPattern (pattern.Struct ty binds more) = IsIdentifier ty × AllByRecursion IsBind binds
 IsPattern (pattern.Some local) = Unit {0}
 
--- a statement, and statements in order; several patterns and closures are not built
+-- two arms or more
+abbrev pub HasSeveral : Arms → Type 0
+HasSeveral NoArm = ⊥
+HasSeveral (Arm pat body NoArm) = ⊥
+HasSeveral (Arm pat body (Arm other inside arms)) = Unit {0}
+
+-- a statement, and statements in order; a match has two arms or more; closures are not built
 abbrev mutual
   pub IsStmt : Stmt → Type 0
   IsStmt (Let n e) = IsExpr e
@@ -105,7 +111,7 @@ abbrev mutual
   IsStmt (Return e) = IsExpr e
   IsStmt (Tail texts) = Unit {0}
   IsStmt (LetList n call) = IsCall call
-  IsStmt (Match read arms) = ⊥
+  IsStmt (Match read arms) = IsRead read × HasSeveral arms × AreArms arms
   IsStmt (Loop list each inside) = IsBody inside
   IsStmt (Extend read) = IsRead read
   IsStmt (Overflow within) = Unit {0}
@@ -115,6 +121,10 @@ abbrev mutual
   pub IsBody : Body → Type 0
   IsBody Done = Unit {0}
   IsBody (Then s ss) = IsStmt s × IsBody ss
+
+  pub AreArms : Arms → Type 0
+  AreArms NoArm = Unit {0}
+  AreArms (Arm pat inside arms) = IsPattern pat × IsBody inside × AreArms arms
 
 -- ---- what operands hold
 
@@ -325,8 +335,8 @@ bound_after fns params (Split inside within) bound = bound
 bound_after fns params (Tail texts) bound = bound
 
 -- each operand of a statement, and of statements in order, is in scope and holds what is asked of it, in a function of the kind with this
--- number of parameters: a call of one with several answers stands in a list alone, and a loop goes over a list; several patterns and closures
--- are not built
+-- number of parameters: a call of one with several answers stands in a list alone, a loop goes over a list, and each arm's pattern may be read
+-- over what its match reads; closures are not built
 abbrev mutual
   pub IsStmtScoped : Callables → ReturnKind → ℕ → Locals → Stmt → Type 0
   IsStmtScoped fns kind params bound (Let n e) = IsSome (expr_holds fns params bound e)
@@ -337,7 +347,7 @@ abbrev mutual
   IsStmtScoped fns kind params bound (Return e) = GivesKind kind (expr_holds fns params bound e)
   IsStmtScoped fns kind params bound (Tail texts) = Unit {0}
   IsStmtScoped fns kind params bound (LetList n call) = IsSome (list_holds (called_holds fns params bound call))
-  IsStmtScoped fns kind params bound (Match read arms) = ⊥
+  IsStmtScoped fns kind params bound (Match read arms) = AreArmsScoped fns kind params bound (read_holds params bound read) arms
   IsStmtScoped fns kind params bound (Loop list each inside) =
       IsSome (each_holds (local_holds bound list)) × IsBodyScoped fns kind params (after_let (each_holds (local_holds bound list)) each bound) inside
   IsStmtScoped fns kind params bound (Extend read) = IsTrue (is_value (read_holds params bound read))
@@ -348,6 +358,12 @@ abbrev mutual
   pub IsBodyScoped : Callables → ReturnKind → ℕ → Locals → Body → Type 0
   IsBodyScoped fns kind params bound Done = Unit {0}
   IsBodyScoped fns kind params bound (Then s ss) = IsStmtScoped fns kind params bound s × IsBodyScoped fns kind params (bound_after fns params s bound) ss
+
+  -- so of the arms over what holds this
+  pub AreArmsScoped : Callables → ReturnKind → ℕ → Locals → Option Holds → Arms → Type 0
+  AreArmsScoped fns kind params bound h NoArm = Unit {0}
+  AreArmsScoped fns kind params bound h (Arm pat inside arms) =
+      ReadsPattern pat h × IsBodyScoped fns kind params (bound ++ pattern_locals pat h) inside × AreArmsScoped fns kind params bound h arms
 
 -- ---- statements fit the function's kind
 
@@ -378,8 +394,7 @@ GivesSeveral kind.Option = ⊥
 GivesSeveral kind.Iterator = Unit {0}
 
 -- a statement inside a function, or inside a closure of one, and statements in order: no tail is among them; results are appended, and
--- statements stop at a full list, only where the function gives several, and the stop says true exactly inside a closure; several patterns and
--- closures are not built
+-- statements stop at a full list, only where the function gives several, and the stop says true exactly inside a closure; closures are not built
 abbrev mutual
   pub FitsStmt : ReturnKind → (closed : Bool) → Stmt → Type 0
   FitsStmt kind closed (Let n e) = FitsLet kind e
@@ -388,7 +403,7 @@ abbrev mutual
   FitsStmt kind closed (Return e) = IsReturned e
   FitsStmt kind closed (Tail texts) = ⊥
   FitsStmt kind closed (LetList n call) = Unit {0}
-  FitsStmt kind closed (Match read arms) = ⊥
+  FitsStmt kind closed (Match read arms) = FitsArms kind closed arms
   FitsStmt kind closed (Loop list each inside) = FitsBody kind closed inside
   FitsStmt kind closed (Extend read) = GivesSeveral kind
   FitsStmt kind closed (Overflow within) = GivesSeveral kind × (within ≡ closed)
@@ -398,6 +413,10 @@ abbrev mutual
   pub FitsBody : ReturnKind → (closed : Bool) → Body → Type 0
   FitsBody kind closed Done = Unit {0}
   FitsBody kind closed (Then s ss) = FitsStmt kind closed s × FitsBody kind closed ss
+
+  pub FitsArms : ReturnKind → (closed : Bool) → Arms → Type 0
+  FitsArms kind closed NoArm = Unit {0}
+  FitsArms kind closed (Arm pat inside arms) = FitsBody kind closed inside × FitsArms kind closed arms
 
 -- the tail of a function of the kind; one with several answers has none
 abbrev pub FitsTail : ReturnKind → Option (List ℕ × List ℕ) → Type 0

@@ -27,7 +27,6 @@ term_function-requires c =
     let lawful = c.in_ok-block.ensures.lawful env h.term h.ready (λ several. calls_once s.files.now env c.args.term c.args.rules.now h) often in
     record {
       lawful = subst (λ (t : Term). IsLawfulBlock (setting env t c.args.rules.now.bindings) b) (sym same) lawful;
-      single = c.in_ok-block.ensures.single;
       declared = subst (λ (t : Term). LiesIn s.files.now t.decl_pos) (sym same) h.placed;
     }
 

@@ -21,7 +21,7 @@ term_function-requires c =
     let is : x ≡ get_or terms c.args.term.0 x = c.index-as_slice-index.is ∙ ap (λ xs. get_or xs c.index.result x) c.as_slice-2.ensures ∙ ap (λ i. get_or terms i x) c.index.ensures in
     let o = origin c.args.files.now c.args.typeenv.now c.args.termenv.now c.args.term c.args.rules.now c.args.block.now in
     let may = of_item terms c.args.term.0 x (λ (u : Term). MayEmit o.files (setting o.env u o.bindings) o.block) c.requires.term is in
-    record { lawful = may.lawful; single = may.single; declared = may.declared }
+    record { lawful = may.lawful; declared = may.declared }
 
 pub returns-clause-emitted : goal.returns-clause-emitted
 returns-clause-emitted c =

@@ -11,4 +11,4 @@ function-requires-clause-built c =
     let s = c.args.sources.now in
     let env = environment s.typeenv.now s.termenv.now in
     subst (λ bs. IsBuilt (setting env c.args.term.now bs) [] (block c.args.block.now)) (sym c.as_slice.ensures)
-    (all_built s.options.now s.files.now env c.args.term.now c.args.rules.now.bindings (block c.args.block.now) c.requires.lawful c.requires.single)
+    (all_built s.options.now s.files.now env c.args.term.now c.args.rules.now.bindings (block c.args.block.now) c.requires.lawful)
