@@ -18,12 +18,12 @@ use Rattle.isle_blocks.proofs.PushedLists.{get_push, get_last, get_either, some_
 
 -- ---- keys
 
-is_equal : (o : Ordering) → is_eq o ≡ true → o ≡ Equal
+pub is_equal : (o : Ordering) → is_eq o ≡ true → o ≡ Equal
 is_equal Less e = cc
 is_equal Equal e = refl
 is_equal Greater e = cc
 
-then_same : (o p : Ordering) → ordering_then o p ≡ Equal → (o ≡ Equal) × (p ≡ Equal)
+pub then_same : (o p : Ordering) → ordering_then o p ≡ Equal → (o ≡ Equal) × (p ≡ Equal)
 then_same Less p e = (cc, cc)
 then_same Equal p e = (refl, e)
 then_same Greater p e = (cc, cc)

@@ -25,8 +25,8 @@ use Rattle.isle_core.specs.Calling.{kind_of, is_several}
 use Rattle.isle_core.specs.Rule.{Environment}
 use Rattle.isle_blocks.specs.Order.{by_priority}
 use Rattle.isle_blocks.specs.Needed.{needs}
-use Rattle.isle_blocks.specs.Nest.{Shows, Behind, last_step, all_matched, all_equated, rule_step}
-use Rattle.isle_blocks.specs.Chain.{no_tests, chain_steps, chain}
+use Rattle.isle_blocks.specs.Nest.{Shows, Behind, last_step, all_matched, all_equated}
+use Rattle.isle_blocks.specs.Tree.{no_tests}
 use Rattle.isle_blocks.proofs.LawFirst.{first, first_is_highest}
 use Rattle.isle_blocks.proofs.LawOrder.{all_in_order}
 use Rattle.isle_blocks.proofs.LawBinds.{last_binds_run}
@@ -34,7 +34,7 @@ use Rattle.isle_blocks.proofs.NeededRuns.{AreStill, goes_on, needs_still}
 use Rattle.isle_blocks.proofs.NextLaws.{FindsNext}
 use Rattle.isle_blocks.proofs.StillRules.{StillLast, StillEquated, StillMatched, StillRule}
 
-if_inside : (b c : Bool) (x y z : Went) → (b ≡ true → x ≡ cond c y z) → cond b x z ≡ cond (b && c) y z
+pub if_inside : (b c : Bool) (x y z : Went) → (b ≡ true → x ≡ cond c y z) → cond b x z ≡ cond (b && c) y z
 if_inside true c x y z e = e refl
 if_inside false c x y z e = refl
 
@@ -43,7 +43,7 @@ abbrev pub step_run : Environment → Meaning → List Value → List Path → S
 step_run env m args ps s = then_go (bind_all env m args ps s.0 nothing_known []) (control_run env m args ps s.1)
 
 -- a step does y where tests hold, and goes on elsewhere
-abbrev DoesWhere : Environment → Meaning → List Value → List Path → SeenStep → List Test → Went → Type 0
+abbrev pub DoesWhere : Environment → Meaning → List Value → List Path → SeenStep → List Test → Went → Type 0
 DoesWhere env m args ps s ts y = step_run env m args ps s ≡ cond (all_hold env m (value_at env m args nothing_known) ts) y (Goes nothing_known [])
 
 -- these constraints hold
@@ -58,7 +58,7 @@ hold_more env m args ps c cs is all = ap (λ b. b && all_hold env m (value_at en
 step_still : (env : Environment) (m : Meaning) (args : List Value) (ps : List Path) (ns : List BindingId) (c : Control) → AreStill env ps ns → step_run env m args ps (ns, c) ≡ control_run env m args ps c nothing_known []
 step_still env m args ps ns c h = ap (λ w. then_go w (control_run env m args ps c)) (needs_still env m args ps ns nothing_known [] h)
 
-matched_does : (shows : Shows) (cs : List (BindingId × Constraint)) (ts : List Test) (inner : Behind) (y : Went) (env : Environment) (m : Meaning) (args : List Value) (bs : List Binding) (P : List ℕ → Type 0)
+pub matched_does : (shows : Shows) (cs : List (BindingId × Constraint)) (ts : List Test) (inner : Behind) (y : Went) (env : Environment) (m : Meaning) (args : List Value) (bs : List Binding) (P : List ℕ → Type 0)
     → ((bound : List ℕ) → P bound → AllHold env m args (paths_of bs) cs → DoesWhere env m args (paths_of bs) (inner bound) ts y) → (bound : List ℕ) → StillMatched env bs shows cs P bound → DoesWhere env m args (paths_of bs) (all_matched false bs shows cs inner bound) (map (is_test (paths_of bs)) cs ++ ts) y
 matched_does shows [] ts inner y env m args bs P h bound still = h bound still refl
 matched_does shows (c ∷ cs) ts inner y env m args bs P h bound still =
@@ -68,7 +68,7 @@ matched_does shows (c ∷ cs) ts inner y env m args bs P h bound still =
     ∙ if_inside (meets env m c.1 (value_at env m args nothing_known (at ps c.0))) (all_hold env m (value_at env m args nothing_known) (map (is_test ps) cs ++ ts)) _ _ _
     (λ is. goes_on (step_run env m args ps (all_matched false bs shows cs inner within)) ∙ matched_does shows cs ts inner y env m args bs P (λ b k all. h b k (hold_more env m args ps c cs is all)) within still.1)
 
-equated_does : (es : List (BindingId × BindingId)) (inner : Behind) (y : Went) (env : Environment) (m : Meaning) (args : List Value) (bs : List Binding) (P : List ℕ → Type 0)
+pub equated_does : (es : List (BindingId × BindingId)) (inner : Behind) (y : Went) (env : Environment) (m : Meaning) (args : List Value) (bs : List Binding) (P : List ℕ → Type 0)
     → ((bound : List ℕ) → P bound → step_run env m args (paths_of bs) (inner bound) ≡ y) → (bound : List ℕ) → StillEquated env bs es P bound → DoesWhere env m args (paths_of bs) (all_equated false bs es inner bound) (map (equal_test (paths_of bs)) es) y
 equated_does [] inner y env m args bs P h bound still = h bound still
 equated_does (e ∷ es) inner y env m args bs P h bound still =
@@ -80,48 +80,12 @@ equated_does (e ∷ es) inner y env m args bs P h bound still =
 
 -- ---- rules that are ready
 
-last_runs : (env : Environment) (t : Term) (answers_once : is_several (kind_of t.kind) ≡ false) (m : Meaning) (args : List Value) (bs : List Binding) (next items : ℕ → Option BindingId) (f : FlatRule) → FindsNext bs next → EachOnce (paths_of bs) → IsSerializableRule env t (paths_of bs) f
+pub last_runs : (env : Environment) (t : Term) (answers_once : is_several (kind_of t.kind) ≡ false) (m : Meaning) (args : List Value) (bs : List Binding) (next items : ℕ → Option BindingId) (f : FlatRule) → FindsNext bs next → EachOnce (paths_of bs) → IsSerializableRule env t (paths_of bs) f
     → AllHold env m args (paths_of bs) f.constraints → (bound : List ℕ) → StillLast false env bs next items f bound → step_run env m args (paths_of bs) (last_step false bs next items f bound) ≡ flat_run env m args (paths_of bs) f
 last_runs env t answers_once m args bs next items f found once h all bound still =
     ap (λ w. then_go w (returns env m args (at (paths_of bs) f.result))) (last_binds_run env t answers_once m args bs next found once f bound all h.calls still.1 nothing_known [] refl)
 
-pub rule_does : (shows : Shows) (env : Environment) (t : Term) (answers_once : is_several (kind_of t.kind) ≡ false) (m : Meaning) (args : List Value) (bs : List Binding) (next items : ℕ → Option BindingId) (f : FlatRule) → FindsNext bs next → EachOnce (paths_of bs) → IsSerializableRule env t (paths_of bs) f → StillRule false env bs shows next items f
-    → DoesWhere env m args (paths_of bs) (rule_step false bs shows next items f) (flat_tests (paths_of bs) f) (flat_run env m args (paths_of bs) f)
-rule_does shows env t answers_once m args bs next items f found once h still =
-    let ps = paths_of bs in
-    let y = flat_run env m args ps f in
-    matched_does shows f.constraints (map (equal_test ps) f.equals) (all_equated false bs f.equals (last_step false bs next items f)) y env m args bs (StillEquated env bs f.equals (StillLast false env bs next items f))
-    (λ bound k all. equated_does f.equals (last_step false bs next items f) y env m args bs (StillLast false env bs next items f) (last_runs env t answers_once m args bs next items f found once h all) bound k) [] still
-
--- a rule without tests holds
-pub untested_holds : (cs : List (BindingId × Constraint)) (es : List (BindingId × BindingId)) (env : Environment) (m : Meaning) (args : List Value) (ps : List Path) → no_tests cs es ≡ true → all_hold env m (value_at env m args nothing_known) (map (is_test ps) cs ++ map (equal_test ps) es) ≡ true
-untested_holds [] [] env m args ps e = refl
-untested_holds [] (x ∷ es) env m args ps e = cc
-untested_holds (x ∷ cs) es env m args ps e = cc
-
 -- nothing is reached after a result
-result_ends : (w : Went) (env : Environment) (m : Meaning) (args : List Value) (p : Path) (more : Known → List Made → Went) → then_go (then_go w (returns env m args p)) more ≡ then_go w (returns env m args p)
+pub result_ends : (w : Went) (env : Environment) (m : Meaning) (args : List Value) (p : Path) (more : Known → List Made → Went) → then_go (then_go w (returns env m args p)) more ≡ then_go w (returns env m args p)
 result_ends (Goes known made) env m args p more = refl
 result_ends (Ends o) env m args p more = refl
-
-chain_gives : (shows : Shows) (env : Environment) (t : Term) (answers_once : is_several (kind_of t.kind) ≡ false) (m : Meaning) (args : List Value) (bs : List Binding) (next items : ℕ → Option BindingId) (kind : ReturnKind) → FindsNext bs next → EachOnce (paths_of bs)
-    → (fs : List FlatRule) → AllByRecursion (IsSerializableRule env t (paths_of bs)) fs → AllByRecursion (StillRule false env bs shows next items) fs
-    → gave kind (block_run env m args (paths_of bs) (block_of (chain_steps false bs shows next items fs)) nothing_known []) ≡ given env m args (paths_of bs) kind (first (flat_holds env m args (paths_of bs)) fs)
-chain_gives shows env t answers_once m args bs next items kind found once [] h still = refl
-chain_gives shows env t answers_once m args bs next items kind found once (f ∷ fs) h still =
-    ap (λ w. gave kind (then_go w (block_run env m args (paths_of bs) (block_of (cond (no_tests f.constraints f.equals) [] (chain_steps false bs shows next items fs)))))) (rule_does shows env t answers_once m args bs next items f found once h.0 still.0)
-    ∙ pick (flat_holds env m args (paths_of bs) f) (no_tests f.constraints f.equals) (untested_holds f.constraints f.equals env m args (paths_of bs)) (chain_gives shows env t answers_once m args bs next items kind found once fs h.1 still.1)
-  where
-    ps : List Path
-    ps = paths_of bs
-
-    pick : (holds untested : Bool) → (untested ≡ true → holds ≡ true) → gave kind (block_run env m args ps (block_of (chain_steps false bs shows next items fs)) nothing_known []) ≡ given env m args ps kind (first (flat_holds env m args ps) fs)
-        → gave kind (then_go (cond holds (flat_run env m args ps f) (Goes nothing_known [])) (block_run env m args ps (block_of (cond untested [] (chain_steps false bs shows next items fs))))) ≡ given env m args ps kind (cond holds (Some f) (first (flat_holds env m args ps) fs))
-    pick true untested k e = ap (gave kind) (result_ends (run_calls env m args (map (at ps) f.ordered) nothing_known []) env m args (at ps f.result) (block_run env m args ps (block_of (cond untested [] (chain_steps false bs shows next items fs)))))
-    pick false false k e = e
-    pick false true k e = let bad = k refl in cc
-
-pub chain_means : (shows : Shows) (env : Environment) (t : Term) (answers_once : is_several (kind_of t.kind) ≡ false) (m : Meaning) (args : List Value) (bs : List Binding) (next items : ℕ → Option BindingId) (kind : ReturnKind) → FindsNext bs next → EachOnce (paths_of bs)
-    → (fs : List FlatRule) → AllByRecursion (IsSerializableRule env t (paths_of bs)) fs → AllByRecursion (StillRule false env bs shows next items) fs → block_outcome env m args (paths_of bs) (chain false bs shows next items fs) kind ≡ set_outcome env m args (paths_of bs) fs kind
-chain_means shows env t answers_once m args bs next items kind found once fs h still =
-    chain_gives shows env t answers_once m args bs next items kind found once (by_priority fs) (all_in_order (IsSerializableRule env t (paths_of bs)) fs h) (all_in_order (StillRule false env bs shows next items) fs still) ∙ ap (given env m args (paths_of bs) kind) (first_is_highest (flat_holds env m args (paths_of bs)) fs)

@@ -26,32 +26,32 @@ use Rattle.isle_core.specs.Calling.{kind_of, is_several}
 use Rattle.isle_core.specs.Rule.{Environment}
 use Rattle.isle_blocks.specs.Order.{by_priority}
 use Rattle.isle_blocks.specs.Needed.{needs}
-use Rattle.isle_blocks.specs.Nest.{Shows, Behind, alone, last_step, all_matched, all_equated, rule_step}
-use Rattle.isle_blocks.specs.Chain.{no_tests, chain_steps, chain}
+use Rattle.isle_blocks.specs.Nest.{Shows, Behind, alone, last_step, all_matched, all_equated}
+use Rattle.isle_blocks.specs.Tree.{no_tests}
 use Rattle.isle_blocks.proofs.LawFirst.{first, first_is_highest}
 use Rattle.isle_blocks.proofs.LawOrder.{all_in_order}
 use Rattle.isle_blocks.proofs.LawBinds.{last_binds_run}
 use Rattle.isle_blocks.proofs.NeededRuns.{AreStill, needs_still}
 use Rattle.isle_blocks.proofs.NextLaws.{FindsNext}
 use Rattle.isle_blocks.proofs.StillRules.{StillLast, StillEquated, StillMatched, StillRule}
-use Rattle.isle_blocks.proofs.LawChain.{AllHold, hold_more, step_run, rule_does, untested_holds}
+use Rattle.isle_blocks.proofs.LawChain.{AllHold, hold_more, step_run}
 
 -- ---- one step
 
 -- where a step returns at first
-abbrev step_position : Environment → Meaning → List Value → List Path → SeenStep → Option Pos
+abbrev pub step_position : Environment → Meaning → List Value → List Path → SeenStep → Option Pos
 step_position env m args ps s = then_position (bind_all env m args ps s.0 nothing_known []) (control_position env m args ps s.1)
 
 no_position : (w : Went) → then_position w (λ known made. None) ≡ None
 no_position (Goes known made) = refl
 no_position (Ends o) = refl
 
-or_none : (o : Option Pos) → or_else o None ≡ o
+pub or_none : (o : Option Pos) → or_else o None ≡ o
 or_none (Some p) = refl
 or_none None = refl
 
 -- a step, and what stands after it
-before_others : (w : Went) (here : Known → List Made → Option Pos) (go : Known → List Made → Went) (more : Known → List Made → Option Pos)
+pub before_others : (w : Went) (here : Known → List Made → Option Pos) (go : Known → List Made → Went) (more : Known → List Made → Option Pos)
     → then_position w (λ k d. or_else (here k d) (then_position (go k d) more)) ≡ or_else (then_position w here) (then_position (then_go w go) more)
 before_others (Goes known made) here go more = refl
 before_others (Ends o) here go more = refl
@@ -66,14 +66,14 @@ if_within true c x y e = e refl
 if_within false c x y e = refl
 
 -- a step returns at y where tests hold, and nowhere else
-abbrev ReturnsWhere : Environment → Meaning → List Value → List Path → SeenStep → List Test → Option Pos → Type 0
+abbrev pub ReturnsWhere : Environment → Meaning → List Value → List Path → SeenStep → List Test → Option Pos → Type 0
 ReturnsWhere env m args ps s ts y = step_position env m args ps s ≡ cond (all_hold env m (value_at env m args nothing_known) ts) y None
 
 -- binding what is needed changes nothing
-position_still : (env : Environment) (m : Meaning) (args : List Value) (ps : List Path) (ns : List BindingId) (c : Control) → AreStill env ps ns → step_position env m args ps (ns, c) ≡ control_position env m args ps c nothing_known []
+pub position_still : (env : Environment) (m : Meaning) (args : List Value) (ps : List Path) (ns : List BindingId) (c : Control) → AreStill env ps ns → step_position env m args ps (ns, c) ≡ control_position env m args ps c nothing_known []
 position_still env m args ps ns c h = ap (λ w. then_position w (control_position env m args ps c)) (needs_still env m args ps ns nothing_known [] h)
 
-matched_returns : (shows : Shows) (cs : List (BindingId × Constraint)) (ts : List Test) (inner : Behind) (y : Option Pos) (env : Environment) (m : Meaning) (args : List Value) (bs : List Binding) (P : List ℕ → Type 0)
+pub matched_returns : (shows : Shows) (cs : List (BindingId × Constraint)) (ts : List Test) (inner : Behind) (y : Option Pos) (env : Environment) (m : Meaning) (args : List Value) (bs : List Binding) (P : List ℕ → Type 0)
     → ((bound : List ℕ) → P bound → AllHold env m args (paths_of bs) cs → ReturnsWhere env m args (paths_of bs) (inner bound) ts y) → (bound : List ℕ) → StillMatched env bs shows cs P bound → ReturnsWhere env m args (paths_of bs) (all_matched false bs shows cs inner bound) (map (is_test (paths_of bs)) cs ++ ts) y
 matched_returns shows [] ts inner y env m args bs P h bound still = h bound still refl
 matched_returns shows (c ∷ cs) ts inner y env m args bs P h bound still =
@@ -83,7 +83,7 @@ matched_returns shows (c ∷ cs) ts inner y env m args bs P h bound still =
     ∙ if_within (meets env m c.1 (value_at env m args nothing_known (at ps c.0))) (all_hold env m (value_at env m args nothing_known) (map (is_test ps) cs ++ ts)) _ y
     (λ is. alone_position env m args ps (all_matched false bs shows cs inner within) ∙ matched_returns shows cs ts inner y env m args bs P (λ b k all. h b k (hold_more env m args ps c cs is all)) within still.1)
 
-equated_returns : (es : List (BindingId × BindingId)) (inner : Behind) (y : Option Pos) (env : Environment) (m : Meaning) (args : List Value) (bs : List Binding) (P : List ℕ → Type 0)
+pub equated_returns : (es : List (BindingId × BindingId)) (inner : Behind) (y : Option Pos) (env : Environment) (m : Meaning) (args : List Value) (bs : List Binding) (P : List ℕ → Type 0)
     → ((bound : List ℕ) → P bound → step_position env m args (paths_of bs) (inner bound) ≡ y) → (bound : List ℕ) → StillEquated env bs es P bound → ReturnsWhere env m args (paths_of bs) (all_equated false bs es inner bound) (map (equal_test (paths_of bs)) es) y
 equated_returns [] inner y env m args bs P h bound still = h bound still
 equated_returns (e ∷ es) inner y env m args bs P h bound still =
@@ -93,48 +93,7 @@ equated_returns (e ∷ es) inner y env m args bs P h bound still =
     ∙ if_within (equal_held (value_at env m args nothing_known (at ps e.0)) (value_at env m args nothing_known (at ps e.1))) (all_hold env m (value_at env m args nothing_known) (map (equal_test ps) es)) _ y
     (λ is. alone_position env m args ps (all_equated false bs es inner within) ∙ equated_returns es inner y env m args bs P h within still.1)
 
-rule_returns : (shows : Shows) (env : Environment) (t : Term) (answers_once : is_several (kind_of t.kind) ≡ false) (m : Meaning) (args : List Value) (bs : List Binding) (next items : ℕ → Option BindingId) (f : FlatRule) → FindsNext bs next → EachOnce (paths_of bs) → IsSerializableRule env t (paths_of bs) f → StillRule false env bs shows next items f
-    → ReturnsWhere env m args (paths_of bs) (rule_step false bs shows next items f) (flat_tests (paths_of bs) f) (rule_position env m args (paths_of bs) (Some f))
-rule_returns shows env t answers_once m args bs next items f found once h still =
-    let ps = paths_of bs in
-    let y = rule_position env m args ps (Some f) in
-    matched_returns shows f.constraints (map (equal_test ps) f.equals) (all_equated false bs f.equals (last_step false bs next items f)) y env m args bs (StillEquated env bs f.equals (StillLast false env bs next items f))
-    (λ within still' all. equated_returns f.equals (last_step false bs next items f) y env m args bs (StillLast false env bs next items f)
-    (λ bound k. ap (λ w. then_position w (λ known made. Some f.pos)) (last_binds_run env t answers_once m args bs next found once f bound all h.calls k.1 nothing_known [] refl)) within still') [] still
-
--- ---- a chain
-
 -- nothing is reached after a result
-none_after : (w : Went) (env : Environment) (m : Meaning) (args : List Value) (p : Path) (more : Known → List Made → Option Pos) → then_position (then_go w (returns env m args p)) more ≡ None
+pub none_after : (w : Went) (env : Environment) (m : Meaning) (args : List Value) (p : Path) (more : Known → List Made → Option Pos) → then_position (then_go w (returns env m args p)) more ≡ None
 none_after (Goes known made) env m args p more = refl
 none_after (Ends o) env m args p more = refl
-
-chain_returns : (shows : Shows) (env : Environment) (t : Term) (answers_once : is_several (kind_of t.kind) ≡ false) (m : Meaning) (args : List Value) (bs : List Binding) (next items : ℕ → Option BindingId) → FindsNext bs next → EachOnce (paths_of bs)
-    → (fs : List FlatRule) → AllByRecursion (IsSerializableRule env t (paths_of bs)) fs → AllByRecursion (StillRule false env bs shows next items) fs
-    → block_position env m args (paths_of bs) (block_of (chain_steps false bs shows next items fs)) nothing_known [] ≡ rule_position env m args (paths_of bs) (first (flat_holds env m args (paths_of bs)) fs)
-chain_returns shows env t answers_once m args bs next items found once [] h still = refl
-chain_returns shows env t answers_once m args bs next items found once (f ∷ fs) h still =
-    before_others (bind_all env m args ps (rule_step false bs shows next items f).0 nothing_known []) (control_position env m args ps (rule_step false bs shows next items f).1) (control_run env m args ps (rule_step false bs shows next items f).1) (block_position env m args ps others)
-    ∙ ap (λ o. or_else o (then_position (step_run env m args ps (rule_step false bs shows next items f)) (block_position env m args ps others))) (rule_returns shows env t answers_once m args bs next items f found once h.0 still.0)
-    ∙ ap (λ w. or_else (cond (flat_holds env m args ps f) (rule_position env m args ps (Some f)) None) (then_position w (block_position env m args ps others))) (rule_does shows env t answers_once m args bs next items f found once h.0 still.0)
-    ∙ pick (flat_holds env m args ps f) (no_tests f.constraints f.equals) (untested_holds f.constraints f.equals env m args ps) (chain_returns shows env t answers_once m args bs next items found once fs h.1 still.1)
-  where
-    ps : List Path
-    ps = paths_of bs
-
-    others : Block
-    others = block_of (cond (no_tests f.constraints f.equals) [] (chain_steps false bs shows next items fs))
-
-    pick : (holds untested : Bool) → (untested ≡ true → holds ≡ true) → block_position env m args ps (block_of (chain_steps false bs shows next items fs)) nothing_known [] ≡ rule_position env m args ps (first (flat_holds env m args ps) fs)
-        → or_else (cond holds (rule_position env m args ps (Some f)) None) (then_position (cond holds (flat_run env m args ps f) (Goes nothing_known [])) (block_position env m args ps (block_of (cond untested [] (chain_steps false bs shows next items fs)))))
-        ≡ rule_position env m args ps (cond holds (Some f) (first (flat_holds env m args ps) fs))
-    pick true untested k e =
-        ap (or_else (rule_position env m args ps (Some f))) (none_after (run_calls env m args (map (at ps) f.ordered) nothing_known []) env m args (at ps f.result) (block_position env m args ps (block_of (cond untested [] (chain_steps false bs shows next items fs)))))
-        ∙ or_none (rule_position env m args ps (Some f))
-    pick false false k e = e
-    pick false true k e = let bad = k refl in cc
-
-pub chain_positions : (shows : Shows) (env : Environment) (t : Term) (answers_once : is_several (kind_of t.kind) ≡ false) (m : Meaning) (args : List Value) (bs : List Binding) (next items : ℕ → Option BindingId) → FindsNext bs next → EachOnce (paths_of bs)
-    → (fs : List FlatRule) → AllByRecursion (IsSerializableRule env t (paths_of bs)) fs → AllByRecursion (StillRule false env bs shows next items) fs → block_position env m args (paths_of bs) (chain false bs shows next items fs) nothing_known [] ≡ set_position env m args (paths_of bs) fs
-chain_positions shows env t answers_once m args bs next items found once fs h still =
-    chain_returns shows env t answers_once m args bs next items found once (by_priority fs) (all_in_order (IsSerializableRule env t (paths_of bs)) fs h) (all_in_order (StillRule false env bs shows next items) fs still) ∙ ap (rule_position env m args (paths_of bs)) (first_is_highest (flat_holds env m args (paths_of bs)) fs)

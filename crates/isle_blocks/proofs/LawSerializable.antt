@@ -36,8 +36,8 @@ use Rattle.isle_blocks.specs.Followers.{FindsInners, FindsItems}
 use Rattle.isle_blocks.specs.declared.fields.Shown.{Shown}
 use Rattle.isle_blocks.specs.Fields.{FieldKey, FindsFields, shows}
 use Rattle.isle_blocks.specs.Needed.{is_bound, needs}
-use Rattle.isle_blocks.specs.Nest.{Shows, Behind, alone, opened, binds, left_calls, left_item, items_left, left_items, last_binds, last_step, all_matched, all_equated, rule_step}
-use Rattle.isle_blocks.specs.Chain.{no_tests, chain_steps, chain}
+use Rattle.isle_blocks.specs.Nest.{Shows, Behind, alone, opened, binds, left_calls, left_item, items_left, left_items, last_binds, last_step, all_matched, all_equated}
+use Rattle.isle_blocks.specs.Tree.{no_tests}
 use Rattle.isle_blocks.proofs.LawOrder.{all_in_order}
 use Rattle.isle_blocks.proofs.RulesInOrder.{occurrences_in_order}
 use Rattle.isle_blocks.proofs.Behind.{IsBehind, behind_test}
@@ -63,14 +63,14 @@ use Rattle.isle_blocks.proofs.StillRules.{StillBehind, StillLast, StillEquated, 
 -- ---- controls
 
 -- a Return
-abbrev IsReturn : Control → Type 0
+abbrev pub IsReturn : Control → Type 0
 IsReturn (Return pos result) = Unit {0}
 IsReturn (Match source arms) = ⊥
 IsReturn (Equal a b body) = ⊥
 IsReturn (Loop result body) = ⊥
 
 -- what is lawful alone is so before others
-before_others : (c : Control) (s : Setting) (bound made : List ℕ) (more : Block) → (IsReturn c → gives_several s ≡ false → more ≡ Stop) → IsLawfulControl s bound made c Stop → IsLawfulControl s bound made c more
+pub before_others : (c : Control) (s : Setting) (bound made : List ℕ) (more : Block) → (IsReturn c → gives_several s ≡ false → more ≡ Stop) → IsLawfulControl s bound made c Stop → IsLawfulControl s bound made c more
 before_others (Match source arms) s bound made more ends h = h
 before_others (Equal a b body) s bound made more ends h = h
 before_others (Loop result body) s bound made more ends h = h
@@ -86,7 +86,7 @@ equated_ends : (bs : List Binding) (es : List (BindingId × BindingId)) (inner :
 equated_ends bs [] inner bound h = refl
 equated_ends bs (e ∷ es) inner bound h = absurd h
 
-matched_ends : (bs : List Binding) (places : Shows) (cs : List (BindingId × Constraint)) (es : List (BindingId × BindingId)) (inner : Behind) (bound : List ℕ) → IsReturn (all_matched false bs places cs (all_equated false bs es inner) bound).1 → no_tests cs es ≡ true
+pub matched_ends : (bs : List Binding) (places : Shows) (cs : List (BindingId × Constraint)) (es : List (BindingId × BindingId)) (inner : Behind) (bound : List ℕ) → IsReturn (all_matched false bs places cs (all_equated false bs es inner) bound).1 → no_tests cs es ≡ true
 matched_ends bs places [] es inner bound h = equated_ends bs es inner bound h
 matched_ends bs places (c ∷ cs) es inner bound h = absurd h
 
@@ -167,7 +167,7 @@ module _ (several : Bool) (env : Environment) (t : Term) (bs : List Binding) (fo
       let r = needs_read env t bs tests (came_behind [] calls) fits (bound_by bound (binds bs next bound (left_calls next bound f.ordered))) (f.result ∷ []) (t.ret_ty ∷ []) all.behind (h.result, tt) (stands, tt) in
       (binds_still env t bs fits tests next found_next once bound f.ordered [] bound (λ n j. j) k.behind h.calls, r.still, was_tested env bs next tests bound k.tested)
 
-  last_still : (f : FlatRule) (bound : List ℕ) → IsSerializableRule env t (paths_of bs) f → IsWithin env (paths_of bs) (constraint_tests (paths_of bs) f) bound → StillLast several env bs next items f bound
+  pub last_still : (f : FlatRule) (bound : List ℕ) → IsSerializableRule env t (paths_of bs) f → IsWithin env (paths_of bs) (constraint_tests (paths_of bs) f) bound → StillLast several env bs next items f bound
   last_still f bound h k =
       let ps = paths_of bs in
       let tests = constraint_tests ps f in
@@ -208,7 +208,7 @@ module _ (several : Bool) (env : Environment) (t : Term) (bs : List Binding) (fo
   abbrev pub IsNewTo : FlatRule → List ℕ → Type 0
   IsNewTo f made = AreNew made (occurrences env (paths_of bs) f.ordered)
 
-  last_good : (f : FlatRule) (made bound : List ℕ) → IsSerializableRule env t (paths_of bs) f → IsNewTo f made → IsWithin env (paths_of bs) (constraint_tests (paths_of bs) f) bound → IsGoodStep f made bound (last_step several bs next items f bound)
+  pub last_good : (f : FlatRule) (made bound : List ℕ) → IsSerializableRule env t (paths_of bs) f → IsNewTo f made → IsWithin env (paths_of bs) (constraint_tests (paths_of bs) f) bound → IsGoodStep f made bound (last_step several bs next items f bound)
   last_good f made bound h new k =
       let s = setting env t bs in
       let ps = paths_of bs in
@@ -235,7 +235,7 @@ module _ (several : Bool) (env : Environment) (t : Term) (bs : List Binding) (fo
       }
 
   -- what stands inside tests, after which these are bound
-  abbrev IsGoodBehind : FlatRule → List ℕ → List Test → Behind → Type 0
+  abbrev pub IsGoodBehind : FlatRule → List ℕ → List Test → Behind → Type 0
   IsGoodBehind f made tests inner = (bound : List ℕ) → IsWithin env (paths_of bs) tests bound → IsGoodStep f made bound (inner bound)
 
   -- a step that goes on alone
@@ -243,7 +243,7 @@ module _ (several : Bool) (env : Environment) (t : Term) (bs : List Binding) (fo
   alone_only f made bound step h ks w = only_append (OfRule f made) ks (after_control (is_several (kind_of t.kind)) env (paths_of bs) (ks ++ occurrences env (paths_of bs) step.0) step.1) w (h.only ks w)
 
   -- equalities round it
-  equated_good : (f : FlatRule) (made : List ℕ) (es : List (BindingId × BindingId)) (last : Behind) (tests : List Test) (bound : List ℕ) → IsWithin env (paths_of bs) tests bound → AllByRecursion (AreComparable env t (paths_of bs) tests) es → IsGoodBehind f made tests last
+  pub equated_good : (f : FlatRule) (made : List ℕ) (es : List (BindingId × BindingId)) (last : Behind) (tests : List Test) (bound : List ℕ) → IsWithin env (paths_of bs) tests bound → AllByRecursion (AreComparable env t (paths_of bs) tests) es → IsGoodBehind f made tests last
       → IsGoodStep f made bound (all_equated several bs es last bound)
   equated_good f made [] last tests bound k h l = l bound k
   equated_good f made (e ∷ es) last tests bound k h l =
@@ -257,7 +257,7 @@ module _ (several : Bool) (env : Environment) (t : Term) (bs : List Binding) (fo
       good_needs f made bound reads (Equal e.0 e.1 (alone (all_equated several bs es last behind))) all.binds all.still ((one.ty, read.0, read.1.0), body.lawful) (alone_only f made behind (all_equated several bs es last behind) body) body.loops
 
   -- what they are read with
-  equated_still : (es : List (BindingId × BindingId)) (P : List ℕ → Type 0) (tests : List Test) (bound : List ℕ) → IsWithin env (paths_of bs) tests bound → AllByRecursion (AreComparable env t (paths_of bs) tests) es
+  pub equated_still : (es : List (BindingId × BindingId)) (P : List ℕ → Type 0) (tests : List Test) (bound : List ℕ) → IsWithin env (paths_of bs) tests bound → AllByRecursion (AreComparable env t (paths_of bs) tests) es
       → ((within : List ℕ) → IsWithin env (paths_of bs) tests within → P within) → StillEquated env bs es P bound
   equated_still [] P tests bound k h l = l bound k
   equated_still (e ∷ es) P tests bound k h l =
@@ -319,7 +319,7 @@ module _ (several : Bool) (env : Environment) (t : Term) (bs : List Binding) (fo
       within_places env t bs found counts inners found_inners tests behind c.0 c.1 ready.places' grown shown
 
   -- and constraints round these
-  matched_good : (f : FlatRule) (made : List ℕ) (cs : List (BindingId × Constraint)) (inner : Behind) (tests : List Test) (bound : List ℕ) → IsWithin env (paths_of bs) tests bound → AreTestable env t (paths_of bs) tests cs
+  pub matched_good : (f : FlatRule) (made : List ℕ) (cs : List (BindingId × Constraint)) (inner : Behind) (tests : List Test) (bound : List ℕ) → IsWithin env (paths_of bs) tests bound → AreTestable env t (paths_of bs) tests cs
       → IsGoodBehind f made (came_behind tests (map (is_test (paths_of bs)) cs)) inner → IsGoodStep f made bound (all_matched several bs (shows found counts inners) cs inner bound)
   matched_good f made [] inner tests bound k h l = l bound k
   matched_good f made (c ∷ cs) inner tests bound k h l =
@@ -340,114 +340,10 @@ module _ (several : Bool) (env : Environment) (t : Term) (bs : List Binding) (fo
       within_same env ps (constraint_tests ps f) (came_behind [] (constraint_tests ps f)) bound (λ x j. came_holds [] (constraint_tests ps f) x (inr j))
       (λ x j. ⊎_elim (λ none. absurd (none_contained x none)) (λ i. i) (came_from [] (constraint_tests ps f) x j)) k
 
-  -- the step of a rule
-  pub rule_good : (f : FlatRule) (made : List ℕ) → IsSerializableRule env t (paths_of bs) f → IsNewTo f made → IsGoodStep f made [] (rule_step several bs (shows found counts inners) next items f)
-  rule_good f made h new = matched_good f made f.constraints (all_equated several bs f.equals (last_step several bs next items f)) [] [] (within_none env (paths_of bs)) h.constraints
-      (λ bound k. equated_good f made f.equals (last_step several bs next items f) (constraint_tests (paths_of bs) f) bound (came_within (paths_of bs) f bound k) h.equals (λ bound' k'. last_good f made bound' h new k'))
-
   -- what constraints are read with
-  matched_still : (cs : List (BindingId × Constraint)) (P : List ℕ → Type 0) (tests : List Test) (bound : List ℕ) → IsWithin env (paths_of bs) tests bound → AreTestable env t (paths_of bs) tests cs
+  pub matched_still : (cs : List (BindingId × Constraint)) (P : List ℕ → Type 0) (tests : List Test) (bound : List ℕ) → IsWithin env (paths_of bs) tests bound → AreTestable env t (paths_of bs) tests cs
       → ((within : List ℕ) → IsWithin env (paths_of bs) (came_behind tests (map (is_test (paths_of bs)) cs)) within → P within) → StillMatched env bs (shows found counts inners) cs P bound
   matched_still [] P tests bound k h l = l bound k
   matched_still (c ∷ cs) P tests bound k h l =
       let ready = test_ready tests bound c.0 c.1 k.behind h.0.test h.0.stands in
       (ready.still, matched_still cs P (is_test (paths_of bs) c ∷ tests) (bound_within (bound_by bound (needs bs bound (c.0 ∷ []))) (shows found counts inners c.0 c.1)) (within_arm tests bound c k ready) h.1 l)
-
-  -- what a rule is read with
-  rule_still : (f : FlatRule) → IsSerializableRule env t (paths_of bs) f → StillRule several env bs (shows found counts inners) next items f
-  rule_still f h = matched_still f.constraints (StillEquated env bs f.equals (StillLast several env bs next items f)) [] [] (within_none env (paths_of bs)) h.constraints
-      (λ within k. equated_still f.equals (StillLast several env bs next items f) (constraint_tests (paths_of bs) f) within (came_within (paths_of bs) f within k) h.equals (λ bound' k'. last_still f bound' h k'))
-
-  pub rules_still : (fs : List FlatRule) → AllByRecursion (IsSerializableRule env t (paths_of bs)) fs → AllByRecursion (StillRule several env bs (shows found counts inners) next items) fs
-  rules_still [] h = tt
-  rules_still (f ∷ fs) h = (rule_still f h.0, rules_still fs h.1)
-
-  -- ---- chains
-
-  -- impure calls that are none of these
-  abbrev AreOthers : List ℕ → List FlatRule → Type 0
-  AreOthers made fs = (k : ℕ) → Contains made k → Contains (occurrences_of env (paths_of bs) fs) k → ⊥
-
-  -- the steps of a list, cut where nothing is reached
-  abbrev rest_of : Bool → List FlatRule → Block
-  rest_of last fs = block_of (cond last [] (chain_steps several bs (shows found counts inners) next items fs))
-
-  rest_lawful : (last : Bool) (fs : List FlatRule) (made : List ℕ) → IsLawfulFrom (setting env t bs) [] made (rest_of false fs) → IsLawfulFrom (setting env t bs) [] made (rest_of last fs)
-  rest_lawful true fs made h = tt
-  rest_lawful false fs made h = h
-
-  rest_loops : (last : Bool) (fs : List FlatRule) (fresh : List ℕ) → LoopsOnce (setting env t bs) fresh (rest_of false fs) → LoopsOnce (setting env t bs) fresh (rest_of last fs)
-  rest_loops true fs fresh h = tt
-  rest_loops false fs fresh h = h
-
-  -- where a rule's step is a Return in a term that answers once, no steps follow
-  step_ends : (flag : Bool) → is_several (kind_of t.kind) ≡ flag → (f : FlatRule) (fs : List FlatRule) → IsReturn (rule_step flag bs (shows found counts inners) next items f).1 → is_several (kind_of t.kind) ≡ false → rest_of (not flag && no_tests f.constraints f.equals) fs ≡ Stop
-  step_ends true e f fs = λ returns alone'. let bad = sym e ∙ alone' in cc
-  step_ends false e f fs = λ returns alone'. ap (λ b. rest_of b fs) (matched_ends bs (shows found counts inners) f.constraints f.equals (last_step false bs next items f) [] returns)
-
-  steps_lawful : (fs : List FlatRule) (made : List ℕ) → AllByRecursion (IsSerializableRule env t (paths_of bs)) fs → EachOnce (occurrences_of env (paths_of bs) fs) → AreOthers made fs → IsLawfulFrom (setting env t bs) [] made (rest_of false fs)
-  steps_lawful [] made h apart others = tt
-  steps_lawful (f ∷ fs) made h apart others =
-      let s = setting env t bs in
-      let ps = paths_of bs in
-      let calls = occurrences env ps f.ordered in
-      let more = occurrences_of env ps fs in
-      let last = not several && no_tests f.constraints f.equals in
-      let step = rule_step several bs (shows found counts inners) next items f in
-      let good = rule_good f made h.0 (record { once = each_first calls more apart; apart = λ k c d. others k c (Contains-append_left calls more k d) }) in
-      let after = after_control (is_several (kind_of t.kind)) env ps (made ++ occurrences env ps step.0) step.1 in
-      let new : AreOthers after fs = λ k c d. ⊎_elim (λ j. others k j (Contains-append_right calls more k d)) (λ j. each_apart calls more apart k j d) (good.only made (λ n j. inl j) k c) in
-      let rest = rest_lawful last fs after (steps_lawful fs after h.1 (each_second calls more apart) new) in
-      (good.lawful.0, good.lawful.1, before_others step.1 s (bound_by [] step.0) (made ++ occurrences env ps step.0) (rest_of last fs) (step_ends several is f fs) good.lawful.2, still_lawful (rest_of last fs) s [] (bound_by [] step.0) after (λ n c. absurd (none_contained n c)) rest)
-
-  steps_loop : (fs : List FlatRule) (fresh : List ℕ) → AllByRecursion (IsSerializableRule env t (paths_of bs)) fs → EachOnce (occurrences_of env (paths_of bs) fs) → LoopsOnce (setting env t bs) fresh (rest_of false fs)
-  steps_loop [] fresh h apart = tt
-  steps_loop (f ∷ fs) fresh h apart =
-      let ps = paths_of bs in
-      let calls = occurrences env ps f.ordered in
-      let step = rule_step several bs (shows found counts inners) next items f in
-      let good = rule_good f [] h.0 (record { once = each_first calls (occurrences_of env ps fs) apart; apart = λ k c d. absurd (none_contained k c) }) in
-      let left = without (fresh ++ map (λ (b : BindingId). b.0) step.0) (looped_by (setting env t bs) step.1) in
-      ((good.loops fresh).0, rest_loops (not several && no_tests f.constraints f.equals) fs left (steps_loop fs left h.1 (each_second calls (occurrences_of env ps fs) apart)))
-
-  pub chain_lawful : (fs : List FlatRule) → AllByRecursion (IsSerializableRule env t (paths_of bs)) fs → EachOnce (occurrences_of env (paths_of bs) fs) → HasNewItems (setting env t bs) (chain several bs (shows found counts inners) next items fs)
-      → IsLawfulBlock (setting env t bs) (chain several bs (shows found counts inners) next items fs)
-  chain_lawful fs h apart anew =
-      let all = all_in_order (IsSerializableRule env t (paths_of bs)) fs h in
-      let new = occurrences_in_order env (paths_of bs) fs apart in
-      record { from = steps_lawful (by_priority fs) [] all new (λ k c d. none_contained k c); loops = steps_loop (by_priority fs) [] all new; items = anew }
-
--- ---- single arms
-
-module _ (several : Bool) (bs : List Binding) where
-  opened_single : (order : List BindingId) (c : Control) → IsSingle c → IsSingle (opened several bs order c).1
-  opened_single order c h = opened_holds IsSingle (λ b s k. (k, tt)) (λ b source s k. (k, tt)) several bs order c h
-
-  equated_single : (es : List (BindingId × BindingId)) (inner : Behind) → ((bound : List ℕ) → IsSingle (inner bound).1) → (bound : List ℕ) → IsSingle (all_equated several bs es inner bound).1
-  equated_single [] inner h bound = h bound
-  equated_single (e ∷ es) inner h bound =
-      let ns = needs bs bound (e.0 ∷ e.1 ∷ []) in
-      opened_single ns (Equal e.0 e.1 (alone (all_equated several bs es inner (bound_by bound ns)))) (equated_single es inner h (bound_by bound ns), tt)
-
-  matched_single : (places : Shows) (cs : List (BindingId × Constraint)) (inner : Behind) → ((bound : List ℕ) → IsSingle (inner bound).1) → (bound : List ℕ) → IsSingle (all_matched several bs places cs inner bound).1
-  matched_single places [] inner h bound = h bound
-  matched_single places (c ∷ cs) inner h bound =
-      let ns = needs bs bound (c.0 ∷ []) in
-      let within = bound_within (bound_by bound ns) (places c.0 c.1) in
-      opened_single ns (Match c.0 (Arm c.1 (places c.0 c.1) (alone (all_matched several bs places cs inner within)) NoArm)) (matched_single places cs inner h within, tt)
-
-  one_single : (last : Bool) (steps : List SeenStep) → HasSingleArms (block_of steps) → HasSingleArms (block_of (cond last [] steps))
-  one_single true steps h = tt
-  one_single false steps h = h
-
-  steps_single : (places : Shows) (next items : ℕ → Option BindingId) (fs : List FlatRule) → HasSingleArms (block_of (chain_steps several bs places next items fs))
-  steps_single places next items [] = tt
-  steps_single places next items (f ∷ fs) = (
-    matched_single places f.constraints (all_equated several bs f.equals (last_step several bs next items f))
-        (equated_single f.equals (last_step several bs next items f) (λ bound. opened_single (last_binds several bs next items bound f) (Return f.pos f.result) tt)) [],
-    one_single (not several && no_tests f.constraints f.equals) (chain_steps several bs places next items fs) (steps_single places next items fs),
-  )
-
-  -- each Match of a chain has one arm
-  pub chain_single : (places : Shows) (next items : ℕ → Option BindingId) (fs : List FlatRule) → HasSingleArms (chain several bs places next items fs)
-  chain_single places next items fs = steps_single places next items (by_priority fs)

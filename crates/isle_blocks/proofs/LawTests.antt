@@ -13,9 +13,9 @@ use Rattle.isle_core.specs.Bindable.{bound_by}
 use Rattle.isle_core.specs.Block.{Control, Match, Equal, Return, NoArm, Arm}
 use Rattle.isle_core.specs.BlockViews.{SeenStep, block_of}
 use Rattle.isle_core.proofs.Contained.{head_contained, tail_contained}
-use Rattle.isle_blocks.specs.Chain.{no_tests, chain_steps, chain}
+use Rattle.isle_blocks.specs.Tree.{no_tests}
 use Rattle.isle_blocks.specs.Needed.{list_before, needs}
-use Rattle.isle_blocks.specs.Nest.{Shows, Behind, alone, option_before, open_by, opening, opened, last_binds, last_step, all_matched, all_equated, rule_step}
+use Rattle.isle_blocks.specs.Nest.{Shows, Behind, alone, option_before, open_by, opening, opened, last_binds, last_step, all_matched, all_equated}
 use Rattle.isle_blocks.specs.Order.{by_priority}
 use Rattle.isle_blocks.specs.RuleTests.{of_rule, of_inner, TestsRules, DoesRules}
 use Rattle.isle_blocks.proofs.FollowerLaws.{inner_is}
@@ -28,7 +28,7 @@ weaker P Q [] k h = tt
 weaker P Q (x ∷ xs) k h = (k x h.0, weaker P Q xs k h.1)
 
 -- each item of a list is among its items
-among : {A : Type 0} (xs : List A) → AllByRecursion (Contains xs) xs
+pub among : {A : Type 0} (xs : List A) → AllByRecursion (Contains xs) xs
 among [] = tt
 among (x ∷ xs) = (head_contained x xs, weaker (Contains xs) (Contains (x ∷ xs)) xs (tail_contained x xs) (among xs))
 
@@ -49,46 +49,24 @@ module _ (s : RuleSet) where
   opening_tests [] c h = h
   opening_tests (b ∷ order) c h = open_tests (list_before (slice_get s.bindings b.0)) (option_before (slice_get s.bindings b.0)) b (opening s.bindings order c) refl (opening_tests order c h)
 
-  opened_tests : (several : Bool) (order : List BindingId) (c : Control) → DoesRules s c → DoesRules s (opened several s.bindings order c).1
+  pub opened_tests : (several : Bool) (order : List BindingId) (c : Control) → DoesRules s c → DoesRules s (opened several s.bindings order c).1
   opened_tests true order c h = opening_tests order c h
   opened_tests false order c h = h
 
   -- ---- a rule
 
   module _ (several : Bool) (f : FlatRule) (there : Contains s.rules f) where
-    equated_tests : (es : List (BindingId × BindingId)) (inner : Behind) → AllByRecursion (Contains f.equals) es → ((bound : List ℕ) → DoesRules s (inner bound).1) → (bound : List ℕ) → DoesRules s (all_equated several s.bindings es inner bound).1
+    pub equated_tests : (es : List (BindingId × BindingId)) (inner : Behind) → AllByRecursion (Contains f.equals) es → ((bound : List ℕ) → DoesRules s (inner bound).1) → (bound : List ℕ) → DoesRules s (all_equated several s.bindings es inner bound).1
     equated_tests [] inner own h bound = h bound
     equated_tests (e ∷ es) inner own h bound =
         let ns = needs s.bindings bound (e.0 ∷ e.1 ∷ []) in
         let within = all_equated several s.bindings es inner (bound_by bound ns) in
         opened_tests several ns (Equal e.0 e.1 (alone within)) (record { rule = f; there = there; equated = own.0 }, (equated_tests es inner own.1 h (bound_by bound ns), tt))
 
-    matched_tests : (shows : Shows) (cs : List (BindingId × Constraint)) (inner : Behind) → AllByRecursion (Contains f.constraints) cs → ((bound : List ℕ) → DoesRules s (inner bound).1) → (bound : List ℕ) → DoesRules s (all_matched several s.bindings shows cs inner bound).1
+    pub matched_tests : (shows : Shows) (cs : List (BindingId × Constraint)) (inner : Behind) → AllByRecursion (Contains f.constraints) cs → ((bound : List ℕ) → DoesRules s (inner bound).1) → (bound : List ℕ) → DoesRules s (all_matched several s.bindings shows cs inner bound).1
     matched_tests shows [] inner own h bound = h bound
     matched_tests shows (c ∷ cs) inner own h bound =
         let ns = needs s.bindings bound (c.0 ∷ []) in
         let inside = bound_within (bound_by bound ns) (shows c.0 c.1) in
         let within = all_matched several s.bindings shows cs inner inside in
         opened_tests several ns (Match c.0 (Arm c.1 (shows c.0 c.1) (alone within) NoArm)) (of_rule f c.0 c.1 there own.0, (matched_tests shows cs inner own.1 h inside, tt), tt)
-
-    rule_tests : (shows : Shows) (next items : ℕ → Option BindingId) → DoesRules s (rule_step several s.bindings shows next items f).1
-    rule_tests shows next items =
-        matched_tests shows f.constraints (all_equated several s.bindings f.equals (last_step several s.bindings next items f)) (among f.constraints)
-        (equated_tests f.equals (last_step several s.bindings next items f) (among f.equals)
-        (λ bound. opened_tests several (last_binds several s.bindings next items bound f) (Return f.pos f.result) (record { rule = f; there = there; position = refl; gives = refl }))) []
-
-  -- ---- a chain
-
-  unless_last : (last : Bool) (steps : List SeenStep) → TestsRules s (block_of steps) → TestsRules s (block_of (cond last [] steps))
-  unless_last true steps h = tt
-  unless_last false steps h = h
-
-  steps_tests : (several : Bool) (shows : Shows) (next items : ℕ → Option BindingId) (fs : List FlatRule) → AllByRecursion (Contains s.rules) fs → TestsRules s (block_of (chain_steps several s.bindings shows next items fs))
-  steps_tests several shows next items [] h = tt
-  steps_tests several shows next items (f ∷ fs) h = (
-    rule_tests several f h.0 shows next items,
-    unless_last (not several && no_tests f.constraints f.equals) (chain_steps several s.bindings shows next items fs) (steps_tests several shows next items fs h.1),
-  )
-
-  pub chain_tests : (several : Bool) (shows : Shows) (next items : ℕ → Option BindingId) → TestsRules s (chain several s.bindings shows next items s.rules)
-  chain_tests several shows next items = steps_tests several shows next items (by_priority s.rules) (all_in_order (Contains s.rules) s.rules (among s.rules))

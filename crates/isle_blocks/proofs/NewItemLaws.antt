@@ -24,13 +24,13 @@ use Rattle.isle_core.specs.StandsFor.{EachOnce}
 use Rattle.isle_core.specs.Tests.{Test}
 use Rattle.isle_core.proofs.Contained.{none_contained}
 use Rattle.isle_blocks.specs.CallsOnce.{HasCallsOnce}
-use Rattle.isle_blocks.specs.Chain.{no_tests, chain_steps, chain}
+use Rattle.isle_blocks.specs.Tree.{no_tests}
 use Rattle.isle_blocks.specs.declared.fields.Shown.{Shown}
 use Rattle.isle_blocks.specs.declared.fields.Shown.TheVariants as shown
 use Rattle.isle_blocks.specs.Fields.{FieldKey, FindsFields, first_places, inner_place, shows}
 use Rattle.isle_blocks.specs.Followers.{FindsInners, FindsItems}
 use Rattle.isle_blocks.specs.Needed.{is_bound, needs}
-use Rattle.isle_blocks.specs.Nest.{Behind, alone, binds, left_calls, left_item, items_left, left_items, last_binds, last_step, all_matched, all_equated, rule_step}
+use Rattle.isle_blocks.specs.Nest.{Behind, alone, binds, left_calls, left_item, items_left, left_items, last_binds, last_step, all_matched, all_equated}
 use Rattle.isle_blocks.specs.Order.{by_priority}
 use Rattle.isle_blocks.proofs.CalledItems.{OfAny, once_left, AreEarly, early_none, early_needs, IsPlainPlace, early_within, behind_start, binds_anew}
 use Rattle.isle_blocks.proofs.ItemPaths.{item_path}
@@ -49,7 +49,7 @@ places_append bs [] ys h k = k
 places_append bs (x ∷ xs) ys h k = (h.0, places_append bs xs ys h.1 k)
 
 -- neither a field nor an inner value is an item
-shows_plain : (bs : List Binding) (found : FieldKey → Option BindingId) (counts : Shown → Option ℕ) (inners : ℕ → Option BindingId) → FindsFields bs found counts → FindsInners bs inners → (source : BindingId) (c : Constraint) → AllByRecursion (IsPlainPlace bs) (shows found counts inners source c)
+pub shows_plain : (bs : List Binding) (found : FieldKey → Option BindingId) (counts : Shown → Option ℕ) (inners : ℕ → Option BindingId) → FindsFields bs found counts → FindsInners bs inners → (source : BindingId) (c : Constraint) → AllByRecursion (IsPlainPlace bs) (shows found counts inners source c)
 shows_plain bs found counts inners f g source c = by_form c
   where
     field_plain : (s : Shown) (field : ℕ) (o : Option BindingId) → found (s, field) ≡ o → IsPlainPlace bs o
@@ -76,7 +76,7 @@ shows_plain bs found counts inners f g source c = by_form c
 -- ---- what is read
 
 -- what is tested may be needed
-test_needable : (env : Environment) (t : Term) (tests : List Test) (p : Path) (c : Constraint) → IsTest env t p c → StandsOn env tests [] p → IsNeedable env [] p
+pub test_needable : (env : Environment) (t : Term) (tests : List Test) (p : Path) (c : Constraint) → IsTest env t p c → StandsOn env tests [] p → IsNeedable env [] p
 test_needable env t tests p constraint.Some h st = option_needable env t tests [] p h.0 h.1 st
 test_needable env t tests p (constraint.ConstBool val) h st = path_needable env t tests [] p h.ty h.path st
 test_needable env t tests p (constraint.ConstInt val of) h st = path_needable env t tests [] p h.ty h.path st
@@ -120,7 +120,7 @@ module _ (several : Bool) (env : Environment) (t : Term) (bs : List Binding) (fo
 
   -- ---- steps
 
-  last_new : (f : FlatRule) (bound : List ℕ) → IsSerializableRule env t (paths_of bs) f → (Several → HasCallsOnce env (paths_of bs) f) → AreEarly env bs [] bound → IsNewStep (setting env t bs) bound (last_step several bs next items f bound)
+  pub last_new : (f : FlatRule) (bound : List ℕ) → IsSerializableRule env t (paths_of bs) f → (Several → HasCallsOnce env (paths_of bs) f) → AreEarly env bs [] bound → IsNewStep (setting env t bs) bound (last_step several bs next items f bound)
   last_new f bound h calls early =
       let ps = paths_of bs in
       let tests = constraint_tests ps f in
@@ -144,7 +144,7 @@ module _ (several : Bool) (env : Environment) (t : Term) (bs : List Binding) (fo
   IsNewBehind inner = (bound : List ℕ) → AreEarly env bs [] bound → IsNewStep (setting env t bs) bound (inner bound)
 
   -- equalities round it
-  equated_new : (es : List (BindingId × BindingId)) (inner : Behind) (tests : List Test) (bound : List ℕ) → AreEarly env bs [] bound → AllByRecursion (AreComparable env t (paths_of bs) tests) es → IsNewBehind inner → IsNewStep (setting env t bs) bound (all_equated several bs es inner bound)
+  pub equated_new : (es : List (BindingId × BindingId)) (inner : Behind) (tests : List Test) (bound : List ℕ) → AreEarly env bs [] bound → AllByRecursion (AreComparable env t (paths_of bs) tests) es → IsNewBehind inner → IsNewStep (setting env t bs) bound (all_equated several bs es inner bound)
   equated_new [] inner tests bound early h k = k bound early
   equated_new (e ∷ es) inner tests bound early h k =
       let ps = paths_of bs in
@@ -157,7 +157,7 @@ module _ (several : Bool) (env : Environment) (t : Term) (bs : List Binding) (fo
       opened_new (setting env t bs) once fits (λ p. holds_impure env p ≡ false) several is ns (Equal e.0 e.1 (alone (all_equated several bs es inner behind))) bound need (λ more cover. body.items more cover)
 
   -- and constraints round these
-  matched_new : (cs : List (BindingId × Constraint)) (inner : Behind) (tests : List Test) (bound : List ℕ) → AreEarly env bs [] bound → AreTestable env t (paths_of bs) tests cs → IsNewBehind inner → IsNewStep (setting env t bs) bound (all_matched several bs (shows found counts inners) cs inner bound)
+  pub matched_new : (cs : List (BindingId × Constraint)) (inner : Behind) (tests : List Test) (bound : List ℕ) → AreEarly env bs [] bound → AreTestable env t (paths_of bs) tests cs → IsNewBehind inner → IsNewStep (setting env t bs) bound (all_matched several bs (shows found counts inners) cs inner bound)
   matched_new [] inner tests bound early h k = k bound early
   matched_new (c ∷ cs) inner tests bound early h k =
       let ps = paths_of bs in
@@ -169,29 +169,3 @@ module _ (several : Bool) (env : Environment) (t : Term) (bs : List Binding) (fo
       let body = matched_new cs inner (is_test ps c ∷ tests) within (early_within env bs [] places behind (shows_plain bs found counts inners finds found_inners c.0 c.1) (early_needs env bs [] ns bound need early)) h.1 k in
       opened_new (setting env t bs) once fits (λ p. holds_impure env p ≡ false) several is ns (Match c.0 (Arm c.1 places (alone (all_matched several bs (shows found counts inners) cs inner within)) NoArm)) bound need
       (λ more cover. (body.items (bound_within more places) (covers_within bs places behind more cover), tt))
-
-  rule_new : (f : FlatRule) → IsSerializableRule env t (paths_of bs) f → (Several → HasCallsOnce env (paths_of bs) f) → IsNewStep (setting env t bs) [] (rule_step several bs (shows found counts inners) next items f)
-  rule_new f h calls =
-      matched_new f.constraints (all_equated several bs f.equals (last_step several bs next items f)) [] [] (early_none env bs []) h.constraints
-      (λ bound early. equated_new f.equals (last_step several bs next items f) (constraint_tests (paths_of bs) f) bound early h.equals (λ bound' early'. last_new f bound' h calls early'))
-
-  -- ---- chains
-
-  -- the steps of a list, cut where nothing is reached
-  abbrev rest_of : Bool → List FlatRule → Block
-  rest_of last fs = block_of (cond last [] (chain_steps several bs (shows found counts inners) next items fs))
-
-  rest_new : (last : Bool) (fs : List FlatRule) (more : List ℕ) → HasNewItemsFrom (setting env t bs) more (rest_of false fs) → HasNewItemsFrom (setting env t bs) more (rest_of last fs)
-  rest_new true fs more h = tt
-  rest_new false fs more h = h
-
-  steps_new : (fs : List FlatRule) (more : List ℕ) → Covers bs [] more → AllByRecursion (IsSerializableRule env t (paths_of bs)) fs → (Several → AllByRecursion (HasCallsOnce env (paths_of bs)) fs) → HasNewItemsFrom (setting env t bs) more (rest_of false fs)
-  steps_new [] more cover h calls = tt
-  steps_new (f ∷ fs) more cover h calls =
-      let step = rule_step several bs (shows found counts inners) next items f in
-      let good = rule_new f h.0 (λ several'. (calls several').0) in
-      let after = bound_by more step.0 in
-      ((good.items more cover).0, rest_new (not several && no_tests f.constraints f.equals) fs after (steps_new fs after (covers_plain bs step.0 [] more good.plain cover) h.1 (λ several'. (calls several').1)))
-
-  pub chain_new : (fs : List FlatRule) → AllByRecursion (IsSerializableRule env t (paths_of bs)) fs → (Several → AllByRecursion (HasCallsOnce env (paths_of bs)) fs) → HasNewItems (setting env t bs) (chain several bs (shows found counts inners) next items fs)
-  chain_new fs h calls = steps_new (by_priority fs) [] (λ n k. inl k) (all_in_order (IsSerializableRule env t (paths_of bs)) fs h) (λ several'. all_in_order (HasCallsOnce env (paths_of bs)) fs (calls several'))

@@ -38,7 +38,7 @@ covers_push bs bound more k h n c = ⊎_elim
     (λ e. inl (subst (Contains (bound ++ k ∷ [])) e (Contains-push bound k)))
     (Contains-push_cases more k n c)
 
-covers_by : (bs : List Binding) (order : List BindingId) (bound more : List ℕ) → Covers bs bound more → Covers bs (bound_by bound order) (bound_by more order)
+pub covers_by : (bs : List Binding) (order : List BindingId) (bound more : List ℕ) → Covers bs bound more → Covers bs (bound_by bound order) (bound_by more order)
 covers_by bs [] bound more h = h
 covers_by bs (b ∷ order) bound more h = covers_by bs order (bound ++ b.0 ∷ []) (more ++ b.0 ∷ []) (covers_push bs bound more b.0 h)
 

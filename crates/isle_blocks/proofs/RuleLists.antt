@@ -51,10 +51,6 @@ abbrev pub matched_lists : List Binding → Shows → List (BindingId × Constra
 matched_lists bs shows [] last bound = last bound
 matched_lists bs shows (c ∷ cs) last bound = loops bs (needs bs bound (c.0 ∷ [])) ++ matched_lists bs shows cs last (bound_within (bound_by bound (needs bs bound (c.0 ∷ []))) (shows c.0 c.1))
 
--- those of a rule
-abbrev pub rule_lists : List Binding → Shows → (items : ℕ → Option BindingId) → FlatRule → List Path
-rule_lists bs shows items f = matched_lists bs shows f.constraints (equated_lists bs f.equals (last_lists bs items f)) []
-
 -- ---- lists that hold no impure call
 
 abbrev pub early_of : Environment → List Path → List Path

@@ -1,7 +1,7 @@
--- The step of a rule of a term that answers several times adds what the rule adds over its lists.
+-- What tests, lists and calls of a rule of a term that answers several times add, after others.
 use Rattle.std.proofs.Common.{◌≡◌, ◌⊎◌, inl, inr, ⊎_elim, ℕ, List, [], ◌∷◌, ◌++◌, Bool, true, false, cond, ◌&&◌, Option, Some, None, map, refl, sym, ap, ◌∙◌, subst, zero, suc, get_or, take}
 use Rattle.std.specs.Prelude.{slice_get, Contains}
-use Rattle.std.specs.List.{AllByRecursion, list_all}
+use Rattle.std.specs.List.{AllByRecursion}
 use Rattle.std.proofs.lemmas.List.{append-nil}
 use Rattle.isle_core.specs.declared.BindingId.{BindingId}
 use Rattle.isle_core.specs.declared.rule_sets.Binding.{Binding}
@@ -15,13 +15,13 @@ use Rattle.isle_core.specs.Bindable.{bound_by}
 use Rattle.isle_core.specs.Block.{Control, Match, Equal, Return, Arm, NoArm}
 use Rattle.isle_core.specs.BlockViews.{SeenStep}
 use Rattle.isle_core.specs.Calling.{kind_of, is_several}
-use Rattle.isle_core.specs.Choices.{each_choice, flat_adds}
+use Rattle.isle_core.specs.Choices.{each_choice}
 use Rattle.isle_core.specs.HoldsImpure.{holds_impure}
 use Rattle.isle_core.specs.Meaning.{Meaning}
 use Rattle.isle_core.specs.Parts.{Given}
 use Rattle.isle_core.specs.Path.{Path, Nowhere, Chosen, at, paths_of}
 use Rattle.isle_core.specs.Rule.{Environment}
-use Rattle.isle_core.specs.RuleSet.{is_test, equal_test, flat_tests}
+use Rattle.isle_core.specs.RuleSet.{is_test, equal_test}
 use Rattle.isle_core.specs.Serializable.{StandsOn, AreTestable, AreComparable, IsSerializableList, constraint_tests, IsSerializableRule}
 use Rattle.isle_core.specs.Setting.{setting}
 use Rattle.isle_core.specs.SeveralRun.{choosing, several_run, several_control}
@@ -32,22 +32,20 @@ use Rattle.isle_core.specs.Value.{Value}
 use Rattle.isle_core.specs.ValueAt.{Known, value_at, holds, all_hold, equal_held, meets}
 use Rattle.isle_core.specs.ListOrder.{ListsWithin, AreListsInOrder}
 use Rattle.isle_core.proofs.Contained.{head_contained, tail_contained, none_contained, contained_cases}
-use Rattle.isle_core.proofs.TakenItems.{by_truth}
 use Rattle.isle_core.proofs.TestsOut.{test_out}
 use Rattle.isle_blocks.specs.Followers.{FindsInners, FindsItems}
 use Rattle.isle_blocks.specs.declared.fields.Shown.{Shown}
 use Rattle.isle_blocks.specs.Fields.{FieldKey, FindsFields, shows}
 use Rattle.isle_blocks.specs.Needed.{is_bound, needs}
-use Rattle.isle_blocks.specs.Nest.{Behind, alone, opening, opened, binds, left_calls, left_item, items_left, left_items, behind_lists, last_step, all_matched, all_equated, rule_step}
-use Rattle.isle_blocks.specs.Added.{AreEarlyLists}
+use Rattle.isle_blocks.specs.Nest.{Behind, alone, opening, opened, binds, left_calls, left_item, items_left, left_items, behind_lists, last_step, all_matched, all_equated}
 use Rattle.isle_blocks.specs.Several.{HasItsLists}
 use Rattle.isle_blocks.proofs.FieldPlaces.{AreFieldsTyped}
 use Rattle.isle_blocks.proofs.FreshLists.{ordered_plain}
 use Rattle.isle_blocks.proofs.ItemPaths.{item_path}
 use Rattle.isle_blocks.proofs.LawBound.{came_behind, came_holds, came_from, stands_more, binds_all}
-use Rattle.isle_blocks.proofs.LawSerializable.{bound_has, list_there, left_ready, behind_still, test_ready, within_arm, came_within}
-use Rattle.isle_blocks.proofs.ListsRead.{need_lists, loops, came_append, order_append, HasOpened, opened_none, opened_push, read_within, OpensOrder, order_opens}
-use Rattle.isle_blocks.proofs.MadeBefore.{IsWithin, within_none, within_needs, was_tested}
+use Rattle.isle_blocks.proofs.LawSerializable.{bound_has, list_there, left_ready, behind_still, test_ready, within_arm}
+use Rattle.isle_blocks.proofs.ListsRead.{need_lists, loops, came_append, order_append, HasOpened, opened_push, read_within, OpensOrder, order_opens}
+use Rattle.isle_blocks.proofs.MadeBefore.{IsWithin, within_needs, was_tested}
 use Rattle.isle_blocks.proofs.MoreBound.{by_kept}
 use Rattle.isle_core.proofs.BindingPaths.{at_before}
 use Rattle.isle_blocks.proofs.OrderItems.{NeedLists}
@@ -58,20 +56,12 @@ use Rattle.isle_blocks.proofs.Openable.{AreOpenable}
 use Rattle.isle_blocks.proofs.OpenedRuns.{choosing_within, ReadsOnly, order_free, each_append, each_same, order_run}
 use Rattle.isle_blocks.proofs.OrderedPlain.{no_items, items_made, early_made, late_made, binds_plain}
 use Rattle.isle_blocks.proofs.PartRuns.{ordered_run}
-use Rattle.isle_blocks.proofs.RuleLists.{Within, last_lists, equated_lists, matched_lists, rule_lists, early_of, early_in, early_from, all_opened}
+use Rattle.isle_blocks.proofs.RuleLists.{Within, last_lists, equated_lists, matched_lists, early_of, early_in, early_from, all_opened}
 
 -- tests after one another
 and_cond : (a b : Bool) (x g : Given) → cond a (cond b x g) g ≡ cond (a && b) x g
 and_cond true b x g = refl
 and_cond false b x g = refl
-
-both_true : (a b : Bool) → (a && b) ≡ true → (a ≡ true) × (b ≡ true)
-both_true true b e = (refl, e)
-both_true false b e = cc
-
-all_first : (p : Test → Bool) (xs ys : List Test) → list_all p (xs ++ ys) ≡ true → list_all p xs ≡ true
-all_first p [] ys e = refl
-all_first p (x ∷ xs) ys e = let r = both_true (p x) (list_all p (xs ++ ys)) e in ap (λ b. b && list_all p xs) r.0 ∙ all_first p xs ys r.1
 
 module _ (env : Environment) (t : Term) (bs : List Binding) (found : FieldKey → Option BindingId) (counts : Shown → Option ℕ) (inners next items : ℕ → Option BindingId) (is : is_several (kind_of t.kind) ≡ true) (finds : FindsFields bs found counts)
     (found_inners : FindsInners bs inners) (found_items : FindsItems bs items) (found_next : FindsNext bs next) (once : EachOnce (paths_of bs)) (typed : AreFieldsTyped env t bs) (fits : (p : Path) → Contains (paths_of bs) (Chosen p) → is_several (kind_of t.kind) ≡ true)
@@ -147,7 +137,7 @@ module _ (env : Environment) (t : Term) (bs : List Binding) (found : FieldKey �
     pub opens : HasOpened bs bound opened'
     pub each : (q : Path) → Contains opened' q → Contains early q
 
-  all_contained : (qs : List Path) → AllByRecursion (Contains early) qs → (q : Path) → Contains qs q → Contains early q
+  pub all_contained : (qs : List Path) → AllByRecursion (Contains early) qs → (q : Path) → Contains qs q → Contains early q
   all_contained [] k q c = absurd (none_contained q c)
   all_contained (p ∷ qs) k q c = ⊎_elim (λ (e : p ≡ q). subst (Contains early) e k.0) (λ j. all_contained qs k.1 q j) (contained_cases p qs q c)
 
@@ -165,10 +155,10 @@ module _ (env : Environment) (t : Term) (bs : List Binding) (found : FieldKey �
   -- ---- equalities
 
   -- what stands inside tests
-  abbrev Inside : (behind left : List Test) → Behind → Within → Type 0
+  abbrev pub Inside : (behind left : List Test) → Behind → Within → Type 0
   Inside behind left inner after = (bound : List ℕ) (opened' : List Path) → IsAt behind bound opened' → Adds opened' (inner bound) left (after bound)
 
-  equated_adds : (es : List (BindingId × BindingId)) (last : Behind) (after : Within) → Inside tests [] last after → AllByRecursion (AreComparable env t ps tests) es → AllByRecursion (λ (e : BindingId × BindingId). ListsWithin all (at ps e.0) × ListsWithin all (at ps e.1)) es
+  pub equated_adds : (es : List (BindingId × BindingId)) (last : Behind) (after : Within) → Inside tests [] last after → AllByRecursion (AreComparable env t ps tests) es → AllByRecursion (λ (e : BindingId × BindingId). ListsWithin all (at ps e.0) × ListsWithin all (at ps e.1)) es
       → Inside tests (map (equal_test ps) es) (all_equated true bs es last) (equated_lists bs es after)
   equated_adds [] last after inside ready within bound opened' k = inside bound opened' k
   equated_adds (e ∷ es) last after inside ready within bound opened' k =
@@ -205,7 +195,7 @@ module _ (env : Environment) (t : Term) (bs : List Binding) (found : FieldKey �
   parts_opened opened' part ok (None ∷ places) i bound are k = parts_opened opened' part ok places (suc i) bound are.1 k
   parts_opened opened' part ok (Some b ∷ places) i bound are k = parts_opened opened' part ok places (suc i) (bound ++ b.0 ∷ []) are.1 (opened_push bs bound opened' b k (ok i b are.0))
 
-  places_opened : (opened' : List Path) (source : BindingId) (c : Constraint) (places : List (Option BindingId)) (bound : List ℕ) → ListsWithin opened' (at ps source) → ArePlacesOf (setting env t bs) source c places → HasOpened bs bound opened' → HasOpened bs (bound_within bound places) opened'
+  pub places_opened : (opened' : List Path) (source : BindingId) (c : Constraint) (places : List (Option BindingId)) (bound : List ℕ) → ListsWithin opened' (at ps source) → ArePlacesOf (setting env t bs) source c places → HasOpened bs bound opened' → HasOpened bs (bound_within bound places) opened'
   places_opened opened' source (constraint.Variant ty variant) places bound within are k =
       parts_opened opened' (λ i. binding.MatchVariant source variant (record { 0 = i }))
       (λ i b e. subst (ListsWithin opened') (sym (at_before bs b (binding.MatchVariant source variant (record { 0 = i })) e)) (source_within opened' source b within)) places 0 bound are.1 k
@@ -218,7 +208,7 @@ module _ (env : Environment) (t : Term) (bs : List Binding) (found : FieldKey �
   places_opened opened' source (constraint.ConstInt val ty) places bound within are k = subst (λ xs. HasOpened bs (bound_within bound xs) opened') (sym are) k
   places_opened opened' source (constraint.ConstPrim val) places bound within are k = subst (λ xs. HasOpened bs (bound_within bound xs) opened') (sym are) k
 
-  matched_adds : (cs : List (BindingId × Constraint)) (before left : List Test) (inner : Behind) (after : Within) → Inside (came_behind before (map (is_test ps) cs)) left inner after → AreTestable env t ps before cs
+  pub matched_adds : (cs : List (BindingId × Constraint)) (before left : List Test) (inner : Behind) (after : Within) → Inside (came_behind before (map (is_test ps) cs)) left inner after → AreTestable env t ps before cs
       → AllByRecursion (λ (c : BindingId × Constraint). ListsWithin all (at ps c.0)) cs → Inside before (map (is_test ps) cs ++ left) (all_matched true bs (shows found counts inners) cs inner) (matched_lists bs (shows found counts inners) cs after)
   matched_adds [] before left inner after inside ready within bound opened' k = inside bound opened' k
   matched_adds (c ∷ cs) before left inner after inside ready within bound opened' k =
@@ -287,7 +277,7 @@ module _ (env : Environment) (t : Term) (bs : List Binding) (found : FieldKey �
       ordered_run env t m args bs next found_next once tests known bound opened' k.opens (was_tested env bs next tests bound k.within.tested) holds' (λ q c. (early_from env all q (k.each q c)).1) f.pos f.result
       ns r.still none f.ordered bound [] h.calls (ordered_plain env t tests bs f.ordered h.calls) still.0 plain lists.ordered.once (λ q c d. none_contained q c) (λ q c e. lists.ordered.late q c e) known g (record { answers = λ n a e. e; choice = λ q c. refl })
 
-  last_adds : Inside tests [] (last_step true bs next items f) (last_lists bs items f)
+  pub last_adds : Inside tests [] (last_step true bs next items f) (last_lists bs items f)
   last_adds bound opened' k =
       let ns = needs bs bound (left_items true items f) in
       let behind = bound_by bound ns in
@@ -304,33 +294,4 @@ module _ (env : Environment) (t : Term) (bs : List Binding) (found : FieldKey �
         order' = opens.order';
         each = opens.each;
         ends = ends;
-      }
-
-  -- ---- the rule
-
-  rule_adds : Adds [] (rule_step true bs (shows found counts inners) next items f) (flat_tests ps f) (rule_lists bs (shows found counts inners) items f)
-  rule_adds =
-      matched_adds f.constraints [] (map (equal_test ps) f.equals) (all_equated true bs f.equals (last_step true bs next items f)) (equated_lists bs f.equals (last_lists bs items f))
-      (λ bound opened' k. equated_adds f.equals (last_step true bs next items f) (last_lists bs items f) last_adds h.equals lists.equals bound opened'
-      (record { within = came_within true env t bs found counts inners next items is finds found_inners found_items found_next once typed fits ps f bound k.within; opens = k.opens; each = k.each }))
-      h.constraints lists.tests [] [] (record { within = within_none env ps; opens = opened_none bs; each = λ q c. absurd (none_contained q c) })
-
-  -- its step adds what it adds over its lists
-  pub rule_run : (m : Meaning) (args : List Value) (known : Known) (g : Given)
-      → several_run env m args ps (alone (rule_step true bs (shows found counts inners) next items f)) known g ≡ each_choice env m args (rule_lists bs (shows found counts inners) items f) known g (flat_adds env m args ps f)
-  rule_run m args known g =
-      let qs = rule_lists bs (shows found counts inners) items f in
-      rule_adds.run m args known g
-      ∙ each_same env m args qs known g (λ now so. cond (all_at m args now (flat_tests ps f)) (rule_adds.adds m args now so) so) (flat_adds env m args ps f)
-      (λ now so. by_truth (all_at m args now (flat_tests ps f))
-      (λ yes. ap (λ x. cond (all_at m args now (flat_tests ps f)) x so) (rule_adds.same m args now so (all_first (holds_at m args now) tests (map (equal_test ps) f.equals) yes)))
-      (λ fails. ap (λ b. cond b (rule_adds.adds m args now so) so) fails ∙ sym (ap (λ b. cond b (flat_part env m args ps f now so) so) fails)))
-
-  -- these are its lists that hold no impure call
-  pub rule_early : AreEarlyLists env ps f (rule_lists bs (shows found counts inners) items f)
-  rule_early =
-      let qs = rule_lists bs (shows found counts inners) items f in
-      record {
-        order = rule_adds.order';
-        early = λ q. (λ c. early_from env all q (all_contained qs rule_adds.each q c), λ k. ⊎_elim (λ none. absurd (none_contained q none)) (λ j. j) (came_from [] qs q (rule_adds.ends q (early_in env all q k.0 k.1))));
       }

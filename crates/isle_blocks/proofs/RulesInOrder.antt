@@ -1,4 +1,4 @@
--- Rules in order are the same rules, and what goes with them is put in their order.
+-- Rules in order are the same rules.
 use Rattle.std.proofs.Common.{subst, ◌≡◌, ◌⊎◌, inl, inr, ⊎_elim, ℕ, List, [], ◌∷◌, ◌++◌, Bool, true, false, cond, map, refl, sym, ap, ◌∙◌}
 use Rattle.std.specs.Prelude.{Contains}
 use Rattle.std.specs.Ordering.{int_cmp, is_lt}
@@ -106,61 +106,8 @@ pub in_order_keeps : (fs : List FlatRule) (f : FlatRule) → Contains fs f → C
 in_order_keeps [] f c = c
 in_order_keeps (g ∷ fs) f c = insert_keeps g f (by_priority fs) (⊎_elim (λ e. inl e) (λ j. inr (in_order_keeps fs f j)) (contained_cases g fs f c))
 
--- ---- what goes with rules
+-- ---- a map that keeps priorities
 
--- rules with something beside each, in the order of the rules
-module _ {A : Type 0} (rule_of : A → FlatRule) where
-  -- one after the higher ones, and before all others
-  abbrev pub insert_by : A → List A → List A
-  insert_by x [] = x ∷ []
-  insert_by x (y ∷ ys) = cond (is_above (rule_of y) (rule_of x)) (y ∷ insert_by x ys) (x ∷ y ∷ ys)
-
-  abbrev pub order_by : List A → List A
-  order_by [] = []
-  order_by (x ∷ xs) = insert_by x (order_by xs)
-
-  insert_of : (x : A) (ys : List A) → map rule_of (insert_by x ys) ≡ insert_rule (rule_of x) (map rule_of ys)
-  insert_of x [] = refl
-  insert_of x (y ∷ ys) = pick (is_above (rule_of y) (rule_of x)) (insert_of x ys)
-    where
-      pick : (b : Bool) → map rule_of (insert_by x ys) ≡ insert_rule (rule_of x) (map rule_of ys)
-          → map rule_of (cond b (y ∷ insert_by x ys) (x ∷ y ∷ ys)) ≡ cond b (rule_of y ∷ insert_rule (rule_of x) (map rule_of ys)) (rule_of x ∷ rule_of y ∷ map rule_of ys)
-      pick true e = ap (λ zs. rule_of y ∷ zs) e
-      pick false e = refl
-
-  -- their rules are the rules in order
-  pub order_of : (xs : List A) → map rule_of (order_by xs) ≡ by_priority (map rule_of xs)
-  order_of [] = refl
-  order_of (x ∷ xs) = insert_of x (order_by xs) ∙ ap (insert_rule (rule_of x)) (order_of xs)
-
-  pub insert_by_has : (x y : A) (ys : List A) → Contains (insert_by x ys) y → (x ≡ y) ⊎ Contains ys y
-  insert_by_has x y [] c = contained_cases x [] y c
-  insert_by_has x y (z ∷ ys) c = pick (is_above (rule_of z) (rule_of x)) c (λ j. insert_by_has x y ys j)
-    where
-      pick : (b : Bool) → Contains (cond b (z ∷ insert_by x ys) (x ∷ z ∷ ys)) y → (Contains (insert_by x ys) y → (x ≡ y) ⊎ Contains ys y) → (x ≡ y) ⊎ Contains (z ∷ ys) y
-      pick true k more = ⊎_elim (λ e. inr (subst (Contains (z ∷ ys)) e (head_contained z ys))) (λ j. ⊎_elim (λ e. inl e) (λ i. inr (tail_contained z ys y i)) (more j)) (contained_cases z (insert_by x ys) y k)
-      pick false k more = contained_cases x (z ∷ ys) y k
-
-  -- and none is lost or new
-  pub order_by_has : (xs : List A) (x : A) → Contains (order_by xs) x → Contains xs x
-  order_by_has [] x c = c
-  order_by_has (y ∷ xs) x c = ⊎_elim (λ e. subst (Contains (y ∷ xs)) e (head_contained y xs)) (λ j. tail_contained y xs x (order_by_has xs x j)) (insert_by_has y x (order_by xs) c)
-
-  insert_by_keeps : (x y : A) (ys : List A) → (x ≡ y) ⊎ Contains ys y → Contains (insert_by x ys) y
-  insert_by_keeps x y [] c = ⊎_elim (λ e. subst (Contains (x ∷ [])) e (head_contained x [])) (λ j. absurd (none_contained y j)) c
-  insert_by_keeps x y (z ∷ ys) c = pick (is_above (rule_of z) (rule_of x)) (λ j. insert_by_keeps x y ys j)
-    where
-      pick : (b : Bool) → ((x ≡ y) ⊎ Contains ys y → Contains (insert_by x ys) y) → Contains (cond b (z ∷ insert_by x ys) (x ∷ z ∷ ys)) y
-      pick true more =
-          ⊎_elim (λ e. tail_contained z (insert_by x ys) y (more (inl e)))
-          (λ j. ⊎_elim (λ e. subst (Contains (z ∷ insert_by x ys)) e (head_contained z (insert_by x ys))) (λ i. tail_contained z (insert_by x ys) y (more (inr i))) (contained_cases z ys y j)) c
-      pick false more = ⊎_elim (λ e. subst (Contains (x ∷ z ∷ ys)) e (head_contained x (z ∷ ys))) (λ j. tail_contained x (z ∷ ys) y j) c
-
-  pub order_by_keeps : (xs : List A) (x : A) → Contains xs x → Contains (order_by xs) x
-  order_by_keeps [] x c = c
-  order_by_keeps (y ∷ xs) x c = insert_by_keeps y x (order_by xs) (⊎_elim (λ e. inl e) (λ j. inr (order_by_keeps xs x j)) (contained_cases y xs x c))
-
--- a map that keeps priorities
 same_above : (f g h k : FlatRule) → f.prio ≡ h.prio → g.prio ≡ k.prio → is_above f g ≡ is_above h k
 same_above f g h k e d = ap (λ p. is_lt (int_cmp g.prio p)) e ∙ ap (λ p. is_lt (int_cmp p h.prio)) d
 

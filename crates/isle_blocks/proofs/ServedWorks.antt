@@ -1,5 +1,5 @@
 -- The block of a term that answers several times gives what the term's rules prescribe.
-use Rattle.std.proofs.Common.{◌≡◌, ⊎_elim, ℕ, suc, ◌+◌, ◌<◌, ◌≤◌, List, [], ◌∷◌, ◌++◌, map, Bool, true, false, cond, Option, Some, None, refl, sym, ap, ◌∙◌, subst, arith}
+use Rattle.std.proofs.Common.{◌≡◌, ⊎_elim, ℕ, suc, ◌+◌, ◌<◌, ◌≤◌, List, [], ◌∷◌, ◌++◌, map, Option, Some, None, refl, sym, ap, ◌∙◌, subst, arith}
 use Rattle.std.specs.Prelude.{Contains}
 use Rattle.std.specs.List.{AllByRecursion}
 use Rattle.std.proofs.lemmas.List.Elements.{Contains-append_left, Contains-append_right, Contains-append_cases}
@@ -12,6 +12,7 @@ use Rattle.isle_core.specs.BuiltRule.{IsBuiltRule, CallsBuiltTerms}
 use Rattle.isle_core.specs.CalledTerms.{called_by, called_in, extracted_in, called_in_iflets, called}
 use Rattle.isle_core.specs.Calling.{Calling, ByTurns, ByCases, NoCall, HasKind, impure}
 use Rattle.isle_core.specs.Choices.{each_choice, flat_adds}
+use Rattle.isle_core.specs.HasType.{HaveTypes}
 use Rattle.isle_core.specs.Lawful.{called_as}
 use Rattle.isle_core.specs.Meaning.{Meaning}
 use Rattle.isle_core.specs.Occurrences.{occurrence_at, occurrences}
@@ -19,6 +20,7 @@ use Rattle.isle_core.specs.OccurringConstants.{expr_constants, args_constants, i
 use Rattle.isle_core.specs.Pairs.{Placed, placed, PrescribesSeveral}
 use Rattle.isle_core.specs.Parts.{Given, nothing_given}
 use Rattle.isle_core.specs.Path.{Path, at, paths_of}
+use Rattle.isle_core.specs.PatternType.{AreVariantsApart}
 use Rattle.isle_core.specs.Rule.{Environment, Rule}
 use Rattle.isle_core.specs.Scope.{IsScopedRule, all_variables, iflets_scope}
 use Rattle.isle_core.specs.Serializable.{occurrences_of}
@@ -42,78 +44,90 @@ use Rattle.isle_core.proofs.PlacedVariables.{rule_placed}
 use Rattle.isle_core.proofs.RulePairs.{IsWork, all_from, all_at}
 use Rattle.isle_core.proofs.SetMeans.{first_served, patterns_served, conditions_served, has_some}
 use Rattle.isle_core.proofs.WorksApart.{IsOwn, IsUnmade, work_apart}
-use Rattle.isle_blocks.specs.Added.{AreEarlyLists, flats_add, KnowsOnly, AddAnew, AddsSeveral}
-use Rattle.isle_blocks.specs.Order.{is_above, by_priority}
-use Rattle.isle_blocks.proofs.RulesInOrder.{insert_by, order_by, order_of, insert_by_has, order_by_has, order_by_keeps}
+use Rattle.isle_blocks.specs.Added.{AreEarlyLists, Over, rules_over, flats_add, KnowsOnly, AddAnew, AddsSeveral}
+use Rattle.isle_blocks.specs.Reordered.{PutIn, here, later, IsReordered, nothing, more}
+use Rattle.isle_blocks.proofs.Reorders.{put_all, reorder_all, reorder_has, reorder_keeps, Beside, reorder_beside}
 
--- ---- lists
+-- ---- works over lists
 
--- a list that maps to two parts has two
-record SplitWorks (ws : List Work) (fs : List FlatRule) (f : FlatRule) : Type 0 where
+-- a work over these lists
+abbrev with_lists : Work → List Path → Work
+with_lists w qs = record { of = w.of; flat = w.flat; lists = qs }
+
+-- works over the lists of rules in order
+abbrev over : List Work → List Over → List Work
+over [] [] = []
+over [] (x ∷ xs) = []
+over (w ∷ ws) [] = []
+over (w ∷ ws) (x ∷ xs) = with_lists w x.lists ∷ over ws xs
+
+abbrev flats_of : List Work → List FlatRule
+flats_of ws = map (λ (w : Work). w.flat) ws
+
+-- each is one of the works
+over_from : (ws : List Work) (xs : List Over) (w : Work) → Contains (over ws xs) w → (v : Work) × Contains ws v × (v.of ≡ w.of)
+over_from [] [] w c = absurd (none_contained w c)
+over_from [] (x ∷ xs) w c = absurd (none_contained w c)
+over_from (v ∷ ws) [] w c = absurd (none_contained w c)
+over_from (v ∷ ws) (x ∷ xs) w c =
+    ⊎_elim (λ (e : with_lists v x.lists ≡ w). (v, head_contained v ws, ap (λ (y : Work). y.of) e))
+    (λ d. let r = over_from ws xs w d in (r.0, Contains-append_right (v ∷ []) ws r.0 r.1, r.2)) (contained_cases (with_lists v x.lists) (over ws xs) w c)
+
+-- and each of the works is there
+over_has : (ws : List Work) (xs : List Over) (v : Work) → flats_of ws ≡ rules_over xs → Contains ws v → (w : Work) × Contains (over ws xs) w × (w.of ≡ v.of)
+over_has [] xs v e c = absurd (none_contained v c)
+over_has (w ∷ ws) [] v e c = absurd cc
+over_has (w ∷ ws) (x ∷ xs) v e c =
+    let first = with_lists w x.lists in
+    let tail : flats_of ws ≡ rules_over xs = cc in
+    ⊎_elim (λ (is : w ≡ v). (first, head_contained first (over ws xs), ap (λ (y : Work). y.of) is))
+    (λ d. let r = over_has ws xs v tail d in (r.0, Contains-append_right (first ∷ []) (over ws xs) r.0 r.1, r.2)) (contained_cases w ws v c)
+
+-- works over lists up to one, that one, and those after it
+record SplitWorks (ws : List Work) (xs : List Over) (x : Over) : Type 0 where
   front : List Work
-  here : Work
+  here' : Work
   behind : List Work
-  are : ws ≡ front ++ here ∷ behind
-  fronts : map (λ (w : Work). w.flat) front ≡ fs
-  flat : here.flat ≡ f
+  are : ws ≡ front ++ here' ∷ behind
+  fronts : flats_of front ≡ rules_over xs
+  flat : here'.flat ≡ x.rule
+  lists : here'.lists ≡ x.lists
 
-split_works : (ws : List Work) (fs : List FlatRule) (f : FlatRule) (gs : List FlatRule) → map (λ (w : Work). w.flat) ws ≡ fs ++ f ∷ gs → SplitWorks ws fs f
-split_works [] [] f gs e = cc
-split_works [] (x ∷ fs) f gs e = cc
-split_works (w ∷ ws) [] f gs e = record { front = []; here = w; behind = ws; are = refl; fronts = refl; flat = first_same w.flat f (map (λ (v : Work). v.flat) ws) gs e }
+split_works : (ws : List Work) (xs : List Over) (x : Over) (ys : List Over) → flats_of ws ≡ rules_over (xs ++ x ∷ ys) → SplitWorks (over ws (xs ++ x ∷ ys)) xs x
+split_works [] [] x ys e = absurd cc
+split_works [] (u ∷ xs) x ys e = absurd cc
+split_works (w ∷ ws) [] x ys e = let head : w.flat ≡ x.rule = cc in record { front = []; here' = with_lists w x.lists; behind = over ws ys; are = refl; fronts = refl; flat = head; lists = refl }
+split_works (w ∷ ws) (u ∷ xs) x ys e = let head : w.flat ≡ u.rule = cc in let tail : flats_of ws ≡ rules_over (xs ++ x ∷ ys) = cc in longer (over ws (xs ++ x ∷ ys)) (with_lists w u.lists) head (split_works ws xs x ys tail)
   where
-    first_same : (x y : FlatRule) (xs ys : List FlatRule) → x ∷ xs ≡ y ∷ ys → x ≡ y
-    first_same x y xs ys e' = cc
-split_works (w ∷ ws) (x ∷ fs) f gs e = longer (split_works ws fs f gs (rest_same w.flat x (map (λ (v : Work). v.flat) ws) (fs ++ f ∷ gs) e))
-  where
-    rest_same : (x y : FlatRule) (xs ys : List FlatRule) → x ∷ xs ≡ y ∷ ys → xs ≡ ys
-    rest_same x y xs ys e' = cc
-
-    head_same : (x y : FlatRule) (xs ys : List FlatRule) → x ∷ xs ≡ y ∷ ys → x ≡ y
-    head_same x y xs ys e' = cc
-
-    longer : SplitWorks ws fs f → SplitWorks (w ∷ ws) (x ∷ fs) f
-    longer s = record {
-      front = w ∷ s.front;
-      here = s.here;
+    longer : (vs : List Work) (v : Work) → v.flat ≡ u.rule → SplitWorks vs xs x → SplitWorks (v ∷ vs) (u ∷ xs) x
+    longer vs v head s = record {
+      front = v ∷ s.front;
+      here' = s.here';
       behind = s.behind;
-      are = ap (λ vs. w ∷ vs) s.are;
-      fronts = ap (λ y. y ∷ map (λ (v : Work). v.flat) s.front) (head_same w.flat x (map (λ (v : Work). v.flat) ws) (fs ++ f ∷ gs) e) ∙ ap (λ ys. x ∷ ys) s.fronts;
+      are = ap (λ ys'. v ∷ ys') s.are;
+      fronts = ap (λ f. f ∷ flats_of s.front) head ∙ ap (λ fs. u.rule ∷ fs) s.fronts;
       flat = s.flat;
+      lists = s.lists;
     }
 
--- ---- by priority
+-- ---- works of different rules
 
--- works in the order of their flat rules
-abbrev insert_work : Work → List Work → List Work
-insert_work w vs = insert_by (λ (x : Work). x.flat) w vs
+over_apart : (ws : List Work) (xs : List Over) → AreWorksApart ws → AreWorksApart (over ws xs)
+over_apart [] [] h = tt
+over_apart [] (x ∷ xs) h = tt
+over_apart (w ∷ ws) [] h = tt
+over_apart (w ∷ ws) (x ∷ xs) h = (
+  all_from (λ (v : Work). w.of ≡ v.of → ⊥) (over ws xs) (λ v c same. let r = over_from ws xs v c in all_at (λ (y : Work). w.of ≡ y.of → ⊥) ws r.0 h.0 r.1 (same ∙ sym r.2)),
+  over_apart ws xs h.1,
+)
 
-abbrev sort_works : List Work → List Work
-sort_works ws = order_by (λ (x : Work). x.flat) ws
+put_apart : (w : Work) (ys zs : List Work) → PutIn w ys zs → AllByRecursion (λ (v : Work). w.of ≡ v.of → ⊥) ys → AreWorksApart ys → AreWorksApart zs
+put_apart w ys zs (here ys') new h = (new, h)
+put_apart w ys zs (later y ys' zs' k) new h = (put_all (λ (v : Work). y.of ≡ v.of → ⊥) w ys' zs' k (λ same. new.0 (sym same)) h.0, put_apart w ys' zs' k new.1 h.1)
 
-sorted_flats : (ws : List Work) → map (λ (x : Work). x.flat) (sort_works ws) ≡ by_priority (map (λ (x : Work). x.flat) ws)
-sorted_flats ws = order_of (λ (x : Work). x.flat) ws
-
-sorted_from : (ws : List Work) (x : Work) → Contains (sort_works ws) x → Contains ws x
-sorted_from ws x c = order_by_has (λ (y : Work). y.flat) ws x c
-
-sorted_has : (ws : List Work) (x : Work) → Contains ws x → Contains (sort_works ws) x
-sorted_has ws x c = order_by_keeps (λ (y : Work). y.flat) ws x c
-
-inserted_apart : (w : Work) (vs : List Work) → AllByRecursion (λ (v : Work). w.of ≡ v.of → ⊥) vs → AreWorksApart vs → AreWorksApart (insert_work w vs)
-inserted_apart w [] new h = (tt, tt)
-inserted_apart w (v ∷ vs) new h = pick (is_above v.flat w.flat) (inserted_apart w vs new.1 h.1)
-  where
-    pick : (b : Bool) → AreWorksApart (insert_work w vs) → AreWorksApart (cond b (v ∷ insert_work w vs) (w ∷ v ∷ vs))
-    pick true rest = (
-      all_from (λ (x : Work). v.of ≡ x.of → ⊥) (insert_work w vs) (λ x c. ⊎_elim (λ (e : w ≡ x). λ same. new.0 (ap (λ (y : Work). y.of) e ∙ sym same)) (λ d. all_at (λ (x : Work). v.of ≡ x.of → ⊥) vs x h.0 d) (insert_by_has (λ (y : Work). y.flat) w x vs c)),
-      rest,
-    )
-    pick false rest = (new, h)
-
-sorted_apart : (ws : List Work) → AreWorksApart ws → AreWorksApart (sort_works ws)
-sorted_apart [] h = tt
-sorted_apart (w ∷ ws) h = inserted_apart w (sort_works ws) (all_from (λ (v : Work). w.of ≡ v.of → ⊥) (sort_works ws) (λ x c. all_at (λ (v : Work). w.of ≡ v.of → ⊥) ws x h.0 (sorted_from ws x c))) (sorted_apart ws h.1)
+reorder_apart : (xs ys : List Work) → IsReordered xs ys → AreWorksApart xs → AreWorksApart ys
+reorder_apart xs ys nothing h = tt
+reorder_apart xs ys (more x xs' ys' ys'' k i) h = put_apart x ys' ys i (reorder_all (λ (v : Work). x.of ≡ v.of → ⊥) xs' ys' k h.0) (reorder_apart xs' ys' k h.1)
 
 -- those before and after one are other rules'
 front_apart : (front : List Work) (w : Work) (behind : List Work) → AreWorksApart (front ++ w ∷ behind) → (v : Work) → Contains front v → v.of ≡ w.of → ⊥
@@ -124,9 +138,10 @@ front_apart (x ∷ front) w behind h v c same =
 
 -- ---- the works of rules
 
-module _ (env : Environment) (m : Meaning) (args : List Value) (tys : List TypeId) (ps : List Path) (lists : FlatRule → List Path) where
+module _ (env : Environment) (m : Meaning) (args : List Value) (tys : List TypeId) (ps : List Path) where
+  -- over no lists yet
   abbrev work_of : Rule → ℕ → ℕ → FlatRule → Work
-  work_of r n k f = record { of = record { rule = r; before = n; place = k }; flat = f; lists = lists f }
+  work_of r n k f = record { of = record { rule = r; before = n; place = k }; flat = f; lists = [] }
 
   abbrev works_of : List Rule → List FlatRule → ℕ → ℕ → List Work
   works_of [] [] n k = []
@@ -228,24 +243,37 @@ module _ (env : Environment) (m : Meaning) (args : List Value) (tys : List TypeI
     served = supplied_less env m (called env (r ∷ rs)) (called env rs) (rules_constants (r ∷ rs)) (rules_constants rs) (λ o k. Contains-append_right (called_in env r) (called env rs) o k) (λ c k. Contains-append_right (rule_constants r) (rules_constants rs) c k) h.served;
   }
 
-  works_served : (rs : List Rule) (fs : List FlatRule) (n k : ℕ) → AreServedRules env m tys rs → AreFlat env ps rs n fs → AllByRecursion (λ (f : FlatRule). AreEarlyLists env ps f (lists f)) fs → AllByRecursion (IsWork env m tys ps) (works_of rs fs n k)
-  works_served [] [] n k met h early = tt
-  works_served [] (f ∷ fs) n k met h early = tt
-  works_served (r ∷ rs) [] n k met h early = tt
-  works_served (r ∷ rs) (f ∷ fs) n k met h early =
+  -- over its lists
+  abbrev ServedOver : Work → Type 0
+  ServedOver w = (qs : List Path) → AreEarlyLists env ps w.flat qs → IsWork env m tys ps (with_lists w qs)
+
+  works_served : (rs : List Rule) (fs : List FlatRule) (n k : ℕ) → AreServedRules env m tys rs → AreFlat env ps rs n fs → AllByRecursion ServedOver (works_of rs fs n k)
+  works_served [] [] n k met h = tt
+  works_served [] (f ∷ fs) n k met h = tt
+  works_served (r ∷ rs) [] n k met h = tt
+  works_served (r ∷ rs) (f ∷ fs) n k met h =
       let served = first_served env m r rs met.served in
       let own : Placed = record { rule = r; before = n; place = k } in (
-        record {
+        λ qs early. record {
           tested = met.typed.0;
           answered = rule_answered r n met.built.0 met.scoped.0 met.terms.0 (supplies_any r served);
           flat = h.0;
           served = patterns_served env m r served;
           supplied = conditions_served env m r served;
-          order = early.0.order;
-          same = λ q. let choice = choice_listed env ps own f h.0 q in (λ c. choice.0 ((early.0.early q).0 c), λ c. (early.0.early q).1 (choice.1 c));
+          order = early.order;
+          same = λ q. let choice = choice_listed env ps own f h.0 q in (λ c. choice.0 ((early.early q).0 c), λ c. (early.early q).1 (choice.1 c));
         },
-        works_served rs fs (n + impure env r.rhs) (suc k) (rest_served r rs met) h.1 early.1,
+        works_served rs fs (n + impure env r.rhs) (suc k) (rest_served r rs met) h.1,
       )
+
+  over_served : (ws : List Work) (xs : List Over) → flats_of ws ≡ rules_over xs → AllByRecursion ServedOver ws → AllByRecursion (λ (x : Over). AreEarlyLists env ps x.rule x.lists) xs → AllByRecursion (IsWork env m tys ps) (over ws xs)
+  over_served [] [] e h early = tt
+  over_served [] (x ∷ xs) e h early = tt
+  over_served (w ∷ ws) [] e h early = tt
+  over_served (w ∷ ws) (x ∷ xs) e h early =
+      let head : w.flat ≡ x.rule = cc in
+      let tail : flats_of ws ≡ rules_over xs = cc in
+      (h.0 x.lists (subst (λ f. AreEarlyLists env ps f x.lists) (sym head) early.0), over_served ws xs tail h.1 early.1)
 
   -- its ordered calls are its own
   occurs : (w : Work) (bs : List BindingId) (j : ℕ) → AllByRecursion (IsInRange env w.of.before (impure env w.of.rule.rhs)) (map (at ps) bs) → Contains (occurrences env ps bs) j → Occurs w j
@@ -265,84 +293,99 @@ module _ (env : Environment) (m : Meaning) (args : List Value) (tys : List TypeI
 
   -- ---- what they add
 
-  same_lists : (rs : List Rule) (fs : List FlatRule) (n k : ℕ) → AllByRecursion (λ (w : Work). w.lists ≡ lists w.flat) (works_of rs fs n k)
-  same_lists [] [] n k = tt
-  same_lists [] (f ∷ fs) n k = tt
-  same_lists (r ∷ rs) [] n k = tt
-  same_lists (r ∷ rs) (f ∷ fs) n k = (refl, same_lists rs fs (n + impure env r.rhs) (suc k))
+  flats_works : (ws : List Work) (xs : List Over) (g : Given) → flats_of ws ≡ rules_over xs → flats_add env m args ps xs g ≡ works_add env m args ps (over ws xs) g
+  flats_works [] [] g e = refl
+  flats_works [] (x ∷ xs) g e = absurd cc
+  flats_works (w ∷ ws) [] g e = absurd cc
+  flats_works (w ∷ ws) (x ∷ xs) g e =
+      let head : w.flat ≡ x.rule = cc in
+      let tail : flats_of ws ≡ rules_over xs = cc in
+      flats_works ws xs (each_choice env m args x.lists nothing_known g (flat_adds env m args ps x.rule)) tail
+      ∙ ap (λ f. works_add env m args ps (over ws xs) (each_choice env m args x.lists nothing_known g (flat_adds env m args ps f))) (sym head)
 
-  flats_works : (ws : List Work) (g : Given) → AllByRecursion (λ (w : Work). w.lists ≡ lists w.flat) ws → flats_add env m args ps lists (map (λ (w : Work). w.flat) ws) g ≡ works_add env m args ps ws g
-  flats_works [] g h = refl
-  flats_works (w ∷ ws) g h =
-      flats_works ws (each_choice env m args (lists w.flat) nothing_known g (flat_adds env m args ps w.flat)) h.1
-      ∙ ap (λ qs. works_add env m args ps ws (each_choice env m args qs nothing_known g (flat_adds env m args ps w.flat))) (sym h.0)
-
-  module _ (rs : List Rule) (fs : List FlatRule) (met : AreServedRules env m tys rs) (flat : AreFlat env ps rs 0 fs) (early : AllByRecursion (λ (f : FlatRule). AreEarlyLists env ps f (lists f)) fs) where
+  module _ (rs : List Rule) (fs : List FlatRule) (met : AreServedRules env m tys rs) (flat : AreFlat env ps rs 0 fs) (order : List Over) (rules : IsReordered fs (rules_over order)) (early : AllByRecursion (λ (x : Over). AreEarlyLists env ps x.rule x.lists) order) where
     abbrev all : List Work
     all = works_of rs fs 0 0
 
-    abbrev sorted : List Work
-    sorted = sort_works all
+    -- the works in the order of the rules
+    in_order : Beside (λ (w : Work). w.flat) (works_of rs fs 0 0) (rules_over order)
+    in_order = reorder_beside (λ (w : Work). w.flat) all (rules_over order) (subst (λ gs. IsReordered gs (rules_over order)) (sym (flats_are rs fs 0 0 flat)) rules)
 
-    served : AllByRecursion (IsWork env m tys ps) (works_of rs fs 0 0)
-    served = works_served rs fs 0 0 met flat early
+    -- over their lists
+    abbrev works : List Work
+    works = over in_order.list order
 
-    sorted_served : AllByRecursion (IsWork env m tys ps) (sort_works (works_of rs fs 0 0))
-    sorted_served = all_from (IsWork env m tys ps) sorted (λ w c. all_at (IsWork env m tys ps) all w served (sorted_from all w c))
+    works_from : (w : Work) → Contains (over in_order.list order) w → (v : Work) × Contains (works_of rs fs 0 0) v × (v.of ≡ w.of)
+    works_from w c = let r = over_from in_order.list order w c in (r.0, reorder_has all in_order.list r.0 in_order.order r.1, r.2)
 
-    sorted_lists : AllByRecursion (λ (w : Work). w.lists ≡ lists w.flat) (sort_works (works_of rs fs 0 0))
-    sorted_lists = all_from (λ (w : Work). w.lists ≡ lists w.flat) sorted (λ w c. all_at (λ (w : Work). w.lists ≡ lists w.flat) all w (same_lists rs fs 0 0) (sorted_from all w c))
+    ordered_served : AllByRecursion (IsWork env m tys ps) (over in_order.list order)
+    ordered_served = over_served in_order.list order in_order.same (reorder_all ServedOver all in_order.list in_order.order (works_served rs fs 0 0 met flat)) early
 
-    are_flats : map (λ (w : Work). w.flat) (sort_works (works_of rs fs 0 0)) ≡ by_priority fs
-    are_flats = sorted_flats all ∙ ap by_priority (flats_are rs fs 0 0 flat)
+    ordered_apart : AreWorksApart (over in_order.list order)
+    ordered_apart = over_apart in_order.list order (reorder_apart all in_order.list in_order.order (all_apart rs fs 0 0))
+
+    -- an occurrence of a placed rule
+    abbrev OccursOf : ℕ → Placed → Type 0
+    OccursOf j p = (p.before < j) × (j ≤ p.before + impure env p.rule.rhs)
 
     -- a rule's calls are unknown after those of other rules
-    own_unknown : (front : List Work) (w : Work) (behind : List Work) (known : Known) → sorted ≡ front ++ w ∷ behind → KnowsOnly (occurrences_of env ps (map (λ (v : Work). v.flat) front)) known → IsUnmade env w known
+    own_unknown : (front : List Work) (w : Work) (behind : List Work) (known : Known) → over in_order.list order ≡ front ++ w ∷ behind → KnowsOnly (occurrences_of env ps (map (λ (v : Work). v.flat) front)) known → IsUnmade env w known
     own_unknown front w behind known are knows = record { by = λ j own. unknown j own (known.answers j) refl; choice = knows.choice }
       where
-        whole : (v : Work) → Contains (front ++ w ∷ behind) v → Contains (works_of rs fs 0 0) v
-        whole v c = sorted_from all v (subst (λ ws. Contains ws v) (sym are) c)
-
-        here : Contains (works_of rs fs 0 0) w
-        here = whole w (Contains-append_right front (w ∷ behind) w (head_contained w behind))
+        whole : (v : Work) → Contains (front ++ w ∷ behind) v → Contains (over in_order.list order) v
+        whole v c = subst (λ ws. Contains ws v) (sym are) c
 
         of_other : (v : Work) (j : ℕ) → Contains front v → Contains (occurrences env ps v.flat.ordered) j → IsOwn env w j → ⊥
         of_other v j c o own =
             let there = whole v (Contains-append_left front (w ∷ behind) v c) in
-            let occurs_there = work_occurs v j (all_at (IsWork env m tys ps) all v served there).flat o in
+            let occurs_there = work_occurs v j (all_at (IsWork env m tys ps) works v ordered_served there).flat o in
+            let bare = works_from v there in
+            let here_bare = works_from w (whole w (Contains-append_right front (w ∷ behind) w (head_contained w behind))) in
             ⊎_elim (λ (e : j ≡ 0). let low = occurs_there.0 in let bad : ⊥ = omega arith in bad)
-            (λ range. occur_apart rs fs 0 0 v w j there here occurs_there range (front_apart front w behind (subst AreWorksApart are (sorted_apart all (all_apart rs fs 0 0))) v c)) own
+            (λ range. occur_apart rs fs 0 0 bare.0 here_bare.0 j bare.1 here_bare.1 (subst (OccursOf j) (sym bare.2) occurs_there) (subst (OccursOf j) (sym here_bare.2) range)
+            (λ same. front_apart front w behind (subst AreWorksApart are ordered_apart) v c (sym bare.2 ∙ same ∙ here_bare.2))) own
 
         unknown : (j : ℕ) → IsOwn env w j → (o : Option Answer) → known.answers j ≡ o → known.answers j ≡ None
         unknown j own None e = e
         unknown j own (Some a) e = let v = occurs_in front j (knows.answers j a e) in absurd (of_other v.0 j v.1 v.2 own)
 
-    add_anew : AddAnew env m args ps lists (by_priority fs)
-    add_anew gs f hs known g e knows =
-        let s = split_works sorted gs f hs (are_flats ∙ e) in
-        let w = s.here in
-        let there : Contains sorted w = subst (λ ws. Contains ws w) (sym s.are) (Contains-append_right s.front (w ∷ s.behind) w (head_contained w s.behind)) in
-        let unmade = own_unknown s.front w s.behind known s.are (subst (λ xs. KnowsOnly (occurrences_of env ps xs) known) (sym s.fronts) knows) in
-        let same : w.lists ≡ lists f = all_at (λ (w : Work). w.lists ≡ lists w.flat) sorted w sorted_lists there ∙ ap lists s.flat in
-        let adds = work_apart env m args tys ps w known g (all_at (IsWork env m tys ps) sorted w sorted_served there) unmade in
-        subst (λ qs. each_choice env m args qs known g (flat_adds env m args ps f) ≡ each_choice env m args qs nothing_known g (flat_adds env m args ps f)) same
-        (subst (λ x. each_choice env m args w.lists known g (flat_adds env m args ps x) ≡ each_choice env m args w.lists nothing_known g (flat_adds env m args ps x)) s.flat adds)
+    -- what a rule adds over its lists, with what a work of it adds over its own
+    anew_of : (f h : FlatRule) (qs ls : List Path) (known : Known) (g : Given) → f ≡ h → qs ≡ ls → each_choice env m args qs known g (flat_adds env m args ps f) ≡ each_choice env m args qs nothing_known g (flat_adds env m args ps f)
+        → each_choice env m args ls known g (flat_adds env m args ps h) ≡ each_choice env m args ls nothing_known g (flat_adds env m args ps h)
+    anew_of f h qs ls known g e k adds =
+        subst (λ rs'. each_choice env m args rs' known g (flat_adds env m args ps h) ≡ each_choice env m args rs' nothing_known g (flat_adds env m args ps h)) k
+        (subst (λ y. each_choice env m args qs known g (flat_adds env m args ps y) ≡ each_choice env m args qs nothing_known g (flat_adds env m args ps y)) e adds)
 
-    cover : CoverRules env rs (sort_works (works_of rs fs 0 0))
+    split_anew : (xs : List Over) (x : Over) (known : Known) (g : Given) → KnowsOnly (occurrences_of env ps (rules_over xs)) known → SplitWorks (over in_order.list order) xs x
+        → each_choice env m args x.lists known g (flat_adds env m args ps x.rule) ≡ each_choice env m args x.lists nothing_known g (flat_adds env m args ps x.rule)
+    split_anew xs x known g knows s =
+        let w = s.here' in
+        let there : Contains works w = subst (λ ws. Contains ws w) (sym s.are) (Contains-append_right s.front (w ∷ s.behind) w (head_contained w s.behind)) in
+        let unmade = own_unknown s.front w s.behind known s.are (subst (λ gs. KnowsOnly (occurrences_of env ps gs) known) (sym s.fronts) knows) in
+        anew_of w.flat x.rule w.lists x.lists known g s.flat s.lists (work_apart env m args tys ps w known g (all_at (IsWork env m tys ps) works w ordered_served there) unmade)
+
+    add_anew : AddAnew env m args ps order
+    add_anew xs x ys known g e knows = split_anew xs x known g knows (subst (λ all'. SplitWorks (over in_order.list all') xs x) (sym e) (split_works in_order.list xs x ys (in_order.same ∙ ap rules_over e)))
+
+    cover : CoverRules env rs (over in_order.list order)
     cover = record {
-      sound = all_from (λ (w : Work). Contains (placed env rs 0 0) w.of) sorted (λ w c. work_placed rs fs 0 0 w (sorted_from all w c));
-      all = λ p c. let w = placed_work rs fs 0 0 flat p c in (w.0, sorted_has all w.0 w.1, w.2);
+      sound = all_from (λ (w : Work). Contains (placed env rs 0 0) w.of) works (λ w c. let r = works_from w c in subst (Contains (placed env rs 0 0)) r.2 (work_placed rs fs 0 0 r.0 r.1));
+      all = λ p c.
+          let r = placed_work rs fs 0 0 flat p c in
+          let w = over_has in_order.list order r.0 in_order.same (reorder_keeps all in_order.list r.0 in_order.order r.1) in
+          (w.0, w.1, w.2 ∙ r.2);
     }
+
+    works_add_all : flats_add env m args ps order nothing_given ≡ works_add env m args ps (over in_order.list order) nothing_given
+    works_add_all = flats_works in_order.list order nothing_given in_order.same
+
+    prescribed : AreVariantsApart env → HaveTypes env args tys → PrescribesSeveral env m args rs (works_add env m args ps (over in_order.list order) nothing_given)
+    prescribed variants types = works_prescribe env m args tys ps variants types rs works ordered_served ordered_apart cover
 
 -- a block that adds what a set adds which stands for checked rules gives what these prescribe
 pub several_prescribes : (env : Environment) (m : Meaning) (args : List Value) (tys : List TypeId) (s : RuleSet) (b : Block) (rs : List Rule) → AddsSeveral env s b → IsServedSet env m args tys s rs
     → PrescribesSeveral env m args rs (several_outcome env m args (paths_of s.bindings) b)
 several_prescribes env m args tys s b rs adds set =
     let ps = paths_of s.bindings in
-    let works = sort_works (works_of env m args tys ps adds.lists rs s.rules 0 0) in
-    let given = adds.adds m args (add_anew env m args tys ps adds.lists rs s.rules set.met set.stands.flat adds.early)
-    ∙ ap (λ fs. flats_add env m args ps adds.lists fs nothing_given) (sym (are_flats env m args tys ps adds.lists rs s.rules set.met set.stands.flat adds.early))
-    ∙ flats_works env m args tys ps adds.lists works nothing_given (sorted_lists env m args tys ps adds.lists rs s.rules set.met set.stands.flat adds.early) in
-    subst (PrescribesSeveral env m args rs) (sym given)
-    (works_prescribe env m args tys ps set.variants set.types rs works (sorted_served env m args tys ps adds.lists rs s.rules set.met set.stands.flat adds.early) (sorted_apart (works_of env m args tys ps adds.lists rs s.rules 0 0) (all_apart env m args tys ps adds.lists rs s.rules 0 0))
-    (cover env m args tys ps adds.lists rs s.rules set.met set.stands.flat adds.early))
+    let given = adds.adds m args set.apart (add_anew env m args tys ps rs s.rules set.met set.stands.flat adds.order adds.rules adds.early) ∙ works_add_all env m args tys ps rs s.rules set.met set.stands.flat adds.order adds.rules adds.early in
+    subst (PrescribesSeveral env m args rs) (sym given) (prescribed env m args tys ps rs s.rules set.met set.stands.flat adds.order adds.rules adds.early set.variants set.types)

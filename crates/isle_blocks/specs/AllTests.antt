@@ -1,5 +1,6 @@
 -- How the block of a rule set makes the tests of its rules.
 use Rattle.std.specs.Prelude.{◌≡◌, ◌⊎◌, List, [], Bool, true, false, Contains}
+use Rattle.std.specs.List.{AllByRecursion}
 use Rattle.isle_core.specs.declared.BindingId.{BindingId}
 use Rattle.isle_core.specs.declared.rule_sets.Constraint.{Constraint}
 use Rattle.isle_core.specs.declared.rule_sets.FlatRule.{FlatRule}
@@ -30,17 +31,20 @@ abbrev mutual
   HasArm c NoArm = ⊥
   HasArm c (Arm d places body arms) = (d ≡ c) ⊎ HasArm c arms
 
--- a rule has neither a constraint nor an equality
-abbrev pub IsUntested : FlatRule → Type 0
-IsUntested f = (f.constraints ≡ []) × (f.equals ≡ [])
+-- each of these tests is among those
+abbrev pub AreAmong : List (BindingId × Constraint) → List (BindingId × Constraint) → Type 0
+AreAmong cs among = AllByRecursion (Contains among) cs
 
--- all rules are tried where the term answers several times; where it answers once, those above each rule without tests
-abbrev pub IsTried : (several : Bool) → List FlatRule → FlatRule → Type 0
-IsTried true rules f = Unit {0}
-IsTried false rules f = (g : FlatRule) → Contains rules g → IsUntested g → is_above f g ≡ true
+-- all tests of all rules are tried where the term answers several times; where it answers once, a test of a rule that is above each rule without
+-- equalities whose constraints are among its own, but for those that make the test themselves
+abbrev pub IsTried : (several : Bool) → List FlatRule → FlatRule → BindingId × Constraint → Type 0
+IsTried true rules f c = Unit {0}
+IsTried false rules f c =
+    (g : FlatRule) → Contains rules g → g.equals ≡ [] → AreAmong g.constraints f.constraints
+    → Contains g.constraints c ⊎ (is_above f g ≡ true)
 
 -- each test of a rule that is tried stands in the block
 abbrev pub MakesTests : (several : Bool) → RuleSet → Block → Type 0
 MakesTests several set b =
     (f : FlatRule) (source : BindingId) (c : Constraint)
-    → Contains set.rules f → IsTried several set.rules f → Contains f.constraints (source, c) → HoldsTest source c b
+    → Contains set.rules f → Contains f.constraints (source, c) → IsTried several set.rules f (source, c) → HoldsTest source c b

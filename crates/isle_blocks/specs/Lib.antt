@@ -5,9 +5,15 @@ pub mod Pushed
 pub mod Needed
 pub mod Nest
 pub mod Tables
-pub mod Chain
 pub mod CallsOnce
 pub mod Several
+pub mod Reordered
 pub mod Added
 pub mod RuleTests
 pub mod AllTests
+pub mod Free
+pub mod Tree
+pub mod Ways
+pub mod Gathered
+pub mod TreeSteps
+pub mod Merged

@@ -1,4 +1,4 @@
--- The step of a rule: its tests, nested round its lists, its calls and its result.
+-- The steps of a rule: its tests, nested round its lists, its calls and its result.
 use Rattle.std.specs.Prelude.{ℕ, List, [], ◌∷◌, ◌++◌, Bool, true, false, ◌&&◌, Option, Some, None, slice_get}
 use Rattle.isle_core.specs.declared.BindingId.{BindingId}
 use Rattle.isle_core.specs.declared.rule_sets.Binding.{Binding}
@@ -146,7 +146,3 @@ all_matched several bs shows (c ∷ cs) inner bound = matched several bs shows b
 abbrev pub all_equated : (several : Bool) → List Binding → List (BindingId × BindingId) → Behind → Behind
 all_equated several bs [] inner bound = inner bound
 all_equated several bs (e ∷ es) inner bound = equated several bs bound e (all_equated several bs es inner)
-
--- the step of a rule
-abbrev pub rule_step : (several : Bool) → List Binding → Shows → (next items : ℕ → Option BindingId) → FlatRule → SeenStep
-rule_step several bs shows next items f = all_matched several bs shows f.constraints (all_equated several bs f.equals (last_step several bs next items f)) []

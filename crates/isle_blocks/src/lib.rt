@@ -1,14 +1,18 @@
 //! From rule sets to blocks.
 #![tactic(auto)]
 
-mod chain;
 mod fields;
 mod followers;
+mod free;
+mod gathering;
 mod needed;
 mod nest;
 mod openings;
 mod order;
+mod serialization;
 mod steps;
 mod tables;
+mod tree;
+mod ways;
 
-pub use chain::serialize;
+pub use serialization::serialize;

@@ -4,13 +4,16 @@ ghost use Rattle.isle_core.specs.Bindable.{bound_by};
 ghost use Rattle.isle_core.specs.BlockViews as BlockViews;
 ghost use Rattle.isle_blocks.specs.Needed.{is_bound as is_bound_in};
 ghost use Rattle.isle_blocks.specs.Nest as Nest;
-ghost use Rattle.isle_blocks.specs.Pushed.{Pushes};
-ghost use Rattle.isle_blocks.specs.Tables.{shows_in, items_in, next_in};
+ghost use Rattle.isle_blocks.specs.Pushed.{Pushes, Grows};
+ghost use Rattle.isle_blocks.specs.Tables.{ground, shows_in, items_in, next_in};
+ghost use Rattle.isle_blocks.specs.Tree as Tree;
+ghost use Rattle.isle_blocks.specs.Ways.{way};
 
 use crate::needed::{is_bound, parameters_at, push_needs, push_one};
 use crate::openings::opened;
 use crate::steps::{equated, matched, returned};
 use crate::tables::Tables;
+use crate::ways::Way;
 use isle_core::{BindingId, Constraint, EvalStep, FlatRule};
 use isle_scope::Scope;
 use std::alloc::{AllocError, Global};
@@ -212,10 +215,11 @@ fn last_step(
     bound: &mut Scope,
     rule: &FlatRule,
 ) -> Result<EvalStep, AllocError>
-    ensures { IfOk result (λ s.
+    ensures step { IfOk result (λ s.
         BlockViews.step s
         ≡ Nest.last_step tables.now.several tables.now.bindings.now (next_in tables.now)
         (items_in tables.now) rule.now bound.old) }
+    ensures grows { OnOk result (Grows bound.old bound.new) }
 {
     let mut order = Vec::new(alloc);
     push_last(alloc, tables, bound, rule, &mut order)?;
@@ -230,11 +234,12 @@ fn equals_from(
     rule: &FlatRule,
     equals: &[(BindingId, BindingId)],
 ) -> Result<EvalStep, AllocError>
-    ensures { IfOk result (λ s.
+    ensures step { IfOk result (λ s.
         BlockViews.step s
         ≡ Nest.all_equated tables.now.several tables.now.bindings.now equals.now
         (Nest.last_step tables.now.several tables.now.bindings.now (next_in tables.now)
         (items_in tables.now) rule.now) bound.old) }
+    ensures grows { OnOk result (Grows bound.old bound.new) }
 {
     match equals {
         [] => last_step(alloc, tables, bound, rule),
@@ -250,7 +255,8 @@ fn equals_from(
 
 // Binds what stands in a place.
 fn bind_place(bound: &mut Scope, place: Option<BindingId>) -> Result<(), AllocError>
-    ensures { OnOk result (bound.new ≡ bound_within bound.old (place ∷ [])) }
+    ensures more { OnOk result (bound.new ≡ bound_within bound.old (place ∷ [])) }
+    ensures grows { OnOk result (Grows bound.old bound.new) }
 {
     match place {
         None => Ok(()),
@@ -258,9 +264,10 @@ fn bind_place(bound: &mut Scope, place: Option<BindingId>) -> Result<(), AllocEr
     }
 }
 
-// Binds what stands in the places of an arm.
-fn bind_places(bound: &mut Scope, places: &[Option<BindingId>]) -> Result<(), AllocError>
-    ensures { OnOk result (bound.new ≡ bound_within bound.old places.now) }
+/// Binds what stands in the places of an arm. The only error is want of memory.
+pub fn bind_places(bound: &mut Scope, places: &[Option<BindingId>]) -> Result<(), AllocError>
+    ensures more { OnOk result (bound.new ≡ bound_within bound.old places.now) }
+    ensures grows { OnOk result (Grows bound.old bound.new) }
 {
     for place in places {
         bind_place(bound, *place)?;
@@ -276,13 +283,14 @@ fn matches_from(
     rule: &FlatRule,
     constraints: &[(BindingId, Constraint)],
 ) -> Result<EvalStep, AllocError>
-    ensures { IfOk result (λ s.
+    ensures step { IfOk result (λ s.
         BlockViews.step s
         ≡ Nest.all_matched tables.now.several tables.now.bindings.now (shows_in tables.now)
         constraints.now
         (Nest.all_equated tables.now.several tables.now.bindings.now rule.now.equals
         (Nest.last_step tables.now.several tables.now.bindings.now (next_in tables.now)
         (items_in tables.now) rule.now)) bound.old) }
+    ensures grows { OnOk result (Grows bound.old bound.new) }
 {
     match constraints {
         [] => equals_from(alloc, tables, bound, rule, rule.equals.as_slice()),
@@ -298,19 +306,18 @@ fn matches_from(
     }
 }
 
-/// Makes the step of a rule: its tests, each round what follows, with what it shows bound, and inside them its lists,
-/// its calls and its result. What is needed to read a binding is bound where it is first read. The only error is want
-/// of memory.
-pub fn rule_step(
+/// Makes the step of a rule from after its early tests on: the others, each round what follows, with what it shows
+/// bound, and inside them its equalities, its lists, its calls and its result. What is needed to read a binding is bound
+/// where it is first read. The only error is want of memory.
+pub fn way_step(
     alloc: Global,
     tables: &Tables<'_>,
-    rule: &FlatRule,
+    bound: &mut Scope,
+    own: &Way<'_>,
 ) -> Result<EvalStep, AllocError>
-    ensures { IfOk result (λ s.
-        BlockViews.step s
-        ≡ Nest.rule_step tables.now.several tables.now.bindings.now (shows_in tables.now)
-        (next_in tables.now) (items_in tables.now) rule.now) }
+    ensures step { IfOk result (λ s.
+        BlockViews.step s ≡ Tree.way_step (ground tables.now) (way own.now) bound.old) }
+    ensures grows { OnOk result (Grows bound.old bound.new) }
 {
-    let mut bound = Scope::new(alloc);
-    matches_from(alloc, tables, &mut bound, rule, rule.constraints.as_slice())
+    matches_from(alloc, tables, bound, own.rule, own.late)
 }

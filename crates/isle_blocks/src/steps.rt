@@ -1,6 +1,6 @@
 //! Steps and what they do.
 
-ghost use Rattle.std.specs.Prelude.{◌≡◌, IfOk};
+ghost use Rattle.std.specs.Prelude.{◌≡◌, IfOk, map};
 ghost use Rattle.isle_core.specs.Block as Blocks;
 ghost use Rattle.isle_core.specs.BlockViews as BlockViews;
 ghost use Rattle.isle_blocks.specs.Nest as Nest;
@@ -19,19 +19,50 @@ pub fn step_of(order: Vec<BindingId>, check: ControlFlow) -> EvalStep
     }
 }
 
-// A block of one step.
+/// A block of steps.
 #[tactic(auto, using(isle_core::proofs::SeesBlocks::sees_blocks))]
+pub fn block_of(steps: Vec<EvalStep>) -> Block
+    ensures { BlockViews.block result
+        ≡ BlockViews.block_of (map BlockViews.step steps.items) }
+{
+    Block {
+        steps: List::new(steps),
+    }
+}
+
+/// An arm, whose places are bound in its block.
+#[tactic(auto, using(isle_core::proofs::SeesBlocks::sees_blocks))]
+pub fn arm_with(constraint: Constraint, places: Vec<Option<BindingId>>, body: Block) -> MatchArm
+    ensures { BlockViews.arm result ≡ (constraint, places.items, BlockViews.block body) }
+{
+    MatchArm {
+        constraint,
+        bindings: List::new(places),
+        body,
+    }
+}
+
+/// A match of arms.
+#[tactic(auto, using(isle_core::proofs::SeesBlocks::sees_blocks))]
+pub fn match_over(source: BindingId, arms: Vec<MatchArm>) -> ControlFlow
+    ensures { BlockViews.control result
+        ≡ Blocks.Match source (BlockViews.arms_of (map BlockViews.arm arms.items)) }
+{
+    ControlFlow::Match {
+        source,
+        arms: List::new(arms),
+    }
+}
+
+// A block of one step.
 fn alone(alloc: Global, step: EvalStep) -> Result<Block, AllocError>
     ensures { IfOk result (λ b. BlockViews.block b ≡ Nest.alone (BlockViews.step step)) }
 {
     let steps = vec![in alloc; step]?;
-    Ok(Block {
-        steps: List::new(steps),
-    })
+    Ok(block_of(steps))
 }
 
 /// A match of one arm, whose places are bound round what follows it. The only error is want of memory.
-#[tactic(auto, using(isle_core::proofs::SeesBlocks::sees_blocks))]
 pub fn matched(
     alloc: Global,
     source: BindingId,
@@ -45,16 +76,8 @@ pub fn matched(
         (Blocks.Arm constraint places.items (Nest.alone (BlockViews.step inner)) Blocks.NoArm)) }
 {
     let body = alone(alloc, inner)?;
-    let arm = MatchArm {
-        constraint,
-        bindings: List::new(places),
-        body,
-    };
-    let arms = vec![in alloc; arm]?;
-    Ok(ControlFlow::Match {
-        source,
-        arms: List::new(arms),
-    })
+    let arms = vec![in alloc; arm_with(constraint, places, body)]?;
+    Ok(match_over(source, arms))
 }
 
 /// An equality round what follows it. The only error is want of memory.

@@ -20,8 +20,8 @@ use Rattle.isle_core.specs.Places.{LiesIn}
 use Rattle.isle_core.specs.Rule.{Environment}
 use Rattle.isle_core.specs.Serializable.{IsSerializable}
 use Rattle.isle_core.specs.Setting.{setting}
-use Rattle.isle_core.specs.SingleArms.{HasSingleArms}
 use Rattle.isle_blocks.specs.AllTests.{MakesTests}
+use Rattle.isle_blocks.specs.Merged.{IsMerged}
 use Rattle.isle_blocks.specs.RuleTests.{TestsRules}
 use Rattle.isle_blocks.specs.Several.{HasItsLists, GivesSeveral}
 use Rattle.isle_tree.specs.Program.{Function}
@@ -54,14 +54,14 @@ pub record MeansSet (env : Environment) (t : Term) (s : RuleSet) (b : Block) : T
   pub once : is_several (kind_of t.kind) ≡ false → GivesSet env s b
   pub several : is_several (kind_of t.kind) ≡ true → GivesSeveral env s b
 
--- the function of the term, from a block that is lawful for its rule set, has one arm in each Match, tests and returns what its rules
--- do, all tests of those that are tried, and means the set
+-- the function of the term, from a block that is lawful for its rule set, shares its tests, tests and returns what its rules do, all tests
+-- that are tried, and means the set
 pub record IsEmitted (options : CodegenOptions) (files : Files) (env : Environment) (id : TermId) (s : RuleSet) (f : Function) : Type 0 where
   pub term : Term
   pub found : slice_get env.terms id.0 ≡ Some term
   pub block : Block
   pub lawful : IsLawfulBlock (setting env term s.bindings) block
-  pub single : HasSingleArms block
+  pub merged : is_several (kind_of term.kind) ≡ false → IsMerged block
   pub means : MeansSet env term s block
   pub tests : TestsRules s block
   pub makes : MakesTests (is_several (kind_of term.kind)) s block

@@ -26,12 +26,16 @@ use Rattle.isle_core.specs.Path.{Path, at, paths_of}
 use Rattle.isle_core.specs.Rule.{Environment, Rule, rules_of}
 use Rattle.isle_core.specs.RuleSet.{is_test, equal_test, flat_tests}
 use Rattle.isle_core.specs.Setting.{setting}
-use Rattle.isle_core.specs.StandsFor.{IsFlat, AreFlat, IsTrivial}
+use Rattle.isle_core.specs.StandsFor.{IsFlat, AreFlat, IsTrivial, EachOnce}
+use Rattle.isle_core.specs.Serializable.{IsTest, AreTestable, IsSerializableRule}
+use Rattle.isle_core.proofs.BindingPaths.{IsThere, place_once, path_there, option_there}
+use Rattle.isle_core.proofs.RulePairs.{all_at}
+use Rattle.isle_sema.proofs.SerializableRules.{set_serializable}
 use Rattle.isle_core.specs.Terms.{sym_text, with_rules}
-use Rattle.isle_core.specs.Tests.{Test, Is, rule_tests}
+use Rattle.isle_core.specs.Tests.{Test, Is, is_constraint, rule_tests}
 use Rattle.isle_core.proofs.AllLaws.{all_append}
 use Rattle.isle_core.proofs.Contained.{head_contained, tail_contained, contained_cases, none_contained}
-use Rattle.isle_blocks.specs.AllTests.{IsTried}
+use Rattle.isle_blocks.specs.AllTests.{AreAmong, IsTried}
 use Rattle.isle_lawful_names.specs.LawfulNames.{IsNoType, emitted_names}
 use Rattle.isle_lawful_names.proofs.HasRustNames.{has_rust_names}
 use Rattle.isle_spelling.specs.Identifier.{begins}
@@ -53,7 +57,7 @@ use Rattle.isle_tree.specs.Program.{Function, Program}
 use Rattle.isle_codegen.specs.Checked.{IsChecked}
 use Rattle.isle_codegen.specs.FromBlock.{AreFromBlocks, IsFromBlock}
 use Rattle.isle_run.specs.Conforming.{Conforms}
-use Rattle.isle_run.specs.RuleWants.{is_below, IsTestedFor}
+use Rattle.isle_run.specs.RuleWants.{is_below, TestsWithin, IsTestedFor}
 use Rattle.isle_run.specs.Valid.{AreRightConstants}
 use Rattle.isle_run.proofs.GivenConstants.{each_declared}
 use Rattle.isle_run.proofs.LawfulNames.{HasLawfulNames}
@@ -97,20 +101,53 @@ rule_of env ps (r ∷ rs) (g ∷ fs) n f h c =
     (λ d. let k = rule_of env ps rs fs _ f h.1 d in record { rule = k.rule; there = tail_contained r rs k.rule k.there; at_place = k.at_place; is = k.is })
     (contained_cases g fs f c)
 
--- the binding that a test of a constraint is on
-tested_at : (ps : List Path) (cs : List (BindingId × Constraint)) (p : Path) (c : Constraint) → Contains (map (is_test ps) cs) (Is p c) → (source : BindingId) × Contains cs (source, c)
-tested_at ps [] p c h = absurd (none_contained (Is p c) h)
-tested_at ps (x ∷ cs) p c h =
-    ⊎_elim
-    (λ (e : is_test ps x ≡ Is p c). (x.0, subst (λ (y : BindingId × Constraint). Contains (x ∷ cs) y) (one x e) (head_contained x cs)))
-    (λ d. let k = tested_at ps cs p c d in (k.0, tail_contained x cs (k.0, c) k.1))
-    (contained_cases (is_test ps x) (map (is_test ps) cs) (Is p c) h)
-  where
-    same_constraint : (q : Path) (d : Constraint) → Is q d ≡ Is p c → d ≡ c
-    same_constraint q d e = cc
+-- the constraint that a test is of
+record ConstraintOf (ps : List Path) (cs : List (BindingId × Constraint)) (x : Test) : Type 0 where
+  of : BindingId × Constraint
+  in' : Contains cs of
+  is : is_test ps of ≡ x
 
-    one : (y : BindingId × Constraint) → is_test ps y ≡ Is p c → y ≡ (y.0, c)
-    one y e = ap (λ (d : Constraint). (y.0, d)) (same_constraint (at ps y.0) y.1 e)
+constraint_of : (ps : List Path) (cs : List (BindingId × Constraint)) (x : Test) → Contains (map (is_test ps) cs) x → ConstraintOf ps cs x
+constraint_of ps [] x h = absurd (none_contained x h)
+constraint_of ps (y ∷ cs) x h = ⊎_elim
+    (λ (e : is_test ps y ≡ x). record { of = y; in' = head_contained y cs; is = e })
+    (λ d. let k = constraint_of ps cs x d in record { of = k.of; in' = tail_contained y cs k.of k.in'; is = k.is }) (contained_cases (is_test ps y) (map (is_test ps) cs) x h)
+
+test_in : (ps : List Path) (cs : List (BindingId × Constraint)) (c : BindingId × Constraint) → Contains cs c → Contains (map (is_test ps) cs) (is_test ps c)
+test_in ps [] c h = absurd (none_contained c h)
+test_in ps (y ∷ cs) c h = ⊎_elim
+    (λ (e : y ≡ c). subst (λ z. Contains (is_test ps y ∷ map (is_test ps) cs) (is_test ps z)) e (head_contained (is_test ps y) (map (is_test ps) cs)))
+    (λ d. tail_contained (is_test ps y) (map (is_test ps) cs) (is_test ps c) (test_in ps cs c d)) (contained_cases y cs c h)
+
+same_parts : (p q : Path) (c d : Constraint) → Is p c ≡ Is q d → (p ≡ q) × (c ≡ d)
+same_parts p q c d e = (cc, cc)
+
+-- the binding that a test of a constraint is on, and its path
+record TestedAt (ps : List Path) (cs : List (BindingId × Constraint)) (p : Path) (c : Constraint) : Type 0 where
+  source : BindingId
+  in' : Contains cs (source, c)
+  path : at ps source ≡ p
+
+tested_at : (ps : List Path) (cs : List (BindingId × Constraint)) (p : Path) (c : Constraint) → Contains (map (is_test ps) cs) (Is p c) → TestedAt ps cs p c
+tested_at ps cs p c h =
+    let k = constraint_of ps cs (Is p c) h in
+    let same = same_parts (at ps k.of.0) p k.of.1 c k.is in
+    record { source = k.of.0; in' = subst (λ d. Contains cs (k.of.0, d)) same.1 k.in'; path = same.0 }
+
+-- what a rule that is ready tests is somewhere
+tested_there : (env : Environment) (t : Term) (p : Path) (c : Constraint) → IsTest env t p c → IsThere p
+tested_there env t p constraint.Some h = option_there env t p h.0 h.1
+tested_there env t p (constraint.ConstBool val) h = path_there env t p h.ty h.path
+tested_there env t p (constraint.ConstInt val of) h = path_there env t p h.ty h.path
+tested_there env t p (constraint.ConstPrim val) h = path_there env t p h.ty h.path
+tested_there env t p (constraint.Variant of variant) h = path_there env t p h.ty h.path
+tested_there env t p (constraint.Struct of) h = path_there env t p h.ty h.path
+
+testable_there : (env : Environment) (t : Term) (ps : List Path) (before : List Test) (cs : List (BindingId × Constraint)) (c : BindingId × Constraint) → AreTestable env t ps before cs → Contains cs c → IsThere (at ps c.0)
+testable_there env t ps before [] c h k = absurd (none_contained c k)
+testable_there env t ps before (x ∷ cs) c h k = ⊎_elim
+    (λ (e : x ≡ c). subst (λ (y : BindingId × Constraint). IsThere (at ps y.0)) e (tested_there env t (at ps x.0) x.1 h.0.test))
+    (λ d. testable_there env t ps (is_test ps x ∷ before) cs c h.1 d) (contained_cases x cs c k)
 
 not_equal : (ps : List Path) (es : List (BindingId × BindingId)) (p : Path) (c : Constraint) → Contains (map (equal_test ps) es) (Is p c) → ⊥
 not_equal ps [] p c h = none_contained (Is p c) h
@@ -148,31 +185,56 @@ each_free (y ∷ xs) name h i x e = one (bytes_eq name y) refl h i e (λ k j l. 
 module _ (options : CodegenOptions) (files : Files) (env : Environment) (checked : IsChecked files env) (p : Program) (conforms : Conforms options files env p) where
   -- ---- the constant is in a function
 
-  tried_of : (id : TermId) (t : Term) (r : Rule) (ps : List Path) (fs : List FlatRule) (f : FlatRule) → AreFlat env ps (rules_of env id) 0 fs → f.prio ≡ r.prio
-      → (is_several (kind_of t.kind) ≡ false → (g : Rule) → Contains (rules_of env id) g → AllByRecursion IsTrivial (rule_tests env g) → is_below g r ≡ true) → IsTried (is_several (kind_of t.kind)) fs f
-  tried_of id t r ps fs f flat prio h = one (is_several (kind_of t.kind)) (λ e. h e)
-    where
-      all_from : (ts : List Test) → ((x : Test) → Contains ts x → IsTrivial x) → AllByRecursion IsTrivial ts
-      all_from [] k = tt
-      all_from (x ∷ ts) k = (k x (head_contained x ts), all_from ts (λ y c. k y (tail_contained x ts y c)))
+  -- the rule that tests for the constant
+  abbrev IsTriedIn : TermId → Term → Rule → Path → Sym → Type 0
+  IsTriedIn id t r q c = is_several (kind_of t.kind) ≡ false → (g : Rule) → Contains (rules_of env id) g → TestsWithin env g r → Contains (rule_tests env g) (Is q (constraint.ConstPrim c)) ⊎ (is_below g r ≡ true)
 
-      one : (b : Bool) → (b ≡ false → (g : Rule) → Contains (rules_of env id) g → AllByRecursion IsTrivial (rule_tests env g) → is_below g r ≡ true) → IsTried b fs f
+  tried_of : (id : TermId) (t : Term) (r : Rule) (ps : List Path) (fs : List FlatRule) (n : ℕ) (f : FlatRule) (q : Path) (c : Sym) → AreFlat env ps (rules_of env id) 0 fs → IsFlat env ps r n f → (x : TestedAt ps f.constraints q (constraint.ConstPrim c)) → EachOnce ps → IsThere (at ps x.source)
+      → IsTriedIn id t r q c → IsTried (is_several (kind_of t.kind)) fs f (x.source, constraint.ConstPrim c)
+  tried_of id t r ps fs n f q c flat is x once there h = one (is_several (kind_of t.kind)) (λ e. h e)
+    where
+      in_rule : (y : Test) → Contains (map (is_test ps) f.constraints) y → Contains (rule_tests env r) y
+      in_rule y i = (is.no_other y (Contains-append_left (map (is_test ps) f.constraints) (map (equal_test ps) f.equals) y i)).0
+
+      -- each test of a flat rule without equalities, whose constraints are these
+      within : (g : FlatRule) (ts : List Test) → g.equals ≡ [] → AreAmong g.constraints f.constraints → ((y : Test) → Contains ts y → Contains (flat_tests ps g) y ⊎ IsTrivial y)
+          → AllByRecursion (λ (y : Test). IsTrivial y ⊎ ((is_constraint y ≡ true) × Contains (rule_tests env r) y)) ts
+      within g [] equals among k = tt
+      within g (y ∷ ts) equals among k = (⊎_elim here (λ l. inl l) (k y (head_contained y ts)), within g ts equals among (λ z i. k z (tail_contained y ts z i)))
+        where
+          none : flat_tests ps g ≡ map (is_test ps) g.constraints ++ []
+          none = ap (λ es. map (is_test ps) g.constraints ++ map (equal_test ps) es) equals
+
+          here : Contains (flat_tests ps g) y → IsTrivial y ⊎ ((is_constraint y ≡ true) × Contains (rule_tests env r) y)
+          here i =
+              let j = ⊎_elim (λ l. l) (λ l. absurd (none_contained y l)) (in_either (map (is_test ps) g.constraints) [] y (subst (λ (us : List Test). Contains us y) none i)) in
+              let of = constraint_of ps g.constraints y j in
+              inr (subst (λ z. is_constraint z ≡ true) of.is refl, subst (Contains (rule_tests env r)) of.is (in_rule (is_test ps of.of) (test_in ps f.constraints of.of (all_at (Contains f.constraints) g.constraints of.of among of.in'))))
+
+      one : (b : Bool) → (b ≡ false → (g : Rule) → Contains (rules_of env id) g → TestsWithin env g r → Contains (rule_tests env g) (Is q (constraint.ConstPrim c)) ⊎ (is_below g r ≡ true)) → IsTried b fs f (x.source, constraint.ConstPrim c)
       one true k = tt
-      one false k = λ g c untested.
-          let of = rule_of env ps (rules_of env id) fs 0 g flat c in
-          let none : flat_tests ps g ≡ [] = ap (λ (cs : List (BindingId × Constraint)). map (is_test ps) cs ++ map (equal_test ps) g.equals) untested.0 ∙ ap (map (equal_test ps)) untested.1 in
-          let trivial = all_from (rule_tests env of.rule) (λ x d. ⊎_elim (λ l. absurd (none_contained x (subst (λ (ts : List Test). Contains ts x) none l))) (λ l. l) (of.is.tested x d)) in
-          ap (λ (n : _). is_lt (int_cmp n f.prio)) of.is.prio ∙ ap (λ (n : _). is_lt (int_cmp of.rule.prio n)) prio ∙ k refl of.rule of.there trivial
+      one false k = λ g i equals among.
+          let of = rule_of env ps (rules_of env id) fs 0 g flat i in
+          ⊎_elim
+          (λ l. let stands = ⊎_elim (λ y. y) (λ y. absurd y) (of.is.tested (Is q (constraint.ConstPrim c)) l) in
+          let there' = ⊎_elim (λ y. tested_at ps g.constraints q (constraint.ConstPrim c) y) (λ y. absurd (not_equal ps g.equals q (constraint.ConstPrim c) y)) (in_either (map (is_test ps) g.constraints) (map (equal_test ps) g.equals) (Is q (constraint.ConstPrim c)) stands) in
+          let same : x.source.0 ≡ there'.source.0 = place_once ps x.source.0 there'.source.0 once there (x.path ∙ sym there'.path) in
+          inl (subst (λ (m : ℕ). Contains g.constraints (record { 0 = m }, constraint.ConstPrim c)) (sym same) there'.in'))
+          (λ l. inr (ap (λ (m : _). is_lt (int_cmp m f.prio)) of.is.prio ∙ ap (λ (m : _). is_lt (int_cmp of.rule.prio m)) is.prio ∙ l))
+          (k refl of.rule of.there (within g (rule_tests env of.rule) equals among (λ y j. of.is.tested y j)))
 
   in_function : (id : TermId) (f : Function) (r : Rule) (q : Path) (c : Sym) → IsFromBlock options files env id f → Contains (rules_of env id) r → Contains (rule_tests env r) (Is q (constraint.ConstPrim c))
-      → ((t : Term) → slice_get env.terms id.0 ≡ Some t → is_several (kind_of t.kind) ≡ false → (g : Rule) → Contains (rules_of env id) g → AllByRecursion IsTrivial (rule_tests env g) → is_below g r ≡ true) → Contains (body_names f.body) (sym_text env c)
-  in_function id f r q c b there tests below =
+      → ((t : Term) → slice_get env.terms id.0 ≡ Some t → IsTriedIn id t r q c) → Contains (body_names f.body) (sym_text env c)
+  in_function id f r q c b there tests tried =
       let ps = paths_of b.set.bindings in
       let k = flat_of env ps (rules_of env id) b.set.rules 0 r b.stands.flat there in
       let found = ⊎_elim (λ l. l) (λ l. absurd l) (k.is.tested (Is q (constraint.ConstPrim c)) tests) in
-      let source = ⊎_elim (λ l. tested_at ps k.flat.constraints q (constraint.ConstPrim c) l) (λ l. absurd (not_equal ps k.flat.equals q (constraint.ConstPrim c) l)) (in_either (map (is_test ps) k.flat.constraints) (map (equal_test ps) k.flat.equals) (Is q (constraint.ConstPrim c)) found) in
-      let tried = tried_of id b.term r ps b.set.rules k.flat b.stands.flat k.is.prio (λ e. below b.term b.found e) in
-      function_names_it env b.term b.set.bindings source.0 c options files b.block f b.lawful (b.makes k.flat source.0 (constraint.ConstPrim c) k.there tried source.1) b.statements
+      let x = ⊎_elim (λ l. tested_at ps k.flat.constraints q (constraint.ConstPrim c) l) (λ l. absurd (not_equal ps k.flat.equals q (constraint.ConstPrim c) l)) (in_either (map (is_test ps) k.flat.constraints) (map (equal_test ps) k.flat.equals) (Is q (constraint.ConstPrim c)) found) in
+      let ready = set_serializable checked.defs env id b.term b.set checked.lawful.typed.typed b.found b.stands in
+      let rule = all_at (IsSerializableRule env b.term ps) b.set.rules k.flat ready.rules k.there in
+      let is_there = testable_there env b.term ps [] k.flat.constraints (x.source, constraint.ConstPrim c) rule.constraints x.in' in
+      let is_tried = tried_of id b.term r ps b.set.rules k.at_place k.flat q c b.stands.flat k.is x b.stands.once is_there (tried b.term b.found) in
+      function_names_it env b.term b.set.bindings x.source c options files b.block f b.lawful (b.makes k.flat x.source (constraint.ConstPrim c) k.there x.in' is_tried) b.statements
 
   -- the function of each term with rules is among the functions
   with_function : (ids : List TermId) (fs : List Function) (id : TermId) (name : List ℕ) → AreFromBlocks options files env ids fs → Contains ids id → ((f : Function) → IsFromBlock options files env id f → Contains (body_names f.body) name) → Contains (function_names fs) name

@@ -1,5 +1,5 @@
 -- What the rules of a term want of the constants that are given values, by the source alone.
-use Rattle.std.specs.Prelude.{◌≡◌, ℕ, List, Bool, true, false, Option, Some, None, Contains, slice_get, IsSomeAnd}
+use Rattle.std.specs.Prelude.{◌≡◌, ◌⊎◌, ℕ, List, Bool, true, false, Option, Some, None, Contains, slice_get, IsSomeAnd}
 use Rattle.std.specs.List.{AllByRecursion}
 use Rattle.std.specs.Ordering.{int_cmp, is_lt}
 use Rattle.std.specs.Str.{bytes_eq}
@@ -20,7 +20,7 @@ use Rattle.isle_core.specs.Rule.{Environment, Rule, rules_of}
 use Rattle.isle_core.specs.SameInRun.{same_in_run}
 use Rattle.isle_core.specs.StandsFor.{IsTrivial}
 use Rattle.isle_core.specs.Terms.{sym_text, with_rules}
-use Rattle.isle_core.specs.Tests.{Is, rule_tests}
+use Rattle.isle_core.specs.Tests.{Test, Is, is_constraint, rule_tests}
 use Rattle.isle_core.specs.Value.{Value, Truth}
 use Rattle.isle_codegen.specs.CalledBy.{IsCalledBy}
 use Rattle.isle_codegen.specs.Spoken.{IsSpoken}
@@ -87,8 +87,12 @@ pub record AreWantedBy (env : Environment) (id : TermId) (m : Meaning) : Type 0 
 abbrev pub is_below : Rule → Rule → Bool
 is_below g r = is_lt (int_cmp g.prio r.prio)
 
--- a rule of a term tests for the constant of this name, and is tried: each rule of the term without tests has a lower priority, where
--- the term answers at most once
+-- each test of a rule is trivial, or a constraint that the other makes, too
+abbrev pub TestsWithin : Environment → Rule → Rule → Type 0
+TestsWithin env g r = AllByRecursion (λ (x : Test). IsTrivial x ⊎ ((is_constraint x ≡ true) × Contains (rule_tests env r) x)) (rule_tests env g)
+
+-- a rule of a term tests for the constant of this name, and is tried: where the term answers at most once, each rule of it whose tests are all the
+-- rule's constraints tests for the constant, too, or has a lower priority
 pub record IsTestedFor (env : Environment) (name : List ℕ) : Type 0 where
   pub id : TermId
   pub ruled : Contains (with_rules env) id
@@ -99,4 +103,4 @@ pub record IsTestedFor (env : Environment) (name : List ℕ) : Type 0 where
   pub tests : Contains (rule_tests env rule) (Is path (constraint.ConstPrim constant))
   pub named : sym_text env constant ≡ name
   pub tried : (t : Term) → slice_get env.terms id.0 ≡ Some t → is_several (kind_of t.kind) ≡ false → (g : Rule) → Contains (rules_of env id) g
-      → AllByRecursion IsTrivial (rule_tests env g) → is_below g rule ≡ true
+      → TestsWithin env g rule → Contains (rule_tests env g) (Is path (constraint.ConstPrim constant)) ⊎ (is_below g rule ≡ true)

@@ -1,4 +1,6 @@
-ghost use Rattle.std.specs.Prelude.{◌≡◌, IfOk, [], true, false, map, List as ListOf};
+//! The block of a rule set.
+
+ghost use Rattle.std.specs.Prelude.{◌≡◌, IfOk, [], true, false, List as ListOf, map};
 ghost use Rattle.std.specs.List.{AllByRecursion};
 ghost use Rattle.isle_core.specs.declared.types.ReturnKind.{ReturnKind};
 ghost use Rattle.isle_core.specs.declared.types.Term.{Term};
@@ -16,67 +18,70 @@ ghost use Rattle.isle_core.specs.BlockRun.{block_outcome};
 ghost use Rattle.isle_core.specs.BlockLawful.{IsLawfulBlock};
 ghost use Rattle.isle_core.specs.Serializable.{IsSerializable};
 ghost use Rattle.isle_core.specs.Setting.{setting};
-ghost use Rattle.isle_core.specs.SingleArms.{HasSingleArms};
-ghost use Rattle.isle_blocks.specs.Tables.{shows_in, items_in, next_in};
+ghost use Rattle.isle_blocks.specs.Gathered.{AreShort};
+ghost use Rattle.isle_blocks.specs.Order.{by_priority};
+ghost use Rattle.isle_blocks.specs.Tables.{ground};
+ghost use Rattle.isle_blocks.specs.Tree as Tree;
+ghost use Rattle.isle_blocks.specs.Ways as Ways;
 ghost use Rattle.isle_blocks.specs.CallsOnce.{HasCallsOnce};
-ghost use Rattle.isle_blocks.specs.Chain as Chain;
+ghost use Rattle.isle_blocks.specs.Merged.{IsMerged};
 ghost use Rattle.isle_blocks.specs.RuleTests.{TestsRules};
 ghost use Rattle.isle_blocks.specs.AllTests.{MakesTests};
 ghost use Rattle.isle_blocks.specs.Several.{HasItsLists, GivesSeveral};
 
 use crate::fields::fields_of;
 use crate::followers::{Following, followers_of};
-use crate::nest::rule_step;
+use crate::free::free_of;
 use crate::order::in_order;
+use crate::steps::block_of;
 use crate::tables::Tables;
-use isle_core::{Block, EvalStep, FlatRule, List, OutOfMemory, RuleSet};
+use crate::tree::steps_of;
+use crate::ways::{Way, ways_of};
+use isle_core::{Block, FlatRule, OutOfMemory, RuleSet};
+use isle_scope::Scope;
 use std::alloc::{AllocError, Global};
 
-// Whether a rule has neither a constraint nor an equality.
-fn is_untested(rule: &FlatRule) -> bool
-    ensures { result ≡ Chain.no_tests rule.now.constraints rule.now.equals }
+// The greatest number of early tests of a way.
+fn depth_of(ways: &[Way<'_>]) -> usize
+    ensures { AreShort result (map Ways.way ways.now) }
 {
-    rule.constraints.as_slice().is_empty() && rule.equals.as_slice().is_empty()
+    let mut depth = 0;
+    for way in ways {
+        depth = depth.max(way.early.len());
+    }
+    depth
 }
 
-// The steps of rules in order, of a term that answers once up to the first one without tests.
-fn chain_steps(
+// The ways of rules, highest priority first, and equal ones in their order.
+fn sorted_ways<'r>(
     alloc: Global,
     tables: &Tables<'_>,
-    rules: &[&FlatRule],
-) -> Result<Vec<EvalStep>, AllocError>
-    ensures { IfOk result (λ steps. map BlockViews.step steps.items ≡
-        Chain.chain_steps tables.now.several tables.now.bindings.now (shows_in tables.now)
-        (next_in tables.now)
-        (items_in tables.now) (map (λ f. f.now) rules.now)) }
-{
-    let mut steps = Vec::new(alloc);
-    for rule in rules {
-        steps.push(rule_step(alloc, tables, rule)?)?;
-        if !tables.several && is_untested(rule) {
-            return Ok(steps);
-        }
-    }
-    Ok(steps)
-}
-
-// The steps of the rules, highest priority first.
-#[tactic(auto, using(isle_core::proofs::SeesBlocks::sees_blocks))]
-fn chained(alloc: Global, tables: &Tables<'_>, rules: &[FlatRule]) -> Result<Block, AllocError>
-    ensures { IfOk result (λ b. BlockViews.block b ≡
-        Chain.chain tables.now.several tables.now.bindings.now (shows_in tables.now)
-        (next_in tables.now)
-        (items_in tables.now) rules.now) }
+    rules: &'r [FlatRule],
+) -> Result<Vec<Way<'r>>, AllocError>
+    ensures { IfOk result (λ ways. map Ways.way ways.items
+        ≡ map (Ways.way_of tables.now.several (paths_of tables.now.bindings.now))
+        (by_priority rules.now)) }
 {
     let order = in_order(alloc, rules)?;
-    let steps = chain_steps(alloc, tables, order.as_slice())?;
-    Ok(Block {
-        steps: List::new(steps),
-    })
+    let free = free_of(alloc, tables.bindings)?;
+    ways_of(alloc, tables.several, free.as_slice(), order.as_slice())
 }
 
-/// Makes the block of a rule set: a step for each rule, from the highest priority down, and equal ones in their order.
-/// Where the term isn't `multi`, rules are tried in turn until one holds (`isle_core/specs/BlockRun.antt`); `iterator`
+// Makes the block of rules, highest priority first, and equal ones in their order.
+fn tree_of(alloc: Global, tables: &Tables<'_>, rules: &[FlatRule]) -> Result<Block, AllocError>
+    ensures { IfOk result (λ b. Tree.IsTree (ground tables.now)
+        (map (Ways.way_of tables.now.several (paths_of tables.now.bindings.now))
+        (by_priority rules.now)) [] (BlockViews.block b)) }
+{
+    let ways = sorted_ways(alloc, tables, rules)?;
+    let mut bound = Scope::new(alloc);
+    let depth = depth_of(ways.as_slice());
+    let steps = steps_of(alloc, tables, &mut bound, depth, ways.as_slice())?;
+    Ok(block_of(steps))
+}
+
+/// Makes the block of a rule set: rules from the highest priority down, and equal ones in their order, neighbours that
+/// test one thing first sharing a match over it. Where the term isn't `multi`, the first rule is taken that holds (`isle_core/specs/BlockRun.antt`); `iterator`
 /// says that it is, and then each rule adds its results, its lists being gone through in loops of its own
 /// (`isle_core/specs/SeveralRun.antt`). A rule's calls are made after its tests, in order. What the block gives is
 /// promised where of the constraints that rules put on one path at most one holds (`isle_core/specs/ApartTests.antt`).
@@ -110,7 +115,7 @@ pub fn serialize(alloc: Global, rules: &RuleSet, iterator: bool) -> Result<Block
         is_several (kind_of t.kind) ≡ iterator → is_several (kind_of t.kind) ≡ true →
         AllByRecursion (HasItsLists env (paths_of rules.now.bindings)) rules.now.rules →
         GivesSeveral env rules.now (BlockViews.block b)) }
-    ensures single { IfOk result (λ b. HasSingleArms (BlockViews.block b)) }
+    ensures merged { IfOk result (λ b. iterator ≡ false → IsMerged (BlockViews.block b)) }
 {
     let fields = fields_of(alloc, rules.bindings.as_slice())?;
     let inners = followers_of(alloc, rules.bindings.as_slice(), Following::Inner)?;
@@ -122,5 +127,5 @@ pub fn serialize(alloc: Global, rules: &RuleSet, iterator: bool) -> Result<Block
         inners: &inners,
         items: &items,
     };
-    Ok(chained(alloc, &tables, rules.rules.as_slice())?)
+    Ok(tree_of(alloc, &tables, rules.rules.as_slice())?)
 }

@@ -1,0 +1,54 @@
+use Rattle.isle_core.specs.BlockViews.{block}
+use Rattle.std.proofs.Common.{false, subst}
+use Rattle.isle_blocks.proofs.Grown.{IsTreeOf, grown_by, tree_of_lawful, tree_of_makes, tree_of_means, tree_of_merged, tree_of_positions, tree_of_several, tree_of_tests}
+use Rattle.isle_blocks.proofs.serialization.serialize.Goals as goal
+
+pub returns-clause-means : goal.returns-clause-means
+returns-clause-means c =
+    let s = c.args.rules.now in
+    tree_of_means c.args.iterator s (block c.in_ok-tree_of.field-0)
+    (grown_by c.args.iterator s.bindings c.as_slice.result.now c.as_slice-2.result.now c.as_slice-3.result.now c.as_slice-4.result.now s.rules c.as_slice-5.result.now (block c.in_ok-tree_of.field-0) c.in_ok-fields.fields c.in_ok-inners.inners c.in_ok-items.items
+    c.as_slice.ensures c.as_slice-2.ensures c.as_slice-3.ensures c.as_slice-4.ensures c.as_slice-5.ensures c.in_ok-fields.ensures c.in_ok-inners.ensures c.in_ok-items.ensures c.in_ok-tree_of.ensures)
+
+pub returns-clause-positions : goal.returns-clause-positions
+returns-clause-positions c =
+    let s = c.args.rules.now in
+    tree_of_positions c.args.iterator s (block c.in_ok-tree_of.field-0)
+    (grown_by c.args.iterator s.bindings c.as_slice.result.now c.as_slice-2.result.now c.as_slice-3.result.now c.as_slice-4.result.now s.rules c.as_slice-5.result.now (block c.in_ok-tree_of.field-0) c.in_ok-fields.fields c.in_ok-inners.inners c.in_ok-items.items
+    c.as_slice.ensures c.as_slice-2.ensures c.as_slice-3.ensures c.as_slice-4.ensures c.as_slice-5.ensures c.in_ok-fields.ensures c.in_ok-inners.ensures c.in_ok-items.ensures c.in_ok-tree_of.ensures)
+
+pub returns-clause-tests : goal.returns-clause-tests
+returns-clause-tests c =
+    let s = c.args.rules.now in
+    tree_of_tests c.args.iterator s (block c.in_ok-tree_of.field-0)
+    (grown_by c.args.iterator s.bindings c.as_slice.result.now c.as_slice-2.result.now c.as_slice-3.result.now c.as_slice-4.result.now s.rules c.as_slice-5.result.now (block c.in_ok-tree_of.field-0) c.in_ok-fields.fields c.in_ok-inners.inners c.in_ok-items.items
+    c.as_slice.ensures c.as_slice-2.ensures c.as_slice-3.ensures c.as_slice-4.ensures c.as_slice-5.ensures c.in_ok-fields.ensures c.in_ok-inners.ensures c.in_ok-items.ensures c.in_ok-tree_of.ensures)
+
+pub returns-clause-makes : goal.returns-clause-makes
+returns-clause-makes c =
+    let s = c.args.rules.now in
+    tree_of_makes c.args.iterator s (block c.in_ok-tree_of.field-0)
+    (grown_by c.args.iterator s.bindings c.as_slice.result.now c.as_slice-2.result.now c.as_slice-3.result.now c.as_slice-4.result.now s.rules c.as_slice-5.result.now (block c.in_ok-tree_of.field-0) c.in_ok-fields.fields c.in_ok-inners.inners c.in_ok-items.items
+    c.as_slice.ensures c.as_slice-2.ensures c.as_slice-3.ensures c.as_slice-4.ensures c.as_slice-5.ensures c.in_ok-fields.ensures c.in_ok-inners.ensures c.in_ok-items.ensures c.in_ok-tree_of.ensures)
+
+pub returns-clause-lawful : goal.returns-clause-lawful
+returns-clause-lawful c =
+    let s = c.args.rules.now in
+    tree_of_lawful c.args.iterator s (block c.in_ok-tree_of.field-0)
+    (grown_by c.args.iterator s.bindings c.as_slice.result.now c.as_slice-2.result.now c.as_slice-3.result.now c.as_slice-4.result.now s.rules c.as_slice-5.result.now (block c.in_ok-tree_of.field-0) c.in_ok-fields.fields c.in_ok-inners.inners c.in_ok-items.items
+    c.as_slice.ensures c.as_slice-2.ensures c.as_slice-3.ensures c.as_slice-4.ensures c.as_slice-5.ensures c.in_ok-fields.ensures c.in_ok-inners.ensures c.in_ok-items.ensures c.in_ok-tree_of.ensures)
+
+pub returns-clause-several : goal.returns-clause-several
+returns-clause-several c =
+    let s = c.args.rules.now in
+    tree_of_several c.args.iterator s (block c.in_ok-tree_of.field-0)
+    (grown_by c.args.iterator s.bindings c.as_slice.result.now c.as_slice-2.result.now c.as_slice-3.result.now c.as_slice-4.result.now s.rules c.as_slice-5.result.now (block c.in_ok-tree_of.field-0) c.in_ok-fields.fields c.in_ok-inners.inners c.in_ok-items.items
+    c.as_slice.ensures c.as_slice-2.ensures c.as_slice-3.ensures c.as_slice-4.ensures c.as_slice-5.ensures c.in_ok-fields.ensures c.in_ok-inners.ensures c.in_ok-items.ensures c.in_ok-tree_of.ensures)
+
+pub returns-clause-merged : goal.returns-clause-merged
+returns-clause-merged c = λ once.
+    let s = c.args.rules.now in
+    tree_of_merged s (block c.in_ok-tree_of.field-0)
+    (subst (λ several. IsTreeOf several s.bindings s.rules (block c.in_ok-tree_of.field-0)) once
+    (grown_by c.args.iterator s.bindings c.as_slice.result.now c.as_slice-2.result.now c.as_slice-3.result.now c.as_slice-4.result.now s.rules c.as_slice-5.result.now (block c.in_ok-tree_of.field-0) c.in_ok-fields.fields c.in_ok-inners.inners c.in_ok-items.items
+    c.as_slice.ensures c.as_slice-2.ensures c.as_slice-3.ensures c.as_slice-4.ensures c.as_slice-5.ensures c.in_ok-fields.ensures c.in_ok-inners.ensures c.in_ok-items.ensures c.in_ok-tree_of.ensures))
