@@ -1,4 +1,4 @@
-//! Target programs as trees: judged, printed, and run under given answers. What their text is, and what a run does,
+//! Target programs as trees: judged, printed, counted, and run under given answers. What their text is, and what a run does,
 //! stand in `docs/TARGET.md`.
 
 pub use isle_core::{
@@ -6,7 +6,7 @@ pub use isle_core::{
 };
 pub use isle_interpreter::{RunError, run_term};
 pub use isle_judging::well_formed;
-pub use isle_target::{print_program, rust_int_literal};
+pub use isle_target::{TreeCounts, print_program, rust_int_literal, tree_counts};
 pub use isle_tree::{
     Function, Operand, Program, Read, Stmt, TBind, TCall, TExpr, TFields, TPat, TraitFn, Ty,
     TypeBody, TypeItem,

@@ -13,7 +13,7 @@ pub item_path : (bs : List Binding) (source b : BindingId) → slice_get bs b.0 
 item_path bs source b e lt = at_before bs b (binding.Iterator source) e ∙ ap Chosen (get_or-take b.0 (paths_of bs) source.0 Nowhere lt)
 
 -- one among the first n paths
-taken : (ps : List Path) (n i : ℕ) → IsThere (get_or (take n ps) i Nowhere) → (i < n) × (get_or (take n ps) i Nowhere ≡ get_or ps i Nowhere)
+pub taken : (ps : List Path) (n i : ℕ) → IsThere (get_or (take n ps) i Nowhere) → (i < n) × (get_or (take n ps) i Nowhere ≡ get_or ps i Nowhere)
 taken ps zero i h = absurd h
 taken [] (suc n) i h = absurd h
 taken (p ∷ ps) (suc n) zero h = (omega arith, refl)

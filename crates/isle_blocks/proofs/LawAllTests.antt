@@ -1,25 +1,19 @@
--- A chain makes each test of the rules that are tried.
-use Rattle.std.proofs.Common.{◌≡◌, inl, inr, ⊎_elim, ℕ, List, [], ◌∷◌, Bool, true, false, not, ◌&&◌, cond}
-use Rattle.std.proofs.Common.{Option, Some, None, refl, sym, ap, ◌∙◌, subst, true≢false}
+-- A rule's nest of tests makes each of them.
+use Rattle.std.proofs.Common.{inl, inr, ⊎_elim, ℕ, List, [], ◌∷◌, Bool, true, false}
+use Rattle.std.proofs.Common.{Option, Some, None, ap}
 use Rattle.std.specs.Prelude.{slice_get, Contains}
 use Rattle.isle_core.specs.declared.BindingId.{BindingId}
 use Rattle.isle_core.specs.declared.rule_sets.Binding.{Binding}
 use Rattle.isle_core.specs.declared.rule_sets.Constraint.{Constraint}
-use Rattle.isle_core.specs.declared.rule_sets.FlatRule.{FlatRule}
-use Rattle.isle_core.specs.declared.rule_sets.RuleSet.{RuleSet}
 use Rattle.isle_core.specs.ArmPlaces.{bound_within}
 use Rattle.isle_core.specs.Bindable.{bound_by}
 use Rattle.isle_core.specs.Block.{Control, Match, NoArm, Arm}
-use Rattle.isle_core.specs.BlockViews.{SeenStep, block_of}
-use Rattle.isle_core.proofs.Contained.{head_contained, tail_contained, contained_cases, none_contained}
-use Rattle.isle_blocks.specs.AllTests.{HoldsTest, DoesTest, IsTried, MakesTests}
-use Rattle.isle_blocks.specs.Tree.{no_tests}
+use Rattle.isle_core.specs.BlockViews.{SeenStep}
+use Rattle.isle_core.proofs.Contained.{contained_cases, none_contained}
+use Rattle.isle_blocks.specs.AllTests.{DoesTest}
 use Rattle.isle_blocks.specs.Needed.{list_before, needs}
 use Rattle.isle_blocks.specs.Nest.{Shows, Behind, alone, option_before, open_by, opening, opened}
-use Rattle.isle_blocks.specs.Nest.{last_step, all_matched, all_equated}
-use Rattle.isle_blocks.specs.Order.{is_above, by_priority}
-use Rattle.isle_blocks.proofs.LawOrder.{NoneAbove, Falls, by_priority_falls}
-use Rattle.isle_blocks.proofs.RulesInOrder.{in_order_has, in_order_keeps}
+use Rattle.isle_blocks.specs.Nest.{all_matched}
 
 -- ---- a step
 

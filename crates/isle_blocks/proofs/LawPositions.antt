@@ -1,40 +1,28 @@
--- Where a chain returns, it has the position of the rule whose result it gives.
+-- Where a rule's nest of tests returns, it has the position of what returns inside it.
 use Rattle.std.proofs.Common.{◌≡◌, ℕ, List, [], ◌∷◌, ◌++◌, Bool, true, false, cond, ◌&&◌, Option, Some, None, map, refl, ap, ◌∙◌}
-use Rattle.std.specs.List.{AllByRecursion}
 use Rattle.isle_core.specs.declared.BindingId.{BindingId}
 use Rattle.isle_core.specs.declared.position.Pos.{Pos}
 use Rattle.isle_core.specs.declared.rule_sets.Binding.{Binding}
 use Rattle.isle_core.specs.declared.rule_sets.Constraint.{Constraint}
-use Rattle.isle_core.specs.declared.rule_sets.FlatRule.{FlatRule}
-use Rattle.isle_core.specs.declared.types.Term.{Term}
 use Rattle.isle_core.specs.Value.{Value, Made}
 use Rattle.isle_core.specs.Meaning.{Meaning}
 use Rattle.isle_core.specs.Path.{Path, at, paths_of}
 use Rattle.isle_core.specs.Tests.{Test}
 use Rattle.isle_core.specs.ValueAt.{Known, nothing_known, value_at, meets, equal_held, all_hold}
-use Rattle.isle_core.specs.CallRun.{Went, Goes, Ends, then_go, returns, run_calls}
-use Rattle.isle_core.specs.RuleSet.{is_test, equal_test, flat_tests, flat_holds, flat_run}
+use Rattle.isle_core.specs.CallRun.{Went, Goes, Ends, then_go, returns}
+use Rattle.isle_core.specs.RuleSet.{is_test, equal_test}
 use Rattle.isle_core.specs.ArmPlaces.{bound_within}
 use Rattle.isle_core.specs.Bindable.{bound_by}
-use Rattle.isle_core.specs.Block.{Block, Stop, Control}
-use Rattle.isle_core.specs.BlockViews.{SeenStep, block_of}
+use Rattle.isle_core.specs.Block.{Stop, Control}
+use Rattle.isle_core.specs.BlockViews.{SeenStep}
 use Rattle.isle_core.specs.BlockRun.{bind_all, control_run}
-use Rattle.isle_core.specs.ReturnPosition.{then_position, or_else, block_position, control_position, rule_position, set_position}
-use Rattle.isle_core.specs.StandsFor.{EachOnce}
-use Rattle.isle_core.specs.Serializable.{IsSerializableRule}
-use Rattle.isle_core.specs.Calling.{kind_of, is_several}
+use Rattle.isle_core.specs.ReturnPosition.{then_position, or_else, block_position, control_position}
 use Rattle.isle_core.specs.Rule.{Environment}
-use Rattle.isle_blocks.specs.Order.{by_priority}
 use Rattle.isle_blocks.specs.Needed.{needs}
-use Rattle.isle_blocks.specs.Nest.{Shows, Behind, alone, last_step, all_matched, all_equated}
-use Rattle.isle_blocks.specs.Tree.{no_tests}
-use Rattle.isle_blocks.proofs.LawFirst.{first, first_is_highest}
-use Rattle.isle_blocks.proofs.LawOrder.{all_in_order}
-use Rattle.isle_blocks.proofs.LawBinds.{last_binds_run}
+use Rattle.isle_blocks.specs.Nest.{Shows, Behind, alone, all_matched, all_equated}
 use Rattle.isle_blocks.proofs.NeededRuns.{AreStill, needs_still}
-use Rattle.isle_blocks.proofs.NextLaws.{FindsNext}
-use Rattle.isle_blocks.proofs.StillRules.{StillLast, StillEquated, StillMatched, StillRule}
-use Rattle.isle_blocks.proofs.LawChain.{AllHold, hold_more, step_run}
+use Rattle.isle_blocks.proofs.StillRules.{StillEquated, StillMatched}
+use Rattle.isle_blocks.proofs.LawNest.{AllHold, hold_more, step_run}
 
 -- ---- one step
 

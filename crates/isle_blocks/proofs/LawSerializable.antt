@@ -1,9 +1,9 @@
--- A chain of ready rules is lawful, and each Match of it has one arm.
-use Rattle.std.proofs.Common.{◌≡◌, ◌⊎◌, inl, inr, ⊎_elim, ℕ, List, [], ◌∷◌, ◌++◌, Bool, true, false, not, ◌&&◌, cond, Option, Some, None, map, refl, sym, ap, ◌∙◌, subst}
+-- The step of a rule that is ready is lawful.
+use Rattle.std.proofs.Common.{◌≡◌, ◌⊎◌, inr, ⊎_elim, ℕ, List, [], ◌∷◌, ◌++◌, Bool, true, false, cond, Option, Some, None, map, refl, sym, ap, ◌∙◌, subst}
 use Rattle.std.specs.Prelude.{Contains}
 use Rattle.std.specs.List.{AllByRecursion}
 use Rattle.std.proofs.lemmas.List.{append-nil}
-use Rattle.std.proofs.lemmas.List.Elements.{Contains-push, Contains-append_left, Contains-append_right}
+use Rattle.std.proofs.lemmas.List.Elements.{Contains-push}
 use Rattle.isle_core.specs.declared.BindingId.{BindingId}
 use Rattle.isle_core.specs.declared.TypeId.{TypeId}
 use Rattle.isle_core.specs.declared.rule_sets.Binding.{Binding}
@@ -15,31 +15,26 @@ use Rattle.isle_core.specs.Calling.{kind_of, is_several}
 use Rattle.isle_core.specs.Path.{Path, Nowhere, Chosen, at, paths_of}
 use Rattle.isle_core.specs.PathType.{IsListOf}
 use Rattle.isle_core.specs.Block.{Block, Stop, Control, Match, Equal, Loop, Return, Arm, NoArm}
-use Rattle.isle_core.specs.BlockViews.{SeenStep, block_of}
+use Rattle.isle_core.specs.BlockViews.{SeenStep}
 use Rattle.isle_core.specs.ArmPlaces.{ArePlacesOf, bound_within}
 use Rattle.isle_core.specs.Bindable.{bound_by}
-use Rattle.isle_core.specs.BlockLawful.{Source, AValue, AnOption, IsReadIn, IsConstraintOver, IsLawfulFrom, IsLawfulControl, LoopsOnce, looped_by, without, IsLawfulBlock}
-use Rattle.isle_core.specs.NewItems.{HasNewItems}
+use Rattle.isle_core.specs.BlockLawful.{Source, AValue, AnOption, IsReadIn, IsConstraintOver, IsLawfulControl, LoopsOnce}
 use Rattle.isle_core.specs.Readable.{IsReadAs}
 use Rattle.isle_core.specs.StandsFor.{EachOnce}
-use Rattle.isle_core.specs.Serializable.{StandsOn, IsValueTest, IsTest, AreTestable, AreComparable, IsSerializableList, constraint_tests, IsSerializableRule, occurrences_of}
+use Rattle.isle_core.specs.Serializable.{StandsOn, IsValueTest, IsTest, AreTestable, AreComparable, IsSerializableList, constraint_tests, IsSerializableRule}
 use Rattle.isle_core.specs.Rule.{Environment}
 use Rattle.isle_core.specs.RuleSet.{is_test}
 use Rattle.isle_core.specs.Setting.{Setting, setting, gives_several}
 use Rattle.isle_core.specs.Tests.{Test}
-use Rattle.isle_core.specs.SingleArms.{HasSingleArms, IsSingle}
 use Rattle.isle_core.specs.Occurrences.{AreNew, occurrences, after_control}
 use Rattle.isle_core.proofs.BindingPaths.{IsThere, path_there, option_there, place_once}
 use Rattle.isle_core.proofs.Contained.{none_contained, contained_cases}
-use Rattle.isle_blocks.specs.Order.{by_priority}
 use Rattle.isle_blocks.specs.Followers.{FindsInners, FindsItems}
 use Rattle.isle_blocks.specs.declared.fields.Shown.{Shown}
 use Rattle.isle_blocks.specs.Fields.{FieldKey, FindsFields, shows}
 use Rattle.isle_blocks.specs.Needed.{is_bound, needs}
 use Rattle.isle_blocks.specs.Nest.{Shows, Behind, alone, opened, binds, left_calls, left_item, items_left, left_items, last_binds, last_step, all_matched, all_equated}
 use Rattle.isle_blocks.specs.Tree.{no_tests}
-use Rattle.isle_blocks.proofs.LawOrder.{all_in_order}
-use Rattle.isle_blocks.proofs.RulesInOrder.{occurrences_in_order}
 use Rattle.isle_blocks.proofs.Behind.{IsBehind, behind_test}
 use Rattle.isle_blocks.proofs.FieldPlaces.{AreFieldsTyped, fields_lawful, inner_lawful}
 use Rattle.isle_blocks.proofs.FreshLists.{needs_fresh, last_fresh, ordered_plain}
@@ -48,17 +43,16 @@ use Rattle.isle_core.specs.ListOrder.{ListsWithin}
 use Rattle.isle_blocks.proofs.LawBinds.{last_occurrences}
 use Rattle.isle_blocks.proofs.ListsRead.{HasOpened, read_within}
 use Rattle.isle_blocks.proofs.OrderItems.{NeedLists, AreItemsNew}
-use Rattle.isle_blocks.proofs.LawBound.{came_behind, came_holds, came_from, stands_more, binds_all, binds_still}
-use Rattle.isle_blocks.proofs.MadeBefore.{IsWithin, within_none, within_same, within_needs, within_places, was_tested}
-use Rattle.isle_blocks.proofs.MoreBound.{by_kept, still_lawful}
+use Rattle.isle_blocks.proofs.LawBound.{came_behind, came_holds, stands_more, binds_all, binds_still}
+use Rattle.isle_blocks.proofs.MadeBefore.{IsWithin, within_needs, within_places, was_tested}
+use Rattle.isle_blocks.proofs.MoreBound.{by_kept}
 use Rattle.isle_blocks.proofs.NeededBound.{is_marked, all_read_as, first_read, needs_read, option_needs, IsItemReady, items_needed}
 use Rattle.isle_blocks.proofs.NeededRuns.{AreStill, needs_uncalled}
 use Rattle.isle_blocks.proofs.NextLaws.{FindsNext}
 use Rattle.isle_blocks.proofs.Openable.{AreOpenable, openable_append}
-use Rattle.isle_blocks.proofs.OncePairs.{each_first, each_second, each_apart}
-use Rattle.isle_blocks.proofs.OpenedSteps.{Within, only_append, only_none, MakesOnly, DoesOnly, opened_only, opened_holds, IsLawfulAlone, opened_lawful, LoopsAlways, opened_loops}
+use Rattle.isle_blocks.proofs.OpenedSteps.{Within, only_append, only_none, MakesOnly, DoesOnly, opened_only, IsLawfulAlone, opened_lawful, LoopsAlways, opened_loops}
 use Rattle.isle_blocks.proofs.PushedBinds.{bound_append}
-use Rattle.isle_blocks.proofs.StillRules.{StillBehind, StillLast, StillEquated, StillMatched, StillRule}
+use Rattle.isle_blocks.proofs.StillRules.{StillBehind, StillLast, StillEquated, StillMatched}
 
 -- ---- controls
 
@@ -333,12 +327,6 @@ module _ (several : Bool) (env : Environment) (t : Term) (bs : List Binding) (fo
       good_needs f made bound (c.0 ∷ []) (Match c.0 (Arm c.1 places (alone step) NoArm)) ready.binds ready.still (tt, (ready.over, ready.read, (ready.constraint', ready.places', body.lawful, tt)))
       (λ ks w. only_append (OfRule f made) ks (after_control (is_several (kind_of t.kind)) env ps (ks ++ occurrences env ps step.0) step.1 ++ []) w (only_append (OfRule f made) (after_control (is_several (kind_of t.kind)) env ps (ks ++ occurrences env ps step.0) step.1) [] (body.only ks w) (only_none (OfRule f made))))
       (λ fresh. (body.loops fresh, tt))
-
-  -- the tests of a rule, in order
-  pub came_within : (ps : List Path) (f : FlatRule) (bound : List ℕ) → IsWithin env ps (came_behind [] (constraint_tests ps f)) bound → IsWithin env ps (constraint_tests ps f) bound
-  came_within ps f bound k =
-      within_same env ps (constraint_tests ps f) (came_behind [] (constraint_tests ps f)) bound (λ x j. came_holds [] (constraint_tests ps f) x (inr j))
-      (λ x j. ⊎_elim (λ none. absurd (none_contained x none)) (λ i. i) (came_from [] (constraint_tests ps f) x j)) k
 
   -- what constraints are read with
   pub matched_still : (cs : List (BindingId × Constraint)) (P : List ℕ → Type 0) (tests : List Test) (bound : List ℕ) → IsWithin env (paths_of bs) tests bound → AreTestable env t (paths_of bs) tests cs

@@ -1,5 +1,5 @@
--- A chain tests what the rules of its set test, and each of its Returns is that of one rule.
-use Rattle.std.proofs.Common.{◌≡◌, ℕ, List, [], ◌∷◌, Bool, true, false, not, ◌&&◌, cond, Option, Some, None, refl, ap}
+-- A rule's step tests what the rule tests, and its Return is the rule's.
+use Rattle.std.proofs.Common.{◌≡◌, ℕ, List, [], ◌∷◌, Bool, true, false, Option, Some, None, refl, ap}
 use Rattle.std.specs.Prelude.{slice_get, Contains}
 use Rattle.std.specs.List.{AllByRecursion}
 use Rattle.isle_core.specs.declared.BindingId.{BindingId}
@@ -10,16 +10,13 @@ use Rattle.isle_core.specs.declared.rule_sets.FlatRule.{FlatRule}
 use Rattle.isle_core.specs.declared.rule_sets.RuleSet.{RuleSet}
 use Rattle.isle_core.specs.ArmPlaces.{bound_within}
 use Rattle.isle_core.specs.Bindable.{bound_by}
-use Rattle.isle_core.specs.Block.{Control, Match, Equal, Return, NoArm, Arm}
-use Rattle.isle_core.specs.BlockViews.{SeenStep, block_of}
+use Rattle.isle_core.specs.Block.{Control, Match, Equal, NoArm, Arm}
+use Rattle.isle_core.specs.BlockViews.{SeenStep}
 use Rattle.isle_core.proofs.Contained.{head_contained, tail_contained}
-use Rattle.isle_blocks.specs.Tree.{no_tests}
 use Rattle.isle_blocks.specs.Needed.{list_before, needs}
-use Rattle.isle_blocks.specs.Nest.{Shows, Behind, alone, option_before, open_by, opening, opened, last_binds, last_step, all_matched, all_equated}
-use Rattle.isle_blocks.specs.Order.{by_priority}
-use Rattle.isle_blocks.specs.RuleTests.{of_rule, of_inner, TestsRules, DoesRules}
+use Rattle.isle_blocks.specs.Nest.{Shows, Behind, alone, option_before, open_by, opening, opened, all_matched, all_equated}
+use Rattle.isle_blocks.specs.RuleTests.{of_rule, of_inner, DoesRules}
 use Rattle.isle_blocks.proofs.FollowerLaws.{inner_is}
-use Rattle.isle_blocks.proofs.LawOrder.{all_in_order}
 
 -- ---- what is among
 

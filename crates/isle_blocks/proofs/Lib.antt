@@ -23,7 +23,7 @@ pub mod FreshLists
 pub mod MadeBefore
 pub mod LawBinds
 pub mod LawBound
-pub mod LawChain
+pub mod LawNest
 pub mod LawPositions
 pub mod LawTests
 pub mod LawAllTests
@@ -32,6 +32,8 @@ pub mod LawSerializable
 pub mod OpenedItems
 pub mod CalledItems
 pub mod NewItemLaws
+pub mod EachOrdered
+pub mod HeldPaths
 pub mod OnceCalls
 pub mod ListsRead
 pub mod OpenedRuns
@@ -51,6 +53,9 @@ pub mod TreeItems
 pub mod TreeTests
 pub mod TreeMerged
 pub mod TreeMakes
+pub mod MovedTests
+pub mod TurnLaws
+pub mod ArrangedWays
 pub mod TreeStart
 pub mod ConstraintOrder
 pub mod ShortWays
@@ -62,6 +67,12 @@ pub mod StepLaws
 pub mod UnlistedTests
 pub mod WaySteps
 pub mod TreeSeveral
-pub mod TreeGives
-pub mod StartedWays
+pub mod LeftCounts
+pub mod NeedsAsked
+pub mod StepsAsked
+pub mod TreeAsked
+pub mod PlacesRead
 pub mod Grown
+pub mod AskedSets
+pub mod AskedRuns
+pub mod RulesRead

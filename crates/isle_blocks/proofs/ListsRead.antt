@@ -92,14 +92,6 @@ pub came_append : {A : Type 0} (before qs rs : List A) → came_behind before (q
 came_append before [] rs = refl
 came_append before (q ∷ qs) rs = came_append (q ∷ before) qs rs
 
-pub loops_append : (bs : List Binding) (xs ys : List BindingId) → loops bs (xs ++ ys) ≡ loops bs xs ++ loops bs ys
-loops_append bs [] ys = refl
-loops_append bs (x ∷ xs) ys = ap (λ r. loop_of bs (list_before (slice_get bs x.0)) ++ r) (loops_append bs xs ys) ∙ one (list_before (slice_get bs x.0))
-  where
-    one : (o : Option BindingId) → loop_of bs o ++ (loops bs xs ++ loops bs ys) ≡ (loop_of bs o ++ loops bs xs) ++ loops bs ys
-    one None = refl
-    one (Some source) = refl
-
 -- the lists within what is bound were opened, and their items are bound
 pub record HasOpened (bs : List Binding) (bound : List ℕ) (opened : List Path) : Type 0 where
   pub within : (b : BindingId) → Contains bound b.0 → ListsWithin opened (at (paths_of bs) b)

@@ -96,11 +96,6 @@ all_still_bindable s [] bound more h k = tt
 all_still_bindable s (b ∷ bs) bound more h k =
     (still_bindable s bound more (at (paths_in s) b) (slice_get s.bindings b.0) h k.0, all_still_bindable s bs (bound ++ b.0 ∷ []) (more ++ b.0 ∷ []) (keeps_push bound more b.0 h) k.1)
 
--- bind orders after one another
-pub bindable_append : (s : Setting) (xs ys : List BindingId) (bound : List ℕ) → AreBindable s bound xs → AreBindable s (bound_by bound xs) ys → AreBindable s bound (xs ++ ys)
-bindable_append s [] ys bound h k = k
-bindable_append s (x ∷ xs) ys bound h k = (h.0, bindable_append s xs ys (bound ++ x.0 ∷ []) h.1 k)
-
 -- ---- blocks
 
 still_read_in : (s : Setting) (bound more : List ℕ) (b : BindingId) (over : Source) → Keeps bound more → IsReadIn s bound b over → IsReadIn s more b over

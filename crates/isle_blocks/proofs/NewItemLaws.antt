@@ -1,5 +1,5 @@
 -- The Loops of a chain of ready rules go through new items.
-use Rattle.std.proofs.Common.{◌≡◌, inl, inr, ⊎_elim, ℕ, zero, suc, List, [], ◌∷◌, ◌++◌, Bool, true, false, not, ◌&&◌, cond, Option, Some, None, map, refl, sym, ◌∙◌, subst}
+use Rattle.std.proofs.Common.{◌≡◌, inr, ⊎_elim, ℕ, zero, suc, List, [], ◌∷◌, ◌++◌, Bool, true, false, Option, Some, None, map, refl, sym, ◌∙◌, subst}
 use Rattle.std.specs.Prelude.{Contains, unwrap_or}
 use Rattle.std.specs.List.{AllByRecursion}
 use Rattle.isle_core.specs.declared.BindingId.{BindingId}
@@ -10,11 +10,9 @@ use Rattle.isle_core.specs.declared.rule_sets.FlatRule.{FlatRule}
 use Rattle.isle_core.specs.declared.types.Term.{Term}
 use Rattle.isle_core.specs.ArmPlaces.{bound_within}
 use Rattle.isle_core.specs.Bindable.{bound_by}
-use Rattle.isle_core.specs.Block.{Block, Match, Equal, Return, Arm, NoArm}
-use Rattle.isle_core.specs.BlockViews.{block_of}
+use Rattle.isle_core.specs.Block.{Match, Equal, Return, Arm, NoArm}
 use Rattle.isle_core.specs.Calling.{kind_of, is_several}
 use Rattle.isle_core.specs.HoldsImpure.{holds_impure}
-use Rattle.isle_core.specs.NewItems.{HasNewItems, HasNewItemsFrom}
 use Rattle.isle_core.specs.Path.{Path, Chosen, at, at_all, paths_of}
 use Rattle.isle_core.specs.Rule.{Environment}
 use Rattle.isle_core.specs.Serializable.{StandsOn, IsTest, AreTestable, AreComparable, IsSerializableList, constraint_tests, IsSerializableRule}
@@ -24,23 +22,20 @@ use Rattle.isle_core.specs.StandsFor.{EachOnce}
 use Rattle.isle_core.specs.Tests.{Test}
 use Rattle.isle_core.proofs.Contained.{none_contained}
 use Rattle.isle_blocks.specs.CallsOnce.{HasCallsOnce}
-use Rattle.isle_blocks.specs.Tree.{no_tests}
 use Rattle.isle_blocks.specs.declared.fields.Shown.{Shown}
 use Rattle.isle_blocks.specs.declared.fields.Shown.TheVariants as shown
 use Rattle.isle_blocks.specs.Fields.{FieldKey, FindsFields, first_places, inner_place, shows}
 use Rattle.isle_blocks.specs.Followers.{FindsInners, FindsItems}
 use Rattle.isle_blocks.specs.Needed.{is_bound, needs}
 use Rattle.isle_blocks.specs.Nest.{Behind, alone, binds, left_calls, left_item, items_left, left_items, last_binds, last_step, all_matched, all_equated}
-use Rattle.isle_blocks.specs.Order.{by_priority}
-use Rattle.isle_blocks.proofs.CalledItems.{OfAny, once_left, AreEarly, early_none, early_needs, IsPlainPlace, early_within, behind_start, binds_anew}
+use Rattle.isle_blocks.proofs.CalledItems.{OfAny, once_left, AreEarly, early_needs, IsPlainPlace, early_within, behind_start, binds_anew}
 use Rattle.isle_blocks.proofs.ItemPaths.{item_path}
 use Rattle.isle_blocks.proofs.LawBound.{came_behind, came_holds, stands_more}
-use Rattle.isle_blocks.proofs.LawOrder.{all_in_order}
 use Rattle.isle_blocks.proofs.LawSerializable.{bound_has, list_there}
 use Rattle.isle_blocks.proofs.NeededBound.{is_marked}
 use Rattle.isle_blocks.proofs.NeededItems.{anew_append, anew_more, IsNeedable, AreNeedable, path_needable, list_needable, option_needable, needs_anew}
 use Rattle.isle_blocks.proofs.NextLaws.{FindsNext}
-use Rattle.isle_blocks.proofs.OpenedItems.{Covers, covers_within, covers_plain, IsNewStep, opened_new}
+use Rattle.isle_blocks.proofs.OpenedItems.{covers_within, IsNewStep, opened_new}
 
 -- ---- places
 

@@ -1,10 +1,12 @@
 -- Lists in another order.
-use Rattle.std.proofs.Common.{◌≡◌, ◌⊎◌, inl, inr, ⊎_elim, List, [], ◌∷◌, ◌++◌, Bool, true, false, cond, map, refl, ap, ◌∙◌, subst}
+use Rattle.std.proofs.Common.{◌≡◌, ◌⊎◌, inl, inr, ⊎_elim, ℕ, zero, suc, ◌<◌, List, [], ◌∷◌, ◌++◌, map, length, get_or, set, refl, sym, ap, ◌∙◌, subst, arith}
 use Rattle.std.specs.Prelude.{Contains}
-use Rattle.std.specs.List.{AllByRecursion}
-use Rattle.isle_core.specs.declared.rule_sets.FlatRule.{FlatRule}
+use Rattle.std.specs.List.{AllByRecursion, swap}
+use Rattle.std.specs.List.Sorted.{IsPermutation}
+use Rattle.std.proofs.lemmas.List.{length-set, get_or-set_same, get_or-set_other}
+use Rattle.std.proofs.lemmas.List.Edits.{swap_is}
+use Rattle.std.proofs.lemmas.List.Sorted.{IsPermutation-keeps}
 use Rattle.isle_core.proofs.Contained.{head_contained, tail_contained, contained_cases}
-use Rattle.isle_blocks.specs.Order.{is_above, insert_rule, by_priority}
 use Rattle.isle_blocks.specs.Reordered.{PutIn, here, later, IsReordered, nothing, more}
 
 -- ---- one more
@@ -88,19 +90,76 @@ pub reorder_twice : {A : Type 0} (xs ys zs : List A) → IsReordered xs ys → I
 reorder_twice xs ys zs nothing k = k
 reorder_twice xs ys zs (more x xs' ys' ys'' h i) k = let r = one_less x ys' ys zs i k in more x xs' r.less zs (reorder_twice xs' ys' r.less h r.order) r.put
 
--- ---- rules by priority
+-- ---- the other way round
 
-insert_puts : (f : FlatRule) (gs : List FlatRule) → PutIn f gs (insert_rule f gs)
-insert_puts f [] = here []
-insert_puts f (g ∷ gs) = pick (is_above g f) (insert_puts f gs)
-  where
-    pick : (b : Bool) → PutIn f gs (insert_rule f gs) → PutIn f (g ∷ gs) (cond b (g ∷ insert_rule f gs) (f ∷ g ∷ gs))
-    pick true k = later g gs (insert_rule f gs) k
-    pick false k = here (g ∷ gs)
+put_front : {A : Type 0} (x : A) (ys zs xs : List A) → PutIn x ys zs → IsReordered ys xs → IsReordered zs (x ∷ xs)
+put_front x ys zs xs (here ys') h = more x ys xs (x ∷ xs) h (here xs)
+put_front x ys zs xs (later y ys' zs' k) (more y' ys'' ws xs' h i) = more y zs' (x ∷ ws) (x ∷ xs) (put_front x ys' zs' ws k h) (later x ws xs i)
 
-pub priority_reorders : (fs : List FlatRule) → IsReordered fs (by_priority fs)
-priority_reorders [] = nothing
-priority_reorders (f ∷ fs) = more f fs (by_priority fs) (by_priority (f ∷ fs)) (priority_reorders fs) (insert_puts f (by_priority fs))
+pub reorder_back : {A : Type 0} (xs ys : List A) → IsReordered xs ys → IsReordered ys xs
+reorder_back xs ys nothing = nothing
+reorder_back xs ys (more x xs' ys' ys'' h i) = put_front x ys' ys xs' i (reorder_back xs' ys' h)
+
+pub reorder_same : {A : Type 0} (xs : List A) → IsReordered xs xs
+reorder_same [] = nothing
+reorder_same (x ∷ xs) = more x xs xs (x ∷ xs) (reorder_same xs) (here xs)
+
+-- what is left where one is taken away
+put_left : {A : Type 0} (x y : A) (ys zs us vs : List A) → x ≡ y → us ≡ vs → PutIn x ys us → PutIn y zs vs → IsReordered ys zs
+put_left x y ys zs us vs e h (here ys') (here zs') = let tail : ys ≡ zs = cc in subst (IsReordered ys) tail (reorder_same ys)
+put_left {A} x y ys zs us vs e h (here ys') (later w zs' vs' k) =
+    let tail : vs' ≡ ys = cc in
+    let head : y ≡ w = cc in
+    reorder_back zs ys (more w zs' zs' ys (reorder_same zs') (subst (λ (l : List A). PutIn w zs' l) tail (subst (λ (z : A). PutIn z zs' vs') head k)))
+put_left {A} x y ys zs us vs e h (later w ys' us' k) (here zs') =
+    let tail : us' ≡ zs = cc in
+    let head : x ≡ w = cc in
+    more w ys' ys' zs (reorder_same ys') (subst (λ (l : List A). PutIn w ys' l) tail (subst (λ (z : A). PutIn z ys' us') head k))
+put_left {A} x y ys zs us vs e h (later w ys' us' k) (later w' zs' vs' l) =
+    let tail : us' ≡ vs' = cc in
+    let head : w ≡ w' = cc in
+    more w ys' zs' zs (put_left x y ys' zs' us' vs' e tail k l) (subst (λ (z : A). PutIn w zs' (z ∷ zs')) head (here zs'))
+
+-- ---- places exchanged
+
+-- a list with another one at a place
+record SetAt {A : Type 0} (xs : List A) (i : ℕ) (x y : A) : Type 0 where
+  pub rest : List A
+  pub was : PutIn x rest xs
+  pub is : PutIn y rest (set xs i y)
+
+set_at : {A : Type 0} (xs : List A) (i : ℕ) (d y : A) → i < length xs → SetAt xs i (get_or xs i d) y
+set_at [] i d y lt = absurd (omega (arith, lt))
+set_at (x ∷ xs) zero d y lt = record { rest = xs; was = here xs; is = here xs }
+set_at (x ∷ xs) (suc i) d y lt =
+    let r = set_at xs i d y (omega (arith, lt)) in
+    record { rest = x ∷ r.rest; was = later x r.rest xs r.was; is = later x r.rest (set xs i y) r.is }
+
+same_place : (i j : ℕ) → (i ≡ j) ⊎ (i ≡ j → ⊥)
+same_place i j = grind (arith)
+
+swap_reorders : {A : Type 0} (xs : List A) (i j : ℕ) (d : A) → i < length xs → j < length xs → IsReordered xs (swap xs i j)
+swap_reorders {A} xs i j d p q =
+    let x = get_or xs i d in
+    let y = get_or xs j d in
+    let ys = set xs i y in
+    let long : length ys ≡ length xs = length-set xs i y in
+    let first = set_at xs i d y p in
+    let second = set_at ys j d x (omega (arith, q, long)) in
+    let still : get_or ys j d ≡ y = ⊎_elim (λ (e : j ≡ i). ap (λ n. get_or ys n d) e ∙ get_or-set_same xs i y d p) (λ n. get_or-set_other xs i j y d n) (same_place j i) in
+    let left = put_left y (get_or ys j d) first.rest second.rest ys ys (sym still) refl first.is second.was in
+    let moved = reorder_twice xs (x ∷ first.rest) (x ∷ second.rest) (reorder_back (x ∷ first.rest) xs (more x first.rest first.rest xs (reorder_same first.rest) first.was)) (more x first.rest second.rest (x ∷ second.rest) left (here second.rest)) in
+    subst (IsReordered xs) (swap_is xs i j d p q)
+    (reorder_twice xs (x ∷ second.rest) (set ys j x) moved (more x second.rest second.rest (set ys j x) (reorder_same second.rest) second.is))
+
+some_of : {A : Type 0} (xs : List A) → 0 < length xs → A
+some_of [] lt = absurd (omega (arith, lt))
+some_of (x ∷ xs) lt = x
+
+-- a permutation is an order
+pub permutation_reorders : {A : Type 0} (xs ys : List A) → IsPermutation xs ys → IsReordered xs ys
+permutation_reorders xs ys h = IsPermutation-keeps xs (IsReordered xs) (reorder_same xs)
+    (λ l i j p q k. reorder_twice xs l (swap l i j) k (swap_reorders l i j (some_of l (omega (arith, p))) p q)) ys h
 
 -- ---- what goes with others
 

@@ -13,7 +13,7 @@ use Rattle.isle_blocks.specs.Nest.{alone}
 use Rattle.isle_blocks.specs.Tree.{Way, Ground, way_step, source_needs, Tests, AllTest, TestsFirst, StartApart, IsTree}
 use Rattle.isle_blocks.specs.Tree.{no_tests}
 use Rattle.isle_blocks.specs.Tree as tree
-use Rattle.isle_blocks.specs.TreeSteps.{tests_first, run_length, steps_before, LeadsTo, IsUntested, Ends, LeadsOn, MayEnd, IsShared}
+use Rattle.isle_blocks.specs.TreeSteps.{tests_first, run_length, steps_before, LeadsTo, Ends, LeadsOn, MayEnd, IsShared}
 use Rattle.isle_blocks.specs.Ways.{way}
 
 -- ---- one step after another
@@ -123,14 +123,6 @@ run_of source (w ∷ ws) = pick (tests_first source w.early) refl (run_of source
     pick : (t : Bool) → tests_first source w.early ≡ t → Run source (take (run_length source ws) ws) → Run source (take (cond t (suc (run_length source ws)) 0) (w ∷ ws))
     pick true e r = let k = first_tests source w w.early refl e in record { js = k.0 ∷ r.js; tests = (k.1, r.tests) }
     pick false e r = record { js = []; tests = tt }
-
-pub run_within : (source : BindingId) (ws : List Way) → run_length source ws ≤ length ws
-run_within source [] = omega arith
-run_within source (w ∷ ws) = pick (tests_first source w.early) (run_within source ws)
-  where
-    pick : (t : Bool) → run_length source ws ≤ length ws → cond t (suc (run_length source ws)) 0 ≤ suc (length ws)
-    pick true le = omega (arith, le)
-    pick false le = omega arith
 
 -- the way after them doesn't test the source first
 run_apart : (source : BindingId) (ws : List Way) → StartApart source (drop (run_length source ws) ws)

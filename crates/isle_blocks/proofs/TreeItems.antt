@@ -1,59 +1,31 @@
 -- The Loops of a tree go through new items.
-use Rattle.std.proofs.Common.{◌≡◌, ◌⊎◌, inl, inr, ⊎_elim, ℕ, List, [], ◌∷◌, ◌++◌, Bool, true, false, ◌&&◌, Option, Some, None, map, refl, sym, ap, ◌∙◌, subst, append_assoc}
-use Rattle.std.specs.Prelude.{slice_get, Contains}
+use Rattle.std.proofs.Common.{◌≡◌, ℕ, List, [], ◌∷◌, ◌++◌, Bool, true, Option, sym, ap, subst}
+use Rattle.std.specs.Prelude.{Contains}
 use Rattle.std.specs.List.{AllByRecursion}
-use Rattle.std.proofs.lemmas.List.{append-nil}
-use Rattle.std.proofs.lemmas.List.Elements.{Contains-append_left, Contains-append_right, Contains-append_cases}
 use Rattle.isle_core.specs.declared.BindingId.{BindingId}
-use Rattle.isle_core.specs.declared.TypeId.{TypeId}
 use Rattle.isle_core.specs.declared.rule_sets.Binding.{Binding}
-use Rattle.isle_core.specs.declared.rule_sets.Binding.TheVariants as binding
 use Rattle.isle_core.specs.declared.rule_sets.Constraint.{Constraint}
-use Rattle.isle_core.specs.declared.rule_sets.Constraint.TheVariants as constraint
-use Rattle.isle_core.specs.declared.rule_sets.FlatRule.{FlatRule}
 use Rattle.isle_core.specs.declared.rule_sets.RuleSet.{RuleSet}
 use Rattle.isle_core.specs.declared.types.Term.{Term}
 use Rattle.isle_core.specs.ArmPlaces.{bound_within}
-use Rattle.isle_core.specs.Bindable.{IsBindable, AreBindable, bound_by}
-use Rattle.isle_core.specs.Block.{Block, Stop, Step, Control, Match, Equal, Arms, NoArm, Arm}
-use Rattle.isle_core.specs.BlockLawful.{Source, AValue, AnOption, IsReadIn, IsConstraintOver, IsLawfulFrom, IsLawfulControl, AreLawfulArms, HasArm, LoopsOnce, ArmsLoopOnce, looped_by, without}
-use Rattle.isle_core.specs.BlockViews.{SeenStep}
-use Rattle.isle_core.specs.Calling.{Calling, ByTurns, ByCases, NoCall, calling, extracting, kind_of, is_several}
-use Rattle.isle_core.specs.ExternalCall.{IsCall, IsExtraction}
-use Rattle.isle_core.specs.PathType.{IsPathOf, IsOptionOf}
-use Rattle.isle_core.specs.declared.types.ReturnKind.TheVariants as return_kind
-use Rattle.isle_core.specs.Occurrences.{AreNew, occurrences, after_block, after_control, after_arms}
-use Rattle.isle_core.specs.Path.{Path, Nowhere, Arg, ConstBool, ConstInt, ConstPrim, Extracted, Called, Chosen, MadeVariant, MadeStruct, VariantField, StructField, Wrapped, Inner, Part, Paths, NoPath, APath, at, paths_of}
+use Rattle.isle_core.specs.Bindable.{bound_by}
+use Rattle.isle_core.specs.Block.{Block, Arms}
+use Rattle.isle_core.specs.Calling.{kind_of, is_several}
+use Rattle.isle_core.specs.Path.{Path, Chosen, at, paths_of}
 use Rattle.isle_core.specs.Rule.{Environment}
 use Rattle.isle_core.specs.RuleSet.{is_test}
-use Rattle.isle_core.specs.Serializable.{AreTestable, IsTestable, constraint_tests, occurrences_of}
-use Rattle.isle_core.specs.Setting.{Setting, setting, gives_several, paths_in}
+use Rattle.isle_core.specs.Serializable.{AreTestable, constraint_tests}
+use Rattle.isle_core.specs.Setting.{Setting, setting}
 use Rattle.isle_core.specs.StandsFor.{EachOnce}
 use Rattle.isle_core.specs.Tests.{Test}
-use Rattle.isle_core.proofs.Contained.{none_contained}
 use Rattle.isle_blocks.specs.declared.fields.Shown.{Shown}
 use Rattle.isle_blocks.specs.Fields.{FieldKey, FindsFields, shows}
 use Rattle.isle_blocks.specs.Followers.{FindsInners, FindsItems}
-use Rattle.isle_blocks.specs.Free.{is_free, are_free}
-use Rattle.isle_blocks.specs.Needed.{list_before, needs}
-use Rattle.isle_blocks.specs.Tree.{no_tests}
-use Rattle.isle_blocks.specs.Nest.{alone, last_step, all_matched, all_equated}
-use Rattle.isle_blocks.specs.Tree.{Way, Ground, way_step, source_needs, Tests, AllTest, Parts, none, same, other, IsTree, own, last, shared, AreTrees, no_arm, arm}
-use Rattle.isle_blocks.proofs.FieldPlaces.{AreFieldsTyped}
-use Rattle.isle_blocks.proofs.LawBound.{came_behind}
-use Rattle.isle_blocks.proofs.LawSerializable.{IsReturn, before_others, matched_ends, IsTestReady, OfRule, IsGoodStep, test_ready, within_arm, matched_good, equated_good, last_good}
-use Rattle.isle_blocks.proofs.MadeBefore.{IsWithin, within_same, within_needs}
-use Rattle.isle_blocks.proofs.MoreBound.{by_kept, still_lawful}
-use Rattle.isle_blocks.proofs.NeededRuns.{IsStill, AreStill, needs_uncalled}
+use Rattle.isle_blocks.specs.Nest.{last_step, all_equated}
+use Rattle.isle_blocks.specs.Tree.{Way, Ground, way_step, source_needs, AllTest, Parts, none, same, other, IsTree, own, last, shared, AreTrees, no_arm, arm}
 use Rattle.isle_blocks.proofs.NextLaws.{FindsNext}
-use Rattle.isle_blocks.proofs.OncePairs.{each_first, each_second, each_apart, each_both}
-use Rattle.isle_blocks.proofs.Openable.{IsOpenable, AreOpenable, all_once_bindable}
-use Rattle.isle_blocks.proofs.OrderItems.{NeedCalled, NeedLists, AllNeedLists}
-use Rattle.isle_blocks.proofs.OrderedPlain.{NoItems, no_items}
-use Rattle.isle_blocks.proofs.PathTypes.{path_type_once}
-use Rattle.isle_blocks.proofs.TreeWays.{left_tests, IsAfter, AreAfter, rules_of, AreLeft, left_after, left_rules, same_after, others_left, some_left}
+use Rattle.isle_blocks.proofs.TreeWays.{IsAfter, AreAfter, AreLeft, left_after, same_after, others_left}
 use Rattle.isle_core.specs.NewItems.{HasNewItemsFrom, ArmsNewItems}
-use Rattle.isle_core.specs.HoldsImpure.{holds_impure}
 use Rattle.isle_blocks.specs.CallsOnce.{HasCallsOnce}
 use Rattle.isle_blocks.proofs.CalledItems.{AreEarly, early_needs, early_within, behind_start}
 use Rattle.isle_blocks.proofs.NeededItems.{needs_anew}

@@ -9,15 +9,13 @@ use Rattle.isle_core.specs.declared.TypeId.{TypeId}
 use Rattle.isle_core.specs.declared.rule_sets.Binding.{Binding}
 use Rattle.isle_core.specs.declared.rule_sets.Binding.TheVariants as binding
 use Rattle.isle_core.specs.declared.rule_sets.Constraint.{Constraint}
-use Rattle.isle_core.specs.declared.rule_sets.Constraint.TheVariants as constraint
 use Rattle.isle_core.specs.declared.rule_sets.FlatRule.{FlatRule}
 use Rattle.isle_core.specs.declared.rule_sets.RuleSet.{RuleSet}
 use Rattle.isle_core.specs.declared.types.Term.{Term}
 use Rattle.isle_core.specs.ArmPlaces.{bound_within}
 use Rattle.isle_core.specs.Bindable.{IsBindable, AreBindable, bound_by}
-use Rattle.isle_core.specs.Block.{Block, Stop, Step, Control, Match, Equal, Arms, NoArm, Arm}
-use Rattle.isle_core.specs.BlockLawful.{Source, AValue, AnOption, IsReadIn, IsConstraintOver, IsLawfulFrom, IsLawfulControl, AreLawfulArms, HasArm, LoopsOnce, ArmsLoopOnce, looped_by, without}
-use Rattle.isle_core.specs.BlockViews.{SeenStep}
+use Rattle.isle_core.specs.Block.{Block, Stop, Match, Arms}
+use Rattle.isle_core.specs.BlockLawful.{Source, AValue, AnOption, IsReadIn, IsConstraintOver, IsLawfulFrom, AreLawfulArms, HasArm, LoopsOnce, ArmsLoopOnce, looped_by, without}
 use Rattle.isle_core.specs.Calling.{Calling, ByTurns, ByCases, NoCall, calling, extracting, kind_of, is_several}
 use Rattle.isle_core.specs.ExternalCall.{IsCall, IsExtraction}
 use Rattle.isle_core.specs.PathType.{IsPathOf, IsOptionOf}
@@ -35,13 +33,13 @@ use Rattle.isle_blocks.specs.declared.fields.Shown.{Shown}
 use Rattle.isle_blocks.specs.Fields.{FieldKey, FindsFields, shows}
 use Rattle.isle_blocks.specs.Followers.{FindsInners, FindsItems}
 use Rattle.isle_blocks.specs.Free.{is_free, are_free}
-use Rattle.isle_blocks.specs.Needed.{list_before, needs}
+use Rattle.isle_blocks.specs.Needed.{list_before}
 use Rattle.isle_blocks.specs.Tree.{no_tests}
-use Rattle.isle_blocks.specs.Nest.{alone, last_step, all_matched, all_equated}
+use Rattle.isle_blocks.specs.Nest.{last_step, all_matched, all_equated}
 use Rattle.isle_blocks.specs.Tree.{Way, Ground, way_step, source_needs, Tests, AllTest, Parts, none, same, other, IsTree, own, last, shared, AreTrees, no_arm, arm}
 use Rattle.isle_blocks.proofs.FieldPlaces.{AreFieldsTyped}
 use Rattle.isle_blocks.proofs.LawBound.{came_behind}
-use Rattle.isle_blocks.proofs.LawSerializable.{IsReturn, before_others, matched_ends, IsTestReady, OfRule, IsGoodStep, test_ready, within_arm, matched_good, equated_good, last_good}
+use Rattle.isle_blocks.proofs.LawSerializable.{IsReturn, before_others, matched_ends, IsTestReady, IsGoodStep, test_ready, within_arm, matched_good, equated_good, last_good}
 use Rattle.isle_blocks.proofs.MadeBefore.{IsWithin, within_same, within_needs}
 use Rattle.isle_blocks.proofs.MoreBound.{by_kept, still_lawful}
 use Rattle.isle_blocks.proofs.NeededRuns.{IsStill, AreStill, needs_uncalled}
@@ -51,7 +49,8 @@ use Rattle.isle_blocks.proofs.Openable.{IsOpenable, AreOpenable, all_once_bindab
 use Rattle.isle_blocks.proofs.OrderItems.{NeedCalled, NeedLists, AllNeedLists}
 use Rattle.isle_blocks.proofs.OrderedPlain.{NoItems, no_items}
 use Rattle.isle_blocks.proofs.PathTypes.{path_type_once}
-use Rattle.isle_blocks.proofs.TreeWays.{left_tests, IsAfter, AreAfter, rules_of, AreLeft, left_after, left_rules, same_after, others_left, some_left}
+use Rattle.isle_blocks.proofs.TreeWays.{IsAfter, AreAfter, AreLeft, left_after, left_rules, same_after, others_left, some_left}
+use Rattle.isle_blocks.specs.Arranged.{rules_of}
 
 -- ---- what is read without a chosen item
 

@@ -2,7 +2,7 @@
 use Rattle.std.proofs.Common.{◌≡◌, ◌⊎◌, inl, inr, ⊎_elim, ℕ, List, [], ◌∷◌, ◌++◌, Bool, true, false, Option, map, refl, sym, ap, ◌∙◌, subst, true≢false}
 use Rattle.std.specs.Prelude.{Contains}
 use Rattle.std.specs.List.{AllByRecursion}
-use Rattle.std.proofs.lemmas.List.Elements.{Contains-append_left, Contains-append_right, Contains-append_cases}
+use Rattle.std.proofs.lemmas.List.Elements.{Contains-append_cases}
 use Rattle.isle_core.specs.declared.BindingId.{BindingId}
 use Rattle.isle_core.specs.declared.rule_sets.Binding.{Binding}
 use Rattle.isle_core.specs.declared.rule_sets.Constraint.{Constraint}
@@ -10,13 +10,13 @@ use Rattle.isle_core.specs.declared.rule_sets.FlatRule.{FlatRule}
 use Rattle.isle_core.specs.Block.{Block, Arms}
 use Rattle.isle_core.proofs.RulePairs.{all_at}
 use Rattle.isle_core.proofs.Contained.{head_contained, tail_contained, contained_cases, none_contained}
-use Rattle.isle_blocks.specs.AllTests.{HoldsTest, DoesTest, HasTestWithin, HasArm, AreAmong, IsTried}
+use Rattle.isle_blocks.specs.AllTests.{HoldsTest, HasTestWithin, HasArm, AreAmong, IsTried}
 use Rattle.isle_blocks.specs.Nest.{Shows, last_step, all_equated}
 use Rattle.isle_blocks.specs.Order.{is_above}
-use Rattle.isle_blocks.specs.Tree.{Way, Ground, way_step, source_needs, Tests, AllTest, Parts, none, same, other, IsTree, own, last, shared, AreTrees, no_arm, arm}
+use Rattle.isle_blocks.specs.Tree.{Way, Ground, Tests, AllTest, Parts, none, same, other, IsTree, own, last, shared, AreTrees, no_arm, arm}
 use Rattle.isle_blocks.proofs.LawAllTests.{matched_makes}
-use Rattle.isle_blocks.proofs.LawOrder.{NoneAbove, Falls}
-use Rattle.isle_blocks.proofs.TreeWays.{rules_of}
+use Rattle.isle_blocks.specs.Order.{NoneAbove, Falls}
+use Rattle.isle_blocks.specs.Arranged.{rules_of}
 
 -- ---- ways after tests
 

@@ -1,16 +1,16 @@
 -- A tree of a term that answers once is merged.
-use Rattle.std.proofs.Common.{◌≡◌, ℕ, List, [], ◌∷◌, ◌++◌, Bool, false, Option, refl, sym, ap, ◌∙◌, subst}
+use Rattle.std.proofs.Common.{◌≡◌, ℕ, List, [], ◌∷◌, ◌++◌, false, Option, sym, ◌∙◌, subst}
 use Rattle.std.specs.List.{AllByRecursion}
 use Rattle.isle_core.specs.declared.BindingId.{BindingId}
 use Rattle.isle_core.specs.declared.rule_sets.Binding.{Binding}
 use Rattle.isle_core.specs.declared.rule_sets.Constraint.{Constraint}
 use Rattle.isle_core.specs.Bindable.{bound_by}
-use Rattle.isle_core.specs.Block.{Block, Stop, Step, Control, Match, Equal, Loop, Return, Arms, NoArm, Arm}
+use Rattle.isle_core.specs.Block.{Block, Stop, Step, Control, Match, Equal, Loop, Return, Arms}
 use Rattle.isle_core.specs.BlockViews.{SeenStep}
 use Rattle.isle_blocks.specs.Merged.{NoMatchNext, AreNeighboursApart, IsNewArm, IsMerged, IsMergedControl, AreMergedArms}
 use Rattle.isle_blocks.specs.Needed.{needs}
 use Rattle.isle_blocks.specs.Nest.{Shows, Behind, last_step, all_matched, all_equated}
-use Rattle.isle_blocks.specs.Tree.{Way, Ground, way_step, source_needs, Tests, AllTest, Parts, none, same, other, TestsFirst, StartApart, IsTree, own, last, shared, AreTrees, no_arm, arm}
+use Rattle.isle_blocks.specs.Tree.{Way, Ground, way_step, AllTest, Parts, none, same, other, TestsFirst, StartApart, IsTree, own, last, shared, AreTrees, no_arm, arm}
 
 -- no Match
 abbrev IsNoMatch : Control → Type 0

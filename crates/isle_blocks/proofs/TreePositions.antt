@@ -1,7 +1,7 @@
 -- A tree of rules of a term that answers once returns where the first of them does that holds.
-use Rattle.std.proofs.Common.{◌≡◌, ◌⊎◌, inl, inr, ⊎_elim, ℕ, List, [], ◌∷◌, ◌++◌, Bool, true, false, cond, ◌&&◌, Option, Some, None, map, refl, sym, ap, ◌∙◌, subst}
+use Rattle.std.proofs.Common.{◌≡◌, ℕ, List, [], ◌∷◌, ◌++◌, Bool, true, false, cond, ◌&&◌, Option, Some, None, map, refl, sym, ap, ◌∙◌, subst}
 use Rattle.std.specs.Prelude.{Contains}
-use Rattle.std.specs.List.{AllByRecursion, list_all}
+use Rattle.std.specs.List.{list_all}
 use Rattle.isle_core.specs.declared.BindingId.{BindingId}
 use Rattle.isle_core.specs.declared.rule_sets.Binding.{Binding}
 use Rattle.isle_core.specs.declared.rule_sets.Constraint.{Constraint}
@@ -9,37 +9,35 @@ use Rattle.isle_core.specs.declared.rule_sets.FlatRule.{FlatRule}
 use Rattle.isle_core.specs.declared.rule_sets.RuleSet.{RuleSet}
 use Rattle.isle_core.specs.declared.types.Term.{Term}
 use Rattle.isle_core.specs.Answered.{Held}
-use Rattle.isle_core.specs.ApartTests.{AreTestsApart, IsPut}
+use Rattle.isle_core.specs.ApartTests.{AreTestsApart}
 use Rattle.isle_core.specs.ArmPlaces.{bound_within}
 use Rattle.isle_core.specs.Bindable.{bound_by}
-use Rattle.isle_core.specs.Block.{Block, Stop, Step, Match, Arms, NoArm, Arm}
-use Rattle.isle_core.specs.BlockRun.{bind_all, block_run, control_run, arms_run}
-use Rattle.isle_core.specs.CallRun.{Went, Goes, Ends, then_go, returns, run_calls}
+use Rattle.isle_core.specs.Block.{Block, Stop, Step, Match, Arms}
+use Rattle.isle_core.specs.BlockRun.{bind_all, control_run}
+use Rattle.isle_core.specs.CallRun.{Went, Goes, run_calls}
 use Rattle.isle_core.specs.Value.{Made}
 use Rattle.isle_core.specs.Calling.{kind_of, is_several}
 use Rattle.isle_core.specs.Meaning.{Meaning}
 use Rattle.isle_core.specs.Path.{Path, Chosen, at, paths_of}
 use Rattle.isle_core.specs.Rule.{Environment}
-use Rattle.isle_core.specs.RuleSet.{is_test, equal_test, flat_tests, flat_holds, flat_run}
-use Rattle.isle_core.specs.Serializable.{AreTestable, IsTestable, constraint_tests, IsSerializableRule}
+use Rattle.isle_core.specs.RuleSet.{is_test, equal_test, flat_holds, flat_run}
+use Rattle.isle_core.specs.Serializable.{AreTestable, constraint_tests}
 use Rattle.isle_core.specs.StandsFor.{EachOnce}
-use Rattle.isle_core.specs.Tests.{Test, Is}
+use Rattle.isle_core.specs.Tests.{Test}
 use Rattle.isle_core.specs.Value.{Value}
-use Rattle.isle_core.specs.ValueAt.{Known, nothing_known, value_at, holds, all_hold, meets}
-use Rattle.isle_core.proofs.Contained.{head_contained, tail_contained, none_contained, contained_cases}
+use Rattle.isle_core.specs.ValueAt.{Known, nothing_known, value_at, holds, meets}
 use Rattle.isle_blocks.specs.declared.fields.Shown.{Shown}
 use Rattle.isle_blocks.specs.Fields.{FieldKey, FindsFields, shows}
 use Rattle.isle_blocks.specs.Followers.{FindsInners, FindsItems}
-use Rattle.isle_blocks.specs.Needed.{needs}
-use Rattle.isle_blocks.specs.Nest.{alone, last_step, all_matched, all_equated}
-use Rattle.isle_blocks.specs.Tree.{Way, Ground, way_step, source_needs, Tests, AllTest, Parts, none, same, other, IsTree, own, last, shared, AreTrees, no_arm, arm}
+use Rattle.isle_blocks.specs.Nest.{last_step, all_equated}
+use Rattle.isle_blocks.specs.Tree.{Way, Ground, way_step, source_needs, none, IsTree, own, last, shared, AreTrees, no_arm, arm}
 use Rattle.isle_blocks.proofs.FieldPlaces.{AreFieldsTyped}
-use Rattle.isle_blocks.proofs.LawBound.{came_behind, came_holds, came_from}
-use Rattle.isle_blocks.proofs.LawChain.{step_run, DoesWhere, AllHold, matched_does, equated_does, last_runs, result_ends}
+use Rattle.isle_blocks.proofs.LawBound.{came_behind}
+use Rattle.isle_blocks.proofs.LawNest.{step_run}
 use Rattle.isle_blocks.proofs.LawFirst.{first}
-use Rattle.isle_blocks.proofs.LawSerializable.{IsTestReady, test_ready, within_arm, matched_still, equated_still, last_still}
+use Rattle.isle_blocks.proofs.LawSerializable.{within_arm, matched_still, equated_still, last_still}
 use Rattle.isle_blocks.proofs.MadeBefore.{IsWithin, within_same, within_needs}
-use Rattle.isle_blocks.proofs.NeededRuns.{AreStill, needs_still}
+use Rattle.isle_blocks.proofs.NeededRuns.{needs_still}
 use Rattle.isle_blocks.proofs.NextLaws.{FindsNext}
 use Rattle.isle_blocks.proofs.StillRules.{StillLast, StillEquated}
 use Rattle.isle_blocks.proofs.TreeRuns.{went, one_holds, each_holds, came_hold, all_both, way_holds, own_does, met_same, unmet_others, some, first_append, rules_append, untested_holds, after_first, ready_at, arms_runs}
@@ -48,7 +46,8 @@ use Rattle.isle_blocks.proofs.LawPositions.{step_position, before_others, matche
 use Rattle.isle_core.specs.declared.position.Pos.{Pos}
 use Rattle.isle_core.specs.ReturnPosition.{then_position, or_else, block_position, control_position, arms_position, rule_position}
 use Rattle.isle_core.specs.BlockViews.{SeenStep}
-use Rattle.isle_blocks.proofs.TreeWays.{left_tests, IsAfter, AreAfter, rules_of, AreLeft, left_after, left_rules, same_after, others_left, some_left}
+use Rattle.isle_blocks.proofs.TreeWays.{IsAfter, AreAfter, AreLeft, left_after, left_rules, same_after, others_left, some_left}
+use Rattle.isle_blocks.specs.Arranged.{rules_of}
 
 module _ (env : Environment) (t : Term) (m : Meaning) (args : List Value) (s : RuleSet) (answers_once : is_several (kind_of t.kind) ≡ false) (apart : AreTestsApart env m args s)
     (found : FieldKey → Option BindingId) (counts : Shown → Option ℕ) (inners next items : ℕ → Option BindingId) (finds : FindsFields s.bindings found counts)

@@ -1,5 +1,5 @@
 -- A tree of rules of a term that answers once gives what the first of them gives that holds.
-use Rattle.std.proofs.Common.{◌≡◌, ◌⊎◌, inl, inr, ⊎_elim, ℕ, List, [], ◌∷◌, ◌++◌, Bool, true, false, cond, ◌&&◌, Option, Some, None, map, refl, sym, ap, ◌∙◌, subst}
+use Rattle.std.proofs.Common.{◌≡◌, ◌⊎◌, inl, inr, ℕ, List, [], ◌∷◌, ◌++◌, Bool, true, false, cond, ◌&&◌, Option, Some, None, map, refl, sym, ap, ◌∙◌, subst}
 use Rattle.std.specs.Prelude.{Contains}
 use Rattle.std.specs.List.{AllByRecursion, list_all}
 use Rattle.isle_core.specs.declared.BindingId.{BindingId}
@@ -12,37 +12,37 @@ use Rattle.isle_core.specs.Answered.{Held}
 use Rattle.isle_core.specs.ApartTests.{AreTestsApart, IsPut}
 use Rattle.isle_core.specs.ArmPlaces.{bound_within}
 use Rattle.isle_core.specs.Bindable.{bound_by}
-use Rattle.isle_core.specs.Block.{Block, Stop, Step, Match, Arms, NoArm, Arm}
-use Rattle.isle_core.specs.BlockRun.{bind_all, block_run, control_run, arms_run}
-use Rattle.isle_core.specs.CallRun.{Went, Goes, Ends, then_go, returns, run_calls}
+use Rattle.isle_core.specs.Block.{Block, Stop, Match, Arms}
+use Rattle.isle_core.specs.BlockRun.{block_run, control_run, arms_run}
+use Rattle.isle_core.specs.CallRun.{Went, Goes, then_go, run_calls}
 use Rattle.isle_core.specs.Value.{Made}
 use Rattle.isle_core.specs.Calling.{kind_of, is_several}
 use Rattle.isle_core.specs.Meaning.{Meaning}
 use Rattle.isle_core.specs.Path.{Path, Chosen, at, paths_of}
 use Rattle.isle_core.specs.Rule.{Environment}
-use Rattle.isle_core.specs.RuleSet.{is_test, equal_test, flat_tests, flat_holds, flat_run}
-use Rattle.isle_core.specs.Serializable.{AreTestable, IsTestable, constraint_tests, IsSerializableRule}
+use Rattle.isle_core.specs.RuleSet.{is_test, equal_test, flat_holds, flat_run}
+use Rattle.isle_core.specs.Serializable.{AreTestable, IsTestable, constraint_tests}
 use Rattle.isle_core.specs.StandsFor.{EachOnce}
 use Rattle.isle_core.specs.Tests.{Test, Is}
 use Rattle.isle_core.specs.Value.{Value}
-use Rattle.isle_core.specs.ValueAt.{Known, nothing_known, value_at, holds, all_hold, meets}
+use Rattle.isle_core.specs.ValueAt.{Known, nothing_known, value_at, holds, meets}
 use Rattle.isle_core.proofs.Contained.{head_contained, tail_contained, none_contained, contained_cases}
 use Rattle.isle_blocks.specs.declared.fields.Shown.{Shown}
 use Rattle.isle_blocks.specs.Fields.{FieldKey, FindsFields, shows}
 use Rattle.isle_blocks.specs.Followers.{FindsInners, FindsItems}
-use Rattle.isle_blocks.specs.Needed.{needs}
-use Rattle.isle_blocks.specs.Nest.{alone, last_step, all_matched, all_equated}
-use Rattle.isle_blocks.specs.Tree.{Way, Ground, way_step, source_needs, Tests, AllTest, Parts, none, same, other, IsTree, own, last, shared, AreTrees, no_arm, arm}
+use Rattle.isle_blocks.specs.Nest.{last_step, all_equated}
+use Rattle.isle_blocks.specs.Tree.{Way, Ground, way_step, source_needs, Parts, none, same, other, IsTree, own, last, shared, AreTrees, no_arm, arm}
 use Rattle.isle_blocks.proofs.FieldPlaces.{AreFieldsTyped}
-use Rattle.isle_blocks.proofs.LawBound.{came_behind, came_holds, came_from}
-use Rattle.isle_blocks.proofs.LawChain.{step_run, DoesWhere, AllHold, matched_does, equated_does, last_runs, result_ends}
+use Rattle.isle_blocks.proofs.LawBound.{came_behind, came_holds}
+use Rattle.isle_blocks.proofs.LawNest.{step_run, matched_does, equated_does, last_runs, result_ends}
 use Rattle.isle_blocks.proofs.LawFirst.{first}
 use Rattle.isle_blocks.proofs.LawSerializable.{IsTestReady, test_ready, within_arm, matched_still, equated_still, last_still}
 use Rattle.isle_blocks.proofs.MadeBefore.{IsWithin, within_same, within_needs}
-use Rattle.isle_blocks.proofs.NeededRuns.{AreStill, needs_still}
+use Rattle.isle_blocks.proofs.NeededRuns.{needs_still}
 use Rattle.isle_blocks.proofs.NextLaws.{FindsNext}
 use Rattle.isle_blocks.proofs.StillRules.{StillLast, StillEquated}
-use Rattle.isle_blocks.proofs.TreeWays.{left_tests, IsAfter, AreAfter, rules_of, AreLeft, left_after, left_rules, same_after, others_left, some_left}
+use Rattle.isle_blocks.proofs.TreeWays.{left_tests, IsAfter, AreAfter, AreLeft, left_after, left_rules, same_after, others_left, some_left}
+use Rattle.isle_blocks.specs.Arranged.{rules_of}
 
 -- ---- runs
 

@@ -55,7 +55,8 @@ use Rattle.isle_blocks.proofs.Reorders.{put_behind, put_before, reorder_append, 
 use Rattle.isle_blocks.proofs.RuleRuns.{places_opened}
 use Rattle.isle_blocks.proofs.StepCalls.{WentOn, NoInners, went_both, grows_none, bind_knows, bind_grows, step_then, knows_more, opening_plain, equated_plain, matched_plain, all_not_inner, after_has}
 use Rattle.isle_blocks.proofs.TreeLawful.{own_good, free_lists}
-use Rattle.isle_blocks.proofs.TreeWays.{left_tests, IsAfter, AreAfter, rules_of, AreLeft, left_after, left_rules, same_after, others_left, some_left}
+use Rattle.isle_blocks.proofs.TreeWays.{left_tests, IsAfter, AreAfter, AreLeft, left_after, left_rules, same_after, others_left, some_left}
+use Rattle.isle_blocks.specs.Arranged.{rules_of}
 use Rattle.isle_blocks.proofs.UnlistedTests.{IsUnlisted, holds_at, unlisted_free, adds_nothing, test_stays, tests_stay}
 use Rattle.isle_blocks.proofs.WaySteps.{way_lists, way_early, way_run}
 

@@ -1,9 +1,12 @@
 -- The ways of rules none of whose tests is made.
-use Rattle.std.proofs.Common.{◌≡◌, ◌⊎◌, inl, inr, ⊎_elim, ℕ, zero, suc, List, [], ◌∷◌, ◌++◌, Bool, true, false, cond, map, take, drop, length, refl, sym, ap, ◌∙◌, subst}
+use Rattle.std.proofs.Common.{◌≡◌, inl, inr, ⊎_elim, ℕ, zero, suc, ◌<◌, ◌≤◌, List, [], ◌∷◌, ◌++◌, Bool, true, false, cond, map, take, drop, length, get_or, refl, sym, ap, ◌∙◌, subst, arith}
 use Rattle.std.specs.Prelude.{Contains}
 use Rattle.std.specs.List.{AllByRecursion}
-use Rattle.std.proofs.lemmas.List.Elements.{Contains-append_left, Contains-append_right}
+use Rattle.std.specs.List.Sorted.{IsNonDecreasingBy}
+use Rattle.std.proofs.lemmas.List.{take-append-drop}
+use Rattle.std.proofs.lemmas.List.Elements.{Contains-append_left, Contains-append_right, Contains-append_cases}
 use Rattle.isle_core.specs.declared.BindingId.{BindingId}
+use Rattle.isle_core.specs.declared.rule_sets.Binding.{Binding}
 use Rattle.isle_core.specs.declared.rule_sets.Constraint.{Constraint}
 use Rattle.isle_core.specs.declared.rule_sets.FlatRule.{FlatRule}
 use Rattle.isle_core.specs.declared.rule_sets.RuleSet.{RuleSet}
@@ -12,30 +15,40 @@ use Rattle.isle_core.specs.Path.{Path, at, paths_of}
 use Rattle.isle_core.specs.Rule.{Environment}
 use Rattle.isle_core.specs.RuleSet.{is_test}
 use Rattle.isle_core.specs.Serializable.{AreTestable, constraint_tests, IsSerializableRule}
+use Rattle.isle_core.specs.StandsFor.{EachOnce}
 use Rattle.isle_core.specs.Tests.{Test}
 use Rattle.isle_core.proofs.Contained.{head_contained, tail_contained, contained_cases, none_contained}
+use Rattle.isle_core.proofs.RulePairs.{all_from, all_at}
 use Rattle.isle_blocks.specs.AllTests.{AreAmong}
+use Rattle.isle_blocks.specs.Arranged.{rules_of, IsArranged, AreArranged}
 use Rattle.isle_blocks.specs.Free.{is_free}
+use Rattle.isle_blocks.specs.Order.{Falls}
+use Rattle.isle_blocks.specs.Reordered.{IsReordered}
 use Rattle.isle_blocks.specs.Tree.{Way}
+use Rattle.isle_blocks.specs.Turns.{TurnsRise, rank}
 use Rattle.isle_blocks.specs.Ways.{early_count, shared_count, way_of}
 use Rattle.isle_blocks.proofs.LawBound.{came_behind, came_holds, came_from}
+use Rattle.isle_blocks.proofs.MovedTests.{RanksRise, testable_by_ranks}
+use Rattle.isle_blocks.proofs.Reorders.{permutation_reorders, reorder_all, reorder_has, reorder_keeps}
 use Rattle.isle_blocks.proofs.TreeLawful.{AreFreeTests}
 use Rattle.isle_blocks.proofs.TreeMakes.{IsOn}
 use Rattle.isle_blocks.proofs.TreeTests.{IsOf}
-use Rattle.isle_blocks.proofs.TreeWays.{IsAfter, AreAfter, rules_of}
+use Rattle.isle_blocks.proofs.TreeWays.{IsAfter}
 
-take_drop : {A : Type 0} (n : ℕ) (xs : List A) → take n xs ++ drop n xs ≡ xs
-take_drop zero xs = refl
-take_drop (suc n) [] = refl
-take_drop (suc n) (x ∷ xs) = ap (λ ys. x ∷ ys) (take_drop n xs)
+-- all tests of a way's rule are left, in an order in which they may be made; of a term that answers several times the early ones are of free
+-- paths, and of one that answers once all are early
+pub record IsStart (several : Bool) (bs : List Binding) (w : Way) : Type 0 where
+  pub has : (c : BindingId × Constraint) → Contains w.rule.constraints c → Contains (w.early ++ w.late) c
+  pub only : (c : BindingId × Constraint) → Contains (w.early ++ w.late) c → Contains w.rule.constraints c
+  pub free : AreFreeTests several (paths_of bs) w
+  pub whole : several ≡ false → w.late ≡ []
+  pub testable : (env : Environment) (t : Term) → EachOnce (paths_of bs) → AreTestable env t (paths_of bs) [] w.rule.constraints → AreTestable env t (paths_of bs) [] (w.early ++ w.late)
+
+-- ---- of the rule's own order
 
 drop_all : {A : Type 0} (xs : List A) → drop (length xs) xs ≡ []
 drop_all [] = refl
 drop_all (x ∷ xs) = drop_all xs
-
-each_among : {A : Type 0} (xs ys : List A) → ((x : A) → Contains ys x → Contains xs x) → AllByRecursion (Contains xs) ys
-each_among xs [] h = tt
-each_among xs (y ∷ ys) h = (h y (head_contained y ys), each_among xs ys (λ x c. h x (tail_contained y ys x c)))
 
 early_free : (ps : List Path) (cs : List (BindingId × Constraint)) → AllByRecursion (λ (c : BindingId × Constraint). is_free (at ps c.0) ≡ true) (take (early_count ps cs) cs)
 early_free ps [] = tt
@@ -46,71 +59,106 @@ early_free ps (c ∷ cs) = pick (is_free (at ps c.0)) refl (early_free ps cs)
     pick true e h = (e, h)
     pick false e h = tt
 
-module _ (several : Bool) (ps : List Path) where
-  -- its tests are the rule's
-  pub start_tests : (f : FlatRule) → (way_of several ps f).early ++ (way_of several ps f).late ≡ f.constraints
-  start_tests f = take_drop (shared_count several ps f.constraints) f.constraints
+free_early : (several : Bool) (ps : List Path) (f : FlatRule) → AreFreeTests several ps (way_of several ps f)
+free_early true ps f is = early_free ps f.constraints
+free_early false ps f is = absurd cc
 
-  pub start_rules : (fs : List FlatRule) → rules_of (map (way_of several ps) fs) ≡ fs
-  start_rules [] = refl
-  start_rules (f ∷ fs) = ap (λ gs. f ∷ gs) (start_rules fs)
+none_late : (several : Bool) (ps : List Path) (f : FlatRule) → several ≡ false → (way_of several ps f).late ≡ []
+none_late false ps f is = drop_all f.constraints
+none_late true ps f is = absurd cc
 
-  start_free : (b : Bool) (f : FlatRule) → several ≡ b → AreFreeTests several ps (way_of several ps f)
-  start_free true f e = λ is. subst (λ x. AllByRecursion (λ (c : BindingId × Constraint). is_free (at ps c.0) ≡ true) (take (shared_count x ps f.constraints) f.constraints)) (sym e) (early_free ps f.constraints)
-  start_free false f e = λ is. let bad = sym is ∙ e in absurd cc
+-- ---- arranged
 
-  pub starts_free : (fs : List FlatRule) → AllByRecursion (AreFreeTests several ps) (map (way_of several ps) fs)
-  starts_free [] = tt
-  starts_free (f ∷ fs) = (start_free several f refl, starts_free fs)
+ranks_rise : (turns : List ℕ) (cs : List (BindingId × Constraint)) → ((i j : ℕ) (d : BindingId × Constraint) → i ≤ j → j < length cs → rank turns (get_or cs i d).0 ≤ rank turns (get_or cs j d).0) → RanksRise turns cs
+ranks_rise turns [] h = tt
+ranks_rise turns (c ∷ cs) h = (each cs (λ j k. h 0 (suc j) c (omega arith) (omega arith)), ranks_rise turns cs (λ i j d a b. h (suc i) (suc j) d (omega arith) (omega arith)))
+  where
+    each : (ds : List (BindingId × Constraint)) → ((j : ℕ) → j < length ds → rank turns c.0 ≤ rank turns (get_or ds j c).0) → AllByRecursion (λ (d : BindingId × Constraint). rank turns c.0 ≤ rank turns d.0) ds
+    each [] k = tt
+    each (d ∷ ds) k = (k 0 (omega arith), each ds (λ j l. k (suc j) (omega arith)))
 
-  pub start_on : (f : FlatRule) → IsOn [] (way_of several ps f)
-  start_on f = record {
-    tests = λ c i. absurd (none_contained c i);
-    all = λ c i. inr (subst (λ cs. Contains cs c) (sym (start_tests f)) i);
-  }
+pub arranged_starts : (several : Bool) (bs : List Binding) (turns : List ℕ) (w : Way) → TurnsRise bs turns → IsArranged turns (way_of several (paths_of bs) w.rule) w → IsStart several bs w
+arranged_starts several bs turns w rise h = record {
+  has = λ c i. ⊎_elim (λ j. Contains-append_left w.early w.late c (reorder_keeps v.early w.early c order j)) (λ j. Contains-append_right w.early w.late c (subst (λ cs. Contains cs c) (sym h.late) j)) (Contains-append_cases v.early v.late c (subst (λ cs. Contains cs c) (sym all) i));
+  only = λ c i. subst (λ cs. Contains cs c) all (⊎_elim (λ j. Contains-append_left v.early v.late c (reorder_has v.early w.early c order j)) (λ j. Contains-append_right v.early v.late c (subst (λ cs. Contains cs c) h.late j)) (Contains-append_cases w.early w.late c i));
+  free = λ is. reorder_all (λ (c : BindingId × Constraint). is_free (at ps c.0) ≡ true) v.early w.early order (free_early several ps w.rule is);
+  whole = λ is. h.late ∙ none_late several ps w.rule is;
+  testable = λ env t once k. subst (λ cs. AreTestable env t ps [] (w.early ++ cs)) (sym h.late)
+      (testable_by_ranks bs turns rise once env t v.early w.early v.late (ranks_rise turns w.early h.sorted) (λ c i. reorder_keeps v.early w.early c order i) (λ c i. reorder_has v.early w.early c order i) (subst (AreTestable env t ps []) (sym all) k));
+}
+  where
+    ps : List Path
+    ps = paths_of bs
 
-  pub start_of : (s : RuleSet) (f : FlatRule) → Contains s.rules f → IsOf s (way_of several ps f)
-  start_of s f there =
-      let w = way_of several ps f in
-      record {
-        there = there;
-        early = each_among f.constraints w.early (λ c i. subst (λ cs. Contains cs c) (start_tests f) (Contains-append_left w.early w.late c i));
-        late = each_among f.constraints w.late (λ c i. subst (λ cs. Contains cs c) (start_tests f) (Contains-append_right w.early w.late c i));
-      }
+    v : Way
+    v = way_of several ps w.rule
 
-  pub starts_of : (s : RuleSet) (fs : List FlatRule) → AllByRecursion (Contains s.rules) fs → AllByRecursion (IsOf s) (map (way_of several ps) fs)
-  starts_of s [] h = tt
-  starts_of s (f ∷ fs) h = (start_of s f h.0, starts_of s fs h.1)
+    all : v.early ++ v.late ≡ w.rule.constraints
+    all = take-append-drop (shared_count several ps w.rule.constraints) w.rule.constraints
 
-  pub start_among : (f : FlatRule) → AreAmong ((way_of several ps f).early ++ (way_of several ps f).late) f.constraints
-  start_among f = each_among f.constraints ((way_of several ps f).early ++ (way_of several ps f).late) (λ c i. subst (λ cs. Contains cs c) (start_tests f) i)
+    order : IsReordered v.early w.early
+    order = permutation_reorders v.early w.early h.tests
 
-  -- the way of a rule is among those of rules
-  pub start_in : (fs : List FlatRule) (f : FlatRule) → Contains fs f → Contains (map (way_of several ps) fs) (way_of several ps f)
-  start_in [] f i = absurd (none_contained f i)
-  start_in (g ∷ fs) f i = ⊎_elim
-      (λ (e : g ≡ f). subst (λ x. Contains (way_of several ps g ∷ map (way_of several ps) fs) (way_of several ps x)) e (head_contained (way_of several ps g) (map (way_of several ps) fs)))
-      (λ j. tail_contained (way_of several ps g) (map (way_of several ps) fs) (way_of several ps f) (start_in fs f j)) (contained_cases g fs f i)
+-- ---- what holds of such a way
 
--- where nothing is left for later
-pub starts_early : (ps : List Path) (fs : List FlatRule) → AllByRecursion (λ (w : Way). w.late ≡ []) (map (way_of false ps) fs)
-starts_early ps [] = tt
-starts_early ps (f ∷ fs) = (drop_all f.constraints, starts_early ps fs)
+pub start_on : (several : Bool) (bs : List Binding) (w : Way) → IsStart several bs w → IsOn [] w
+start_on several bs w h = record { tests = λ c i. absurd (none_contained c i); all = λ c i. inr (h.has c i) }
+
+pub start_among : (several : Bool) (bs : List Binding) (w : Way) → IsStart several bs w → AreAmong (w.early ++ w.late) w.rule.constraints
+start_among several bs w h = all_from (Contains w.rule.constraints) (w.early ++ w.late) h.only
+
+pub start_of : (several : Bool) (bs : List Binding) (s : RuleSet) (w : Way) → IsStart several bs w → Contains s.rules w.rule → IsOf s w
+start_of several bs s w h there = record {
+  there = there;
+  early = all_from (Contains w.rule.constraints) w.early (λ c i. h.only c (Contains-append_left w.early w.late c i));
+  late = all_from (Contains w.rule.constraints) w.late (λ c i. h.only c (Contains-append_right w.early w.late c i));
+}
 
 -- after no test
-start_after : (several : Bool) (env : Environment) (t : Term) (s : RuleSet) (f : FlatRule) → Contains s.rules f → IsSerializableRule env t (paths_of s.bindings) f → IsAfter env t s [] (way_of several (paths_of s.bindings) f)
-start_after several env t s f there h =
+pub start_after : (several : Bool) (env : Environment) (t : Term) (s : RuleSet) (w : Way) → EachOnce (paths_of s.bindings) → IsStart several s.bindings w → Contains s.rules w.rule → IsSerializableRule env t (paths_of s.bindings) w.rule → IsAfter env t s [] w
+start_after several env t s w once k there h =
     let ps = paths_of s.bindings in
-    let all = start_tests several ps f in
-    let tests = constraint_tests ps f in
     record {
       there = there;
       rule = h;
-      testable = subst (AreTestable env t ps []) (sym all) h.constraints;
-      made = λ x c. subst (λ (cs : List (BindingId × Constraint)). Contains (came_behind [] (map (is_test ps) cs)) x) (sym all) (came_holds [] tests x (inr c));
-      only = λ x c. ⊎_elim (λ i. absurd (none_contained x i)) (λ i. i) (came_from [] tests x (subst (λ (cs : List (BindingId × Constraint)). Contains (came_behind [] (map (is_test ps) cs)) x) all c));
+      testable = k.testable env t once h.constraints;
+      made = λ x c. came_holds [] (map (is_test ps) (w.early ++ w.late)) x (inr (among ps w.rule.constraints (w.early ++ w.late) k.has x c));
+      only = λ x c. among ps (w.early ++ w.late) w.rule.constraints k.only x (⊎_elim (λ i. absurd (none_contained x i)) (λ i. i) (came_from [] (map (is_test ps) (w.early ++ w.late)) x c));
     }
+  where
+    keeps : (ps : List Path) (cs : List (BindingId × Constraint)) (c : BindingId × Constraint) → Contains cs c → Contains (map (is_test ps) cs) (is_test ps c)
+    keeps ps [] c i = absurd (none_contained c i)
+    keeps ps (d ∷ cs) c i = ⊎_elim (λ (e : d ≡ c). subst (λ x. Contains (is_test ps d ∷ map (is_test ps) cs) (is_test ps x)) e (head_contained (is_test ps d) (map (is_test ps) cs))) (λ j. tail_contained (is_test ps d) (map (is_test ps) cs) (is_test ps c) (keeps ps cs c j)) (contained_cases d cs c i)
 
-pub starts_after : (several : Bool) (env : Environment) (t : Term) (s : RuleSet) (fs : List FlatRule) → AllByRecursion (Contains s.rules) fs → AllByRecursion (IsSerializableRule env t (paths_of s.bindings)) fs → AreAfter env t s [] (map (way_of several (paths_of s.bindings)) fs)
-starts_after several env t s [] k h = tt
-starts_after several env t s (f ∷ fs) k h = (start_after several env t s f k.0 h.0, starts_after several env t s fs k.1 h.1)
+    among : (ps : List Path) (cs ds : List (BindingId × Constraint)) → ((c : BindingId × Constraint) → Contains cs c → Contains ds c) → (x : Test) → Contains (map (is_test ps) cs) x → Contains (map (is_test ps) ds) x
+    among ps [] ds f x i = absurd (none_contained x i)
+    among ps (c ∷ cs) ds f x i = ⊎_elim (λ (e : is_test ps c ≡ x). subst (Contains (map (is_test ps) ds)) e (keeps ps ds c (f c (head_contained c cs)))) (λ j. among ps cs ds (λ d k. f d (tail_contained c cs d k)) x j) (contained_cases (is_test ps c) (map (is_test ps) cs) x i)
+
+-- ---- of the ways of rules
+
+pub rule_has : (ws : List Way) (w : Way) → Contains ws w → Contains (rules_of ws) w.rule
+rule_has [] w c = absurd (none_contained w c)
+rule_has (v ∷ ws) w c = ⊎_elim (λ (e : v ≡ w). subst (λ x. Contains (v.rule ∷ rules_of ws) x.rule) e (head_contained v.rule (rules_of ws))) (λ j. tail_contained v.rule (rules_of ws) w.rule (rule_has ws w j)) (contained_cases v ws w c)
+
+-- a way of the rule
+pub record HasWay (ws : List Way) (f : FlatRule) : Type 0 where
+  pub way : Way
+  pub there : Contains ws way
+  pub rule : way.rule ≡ f
+
+pub has_way : (ws : List Way) (f : FlatRule) → Contains (rules_of ws) f → HasWay ws f
+has_way [] f c = absurd (none_contained f c)
+has_way (w ∷ ws) f c = ⊎_elim (λ (e : w.rule ≡ f). record { way = w; there = head_contained w ws; rule = e }) (λ j. let r = has_way ws f j in record { way = r.way; there = tail_contained w ws r.way r.there; rule = r.rule }) (contained_cases w.rule (rules_of ws) f c)
+
+module _ (several : Bool) (bs : List Binding) (fs : List FlatRule) (ws : List Way) (h : AreArranged several bs fs ws) where
+  pub ways_order : IsReordered fs (rules_of ws)
+  ways_order = permutation_reorders fs (rules_of ws) h.order
+
+  pub way_starts : (w : Way) → Contains ws w → IsStart several bs w
+  way_starts w c = arranged_starts several bs h.turns w h.rise (all_at (λ (v : Way). IsArranged h.turns (way_of several (paths_of bs) v.rule) v) ws w h.each c)
+
+  pub way_there : (w : Way) → Contains ws w → Contains fs w.rule
+  way_there w c = reorder_has fs (rules_of ws) w.rule ways_order (rule_has ws w c)
+
+  pub rule_way : (f : FlatRule) → Contains fs f → HasWay ws f
+  rule_way f c = has_way ws f (reorder_keeps fs (rules_of ws) f ways_order c)

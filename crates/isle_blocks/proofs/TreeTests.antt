@@ -1,14 +1,14 @@
 -- A tree tests what the rules of its ways test, and each of its Returns is that of one rule.
-use Rattle.std.proofs.Common.{◌≡◌, ℕ, List, [], ◌∷◌, ◌++◌, Bool, Option, refl, sym, subst}
+use Rattle.std.proofs.Common.{ℕ, List, [], ◌∷◌, ◌++◌, Bool, Option, refl, sym, subst}
 use Rattle.std.specs.Prelude.{Contains}
 use Rattle.std.specs.List.{AllByRecursion}
 use Rattle.isle_core.specs.declared.BindingId.{BindingId}
 use Rattle.isle_core.specs.declared.rule_sets.Constraint.{Constraint}
 use Rattle.isle_core.specs.declared.rule_sets.RuleSet.{RuleSet}
-use Rattle.isle_core.specs.Block.{Block, Control, Return, Arms}
+use Rattle.isle_core.specs.Block.{Block, Return, Arms}
 use Rattle.isle_blocks.specs.Nest.{Shows, last_binds, last_step, all_equated}
 use Rattle.isle_blocks.specs.RuleTests.{of_rule, IsRuleTest, TestsRules, DoesRules, ArmsTestRules}
-use Rattle.isle_blocks.specs.Tree.{Way, Ground, way_step, Tests, AllTest, Parts, none, same, other, IsTree, own, last, shared, AreTrees, no_arm, arm}
+use Rattle.isle_blocks.specs.Tree.{Way, Ground, way_step, AllTest, Parts, none, same, other, IsTree, own, last, shared, AreTrees, no_arm, arm}
 use Rattle.isle_blocks.proofs.LawTests.{among, equated_tests, matched_tests, opened_tests}
 
 -- the way is one of a rule of the set, and its tests are the rule's

@@ -1,47 +1,22 @@
 -- What is known of ways after the tests that are made on them.
-use Rattle.std.proofs.Common.{◌≡◌, ◌⊎◌, inl, inr, ⊎_elim, ℕ, List, [], ◌∷◌, ◌++◌, Bool, true, false, cond, ◌&&◌, Option, Some, None, map, refl, sym, ap, ◌∙◌, subst}
+use Rattle.std.proofs.Common.{◌≡◌, inr, List, [], ◌∷◌, ◌++◌, map, refl, sym, ap, ◌∙◌, subst}
 use Rattle.std.specs.Prelude.{Contains}
-use Rattle.std.specs.List.{AllByRecursion, list_all}
+use Rattle.std.specs.List.{AllByRecursion}
 use Rattle.isle_core.specs.declared.BindingId.{BindingId}
-use Rattle.isle_core.specs.declared.rule_sets.Binding.{Binding}
 use Rattle.isle_core.specs.declared.rule_sets.Constraint.{Constraint}
 use Rattle.isle_core.specs.declared.rule_sets.FlatRule.{FlatRule}
 use Rattle.isle_core.specs.declared.rule_sets.RuleSet.{RuleSet}
 use Rattle.isle_core.specs.declared.types.Term.{Term}
-use Rattle.isle_core.specs.Answered.{Held}
-use Rattle.isle_core.specs.ApartTests.{AreTestsApart, IsPut}
-use Rattle.isle_core.specs.ArmPlaces.{bound_within}
-use Rattle.isle_core.specs.Bindable.{bound_by}
-use Rattle.isle_core.specs.Block.{Block, Stop, Step, Match, Arms, NoArm, Arm}
-use Rattle.isle_core.specs.BlockRun.{bind_all, block_run, control_run, arms_run}
-use Rattle.isle_core.specs.CallRun.{Went, Goes, Ends, then_go, returns, run_calls}
-use Rattle.isle_core.specs.Value.{Made}
-use Rattle.isle_core.specs.Calling.{kind_of, is_several}
-use Rattle.isle_core.specs.Meaning.{Meaning}
-use Rattle.isle_core.specs.Path.{Path, Chosen, at, paths_of}
+use Rattle.isle_core.specs.ApartTests.{IsPut}
+use Rattle.isle_core.specs.Path.{Path, at, paths_of}
 use Rattle.isle_core.specs.Rule.{Environment}
-use Rattle.isle_core.specs.RuleSet.{is_test, equal_test, flat_tests, flat_holds, flat_run}
+use Rattle.isle_core.specs.RuleSet.{is_test}
 use Rattle.isle_core.specs.Serializable.{AreTestable, IsTestable, constraint_tests, IsSerializableRule}
-use Rattle.isle_core.specs.StandsFor.{EachOnce}
 use Rattle.isle_core.specs.Tests.{Test, Is}
-use Rattle.isle_core.specs.Value.{Value}
-use Rattle.isle_core.specs.ValueAt.{Known, nothing_known, value_at, holds, all_hold, meets}
-use Rattle.isle_core.proofs.Contained.{head_contained, tail_contained, none_contained, contained_cases}
-use Rattle.isle_blocks.specs.declared.fields.Shown.{Shown}
-use Rattle.isle_blocks.specs.Fields.{FieldKey, FindsFields, shows}
-use Rattle.isle_blocks.specs.Followers.{FindsInners, FindsItems}
-use Rattle.isle_blocks.specs.Needed.{needs}
-use Rattle.isle_blocks.specs.Nest.{alone, last_step, all_matched, all_equated}
-use Rattle.isle_blocks.specs.Tree.{Way, Ground, way_step, source_needs, Tests, AllTest, Parts, none, same, other, IsTree, own, last, shared, AreTrees, no_arm, arm}
-use Rattle.isle_blocks.proofs.FieldPlaces.{AreFieldsTyped}
-use Rattle.isle_blocks.proofs.LawBound.{came_behind, came_holds, came_from}
-use Rattle.isle_blocks.proofs.LawChain.{step_run, DoesWhere, AllHold, matched_does, equated_does, last_runs, result_ends}
-use Rattle.isle_blocks.proofs.LawFirst.{first}
-use Rattle.isle_blocks.proofs.LawSerializable.{IsTestReady, test_ready, within_arm, matched_still, equated_still, last_still}
-use Rattle.isle_blocks.proofs.MadeBefore.{IsWithin, within_same, within_needs}
-use Rattle.isle_blocks.proofs.NeededRuns.{AreStill, needs_still}
-use Rattle.isle_blocks.proofs.NextLaws.{FindsNext}
-use Rattle.isle_blocks.proofs.StillRules.{StillLast, StillEquated}
+use Rattle.isle_core.proofs.Contained.{head_contained}
+use Rattle.isle_blocks.specs.Arranged.{rules_of}
+use Rattle.isle_blocks.specs.Tree.{Way, Tests, AllTest, Parts, none, same, other}
+use Rattle.isle_blocks.proofs.LawBound.{came_behind, came_holds}
 
 -- ---- ways after tests
 
@@ -87,10 +62,6 @@ test_put env t s before source w c left k h =
     let ps = paths_of s.bindings in
     let x = Is (at ps source) c in
     h.only x (subst (λ (xs : List (BindingId × Constraint)). Contains (came_behind before (map (is_test ps) (xs ++ w.late))) x) (sym k.tests) (came_holds before (x ∷ map (is_test ps) (left.early ++ w.late)) x (inr (head_contained x (map (is_test ps) (left.early ++ w.late))))))
-
--- the rules of ways
-abbrev pub rules_of : List Way → List FlatRule
-rules_of ws = map (λ (w : Way). w.rule) ws
 
 -- ---- ways that test one source first
 

@@ -14,6 +14,14 @@ pub mod AllTests
 pub mod Free
 pub mod Tree
 pub mod Ways
+pub mod Turns
+pub mod Arranged
+pub mod ApartRules
 pub mod Gathered
 pub mod TreeSteps
 pub mod Merged
+pub mod AskedCalls
+pub mod LoopFree
+pub mod RuleReads
+pub mod AskedBound
+pub mod AskedRun

@@ -1,5 +1,5 @@
 -- The order in which rules are tried.
-use Rattle.std.specs.Prelude.{List, [], ◌∷◌, Bool, if◌then◌else◌}
+use Rattle.std.specs.Prelude.{◌≡◌, List, [], ◌∷◌, Bool, false}
 use Rattle.std.specs.Ordering.{int_cmp, is_lt}
 use Rattle.isle_core.specs.declared.rule_sets.FlatRule.{FlatRule}
 
@@ -7,12 +7,12 @@ use Rattle.isle_core.specs.declared.rule_sets.FlatRule.{FlatRule}
 abbrev pub is_above : FlatRule → FlatRule → Bool
 is_above f g = is_lt (int_cmp g.prio f.prio)
 
--- a rule after the higher ones of rules that are in order, and before all others
-abbrev pub insert_rule : FlatRule → List FlatRule → List FlatRule
-insert_rule f [] = f ∷ []
-insert_rule f (g ∷ gs) = if is_above g f then g ∷ insert_rule f gs else f ∷ g ∷ gs
+-- no rule of the list is above this one
+abbrev pub NoneAbove : FlatRule → List FlatRule → Type 0
+NoneAbove f [] = Unit {0}
+NoneAbove f (g ∷ gs) = (is_above g f ≡ false) × NoneAbove f gs
 
--- highest priority first, equal ones in their order
-abbrev pub by_priority : List FlatRule → List FlatRule
-by_priority [] = []
-by_priority (f ∷ fs) = insert_rule f (by_priority fs)
+-- no rule is above one before it
+abbrev pub Falls : List FlatRule → Type 0
+Falls [] = Unit {0}
+Falls (f ∷ fs) = NoneAbove f fs × Falls fs

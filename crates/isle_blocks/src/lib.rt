@@ -1,6 +1,7 @@
 //! From rule sets to blocks.
 #![tactic(auto)]
 
+mod arrangement;
 mod fields;
 mod followers;
 mod free;
@@ -8,11 +9,11 @@ mod gathering;
 mod needed;
 mod nest;
 mod openings;
-mod order;
 mod serialization;
 mod steps;
 mod tables;
 mod tree;
+mod turns;
 mod ways;
 
 pub use serialization::serialize;

@@ -307,8 +307,8 @@ fn matches_from(
 }
 
 /// Makes the step of a rule from after its early tests on: the others, each round what follows, with what it shows
-/// bound, and inside them its equalities, its lists, its calls and its result. What is needed to read a binding is bound
-/// where it is first read. The only error is want of memory.
+/// bound, and inside them its equalities, its lists, its calls and its result. What is needed to read a binding is
+/// bound at its first reading. The only error is want of memory.
 pub fn way_step(
     alloc: Global,
     tables: &Tables<'_>,

@@ -18,25 +18,27 @@ ghost use Rattle.isle_core.specs.BlockRun.{block_outcome};
 ghost use Rattle.isle_core.specs.BlockLawful.{IsLawfulBlock};
 ghost use Rattle.isle_core.specs.Serializable.{IsSerializable};
 ghost use Rattle.isle_core.specs.Setting.{setting};
+ghost use Rattle.isle_blocks.specs.ApartRules.{AreRulesApart};
+ghost use Rattle.isle_blocks.specs.Arranged.{IsGrown};
 ghost use Rattle.isle_blocks.specs.Gathered.{AreShort};
-ghost use Rattle.isle_blocks.specs.Order.{by_priority};
 ghost use Rattle.isle_blocks.specs.Tables.{ground};
-ghost use Rattle.isle_blocks.specs.Tree as Tree;
 ghost use Rattle.isle_blocks.specs.Ways as Ways;
 ghost use Rattle.isle_blocks.specs.CallsOnce.{HasCallsOnce};
 ghost use Rattle.isle_blocks.specs.Merged.{IsMerged};
 ghost use Rattle.isle_blocks.specs.RuleTests.{TestsRules};
 ghost use Rattle.isle_blocks.specs.AllTests.{MakesTests};
 ghost use Rattle.isle_blocks.specs.Several.{HasItsLists, GivesSeveral};
+ghost use Rattle.isle_blocks.specs.LoopFree.{HasNoLoop};
+ghost use Rattle.isle_blocks.specs.RuleReads.{OrdersCallsOnce};
+ghost use Rattle.isle_blocks.specs.AskedBound.{AsksAtMost};
 
+use crate::arrangement::{arrange_rules, ways_in};
 use crate::fields::fields_of;
 use crate::followers::{Following, followers_of};
-use crate::free::free_of;
-use crate::order::in_order;
 use crate::steps::block_of;
 use crate::tables::Tables;
 use crate::tree::steps_of;
-use crate::ways::{Way, ways_of};
+use crate::ways::Way;
 use isle_core::{Block, FlatRule, OutOfMemory, RuleSet};
 use isle_scope::Scope;
 use std::alloc::{AllocError, Global};
@@ -52,53 +54,40 @@ fn depth_of(ways: &[Way<'_>]) -> usize
     depth
 }
 
-// The ways of rules, highest priority first, and equal ones in their order.
-fn sorted_ways<'r>(
-    alloc: Global,
-    tables: &Tables<'_>,
-    rules: &'r [FlatRule],
-) -> Result<Vec<Way<'r>>, AllocError>
-    ensures { IfOk result (λ ways. map Ways.way ways.items
-        ≡ map (Ways.way_of tables.now.several (paths_of tables.now.bindings.now))
-        (by_priority rules.now)) }
-{
-    let order = in_order(alloc, rules)?;
-    let free = free_of(alloc, tables.bindings)?;
-    ways_of(alloc, tables.several, free.as_slice(), order.as_slice())
-}
-
-// Makes the block of rules, highest priority first, and equal ones in their order.
+// Makes the block of rules, highest priority first.
 fn tree_of(alloc: Global, tables: &Tables<'_>, rules: &[FlatRule]) -> Result<Block, AllocError>
-    ensures { IfOk result (λ b. Tree.IsTree (ground tables.now)
-        (map (Ways.way_of tables.now.several (paths_of tables.now.bindings.now))
-        (by_priority rules.now)) [] (BlockViews.block b)) }
+    ensures { IfOk result (λ b. IsGrown (ground tables.now) rules.now (BlockViews.block b)) }
 {
-    let ways = sorted_ways(alloc, tables, rules)?;
+    let arranged = arrange_rules(alloc, tables, rules)?;
+    let ways = ways_in(alloc, arranged.as_slice())?;
     let mut bound = Scope::new(alloc);
     let depth = depth_of(ways.as_slice());
     let steps = steps_of(alloc, tables, &mut bound, depth, ways.as_slice())?;
     Ok(block_of(steps))
 }
 
-/// Makes the block of a rule set: rules from the highest priority down, and equal ones in their order, neighbours that
-/// test one thing first sharing a match over it. Where the term isn't `multi`, the first rule is taken that holds (`isle_core/specs/BlockRun.antt`); `iterator`
-/// says that it is, and then each rule adds its results, its lists being gone through in loops of its own
-/// (`isle_core/specs/SeveralRun.antt`). A rule's calls are made after its tests, in order. What the block gives is
-/// promised where of the constraints that rules put on one path at most one holds (`isle_core/specs/ApartTests.antt`).
-/// The only error is want of memory.
+/// Makes the block of a rule set: rules from the highest priority down, those of one priority in an order in which
+/// they share most tests, neighbours that test one thing first sharing a match over it. If the term isn't `multi`,
+/// the first rule that holds is taken (`isle_core/specs/BlockRun.antt`); `iterator` says that it is, and then each
+/// rule adds its results, its lists being gone through in loops of its own (`isle_core/specs/SeveralRun.antt`). A
+/// rule's calls are made after its tests, in order. What the block gives is promised if at most one holds of the
+/// constraints that rules put on one path (`isle_core/specs/ApartTests.antt`), and if the term isn't `multi` also of
+/// the rules of one priority (`isle_blocks/specs/ApartRules.antt`). A block without loops has at most as many calls
+/// of extractors and pure terms as its rules read paths, the different ones of each rule added up
+/// (`isle_blocks/specs/AskedBound.antt`). The only error is want of memory.
 pub fn serialize(alloc: Global, rules: &RuleSet, iterator: bool) -> Result<Block, OutOfMemory>
     ensures means { IfOk result (λ b.
         (env : Environment) (m : Meaning) (t : Term) (args : ListOf Value) (kind : ReturnKind) →
         IsSerializable env t rules.now → is_several (kind_of t.kind) ≡ iterator
         → is_several (kind_of t.kind) ≡ false →
-        AreTestsApart env m args rules.now →
+        AreTestsApart env m args rules.now → AreRulesApart env m args rules.now →
         block_outcome env m args (paths_of rules.now.bindings) (BlockViews.block b) kind ≡
         set_outcome env m args (paths_of rules.now.bindings) rules.now.rules kind) }
     ensures positions { IfOk result (λ b.
         (env : Environment) (m : Meaning) (t : Term) (args : ListOf Value) →
         IsSerializable env t rules.now → is_several (kind_of t.kind) ≡ iterator
         → is_several (kind_of t.kind) ≡ false →
-        AreTestsApart env m args rules.now →
+        AreTestsApart env m args rules.now → AreRulesApart env m args rules.now →
         block_position env m args (paths_of rules.now.bindings) (BlockViews.block b) nothing_known
         [] ≡
         set_position env m args (paths_of rules.now.bindings) rules.now.rules) }
@@ -116,6 +105,12 @@ pub fn serialize(alloc: Global, rules: &RuleSet, iterator: bool) -> Result<Block
         AllByRecursion (HasItsLists env (paths_of rules.now.bindings)) rules.now.rules →
         GivesSeveral env rules.now (BlockViews.block b)) }
     ensures merged { IfOk result (λ b. iterator ≡ false → IsMerged (BlockViews.block b)) }
+    ensures asks { IfOk result (λ b.
+        (env : Environment) (t : Term) → IsSerializable env t rules.now →
+        is_several (kind_of t.kind) ≡ iterator →
+        AllByRecursion (OrdersCallsOnce env (paths_of rules.now.bindings)) rules.now.rules →
+        (iterator ≡ true → HasNoLoop (BlockViews.block b)) →
+        AsksAtMost env rules.now (BlockViews.block b)) }
 {
     let fields = fields_of(alloc, rules.bindings.as_slice())?;
     let inners = followers_of(alloc, rules.bindings.as_slice(), Following::Inner)?;

@@ -76,10 +76,10 @@ pub fn ways_of<'r>(
     alloc: Global,
     several: bool,
     free: &[bool],
-    rules: &[&'r FlatRule],
+    rules: &'r [FlatRule],
 ) -> Result<Vec<Way<'r>>, AllocError>
     ensures { IfOk result (λ ways. (ps : ListOf Path) → free.now ≡ map is_free ps
-        → map Ways.way ways.items ≡ map (Ways.way_of several ps) (map (λ f. f.now) rules.now)) }
+        → map Ways.way ways.items ≡ map (Ways.way_of several ps) rules.now) }
 {
     let mut ways = Vec::new(alloc);
     for rule in rules {

@@ -3,6 +3,7 @@
 use crate::items::push_iterators;
 use crate::judged::push_judged;
 use crate::literals::push_literals;
+use crate::samples::push_samples;
 use crate::signatures::push_signatures;
 use crate::slip::Slip;
 use std::alloc::{AllocError, Global};
@@ -12,6 +13,7 @@ fn push_calls(alloc: Global, lines: &mut String) -> Result<(), AllocError> {
     push_signatures(alloc, lines)?;
     push_literals(alloc, lines)?;
     push_judged(alloc, lines)?;
+    push_samples(alloc, lines)?;
     match push_iterators(alloc, lines) {
         Ok(()) => Ok(()),
         Err(_) => Err(AllocError),

@@ -9,6 +9,7 @@ mod judged;
 mod library_calls;
 mod literals;
 mod report;
+mod samples;
 mod shown;
 mod signatures;
 mod slip;

@@ -3,7 +3,7 @@ use Rattle.std.proofs.Common.{◌≡◌, ℕ, zero, suc, ◌<◌, List, [], ◌�
 use Rattle.std.specs.Prelude.{All, Contains, slice_get}
 use Rattle.std.proofs.lemmas.List.Elements.{All-contains, Contains-append_left, Contains-append_right}
 use Rattle.std.proofs.lemmas.List.Sums.{AllPass-from_list_all}
-use Rattle.std.proofs.lemmas.Option.{slice_get-get_or}
+use Rattle.std.proofs.lemmas.Option.{slice_get-get_or, get_or_from_slice_get}
 use Rattle.isle_core.specs.declared.TermId.{TermId}
 use Rattle.isle_core.specs.declared.TypeId.{TypeId}
 use Rattle.isle_core.specs.declared.rule_sets.Constraint.{Constraint}
@@ -115,6 +115,14 @@ none_below env rules (suc n) i j h lt o =
 place_of : (rules : List Rule) (r : Rule) (c : Contains rules r) → slice_get rules c.0 ≡ Some r
 place_of rules r c = slice_get-get_or rules c.0 r c.1 ∙ ap Some c.2
 
+place_within : (rules : List Rule) (i : ℕ) (r : Rule) → slice_get rules i ≡ Some r → i < length rules
+place_within [] i r e = cc
+place_within (x ∷ rules) zero r e = omega arith
+place_within (x ∷ rules) (suc i) r e = let k = place_within rules i r e in omega (arith, k)
+
+contains_from : (rules : List Rule) (i : ℕ) (r : Rule) → slice_get rules i ≡ Some r → Contains rules r
+contains_from rules i r e = (i, place_within rules i r e, get_or_from_slice_get rules i r r e)
+
 two_places : (i j : ℕ) → (i < j) ⊎ ((j < i) ⊎ (i ≡ j))
 two_places i j = grind (arith)
 
@@ -147,27 +155,56 @@ conditions_supplied env id m r lawful c h = record {
   named = λ ty name k. lawful.named ty name (constants_among (rules_of env id) r (ty, Named name) c (Contains-append_left (args_constants r.args ++ iflets_constants r.iflets) (expr_constants r.rhs) (ty, Named name) (Contains-append_right (args_constants r.args) (iflets_constants r.iflets) (ty, Named name) k)));
 }
 
--- of a term that answers at most once, whose rules are built and have its types, where the meaning is lawful and the values have the arguments' types
+-- of a term whose rules are built and have its types, where the meaning is lawful and the values have the arguments' types
+module _ (env : Environment) (id : TermId) (t : Term) (fit : All (IsTested env t.arg_tys) (rules_of env id)) (once : All (λ (r : Rule). HaveOneType (rule_typed r)) (rules_of env id)) (variants : AreVariantsApart env) (plain : AreConstantsPlain env)
+    (m : Meaning) (args : List Value) (lawful : IsLawful env id m) (typed : HaveTypes env args t.arg_tys) where
+  abbrev its_rules : List Rule
+  its_rules = rules_of env id
+
+  abbrev its_constants : List TypedConstant
+  its_constants = rules_constants its_rules
+
+  is_of : (x : Rule) → Contains its_rules x → IsOf env m args t.arg_tys its_constants variants plain lawful.apart typed x
+  is_of x h = record {
+    tested = All-contains (IsTested env t.arg_tys) its_rules x fit h;
+    variables = All-contains (λ (r : Rule). HaveOneType (rule_typed r)) its_rules x once h;
+    among = λ y i. constants_among its_rules x y h i;
+    served = patterns_served env m x (served_among env m its_rules x lawful.answers h);
+    supplied = conditions_supplied env id m x lawful h (served_among env m its_rules x lawful.answers h);
+  }
+
+  -- a rule whose tests hold matches
+  pub rule_matches : (x : Rule) → Contains its_rules x → all_hold env m (value_at env m args nothing_known) (rule_tests env x) ≡ true → (names : Names) × (rule_names env m args x ≡ Some names)
+  rule_matches x h holds =
+      let k = is_of x h in
+      by (rule_names env m args x) (all_hold env m (value_at env m args nothing_known) (rule_tests env x)) refl holds (rule_both env m first_items args t.arg_tys x variants k.tested typed k.served k.supplied)
+    where
+      by : (o : Option Names) (b : Bool) → rule_names env m args x ≡ o → b ≡ true → Both (value_at env m args nothing_known) o b (rule_places env x) → (names : Names) × (rule_names env m args x ≡ Some names)
+      by None b is e both = absurd cc
+      by (Some names) b is e both = (names, is)
+
+  -- of a term that answers at most once no two of one priority match
+  pub one_place : Contains (with_rules env) id → is_multi env id ≡ false → IsClean env → (i j : ℕ) (q r : Rule) (names others : Names) → slice_get its_rules i ≡ Some q → slice_get its_rules j ≡ Some r
+      → rule_names env m args q ≡ Some names → rule_names env m args r ≡ Some others → q.prio ≡ r.prio → i ≡ j
+  one_place listed single clean i j q r names others first second e k same =
+      let none = term_clean env (with_rules env) id (subst (AreErrorsOfTerms env (with_rules env)) (nil_of_told clean.0 clean.2) clean.1) listed in
+      let of_rules : AreErrorsOf env false its_rules [] = rw single at none in
+      let c = contains_from its_rules i q first in
+      let d = contains_from its_rules j r second in
+      ⊎_elim
+      (λ (lt : i < j). absurd (none_below env its_rules (length its_rules) i j of_rules (place_within its_rules j r second) (lt, of_two (Overlaps env) _ _ q r first second (matched_overlap env m args t.arg_tys its_constants variants plain lawful.apart typed q r names others (is_of q c) (is_of r d) e k same))))
+      (λ (h : (j < i) ⊎ (i ≡ j)). ⊎_elim
+      (λ (lt : j < i). absurd (none_below env its_rules (length its_rules) j i of_rules (place_within its_rules i q first) (lt, of_two (Overlaps env) _ _ r q second first (matched_overlap env m args t.arg_tys its_constants variants plain lawful.apart typed r q others names (is_of r d) (is_of q c) k e (sym same)))))
+      (λ at. at)
+      h)
+      (two_places i j)
+
+-- so two that match and have one priority are one
 pub one_highest : (env : Environment) (id : TermId) (t : Term) → Contains (with_rules env) id → is_multi env id ≡ false → All (IsTested env t.arg_tys) (rules_of env id) → All (λ (r : Rule). HaveOneType (rule_typed r)) (rules_of env id) → IsClean env → AreVariantsApart env → AreConstantsPlain env
     → (m : Meaning) (args : List Value) → IsLawful env id m → HaveTypes env args t.arg_tys → AreApart env m args (rules_of env id)
 one_highest env id t listed single fit once clean variants plain m args lawful typed q r names others c d e k same =
     let rules = rules_of env id in
-    let known = rules_constants rules in
-    let none = term_clean env (with_rules env) id (subst (AreErrorsOfTerms env (with_rules env)) (nil_of_told clean.0 clean.2) clean.1) listed in
-    let of_rules : AreErrorsOf env false rules [] = rw single at none in
-    let is_of : (x : Rule) → Contains rules x → IsOf env m args t.arg_tys known variants plain lawful.apart typed x = λ x h. record {
-      tested = All-contains (IsTested env t.arg_tys) rules x fit h;
-      variables = All-contains (λ (r : Rule). HaveOneType (rule_typed r)) rules x once h;
-      among = λ y i. constants_among rules x y h i;
-      served = patterns_served env m x (served_among env m rules x lawful.answers h);
-      supplied = conditions_supplied env id m x lawful h (served_among env m rules x lawful.answers h);
-    } in
     let first = place_of rules q c in
     let second = place_of rules r d in
-    ⊎_elim
-    (λ (lt : c.0 < d.0). absurd (none_below env rules (length rules) c.0 d.0 of_rules d.1 (lt, of_two (Overlaps env) _ _ q r first second (matched_overlap env m args t.arg_tys known variants plain lawful.apart typed q r names others (is_of q c) (is_of r d) e k same))))
-    (λ (h : (d.0 < c.0) ⊎ (c.0 ≡ d.0)). ⊎_elim
-    (λ (lt : d.0 < c.0). absurd (none_below env rules (length rules) d.0 c.0 of_rules c.1 (lt, of_two (Overlaps env) _ _ r q second first (matched_overlap env m args t.arg_tys known variants plain lawful.apart typed r q others names (is_of r d) (is_of q c) k e (sym same)))))
-    (λ (at : c.0 ≡ d.0). some_rule q r (sym first ∙ ap (slice_get rules) at ∙ second))
-    h)
-    (two_places c.0 d.0)
+    let at = one_place env id t fit once variants plain m args lawful typed listed single clean c.0 d.0 q r names others first second e k same in
+    some_rule q r (sym first ∙ ap (slice_get rules) at ∙ second)

@@ -1,5 +1,5 @@
 -- Functions that are emitted one after another.
-use Rattle.std.proofs.Common.{false, ◌≡◌, ℕ, ◌+◌, ◌<◌, List, Bool, [], ◌∷◌, ◌++◌, length, take, get_or, Some, None, sym, ap, ◌∙◌, subst}
+use Rattle.std.proofs.Common.{◌≡◌, ℕ, ◌+◌, ◌<◌, List, false, [], ◌∷◌, ◌++◌, length, take, get_or, Some, sym, ap, ◌∙◌, subst}
 use Rattle.std.specs.Prelude.{slice_get}
 use Rattle.std.specs.List.{AllByRecursion}
 use Rattle.std.proofs.lemmas.List.{take_more}
@@ -15,7 +15,10 @@ use Rattle.isle_core.specs.declared.rule_sets.FlatRule.{FlatRule}
 use Rattle.isle_core.specs.Path.{paths_of}
 use Rattle.isle_core.specs.Calling.{is_several, kind_of}
 use Rattle.isle_blocks.specs.AllTests.{MakesTests}
+use Rattle.isle_blocks.specs.AskedBound.{AsksAtMost}
+use Rattle.isle_blocks.specs.LoopFree.{HasNoLoop}
 use Rattle.isle_blocks.specs.Merged.{IsMerged}
+use Rattle.isle_blocks.specs.RuleReads.{OrdersCallsOnce}
 use Rattle.isle_blocks.specs.RuleTests.{TestsRules}
 use Rattle.isle_core.specs.Rule.{Environment}
 use Rattle.isle_core.specs.Setting.{setting}
@@ -46,8 +49,9 @@ calls_once files env id s h = each s.rules h.lists
 
 -- the function of a block of the rule set is emitted for it
 pub is_emitted : (options : CodegenOptions) (files : Files) (env : Environment) (id : TermId) (s : RuleSet) (t : Term) (b : Block) (f : Function) → (h : CanEmit files env (id, s)) → slice_get env.terms id.0 ≡ Some t
-    → IsLawfulBlock (setting env h.term s.bindings) b → (is_several (kind_of h.term.kind) ≡ false → IsMerged b) → MeansSet env h.term s b → TestsRules s b → MakesTests (is_several (kind_of h.term.kind)) s b → term_function options files (setting env t s.bindings) b ≡ Some f → IsEmitted options files env id s f
-is_emitted options files env id s t b f h there lawful merged means tests makes given = record {
+    → IsLawfulBlock (setting env h.term s.bindings) b → (is_several (kind_of h.term.kind) ≡ false → IsMerged b) → MeansSet env h.term s b → TestsRules s b → MakesTests (is_several (kind_of h.term.kind)) s b → (AllByRecursion (OrdersCallsOnce env (paths_of s.bindings)) s.rules → HasNoLoop b → AsksAtMost env s b)
+    → term_function options files (setting env t s.bindings) b ≡ Some f → IsEmitted options files env id s f
+is_emitted options files env id s t b f h there lawful merged means tests makes asks given = record {
   term = h.term;
   found = h.found;
   block = b;
@@ -56,6 +60,7 @@ is_emitted options files env id s t b f h there lawful merged means tests makes 
   means = means;
   tests = tests;
   makes = makes;
+  asks = asks;
   given = ap (λ (u : Term). term_function options files (setting env u s.bindings) b) (sym (term_is files env id s t h there)) ∙ given;
 }
 

@@ -1,5 +1,5 @@
 -- The functions of an environment are well formed, and mean its rules.
-use Rattle.std.proofs.Common.{◌≡◌, ℕ, suc, List, Bool, [], ◌∷◌, map, Some, refl, sym, ap, ◌∙◌, subst}
+use Rattle.std.proofs.Common.{◌≡◌, ℕ, suc, List, [], ◌∷◌, map, Some, refl, sym, ap, ◌∙◌, subst}
 use Rattle.std.specs.Prelude.{All, Contains, slice_get}
 use Rattle.std.specs.List.{AllByRecursion, IsDistinct}
 use Rattle.std.specs.Str.{bytes_eq}
@@ -9,6 +9,7 @@ use Rattle.isle_core.specs.declared.TermId.{TermId}
 use Rattle.isle_core.specs.declared.files.Files.{Files}
 use Rattle.isle_core.specs.declared.rule_sets.RuleSet.{RuleSet}
 use Rattle.isle_core.specs.declared.types.Term.{Term}
+use Rattle.isle_core.specs.Served.{IsTested}
 use Rattle.isle_core.specs.StandsFor.{StandsFor}
 use Rattle.isle_core.specs.Terms.{term_name, with_rules}
 use Rattle.isle_core.specs.Rule.{Environment, Rule, rules_of}
@@ -16,9 +17,12 @@ use Rattle.isle_ast.specs.Tree.{Def}
 use Rattle.isle_checks.specs.CheckList.{IsClean}
 use Rattle.isle_rulesets.specs.Grouping.{AreRuleSets}
 use Rattle.isle_sema.specs.Typing.{Typed}
+use Rattle.isle_sema.proofs.SerializableRules.{set_serializable}
 use Rattle.isle_sema.proofs.TypedTerms.{typed_names, typed_types}
 use Rattle.isle_blocks.proofs.LawReturns.{tests_positions}
+use Rattle.isle_blocks.proofs.OnceCalls.{set_orders_once}
 use Rattle.isle_tree.specs.Program.{Function, Program}
+use Rattle.isle_tree.specs.Run.{function_of}
 use Rattle.isle_tree.specs.WellFormed.{IsTraitFn, fn_names, declared_names, callables, IsFunction, IsTypeItem, IsWellFormed}
 use Rattle.isle_tree.specs.declared.tree.TraitFn.{TraitFn}
 use Rattle.isle_tree.specs.declared.tree.TypeItem.{TypeItem}
@@ -32,9 +36,11 @@ use Rattle.isle_simulation.specs.OfTerm.{AreDeclared}
 use Rattle.isle_core.specs.BuiltRule.{IsBuiltRule, CallsBuiltTerms}
 use Rattle.isle_core.proofs.LawfulExists.{lawful_with}
 use Rattle.isle_codegen.specs.FromBlock.{AreFromBlocks}
+use Rattle.isle_codegen.specs.Asking.{AsksPaths}
 use Rattle.isle_codegen.specs.Meant.{IsMeant}
 use Rattle.isle_lawful_names.specs.Claims.{is_ruled}
 use Rattle.isle_codegen.specs.Headline.{FunctionsMean}
+use Rattle.isle_codegen.proofs.AskedPaths.{asks_paths}
 use Rattle.isle_codegen.proofs.EmittedNames.{emitted_names, distinct_names}
 use Rattle.isle_codegen.proofs.MeanRules.{HasFunction, has_function, means_rules, of_term}
 use Rattle.isle_codegen.proofs.CalledTerms.{bound_called}
@@ -45,7 +51,7 @@ use Rattle.isle_lawful_names.specs.TypeItems.{type_items_of}
 use Rattle.isle_lawful_names.proofs.HasRustNames.{has_rust_names}
 use Rattle.isle_lawful_names.proofs.ItemLaws.{items_are, items_apart}
 use Rattle.isle_lawful_names.proofs.TextLaws.{texts_are}
-use Rattle.isle_sema.proofs.BuiltRules.{typed_built, typed_terms}
+use Rattle.isle_sema.proofs.BuiltRules.{typed_built, typed_terms, typed_tests}
 use Rattle.isle_codegen.proofs.Answerable.{values_of, answerable}
 use Rattle.isle_simulation.proofs.GivenFunctions.{emitted_well_formed, has_shape, of_its_term, function_calls, its_lines}
 use Rattle.isle_codegen.proofs.RulePositions.{returns_of_rules}
@@ -156,6 +162,14 @@ module _ (defs : List Def) (options : CodegenOptions) (files : Files) (env : Env
       of_rules : (P : Rule → Type 0) → All P env.rules → AllByRecursion P (rules_of env id)
       of_rules P k = recursion_from_All P (rules_of env id) (of_term P env id k)
 
+  -- a run of the function of a term asks no more than its rules have paths
+  asks_of : (p : Program) (id : TermId) → p.fns ≡ fs → HasFunction options files env fs id → AsksPaths env p id
+  asks_of p id e h =
+      let t = h.emitted.term in
+      let there = h.emitted.found in
+      asks_paths options files env p id t t.arg_tys h.set h.emitted.block h.function (ap (function_of (term_name env id)) e ∙ h.found) h.emitted.given h.stands (set_serializable defs env id t h.set typed there h.stands)
+      (recursion_from_All (IsTested env t.arg_tys) (rules_of env id) (typed_tests defs env id t typed there)) (h.emitted.asks (set_orders_once env h.set (rules_of env id) h.stands))
+
   -- and its functions mean the rules
   pub program_means : (p : Program) → HasFnNames env → HasTermFns env → AreLawful (is_ruled env.rules) env.types → p.fns ≡ fs → FunctionsMean options files env p
   program_means p names term_fns lawful e =
@@ -166,4 +180,5 @@ module _ (defs : List Def) (options : CodegenOptions) (files : Files) (env : Env
         mean = λ id c. means_rules defs options files env p id typed clean (has_rust_names (is_ruled env.rules) env lawful (typed_parts defs env typed)) names term_fns c (subst (λ (xs : List Function). HasFunction options files env xs id) (sym e) (function_for id c));
         meant = λ id c. meant_of names id (function_for id c).emitted.term (function_for id c).emitted.found;
         values = inhabited_valued env (typed_parts defs env typed).variants;
+        asks = λ id c. asks_of p id e (function_for id c);
       }

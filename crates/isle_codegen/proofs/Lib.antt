@@ -15,6 +15,9 @@ pub mod TypedNames
 pub mod Emitting
 pub mod TermFunctions
 pub mod InhabitedTypes
+pub mod AskedFlow
+pub mod AskedBodies
+pub mod AskedPaths
 pub mod EmittedProgram
 pub mod Placed
 pub mod Compilable

@@ -41,7 +41,7 @@ use Rattle.isle_sema.specs.Typing.{Typed}
 use Rattle.isle_sema.proofs.OftenRules.{typed_single}
 use Rattle.isle_sema.proofs.BuiltRules.{typed_built, typed_scoped, typed_terms, typed_tests}
 use Rattle.isle_checks.specs.CheckList.{IsClean}
-use Rattle.isle_codegen.proofs.RulesApart.{rules_apart, set_apart}
+use Rattle.isle_codegen.proofs.RulesApart.{rules_apart, flat_apart, set_apart}
 use Rattle.isle_tree.specs.Program.{Function, Program}
 use Rattle.isle_tree.specs.Run.{run, function_of}
 use Rattle.isle_codegen.specs.Emits.{IsEmitted, AreEmitted}
@@ -200,6 +200,7 @@ module _ (defs : List Def) (options : CodegenOptions) (files : Files) (env : Env
     same_outcome =
         let met = served m lawful in
         h.emitted.means.once single m args kind (served_set m args types lawful).apart
+        (flat_apart defs env id the_term h.set typed clean listed h.emitted.found single (typed_single defs env id the_term typed h.emitted.found once) h.stands m args lawful types)
         ∙ set_means env m args the_term.arg_tys (paths_of h.set.bindings) (rules_of env id) h.set.rules kind names.apart.variants types
         (record { built = met.built; scoped = met.scoped; terms = met.terms; typed = met.typed; served = met.served; single = typed_single defs env id the_term typed h.emitted.found once }) h.stands.flat
 

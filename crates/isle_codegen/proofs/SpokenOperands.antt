@@ -1,6 +1,6 @@
 -- The operands of a conforming function: locals, arguments, structs without fields, and constants that the term's rules speak of.
 use Rattle.std.proofs.Common.{◌≡◌, ⊎_elim, ℕ, ℤ, ◌+◌, List, [], ◌∷◌, ◌++◌, Bool, true, false, Option, Some, None, map, option_map, refl, sym, ap, ◌∙◌, subst}
-use Rattle.std.specs.Prelude.{Contains, IsSomeAnd, option_and_then, slice_get}
+use Rattle.std.specs.Prelude.{IsSomeAnd, option_and_then, slice_get}
 use Rattle.std.specs.List.{AllByRecursion}
 use Rattle.std.proofs.lemmas.List.Elements.{Contains-append_left}
 use Rattle.isle_core.specs.declared.options.CodegenOptions.{CodegenOptions}

@@ -1,5 +1,5 @@
 -- What compiling files answers, and why.
-use Rattle.std.specs.Prelude.{◌≡◌, ◌⊎◌, ℕ, List, length, map, Option, IfSome}
+use Rattle.std.specs.Prelude.{◌≡◌, ℕ, List, length, map, Option, IfSome}
 use Rattle.isle_outside.specs.Directory.{Contents, Counts}
 use Rattle.isle_core.specs.declared.options.CodegenOptions.{CodegenOptions}
 use Rattle.isle_core.specs.declared.errors.Errors.{Errors as ErrorList}

@@ -1,5 +1,5 @@
 -- The program that is emitted for an environment.
-use Rattle.std.specs.Prelude.{◌≡◌, List, [], not}
+use Rattle.std.specs.Prelude.{◌≡◌, List, not}
 use Rattle.std.specs.List.{AllByRecursion}
 use Rattle.isle_core.specs.declared.options.CodegenOptions.{CodegenOptions}
 use Rattle.isle_core.specs.declared.files.Files.{Files}

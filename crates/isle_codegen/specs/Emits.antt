@@ -1,5 +1,5 @@
 -- When functions are emitted for rule sets.
-use Rattle.std.specs.Prelude.{◌≡◌, List, Bool, [], ◌∷◌, true, false, Some, slice_get}
+use Rattle.std.specs.Prelude.{◌≡◌, List, [], ◌∷◌, true, false, Some, slice_get}
 use Rattle.std.specs.List.{AllByRecursion}
 use Rattle.isle_core.specs.declared.options.CodegenOptions.{CodegenOptions}
 use Rattle.isle_core.specs.declared.types.ReturnKind.{ReturnKind}
@@ -21,7 +21,11 @@ use Rattle.isle_core.specs.Rule.{Environment}
 use Rattle.isle_core.specs.Serializable.{IsSerializable}
 use Rattle.isle_core.specs.Setting.{setting}
 use Rattle.isle_blocks.specs.AllTests.{MakesTests}
+use Rattle.isle_blocks.specs.ApartRules.{AreRulesApart}
+use Rattle.isle_blocks.specs.AskedBound.{AsksAtMost}
+use Rattle.isle_blocks.specs.LoopFree.{HasNoLoop}
 use Rattle.isle_blocks.specs.Merged.{IsMerged}
+use Rattle.isle_blocks.specs.RuleReads.{OrdersCallsOnce}
 use Rattle.isle_blocks.specs.RuleTests.{TestsRules}
 use Rattle.isle_blocks.specs.Several.{HasItsLists, GivesSeveral}
 use Rattle.isle_tree.specs.Program.{Function}
@@ -44,9 +48,10 @@ pub record CanEmit (files : Files) (env : Environment) (s : TermId × RuleSet) :
   pub term_fns : HasTermFns env
   pub names : HasRustNames env
 
--- the block gives what the rule set does, where the constraints that its rules put on one path exclude each other
+-- the block gives what the rule set does, where the constraints that its rules put on one path exclude each other and no two rules of one priority
+-- hold
 abbrev pub GivesSet : Environment → RuleSet → Block → Type 0
-GivesSet env s b = (m : Meaning) (args : List Value) (kind : ReturnKind) → AreTestsApart env m args s → block_outcome env m args (paths_of s.bindings) b kind ≡ set_outcome env m args (paths_of s.bindings) s.rules kind
+GivesSet env s b = (m : Meaning) (args : List Value) (kind : ReturnKind) → AreTestsApart env m args s → AreRulesApart env m args s → block_outcome env m args (paths_of s.bindings) b kind ≡ set_outcome env m args (paths_of s.bindings) s.rules kind
 
 -- the block means the rule set of the term: it gives what the set does, or what rules prescribe for which the set stands where the term answers
 -- several times
@@ -55,7 +60,7 @@ pub record MeansSet (env : Environment) (t : Term) (s : RuleSet) (b : Block) : T
   pub several : is_several (kind_of t.kind) ≡ true → GivesSeveral env s b
 
 -- the function of the term, from a block that is lawful for its rule set, shares its tests, tests and returns what its rules do, all tests
--- that are tried, and means the set
+-- that are tried, asks no more than its rules read where it has no Loop, and means the set
 pub record IsEmitted (options : CodegenOptions) (files : Files) (env : Environment) (id : TermId) (s : RuleSet) (f : Function) : Type 0 where
   pub term : Term
   pub found : slice_get env.terms id.0 ≡ Some term
@@ -65,6 +70,7 @@ pub record IsEmitted (options : CodegenOptions) (files : Files) (env : Environme
   pub means : MeansSet env term s block
   pub tests : TestsRules s block
   pub makes : MakesTests (is_several (kind_of term.kind)) s block
+  pub asks : AllByRecursion (OrdersCallsOnce env (paths_of s.bindings)) s.rules → HasNoLoop block → AsksAtMost env s block
   pub given : term_function options files (setting env term s.bindings) block ≡ Some f
 
 -- so of each term with its rule set, in order

@@ -1,5 +1,5 @@
 -- The functions of a program, each made from a block of its term's rules.
-use Rattle.std.specs.Prelude.{◌≡◌, List, Bool, false, [], ◌∷◌, map, Some, Contains, slice_get}
+use Rattle.std.specs.Prelude.{◌≡◌, List, false, [], ◌∷◌, map, Some, Contains, slice_get}
 use Rattle.std.specs.List.{AllByRecursion}
 use Rattle.isle_core.specs.declared.options.CodegenOptions.{CodegenOptions}
 use Rattle.isle_core.specs.declared.TermId.{TermId}

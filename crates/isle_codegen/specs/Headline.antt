@@ -1,5 +1,5 @@
 -- What an emitted text is to the definitions that it was made from.
-use Rattle.std.specs.Prelude.{◌≡◌, ℕ, List, Bool, [], map, Some, Contains, option_map, slice_get, IsSomeAnd}
+use Rattle.std.specs.Prelude.{◌≡◌, ℕ, List, [], map, Some, Contains, option_map, slice_get, IsSomeAnd}
 use Rattle.isle_base.specs.declared.ids.TermId.{TermId}
 use Rattle.isle_base.specs.declared.ids.TypeId.{TypeId}
 use Rattle.isle_core.specs.declared.types.ReturnKind.{ReturnKind}
@@ -27,6 +27,7 @@ use Rattle.isle_codegen.specs.Emission.{IsFrame}
 use Rattle.isle_simulation.specs.Emitted.{AreSameRuns}
 use Rattle.isle_simulation.specs.Ends.{end_of}
 use Rattle.isle_simulation.specs.OfTerm.{AreDeclared}
+use Rattle.isle_codegen.specs.Asking.{AsksPaths}
 use Rattle.isle_codegen.specs.FromBlock.{AreFromBlocks}
 use Rattle.isle_codegen.specs.Inhabited.{IsInhabited}
 use Rattle.isle_codegen.specs.LawfulEnvironment.{IsLawfulEnvironment}
@@ -65,7 +66,7 @@ MeansRules env p id = IsSomeAnd (slice_get env.terms id.0) (λ (t : Term).
 
 -- the functions of the program are the terms with rules, in order of ids, each as its term is declared, made from a block
 -- of its rules, and with their meaning, which says something: there are arguments and lawful meanings where types have values,
--- as inhabited ones do
+-- as inhabited ones do; a run of one without loops asks no more than its term's rules have paths
 pub record FunctionsMean (options : CodegenOptions) (files : Files) (env : Environment) (p : Program) : Type 0 where
   pub names : map (λ (f : Function). f.term) p.fns ≡ map (term_name env) (with_rules env)
   pub declared : AreDeclared files env (with_rules env) p.fns
@@ -73,6 +74,7 @@ pub record FunctionsMean (options : CodegenOptions) (files : Files) (env : Envir
   pub mean : (id : TermId) → Contains (with_rules env) id → MeansRules env p id
   pub meant : (id : TermId) → Contains (with_rules env) id → IsMeant env id
   pub values : (ty : TypeId) → IsInhabited env ty → HasValue env ty
+  pub asks : (id : TermId) → Contains (with_rules env) id → AsksPaths env p id
 
 -- the text spells exactly one program, whose frame and functions are those of the environment
 pub record IsText (options : CodegenOptions) (files : Files) (env : Environment) (text : List ℕ) : Type 0 where

@@ -8,6 +8,7 @@ pub mod Meant
 pub mod Inhabited
 pub mod CalledBy
 pub mod FromBlock
+pub mod Asking
 pub mod Spoken
 pub mod Headline
 pub mod Emits

@@ -11,7 +11,7 @@ use Rattle.isle_command_line.specs.Words.{is_name}
 use Rattle.isle_command_line.specs.Lines as choice
 use Rattle.isle_command_line.specs.Lines.{Choice, ChoiceS, no_allow, log, split, threshold, prefixed, ChoicesS, no_choice, a_choice, AreOnce, no_options, with_choice, options_of, kind_word, LineS, AnswersS, traced}
 use Rattle.isle_command_line.specs.Reading as reading
-use Rattle.isle_command_line.specs.Reading.{named, sourced, valued, optional, is_trace, is_answers, chosen, counted, request, next, onward, read, asks, first, mark, kind_of, count, parts}
+use Rattle.isle_command_line.specs.Reading.{named, sourced, valued, optional, is_trace, is_answers, chosen, counted, request, sized, next, onward, read, asks, first, mark, kind_of, count, size, parts}
 use Rattle.isle_command_line.specs.Request.{Request}
 use Rattle.isle_command_line.specs.declared.commands.Source.{Source}
 use Rattle.isle_command_line.specs.declared.state.Verb.{Verb}
@@ -19,7 +19,7 @@ use Rattle.isle_command_line.specs.declared.state.Verb.TheVariants as verb
 use Rattle.isle_command_line.specs.Request as command
 use Rattle.isle_command_line.specs.Known.{Known}
 use Rattle.isle_command_line.specs.Known as state
-use Rattle.isle_command_line.proofs.WordLaws.{both, kind_again, count_again, parts_again}
+use Rattle.isle_command_line.proofs.WordLaws.{both, kind_again, count_again, size_again, parts_again}
 use Rattle.isle_command_line.proofs.RunWords.{name_no_trace, source_again, source_named}
 use Rattle.isle_command_line.proofs.ChoiceLaws.{free, all_kept, all_free}
 
@@ -106,6 +106,7 @@ complete (choice.build cs us unit ss once good) =
 complete (choice.prelude k) = ap (λ r. request_of (onward (request r) (λ t. Some t))) (kind_again k)
 complete choice.units = refl
 complete (choice.isa target) = refl
+complete (choice.sample n w is) = ap (λ r. request_of (onward (sized r) (λ t. Some t))) (size_again w n is)
 complete (choice.run t cs us s from m x vs a last ss once is good spells la) =
     ap request_of (read_run t ss from (m ∷ x ∷ last) (source_named is)
     ∙ read_choices ss (verb.Run t) no_options (from ∷ m ∷ x ∷ last) (all_free cs) once

@@ -7,7 +7,7 @@ use Rattle.isle_values.specs.Written.{NoValue}
 use Rattle.isle_values.proofs.Spelt.{empty_list}
 use Rattle.isle_command_line.specs.Lines as choice
 use Rattle.isle_command_line.specs.Lines.{LineS, no_options, with_choice, Continues, IsBad, IsMissing}
-use Rattle.isle_command_line.specs.Reading.{onward, read, asks, valued, source_of, is_trace, is_answers, count, parts, kind_of, StopsAt}
+use Rattle.isle_command_line.specs.Reading.{onward, read, asks, valued, source_of, is_trace, is_answers, count, size, parts, kind_of, StopsAt}
 use Rattle.isle_command_line.specs.Request.{Request}
 use Rattle.isle_command_line.specs.Request as command
 use Rattle.isle_command_line.specs.declared.commands.Kind.TheVariants as kind
@@ -52,7 +52,7 @@ with_name verb.Build o ws h = continues_less ws (codes "a") (whole _ (command.Bu
 
 -- a line begins with words after which something is known
 pub continues : (s : Known) (ws : List (List ℕ)) → HasRead s ws → Continues ws
-unfolding count parts kind_of is_trace is_answers
+unfolding count size parts kind_of is_trace is_answers
 continues state.Begin ws h = whole ws _ (has_read_asks state.Begin ws h)
 continues (state.Whole c) ws h = whole ws c h
 continues (state.Options v o) ws h = with_name v o ws h
@@ -62,6 +62,7 @@ continues (state.Names o []) ws h = let some = h.2 in absurd (omega (arith, some
 continues (state.Names o (n ∷ ns)) ws h = whole ws (command.Compile o (n ∷ ns)) (has_read_asks (state.Names o (n ∷ ns)) ws h)
 continues state.Kind ws h = continues_less ws (codes "numerics") (whole _ (command.Prelude kind.Numerics) (has_read_next state.Kind ws (codes "numerics") h))
 continues state.Target ws h = continues_less ws [] (whole _ (command.Isa []) (has_read_next state.Target ws [] h))
+continues state.Size ws h = continues_less ws (codes "1") (whole _ (command.Sample 1) (has_read_next state.Size ws (codes "1") h))
 continues state.Run ws h = continues_less ws (codes "--trace") (with_name (verb.Run true) no_options _ (has_read_next state.Run ws (codes "--trace") h))
 continues (state.Term t o s) ws h = with_term t o s ws h
 continues (state.Values t o s m) ws h = with_values t o s m ws h

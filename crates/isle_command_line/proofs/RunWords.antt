@@ -9,7 +9,7 @@ use Rattle.isle_command_line.specs.Lines.{SourceS}
 use Rattle.isle_command_line.specs.Reading.{is_trace, is_answers, source_by, source_of}
 use Rattle.isle_command_line.specs.declared.commands.Source.{Source}
 use Rattle.isle_command_line.specs.declared.commands.Source.TheVariants as source
-use Rattle.isle_command_line.proofs.WordLaws.{on_if, same}
+use Rattle.isle_command_line.proofs.WordLaws.{same}
 
 pub trace_is : (w : List ℕ) → is_trace w ≡ true → w ≡ codes "--trace"
 unfolding is_trace

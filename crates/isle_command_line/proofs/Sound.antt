@@ -12,7 +12,7 @@ use Rattle.isle_values.proofs.Spelt.{IsSpelt, spelt_is}
 use Rattle.isle_command_line.specs.Words.{is_name}
 use Rattle.isle_command_line.specs.Lines as choice
 use Rattle.isle_command_line.specs.Lines.{LineS, SourceS, AnswersS, no_options, with_choice, options_of}
-use Rattle.isle_command_line.specs.Reading.{begun, named, sourced, source_of, optional, valued, is_trace, is_answers, chosen, counted, prefixed, request, next, onward, read, asks, first, mark, kind_of, count, parts}
+use Rattle.isle_command_line.specs.Reading.{begun, named, sourced, source_of, optional, valued, is_trace, is_answers, chosen, counted, prefixed, request, sized, next, onward, read, asks, first, mark, kind_of, count, size, parts}
 use Rattle.isle_command_line.specs.declared.commands.Kind.{Kind}
 use Rattle.isle_command_line.specs.declared.commands.Source.{Source}
 use Rattle.isle_command_line.specs.Request.{Request}
@@ -25,7 +25,7 @@ use Rattle.isle_command_line.specs.declared.state.Verb.{Verb}
 use Rattle.isle_command_line.specs.declared.state.Verb.TheVariants as verb
 use Rattle.isle_command_line.specs.Known.{Known}
 use Rattle.isle_command_line.specs.Known as state
-use Rattle.isle_command_line.proofs.WordLaws.{on_if, off_if, both, IsFirst, first_is, IsMarked, mark_is, IsKind, kind_is, IsCounted, count_is, IsParted, parts_is}
+use Rattle.isle_command_line.proofs.WordLaws.{on_if, off_if, both, IsFirst, first_is, IsMarked, mark_is, IsKind, kind_is, IsCounted, count_is, IsSized, size_is, IsParted, parts_is}
 use Rattle.isle_command_line.proofs.ChoiceLaws.{free, Chose, chose_none, chose_more}
 use Rattle.isle_command_line.proofs.RunWords.{trace_is, answers_is, source_is}
 
@@ -81,6 +81,7 @@ HasRead (state.Prefix v o) ws = (us : List (List ℕ)) × Begun v o us × (ws �
 HasRead (state.Names o ns) ws = (us : List (List ℕ)) × Chose o us × (1 ≤ length ns) × (list_all is_name ns ≡ true) × (ws ≡ codes "compile" ∷ (us ++ ns))
 HasRead state.Kind ws = ws ≡ codes "prelude" ∷ []
 HasRead state.Target ws = ws ≡ codes "isa" ∷ []
+HasRead state.Size ws = ws ≡ codes "sample" ∷ []
 HasRead state.Run ws = ws ≡ codes "run" ∷ []
 HasRead (state.Term t o s) ws = (front : List (List ℕ)) × Sourced t o s front × (ws ≡ codes "run" ∷ front)
 HasRead (state.Values t o s m) ws = (front : List (List ℕ)) × Sourced t o s front × (is_name m ≡ true) × (ws ≡ codes "run" ∷ (front ++ m ∷ []))
@@ -100,6 +101,7 @@ has_read_begun first_word.Build w is = ([], chose_none, ap (λ v. v ∷ []) is)
 has_read_begun first_word.Prelude w is = ap (λ v. v ∷ []) is
 has_read_begun first_word.Units w is = subst (λ v. LineS (v ∷ []) command.Units) (sym is) choice.units
 has_read_begun first_word.Isa w is = ap (λ v. v ∷ []) is
+has_read_begun first_word.Sample w is = ap (λ v. v ∷ []) is
 has_read_begun first_word.Run w is = ap (λ v. v ∷ []) is
 has_read_begun first_word.Other w is = tt
 
@@ -165,6 +167,10 @@ has_read_asked (Some k) ws w h is =
     let e : ws ++ w ∷ [] ≡ codes "prelude" ∷ choice.kind_word k ∷ [] = λ i. h i ++ is i ∷ [] in
     subst (λ z. LineS z (command.Prelude k)) (sym e) (choice.prelude k)
 
+has_read_sized : (r : Option ℕ) (ws : List (List ℕ)) (w : List ℕ) → ws ≡ codes "sample" ∷ [] → IsSized r w → After (sized r) (ws ++ w ∷ [])
+has_read_sized None ws w h is = tt
+has_read_sized (Some n) ws w h is = subst (λ z. LineS (z ++ w ∷ []) (command.Sample n)) (sym h) (choice.sample n w is)
+
 has_read_optional : (v : Verb) (o : CodegenOptions) (ws : List (List ℕ)) (w : List ℕ) → HasRead (state.Options v o) ws → After (optional v o w) (ws ++ w ∷ [])
 has_read_optional v o ws w h = on_if (λ r. After r (ws ++ w ∷ [])) (is_name w) _ _ (has_read_named v o ws w h) (has_read_chosen v o ws (mark w) w h (mark_is w))
 
@@ -199,6 +205,7 @@ has_read_next (state.Prefix v o) ws w h = has_read_prefixed v o ws (parts w) w h
 has_read_next (state.Names o ns) ws w h = on_if (λ r. After r (ws ++ w ∷ [])) (is_name w) _ _ (has_read_more o ns ws w h) tt
 has_read_next state.Kind ws w h = has_read_asked (kind_of w) ws w h (kind_is w)
 has_read_next state.Target ws w h = subst (λ z. LineS (z ++ w ∷ []) (command.Isa w)) (sym h) (choice.isa w)
+has_read_next state.Size ws w h = has_read_sized (size w) ws w h (size_is w)
 has_read_next state.Run ws w h = has_read_run ws w h
 has_read_next (state.Term t o s) ws w h = on_if (λ r. After r (ws ++ w ∷ [])) (is_name w) _ _ (λ good. (h.0, h.1, good, ap (λ z. z ++ w ∷ []) h.2)) tt
 has_read_next (state.Values t o s m) ws w h = has_read_valued t o s m ws (spelt w) w h (spelt_is w)
@@ -232,6 +239,7 @@ has_read_asks (state.Names o []) ws h = let some = h.2 in absurd (omega (arith, 
 has_read_asks (state.Names o (n ∷ ns)) ws h = subst (λ z. LineS z (command.Compile o (n ∷ ns))) (sym h.4) (compiled o h.0 n ns h.1 h.3)
 has_read_asks state.Kind ws h = tt
 has_read_asks state.Target ws h = tt
+has_read_asks state.Size ws h = tt
 has_read_asks state.Run ws h = tt
 has_read_asks (state.Term t o s) ws h = tt
 has_read_asks (state.Values t o s m) ws h = tt

@@ -1,5 +1,5 @@
 -- What the tests of words say.
-use Rattle.std.proofs.Common.{◌≡◌, ℕ, suc, ◌+◌, List, [], ◌∷◌, ◌++◌, length, take, drop, Bool, true, false, not, ◌&&◌, Option, Some, None, refl, ap, sym, ◌∙◌, subst, arith}
+use Rattle.std.proofs.Common.{◌≡◌, ℕ, ◌≤◌, suc, ◌+◌, List, [], ◌∷◌, ◌++◌, length, take, drop, Bool, true, false, not, ◌&&◌, Option, Some, None, refl, ap, sym, ◌∙◌, subst, arith}
 use Rattle.std.specs.Prelude.{◌==◌, nat_le, if◌then◌else◌, codes}
 use Rattle.std.specs.List.{list_all, position_or_len}
 use Rattle.std.specs.Str.{bytes_eq}
@@ -7,9 +7,9 @@ use Rattle.std.proofs.lemmas.Bool.Decides.{nat_tests}
 use Rattle.std.proofs.lemmas.List.{take_at, length-append}
 use Rattle.std.proofs.Math.Seq.{drop-append-add}
 use Rattle.std.proofs.lemmas.Slice.Eq.{bytes_eq-Decides}
-use Rattle.isle_command_line.specs.Words.{is_digit, decimal_value, IsCount, IsPrefix}
+use Rattle.isle_command_line.specs.Words.{is_digit, decimal_value, IsCount, IsSize, IsPrefix}
 use Rattle.isle_command_line.specs.Lines.{kind_word}
-use Rattle.isle_command_line.specs.Reading.{first, mark, kind_of, count, parts}
+use Rattle.isle_command_line.specs.Reading.{first, mark, kind_of, count, bounded, size, parts}
 use Rattle.isle_command_line.specs.declared.commands.Kind.{Kind}
 use Rattle.isle_command_line.specs.declared.commands.Kind.TheVariants as kind
 use Rattle.isle_command_line.specs.declared.word.FirstWord.{FirstWord}
@@ -42,6 +42,7 @@ IsFirst first_word.Build w = w ≡ codes "build"
 IsFirst first_word.Prelude w = w ≡ codes "prelude"
 IsFirst first_word.Units w = w ≡ codes "units"
 IsFirst first_word.Isa w = w ≡ codes "isa"
+IsFirst first_word.Sample w = w ≡ codes "sample"
 IsFirst first_word.Run w = w ≡ codes "run"
 IsFirst first_word.Other w = Unit {0}
 
@@ -54,8 +55,9 @@ first_is w = on_if (λ f. IsFirst f w) (bytes_eq w (codes "--help")) _ _ (same w
     (on_if (λ f. IsFirst f w) (bytes_eq w (codes "prelude")) _ _ (same w (codes "prelude"))
     (on_if (λ f. IsFirst f w) (bytes_eq w (codes "units")) _ _ (same w (codes "units"))
     (on_if (λ f. IsFirst f w) (bytes_eq w (codes "isa")) _ _ (same w (codes "isa"))
+    (on_if (λ f. IsFirst f w) (bytes_eq w (codes "sample")) _ _ (same w (codes "sample"))
     (on_if (λ f. IsFirst f w) (bytes_eq w (codes "run")) _ _ (same w (codes "run"))
-    (tt))))))))
+    (tt)))))))))
 
 -- a word names this option
 abbrev pub IsMarked : OptionWord → List ℕ → Type 0
@@ -124,6 +126,32 @@ count_again w n h =
     let a : nat_le 1 (length w) ≡ true = let some = h.some in grind (arith, nat_tests) in
     let b : nat_le (length w) 18 ≡ true = let few = h.few in grind (arith, nat_tests) in
     λ k. if a k && (b k && h.digits k) then Some (h.value k) else None
+
+-- a word spells this size
+abbrev pub IsSized : Option ℕ → List ℕ → Type 0
+IsSized (Some n) w = IsSize w n
+IsSized None w = Unit {0}
+
+size_by : (w : List ℕ) (r : Option ℕ) → length w ≤ 5 → IsCounted r w → IsSized (bounded r) w
+size_by w None few is = tt
+size_by w (Some n) few is = by (nat_le 1 n) (nat_le n 10000) refl refl
+  where
+    by : (a b : Bool) → nat_le 1 n ≡ a → nat_le n 10000 ≡ b → IsSized (if a && b then Some n else None) w
+    by true true e f = record { count = is; few = few; some = grind (arith, nat_tests, e); most = grind (arith, nat_tests, f) }
+    by true false e f = tt
+    by false b e f = tt
+
+pub size_is : (w : List ℕ) → IsSized (size w) w
+unfolding size
+size_is w = on_if (λ r. IsSized r w) (nat_le (length w) 5) _ _ (λ e. size_by w (count w) (grind (arith, nat_tests, e)) (count_is w)) tt
+
+pub size_again : (w : List ℕ) (n : ℕ) → IsSize w n → size w ≡ Some n
+unfolding size
+size_again w n h =
+    let a : nat_le (length w) 5 ≡ true = let few = h.few in grind (arith, nat_tests) in
+    let b : nat_le 1 n ≡ true = let some = h.some in grind (arith, nat_tests) in
+    let d : nat_le n 10000 ≡ true = let most = h.most in grind (arith, nat_tests) in
+    (λ k. if a k then bounded (count_again w n h.count k) else None) ∙ (λ k. if b k && d k then Some n else None)
 
 -- a word has these parts
 abbrev pub IsParted : Option (List ℕ × List ℕ) → List ℕ → Type 0

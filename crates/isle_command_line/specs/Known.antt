@@ -15,6 +15,7 @@ pub data Known : Type 0 where
   Names : CodegenOptions → List (List ℕ) → Known
   Kind : Known
   Target : Known
+  Size : Known
   Run : Known
   Term : Bool → CodegenOptions → Source → Known
   Values : Bool → CodegenOptions → Source → (term : List ℕ) → Known

@@ -5,7 +5,7 @@ use Rattle.isle_core.specs.declared.options.CodegenOptions.{CodegenOptions}
 use Rattle.isle_core.specs.Printed.{after_prefix}
 use Rattle.isle_values.specs.Spelling.{SpellsValues}
 use Rattle.isle_values.specs.Written.{Writtens}
-use Rattle.isle_command_line.specs.Words.{is_name, IsCount, IsPrefix}
+use Rattle.isle_command_line.specs.Words.{is_name, IsCount, IsSize, IsPrefix}
 use Rattle.isle_command_line.specs.declared.commands.Kind.{Kind}
 use Rattle.isle_command_line.specs.declared.commands.Source.{Source}
 use Rattle.isle_command_line.specs.declared.commands.Source.TheVariants as source
@@ -113,6 +113,7 @@ pub data LineS : List (List ℕ) → Request → Type 0 where
   prelude : (k : Kind) → LineS (codes "prelude" ∷ kind_word k ∷ []) (command.Prelude k)
   units : LineS (codes "units" ∷ []) command.Units
   isa : (target : List ℕ) → LineS (codes "isa" ∷ target ∷ []) (command.Isa target)
+  sample : (n : ℕ) (word : List ℕ) → IsSize word n → LineS (codes "sample" ∷ word ∷ []) (command.Sample n)
   run : (t : Bool) (cs : List Choice) (words : List (List ℕ)) (s : Source) (from term spelling : List ℕ) (vs : Writtens) (a : Option (List ℕ)) (last : List (List ℕ))
       → ChoicesS cs words → AreOnce cs → SourceS s from → is_name term ≡ true → SpellsValues spelling vs → AnswersS a last
       → LineS (codes "run" ∷ traced t ++ words ++ from ∷ term ∷ spelling ∷ last) (command.run_of t (options_of cs) s term vs a)

@@ -34,6 +34,7 @@ first w =
     if bytes_eq w (codes "prelude") then first_word.Prelude else
     if bytes_eq w (codes "units") then first_word.Units else
     if bytes_eq w (codes "isa") then first_word.Isa else
+    if bytes_eq w (codes "sample") then first_word.Sample else
     if bytes_eq w (codes "run") then first_word.Run else first_word.Other
 
 -- the option that a word names
@@ -60,6 +61,15 @@ kind_of w =
 -- the number that 1 to 18 digits spell
 unfoldable pub count : List ℕ → Option ℕ
 count w = if nat_le 1 (length w) && (nat_le (length w) 18 && list_all is_digit w) then Some (decimal_value w) else None
+
+-- a count, where it is the size of a sample
+abbrev pub bounded : Option ℕ → Option ℕ
+bounded (Some n) = if nat_le 1 n && nat_le n 10000 then Some n else None
+bounded None = None
+
+-- the size of a sample that at most 5 digits spell
+unfoldable pub size : List ℕ → Option ℕ
+size w = if nat_le (length w) 5 then bounded (count w) else None
 
 -- what stands before the first = and after it
 unfoldable pub parts : List ℕ → Option (List ℕ × List ℕ)
@@ -91,6 +101,7 @@ begun first_word.Build = Some (state.Options verb.Build no_options)
 begun first_word.Prelude = Some state.Kind
 begun first_word.Units = Some (state.Whole command.Units)
 begun first_word.Isa = Some state.Target
+begun first_word.Sample = Some state.Size
 begun first_word.Run = Some state.Run
 begun first_word.Other = None
 
@@ -128,6 +139,11 @@ abbrev pub request : Option Kind → Option Known
 request (Some k) = Some (state.Whole (command.Prelude k))
 request None = None
 
+-- after the size of a sample
+abbrev pub sized : Option ℕ → Option Known
+sized (Some n) = Some (state.Whole (command.Sample n))
+sized None = None
+
 -- after an option or the first name
 abbrev pub optional : Verb → CodegenOptions → List ℕ → Option Known
 optional v o w = if is_name w then named v o w else chosen v o (mark w)
@@ -147,6 +163,7 @@ next (state.Prefix v o) w = prefixed v o (parts w)
 next (state.Names o ns) w = if is_name w then Some (state.Names o (ns ++ w ∷ [])) else None
 next state.Kind w = request (kind_of w)
 next state.Target w = Some (state.Whole (command.Isa w))
+next state.Size w = sized (size w)
 next state.Run w = if is_trace w then Some (state.Options (verb.Run true) no_options) else optional (verb.Run false) no_options w
 next (state.Term t o s) w = if is_name w then Some (state.Values t o s w) else None
 next (state.Values t o s m) w = valued t o s m (spelt w)
@@ -173,6 +190,7 @@ asks (state.Prefix v o) = None
 asks (state.Names o ns) = Some (command.Compile o ns)
 asks state.Kind = None
 asks state.Target = None
+asks state.Size = None
 asks state.Run = None
 asks (state.Term t o s) = None
 asks (state.Values t o s m) = None

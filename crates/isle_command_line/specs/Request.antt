@@ -22,6 +22,7 @@ pub data Request : Type 0 where
   Prelude : Kind → Request
   Units : Request
   Isa : (target : List ℕ) → Request
+  Sample : (size : ℕ) → Request
   Run : Running → Request
 
 -- the line of a run with these parts

@@ -23,6 +23,7 @@ seen_command (command.Build o u) = request.Build o u
 seen_command (command.Prelude k) = request.Prelude k
 seen_command command.Units = request.Units
 seen_command (command.Isa t) = request.Isa t
+seen_command (command.Sample n) = request.Sample n
 seen_command (command.Run r) = request.Run (seen_run r)
 
 -- what is known
@@ -35,6 +36,7 @@ seen_state (state.Prefix v o) = known.Prefix v o
 seen_state (state.Names o ns) = known.Names o ns
 seen_state state.Kind = known.Kind
 seen_state state.Target = known.Target
+seen_state state.Size = known.Size
 seen_state state.Run = known.Run
 seen_state (state.Term t o s) = known.Term t o s
 seen_state (state.Values t o s m) = known.Values t o s m

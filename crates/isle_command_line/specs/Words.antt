@@ -23,6 +23,13 @@ pub record IsCount (word : List ℕ) (n : ℕ) : Type 0 where
   pub digits : list_all is_digit word ≡ true
   pub value : decimal_value word ≡ n
 
+-- the size of a sample: 1 to 10,000 in 1 to 5 decimal digits, zeros in front among them
+pub record IsSize (word : List ℕ) (n : ℕ) : Type 0 where
+  pub count : IsCount word n
+  pub few : length word ≤ 5
+  pub some : 1 ≤ n
+  pub most : n ≤ 10000
+
 -- a prefix, up to the first =, and the name after it
 pub record IsPrefix (word prefix name : List ℕ) : Type 0 where
   pub parts : word ≡ prefix ++ 61 ∷ name

@@ -58,6 +58,8 @@ pub enum Command {
     Units,
     /// Write what a target has.
     Isa(Text),
+    /// Count what a sample of this size becomes.
+    Sample(usize),
     /// Run a term.
     Run(RunLine),
 }

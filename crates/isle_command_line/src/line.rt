@@ -67,6 +67,7 @@ fn request(alloc: Global, state: State) -> Result<Command, LineFail>
         | State::Prefix(..)
         | State::Kind
         | State::Target
+        | State::Size
         | State::Run
         | State::Term(..)
         | State::Values(..)

@@ -1,13 +1,13 @@
 ghost use Rattle.std.specs.Prelude.{◌≡◌, Err, Some, None, IfOk};
 ghost use Rattle.isle_command_line.specs.Known as known;
-ghost use Rattle.isle_command_line.specs.Reading.{next, begun, request};
+ghost use Rattle.isle_command_line.specs.Reading.{next, begun, request, sized};
 ghost use Rattle.isle_command_line.specs.Views.{seen_state};
 ghost use Rattle.isle_command_line.specs.declared.state.WordFail.TheVariants.{Bad};
 
 use crate::commands::{Command, Kind, Source};
 use crate::options::{one_name, option, prefix, threshold};
 use crate::run::{after_values, answers, run, term, values};
-use crate::word::{FirstWord, first, kind_of};
+use crate::word::{FirstWord, first, kind_of, size};
 use isle_core::{CodegenOptions, List, OutOfMemory, Text};
 use isle_values::Written;
 use std::alloc::{AllocError, AllocFailed, Global};
@@ -39,6 +39,8 @@ pub enum State {
     Kind,
     /// A target is next.
     Target,
+    /// The size of a sample is next.
+    Size,
     /// `--trace`, an option or a source is next.
     Run,
     /// A term is next.
@@ -108,6 +110,7 @@ pub fn next(alloc: Global, state: State, word: &str) -> Result<State, WordFail>
         State::Names(options, names) => one_name(alloc, options, names, word),
         State::Kind => request(kind_of(word)),
         State::Target => target(alloc, word),
+        State::Size => sized(size(word)),
         State::Run => run(alloc, word),
         State::Term(trace, options, source) => term(alloc, trace, options, source, word),
         State::Values(trace, options, source, term) => {
@@ -135,6 +138,7 @@ fn begun(alloc: Global, word: FirstWord) -> Result<State, WordFail>
         FirstWord::Prelude => Ok(State::Kind),
         FirstWord::Units => Ok(State::Whole(Command::Units)),
         FirstWord::Isa => Ok(State::Target),
+        FirstWord::Sample => Ok(State::Size),
         FirstWord::Run => Ok(State::Run),
         FirstWord::Other => Err(WordFail::Bad),
     }
@@ -158,4 +162,15 @@ fn target(alloc: Global, word: &str) -> Result<State, WordFail>
 {
     let target = String::from_str(alloc, word)?;
     Ok(State::Whole(Command::Isa(Text::new(target))))
+}
+
+// What is known after the size of a sample.
+fn sized(size: Option<usize>) -> Result<State, WordFail>
+    ensures next { IfOk result (λ s. sized size ≡ Some (seen_state s)) }
+    ensures bad { result ≡ Err Bad → sized size ≡ None }
+{
+    match size {
+        Some(size) => Ok(State::Whole(Command::Sample(size))),
+        None => Err(WordFail::Bad),
+    }
 }

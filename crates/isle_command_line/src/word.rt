@@ -1,6 +1,6 @@
 ghost use Rattle.std.specs.Prelude.{◌≡◌};
 ghost use Rattle.isle_command_line.specs.Words.{is_name};
-ghost use Rattle.isle_command_line.specs.Reading.{first, mark, kind_of, count, is_trace, is_answers};
+ghost use Rattle.isle_command_line.specs.Reading.{first, mark, kind_of, count, size, is_trace, is_answers};
 
 use crate::commands::Kind;
 
@@ -14,6 +14,7 @@ pub enum FirstWord {
     Prelude,
     Units,
     Isa,
+    Sample,
     Run,
     /// No line begins with it.
     Other,
@@ -44,6 +45,7 @@ pub fn first(word: &str) -> FirstWord
         "prelude" => FirstWord::Prelude,
         "units" => FirstWord::Units,
         "isa" => FirstWord::Isa,
+        "sample" => FirstWord::Sample,
         "run" => FirstWord::Run,
         _ => FirstWord::Other,
     }
@@ -122,4 +124,18 @@ pub fn count(word: &str) -> Option<usize>
         value = value * 10 + usize::from(*digit - b'0');
     }
     Some(value)
+}
+
+/// Returns the size of a sample that a word spells: 1 to 10,000 in at most 5 digits.
+#[tactic(auto, unfolding(crate::specs::Reading::size))]
+pub fn size(word: &str) -> Option<usize>
+    ensures { result ≡ size word.now }
+{
+    if word.len() > 5 {
+        return None;
+    }
+    match count(word) {
+        Some(size) if size >= 1 && size <= 10_000 => Some(size),
+        _ => None,
+    }
 }

@@ -7,9 +7,7 @@ use Rattle.std.proofs.lemmas.Bool.Decides.{Decides-eqb}
 use Rattle.std.proofs.lemmas.Slice.Eq.{bytes_eq-Decides}
 use Rattle.isle_core.specs.declared.Sym.{Sym}
 use Rattle.isle_core.specs.declared.TypeId.{TypeId}
-use Rattle.isle_core.specs.Constants.{const_type}
 use Rattle.isle_core.specs.HasType.{HasType}
-use Rattle.isle_core.specs.Having.{const_of}
 use Rattle.isle_core.specs.Meaning.{Meaning}
 use Rattle.isle_core.specs.NamesApart.{IsNameOf, ValuesConstants}
 use Rattle.isle_core.specs.Rule.{Environment}
@@ -18,7 +16,7 @@ use Rattle.isle_core.specs.Value.{Value}
 use Rattle.isle_core.proofs.Contained.{head_contained, tail_contained, contained_cases, none_contained}
 use Rattle.isle_operand_names.specs.Names.{is_among}
 use Rattle.isle_run_inputs.specs.Requested.{first_constant}
-use Rattle.isle_run.specs.Valid.{HasNoValue, IsRightConstant, AreRightConstants}
+use Rattle.isle_run.specs.Valid.{HasNoValue, AreRightConstants}
 
 -- ---- declared constants
 

@@ -36,7 +36,7 @@ use Rattle.isle_tree.specs.Program as tree
 use Rattle.isle_tree.specs.Program.{Body}
 use Rattle.isle_tree.specs.Walk.{of_stmt}
 use Rattle.isle_lawful_names.specs.TypeItems.{fields_shape, items_in, type_item, variant_item}
-use Rattle.isle_simulation.specs.Patterns.{field_binds, form_pattern, leaves_out, pattern_named, pattern_of, some_pattern}
+use Rattle.isle_simulation.specs.Patterns.{field_binds, form_pattern, leaves_out, pattern_named, some_pattern}
 use Rattle.isle_simulation.specs.Statements.{binds_list, made_named}
 use Rattle.isle_simulation.specs.TermFunction.{ends_in_return, mark_of, tail_body, tail_of}
 use Rattle.isle_simulation.specs.TraitFns.{constructor_fn, constructor_fn_of, extractor_fn, extracted_of, func_of, trait_fns_in}

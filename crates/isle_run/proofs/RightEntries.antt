@@ -16,7 +16,6 @@ use Rattle.isle_core.specs.Meaning.{PureAnswers, TurnAnswers, Meaning}
 use Rattle.isle_core.specs.Rule.{Environment}
 use Rattle.isle_core.specs.Terms.{sym_text, with_rules}
 use Rattle.isle_core.specs.Value.{Value, Answer}
-use Rattle.isle_core.proofs.AllLaws.{all_front, all_back}
 use Rattle.isle_tree.specs.declared.tree.TraitFn.{TraitFn}
 use Rattle.isle_tree.specs.Program.{Function, Program}
 use Rattle.isle_tree.specs.WellFormed.{trait_fn, fn_names}

@@ -1,5 +1,5 @@
 -- What the rules of a term want of constants, each program wants that conforms to the source.
-use Rattle.std.proofs.Common.{◌≡◌, ⊎_elim, ℕ, zero, suc, ℤ, List, [], ◌∷◌, ◌++◌, Bool, true, false, cond, map, Option, Some, None, refl, sym, ap, ◌∙◌, subst}
+use Rattle.std.proofs.Common.{◌≡◌, ⊎_elim, ℕ, zero, suc, ℤ, List, [], ◌∷◌, ◌++◌, Bool, true, false, cond, Option, Some, None, refl, sym, ap, ◌∙◌, subst}
 use Rattle.std.specs.Prelude.{◌&&◌, ◌||◌, not, Contains, filter_map, flat_map, is_some, option_and_then, slice_get, IsSomeAnd}
 use Rattle.std.specs.List.{AllByRecursion, cons_option, list_any}
 use Rattle.std.specs.Option.{option_map_or}
@@ -18,7 +18,7 @@ use Rattle.isle_core.specs.Having.{const_of}
 use Rattle.isle_core.specs.Making.{MakesStruct}
 use Rattle.isle_core.specs.Meaning.{Meaning}
 use Rattle.isle_core.specs.NamesApart.{ValuesConstants}
-use Rattle.isle_core.specs.Path.{Path, ConstBool, ConstInt, ConstPrim, MadeStruct, NoPath}
+use Rattle.isle_core.specs.Path.{ConstBool, ConstInt, ConstPrim, MadeStruct, NoPath}
 use Rattle.isle_core.specs.Rule.{Environment, Rule, rules_of}
 use Rattle.isle_core.specs.SameInRun.{same_in_run}
 use Rattle.isle_core.specs.Terms.{sym_text, with_rules}
@@ -50,10 +50,9 @@ use Rattle.isle_codegen.proofs.LawfulNames.{compilable}
 use Rattle.isle_codegen.proofs.Operands.{body_operands}
 use Rattle.isle_codegen.proofs.SpokenOperands.{IsSpokenOperand, local, argument, unit_struct, truth, number, named, function_so}
 use Rattle.isle_codegen.proofs.TypedNames.{typed_parts}
-use Rattle.isle_run.specs.Attempt.{Attempt}
 use Rattle.isle_run.specs.Conforming.{Conforms}
 use Rattle.isle_run.specs.LeftOut.{is_left_out, leave_out}
-use Rattle.isle_run.specs.RuleWants.{constant_held, IsOwnStruct, IsApartIn, AreWantedBy}
+use Rattle.isle_run.specs.RuleWants.{IsOwnStruct, IsApartIn, AreWantedBy}
 use Rattle.isle_run.specs.Valid.{HasNoValue, AreRightConstants, AreWanted}
 use Rattle.isle_run.proofs.GivenConstants.{typed_in, values_declared, none_given, among_of, none_holds}
 use Rattle.isle_run.proofs.PlacedOperands.{body_so, body_named}

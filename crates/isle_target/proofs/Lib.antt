@@ -10,3 +10,4 @@ pub mod NoComments
 pub mod Phrases
 pub mod TypesAgain
 pub mod Again
+pub mod CountedTests

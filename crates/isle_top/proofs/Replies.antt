@@ -1,19 +1,22 @@
 -- The reply to a line, by what the line asks for.
-use Rattle.std.proofs.Common.{◌≡◌, ℕ, List, Bool, false, Result, Ok, Err, refl, sym, subst}
+use Rattle.std.proofs.Common.{◌≡◌, ℕ, List, Bool, false, Option, Result, Ok, Err, refl, sym, subst}
 use Rattle.std.specs.Prelude.{IfOk, IfErr, String}
 use Rattle.std.specs.String.{string_bytes}
 use Rattle.std.specs.declared.alloc.Global.{Global}
+use Rattle.isle_outside.specs.Directory.{Contents, Counts}
 use Rattle.isle_core.specs.declared.options.CodegenOptions.{CodegenOptions}
 use Rattle.isle_codegen.specs.Causes.{AllTried, IsCompiled, HasCause}
 use Rattle.isle_codegen.specs.declared.file_error.FileError.{FileError}
-use Rattle.isle_command_line.specs.Request.{Request, Running, Compile, Run}
+use Rattle.isle_command_line.specs.Request.{Request, Running, Compile, Sample, Run}
 use Rattle.isle_command_line.specs.declared.commands.Source.{Source}
 use Rattle.isle_command_line.specs.declared.commands.Source.TheVariants as source
 use Rattle.isle_top.specs.declared.refusal.Refusal.{Refusal}
 use Rattle.isle_top.specs.declared.refusal.Refusal.TheVariants as refusal
-use Rattle.isle_top.specs.Job.{Around, IsReply}
+use Rattle.isle_top.specs.Job.{Around, surroundings, IsReply}
 use Rattle.isle_top.specs.Jobs.{job_of, running_job}
 use Rattle.isle_top.specs.RunLine.{GivesLines, run_inputs, run_job}
+use Rattle.isle_top.specs.SampleLine.{sample_source, AreCounts, FailsToCount}
+use Rattle.isle_top.proofs.Tries.{none_tried}
 
 -- the lines of a run of a file
 file_replies : {E : Type 0} (name : List ℕ) (r : Running) (around : Around) (result : Result (String Global) E) → IfOk result (λ lines. GivesLines name r around.files (string_bytes lines))
@@ -42,3 +45,14 @@ module _ (request : Request) (options : CodegenOptions) (names : List (List ℕ)
   -- why there is none
   pub compile_fails : (e : FileError) → HasCause e options around.files names around.before around.after → (job_of request).fails (refusal.Files e) around
   compile_fails e h = subst (λ q. (job_of q).fails (refusal.Files e) around) (sym is) h
+
+-- the counts of a sample
+pub sample_replies : {E : Type 0} (request : Request) (size : ℕ) (files : Option Contents) (counts : Counts) (result : Result (String Global) E) → request ≡ Sample size
+    → IfOk result (λ lines. AreCounts (sample_source size) (string_bytes lines)) → IfOk result (λ lines. IsReply (job_of request) (surroundings files counts counts) (string_bytes lines))
+sample_replies request size files counts (Ok lines) is gives =
+    subst (λ q. IsReply (job_of q) (surroundings files counts counts) (string_bytes lines)) (sym is) (record { built = refl; gives = gives; tried = none_tried counts })
+sample_replies request size files counts (Err e) is gives = tt
+
+-- why there are none
+pub sample_fails : {T : Type 0} (request : Request) (size : ℕ) (around : Around) (result : Result T Refusal) → request ≡ Sample size → IfErr result (FailsToCount size) → IfErr result (λ e. (job_of request).fails e around)
+sample_fails request size around result is h = subst (λ q. IfErr result (λ e. (job_of q).fails e around)) (sym is) h

@@ -1,6 +1,6 @@
 -- A valid line has no refusal but want of memory, where no call of the directory fails; what a refusal tells is there.
 use Rattle.std.proofs.Common.{◌≡◌, ℕ, ◌<◌, ◌≤◌, zero, suc, List, [], ◌∷◌, length, Bool, true, false, Option, Some, None, Result, Ok, Err, refl, sym, ap, ◌∙◌, subst, arith}
-use Rattle.std.specs.Prelude.{◌^◌, IsSomeAnd, IfErr, IsUtf8, slice_get}
+use Rattle.std.specs.Prelude.{◌^◌, IsSomeAnd, IfErr, IsUtf8, slice_get, codes}
 use Rattle.isle_outside.specs.Directory.{Contents, bytes_of, Rose, Counts}
 use Rattle.isle_outside.specs.Reading.{IsText, IsCause, RoseAt}
 use Rattle.isle_outside.specs.declared.errors.IoCause.{IoCause}
@@ -18,9 +18,10 @@ use Rattle.isle_codegen.specs.declared.file_error.FileError.{FileError}
 use Rattle.isle_codegen.specs.declared.file_error.FileError.TheVariants as file
 use Rattle.isle_codegen.proofs.Accepted.{accepted_none, accepted_named, some_errors}
 use Rattle.isle_lawful_names.specs.declared.name_error.NameError.{NameError}
-use Rattle.isle_command_line.specs.Request.{Request, Running, Help, Version, Compile, Build, Prelude, Units, Isa, Run}
+use Rattle.isle_command_line.specs.Request.{Request, Running, Help, Version, Compile, Build, Prelude, Units, Isa, Sample, Run}
 use Rattle.isle_command_line.specs.declared.commands.Source.{Source}
 use Rattle.isle_command_line.specs.declared.commands.Source.TheVariants as source
+use Rattle.isle_sample.specs.Sample.{sample}
 use Rattle.isle_run.specs.NoLines.{HasNoLines}
 use Rattle.isle_run.specs.NoLines as trials
 use Rattle.isle_run.specs.Valid.{CanRun}
@@ -33,6 +34,7 @@ use Rattle.isle_top.specs.Job.{Around, Job}
 use Rattle.isle_top.specs.Jobs.{job_of, running_job}
 use Rattle.isle_top.specs.CompileLine.{AreValid, FailsToCompile, compile_job}
 use Rattle.isle_top.specs.RunLine.{answers_names, run_inputs, AreInputs, IsAnswersText, IsValidRun, FailsToRun, of_trial, unread, no_lines, memory, run_job}
+use Rattle.isle_top.specs.SampleLine.{FailsToCount, sample_source, sample_job}
 use Rattle.isle_top.specs.Statuses.{IsOfJob}
 use Rattle.isle_top.specs.Texts.{not_built}
 use Rattle.isle_top.specs.Wants.{IsWant}
@@ -135,6 +137,16 @@ only_want_run from r fs before after _ v (no_lines files given failed inputs tri
     only_want_trial files failed (only_memory r.options files r.term r.values given failed (subst (λ text. CanRun files r.term r.values text) answers (subst (λ s. CanRun s r.term r.values v.given) same v.can)) h)
 only_want_run from r fs before after _ v (memory h) calm = tt
 
+-- ---- a line that tells of a sample
+
+only_want_count : (n : ℕ) (e : Refusal) → AreAccepted (codes "sample" ∷ []) (sample n ∷ []) → FailsToCount n e → IsWant e
+only_want_count n refusal.NotYet v h = absurd h
+only_want_count n (refusal.Files (file.Io index why)) v h = absurd h
+only_want_count n (refusal.Files (file.Errors e)) v h = accepted_none (sample_source n) e.errors v h.errors
+only_want_count n (refusal.Files (file.Name e)) v h = accepted_named (codes "sample" ∷ []) (sample n ∷ []) e v h
+only_want_count n (refusal.Files file.Memory) v h = tt
+only_want_count n (refusal.Run e) v h = absurd h
+
 -- ---- lines
 
 -- a valid line that isn't answered wants memory
@@ -150,6 +162,7 @@ only_want (Build options unit) e files before after v h calm = absurd v
 only_want (Prelude kind) e files before after v h calm = absurd v
 only_want Units e files before after v h calm = absurd v
 only_want (Isa target) e files before after v h calm = absurd v
+only_want (Sample n) e files before after v h calm = only_want_count n e v h
 only_want (Run r) e files before after v h calm = by r.trace r.source files v h
   where
     by : (trace : Bool) (from : Source) (files : Option Contents) → (running_job trace from r).valid files → (running_job trace from r).fails e (record { files = files; before = before; after = after }) → IsWant e
@@ -187,6 +200,14 @@ told_files options names around (file.Errors e) h = told_errors e (printed optio
 told_files options names around (file.Name e) h = tt
 told_files options names around file.Memory h = tt
 
+told_count : (n : ℕ) (e : Refusal) → FailsToCount n e → IsOfJob (sample_job n) e
+told_count n refusal.NotYet h = absurd h
+told_count n (refusal.Files (file.Io index why)) h = absurd h
+told_count n (refusal.Files (file.Errors e)) h = told_errors e (codes "sample" ∷ []) (sample n ∷ []) h
+told_count n (refusal.Files (file.Name e)) h = tt
+told_count n (refusal.Files file.Memory) h = tt
+told_count n (refusal.Run e) h = absurd h
+
 told_want : (job : Job) (e : Refusal) → IsWant e → IsOfJob job e
 told_want job refusal.NotYet h = absurd h
 told_want job (refusal.Files (file.Io index why)) h = absurd h
@@ -209,6 +230,7 @@ of_job (Build options unit) e around h = told_not_built (job_of (Build options u
 of_job (Prelude kind) e around h = told_not_built (job_of (Prelude kind)) e h
 of_job Units e around h = told_not_built (job_of Units) e h
 of_job (Isa target) e around h = told_not_built (job_of (Isa target)) e h
+of_job (Sample n) e around h = told_count n e h
 of_job (Run r) e around h = by r.trace r.source h
   where
     by : (trace : Bool) (from : Source) → (running_job trace from r).fails e around → IsOfJob (running_job trace from r) e

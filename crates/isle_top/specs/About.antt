@@ -11,10 +11,11 @@ help_text =
     codes "  isle prelude KIND\n      Writes a prelude (not yet).\n      isle prelude clif-opt\n" ++ (
     codes "  isle units\n      Lists the units (not yet).\n      isle units\n" ++ (
     codes "  isle isa TARGET\n      Writes what a target has (not yet).\n      isle isa x86\n" ++ (
+    codes "  isle sample N\n      Compiles a sample of N terms, 1 to 10000, and writes how many functions, rules and matches it has.\n      isle sample 8\n" ++ (
     codes "  isle --help\n      Writes this text.\n      isle --help\n" ++ (
     codes "  isle --version\n      Writes the program's name and version.\n      isle --version\n\n" ++ (
     codes "OPTION is --no-allow, which leaves the pragmas out; --log, which puts a log line before each result; --prefix P=NAME, which prints\n" ++ (
-    codes "NAME in place of P where the name of a file begins with it; or --split or --threshold N, which change nothing yet.\nNo words mean: isle compile first.isle\n"))))))))))
+    codes "NAME in place of P where the name of a file begins with it; or --split or --threshold N, which change nothing yet.\nNo words mean: isle compile first.isle\n")))))))))))
 
 -- the program's name and version
 unfoldable pub version_text : List ℕ

@@ -1,6 +1,6 @@
 -- What each line is: the table of all lines.
 use Rattle.std.specs.Prelude.{◌≡◌, ℕ, List, Bool, true, false}
-use Rattle.isle_command_line.specs.Request.{Request, Running, Help, Version, Compile, Build, Prelude, Units, Isa, Run}
+use Rattle.isle_command_line.specs.Request.{Request, Running, Help, Version, Compile, Build, Prelude, Units, Isa, Sample, Run}
 use Rattle.isle_command_line.specs.Lines.{LineS}
 use Rattle.isle_command_line.specs.Views.{seen_run}
 use Rattle.isle_command_line.specs.declared.commands.RunLine.{RunLine}
@@ -11,6 +11,7 @@ use Rattle.isle_top.specs.Job.{Job}
 use Rattle.isle_top.specs.Texts.{text_job, not_built}
 use Rattle.isle_top.specs.CompileLine.{compile_job}
 use Rattle.isle_top.specs.RunLine.{run_job}
+use Rattle.isle_top.specs.SampleLine.{sample_job}
 
 -- what a source is to a line that has a job for its file: that job, or not built
 abbrev pub of_source : Source → (List ℕ → Job) → Job
@@ -39,6 +40,7 @@ job_of (Build options unit) = not_built
 job_of (Prelude kind) = not_built
 job_of Units = not_built
 job_of (Isa target) = not_built
+job_of (Sample size) = sample_job size
 job_of (Run r) = running_job r.trace r.source r
 
 -- the words ask for this, and for nothing else

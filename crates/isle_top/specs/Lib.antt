@@ -4,6 +4,7 @@ pub mod Wants
 pub mod Texts
 pub mod CompileLine
 pub mod RunLine
+pub mod SampleLine
 pub mod Inputs
 pub mod Jobs
 pub mod Lines

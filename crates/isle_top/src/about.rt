@@ -29,6 +29,9 @@ pub fn help() -> &'static str
 \x20 isle isa TARGET\n\
 \x20     Writes what a target has (not yet).\n\
 \x20     isle isa x86\n\
+\x20 isle sample N\n\
+\x20     Compiles a sample of N terms, 1 to 10000, and writes how many functions, rules and matches it has.\n\
+\x20     isle sample 8\n\
 \x20 isle --help\n\
 \x20     Writes this text.\n\
 \x20     isle --help\n\

@@ -57,7 +57,8 @@ pub fn input_name(request: &Command, index: usize) -> &str
         | Command::Build { .. }
         | Command::Prelude(_)
         | Command::Units
-        | Command::Isa(_) => "",
+        | Command::Isa(_)
+        | Command::Sample(_) => "",
     }
 }
 
@@ -74,6 +75,7 @@ pub fn asked_name(request: &Command) -> &str
         | Command::Build { .. }
         | Command::Prelude(_)
         | Command::Units
-        | Command::Isa(_) => "",
+        | Command::Isa(_)
+        | Command::Sample(_) => "",
     }
 }

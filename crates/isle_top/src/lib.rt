@@ -10,6 +10,7 @@ mod ran;
 mod refusal;
 mod reply;
 mod run;
+mod sampled;
 mod status;
 
 pub use run::run_words;

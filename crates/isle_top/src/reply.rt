@@ -6,12 +6,14 @@ ghost use Rattle.isle_outside.specs.Directory.{Rose};
 ghost use Rattle.isle_command_line.specs.Views.{seen_command};
 ghost use Rattle.isle_top.specs.Job.{surroundings, IsReply};
 ghost use Rattle.isle_top.specs.Jobs.{job_of, job_of_run};
+ghost use Rattle.isle_top.specs.SampleLine.{sample_source, AreCounts, FailsToCount};
 ghost use Rattle.isle_top.specs.Wants.{IsWant};
 
 use crate::about::{help, version};
 use crate::compiled::compiled;
 use crate::ran::ran;
 use crate::refusal::Refusal;
+use crate::sampled::sampled;
 use isle_command_line::{Command, RunLine, Source};
 use isle_core::Dir;
 use std::alloc::Global;
@@ -51,9 +53,21 @@ pub fn reply<D: Dir>(alloc: Global, command: &Command, dir: &mut D) -> Result<St
             Err(e) => Err(Refusal::Files(e)),
         },
         Command::Run(run) => run_reply(alloc, run, dir),
+        Command::Sample(size) => sample_reply(alloc, *size),
         Command::Build { .. } | Command::Prelude(_) | Command::Units | Command::Isa(_) => Err(
             Refusal::NotYet,
         ),
+    }
+}
+
+// The reply to a line that tells what a sample becomes.
+fn sample_reply(alloc: Global, size: usize) -> Result<String, Refusal>
+    ensures ok { IfOk result (λ lines. AreCounts (sample_source size) (string_bytes lines)) }
+    ensures err { IfErr result (FailsToCount size) }
+{
+    match sampled(alloc, size) {
+        Ok(lines) => Ok(lines),
+        Err(e) => Err(Refusal::Files(e)),
     }
 }
 

@@ -1,5 +1,4 @@
 use Rattle.std.proofs.Common.{◌≡◌, map, length, sym, ap, ◌∙◌, subst}
-use Rattle.std.specs.Prelude.{List, ℕ}
 use Rattle.std.proofs.lemmas.List.{length-map}
 use Rattle.std.specs.String.{string_bytes}
 use Rattle.isle_core.specs.Inputs.{bytes_each, IsTried}

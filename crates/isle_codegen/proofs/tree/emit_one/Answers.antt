@@ -51,5 +51,6 @@ returns c =
     })
     c.in_ok-block.ensures.tests
     (subst (λ (several : Bool). MakesTests several c.args.rules.now b) (sym often) c.in_ok-block.ensures.makes)
+    (λ once free. c.in_ok-block.ensures.asks env h.term h.ready often once (λ several. free))
     given)
     c.term_function.ensures

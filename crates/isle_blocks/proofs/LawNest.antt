@@ -1,7 +1,5 @@
--- A chain gives what its rules give.
-use Rattle.std.proofs.Common.{◌≡◌, ℕ, List, [], ◌∷◌, ◌++◌, Bool, true, false, cond, ◌&&◌, Option, Some, map, refl, ap, ◌∙◌}
-use Rattle.std.specs.List.{AllByRecursion}
-use Rattle.isle_core.specs.declared.types.ReturnKind.{ReturnKind}
+-- What a rule's tests give, nested round what follows them.
+use Rattle.std.proofs.Common.{◌≡◌, ℕ, List, [], ◌∷◌, ◌++◌, Bool, true, false, cond, ◌&&◌, Option, map, refl, ap, ◌∙◌}
 use Rattle.isle_core.specs.declared.BindingId.{BindingId}
 use Rattle.isle_core.specs.declared.rule_sets.Binding.{Binding}
 use Rattle.isle_core.specs.declared.rule_sets.Constraint.{Constraint}
@@ -12,27 +10,23 @@ use Rattle.isle_core.specs.Meaning.{Meaning}
 use Rattle.isle_core.specs.Path.{Path, at, paths_of}
 use Rattle.isle_core.specs.Tests.{Test}
 use Rattle.isle_core.specs.ValueAt.{Known, nothing_known, value_at, meets, equal_held, all_hold}
-use Rattle.isle_core.specs.CallRun.{Went, Goes, Ends, then_go, returns, run_calls}
-use Rattle.isle_core.specs.RuleSet.{is_test, equal_test, flat_tests, flat_holds, flat_run, gave, given, set_outcome}
+use Rattle.isle_core.specs.CallRun.{Went, Goes, Ends, then_go, returns}
+use Rattle.isle_core.specs.RuleSet.{is_test, equal_test, flat_run}
 use Rattle.isle_core.specs.ArmPlaces.{bound_within}
 use Rattle.isle_core.specs.Bindable.{bound_by}
 use Rattle.isle_core.specs.Block.{Control}
-use Rattle.isle_core.specs.BlockViews.{SeenStep, block_of}
-use Rattle.isle_core.specs.BlockRun.{bind_all, block_run, control_run, block_outcome}
+use Rattle.isle_core.specs.BlockViews.{SeenStep}
+use Rattle.isle_core.specs.BlockRun.{bind_all, control_run}
 use Rattle.isle_core.specs.StandsFor.{EachOnce}
 use Rattle.isle_core.specs.Serializable.{IsSerializableRule}
 use Rattle.isle_core.specs.Calling.{kind_of, is_several}
 use Rattle.isle_core.specs.Rule.{Environment}
-use Rattle.isle_blocks.specs.Order.{by_priority}
 use Rattle.isle_blocks.specs.Needed.{needs}
 use Rattle.isle_blocks.specs.Nest.{Shows, Behind, last_step, all_matched, all_equated}
-use Rattle.isle_blocks.specs.Tree.{no_tests}
-use Rattle.isle_blocks.proofs.LawFirst.{first, first_is_highest}
-use Rattle.isle_blocks.proofs.LawOrder.{all_in_order}
 use Rattle.isle_blocks.proofs.LawBinds.{last_binds_run}
 use Rattle.isle_blocks.proofs.NeededRuns.{AreStill, goes_on, needs_still}
 use Rattle.isle_blocks.proofs.NextLaws.{FindsNext}
-use Rattle.isle_blocks.proofs.StillRules.{StillLast, StillEquated, StillMatched, StillRule}
+use Rattle.isle_blocks.proofs.StillRules.{StillLast, StillEquated, StillMatched}
 
 pub if_inside : (b c : Bool) (x y z : Went) → (b ≡ true → x ≡ cond c y z) → cond b x z ≡ cond (b && c) y z
 if_inside true c x y z e = e refl

@@ -1,0 +1,110 @@
+//! Rules and their tests in the order in which a tree has them.
+
+ghost use Rattle.std.specs.Prelude.{◌≡◌, IfOk, OnOk, map};
+ghost use Rattle.std.specs.List.Sorted.{IsPermutation};
+ghost use Rattle.isle_blocks.specs.Arranged as Arrangement;
+ghost use Rattle.isle_blocks.specs.Order.{Falls};
+ghost use Rattle.isle_blocks.specs.Ways as Ways;
+
+use crate::free::free_of;
+use crate::tables::Tables;
+use crate::turns::{rank, turns_of};
+use crate::ways::{Way, ways_of};
+use isle_core::{BindingId, Constraint, FlatRule};
+use std::alloc::{AllocError, Global};
+use std::cmp::Reverse;
+
+/// A rule with its tests in the order in which they are made, the early ones by their sources' ranks.
+#[derive(Drop)]
+pub struct Arranged<'r> {
+    pub rule: &'r FlatRule,
+    pub ranks: Vec<u128>,
+    pub early: Vec<(BindingId, Constraint)>,
+    pub late: &'r [(BindingId, Constraint)],
+}
+
+// Puts the early tests of a way in the order of their sources' ranks.
+fn arrange_way<'r>(
+    alloc: Global,
+    turns: &[usize],
+    way: &Way<'r>,
+) -> Result<Arranged<'r>, AllocError>
+    ensures { IfOk result (λ a.
+        Arrangement.IsArranged turns.now (Ways.way way.now) (Arrangement.arranged_way a)) }
+{
+    let mut early = Vec::from_slice(alloc, way.early)?;
+    early.sort_by_key(|(source, _)| rank(turns, *source))?;
+    let mut ranks = Vec::new(alloc);
+    for (source, _) in &early {
+        ranks.push(rank(turns, *source))?;
+    }
+    // Of ways that begin alike, the ones that test more stand first.
+    ranks.push(u128::MAX)?;
+    Ok(Arranged {
+        rule: way.rule,
+        ranks,
+        early,
+        late: way.late,
+    })
+}
+
+// Arranges each of the ways.
+fn arrange_ways<'r>(
+    alloc: Global,
+    turns: &[usize],
+    ways: &[Way<'r>],
+) -> Result<Vec<Arranged<'r>>, AllocError>
+    ensures { IfOk result (λ all. Arrangement.AreEachArranged turns.now
+        (map Ways.way ways.now) (map Arrangement.arranged_way all.items)) }
+{
+    let mut all = Vec::new(alloc);
+    for way in ways {
+        let arranged = arrange_way(alloc, turns, way)?;
+        all.push(arranged)?;
+    }
+    Ok(all)
+}
+
+// Sorts ways by priority, the highest first, and those of one priority by what they test.
+fn sort_ways(all: &mut Vec<Arranged<'_>>) -> Result<(), AllocError>
+    ensures permutation { IsPermutation all.old.items all.new.items }
+    ensures falls { OnOk result
+        (Falls (Arrangement.rules_of (map Arrangement.arranged_way all.new.items))) }
+{
+    all.sort_by(|one, other| one.ranks.cmp(&other.ranks))?;
+    all.sort_by_key(|one| Reverse(one.rule.prio))?;
+    Ok(())
+}
+
+/// Arranges rules: the highest priority first, and those of one priority by what they test; each with its early tests
+/// by their sources' ranks. The only error is want of memory.
+pub fn arrange_rules<'r>(
+    alloc: Global,
+    tables: &Tables<'_>,
+    rules: &'r [FlatRule],
+) -> Result<Vec<Arranged<'r>>, AllocError>
+    ensures { IfOk result (λ all. Arrangement.AreArranged tables.now.several
+        tables.now.bindings.now rules.now (map Arrangement.arranged_way all.items)) }
+{
+    let free = free_of(alloc, tables.bindings)?;
+    let ways = ways_of(alloc, tables.several, free.as_slice(), rules)?;
+    let turns = turns_of(alloc, tables.bindings, ways.as_slice())?;
+    let mut all = arrange_ways(alloc, turns.as_slice(), ways.as_slice())?;
+    sort_ways(&mut all)?;
+    Ok(all)
+}
+
+/// Returns the ways of rules that are arranged, in order. The only error is want of memory.
+pub fn ways_in<'a>(alloc: Global, all: &'a [Arranged<'_>]) -> Result<Vec<Way<'a>>, AllocError>
+    ensures { IfOk result (λ ways. map Ways.way ways.items ≡ map Arrangement.arranged_way all.now) }
+{
+    let mut ways = Vec::new(alloc);
+    for one in all {
+        ways.push(Way {
+            rule: one.rule,
+            early: one.early.as_slice(),
+            late: one.late,
+        })?;
+    }
+    Ok(ways)
+}
