@@ -20,7 +20,7 @@ use Rattle.isle_core.specs.Path.{Path, paths_of}
 use Rattle.isle_core.specs.ReturnPosition.{block_position, set_position, rule_position}
 use Rattle.isle_core.specs.Rule.{Environment}
 use Rattle.isle_core.specs.RuleSet.{flat_holds, gave, given, set_outcome}
-use Rattle.isle_core.specs.Serializable.{IsSerializableRule, IsSerializable, occurrences_of}
+use Rattle.isle_core.specs.Serializable.{IsSerializableRule, IsSerializable, constraint_tests, occurrences_of}
 use Rattle.isle_core.specs.Setting.{setting}
 use Rattle.isle_core.specs.StandsFor.{EachOnce}
 use Rattle.isle_core.specs.Value.{Value}
@@ -29,7 +29,7 @@ use Rattle.isle_core.proofs.Contained.{none_contained}
 use Rattle.isle_core.proofs.RulePairs.{all_from, all_at}
 use Rattle.isle_blocks.specs.ApartRules.{AreRulesApart}
 use Rattle.isle_blocks.specs.Arranged.{rules_of, AreArranged, IsGrown}
-use Rattle.isle_blocks.specs.AllTests.{IsTried, MakesTests}
+use Rattle.isle_blocks.specs.AllTests.{MakesTests}
 use Rattle.isle_blocks.specs.CallsOnce.{HasCallsOnce}
 use Rattle.std.specs.Ordering.{nat_cmp}
 use Rattle.std.specs.BTreeMap.{BTreeMap, get}
@@ -37,13 +37,14 @@ use Rattle.isle_blocks.specs.Fields.{FieldKey, key_cmp, shown_cmp, FindsFields, 
 use Rattle.isle_blocks.specs.Several.{HasItsLists, GivesSeveral}
 use Rattle.isle_blocks.specs.declared.fields.Fields.{Fields}
 use Rattle.isle_blocks.specs.Followers.{FindsInners, FindsItems}
-use Rattle.isle_blocks.specs.Merged.{IsMerged}
+use Rattle.isle_blocks.specs.Merged.{IsMerged, IsMergedOver, AnySource, IsSharedSource}
 use Rattle.isle_blocks.specs.Nest.{next_of}
 use Rattle.isle_blocks.specs.Reordered.{IsReordered}
 use Rattle.isle_blocks.specs.RuleTests.{TestsRules}
-use Rattle.isle_blocks.specs.Tree.{Way, IsTree}
+use Rattle.isle_blocks.specs.Tree.{Way, Tests, IsTree}
 use Rattle.isle_blocks.specs.declared.fields.Shown.{Shown}
 use Rattle.isle_blocks.proofs.CalledItems.{early_none}
+use Rattle.isle_blocks.proofs.FreshLists.{ordered_plain}
 use Rattle.isle_blocks.proofs.LawFirst.{first, first_is_highest}
 use Rattle.isle_blocks.proofs.MadeBefore.{within_none}
 use Rattle.isle_blocks.proofs.NextLaws.{finds_next}
@@ -52,12 +53,12 @@ use Rattle.isle_blocks.proofs.RulesInOrder.{occurrences_in_order}
 use Rattle.isle_blocks.proofs.TreeItems.{tree_new}
 use Rattle.isle_blocks.proofs.TreeLawful.{AreFreeTests, tree_good}
 use Rattle.isle_blocks.proofs.TreeMakes.{IsGood, tree_makes}
-use Rattle.isle_blocks.proofs.TreeMerged.{tree_merged}
+use Rattle.isle_blocks.proofs.TreeMerged.{StartsOwn, own_step, tree_merged}
 use Rattle.isle_blocks.proofs.TreePositions.{tree_returns}
 use Rattle.isle_blocks.proofs.TreeRuns.{went, tree_run}
 use Rattle.isle_blocks.proofs.ServedWorks.{several_prescribes}
 use Rattle.isle_blocks.proofs.TreeSeveral.{IsSeveralWay, tree_adds}
-use Rattle.isle_blocks.proofs.TreeStart.{IsStart, start_on, start_among, start_of, start_after, ways_order, way_starts, way_there, rule_way}
+use Rattle.isle_blocks.proofs.TreeStart.{IsStart, StartsChosen, start_on, start_among, start_of, start_after, ways_order, way_starts, way_there, rule_way}
 use Rattle.isle_blocks.proofs.TreeTests.{IsOf, tree_tests}
 use Rattle.isle_blocks.proofs.TreeWays.{IsAfter, AreAfter}
 
@@ -123,14 +124,42 @@ module _ (several : Bool) (s : RuleSet) (b : Block) (k : IsTreeOf several s.bind
       k.arranged.falls own.way own.there own.rule
       ((starts own.way own.there).has (source, c) (subst (λ g. Contains g.constraints (source, c)) (sym own.rule) has)))
 
+  -- its late tests and its rule's calls are of sources whose tests aren't shared
+  abbrev IsOwnWay : Way → Type 0
+  IsOwnWay w = StartsOwn (IsSharedSource s) w.late × Contains s.rules w.rule
+
+  own_after : (source : BindingId) (w : Way) (c : Constraint) (left : Way) → Tests source w c left → IsOwnWay w → IsOwnWay left
+  own_after source w c left is h = (subst (StartsOwn (IsSharedSource s)) (sym is.late) h.0, subst (Contains s.rules) (sym is.rule) h.1)
+
+  chosen_own : (cs : List (BindingId × Constraint)) → StartsChosen ps cs → StartsOwn (IsSharedSource s) cs
+  chosen_own [] h = tt
+  chosen_own (c ∷ cs) h = λ is. let bad = sym h ∙ is.0 in absurd cc
+
+  pub tree_of_shares : (env : Environment) (t : Term) → IsSerializable env t s → IsMergedOver (IsSharedSource s) b
+  tree_of_shares env t h =
+      let next = next_of k.inners k.items in
+      tree_merged (record { several = several; bindings = s.bindings; shows = shows k.found k.counts k.inners; next = next; items = k.items }) (IsSharedSource s) IsOwnWay own_after
+      (λ w bound own. own_step (IsSharedSource s) (record { several = several; bindings = s.bindings; shows = shows k.found k.counts k.inners; next = next; items = k.items }) w bound (finds_next s.bindings k.inners k.items k.found_inners k.found_items) own.0
+      (λ is. (
+        ordered_plain env t (constraint_tests ps w.rule) s.bindings w.rule.ordered (all_at (IsSerializableRule env t ps) s.rules w.rule h.rules own.1).calls,
+        all_from (λ (c : BindingId). IsSharedSource s c → ⊥) w.rule.ordered (λ c i shared. shared.1 w.rule own.1 i),
+      )))
+      k.ways [] b k.is_tree (all_from IsOwnWay k.ways (λ w c. (chosen_own w.late (starts w c).chosen, there w c)))
+
 -- ---- of a term that answers once
 
 once_tree : (several kind : Bool) (bs : List Binding) (fs : List FlatRule) (b : Block) → kind ≡ several → kind ≡ false → IsTreeOf several bs fs b → IsTreeOf false bs fs b
 once_tree several kind bs fs b e answers_once k = subst (λ x. IsTreeOf x bs fs b) (sym e ∙ answers_once) k
 
+no_late_own : (source : BindingId) (w : Way) (c : Constraint) (left : Way) → Tests source w c left → w.late ≡ [] → left.late ≡ []
+no_late_own source w c left k h = k.late ∙ h
+
 pub tree_of_merged : (s : RuleSet) (b : Block) → IsTreeOf false s.bindings s.rules b → IsMerged b
-tree_of_merged s b k = tree_merged s.bindings (shows k.found k.counts k.inners) (next_of k.inners k.items) k.items k.ways [] b k.is_tree
-    (all_from (λ (w : Way). w.late ≡ []) k.ways (λ w c. (way_starts false s.bindings s.rules k.ways k.arranged w c).whole refl))
+tree_of_merged s b k =
+    let next = next_of k.inners k.items in
+    tree_merged (record { several = false; bindings = s.bindings; shows = shows k.found k.counts k.inners; next = next; items = k.items }) AnySource (λ (w : Way). w.late ≡ []) no_late_own
+    (λ w bound h. own_step AnySource (record { several = false; bindings = s.bindings; shows = shows k.found k.counts k.inners; next = next; items = k.items }) w bound (finds_next s.bindings k.inners k.items k.found_inners k.found_items) (subst (StartsOwn AnySource) (sym h) tt) (λ is. absurd cc))
+    k.ways [] b k.is_tree (all_from (λ (w : Way). w.late ≡ []) k.ways (λ w c. (way_starts false s.bindings s.rules k.ways k.arranged w c).whole refl))
 
 pub tree_of_means : (several : Bool) (s : RuleSet) (b : Block) → IsTreeOf several s.bindings s.rules b → (env : Environment) (m : Meaning) (t : Term) (args : List Value) (kind : ReturnKind) → IsSerializable env t s → is_several (kind_of t.kind) ≡ several → is_several (kind_of t.kind) ≡ false
     → AreTestsApart env m args s → AreRulesApart env m args s → block_outcome env m args (paths_of s.bindings) b kind ≡ set_outcome env m args (paths_of s.bindings) s.rules kind

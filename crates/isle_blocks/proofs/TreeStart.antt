@@ -1,8 +1,7 @@
 -- The ways of rules none of whose tests is made.
-use Rattle.std.proofs.Common.{◌≡◌, inl, inr, ⊎_elim, ℕ, zero, suc, ◌<◌, ◌≤◌, List, [], ◌∷◌, ◌++◌, Bool, true, false, cond, map, take, drop, length, get_or, refl, sym, ap, ◌∙◌, subst, arith}
+use Rattle.std.proofs.Common.{◌≡◌, inr, ⊎_elim, ℕ, suc, ◌<◌, ◌≤◌, List, [], ◌∷◌, ◌++◌, Bool, true, false, cond, map, take, drop, length, get_or, refl, sym, ◌∙◌, subst, arith}
 use Rattle.std.specs.Prelude.{Contains}
 use Rattle.std.specs.List.{AllByRecursion}
-use Rattle.std.specs.List.Sorted.{IsNonDecreasingBy}
 use Rattle.std.proofs.lemmas.List.{take-append-drop}
 use Rattle.std.proofs.lemmas.List.Elements.{Contains-append_left, Contains-append_right, Contains-append_cases}
 use Rattle.isle_core.specs.declared.BindingId.{BindingId}
@@ -14,7 +13,7 @@ use Rattle.isle_core.specs.declared.types.Term.{Term}
 use Rattle.isle_core.specs.Path.{Path, at, paths_of}
 use Rattle.isle_core.specs.Rule.{Environment}
 use Rattle.isle_core.specs.RuleSet.{is_test}
-use Rattle.isle_core.specs.Serializable.{AreTestable, constraint_tests, IsSerializableRule}
+use Rattle.isle_core.specs.Serializable.{AreTestable, IsSerializableRule}
 use Rattle.isle_core.specs.StandsFor.{EachOnce}
 use Rattle.isle_core.specs.Tests.{Test}
 use Rattle.isle_core.proofs.Contained.{head_contained, tail_contained, contained_cases, none_contained}
@@ -22,18 +21,22 @@ use Rattle.isle_core.proofs.RulePairs.{all_from, all_at}
 use Rattle.isle_blocks.specs.AllTests.{AreAmong}
 use Rattle.isle_blocks.specs.Arranged.{rules_of, IsArranged, AreArranged}
 use Rattle.isle_blocks.specs.Free.{is_free}
-use Rattle.isle_blocks.specs.Order.{Falls}
 use Rattle.isle_blocks.specs.Reordered.{IsReordered}
 use Rattle.isle_blocks.specs.Tree.{Way}
 use Rattle.isle_blocks.specs.Turns.{TurnsRise, rank}
 use Rattle.isle_blocks.specs.Ways.{early_count, shared_count, way_of}
-use Rattle.isle_blocks.proofs.LawBound.{came_behind, came_holds, came_from}
+use Rattle.isle_blocks.proofs.LawBound.{came_holds, came_from}
 use Rattle.isle_blocks.proofs.MovedTests.{RanksRise, testable_by_ranks}
 use Rattle.isle_blocks.proofs.Reorders.{permutation_reorders, reorder_all, reorder_has, reorder_keeps}
 use Rattle.isle_blocks.proofs.TreeLawful.{AreFreeTests}
 use Rattle.isle_blocks.proofs.TreeMakes.{IsOn}
 use Rattle.isle_blocks.proofs.TreeTests.{IsOf}
 use Rattle.isle_blocks.proofs.TreeWays.{IsAfter}
+
+-- the first test, if there is one, is of a path with a chosen item
+abbrev pub StartsChosen : List Path → List (BindingId × Constraint) → Type 0
+StartsChosen ps [] = Unit {0}
+StartsChosen ps (c ∷ cs) = is_free (at ps c.0) ≡ false
 
 -- all tests of a way's rule are left, in an order in which they may be made; of a term that answers several times the early ones are of free
 -- paths, and of one that answers once all are early
@@ -42,6 +45,7 @@ pub record IsStart (several : Bool) (bs : List Binding) (w : Way) : Type 0 where
   pub only : (c : BindingId × Constraint) → Contains (w.early ++ w.late) c → Contains w.rule.constraints c
   pub free : AreFreeTests several (paths_of bs) w
   pub whole : several ≡ false → w.late ≡ []
+  pub chosen : StartsChosen (paths_of bs) w.late
   pub testable : (env : Environment) (t : Term) → EachOnce (paths_of bs) → AreTestable env t (paths_of bs) [] w.rule.constraints → AreTestable env t (paths_of bs) [] (w.early ++ w.late)
 
 -- ---- of the rule's own order
@@ -67,6 +71,18 @@ none_late : (several : Bool) (ps : List Path) (f : FlatRule) → several ≡ fal
 none_late false ps f is = drop_all f.constraints
 none_late true ps f is = absurd cc
 
+late_chosen : (ps : List Path) (cs : List (BindingId × Constraint)) → StartsChosen ps (drop (early_count ps cs) cs)
+late_chosen ps [] = tt
+late_chosen ps (c ∷ cs) = pick (is_free (at ps c.0)) refl (late_chosen ps cs)
+  where
+    pick : (b : Bool) → is_free (at ps c.0) ≡ b → StartsChosen ps (drop (early_count ps cs) cs) → StartsChosen ps (drop (cond b (suc (early_count ps cs)) 0) (c ∷ cs))
+    pick true e h = h
+    pick false e h = e
+
+chosen_late : (several : Bool) (ps : List Path) (f : FlatRule) → StartsChosen ps (way_of several ps f).late
+chosen_late true ps f = late_chosen ps f.constraints
+chosen_late false ps f = subst (StartsChosen ps) (sym (drop_all f.constraints)) tt
+
 -- ---- arranged
 
 ranks_rise : (turns : List ℕ) (cs : List (BindingId × Constraint)) → ((i j : ℕ) (d : BindingId × Constraint) → i ≤ j → j < length cs → rank turns (get_or cs i d).0 ≤ rank turns (get_or cs j d).0) → RanksRise turns cs
@@ -83,6 +99,7 @@ arranged_starts several bs turns w rise h = record {
   only = λ c i. subst (λ cs. Contains cs c) all (⊎_elim (λ j. Contains-append_left v.early v.late c (reorder_has v.early w.early c order j)) (λ j. Contains-append_right v.early v.late c (subst (λ cs. Contains cs c) h.late j)) (Contains-append_cases w.early w.late c i));
   free = λ is. reorder_all (λ (c : BindingId × Constraint). is_free (at ps c.0) ≡ true) v.early w.early order (free_early several ps w.rule is);
   whole = λ is. h.late ∙ none_late several ps w.rule is;
+  chosen = subst (StartsChosen ps) (sym h.late) (chosen_late several ps w.rule);
   testable = λ env t once k. subst (λ cs. AreTestable env t ps [] (w.early ++ cs)) (sym h.late)
       (testable_by_ranks bs turns rise once env t v.early w.early v.late (ranks_rise turns w.early h.sorted) (λ c i. reorder_keeps v.early w.early c order i) (λ c i. reorder_has v.early w.early c order i) (subst (AreTestable env t ps []) (sym all) k));
 }

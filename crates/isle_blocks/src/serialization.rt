@@ -24,7 +24,7 @@ ghost use Rattle.isle_blocks.specs.Gathered.{AreShort};
 ghost use Rattle.isle_blocks.specs.Tables.{ground};
 ghost use Rattle.isle_blocks.specs.Ways as Ways;
 ghost use Rattle.isle_blocks.specs.CallsOnce.{HasCallsOnce};
-ghost use Rattle.isle_blocks.specs.Merged.{IsMerged};
+ghost use Rattle.isle_blocks.specs.Merged.{IsMerged, IsMergedOver, IsSharedSource};
 ghost use Rattle.isle_blocks.specs.RuleTests.{TestsRules};
 ghost use Rattle.isle_blocks.specs.AllTests.{MakesTests};
 ghost use Rattle.isle_blocks.specs.Several.{HasItsLists, GivesSeveral};
@@ -104,6 +104,10 @@ pub fn serialize(alloc: Global, rules: &RuleSet, iterator: bool) -> Result<Block
         is_several (kind_of t.kind) ≡ iterator → is_several (kind_of t.kind) ≡ true →
         AllByRecursion (HasItsLists env (paths_of rules.now.bindings)) rules.now.rules →
         GivesSeveral env rules.now (BlockViews.block b)) }
+    ensures shares { IfOk result (λ b.
+        (env : Environment) (t : Term) → IsSerializable env t rules.now →
+        is_several (kind_of t.kind) ≡ iterator →
+        IsMergedOver (IsSharedSource rules.now) (BlockViews.block b)) }
     ensures merged { IfOk result (λ b. iterator ≡ false → IsMerged (BlockViews.block b)) }
     ensures asks { IfOk result (λ b.
         (env : Environment) (t : Term) → IsSerializable env t rules.now →

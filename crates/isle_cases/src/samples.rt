@@ -11,12 +11,12 @@ use isle_target::{TreeCounts, tree_counts};
 use isle_top::run_words;
 use std::alloc::{AllocError, Global};
 
-/// How many terms the sample has.
+/// How many terms the sample has that is counted.
 const SIZE: usize = 8;
 
-// The text of the sample.
-fn text(alloc: Global) -> Result<Text, AllocError> {
-    match sample_text(alloc, SIZE) {
+// The text of the sample of so many terms.
+fn text(alloc: Global, terms: usize) -> Result<Text, AllocError> {
+    match sample_text(alloc, terms) {
         Ok(text) => Ok(Text::new(text)),
         Err(_) => Err(AllocError),
     }
@@ -27,7 +27,7 @@ fn files(alloc: Global) -> Result<Files, AllocError>
     ensures { IfOk result (λ files. length files.file_texts ≡ length files.file_names) }
 {
     let name = Text::copied(alloc, "sample")?;
-    let text = text(alloc)?;
+    let text = text(alloc, SIZE)?;
     Ok(Files {
         file_names: List::new(vec![in alloc; name]?),
         file_texts: List::new(vec![in alloc; text]?),
@@ -89,8 +89,9 @@ fn written(alloc: Global) -> Result<String, AllocError> {
     String::from_utf8_lossy(alloc, out.bytes())
 }
 
-/// Writes the counts, and whether the words write them.
+/// Writes the text of two terms, the counts of a sample, and whether the words write these.
 pub fn push_samples(alloc: Global, lines: &mut String) -> Result<(), AllocError> {
+    lines.push_str(text(alloc, 2)?.as_str())?;
     let files = files(alloc)?;
     let counted = counted(alloc, &files)?;
     let written = written(alloc)?;

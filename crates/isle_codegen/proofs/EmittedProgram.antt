@@ -85,6 +85,7 @@ are_from_blocks options files env (s ∷ sets) (f ∷ fs) stand h = (
     block = h.0.block;
     lawful = h.0.lawful;
     merged = h.0.merged;
+    shares = h.0.shares;
     means = h.0.means;
     shape = has_shape options files env h.0.term s.1.bindings h.0.block f h.0.lawful h.0.given;
     statements = h.0.given;

@@ -24,7 +24,7 @@ use Rattle.isle_blocks.specs.AllTests.{MakesTests}
 use Rattle.isle_blocks.specs.ApartRules.{AreRulesApart}
 use Rattle.isle_blocks.specs.AskedBound.{AsksAtMost}
 use Rattle.isle_blocks.specs.LoopFree.{HasNoLoop}
-use Rattle.isle_blocks.specs.Merged.{IsMerged}
+use Rattle.isle_blocks.specs.Merged.{IsMerged, IsMergedOver, IsSharedSource}
 use Rattle.isle_blocks.specs.RuleReads.{OrdersCallsOnce}
 use Rattle.isle_blocks.specs.RuleTests.{TestsRules}
 use Rattle.isle_blocks.specs.Several.{HasItsLists, GivesSeveral}
@@ -67,6 +67,7 @@ pub record IsEmitted (options : CodegenOptions) (files : Files) (env : Environme
   pub block : Block
   pub lawful : IsLawfulBlock (setting env term s.bindings) block
   pub merged : is_several (kind_of term.kind) ≡ false → IsMerged block
+  pub shares : IsMergedOver (IsSharedSource s) block
   pub means : MeansSet env term s block
   pub tests : TestsRules s block
   pub makes : MakesTests (is_several (kind_of term.kind)) s block

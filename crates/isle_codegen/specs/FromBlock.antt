@@ -15,7 +15,7 @@ use Rattle.isle_core.specs.Rule.{Environment, Rule, rules_of}
 use Rattle.isle_core.specs.Setting.{setting}
 use Rattle.isle_core.specs.StandsFor.{StandsFor}
 use Rattle.isle_blocks.specs.AllTests.{MakesTests}
-use Rattle.isle_blocks.specs.Merged.{IsMerged}
+use Rattle.isle_blocks.specs.Merged.{IsMerged, IsMergedOver, IsSharedSource}
 use Rattle.isle_blocks.specs.RuleTests.{TestsRules}
 use Rattle.isle_simulation.specs.Shape.{HasShape}
 use Rattle.isle_simulation.specs.LogLines.{lines_of}
@@ -38,6 +38,7 @@ pub record IsFromBlock (options : CodegenOptions) (files : Files) (env : Environ
   pub block : Block
   pub lawful : IsLawfulBlock (setting env term set.bindings) block
   pub merged : is_several (kind_of term.kind) ≡ false → IsMerged block
+  pub shares : IsMergedOver (IsSharedSource set) block
   pub means : MeansSet env term set block
   pub shape : HasShape (setting env term set.bindings) f.body block
   pub statements : term_function options files (setting env term set.bindings) block ≡ Some f

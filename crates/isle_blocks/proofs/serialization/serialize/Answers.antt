@@ -1,6 +1,6 @@
 use Rattle.isle_core.specs.BlockViews.{block}
 use Rattle.std.proofs.Common.{subst}
-use Rattle.isle_blocks.proofs.Grown.{IsTreeOf, grown_by, tree_of_lawful, tree_of_makes, tree_of_means, tree_of_merged, tree_of_positions, tree_of_several, tree_of_tests}
+use Rattle.isle_blocks.proofs.Grown.{IsTreeOf, grown_by, tree_of_lawful, tree_of_makes, tree_of_means, tree_of_merged, tree_of_positions, tree_of_several, tree_of_shares, tree_of_tests}
 use Rattle.isle_blocks.proofs.AskedSets.{tree_of_asks}
 use Rattle.isle_blocks.proofs.serialization.serialize.Goals as goal
 
@@ -45,6 +45,13 @@ returns-clause-several c =
     tree_of_several c.args.iterator s (block c.in_ok-tree_of.field-0)
     (grown_by c.args.iterator s.bindings c.as_slice.result.now c.as_slice-2.result.now c.as_slice-3.result.now c.as_slice-4.result.now s.rules c.as_slice-5.result.now (block c.in_ok-tree_of.field-0) c.in_ok-fields.fields c.in_ok-inners.inners c.in_ok-items.items
     c.as_slice.ensures c.as_slice-2.ensures c.as_slice-3.ensures c.as_slice-4.ensures c.as_slice-5.ensures c.in_ok-fields.ensures c.in_ok-inners.ensures c.in_ok-items.ensures c.in_ok-tree_of.ensures)
+
+pub returns-clause-shares : goal.returns-clause-shares
+returns-clause-shares c = λ env t h is.
+    let s = c.args.rules.now in
+    tree_of_shares c.args.iterator s (block c.in_ok-tree_of.field-0)
+    (grown_by c.args.iterator s.bindings c.as_slice.result.now c.as_slice-2.result.now c.as_slice-3.result.now c.as_slice-4.result.now s.rules c.as_slice-5.result.now (block c.in_ok-tree_of.field-0) c.in_ok-fields.fields c.in_ok-inners.inners c.in_ok-items.items
+    c.as_slice.ensures c.as_slice-2.ensures c.as_slice-3.ensures c.as_slice-4.ensures c.as_slice-5.ensures c.in_ok-fields.ensures c.in_ok-inners.ensures c.in_ok-items.ensures c.in_ok-tree_of.ensures) env t h
 
 pub returns-clause-merged : goal.returns-clause-merged
 returns-clause-merged c = λ once.

@@ -1,4 +1,4 @@
-use Rattle.std.proofs.Common.{◌≡◌, ◌+◌, ◌≤◌, length, sym, subst, arith}
+use Rattle.std.proofs.Common.{◌+◌, ◌≤◌, sym, subst, arith}
 use Rattle.std.specs.Prelude.{Contains}
 use Rattle.isle_blocks.specs.Turns.{turn_at}
 use Rattle.isle_blocks.proofs.TurnLaws.{RiseTo, rise_more, long_more, rise_all}
