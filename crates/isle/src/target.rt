@@ -1,5 +1,5 @@
-//! Target programs as trees: judged, printed, counted, and run under given answers. What their text is, and what a run does,
-//! stand in `docs/TARGET.md`.
+//! Target programs as trees: judged, printed, counted, and run under given answers. What their text is, and what a run
+//! does, stand in `docs/TARGET.md`.
 
 pub use isle_core::{
     Answer, Answers, CallMade, Callee, End, Outcome, PureAnswers, TurnAnswers, Value,
