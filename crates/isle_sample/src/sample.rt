@@ -94,8 +94,8 @@ fn push_term(text: &mut String, term: usize) -> Result<(), AllocError>
 }
 
 /// Returns the text of `n` terms, numbered from 0: term I, with K the rest of I by 4, is declared by
-/// `(decl tI (u8 u8) u8)`, and has a rule `(rule (tI A B) C)` for each A and B from 0 to K, where C is 4A + B, and after
-/// these `(rule -1 (tI _ _) 255)`; each on a line of its own. The only error is want of memory.
+/// `(decl tI (u8 u8) u8)`, and has a rule `(rule (tI A B) C)` for each A and B from 0 to K, where C is 4A + B, and
+/// after these `(rule -1 (tI _ _) 255)`; each on a line of its own. The only error is want of memory.
 pub fn sample_text(alloc: Global, n: usize) -> Result<String, OutOfMemory>
     ensures { IfOk result (λ text. string_bytes text ≡ sample n) }
 {
