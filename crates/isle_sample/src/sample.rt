@@ -1,7 +1,9 @@
 //! The text of terms of two small numbers, with a rule for each pair of their first numbers.
 
-ghost use Rattle.std.specs.Prelude.{◌≡◌, ◌+◌, ◌*◌, ◌%◌, ◌++◌, OnOk, IfOk, string_bytes};
+ghost use Rattle.std.specs.Prelude.{◌≡◌, ◌+◌, ◌*◌, ◌%◌, ◌++◌, [], ◌∷◌, OnOk, IfOk};
+ghost use Rattle.std.specs.Prelude.{string_bytes, codes};
 ghost use Rattle.isle_sample.specs.Sample.{term_name, declaration, argument, given, rule, last_rule};
+ghost use Rattle.isle_codegen.specs.LawfulEnvironment.{AreAccepted};
 ghost use Rattle.isle_sample.specs.Sample.{row, rows, term_text, sample};
 
 use isle_outside::OutOfMemory;
@@ -93,15 +95,26 @@ fn push_term(text: &mut String, term: usize) -> Result<(), AllocError>
     push_last_rule(text, term)
 }
 
-/// Returns the text of `n` terms, numbered from 0: term I, with K the rest of I by 4, is declared by
-/// `(decl tI (u8 u8) u8)`, and has a rule `(rule (tI A B) C)` for each A and B from 0 to K, where C is 4A + B, and
-/// after these `(rule -1 (tI _ _) 255)`; each on a line of its own. The only error is want of memory.
-pub fn sample_text(alloc: Global, n: usize) -> Result<String, OutOfMemory>
+// The text of the terms below a number.
+fn whole_text(alloc: Global, n: usize) -> Result<String, AllocError>
     ensures { IfOk result (λ text. string_bytes text ≡ sample n) }
 {
     let mut text = String::new(alloc);
     for term in 0..n {
         push_term(&mut text, term)?;
     }
+    Ok(text)
+}
+
+/// Returns the text of `n` terms, numbered from 0: term I, with K the rest of I by 4, is declared by
+/// `(decl tI (u8 u8) u8)`, and has a rule `(rule (tI A B) C)` for each A and B from 0 to K, where C is 4A + B, and
+/// after these `(rule -1 (tI _ _) 255)`; each on a line of its own. It is valid input of the compiler for every `n`.
+/// The only error is want of memory.
+pub fn sample_text(alloc: Global, n: usize) -> Result<String, OutOfMemory>
+    ensures text { IfOk result (λ text. string_bytes text ≡ sample n) }
+    ensures accepted { IfOk result (λ text.
+        AreAccepted (codes "sample" ∷ []) (string_bytes text ∷ [])) }
+{
+    let text = whole_text(alloc, n)?;
     Ok(text)
 }

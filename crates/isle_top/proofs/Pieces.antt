@@ -19,7 +19,7 @@ took_front a b c xs ys h k = (length xs + k.0, omega (arith, k.1, length-append 
 pub took_less : (a b : Option (List ℕ)) (xs ys : List ℕ) → TookPart a b xs → TookPart a b (xs ++ ys)
 took_less a b xs ys h = (h.0, omega (arith, h.1, length-append xs ys), rw (take-append-le h.0 xs ys (omega (arith, h.1))) h.2)
 
--- the same where the second piece may fail
+-- the same if the second piece may fail
 pub both_ok : {T E : Type 0} (r : Result T E) (a b c : Option (List ℕ)) (xs ys : List ℕ) → Took a b xs → OnOk r (Took b c ys) → OnOk r (Took a c (xs ++ ys))
 both_ok (Ok t) a b c xs ys h k = took_both a b c xs ys h k
 both_ok (Err e) a b c xs ys h k = tt

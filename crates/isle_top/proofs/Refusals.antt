@@ -28,7 +28,7 @@ pub wrote : {T E : Type 0} (r : Result T E) (old new : Option (List ℕ)) (befor
 wrote (Ok t) old new before after line h k r = inl h
 wrote (Err e) old new before after line h k r = inr (k, r)
 
--- what is said of the name at a number, where there is one
+-- what is said of the name at a number, if there is one
 at_number : (names : List (List ℕ)) (i : ℕ) (P : List ℕ → Type 0) → i < length names → ((name : List ℕ) → slice_get names i ≡ Some name → P name) → IsSomeAnd (slice_get names i) P
 at_number [] i P lt f = absurd (omega (arith, lt))
 at_number (name ∷ names) zero P lt f = f name refl
@@ -112,7 +112,7 @@ end_refused job wrote status (refusal.Files (file.Name e)) h = told_refused stat
 end_refused job wrote status (refusal.Files file.Memory) h = told_refused status 12 twelve h.0
 end_refused job wrote status (refusal.Run e) h = run_refused job wrote status e h
 
--- one fails as another, where the results are the same
+-- one fails as another, if the results are the same
 pub same_fail : {T : Type 0} (a b : Result T Refusal) (e f : Refusal) → a ≡ Err e → b ≡ Err f → a ≡ b → e ≡ f
 same_fail a b e f h k same = let both : Err e ≡ Err f = sym h ∙ same ∙ k in cc
 

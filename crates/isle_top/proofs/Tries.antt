@@ -11,7 +11,7 @@ use Rattle.isle_codegen.specs.Causes.{AllTried}
 use Rattle.isle_top.specs.Inputs.{LooksUp}
 use Rattle.isle_top.specs.RunLine.{answers_names}
 
--- where there is none
+-- if there is none
 pub none_tried : (c : Counts) → AllTried [] c c
 none_tried c = (inl (omega arith), refl)
 

@@ -1,4 +1,4 @@
--- A valid line has no refusal but want of memory, where no call of the directory fails; what a refusal tells is there.
+-- A valid line has no refusal but want of memory, if no call of the directory fails; what a refusal tells is there.
 use Rattle.std.proofs.Common.{◌≡◌, ℕ, ◌<◌, ◌≤◌, zero, suc, List, [], ◌∷◌, length, Bool, true, false, Option, Some, None, Result, Ok, Err, refl, sym, ap, ◌∙◌, subst, arith}
 use Rattle.std.specs.Prelude.{◌^◌, IsSomeAnd, IfErr, IsUtf8, slice_get, codes}
 use Rattle.isle_outside.specs.Directory.{Contents, bytes_of, Rose, Counts}
@@ -17,10 +17,10 @@ use Rattle.isle_codegen.specs.declared.compile_error.CompileError.TheVariants as
 use Rattle.isle_codegen.specs.declared.file_error.FileError.{FileError}
 use Rattle.isle_codegen.specs.declared.file_error.FileError.TheVariants as file
 use Rattle.isle_codegen.proofs.Accepted.{accepted_none, accepted_named, some_errors}
-use Rattle.isle_lawful_names.specs.declared.name_error.NameError.{NameError}
 use Rattle.isle_command_line.specs.Request.{Request, Running, Help, Version, Compile, Build, Prelude, Units, Isa, Sample, Run}
 use Rattle.isle_command_line.specs.declared.commands.Source.{Source}
 use Rattle.isle_command_line.specs.declared.commands.Source.TheVariants as source
+use Rattle.isle_sample.proofs.SampleAccepted.{sample_accepted}
 use Rattle.isle_sample.specs.Sample.{sample}
 use Rattle.isle_run.specs.NoLines.{HasNoLines}
 use Rattle.isle_run.specs.NoLines as trials
@@ -32,8 +32,8 @@ use Rattle.isle_top.specs.declared.refusal.Refusal.{Refusal}
 use Rattle.isle_top.specs.declared.refusal.Refusal.TheVariants as refusal
 use Rattle.isle_top.specs.Job.{Around, Job}
 use Rattle.isle_top.specs.Jobs.{job_of, running_job}
-use Rattle.isle_top.specs.CompileLine.{AreValid, FailsToCompile, compile_job}
-use Rattle.isle_top.specs.RunLine.{answers_names, run_inputs, AreInputs, IsAnswersText, IsValidRun, FailsToRun, of_trial, unread, no_lines, memory, run_job}
+use Rattle.isle_top.specs.CompileLine.{AreValid, compile_job}
+use Rattle.isle_top.specs.RunLine.{answers_names, run_inputs, IsAnswersText, IsValidRun, FailsToRun, of_trial, unread, no_lines, memory, run_job}
 use Rattle.isle_top.specs.SampleLine.{FailsToCount, sample_source, sample_job}
 use Rattle.isle_top.specs.Statuses.{IsOfJob}
 use Rattle.isle_top.specs.Texts.{not_built}
@@ -137,15 +137,15 @@ only_want_run from r fs before after _ v (no_lines files given failed inputs tri
     only_want_trial files failed (only_memory r.options files r.term r.values given failed (subst (λ text. CanRun files r.term r.values text) answers (subst (λ s. CanRun s r.term r.values v.given) same v.can)) h)
 only_want_run from r fs before after _ v (memory h) calm = tt
 
--- ---- a line that tells of a sample
+-- ---- a line that counts a sample
 
-only_want_count : (n : ℕ) (e : Refusal) → AreAccepted (codes "sample" ∷ []) (sample n ∷ []) → FailsToCount n e → IsWant e
-only_want_count n refusal.NotYet v h = absurd h
-only_want_count n (refusal.Files (file.Io index why)) v h = absurd h
-only_want_count n (refusal.Files (file.Errors e)) v h = accepted_none (sample_source n) e.errors v h.errors
-only_want_count n (refusal.Files (file.Name e)) v h = accepted_named (codes "sample" ∷ []) (sample n ∷ []) e v h
-only_want_count n (refusal.Files file.Memory) v h = tt
-only_want_count n (refusal.Run e) v h = absurd h
+only_want_count : (n : ℕ) (e : Refusal) → FailsToCount n e → IsWant e
+only_want_count n refusal.NotYet h = absurd h
+only_want_count n (refusal.Files (file.Io index why)) h = absurd h
+only_want_count n (refusal.Files (file.Errors e)) h = accepted_none (sample_source n) e.errors (sample_accepted n) h.errors
+only_want_count n (refusal.Files (file.Name e)) h = accepted_named (codes "sample" ∷ []) (sample n ∷ []) e (sample_accepted n) h
+only_want_count n (refusal.Files file.Memory) h = tt
+only_want_count n (refusal.Run e) h = absurd h
 
 -- ---- lines
 
@@ -162,7 +162,7 @@ only_want (Build options unit) e files before after v h calm = absurd v
 only_want (Prelude kind) e files before after v h calm = absurd v
 only_want Units e files before after v h calm = absurd v
 only_want (Isa target) e files before after v h calm = absurd v
-only_want (Sample n) e files before after v h calm = only_want_count n e v h
+only_want (Sample n) e files before after v h calm = only_want_count n e h
 only_want (Run r) e files before after v h calm = by r.trace r.source files v h
   where
     by : (trace : Bool) (from : Source) (files : Option Contents) → (running_job trace from r).valid files → (running_job trace from r).fails e (record { files = files; before = before; after = after }) → IsWant e
@@ -179,7 +179,7 @@ replied_unless request (Err e) files before after h v calm = only_want request e
 
 -- ---- what is told
 
--- errors are some, and stand in the files that are told with them
+-- errors are some, and stand in the files that are reported with them
 told_errors : (e : Errors) (names texts : List (List ℕ)) → IsErrors e names texts → HavePlaces e × (e.errors ≡ [] → ⊥)
 told_errors e names texts h = (subst (λ fs. HavePlaces (record { errors = e.errors; files = fs })) (sym h.given) h.errors.placed, some_errors (record { file_names = names; file_texts = texts }) e.errors h.errors)
 
@@ -219,7 +219,7 @@ told_want job (refusal.Run e) h = tt
 told_not_built : (job : Job) (e : Refusal) → e ≡ refusal.NotYet → IsOfJob job e
 told_not_built job e same = subst (IsOfJob job) (sym same) tt
 
--- what is told of a line that is not answered is there
+-- what is known of a line that is not answered is there
 pub of_job : (request : Request) (e : Refusal) (around : Around) → (job_of request).fails e around → IsOfJob (job_of request) e
 of_job Help e around h = told_want (job_of Help) e h
 of_job Version e around h = told_want (job_of Version) e h

@@ -5,7 +5,7 @@ use Rattle.isle_outside.specs.Sinks.{Took, TookPart}
 use Rattle.isle_codegen.specs.Causes.{AllTried}
 use Rattle.isle_top.specs.declared.refusal.Refusal.{Refusal}
 
--- what a line has around it: the files, where the directory tells them, and the directory's counts before and after
+-- what a line has around it: the files, if the directory tells them, and the directory's counts before and after
 pub record Around : Type 0 where
   pub files : Option Contents
   pub before : Counts

@@ -8,7 +8,6 @@ use Rattle.isle_target.specs.TreeCounts.{counts_of}
 use Rattle.isle_target.specs.declared.counting.TreeCounts.{TreeCounts}
 use Rattle.isle_codegen.specs.Causes.{IsRefusal}
 use Rattle.isle_codegen.specs.Checked.{IsChecked}
-use Rattle.isle_codegen.specs.LawfulEnvironment.{AreAccepted}
 use Rattle.isle_command_line.specs.Lines.{no_options}
 use Rattle.isle_run.specs.Conforming.{Conforms}
 use Rattle.isle_sample.specs.Sample.{sample}
@@ -42,14 +41,14 @@ FailsToCount n refusal.NotYet = ⊥
 FailsToCount n (refusal.Files e) = IsRefusal e (codes "sample" ∷ []) (sample n ∷ [])
 FailsToCount n (refusal.Run e) = ⊥
 
--- the sample of so many terms is compiled, and its counts are told; this is valid where the sample is accepted
+-- the sample of so many terms is compiled, and its counts are reported; this is always valid, since each sample is accepted
 abbrev pub sample_job : ℕ → Job
 sample_job n = record {
   built = true;
   reads = false;
   inputs = [];
   asked = [];
-  valid = λ files. AreAccepted (codes "sample" ∷ []) (sample n ∷ []);
+  valid = λ files. Unit {0};
   gives = λ files lines. AreCounts (sample_source n) lines;
   fails = λ e around. FailsToCount n e;
 }

@@ -16,7 +16,7 @@ use Rattle.isle_top.specs.Jobs.{job_of}
 use Rattle.isle_top.specs.Wants.{IsWant}
 use Rattle.isle_top.specs.Lines.{bad_word_line, missing_word_line, not_yet_line, unread_line, bad_name_line, no_term_line, count_line, argument_line, answers_line, write_fault_line, memory_line}
 
--- an input that is not read is one of the line, and errors are some and stand in the files that are told with them
+-- an input that is not read is one of the line, and errors are some and stand in the files that are reported with them
 abbrev pub IsOfJob : Job → Refusal → Type 0
 IsOfJob job refusal.NotYet = Unit {0}
 IsOfJob job (refusal.Files (file.Io index why)) = index < length job.inputs
@@ -29,11 +29,11 @@ IsOfJob job (refusal.Run e) = Unit {0}
 abbrev pub Tells : (wrote : List ℕ → Type 0) → (status : ℕ) → ℕ → List ℕ → Type 0
 Tells wrote status n line = (status ≡ n) × wrote line
 
--- what is told of errors: the status of the first, and the lines of all
+-- what is known of errors: the status of the first, and the lines of all
 abbrev pub TellsErrors : (wrote : List ℕ → Type 0) → (status : ℕ) → Errors → Type 0
 TellsErrors wrote status e = (errors_status e.errors ≡ Some status) × wrote (shown_lines e.files e.errors)
 
--- what is told of a term that is not run
+-- what is known of a term that is not run
 abbrev pub TellsRun : Job → (wrote : List ℕ → Type 0) → (status : ℕ) → RunFail → Type 0
 TellsRun job wrote status run.NoTerm = Tells wrote status 13 (no_term_line job.asked)
 TellsRun job wrote status run.ArgCount = Tells wrote status 13 count_line
@@ -41,7 +41,7 @@ TellsRun job wrote status (run.ArgType i) = Tells wrote status 13 (argument_line
 TellsRun job wrote status (run.BadAnswers at) = Tells wrote status 13 (answers_line at)
 TellsRun job wrote status run.Memory = Tells wrote status 12 memory_line
 
--- what is told of a line that is not answered: its status, and what `err` took
+-- what is known of a line that is not answered: its status, and what `err` took
 abbrev pub TellsRefusal : Job → (wrote : List ℕ → Type 0) → (status : ℕ) → Refusal → Type 0
 TellsRefusal job wrote status refusal.NotYet = Tells wrote status 14 not_yet_line
 TellsRefusal job wrote status (refusal.Files (file.Io index why)) = IsSomeAnd (slice_get job.inputs index) (λ name. Tells wrote status 5 (unread_line name why))

@@ -40,7 +40,7 @@ fn running_term(run: &RunLine) -> &str
     }
 }
 
-/// Returns the name of the line's input of this number, or any where there is none (`specs/Jobs.antt`).
+/// Returns the name of the line's input of this number, or any if there is none (`specs/Jobs.antt`).
 pub fn input_name(request: &Command, index: usize) -> &str
     ensures { (name : List ℕ)
         → slice_get (job_of (seen_command request.now)).inputs index ≡ Some name

@@ -57,14 +57,14 @@ pub fn run_words<D: Dir, O: Sink, E: Sink>(
     ensures not_built { (request : Request) → LineS (bytes_each words.now) request
         → (job_of request).built ≡ false → (result.0 ≡ 14) ⊎ (result.0 ≡ 12) }
 
-    // A valid line has its reply, where nothing fails and memory suffices.
+    // A valid line has its reply, if nothing fails and memory suffices.
     ensures complete { (request : Request) → LineS (bytes_each words.now) request
         → (job_of request).valid (D.files dir.old)
         → (Rose (D.counts dir.old).faults (D.counts dir.new).faults → ⊥)
         → (result.0 ≡ 0) ⊎ (result.0 ≡ 11) ⊎ (result.0 ≡ 12) }
     ensures files { D.files dir.new ≡ D.files dir.old }
 
-    // No count falls, of each input at most 2^24 + 1 bytes are taken, and the directory is as it was where no line
+    // No count falls, of each input at most 2^24 + 1 bytes are taken, and the directory is as it was if no line
     // reads files.
     ensures untried { ((request : Request) → LineS (bytes_each words.now) request
         → (job_of request).reads ≡ false) → dir.new ≡ dir.old }

@@ -70,7 +70,7 @@ fn tell_memory<E: Sink>(err: &mut E) -> Exit
     Exit(12)
 }
 
-// Writes the lines of errors, as far as the sink takes them, and returns their status; 12 where memory doesn't hold the
+// Writes the lines of errors, as far as the sink takes them, and returns their status; 12 if memory doesn't hold the
 // lines.
 fn tell_errors<E: Sink>(alloc: Global, err: &mut E, errors: &Errors) -> Exit
     requires placed { HavePlaces errors.now }
@@ -118,7 +118,7 @@ fn tell_run<E: Sink>(err: &mut E, request: &Command, fail: RunFail) -> Exit
 }
 
 /// Writes the lines of a refusal, as far as the sink takes them, and returns its status (`specs/Statuses.antt`). Only
-/// the lines of errors take memory; where it doesn't hold them the status is 12.
+/// the lines of errors take memory; if it doesn't hold them the status is 12.
 pub fn refuse<E: Sink>(alloc: Global, err: &mut E, request: &Command, refusal: &Refusal) -> Exit
     requires { IsOfJob (job_of (seen_command request.now)) refusal.now }
     ensures later { E.faults err.old ≤ E.faults err.new }
