@@ -37,7 +37,7 @@ none_have names texts errors a (of_defs defs source once h) =
 pub accepted_none : (files : Files) (errors : List Error) → AreAccepted files.file_names files.file_texts → AreErrorsOfTexts errors files → ⊥
 accepted_none files errors a h = none_have files.file_names files.file_texts errors a h.cause
 
--- where texts are accepted, no name is one that may not be emitted
+-- if texts are accepted, no name is one that may not be emitted
 pub accepted_named : (names texts : List (List ℕ)) (e : NameError) → AreAccepted names texts → IsNameError names texts e → ⊥
 accepted_named names texts e a h =
     let same = typed_once (subst (λ (ds : List Def). Typed ds a.env) (h.once a.defs a.source) a.lawful.typed.typed) h.error.typed in

@@ -1,4 +1,4 @@
--- The terms that the rules of the built language call may be answered, where what they answer has values.
+-- The terms that the rules of the built language call may be answered, if what they answer has values.
 use Rattle.std.proofs.Common.{◌≡◌, ◌⊎◌, inl, inr, ⊎_elim, ℕ, zero, suc, List, [], ◌∷◌, ◌++◌, Bool, true, false, cond, Option, Some, None, map, refl, sym, ap, ◌∙◌, subst}
 use Rattle.std.specs.Prelude.{Contains, IsSomeAnd, slice_get, option_map}
 use Rattle.std.specs.List.{AllByRecursion, IsDistinct, cons_option}
@@ -423,7 +423,7 @@ served_alike env names apart o p (inr x) (inr y) s t a b same = extracted_alike 
 served_alike env names apart o p (inl x) (inr y) s t a b same = absurd (mixed env names o p x y s t a b same)
 served_alike env names apart o p (inr x) (inl y) s t a b same = absurd (mixed env names p o y x t s b a (sym same))
 
--- the terms that built rules call may be answered, where the types of their answers have values
+-- the terms that built rules call may be answered, if the types of their answers have values
 pub answerable : (env : Environment) (rules : List Rule) → HasFnNames env → IsDistinct bytes_eq (names_of env) → AllByRecursion (IsBuiltRule env.terms) rules → AllByRecursion (CallsBuiltTerms env.terms) rules
     → ((o : CalledTerm) → Contains (called env rules) o → AnswersInhabited env o) → AreAnswerable env (called env rules)
 answerable env rules names apart built terms values = record {

@@ -21,7 +21,7 @@ use Rattle.isle_core.proofs.ExprPaths.{ArePlacedSo, HoldsOfParts, all_append, pi
 abbrev pub extracted : TermId → CalledTerm
 extracted term = record { term = term; role = Extractor }
 
--- so of arguments, of what expressions' parts make, and of what a term's pattern calls and gives, where these are the called terms
+-- so of arguments, of what expressions' parts make, and of what a term's pattern calls and gives, if these are the called terms
 pub record HoldsOfEach (P : Path → Type 0) (env : Environment) (terms : List CalledTerm) (constants : List TypedConstant) : Type 0 where
   pub arg : (i : ℕ) → P (Arg i)
   pub exprs : HoldsOfParts P env terms constants

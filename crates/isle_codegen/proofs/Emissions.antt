@@ -35,7 +35,7 @@ some_one a b e = cc
 pub at_place : (ts : List Term) (i : ℕ) (x t : Term) → x ≡ get_or ts i x → slice_get ts i ≡ Some t → slice_get ts i ≡ Some x
 at_place ts i x t is e = slice_get-get_or ts i x (slice_get_within ts i t e) ∙ ap Some (sym is)
 
--- the term that is read where one may be emitted is that one
+-- the term that is read if one may be emitted is that one
 pub term_is : (files : Files) (env : Environment) (id : TermId) (s : RuleSet) (t : Term) → (h : CanEmit files env (id, s)) → slice_get env.terms id.0 ≡ Some t → t ≡ h.term
 term_is files env id s t h there = some_one t h.term (sym there ∙ h.found)
 

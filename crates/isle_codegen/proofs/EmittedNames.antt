@@ -69,6 +69,6 @@ module _ (env : Environment) (keep : TermId → Bool) where
   kept_distinct [] h = tt
   kept_distinct (id ∷ ids) h = pick_distinct id (filter keep ids) (keep id) (kept_all (λ y. bytes_eq (term_name env id) y ≡ false) ids h.0) (kept_distinct ids h.1)
 
--- where no two terms have one name, no two with rules have
+-- if no two terms have one name, no two with rules have
 pub distinct_names : (env : Environment) → IsDistinct bytes_eq (map (λ (t : Term). sym_text env t.name) env.terms) → IsDistinct bytes_eq (map (term_name env) (with_rules env))
 distinct_names env h = kept_distinct env (has_rules env) (term_ids env) (subst (IsDistinct bytes_eq) (sym (all_names env)) h)

@@ -12,6 +12,7 @@ use Rattle.isle_core.specs.declared.types.Term.{Term}
 use Rattle.isle_core.specs.Served.{IsTested}
 use Rattle.isle_core.specs.StandsFor.{StandsFor}
 use Rattle.isle_core.specs.Terms.{term_name, with_rules}
+use Rattle.isle_core.specs.Setting.{setting}
 use Rattle.isle_core.specs.Rule.{Environment, Rule, rules_of}
 use Rattle.isle_ast.specs.Tree.{Def}
 use Rattle.isle_checks.specs.CheckList.{IsClean}
@@ -30,6 +31,7 @@ use Rattle.isle_codegen.specs.Emits.{CanEmit, AreEmitted}
 use Rattle.isle_simulation.specs.Emitted.{IsEmittable}
 use Rattle.isle_simulation.specs.TermFns.{callables_of, HasTermFns}
 use Rattle.isle_simulation.specs.TraitFns.{trait_fns_of, HasFnNames}
+use Rattle.isle_simulation.proofs.StatementsAre.{function_is}
 use Rattle.isle_simulation.proofs.EmittedHeads.{callables_are}
 use Rattle.isle_simulation.proofs.TraitFnForms.{HasNamedTypes, fns_are}
 use Rattle.isle_simulation.specs.OfTerm.{AreDeclared}
@@ -88,7 +90,7 @@ are_from_blocks options files env (s ∷ sets) (f ∷ fs) stand h = (
     shares = h.0.shares;
     means = h.0.means;
     shape = has_shape options files env h.0.term s.1.bindings h.0.block f h.0.lawful h.0.given;
-    statements = h.0.given;
+    statements = function_is options files (setting env h.0.term s.1.bindings) h.0.block f h.0.lawful h.0.given;
     lines = its_lines options files env h.0.term s.1.bindings h.0.block f h.0.lawful h.0.given;
     tests = h.0.tests;
     makes = h.0.makes;

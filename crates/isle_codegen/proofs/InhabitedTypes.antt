@@ -37,7 +37,7 @@ field_values_of env (f ∷ more) h =
     let fs = field_values_of env more (λ i field e. h (suc i) field e) in
     (Field f.0 v.0 fs.0, (refl, v.1, fs.1))
 
--- where no two variants of a type have one name, an inhabited type has a value
+-- if no two variants of a type have one name, an inhabited type has a value
 pub inhabited_valued : (env : Environment) → AreVariantsApart env → (ty : TypeId) → IsInhabited env ty → HasValue env ty
 inhabited_valued env apart _ (of_plain ty h) = plain_value env ty (slice_get env.types.types ty.0) refl h
 inhabited_valued env apart _ (of_fields ty made f is there each) =

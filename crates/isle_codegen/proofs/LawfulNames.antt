@@ -65,7 +65,7 @@ compilable {names} {defs} {env} h =
 pub files_named : (names : List (List ℕ)) (env : Environment) → AreLawfulNames names env → are_file_names names ≡ true
 files_named names env h = (parts_are_lawful names env h).printed
 
--- where all names may be emitted, none is the first that may not
+-- if all names may be emitted, none is the first that may not
 pub none_unlawful : (names : List (List ℕ)) (env : Environment) (e : NameError) → AreLawfulNames names env → IsNameFault names env e → ⊥
 none_unlawful names env e all fault =
     fault.unlawful ((all_behind (IsLawfulClaim env) fault.before (fault.claim ∷ fault.behind) (subst (λ cs. AllByRecursion (IsLawfulClaim env) cs) fault.split all)).0)

@@ -18,6 +18,7 @@ pub mod InhabitedTypes
 pub mod AskedFlow
 pub mod AskedBodies
 pub mod AskedPaths
+pub mod FromBlocks
 pub mod EmittedProgram
 pub mod Placed
 pub mod Compilable

@@ -35,7 +35,7 @@ expr_operands (expr.Some r) = read_operand r ∷ []
 expr_operands (expr.Try source as_ref) = source ∷ []
 expr_operands (expr.Tuple source part) = source ∷ []
 
--- that of a pattern, where it is a constant
+-- that of a pattern, if it is a constant
 abbrev pub pattern_operands : TPat → List Operand
 pattern_operands (pattern.Const o) = o ∷ []
 pattern_operands (pattern.Variant ty variant binds more) = []

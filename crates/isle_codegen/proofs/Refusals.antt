@@ -37,7 +37,7 @@ use Rattle.isle_types.specs.Single.{single}
 use Rattle.std.specs.List.{AllByRecursion}
 use Rattle.std.proofs.lemmas.Option.{same_Some}
 
--- why texts give no text, where the definitions that they spell give none
+-- why texts give no text, if the definitions that they spell give none
 pub of_defs : (e : CompileError) (files : Files) (defs : List Def) → Source 0 files.file_texts defs → ((others : List Def) → Source 0 files.file_texts others → others ≡ defs) → IsUncompiled e files defs → IsTextRefusal e files
 of_defs (compile_error.Errors errors) files defs source once h = record { placed = h.placed; cause = of_source defs source once h.cause }
 of_defs (compile_error.Name name) files defs source once h = record { defs = defs; source = source; once = once; error = h }

@@ -1,4 +1,4 @@
--- No two rules of a typed term that match have one priority, where nothing is wrong with the rules, and tests of its rules exclude each other.
+-- No two rules of a typed term that match have one priority, if nothing is wrong with the rules, and tests of its rules exclude each other.
 use Rattle.std.proofs.Common.{◌≡◌, ◌⊎◌, ⊎_elim, ℕ, zero, suc, ◌+◌, ◌<◌, List, [], ◌∷◌, length, true, false, Option, Some, refl, sym, ap, ◌∙◌, subst}
 use Rattle.std.specs.Prelude.{All, Contains, slice_get}
 use Rattle.std.specs.List.{AllByRecursion}
@@ -40,7 +40,7 @@ use Rattle.isle_checks.proofs.OneHighest.{one_highest, rule_matches, one_place}
 use Rattle.isle_checks.proofs.TestsApart.{tests_apart}
 use Rattle.isle_codegen.proofs.TypedNames.{typed_parts}
 
--- where nothing is wrong with the rules of typed definitions, those of a term that match differ by priority
+-- if nothing is wrong with the rules of typed definitions, those of a term that match differ by priority
 pub rules_apart : (defs : List Def) (env : Environment) (id : TermId) (t : Term) → Typed defs env → IsClean env → Contains (with_rules env) id → slice_get env.terms id.0 ≡ Some t → is_several (kind_of t.kind) ≡ false
     → (m : Meaning) (args : List Value) → IsLawful env id m → HaveTypes env args t.arg_tys → AreApart env m args (rules_of env id)
 rules_apart defs env id t typed clean listed at once m args lawful types =

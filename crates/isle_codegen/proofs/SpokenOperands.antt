@@ -215,7 +215,7 @@ module _ (env : Environment) (t : Term) (set : RuleSet) (rules : List Rule) (sta
   value_so : (bound : List ℕ) (o : Option Form) (f : Form) (bs : List BindingId) → o ≡ Some f → (f.variant ≡ None → field_reads s bound (typed_fields env f.fields) bs ≡ [] → So (operand.Name (sym_text env f.ty))) → AreReady s bound bs (map (λ (x : List ℕ × TypeId). x.1) (typed_fields env f.fields)) → AllSo (expr_operands (made_expr s bound o bs))
   value_so bound o f bs e alone h = rw e (made_so f.ty f.variant (field_reads s bound (typed_fields env f.fields) bs) alone (fields_so bound (typed_fields env f.fields) bs h))
 
-  -- no fields are read where there are no parts
+  -- no fields are read if there are no parts
   no_parts : (bound : List ℕ) (fields : List (List ℕ × TypeId)) (bs : List BindingId) → AreReady s bound bs (map (λ (f : List ℕ × TypeId). f.1) fields) → field_reads s bound fields bs ≡ [] → bs ≡ []
   no_parts bound [] [] h e = refl
   no_parts bound (f ∷ fields) (b ∷ bs) h e = absurd cc

@@ -41,7 +41,7 @@ typed_ruled (kind.Decl pure multi partial recursive (constructor.External func) 
 typed_ruled (kind.Variant ty variant) h = absurd h
 typed_ruled (kind.Struct ty) h = absurd h
 
--- where the names of the terms with rules may be emitted, their functions may be called by them
+-- if the names of the terms with rules may be emitted, their functions may be called by them
 pub has_term_fns : (defs : List Def) (env : Environment) → Typed defs env → are_term_names env ≡ true → HasTermFns env
 has_term_fns defs env typed names = record {
   named = λ id t c found. subst (λ n. IsTrue (is_term_name n)) (name_of_term env id t found) (All-contains (λ (x : TermId). is_term_name (term_name env x) ≡ true) (with_rules env) id (AllPass-from_list_all (λ (x : TermId). is_term_name (term_name env x)) (with_rules env) names) c);

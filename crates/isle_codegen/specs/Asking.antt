@@ -53,7 +53,7 @@ abbrev mutual
 
 -- ---- functions
 
--- a run of the term's function makes, where that has no loop, no more calls of extractors and pure terms than the term's rules have paths: no more
+-- a run of the term's function makes, if that has no loop, no more calls of extractors and pure terms than the term's rules have paths: no more
 -- than there are in lists with the paths of each rule, and the shortest have each path once
 abbrev pub AsksPaths : Environment → Program → TermId → Type 0
 AsksPaths env p id =

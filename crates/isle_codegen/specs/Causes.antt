@@ -67,7 +67,7 @@ IsRefusal (error.Errors errors) names texts = IsErrors errors names texts
 IsRefusal (error.Io index why) names texts = ⊥
 IsRefusal (error.Name name) names texts = IsNameError names texts name
 
--- why files that were read give no text, where their texts give none: errors are told with the files
+-- why files that were read give no text, if their texts give none: errors are reported with the files
 abbrev pub of_texts : FileTexts → CompileError → FileError
 of_texts files (compile_error.Errors errors) = error.Errors (record { errors = errors; files = files })
 of_texts files (compile_error.Name name) = error.Name name
@@ -89,7 +89,7 @@ pub record HasErrors (e : ErrorList) (options : CodegenOptions) (files : Option 
 abbrev pub AllTried : List (List ℕ) → Counts → Counts → Type 0
 AllTried names before after = IsTried (length names) before after × (after.faults ≡ before.faults)
 
--- why files give no text; where the directory doesn't tell its files, some texts give none for it
+-- why files give no text; if the directory doesn't tell its files, some texts give none for it
 abbrev pub HasCause : FileError → CodegenOptions → Option Contents → List (List ℕ) → Counts → Counts → Type 0
 HasCause (error.Io index why) options files names before after = Fails (read.Io index why) files names before after
 HasCause (error.Errors errors) options files names before after = AllTried names before after × HasErrors errors options files names

@@ -48,7 +48,7 @@ pub record CanEmit (files : Files) (env : Environment) (s : TermId × RuleSet) :
   pub term_fns : HasTermFns env
   pub names : HasRustNames env
 
--- the block gives what the rule set does, where the constraints that its rules put on one path exclude each other and no two rules of one priority
+-- the block gives what the rule set does, if the constraints that its rules put on one path exclude each other and no two rules of one priority
 -- hold
 abbrev pub GivesSet : Environment → RuleSet → Block → Type 0
 GivesSet env s b = (m : Meaning) (args : List Value) (kind : ReturnKind) → AreTestsApart env m args s → AreRulesApart env m args s → block_outcome env m args (paths_of s.bindings) b kind ≡ set_outcome env m args (paths_of s.bindings) s.rules kind
@@ -60,7 +60,7 @@ pub record MeansSet (env : Environment) (t : Term) (s : RuleSet) (b : Block) : T
   pub several : is_several (kind_of t.kind) ≡ true → GivesSeveral env s b
 
 -- the function of the term, from a block that is lawful for its rule set, shares its tests, tests and returns what its rules do, all tests
--- that are tried, asks no more than its rules read where it has no Loop, and means the set
+-- that are tried, asks no more than its rules read if it has no Loop, and means the set
 pub record IsEmitted (options : CodegenOptions) (files : Files) (env : Environment) (id : TermId) (s : RuleSet) (f : Function) : Type 0 where
   pub term : Term
   pub found : slice_get env.terms id.0 ≡ Some term

@@ -64,7 +64,7 @@ pub record IsParseError (pos : Pos) (errors : List Error) : Type 0 where
   pub words : List ℕ
   pub one : errors ≡ error.ParseError words (single pos) ∷ []
 
--- the definitions have a fault, which the one error tells
+-- the definitions have a fault, which the one error reports
 pub record HasTypeError (defs : List Def) (errors : List Error) : Type 0 where
   pub error : Error
   pub told : TellsTyping (fault defs) (Some error)
@@ -92,7 +92,7 @@ pub record AreErrorsOfDefs (errors : List Error) (files : Files) (defs : List De
   pub placed : ArePlacedIn files errors
   pub cause : HaveDefErrors defs errors
 
--- the errors of texts of files with these printed names, told with these files
+-- the errors of texts of files with these printed names, reported with these files
 pub record IsErrors (e : ErrorList) (names texts : List (List ℕ)) : Type 0 where
   pub given : e.files ≡ record { file_names = names; file_texts = texts }
   pub errors : AreErrorsOfTexts e.errors (record { file_names = names; file_texts = texts })

@@ -19,14 +19,15 @@ use Rattle.isle_blocks.specs.Merged.{IsMerged, IsMergedOver, IsSharedSource}
 use Rattle.isle_blocks.specs.RuleTests.{TestsRules}
 use Rattle.isle_simulation.specs.Shape.{HasShape}
 use Rattle.isle_simulation.specs.LogLines.{lines_of}
-use Rattle.isle_simulation.specs.TermFunction.{log_lines, term_function}
+use Rattle.isle_simulation.specs.StatementsOf.{IsFunctionOf}
+use Rattle.isle_simulation.specs.TermFunction.{log_lines}
 use Rattle.isle_tree.specs.Calls.{body_calls}
 use Rattle.isle_tree.specs.Program.{Function}
 use Rattle.isle_codegen.specs.CalledBy.{IsCalledBy}
 use Rattle.isle_codegen.specs.Emits.{MeansSet}
 
 -- the function is that of a block which is lawful for a rule set that stands for the term's rules, shares its tests, and means it: it has
--- the block's shape, its head, its statements and its tail are those of the block; its log lines are, where they are asked for, the term's
+-- the block's shape, its head, its statements and its tail are those of the block; its log lines are, if they are asked for, the term's
 -- name with the place of each Return of the block, in order; the block tests nothing that no rule of the set tests, and each test that
 -- is tried; each Return has the position and the result of one rule, so that its position is that of one of the term's rules; its calls are
 -- those of the rules
@@ -41,7 +42,7 @@ pub record IsFromBlock (options : CodegenOptions) (files : Files) (env : Environ
   pub shares : IsMergedOver (IsSharedSource set) block
   pub means : MeansSet env term set block
   pub shape : HasShape (setting env term set.bindings) f.body block
-  pub statements : term_function options files (setting env term set.bindings) block ≡ Some f
+  pub statements : IsFunctionOf options files (setting env term set.bindings) block f
   pub lines : lines_of f.body ≡ log_lines options files (setting env term set.bindings) block
   pub tests : TestsRules set block
   pub makes : MakesTests (is_several (kind_of term.kind)) set block

@@ -46,7 +46,7 @@ pub record GivesOutcome (env : Environment) (p : Program) (id : TermId) (t : Ter
   pub given : IsSomeAnd (run p (term_name env id) args m space) (GivesAs env (kind_of t.kind) outcome)
 
 -- the run of the function of a term that answers several times gives the first of the results that its rules prescribe, as many as there is
--- room for and at least one, and the calls of impure terms up to the last of them, or all where the room isn't used up
+-- room for and at least one, and the calls of impure terms up to the last of them, or all if the room isn't used up
 pub record GivesFirst (env : Environment) (p : Program) (id : TermId) (args : List Value) (m : Meaning) (space : Space) : Type 0 where
   pub given : Given
   pub prescribed : PrescribesSeveral env m args (rules_of env id) given
@@ -65,7 +65,7 @@ MeansRules env p id = IsSomeAnd (slice_get env.terms id.0) (λ (t : Term).
     → GivesRules (kind_of t.kind) env p id t args m space)
 
 -- the functions of the program are the terms with rules, in order of ids, each as its term is declared, made from a block
--- of its rules, and with their meaning, which says something: there are arguments and lawful meanings where types have values,
+-- of its rules, and with their meaning, which says something: there are arguments and lawful meanings if types have values,
 -- as inhabited ones do; a run of one without loops asks no more than its term's rules have paths
 pub record FunctionsMean (options : CodegenOptions) (files : Files) (env : Environment) (p : Program) : Type 0 where
   pub names : map (λ (f : Function). f.term) p.fns ≡ map (term_name env) (with_rules env)

@@ -21,14 +21,14 @@ HasValue env ty = (v : Value) × HasType env v ty
 abbrev pub AnswersInhabited : Environment → CalledTerm → Type 0
 AnswersInhabited env o = IsSomeAnd (slice_get env.terms o.term.0) (λ (t : Term). AllByRecursion (HasValue env) (result_types o.role t))
 
--- where no constant is named and the terms that its rules call answer with inhabited types, each history of calls that its
+-- if no constant is named and the terms that its rules call answer with inhabited types, each history of calls that its
 -- rules may make is that of some lawful meaning, also the one without a call
 abbrev pub HasMeanings : Environment → TermId → Type 0
 HasMeanings env id =
     NamesNone (rules_constants (rules_of env id)) → ((o : CalledTerm) → Contains (called env (rules_of env id)) o → AnswersInhabited env o)
     → (history : List AnsweredCall) → IsHistory env (called env (rules_of env id)) history → (m : Meaning) × IsLawful env id m × AnswersSo m [] history
 
--- the term has well-typed arguments where its arguments' types have values, and lawful meanings
+-- the term has well-typed arguments if its arguments' types have values, and lawful meanings
 pub record IsMeant (env : Environment) (id : TermId) : Type 0 where
   pub term : Term
   pub found : slice_get env.terms id.0 ≡ Some term

@@ -8,7 +8,7 @@ use Rattle.isle_core.specs.Rule.{Environment, Rule}
 use Rattle.isle_core.specs.RulePaths.{rules_paths}
 use Rattle.isle_core.specs.Tests.{Is, rule_tests}
 
--- what a constraint tests for, as a path, where that is a constant
+-- what a constraint tests for, as a path, if that is a constant
 abbrev pub constant_path : Constraint → Path
 constant_path (constraint.ConstBool val) = ConstBool bool_type val
 constant_path (constraint.ConstInt val ty) = ConstInt ty val

@@ -29,8 +29,8 @@ pub struct Checked {
 }
 
 /// Checks the definitions that the files' texts spell, in order, and returns their environment (`specs/Checked.antt`).
-/// There are as many names as texts. `Errors` and `Name` come exactly where they do for these definitions
-/// (`check_defs`), and `Errors` also where a text spells none; beside these only want of memory.
+/// There are as many names as texts. `Errors` and `Name` come exactly if they do for these definitions
+/// (`check_defs`), and `Errors` also if a text spells none; beside these only want of memory.
 pub fn check_files(alloc: Global, files: &Files) -> Result<Checked, CompileError>
     requires count { length files.now.file_texts ≡ length files.now.file_names }
     ensures ok { IfOk result (λ c. IsChecked files.now (environment c.typeenv c.termenv)) }
@@ -48,7 +48,7 @@ pub fn check_files(alloc: Global, files: &Files) -> Result<Checked, CompileError
 }
 
 /// Checks definitions that stand in the files: their typing, then their rules, then terms that use themselves, then
-/// names. The first check that finds anything refuses them. `Errors` tells the one fault of typing, or all errors of
+/// names. The first check that finds anything refuses them. `Errors` reports the one fault of typing, or all errors of
 /// the one check; `Name` the first name of the files and the definitions that may not be emitted (`specs/Causes.antt`,
 /// `specs/Errors.antt`); beside these only want of memory.
 pub fn check_defs(alloc: Global, files: &Files, defs: &[Def]) -> Result<Checked, CompileError>
@@ -93,7 +93,7 @@ fn wrong(fail: CheckError) -> CompileError
     }
 }
 
-// The one error, where memory holds a list of it.
+// The one error, if memory holds a list of it.
 fn told_alone(alloc: Global, error: Error) -> CompileError
     ensures { (result ≡ CompileError.Memory) ⊎ (result ≡ CompileError.Errors (error ∷ [])) }
 {

@@ -12,8 +12,8 @@ use isle_core::{CodegenOptions, Dir, Files, ReadError};
 use std::alloc::Global;
 
 /// Compiles the named files, and returns the text of the program that their definitions give (`specs/Headline.antt`).
-/// `Errors` comes exactly where all were read and something is wrong with them, and tells it (`specs/Errors.antt`);
-/// `Name` where nothing else is wrong, and tells the first name that may not be emitted; `Io` tells the first input
+/// `Errors` comes exactly if all were read and something is wrong with them, and reports it (`specs/Errors.antt`);
+/// `Name` if nothing else is wrong, and reports the first name that may not be emitted; `Io` reports the first input
 /// that is not read. Each name is looked up once, none after that input, and of each input at most 2^24 + 1 bytes are
 /// taken.
 pub fn from_files<D: Dir>(

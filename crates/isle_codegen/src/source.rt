@@ -16,7 +16,7 @@ use isle_syntax::{ParseFail, parse_text};
 use std::alloc::Global;
 
 /// Parses the files' texts, and returns their definitions, one text after the other. There are as many names as texts.
-/// `Errors` comes exactly where a text goes wrong, and tells the place of the first that does (`specs/Errors.antt`);
+/// `Errors` comes exactly where a text goes wrong, and reports the place of the first that does (`specs/Errors.antt`);
 /// beside it only want of memory.
 pub fn parse_files(alloc: Global, files: &Files) -> Result<Vec<Def>, CompileError>
     requires { length files.now.file_texts ≡ length files.now.file_names }
@@ -35,7 +35,7 @@ pub fn parse_files(alloc: Global, files: &Files) -> Result<Vec<Def>, CompileErro
 }
 
 /// Parses the texts, and returns their definitions, one text after the other (`specs/Source.antt`). `At` comes exactly
-/// where one goes wrong, and tells the place of the first that does; beside it only want of memory.
+/// where one goes wrong, and reports the place of the first that does; beside it only want of memory.
 pub fn parse_all(alloc: Global, texts: &[Text]) -> Result<Vec<Def>, ParseFail>
     ensures ok { IfOk result (λ read. Source 0 texts.now (defs read.items)) }
     ensures once { IfOk result (λ read.

@@ -24,6 +24,8 @@ use Rattle.isle_simulation.specs.Emitted.{RunAlike}
 use Rattle.isle_simulation.specs.TermFunction.{tail_in, function_with, term_function}
 use Rattle.isle_simulation.proofs.GivenFunctions.{emitted_well_formed, has_shape, runs_as_block, runs_as_several, its_lines, run_alike}
 use Rattle.isle_simulation.proofs.Made.{function_made}
+use Rattle.isle_simulation.proofs.StatementsFound.{function_found}
+use Rattle.isle_simulation.specs.StatementsOf.{IsFunctionOf}
 
 -- what is so of an item is so of the item of its number
 pub at_item : {A : Type 0} (xs : List A) (i : ℕ) (x : A) (P Q : A → Type 0) → IsSomeAnd (slice_get xs i) P → x ≡ get_or xs i x → Q x → IsSomeAnd (slice_get xs i) Q
@@ -48,38 +50,42 @@ both : {A : Type 0} (o : Option A) (P Q R : A → Type 0) → ((x : A) → P x �
 both (Some x) P Q R f h k = f x h k
 both None P Q R f h k = absurd h
 
+-- the function is the one that the block gives
+made : (options : CodegenOptions) (o : Origin) (t : Term) (f : Function) → IsFunctionOf options o.files (setting o.env t o.bindings) o.block f → term_function options o.files (setting o.env t o.bindings) o.block ≡ Some f
+made options o t f h = function_found options o.files (setting o.env t o.bindings) o.block f h
+
 pub is_well_formed : (options : CodegenOptions) (o : Origin) (f : Function) → MayEmitTerm o → IsGiven options o f → IsWellFormedIn o f
 is_well_formed options o f h e p fns = one (slice_get o.env.terms o.id.0) h e
   where
-    one : (t : Option Term) → IsSomeAnd t (λ u. MayEmit o.files (setting o.env u o.bindings) o.block) → IsSomeAnd t (λ u. term_function options o.files (setting o.env u o.bindings) o.block ≡ Some f) → IsFunction p f
-    one (Some t) may is = emitted_well_formed options o.files o.env t o.bindings o.block f may.lawful is may.emittable may.names may.fns may.term_fns p fns
+    one : (t : Option Term) → IsSomeAnd t (λ u. MayEmit o.files (setting o.env u o.bindings) o.block) → IsSomeAnd t (λ u. IsFunctionOf options o.files (setting o.env u o.bindings) o.block f) → IsFunction p f
+    one (Some t) may is = emitted_well_formed options o.files o.env t o.bindings o.block f may.lawful (made options o t f is) may.emittable may.names may.fns may.term_fns p fns
     one None may is = absurd may
 
 pub is_shaped : (options : CodegenOptions) (o : Origin) (f : Function) → MayEmitTerm o → IsGiven options o f → HasBlockShape o f
-is_shaped options o f h e = both (slice_get o.env.terms o.id.0) _ _ _ (λ t may is. has_shape options o.files o.env t o.bindings o.block f may.lawful is) h e
+is_shaped options o f h e = both (slice_get o.env.terms o.id.0) _ _ _ (λ t may is. has_shape options o.files o.env t o.bindings o.block f may.lawful (made options o t f is)) h e
 
 -- it runs as the block of its kind of term
-runs_so : (options : CodegenOptions) (o : Origin) (f : Function) (t : Term) → MayEmit o.files (setting o.env t o.bindings) o.block → term_function options o.files (setting o.env t o.bindings) o.block ≡ Some f
+runs_so : (options : CodegenOptions) (o : Origin) (f : Function) (t : Term) → MayEmit o.files (setting o.env t o.bindings) o.block → IsFunctionOf options o.files (setting o.env t o.bindings) o.block f
     → RunsAs (is_several (kind_of t.kind)) (setting o.env t o.bindings) o.block f
 runs_so options o f t may is = of (kind_of t.kind) refl
   where
     of : (k : ReturnKind) → kind_of t.kind ≡ k → RunsAs (is_several k) (setting o.env t o.bindings) o.block f
-    of kind.Plain e = runs_as_block options o.files o.env t o.bindings o.block f may.lawful is (subst AnswersOnce (sym e) tt) may.names may.fns may.term_fns
-    of kind.Option e = runs_as_block options o.files o.env t o.bindings o.block f may.lawful is (subst AnswersOnce (sym e) tt) may.names may.fns may.term_fns
-    of kind.Iterator e = let several = ap is_several e in runs_as_several options o.files o.env t o.bindings o.block f may.lawful is several may.lawful.items may.names may.fns may.term_fns
+    of kind.Plain e = runs_as_block options o.files o.env t o.bindings o.block f may.lawful (made options o t f is) (subst AnswersOnce (sym e) tt) may.names may.fns may.term_fns
+    of kind.Option e = runs_as_block options o.files o.env t o.bindings o.block f may.lawful (made options o t f is) (subst AnswersOnce (sym e) tt) may.names may.fns may.term_fns
+    of kind.Iterator e = let several = ap is_several e in runs_as_several options o.files o.env t o.bindings o.block f may.lawful (made options o t f is) several may.lawful.items may.names may.fns may.term_fns
 
 pub is_run : (options : CodegenOptions) (o : Origin) (f : Function) → MayEmitTerm o → IsGiven options o f → RunsAsItsBlock o f
 is_run options o f h e = both (slice_get o.env.terms o.id.0) _ _ _ (runs_so options o f) h e
 
 pub is_logged : (options : CodegenOptions) (o : Origin) (f : Function) → MayEmitTerm o → IsGiven options o f → HasLogLines options o f
-is_logged options o f h e = both (slice_get o.env.terms o.id.0) _ _ _ (λ t may is. its_lines options o.files o.env t o.bindings o.block f may.lawful is) h e
+is_logged options o f h e = both (slice_get o.env.terms o.id.0) _ _ _ (λ t may is. its_lines options o.files o.env t o.bindings o.block f may.lawful (made options o t f is)) h e
 
 pub is_alike : (options : CodegenOptions) (o : Origin) (f : Function) → MayEmitTerm o → IsGiven options o f → RunsUnderAll o f
 is_alike options o f h e other g k = one (slice_get o.env.terms o.id.0) h e k
   where
-    one : (t : Option Term) → IsSomeAnd t (λ u. MayEmit o.files (setting o.env u o.bindings) o.block) → IsSomeAnd t (λ u. term_function options o.files (setting o.env u o.bindings) o.block ≡ Some f)
-        → IsSomeAnd t (λ u. term_function other o.files (setting o.env u o.bindings) o.block ≡ Some g) → RunAlike f g
-    one (Some t) may is also = run_alike options other o.files o.env t o.bindings o.block f g may.lawful is also
+    one : (t : Option Term) → IsSomeAnd t (λ u. MayEmit o.files (setting o.env u o.bindings) o.block) → IsSomeAnd t (λ u. IsFunctionOf options o.files (setting o.env u o.bindings) o.block f)
+        → IsSomeAnd t (λ u. IsFunctionOf other o.files (setting o.env u o.bindings) o.block g) → RunAlike f g
+    one (Some t) may is also = run_alike options other o.files o.env t o.bindings o.block f g may.lawful (made options o t f is) (made other o t g also)
     one None may is also = absurd may
 
 -- and all of its block is built

@@ -26,7 +26,7 @@ bound_append bound (x ∷ xs) ys = bound_append (bound ++ x.0 ∷ []) xs ys
 pub grown : (first old new : List ℕ) → (more : List ℕ) × (old ≡ first ++ more) → (more : List ℕ) × (new ≡ old ++ more) → (more : List ℕ) × (new ≡ first ++ more)
 grown first old new h k = (h.0 ++ k.0, k.1 ∙ ap (λ ls. ls ++ k.0) h.1 ∙ append_assoc first h.0 k.0)
 
--- each of two lists is computed, where each of both is
+-- each of two lists is computed, if each of both is
 pub computed_both : (s : Setting) (bound : List ℕ) (xs ys : List BindingId) → AreComputed s bound (xs ++ ys) → AreComputed s bound xs × AreComputed s (bound_by bound xs) ys
 computed_both s bound [] ys h = (tt, h)
 computed_both s bound (x ∷ xs) ys h = let k = computed_both s (bound ++ x.0 ∷ []) xs ys h.1 in ((h.0, k.0), k.1)

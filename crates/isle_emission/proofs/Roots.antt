@@ -46,7 +46,7 @@ root_open files env t b ss new last ends is_last pushed =
     tail_last (Some m) e = ap (λ o. stmt_before o (Some Done)) e
     tail_last None e = cc
 
--- or none, where the kind has none
+-- or none, if the kind has none
 pub root_bare : (files : Files) (env : Environment) (t : Term) (b : Block) (ss : List CodeStmt)
     → ends_in_return b ≡ false → None ≡ option_map Tail (mark_in files env t) → Some (body ss) ≡ body_onto (map stmt ss) (Some (tail_in files env t b))
 root_bare files env t b ss ends none =

@@ -31,7 +31,7 @@ use Rattle.isle_emission.proofs.Onto.{onto_pushed, onto_done}
 
 -- ---- steps
 
--- what the statements of steps are, where those before them are these
+-- what the statements of steps are, if those before them are these
 abbrev pub Steps : Manner → Setting → List ℕ → List CodeStmt → List CodeStep → Option Body → Option Body
 Steps manner s bound out xs end = body_onto (map stmt out) (made_body manner s bound (block_of (map step xs)) end)
 
@@ -56,7 +56,7 @@ stop_same inside true s bound (block.Equal a b body) after = refl
 stop_same inside true s bound (block.Loop result body) after = refl
 stop_same inside true s bound (block.Return place result) after = refl
 
--- what a step makes after its lets, where its bindings are bound
+-- what a step makes after its lets, if its bindings are bound
 abbrev after_lets : Manner → Setting → (out : List CodeStmt) (bound mid : List ℕ) → SeenStep → (made : Option Stmt) (more : Block) → Option Body → Option Body
 after_lets manner s out bound mid seen made more end = body_onto (map stmt out) (lets s bound (step_binds s bound seen.0 seen.1) (told_before manner.telling seen.1 (stmt_before made (stop_before manner.inside (gives_several s) seen.1 (made_body manner s mid more end)))))
 
@@ -137,7 +137,7 @@ pub some_built : (s : Setting) (bound : List ℕ) (source : BindingId) (xs : Lis
 some_built s bound source [] h = absurd h
 some_built s bound source (x ∷ xs) h = omega arith
 
--- and it is built, where it is one
+-- and it is built, if it is one
 pub arm_built : (s : Setting) (bound : List ℕ) (source : BindingId) (xs : List CodeArm) (x : CodeArm) → AreBuilt s bound source (arms_of (map arm xs)) → length xs ≡ 1 → x ≡ get_or xs 0 x → IsBuiltArm s bound source (arm x)
 arm_built s bound source [] x h one item = absurd h
 arm_built s bound source (y ∷ []) x h one item = subst (λ z. IsBuiltArm s bound source (arm z)) (sym item) h

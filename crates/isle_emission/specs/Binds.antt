@@ -11,7 +11,7 @@ use Rattle.isle_simulation.specs.References.{is_declared}
 abbrev pub bind_of : Environment → BindingId → List ℕ × TypeId → TBind
 bind_of env local f = record { field = f.0; by_ref = is_declared env f.1; local = local.0 }
 
--- that of this number, where there is one
+-- that of this number, if there is one
 abbrev pub field_bind : Environment → List (List ℕ × TypeId) → ℕ → BindingId → Option TBind
 field_bind env fields i local = option_map (bind_of env local) (slice_get fields i)
 

@@ -38,7 +38,7 @@ HasRead s bound source c = IsSome (match_read s bound source c)
 abbrev pub HasPattern : Setting → Constraint → List (Option BindingId) → Type 0
 HasPattern s c places = IsSome (arm_pattern s.env c places)
 
--- a block of which all is built, where these are bound
+-- a block of which all is built, if these are bound
 abbrev mutual
   pub IsBuilt : Setting → List ℕ → Block → Type 0
   IsBuilt s bound Stop = Unit {0}

@@ -1,5 +1,5 @@
 -- What the function is that is emitted for a term.
-use Rattle.std.specs.Prelude.{◌≡◌, Bool, true, false, Some}
+use Rattle.std.specs.Prelude.{◌≡◌, Bool, true, false}
 use Rattle.isle_core.specs.declared.options.CodegenOptions.{CodegenOptions}
 use Rattle.isle_core.specs.Block.{Block}
 use Rattle.isle_core.specs.Setting.{Setting, gives_several}
@@ -9,14 +9,15 @@ use Rattle.isle_emission.specs.Origin.{Origin, InSetting}
 use Rattle.isle_simulation.specs.Emitted.{RunAlike, RunsAsBlock, RunsAsSeveral}
 use Rattle.isle_simulation.specs.Shape.{HasShape}
 use Rattle.isle_simulation.specs.LogLines.{lines_of}
-use Rattle.isle_simulation.specs.TermFunction.{log_lines, term_function}
+use Rattle.isle_simulation.specs.StatementsOf.{IsFunctionOf}
+use Rattle.isle_simulation.specs.TermFunction.{log_lines}
 use Rattle.isle_simulation.specs.TermFns.{callables_of}
 
--- the function is that of the term, with log lines where they are asked for
+-- the function is that of the term with its block, as the options ask for it
 abbrev pub IsGiven : (options : CodegenOptions) → Origin → Function → Type 0
-IsGiven options o f = InSetting o (λ (s : Setting). term_function options o.files s o.block ≡ Some f)
+IsGiven options o f = InSetting o (λ (s : Setting). IsFunctionOf options o.files s o.block f)
 
--- its log lines are, where they are asked for, one for each Return of the block, in order
+-- its log lines are, if they are asked for, one for each Return of the block, in order
 abbrev pub HasLogLines : (options : CodegenOptions) → Origin → Function → Type 0
 HasLogLines options o f = InSetting o (λ (s : Setting). lines_of f.body ≡ log_lines options o.files s o.block)
 

@@ -20,7 +20,7 @@ use Rattle.isle_simulation.specs.TermFunction.{tail_in, mark_in, root_body, term
 abbrev pub setting_in : Emitter → Setting
 setting_in e = Typed.setting_in e.typed
 
--- how the statements of its block are written: with log lines where they are asked for, in no closure
+-- how the statements of its block are written: with log lines if they are asked for, in no closure
 abbrev pub manner_in : Emitter → Manner
 manner_in e = manner_of e.options.now e.files.now (setting_in e)
 
@@ -44,7 +44,7 @@ operand_in e bound b = operand_of (setting_in e).env (setting_in e).bindings bou
 abbrev pub place_in : Emitter → BindingId → Option Operand
 place_in e b = in_place (setting_in e).env b.0 (at (paths_in (setting_in e)) b)
 
--- what the term's function says where no rule matches
+-- what the term's function says if no rule matches
 abbrev pub mark_for : Emitter → Option (Option (List ℕ × List ℕ))
 mark_for e = mark_in e.files.now (setting_in e).env (setting_in e).term
 

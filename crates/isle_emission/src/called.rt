@@ -5,7 +5,7 @@ ghost use Rattle.isle_emission.specs.Calls.{call_expr};
 
 use isle_tree::{TCall, TExpr};
 
-/// A call, and whether it stands after a `&` where its one answer is bound.
+/// A call, and whether it stands after a `&` if its one answer is bound.
 #[derive(Drop)]
 pub struct Called {
     pub borrow: bool,

@@ -55,7 +55,7 @@ impl Emitter<'_> {
         }
     }
 
-    /// Makes a call of the term of this number on bindings, after a `&` where it gives an enum or a struct. The call
+    /// Makes a call of the term of this number on bindings, after a `&` if it gives an enum or a struct. The call
     /// is built, so that the term is there.
     pub fn call_of(
         &self,
@@ -88,7 +88,7 @@ impl Emitter<'_> {
         })
     }
 
-    /// Makes a call of the extractor of the term of this number on what it takes apart, after a `&` where its one
+    /// Makes a call of the extractor of the term of this number on what it takes apart, after a `&` if its one
     /// result is an enum or a struct. The call is built, so that the term is there.
     pub fn extraction_of(
         &self,

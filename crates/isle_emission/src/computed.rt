@@ -38,7 +38,7 @@ impl Emitter<'_> {
         Ok(TExpr::Tuple(self.operand(bound, source)?, field.index()))
     }
 
-    // Makes a read of what is read in place, where something is, as is required.
+    // Makes a read of what is read in place, if something is, as is required.
     fn plain(&self, binding: BindingId) -> Result<TExpr, AllocError>
         requires { IsSome (place_in self.now binding) }
         ensures { IfOk result (λ e.
@@ -91,10 +91,7 @@ impl Emitter<'_> {
             | Binding::ConstBool { .. }
             | Binding::ConstInt { .. }
             | Binding::ConstPrim { .. } => self.plain(number),
-            Binding::Iterator { .. }
-            | Binding::MatchVariant { .. }
-            | Binding::ExtractStruct { .. }
-            | Binding::MakeSome { .. } => unreachable!(),
+            _ => unreachable!(),
         }
     }
 

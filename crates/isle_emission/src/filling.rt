@@ -33,18 +33,7 @@ impl Emitter<'_> {
                 ..
             } => self.call_of(bound, *term, parameters.as_slice()),
             Binding::Extractor { term, parameter } => self.extraction_of(bound, *term, *parameter),
-            Binding::ConstBool { .. }
-            | Binding::ConstInt { .. }
-            | Binding::ConstPrim { .. }
-            | Binding::Argument { .. }
-            | Binding::Iterator { .. }
-            | Binding::MakeVariant { .. }
-            | Binding::MakeStruct { .. }
-            | Binding::MatchVariant { .. }
-            | Binding::ExtractStruct { .. }
-            | Binding::MakeSome { .. }
-            | Binding::MatchSome { .. }
-            | Binding::MatchTuple { .. } => unreachable!(),
+            _ => unreachable!(),
         }
     }
 

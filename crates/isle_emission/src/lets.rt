@@ -1,8 +1,6 @@
 //! The locals that a step binds: those of its bind order and the made values that are read, each after its parts.
 
 ghost use Rattle.std.specs.Prelude.{◌≡◌, [], ◌∷◌, OnOk, Some as Is, option_map, slice_get};
-ghost use Rattle.isle_core.specs.declared.TypeId.{TypeId as TypeIdOf};
-ghost use Rattle.isle_core.specs.declared.rule_sets.Binding.TheVariants.{MakeStruct};
 ghost use Rattle.isle_core.specs.BlockViews as BlockViews;
 ghost use Rattle.isle_operands.specs.Contexts.{bindings_in};
 ghost use Rattle.isle_emission.specs.PushedLets.{PushesLets};
@@ -18,47 +16,13 @@ use isle_tree::Stmt;
 use std::alloc::AllocError;
 use std::slice;
 
-// Returns the parts of a struct, where it has any.
-fn some_parts<'a>(fields: &'a [BindingId]) -> Option<&'a [BindingId]>
-    ensures { (ty : TypeIdOf) → option_map (λ parts. parts.now) result
-        ≡ Completed.local_parts (Is (MakeStruct ty fields.now)) }
-{
-    if fields.is_empty() {
-        None
-    } else {
-        Some(fields)
-    }
-}
-
-// Returns the parts of a made value that needs a local.
-fn parts_of<'a>(binding: &'a Binding) -> Option<&'a [BindingId]>
-    ensures { option_map (λ parts. parts.now) result ≡ Completed.local_parts (Is binding.now) }
-{
-    match binding {
-        Binding::MakeVariant { fields, .. } => Some(fields.as_slice()),
-        Binding::MakeStruct { fields, .. } => some_parts(fields.as_slice()),
-        Binding::ConstBool { .. }
-        | Binding::ConstInt { .. }
-        | Binding::ConstPrim { .. }
-        | Binding::Argument { .. }
-        | Binding::Extractor { .. }
-        | Binding::Constructor { .. }
-        | Binding::Iterator { .. }
-        | Binding::MatchVariant { .. }
-        | Binding::ExtractStruct { .. }
-        | Binding::MakeSome { .. }
-        | Binding::MatchSome { .. }
-        | Binding::MatchTuple { .. } => None,
-    }
-}
-
-// Returns those of the binding of this number.
+// Returns the parts of the made value of this number, if it needs a local.
 fn local_parts<'a>(context: &Context<'a>, binding: BindingId) -> Option<&'a [BindingId]>
     ensures { option_map (λ parts. parts.now) result
         ≡ Completed.local_parts (slice_get (bindings_in context.now) binding.0) }
 {
     match context.bindings.get(binding.index()) {
-        Some(of) => parts_of(of),
+        Some(of) => of.made_parts(),
         None => None,
     }
 }
@@ -68,20 +32,11 @@ fn sources_of<'a>(binding: &'a Binding) -> &'a [BindingId]
     ensures { result.now ≡ Completed.read_for (Is binding.now) }
 {
     match binding {
-        Binding::Constructor { parameters, .. } => parameters.as_slice(),
-        Binding::Extractor { parameter, .. } => slice::from_ref(parameter),
-        Binding::MatchSome { source } => slice::from_ref(source),
-        Binding::MatchTuple { source, .. } => slice::from_ref(source),
-        Binding::MakeVariant { fields, .. } => fields.as_slice(),
-        Binding::MakeStruct { fields, .. } => fields.as_slice(),
-        Binding::ConstBool { .. }
-        | Binding::ConstInt { .. }
-        | Binding::ConstPrim { .. }
-        | Binding::Argument { .. }
-        | Binding::Iterator { .. }
+        Binding::Iterator { .. }
         | Binding::MatchVariant { .. }
         | Binding::ExtractStruct { .. }
         | Binding::MakeSome { .. } => &[],
+        _ => binding.parts(),
     }
 }
 

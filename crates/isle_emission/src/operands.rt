@@ -21,7 +21,7 @@ impl Emitter<'_> {
         sym_name(self.alloc, self.typed.context.typeenv, sym)
     }
 
-    /// Makes what stands for a binding: its local where it is bound, or else what is read in place. There is one of the
+    /// Makes what stands for a binding: its local if it is bound, or else what is read in place. There is one of the
     /// two, as is required.
     pub fn operand(&self, bound: &Scope, binding: BindingId) -> Result<Operand, AllocError>
         requires { HasOperand (setting_in self.now) bound.now binding }

@@ -39,7 +39,7 @@ fn ends_in_return(block: &Block) -> bool
 }
 
 impl Emitter<'_> {
-    // Makes the tail of a function, where it has one.
+    // Makes the tail of a function, if it has one.
     #[tactic(auto, using(isle_tree::proofs::Sees::sees))]
     fn tail(&self) -> Result<Option<Stmt>, OutOfMemory>
         requires { IsPlaced self.now }
@@ -57,7 +57,7 @@ impl Emitter<'_> {
         }
     }
 
-    // Adds the tail after the statements of a block, where the block can end without a result.
+    // Adds the tail after the statements of a block, if the block can end without a result.
     fn push_tail(&self, block: &Block, stmts: &mut Vec<Stmt>) -> Result<(), OutOfMemory>
         requires { IsPlaced self.now }
         ensures { OnOk result (Is (body stmts.new.items) ≡ body_onto (map stmt stmts.old.items)
@@ -73,8 +73,8 @@ impl Emitter<'_> {
         Ok(())
     }
 
-    /// Makes the statements of the term's function: those of its block, with log lines where the options ask for them,
-    /// and the tail where the block can end without a result.
+    /// Makes the statements of the term's function: those of its block, with log lines if the options ask for them,
+    /// and the tail if the block can end without a result.
     pub fn root_stmts(&self, block: &Block) -> Result<Vec<Stmt>, OutOfMemory>
         requires placed { IsPlaced self.now }
         requires built { IsBuilt (setting_in self.now) [] (BlockViews.block block.now) }

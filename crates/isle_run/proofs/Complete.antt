@@ -131,7 +131,7 @@ source_not_refused options files term ws text e c s =
     run_not_refused options files term ws text c s.program (subst (λ env. Conforms options files env s.program) same s.conforms) e
     (subst (λ env. IsRunRefused (record { program = s.program; env = env; term = term; args = args_given env term ws }) text e) same s.refused)
 
--- where it can be run, only memory is wanting
+-- if it can be run, only memory is wanting
 pub only_memory : (options : CodegenOptions) (files : Files) (term : List ℕ) (ws : Writtens) (text : List ℕ) (e : TrialFail) → CanRun files term ws text → HasNoLines options files term ws text e → IsWant e
 only_memory options files term ws text (fail.Source (compiling.Errors errors)) c h = absurd (accepted_none files errors (checked_accepted files c.env c.checked) h)
 only_memory options files term ws text (fail.Source (compiling.Name e)) c h = absurd (accepted_named files.file_names files.file_texts e (checked_accepted files c.env c.checked) h)

@@ -51,6 +51,7 @@ use Rattle.isle_printer.specs.Bytes.{same_bytes}
 use Rattle.isle_printer.proofs.Bytes.{same_bytes_refl}
 use Rattle.isle_interpreter.specs.Entries.{FitsPlaces}
 use Rattle.isle_interpreter.specs.Named.{IsNamed}
+use Rattle.isle_codegen.proofs.FromBlocks.{given_from}
 use Rattle.isle_codegen.specs.Checked.{IsChecked}
 use Rattle.isle_codegen.specs.FromBlock.{AreFromBlocks}
 use Rattle.isle_codegen.proofs.EmittedNames.{distinct_names}
@@ -95,7 +96,7 @@ found_at test (y ∷ xs) x e = by (test y) refl e (found_at test xs x)
     by true is h later = let same : y ≡ x = cc in record { place = zero; there = ap Some same; passes = ap test (sym same) ∙ is }
     by false is h later = let k = later h in record { place = suc k.place; there = k.there; passes = k.passes }
 
--- the first of a name is the one that is there, where no two have one
+-- the first of a name is the one that is there, if no two have one
 first_is : {A : Type 0} (name : A → List ℕ) (xs : List A) (x : A) → IsDistinct bytes_eq (map name xs) → Contains xs x → find (λ (y : A). bytes_eq (name x) (name y)) xs ≡ Some x
 unfolding IsDistinct
 first_is name [] x d c = absurd (none_contained x c)
@@ -346,7 +347,7 @@ module _ (options : CodegenOptions) (files : Files) (env : Environment) (checked
 
       here : AllByRecursion FitsAt (places p f)
       here = function_fits env b.0.term b.0.set.bindings p Named names tells_types f (d.0.of_term.params ∙ ap (λ (t : Term). map (parameter env) t.arg_tys) same) (d.0.of_term.result ∙ ap (λ (t : Term). type_text env t.ret_ty) same)
-          options files b.0.block b.0.lawful b.0.statements
+          options files b.0.block b.0.lawful (given_from options files env id f b.0)
 
   of_place : (xs : List Place) (x : Place) → AllByRecursion FitsAt xs → Contains xs x → FitsAt x
   of_place [] x h c = absurd (none_contained x c)

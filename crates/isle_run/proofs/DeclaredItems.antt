@@ -69,7 +69,7 @@ first : (name : List ℕ) (o : Option TypeItem) (rest : List TypeItem) → ((t :
 first name None rest named none = none
 first name (Some t) rest named none = ap (λ b. cond b (Some t) (asked.type_item rest name)) ((bytes_eq-Decides name t.name).1 (sym (named t refl)))
 
--- so among the types of these definitions, where the name of one of them is another
+-- so among the types of these definitions, if the name of one of them is another
 other_item : (types : TypeEnv) (name : List ℕ) (d : TypeDef) (rest : List TypeItem) → bytes_eq name (emitted_name types d) ≡ false → asked.type_item (cons_option (type_item types d) rest) name ≡ asked.type_item rest name
 other_item types name d rest e = past name (type_item types d) rest (λ t is. ap (bytes_eq name) (item_name types d t is) ∙ e)
 

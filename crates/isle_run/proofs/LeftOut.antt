@@ -42,7 +42,7 @@ among (x ∷ names) name c = ⊎_elim (λ (e : x ≡ name). first (bytes_eq name
     later true h = refl
     later false h = h
 
--- where a test holds of none, it holds of each not
+-- if a test holds of none, it holds of each not
 each_not : {X : Type 0} (test : X → Bool) (xs : List X) → list_any test xs ≡ false → AllByRecursion (λ (x : X). test x ≡ false) xs
 each_not test [] h = tt
 each_not test (x ∷ xs) h = let k = or_parts (test x) (list_any test xs) h in (k.0, each_not test xs k.1)
@@ -89,11 +89,11 @@ given_more f xs i x d old new y lt is more seen =
     ∙ ap (λ n. map (λ (z : Bor (List ℕ)). z.now) old ++ (n ∷ map f (drop (i + 1) xs))) (seen ∙ ap f is)
     ∙ ap (λ ys. map (λ (z : Bor (List ℕ)). z.now) old ++ map f ys) (sym (drop_more xs i d lt))
 
--- where a test holds of one that is left, it holds of some
+-- if a test holds of one that is left, it holds of some
 pub any_found : {X : Type 0} (test : X → Bool) (xs : List X) (i : ℕ) (x d : X) → i < length xs → x ≡ get_or xs i d → test x ≡ true → list_any test (drop i xs) ≡ true
 any_found test xs i x d lt is holds = ap (list_any test) (drop_more xs i d lt ∙ ap (λ y. y ∷ drop (i + 1) xs) (sym is)) ∙ ap (λ (b : Bool). b || list_any test (drop (i + 1) xs)) holds
 
--- where none is left, of none
+-- if none is left, of none
 pub none_left : {X : Type 0} (test : X → Bool) (xs : List X) (i : ℕ) → length xs ≤ i → list_any test (drop i xs) ≡ false
 none_left test [] zero le = refl
 none_left test [] (suc i) le = refl
@@ -125,7 +125,7 @@ sets_tell env f m standing given consts names are stand have same =
     (λ c. ap (λ b. b && not (has_name given (sym_text env c.0))) (stand (sym_text env c.0) ∙ ap (is_among (sym_text env c.0)) (are ∙ append-nil (body_names f.body))) ∙ ap (λ b. is_among (sym_text env c.0) (body_names f.body) && not b) (have (sym_text env c.0)))
     ∙ ap (list_any (is_left_out env f m)) same
 
--- what is told of the function of the term is told of the run
+-- what is known of the function of the term is told of the run
 pub function_tells : {A E : Type 0} (attempts : A → Attempt) (env : Environment) (f : Function) (m : Meaning) (r : Result Bool E) → ((args : A) → (attempts args).env ≡ env) → ((args : A) → function_of (attempts args).term (attempts args).program.fns ≡ Some f)
     → IfOk r (λ left. (e : Environment) → e.types ≡ env.types → left ≡ list_any (is_left_out e f m) e.types.consts) → IfOk r (λ left. (args : A) → left ≡ leave_out (attempts args) m)
 function_tells attempts env f m (Err e) own found h = h

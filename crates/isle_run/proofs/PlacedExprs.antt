@@ -55,7 +55,7 @@ use Rattle.isle_run.proofs.ToldTypes.{IsSignature, IsRight, told_type, right_ove
 abbrev pub IsConstantValue : Environment → List ℕ → Value → Type 0
 IsConstantValue env name v = (ty : TypeId) × IsNameOf env ty name × HasType env v ty
 
--- what is told of each of these fields is its type
+-- what is known of each of these fields is its type
 abbrev pub AreFieldsTold : Environment → Asked → List (List ℕ × TypeId) → Type 0
 AreFieldsTold env asked = AllByRecursion (λ (f : List ℕ × TypeId). (ty : List ℕ) → field_told asked f.0 ≡ AValue ty → ty ≡ type_text env f.1)
 
@@ -129,7 +129,7 @@ module _ (env : Environment) (t : Term) (bs : List Binding) (p : Program) (Named
   abbrev pub Right : Tells → Type 0
   Right = AreRight env t path
 
-  -- where the operand is a constant, its values have the type of this name
+  -- if the operand is a constant, its values have the type of this name
   abbrev pub Fits : Operand → List ℕ → Type 0
   Fits o ty = (name : List ℕ) (v : Value) → o ≡ operand.Name name → IsConstantValue env name v → Named ty v
 
@@ -222,7 +222,7 @@ module _ (env : Environment) (t : Term) (bs : List Binding) (p : Program) (Named
   pub value_fits : (o : Operand) (ty : List ℕ) → Fits o ty → PlacesFit (placing.at o (AValue ty))
   value_fits o ty h = at_fits o (AValue ty) (λ x e. subst (Fits o) (sym (value_eq ty x e)) h)
 
-  -- of what is told of a path of this type
+  -- of what is known of a path of this type
   pub told_fits : (o : Operand) (q : Path) (x : Told) (ty : TypeId) → IsRight env t q x → IsPathOf env t q ty → Fits o (type_text env ty) → PlacesFit (placing.at o x)
   told_fits o q x ty r k h = at_fits o x (λ y e. subst (Fits o) (sym (told_type env t q x y ty r e k)) h)
 
@@ -294,7 +294,7 @@ module _ (env : Environment) (t : Term) (bs : List Binding) (p : Program) (Named
       form_fits bound (form env (MakesStruct of)) is.f fields is.found is.parts (λ name k. absurd (struct_unnamed (slice_get env.types.types of.0) is.f name is.found k)) (λ none. tells_types.structs of is.f is.found)
   bound_fits bound b o is = absurd is
 
-  -- ---- what is told of it
+  -- ---- what is known of it
 
   call_told_right : (bound : List ℕ) (tells : Tells) (o : Option Term) (c : Term) (id : TermId) (given : List BindingId) (instance : ℕ) (often : ReturnKind) → o ≡ Some c → slice_get env.terms id.0 ≡ Some c → IsCall often (calling env id)
       → IsRight env t (Called id (at_all (paths_in s) given) instance) (expr_told p f tells (call_expr s bound o (callee_of (calling env id)) given))

@@ -223,7 +223,7 @@ module _ (env : Environment) (t : Term) (bs : List Binding) (p : Program) (Named
   some_form None h = absurd h
   some_form (Some g) h = (g, refl)
 
-  -- the pattern of a form, where there is one
+  -- the pattern of a form, if there is one
   form_binds : (g : Form) (places : List (Option BindingId)) (o : Option TPat) (pat : TPat) → o ≡ form_pattern env (Some g) places → o ≡ Some pat
       → (binds : List TBind) × (field_binds env (typed_fields env g.fields) places ≡ Some binds) × (o ≡ Some (pattern_named env g.ty g.variant (leaves_out (typed_fields env g.fields) places) binds))
   form_binds g places o pat e k = one (field_binds env (typed_fields env g.fields) places) refl

@@ -41,7 +41,7 @@ of_each : (P : List ℕ → Type 0) (xs : List (List ℕ)) (y : List ℕ) → Al
 of_each P [] y h c = absurd (none_contained y c)
 of_each P (x ∷ xs) y h c = ⊎_elim (λ e. subst P e h.0) (λ k. of_each P xs y h.1 k) (contained_cases x xs y c)
 
--- a function after one more, or none, where names are distinct
+-- a function after one more, or none, if names are distinct
 found_after : (o : Option TraitFn) (fs : List TraitFn) (f : TraitFn) → IsDistinct bytes_eq (fn_names (cons_option o fs)) → Contains (fn_names fs) f.name → (IsDistinct bytes_eq (fn_names fs) → trait_fn fs f.name ≡ Some f)
     → trait_fn (cons_option o fs) f.name ≡ Some f
 unfolding IsDistinct
@@ -51,7 +51,7 @@ found_after (Some g) fs f d c go = rw (apart g.name f.name (of_each (λ y. bytes
 found_here : (o : Option TraitFn) (fs : List TraitFn) (f : TraitFn) → o ≡ Some f → trait_fn (cons_option o fs) f.name ≡ Some f
 found_here o fs f e = rw (e, (bytes_eq-Decides f.name f.name).1 refl) refl
 
--- the function of the first term with this external constructor, where names are distinct
+-- the function of the first term with this external constructor, if names are distinct
 pub served_fn : (env : Environment) (ts : List Term) (i : ℕ) (t : Term) (func : Sym) → IsDistinct bytes_eq (names_in env ts) → slice_get ts i ≡ Some t → func_of t.kind ≡ Some func
     → trait_fn (trait_fns_in env ts) (sym_text env func) ≡ Some (constructor_fn env t func)
 served_fn env [] i t func d at e = cc
@@ -78,7 +78,7 @@ extractor_among env (u ∷ ts) (suc i) t x at e =
     after_option (extractor_fn_of env u) (cons_option (constructor_fn_of env u) (trait_fns_in env ts)) (sym_text env x.0)
     (after_option (constructor_fn_of env u) (trait_fns_in env ts) (sym_text env x.0) (extractor_among env ts i t x at e))
 
--- the function of the first term with this external extractor, where names are distinct
+-- the function of the first term with this external extractor, if names are distinct
 pub extracted_fn : (env : Environment) (ts : List Term) (i : ℕ) (t : Term) (x : Sym × ReturnKind) → IsDistinct bytes_eq (names_in env ts) → slice_get ts i ≡ Some t → extracted_of t.kind ≡ Some x
     → trait_fn (trait_fns_in env ts) (sym_text env x.0) ≡ Some (extractor_fn env t x)
 extracted_fn env [] i t x d at e = cc

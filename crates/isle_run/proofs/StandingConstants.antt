@@ -54,6 +54,7 @@ use Rattle.isle_simulation.proofs.Written.{function_of}
 use Rattle.isle_tree.specs.declared.tree.TraitFn.{TraitFn}
 use Rattle.isle_tree.specs.declared.tree.TypeItem.{TypeItem}
 use Rattle.isle_tree.specs.Program.{Function, Program}
+use Rattle.isle_codegen.proofs.FromBlocks.{given_from}
 use Rattle.isle_codegen.specs.Checked.{IsChecked}
 use Rattle.isle_codegen.specs.FromBlock.{AreFromBlocks, IsFromBlock}
 use Rattle.isle_run.specs.Conforming.{Conforms}
@@ -234,7 +235,7 @@ module _ (options : CodegenOptions) (files : Files) (env : Environment) (checked
       let rule = all_at (IsSerializableRule env b.term ps) b.set.rules k.flat ready.rules k.there in
       let is_there = testable_there env b.term ps [] k.flat.constraints (x.source, constraint.ConstPrim c) rule.constraints x.in' in
       let is_tried = tried_of id b.term r ps b.set.rules k.at_place k.flat q c b.stands.flat k.is x b.stands.once is_there (tried b.term b.found) in
-      function_names_it env b.term b.set.bindings x.source c options files b.block f b.lawful (b.makes k.flat x.source (constraint.ConstPrim c) k.there x.in' is_tried) b.statements
+      function_names_it env b.term b.set.bindings x.source c options files b.block f b.lawful (b.makes k.flat x.source (constraint.ConstPrim c) k.there x.in' is_tried) (given_from options files env id f b)
 
   -- the function of each term with rules is among the functions
   with_function : (ids : List TermId) (fs : List Function) (id : TermId) (name : List ℕ) → AreFromBlocks options files env ids fs → Contains ids id → ((f : Function) → IsFromBlock options files env id f → Contains (body_names f.body) name) → Contains (function_names fs) name
@@ -268,7 +269,7 @@ module _ (options : CodegenOptions) (files : Files) (env : Environment) (checked
     function_free : (id : TermId) (f : Function) → IsFromBlock options files env id f → AllByRecursion Free (function_types f)
     function_free id f b =
         let s = setting env b.term b.set.bindings in
-        let same : function_of options files env b.term b.set.bindings b.block ≡ f = one_function _ f (sym (function_made options files env b.term b.set.bindings b.block b.lawful) ∙ b.statements) in
+        let same : function_of options files env b.term b.set.bindings b.block ≡ f = one_function _ f (sym (function_made options files env b.term b.set.bindings b.block b.lawful) ∙ given_from options files env id f b) in
         subst (λ (g : Function). AllByRecursion Free (function_types g)) same
         (both (param_types (map (parameter env) b.term.arg_tys)) _ (params_free env Free type_free b.term.arg_tys) (
           type_free b.term.ret_ty,

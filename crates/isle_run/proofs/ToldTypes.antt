@@ -54,7 +54,7 @@ bool_text env (Some (def.Enum name is_extern is_nodebug variants place)) b h = a
 bool_text env (Some (def.Struct name is_extern is_nodebug fields place)) b h = absurd h
 
 module _ (env : Environment) (t : Term) where
-  -- what is told of a path is of its types
+  -- what is known of a path is of its types
   abbrev pub IsRight : Path → Told → Type 0
   IsRight q (AValue ty) = (of : TypeId) → IsPathOf env t q of → ty ≡ type_text env of
   IsRight q (AnOption ty) = (tys : List TypeId) → IsOptionOf env t q tys → ty ∷ [] ≡ map (type_text env) tys
@@ -74,7 +74,7 @@ module _ (env : Environment) (t : Term) where
   told_type q (AListOfTuples given) ty of r e h = absurd cc
   told_type q Untold ty of r e h = absurd cc
 
-  -- a path that is another one, where it has parts
+  -- a path that is another one, if it has parts
   pub right_over : (q q' : Path) (x : Told) → (HasParts q → q ≡ q') → IsRight q' x → IsRight q x
   right_over q q' (AValue ty) e r = λ of h. r of (subst (λ (y : Path). IsPathOf env t y of) (e (typed_parts env t q of h)) h)
   right_over q q' (AnOption ty) e r = λ tys h. r tys (subst (λ (y : Path). IsOptionOf env t y tys) (e (option_parts env t q tys h)) h)
@@ -106,7 +106,7 @@ module _ (env : Environment) (t : Term) where
   answers_right q kind.Iterator (ty ∷ []) l = l
   answers_right q kind.Iterator (ty ∷ other ∷ more) l = l
 
-  -- what a call of a term gives, where the term is there
+  -- what a call of a term gives, if the term is there
   pub called_right : (term : TermId) (ps : Paths) (instance : ℕ) (c : Term) (o : Option Signature) → slice_get env.terms term.0 ≡ Some c → ((s : Signature) → o ≡ Some s → IsSignature env c.arg_tys (c.ret_ty ∷ []) s)
       → IsRight (Called term ps instance) (call_told o)
   called_right term ps instance c None found is = tt
@@ -217,7 +217,7 @@ module _ (env : Environment) (t : Term) where
 
   -- ---- locals
 
-  -- what is told of locals, each of the path of this number
+  -- what is known of locals, each of the path of this number
   abbrev pub AreRight : (ℕ → Path) → Tells → Type 0
   AreRight path = AllByRecursion (λ (x : ℕ × Told). IsRight (path x.0) x.1)
 

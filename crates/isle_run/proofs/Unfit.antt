@@ -1,4 +1,4 @@
--- A misfit is of no type, and so an answer that is given where a form fits no function fits none.
+-- A misfit is of no type, and so an answer that is given if a form fits no function fits none.
 use Rattle.std.proofs.Common.{◌≡◌, ℕ, List, [], ◌∷◌, true, false}
 use Rattle.isle_tree.specs.declared.tree.TypeItem.{TypeItem}
 use Rattle.isle_places.specs.Signatures.{Signature}

@@ -44,6 +44,7 @@ use Rattle.isle_run_inputs.specs.Requested.{requested_term}
 use Rattle.isle_simulation.specs.Operands.{constant}
 use Rattle.isle_simulation.specs.RustNames.{HasRustNames}
 use Rattle.isle_simulation.proofs.PathValues.{struct_unnamed}
+use Rattle.isle_codegen.proofs.FromBlocks.{given_from}
 use Rattle.isle_codegen.specs.Checked.{IsChecked}
 use Rattle.isle_codegen.specs.Spoken.{IsSpoken}
 use Rattle.isle_codegen.proofs.LawfulNames.{compilable}
@@ -158,7 +159,7 @@ module _ (options : CodegenOptions) (files : Files) (env : Environment) (checked
   operands : AllByRecursion So (body_operands f.body)
   operands =
       let b = the_function.block in
-      function_so env b.term b.set rules b.stands options files b.block f b.lawful b.tests b.statements
+      function_so env b.term b.set rules b.stands options files b.block f b.lawful b.tests (given_from options files env _ f b)
 
   placed : AllByRecursion (λ (x : Place). So x.0) (places p f)
   placed = body_so So f.body p f [] formed operands
@@ -285,6 +286,6 @@ module _ (options : CodegenOptions) (files : Files) (env : Environment) (checked
     answered = λ g found c there. w.answered c (the_function.block.calls c (subst (λ (h : Function). Contains (body_calls h.body) c) (sym (same_function g found)) there));
   }
 
-  -- and where no constant has a value
+  -- and if no constant has a value
   pub wanted_none : m.consts ≡ [] → AreWanted (record { program = p; env = env; term = term; args = args }) m
   wanted_none none = wanted (subst (AllByRecursion (λ (c : List ℕ × Value). has_constant p c.0 ≡ true)) (sym none) tt) (subst (AllByRecursion (λ (c : List ℕ × Value). FitsPlaces p c.0 c.1)) (sym none) tt)

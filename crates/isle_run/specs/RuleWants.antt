@@ -91,7 +91,7 @@ is_below g r = is_lt (int_cmp g.prio r.prio)
 abbrev pub TestsWithin : Environment → Rule → Rule → Type 0
 TestsWithin env g r = AllByRecursion (λ (x : Test). IsTrivial x ⊎ ((is_constraint x ≡ true) × Contains (rule_tests env r) x)) (rule_tests env g)
 
--- a rule of a term tests for the constant of this name, and is tried: where the term answers at most once, each rule of it whose tests are all the
+-- a rule of a term tests for the constant of this name, and is tried: if the term answers at most once, each rule of it whose tests are all the
 -- rule's constraints tests for the constant, too, or has a lower priority
 pub record IsTestedFor (env : Environment) (name : List ℕ) : Type 0 where
   pub id : TermId

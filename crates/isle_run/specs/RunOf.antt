@@ -15,7 +15,7 @@ use Rattle.isle_tree.specs.Run.{run}
 use Rattle.isle_interpreter.specs.Judged.{Runs}
 use Rattle.isle_run.specs.Conforming.{Conforms}
 
--- the term's function of a program that conforms to the source runs so, at arguments of its types, under answers that fit it, where the list of
+-- the term's function of a program that conforms to the source runs so, at arguments of its types, under answers that fit it, if the list of
 -- results has this space
 pub record IsRunOf (options : CodegenOptions) (files : Files) (env : Environment) (term : List ℕ) (args : List Value) (answers : Meaning) (space : Space) (p : Program) (r : Ran) : Type 0 where
   pub id : TermId

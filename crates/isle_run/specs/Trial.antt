@@ -51,7 +51,7 @@ pub record AreOutcome (env : Environment) (id : TermId) (t : Term) (args : List 
   pub shown : IsSomeAnd (shown_outcome (kind_of t.kind) outcome) (λ r. lines ≡ run_lines r)
 
 -- the lines are those of results that the rules of a term prescribe which answers several times: of the first ones, as many as there is room for
--- and at least one, and of the calls made up to the last of them, or of all where the room isn't used up
+-- and at least one, and of the calls made up to the last of them, or of all if the room isn't used up
 pub record AreFirst (env : Environment) (id : TermId) (args : List Value) (m : Meaning) (space : Space) (lines : List ℕ) : Type 0 where
   pub given : Given
   pub prescribed : PrescribesSeveral env m args (rules_of env id) given
@@ -63,7 +63,7 @@ ArePrescribed return_kind.Plain env id t args m space lines = AreOutcome env id 
 ArePrescribed return_kind.Option env id t args m space lines = AreOutcome env id t args m lines
 ArePrescribed return_kind.Iterator env id t args m space lines = AreFirst env id args m space lines
 
--- the lines of a run of the term at these arguments, under answers, where the list of results has this space: those of the run of a program; and
+-- the lines of a run of the term at these arguments, under answers, if the list of results has this space: those of the run of a program; and
 -- under every lawful meaning that has the answers what the rules prescribe
 pub record AreLines (options : CodegenOptions) (files : Files) (env : Environment) (term : List ℕ) (args : List Value) (answers : Meaning) (space : Space) (lines : List ℕ) : Type 0 where
   pub program : Program

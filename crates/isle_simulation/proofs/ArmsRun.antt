@@ -153,7 +153,7 @@ places_fit s u known part rs i (f ∷ fs) (Some b ∷ places) bound locals h k l
 same_type : (a b : TypeId) → Some a ≡ Some b → a ≡ b
 same_type a b e = cc
 
--- what a path over a source is, where that is one of this type
+-- what a path over a source is, if that is one of this type
 record IsFieldOf (s : Setting) (u : Around) (known : Known) (source b : BindingId) (mk : TypeId → Making) (over : Path → Path) (j : ℕ) : Type 0 where
   path : HasParts (at (paths_in s) b) → at (paths_in s) b ≡ over (at (paths_in s) source)
   typed : (ty : TypeId) → IsPathOf s.env s.term (over (at (paths_in s) source)) ty → (of : TypeId) × IsPathOf s.env s.term (at (paths_in s) source) of × IsSomeAnd (form s.env (mk of)) (λ f. slice_get (form_types s.env f) j ≡ Some ty)
@@ -366,13 +366,13 @@ nothing_fits : (local : Option ℕ) → fit_some local (Optional None) ≡ None
 nothing_fits None = refl
 nothing_fits (Some n) = refl
 
--- the pattern of an option fits where that is one of something, and binds it
+-- the pattern of an option fits if that is one of something, and binds it
 pub some_fits : (s : Setting) (u : Around) (bound : List ℕ) (known : Known) (locals : Env) (source : BindingId) (tys : List TypeId) (places : List (Option BindingId)) (h : Held) → Agree s u bound known locals
     → IsOptionOf s.env s.term (at (paths_in s) source) tys → ArePlacesOf s source constraint.Some places → (x : IsOptionAt s.env h (value_at s.env u.meaning u.args known (at (paths_in s) source)) tys)
     → ArmFits s u bound known locals constraint.Some places h (Optional (option_map item_of x.o))
 some_fits s u bound known locals source tys places h a of parts' x = within places parts'.0 parts'.1
   where
-    -- the local of what is within, where there is one, agrees
+    -- the local of what is within, if there is one, agrees
     Binds : List (Option BindingId) → Option ℕ → Type 0
     Binds ps local = (vs rs : List Value) → value_at s.env u.meaning u.args known (at (paths_in s) source) ≡ Optional (Some (item_of vs)) → map nameless rs ≡ map nameless vs → HaveTypes s.env vs tys
         → (more : Env) × (fit_some local (Optional (Some (item_of rs))) ≡ Some more) × Agree s u (bound_within bound ps) known (locals ++ more)

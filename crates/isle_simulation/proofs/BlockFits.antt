@@ -174,7 +174,7 @@ tail_fits return_kind.Plain once name place = tt
 tail_fits return_kind.Option once name place = tt
 tail_fits return_kind.Iterator once name place = absurd once
 
--- a completed block ends in a Return where the block does
+-- a completed block ends in a Return if the block does
 completed_ends : (b : Block) (s : Setting) (bound : List ℕ) → ends_in_return (completed s bound b) ≡ ends_in_return b
 completed_ends Stop s bound = refl
 completed_ends (Step binds (block.Return pos result) Stop) s bound = refl
@@ -183,7 +183,7 @@ completed_ends (Step binds (block.Equal x y body) Stop) s bound = refl
 completed_ends (Step binds (block.Loop result body) Stop) s bound = refl
 completed_ends (Step binds c (Step ds d more)) s bound = completed_ends (Step ds d more) s (bound_by bound (step_binds s bound binds c))
 
--- an ending is a function's statements where it answers at most once
+-- an ending is a function's statements if it answers at most once
 ending_fits : (kind : ReturnKind) → AnswersOnce kind → (b : Body) → FitsEnding kind b → FitsFunction kind b
 ending_fits return_kind.Plain once b h = h
 ending_fits return_kind.Option once b h = h
@@ -208,7 +208,7 @@ function_fits b s name place k =
     one once true is = rw is (return_last (completed s [] b) s once [] [] k (rw (completed_ends b s []) is))
     one once false is = rw is (block_before (completed s [] b) s once [] [] _ k (tail_fits (kind_of s.term.kind) once name place))
 
-    -- where several results are given there is no tail
+    -- if several results are given there is no tail
     none_behind : (kind : ReturnKind) → kind ≡ return_kind.Iterator → (x : Bool) → cond x Done (tail_body (mark_of kind name place)) ≡ Done
     none_behind return_kind.Iterator e true = refl
     none_behind return_kind.Iterator e false = refl

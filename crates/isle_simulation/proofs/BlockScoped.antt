@@ -282,7 +282,7 @@ arm_scoped s bound locals source (AnOption tys) (constraint.Variant of variant) 
 arm_scoped s bound locals source (AnOption tys) (constraint.Struct of) places held l ready e is parts = cc
 
 mutual
-  -- what a block reads, where what follows reads what is there whatever is bound
+  -- what a block reads, if what follows reads what is there whatever is bound
   block_scoped : (b : Block) (s : Setting) (bound made : List ℕ) (locals : Locals) (end : Body) → HasCallees s.env → LocalsHold s bound locals → IsReadyFrom s bound made b
       → ((after : Locals) → IsBodyScoped (callables_of s.env) (kind_of s.term.kind) (length s.term.arg_tys) after end)
       → IsBodyScoped (callables_of s.env) (kind_of s.term.kind) (length s.term.arg_tys) locals (block_body s bound b end)

@@ -106,32 +106,32 @@ all_below ps n depth (b ∷ bs) lt h = let r = below_there ps n b.0 h.0 in (omeg
 within : (s : Setting) (b : BindingId) → IsThere (at (paths_in s) b) → b.0 < length s.bindings
 within s b h = let x = binding_at s.bindings b h in slice_get_within s.bindings b.0 x.0 x.1
 
-all_within : (s : Setting) (bs : List BindingId) → AreThere (at_all (paths_in s) bs) → AllByRecursion (λ (b : BindingId). b.0 < length s.bindings) bs
+pub all_within : (s : Setting) (bs : List BindingId) → AreThere (at_all (paths_in s) bs) → AllByRecursion (λ (b : BindingId). b.0 < length s.bindings) bs
 all_within s [] h = tt
 all_within s (b ∷ bs) h = (within s b h.0, all_within s bs h.1)
 
 -- ---- a made value
 
 -- a made value of a type, over its parts
-record IsMade (s : Setting) (b : BindingId) (over : Paths → Path) (mk : Making) (fields : List BindingId) : Type 0 where
-  path : at (paths_in s) b ≡ over (at_all (paths_in s) fields)
-  f : Form
-  found : form s.env mk ≡ Some f
-  parts : ArePathsOf s.env s.term (at_all (paths_in s) fields) (form_types s.env f)
+pub record IsMade (s : Setting) (b : BindingId) (over : Paths → Path) (mk : Making) (fields : List BindingId) : Type 0 where
+  pub path : at (paths_in s) b ≡ over (at_all (paths_in s) fields)
+  pub f : Form
+  pub found : form s.env mk ≡ Some f
+  pub parts : ArePathsOf s.env s.term (at_all (paths_in s) fields) (form_types s.env f)
 
 form_there : (s : Setting) (b : BindingId) (over : Paths → Path) (mk : Making) (fields : List BindingId) (o : Option Form) → form s.env mk ≡ o → at (paths_in s) b ≡ over (at_all (paths_in s) fields)
     → IsSomeAnd o (λ f. ArePathsOf s.env s.term (at_all (paths_in s) fields) (form_types s.env f)) → IsMade s b over mk fields
 form_there s b over mk fields None e p h = absurd h
 form_there s b over mk fields (Some f) e p h = record { path = p; f = f; found = e; parts = h }
 
-variant_made : (s : Setting) (b : BindingId) (of : TypeId) (variant : _) (fields : List BindingId) (ty : TypeId) → slice_get s.bindings b.0 ≡ Some (binding.MakeVariant of variant fields) → IsPathOf s.env s.term (at (paths_in s) b) ty
+pub variant_made : (s : Setting) (b : BindingId) (of : TypeId) (variant : _) (fields : List BindingId) (ty : TypeId) → slice_get s.bindings b.0 ≡ Some (binding.MakeVariant of variant fields) → IsPathOf s.env s.term (at (paths_in s) b) ty
     → IsMade s b (MadeVariant of variant) (MakesVariant of variant) fields
 variant_made s b of variant fields ty e k =
     let p = path_at s.bindings b (binding.MakeVariant of variant fields) e (typed_parts s.env s.term (at (paths_in s) b) ty k) in
     let h : IsPathOf s.env s.term (MadeVariant of variant (at_all (paths_in s) fields)) ty = subst (λ q. IsPathOf s.env s.term q ty) p k in
     form_there s b (MadeVariant of variant) (MakesVariant of variant) fields (form s.env (MakesVariant of variant)) refl p h.1
 
-struct_made : (s : Setting) (b : BindingId) (of : TypeId) (fields : List BindingId) (ty : TypeId) → slice_get s.bindings b.0 ≡ Some (binding.MakeStruct of fields) → IsPathOf s.env s.term (at (paths_in s) b) ty
+pub struct_made : (s : Setting) (b : BindingId) (of : TypeId) (fields : List BindingId) (ty : TypeId) → slice_get s.bindings b.0 ≡ Some (binding.MakeStruct of fields) → IsPathOf s.env s.term (at (paths_in s) b) ty
     → IsMade s b (MadeStruct of) (MakesStruct of) fields
 struct_made s b of fields ty e k =
     let p = path_at s.bindings b (binding.MakeStruct of fields) e (typed_parts s.env s.term (at (paths_in s) b) ty k) in
@@ -139,11 +139,11 @@ struct_made s b of fields ty e k =
     form_there s b (MadeStruct of) (MakesStruct of) fields (form s.env (MakesStruct of)) refl p h.1
 
 -- the parts of a made value stand before it
-variant_below : (s : Setting) (b : BindingId) (of : TypeId) (variant : _) (fields : List BindingId) (ty : TypeId) (depth : ℕ) → slice_get s.bindings b.0 ≡ Some (binding.MakeVariant of variant fields) → IsPathOf s.env s.term (at (paths_in s) b) ty → b.0 < suc depth
+pub variant_below : (s : Setting) (b : BindingId) (of : TypeId) (variant : _) (fields : List BindingId) (ty : TypeId) (depth : ℕ) → slice_get s.bindings b.0 ≡ Some (binding.MakeVariant of variant fields) → IsPathOf s.env s.term (at (paths_in s) b) ty → b.0 < suc depth
     → AllByRecursion (λ (c : BindingId). c.0 < depth) fields
 variant_below s b of variant fields ty depth e k lt = all_below (paths_in s) b.0 depth fields lt (subst HasParts (at_before s.bindings b (binding.MakeVariant of variant fields) e) (typed_parts s.env s.term (at (paths_in s) b) ty k))
 
-struct_below : (s : Setting) (b : BindingId) (of : TypeId) (fields : List BindingId) (ty : TypeId) (depth : ℕ) → slice_get s.bindings b.0 ≡ Some (binding.MakeStruct of fields) → IsPathOf s.env s.term (at (paths_in s) b) ty → b.0 < suc depth
+pub struct_below : (s : Setting) (b : BindingId) (of : TypeId) (fields : List BindingId) (ty : TypeId) (depth : ℕ) → slice_get s.bindings b.0 ≡ Some (binding.MakeStruct of fields) → IsPathOf s.env s.term (at (paths_in s) b) ty → b.0 < suc depth
     → AllByRecursion (λ (c : BindingId). c.0 < depth) fields
 struct_below s b of fields ty depth e k lt = all_below (paths_in s) b.0 depth fields lt (subst HasParts (at_before s.bindings b (binding.MakeStruct of fields) e) (typed_parts s.env s.term (at (paths_in s) b) ty k))
 
@@ -157,7 +157,7 @@ made_ready s more b fields es tys h k = record {
 spelled_ready : (s : Setting) (more : List ℕ) (b : BindingId) (o : Option Binding) (one : List ℕ → BindingId → List BindingId) → slice_get s.bindings b.0 ≡ o → local_parts o ≡ None → IsSpelled (at (paths_in s) b) → OneReady s more b (with_parts one more b (local_parts (slice_get s.bindings b.0)))
 spelled_ready s more b o one e n k = subst (λ p. OneReady s more b (with_parts one more b p)) (sym (ap local_parts e ∙ n)) (record { binds = tt; place = inr k })
 
--- where it has no local yet
+-- if it has no local yet
 unbound_ready : {b : BindingId} (s : Setting) (bound more : List ℕ) (depth : ℕ) (ty : TypeId) → MakesReady s bound depth (needed s depth) → Adds s bound more → is_bound more b ≡ false → IsReadable s bound b → IsPathOf s.env s.term (at (paths_in s) b) ty → b.0 < suc depth
     → OneReady s more b (with_parts (needed s depth) more b (local_parts (slice_get s.bindings b.0)))
 unbound_ready s bound more depth ty ok a is (bound_read b c) k lt = absurd (let bad : false ≡ true = sym is ∙ a.keeps b (found bound b.0 c) in cc)
@@ -190,21 +190,22 @@ needs_ready : (s : Setting) (bound more : List ℕ) (parts : List BindingId) (ty
 needs_ready s bound more parts tys a r k =
     each_ready s bound (length s.bindings) (needed s (length s.bindings)) more tys (needed_local s (length s.bindings)) (needed_ready s bound (length s.bindings)) a r k (all_within s parts (paths_there s.env s.term (at_all (paths_in s) parts) tys k))
 
+-- bindings that are read may be read, and have paths of these types
+pub all_readable : (s : Setting) (bound : List ℕ) (bs : List BindingId) (ts : List TypeId) → AreReadAs s bound bs ts → AreReadable s bound bs
+all_readable s bound [] [] k = none_read
+all_readable s bound (b ∷ bs) (t ∷ ts) k = one_read b bs k.0.read (all_readable s bound bs ts k.1)
+all_readable s bound [] (t ∷ ts) k = absurd k
+all_readable s bound (b ∷ bs) [] k = absurd k
+
+pub all_typed : (s : Setting) (bound : List ℕ) (bs : List BindingId) (ts : List TypeId) → AreReadAs s bound bs ts → ArePathsOf s.env s.term (at_all (paths_in s) bs) ts
+all_typed s bound [] [] k = tt
+all_typed s bound (b ∷ bs) (t ∷ ts) k = (k.0.path, all_typed s bound bs ts k.1)
+all_typed s bound [] (t ∷ ts) k = absurd k
+all_typed s bound (b ∷ bs) [] k = absurd k
+
 -- so of bindings that may be read
 read_ready : (s : Setting) (bound more : List ℕ) (parts : List BindingId) (tys : List TypeId) → Adds s bound more → AreReadAs s bound parts tys → EachReady s more parts tys (needs s more parts)
-read_ready s bound more parts tys a h = needs_ready s bound more parts tys a (read parts tys h) (typed parts tys h)
-  where
-    read : (bs : List BindingId) (ts : List TypeId) → AreReadAs s bound bs ts → AreReadable s bound bs
-    read [] [] k = none_read
-    read (b ∷ bs) (t ∷ ts) k = one_read b bs k.0.read (read bs ts k.1)
-    read [] (t ∷ ts) k = absurd k
-    read (b ∷ bs) [] k = absurd k
-
-    typed : (bs : List BindingId) (ts : List TypeId) → AreReadAs s bound bs ts → ArePathsOf s.env s.term (at_all (paths_in s) bs) ts
-    typed [] [] k = tt
-    typed (b ∷ bs) (t ∷ ts) k = (k.0.path, typed bs ts k.1)
-    typed [] (t ∷ ts) k = absurd k
-    typed (b ∷ bs) [] k = absurd k
+read_ready s bound more parts tys a h = needs_ready s bound more parts tys a (all_readable s bound parts tys h) (all_typed s bound parts tys h)
 
 -- ---- bind orders
 
@@ -213,7 +214,7 @@ bound_needed : (s : Setting) (depth : ℕ) (bound : List ℕ) (b : BindingId) �
 bound_needed s zero bound b e = refl
 bound_needed s (suc depth) bound b e = ap (λ x. cond x [] (with_parts (needed s depth) bound b (local_parts (slice_get s.bindings b.0)))) e
 
-source_needs : (s : Setting) (bound : List ℕ) (b : BindingId) → is_bound bound b ≡ true → needs s bound (b ∷ []) ≡ []
+pub source_needs : (s : Setting) (bound : List ℕ) (b : BindingId) → is_bound bound b ≡ true → needs s bound (b ∷ []) ≡ []
 source_needs s bound b e = ap (λ xs. xs ++ []) (bound_needed s (length s.bindings) bound b e)
 
 -- the parts that are bound, and then the binding

@@ -193,7 +193,7 @@ mutual
 
 -- ---- what is bound more
 
--- where more is bound, it is made values that need a local
+-- if more is bound, it is made values that need a local
 pub record Adds (s : Setting) (bound more : List ℕ) : Type 0 where
   pub keeps : (b : BindingId) → is_bound bound b ≡ true → is_bound more b ≡ true
   pub only : (b : BindingId) → is_bound bound b ≡ false → is_bound more b ≡ true → HasLocal s b

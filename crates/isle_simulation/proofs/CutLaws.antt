@@ -18,7 +18,7 @@ use Rattle.isle_core.specs.ValueAt.{Held, Absent, One, Optional, Listed, AValue,
 abbrev pub values_in : List (Value × List Made) → List Value
 values_in rs = map (λ (r : Value × List Made). r.0) rs
 
--- all are kept where there is room
+-- all are kept if there is room
 pub cut_within : (k : ℕ) (rs : List (Value × List Made)) (calls : List Made) → length rs ≤ k → cut_after k rs calls ≡ (values_in rs, calls)
 cut_within k [] calls le = refl
 cut_within zero (r ∷ rs) calls le = absurd (omega (arith, le))

@@ -1,4 +1,4 @@
--- What is found by its name where no two names are equal.
+-- What is found by its name if no two names are equal.
 use Rattle.std.proofs.Common.{◌≡◌, ◌⊎◌, inl, inr, ⊎_elim, List, [], ◌∷◌, map, Bool, true, false, cond, Option, Some, None, refl, sym, ap, ◌∙◌, subst, ℕ}
 use Rattle.std.specs.Prelude.{Contains, find}
 use Rattle.std.specs.List.{IsDistinct, cons_option, filter_map}

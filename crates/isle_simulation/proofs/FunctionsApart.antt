@@ -74,7 +74,7 @@ constructor_once env (x ∷ ts) (suc i) (suc j) t u f g d a b k l same =
 
 -- ---- callees
 
--- no item is so where none at a place is
+-- no item is so if none at a place is
 none_any : {A : Type 0} (f : A → Bool) (xs : List A) → ((j : ℕ) (x : A) → slice_get xs j ≡ Some x → f x ≡ false) → list_any f xs ≡ false
 none_any f [] h = refl
 none_any f (x ∷ xs) h = ap (λ b. b || list_any f xs) (h 0 x refl) ∙ none_any f xs (λ j y e. h (suc j) y e)
@@ -136,7 +136,7 @@ pure_apart env names i t func at fn pure j u there = by u.kind refl
     by (kind.Variant ty variant) e = refl
     by (kind.Struct ty) e = refl
 
--- so where both are made by rules
+-- so if both are made by rules
 pure_rules_apart : (env : Environment) → HasTermFns env → (i : ℕ) (t : Term) → slice_get env.terms i ≡ Some t → IsRuled t.kind → impure_callee env t t.kind ≡ None
     → (j : ℕ) (u : Term) → slice_get env.terms j ≡ Some u → goes_to (Internal (sym_text env t.name)) (impure_callee env u u.kind) ≡ false
 pure_rules_apart env names i t at ruled pure j u there = by u.kind refl

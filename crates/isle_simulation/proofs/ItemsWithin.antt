@@ -11,7 +11,7 @@ use Rattle.isle_core.specs.Value.{Value}
 use Rattle.isle_core.specs.ValueAt.{Known, inner_held, value_before, extracted_held, call_held, wrapped_held, part_held, made_held, field_held, chosen_held, value_at, values_at}
 use Rattle.isle_core.proofs.SamePathLaws.{same_sound}
 
--- each item of a list within a path is so, the path itself too where it is one
+-- each item of a list within a path is so, the path itself too if it is one
 abbrev mutual
   pub ItemsAre : (Path → Type 0) → Path → Type 0
   ItemsAre P (Chosen p) = P (Chosen p) × ItemsAre P p

@@ -97,7 +97,7 @@ tested_holds env c params locals h = absurd h
 abbrev pub items : Environment → List TypeId → Item
 items env tys = results_item (map (type_text env) tys)
 
--- a value where a path is of a type, a tuple where it is one, an option where it is an option's, and a list where it is a list's
+-- a value if a path is of a type, a tuple if it is one, an option if it is an option's, and a list if it is a list's
 pub record HoldsAs (env : Environment) (t : Term) (p : Path) (o : Option Holds) : Type 0 where
   pub value : (ty : TypeId) → IsPathOf env t p ty → o ≡ one_value
   pub tuple : (tys : List TypeId) → IsTupleOf env t p tys → o ≡ Some (holds.One (items env tys))

@@ -30,6 +30,11 @@ pub mod ResultsGiven
 pub mod SeveralSimulation
 pub mod Made
 pub mod MadeStatements
+pub mod OperandsAre
+pub mod ComputedExprs
+pub mod LocalsAre
+pub mod StatementsAre
+pub mod StatementsFound
 pub mod Shapes
 pub mod TermNames
 pub mod FoundByName

@@ -1,4 +1,4 @@
--- The statement that binds a local is a let, or a list's where a call answers several times.
+-- The statement that binds a local is a let, or a list's if a call answers several times.
 use Rattle.std.proofs.Common.{◌≡◌, ℕ, Bool, true, false, refl}
 use Rattle.isle_tree.specs.declared.tree.TCall.{TCall}
 use Rattle.isle_tree.specs.declared.tree.TExpr.{TExpr}

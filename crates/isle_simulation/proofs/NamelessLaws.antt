@@ -48,7 +48,7 @@ mutual
 pub like_same : (r q v w : Value) → nameless r ≡ nameless v → nameless q ≡ nameless w → same_in_run r q ≡ same_in_run v w
 like_same r q v w e f = nameless_same r q ∙ ap (λ x. same_value x (nameless q)) e ∙ ap (same_value (nameless v)) f ∙ sym (nameless_same v w)
 
--- so as the source does, where those are of one type
+-- so as the source does, if those are of one type
 pub run_same : (env : Environment) (ty : TypeId) (r q v w : Value) → nameless r ≡ nameless v → nameless q ≡ nameless w → HasType env v ty → HasType env w ty → same_in_run r q ≡ same_value v w
 run_same env ty r q v w e f h k = like_same r q v w e f ∙ typed_same env v w ty h k
 

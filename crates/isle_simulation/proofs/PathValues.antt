@@ -1,4 +1,4 @@
--- The values of paths that are spelled where they are read, and of constants that are tested for.
+-- The values of paths that are spelled if they are read, and of constants that are tested for.
 use Rattle.std.proofs.Common.{◌≡◌, ℕ, zero, suc, ℤ, List, [], ◌∷◌, map, false, Option, Some, None, refl, sym, ap, ◌∙◌, subst, take}
 use Rattle.std.specs.Prelude.{IsSomeAnd, IsSome, option_and_then, slice_get}
 use Rattle.isle_core.specs.declared.BindingId.{BindingId}
@@ -196,7 +196,7 @@ path_reads env u t local p ty known locals h names values valued k is = absurd i
 
 -- ---- constants that are tested for
 
--- the constraint tests for a value that a value of the type equals in the run where it meets the constraint
+-- the constraint tests for a value that a value of the type equals in the run if it meets the constraint
 pub record TestsFor (env : Environment) (u : Around) (c : Constraint) (ty : TypeId) : Type 0 where
   pub w : Value
   pub place : (locals : Env) → value_of u locals (written_test env c) ≡ a_value w

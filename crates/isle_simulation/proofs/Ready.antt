@@ -1,4 +1,4 @@
--- Blocks that are lawful and in which each binding that is read has a local or is spelled where it is read.
+-- Blocks that are lawful and in which each binding that is read has a local or is spelled if it is read.
 use Rattle.std.specs.Prelude.{◌≡◌, ◌⊎◌, ℕ, List, [], ◌∷◌, ◌++◌, true, Option, Some, slice_get}
 use Rattle.isle_core.specs.declared.BindingId.{BindingId}
 use Rattle.isle_core.specs.declared.TermId.{TermId}

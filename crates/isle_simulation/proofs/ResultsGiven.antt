@@ -1,4 +1,4 @@
--- How statements of a function with several results go: they go on with the results given so far, or end where no more is kept.
+-- How statements of a function with several results go: they go on with the results given so far, or end if no more is kept.
 use Rattle.std.proofs.Common.{◌≡◌, ◌⊎◌, inl, inr, ℕ, suc, ◌+◌, ◌-◌, ◌≤◌, ◌<◌, List, [], ◌∷◌, ◌++◌, length, map, Bool, true, false, cond, Option, Some, refl, sym, ap, ◌∙◌, subst, arith}
 use Rattle.std.specs.Prelude.{nat_le, slice_get}
 use Rattle.std.proofs.lemmas.Bool.{leb-true, leb-false}
@@ -143,7 +143,7 @@ one_more rs given r v calls e f =
     map-append nameless given (r ∷ []) ∙ ap (λ xs. xs ++ nameless r ∷ []) e ∙ ap (λ x. map nameless (values_in rs) ++ x ∷ []) f
     ∙ sym (map-append nameless (values_in rs) (v ∷ [])) ∙ ap (map nameless) (sym (map-append (λ (r : Value × List Made). r.0) rs ((v, calls) ∷ [])))
 
--- a result is appended, and the function ends where no more fits
+-- a result is appended, and the function ends if no more fits
 pub result_gives : (env : Environment) (u : Around) (space : Space) (kind : ReturnKind) (several : Bool) (pos : _) (result : _) (q : Read) (r v : Value) (locals : Env) (g : Given) (given : List Value) (those : List Made) → is_several kind ≡ true → several ≡ true → u.limit ≡ Some (room space)
     → length g.results ≤ room_after_one space → IsSoFar env g given those → read_value u locals q ≡ a_value r → nameless r ≡ nameless v
     → GivesSo env (room_after_one space) (λ e. e ≡ locals) (run_body u (Then (result_stmt kind q) (stop_before false several (block.Return pos result) Done)) locals (done given those)) (give v g)

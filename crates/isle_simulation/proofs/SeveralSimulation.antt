@@ -125,7 +125,7 @@ not_both return_kind.Plain e f = absurd cc
 not_both return_kind.Option e f = absurd cc
 not_both return_kind.Iterator e f = absurd cc
 
--- no inner value is bound where several results are given
+-- no inner value is bound if several results are given
 no_inner : (s : Setting) (bound : List ℕ) (p : Path) (o : Option Binding) → gives_several s ≡ true → IsReadyBind s bound p o → IsInner p → ⊥
 no_inner s bound p (Some (binding.Constructor term parameters instance)) several is k = subst IsInner is.path k
 no_inner s bound p (Some (binding.Extractor term parameter)) several is k = subst IsInner is.path k

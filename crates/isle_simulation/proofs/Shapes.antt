@@ -32,15 +32,17 @@ use Rattle.isle_tree.specs.Program.{Body, Done, Then}
 use Rattle.isle_simulation.specs.Bare.{bare, bare_before, bare_arms}
 use Rattle.isle_simulation.specs.Completed.{step_binds, completed, completed_control, completed_arms}
 use Rattle.isle_simulation.specs.Manner.{bare_manner}
-use Rattle.isle_simulation.specs.Operands.{operand_of}
 use Rattle.isle_simulation.specs.Patterns.{pattern_named, some_pattern, pattern_of}
 use Rattle.isle_simulation.specs.References.{is_reference_in, read_as}
-use Rattle.isle_simulation.specs.Shape.{IsOperandOf, IsReadOf, IsResultOf, IsTestedBy, AreSteps, HasShape, DoesControl, DoArms, IsGivenOf}
-use Rattle.isle_simulation.specs.Statements.{plain_read, match_read, binds_list, local_stmt, looped_local, list_local}
+use Rattle.isle_simulation.specs.OperandOf.{IsOperandOf}
+use Rattle.isle_simulation.specs.ReadOf.{IsReadOf, IsPlainOf, IsReadBy}
+use Rattle.isle_simulation.specs.Shape.{IsResultOf, IsTestedBy, AreSteps, HasShape, DoesControl, DoArms, IsGivenOf}
+use Rattle.isle_simulation.specs.Statements.{plain_read, binds_list, local_stmt, looped_local, list_local}
 use Rattle.isle_simulation.specs.TermFunction.{ends_in_return, mark_of, tail_body, log_lines}
 use Rattle.isle_simulation.proofs.ArmsRun.{ArmPattern, arm_pattern}
 use Rattle.isle_simulation.proofs.CompletedReady.{completed_ready}
 use Rattle.isle_simulation.proofs.CompletedRuns.{Adds, adds_none, adds_step, adds_within, operands_same, adds_both}
+use Rattle.isle_simulation.proofs.OperandsAre.{operand_is, read_is, plain_is}
 use Rattle.isle_simulation.proofs.Made.{over_value, over_option, test_there, operand_there, option_there, some_made, pattern_there, arm_there}
 use Rattle.isle_simulation.proofs.Ready.{IsReady, IsReadyIn, IsOptionReady, IsReadyFrom, IsReadyControl, AreReadyArms}
 use Rattle.isle_simulation.proofs.Written.{written_operand, written_read, written_pattern, match_read as written_match, told_each, block_body, control_stmt, lets, written_body, logged_function, result_stmt, stop_before, written_list, bound_expr}
@@ -52,14 +54,19 @@ use Rattle.isle_simulation.proofs.LocalStmts.{local_by}
 
 -- the operand in a completed block is that in the block
 operand_shape : (s : Setting) (bound more : List ℕ) (b : BindingId) (ty : TypeId) → Adds s bound more → IsReady s more b ty → IsOperandOf s bound b (written_operand s more b)
-operand_shape s bound more b ty a h = sym (operands_same s bound more b a) ∙ operand_there s more b ty h
+operand_shape s bound more b ty a h = operand_is s bound b (written_operand s more b) (sym (operands_same s bound more b a) ∙ operand_there s more b ty h)
 
 read_shape : (s : Setting) (bound more : List ℕ) (wanted : Bool) (b : BindingId) (ty : TypeId) → Adds s bound more → IsReady s more b ty → IsReadOf s bound wanted b (written_read s more wanted b)
-read_shape s bound more wanted b ty a h = ap (option_map (read_as wanted (is_reference_in s b))) (operand_shape s bound more b ty a h)
+read_shape s bound more wanted b ty a h =
+    read_is s bound wanted b (written_read s more wanted b) (ap (option_map (read_as wanted (is_reference_in s b))) (sym (operands_same s bound more b a) ∙ operand_there s more b ty h))
+
+-- so of what is read as it is
+plain_shape : (s : Setting) (bound more : List ℕ) (b : BindingId) (ty : TypeId) → Adds s bound more → IsReady s more b ty → IsPlainOf s bound b (read.Plain (written_operand s more b))
+plain_shape s bound more b ty a h = record { operand = written_operand s more b; stands = operand_shape s bound more b ty a h; is = refl }
 
 -- so of an option, which is read as it is
-option_shape : (s : Setting) (bound more : List ℕ) (b : BindingId) (tys : List TypeId) → Adds s bound more → IsOptionReady s more b tys → plain_read (operand_of s.env s.bindings bound b) ≡ Some (read.Plain (written_operand s more b))
-option_shape s bound more b tys a h = ap plain_read (sym (operands_same s bound more b a) ∙ option_there s more b tys h)
+option_shape : (s : Setting) (bound more : List ℕ) (b : BindingId) (tys : List TypeId) → Adds s bound more → IsOptionReady s more b tys → IsPlainOf s bound b (read.Plain (written_operand s more b))
+option_shape s bound more b tys a h = plain_is s bound b (read.Plain (written_operand s more b)) (ap plain_read (sym (operands_same s bound more b a) ∙ option_there s more b tys h))
 
 -- a variant or a struct is taken apart behind a reference
 form_tested : (s : Setting) (bound : List ℕ) (b : BindingId) (ty : Sym) (variant : Option Sym) (more : Bool) (binds : List TBind) (r : Read) → IsReadOf s bound true b r → IsTestedBy s bound b (pattern_named s.env ty variant more binds) r
@@ -69,23 +76,23 @@ form_tested s bound b ty None more binds r h = h
 arm_tested : (s : Setting) (bound : List ℕ) (b : BindingId) (c : Constraint) (places : List (Option BindingId)) (p : ArmPattern s.env c places) (r : Read) → IsReadOf s bound true b r → IsTestedBy s bound b (written_pattern (pattern_of s.env c places)) r
 arm_tested s bound b c places p r h = subst (λ o. IsTestedBy s bound b (written_pattern o) r) (sym p.is) (form_tested s bound b p.f.ty p.f.variant _ p.binds r h)
 
-some_tested : (s : Setting) (bound : List ℕ) (b : BindingId) (o : Option TPat) (local : Option ℕ) (r : Read) → o ≡ Some (pattern.Some local) → plain_read (operand_of s.env s.bindings bound b) ≡ Some r → IsTestedBy s bound b (written_pattern o) r
+some_tested : (s : Setting) (bound : List ℕ) (b : BindingId) (o : Option TPat) (local : Option ℕ) (r : Read) → o ≡ Some (pattern.Some local) → IsPlainOf s bound b r → IsTestedBy s bound b (written_pattern o) r
 some_tested s bound b o local r e h = subst (λ x. IsTestedBy s bound b (written_pattern x) r) (sym e) h
 
 -- what a match of several arms reads
-match_shape : (s : Setting) (bound more : List ℕ) (source : BindingId) (over : Source) (c : Constraint) → Adds s bound more → IsReadyIn s more source over → IsConstraintOver s.env c over → match_read s bound source c ≡ Some (written_match s more source c)
-match_shape s bound more source (AValue ty) (constraint.ConstBool val) a ready is = ap plain_read (operand_shape s bound more source ty a ready)
-match_shape s bound more source (AValue ty) (constraint.ConstInt val of) a ready is = ap plain_read (operand_shape s bound more source ty a ready)
-match_shape s bound more source (AValue ty) (constraint.ConstPrim val) a ready is = ap plain_read (operand_shape s bound more source ty a ready)
+match_shape : (s : Setting) (bound more : List ℕ) (source : BindingId) (over : Source) (c : Constraint) → Adds s bound more → IsReadyIn s more source over → IsConstraintOver s.env c over → IsReadBy s bound source c (written_match s more source c)
+match_shape s bound more source (AValue ty) (constraint.ConstBool val) a ready is = plain_shape s bound more source ty a ready
+match_shape s bound more source (AValue ty) (constraint.ConstInt val of) a ready is = plain_shape s bound more source ty a ready
+match_shape s bound more source (AValue ty) (constraint.ConstPrim val) a ready is = plain_shape s bound more source ty a ready
 match_shape s bound more source (AValue ty) (constraint.Variant of variant) a ready is = read_shape s bound more true source ty a ready
 match_shape s bound more source (AValue ty) (constraint.Struct of) a ready is = read_shape s bound more true source ty a ready
 match_shape s bound more source (AValue ty) constraint.Some a ready is = absurd is
 match_shape s bound more source (AnOption tys) constraint.Some a ready is = option_shape s bound more source tys a ready
-match_shape s bound more source (AnOption tys) (constraint.ConstBool val) a ready is = cc
-match_shape s bound more source (AnOption tys) (constraint.ConstInt val of) a ready is = cc
-match_shape s bound more source (AnOption tys) (constraint.ConstPrim val) a ready is = cc
-match_shape s bound more source (AnOption tys) (constraint.Variant of variant) a ready is = cc
-match_shape s bound more source (AnOption tys) (constraint.Struct of) a ready is = cc
+match_shape s bound more source (AnOption tys) (constraint.ConstBool val) a ready is = absurd cc
+match_shape s bound more source (AnOption tys) (constraint.ConstInt val of) a ready is = absurd cc
+match_shape s bound more source (AnOption tys) (constraint.ConstPrim val) a ready is = absurd cc
+match_shape s bound more source (AnOption tys) (constraint.Variant of variant) a ready is = absurd cc
+match_shape s bound more source (AnOption tys) (constraint.Struct of) a ready is = absurd cc
 
 -- a statement and others do what a step does, and the steps after it
 abbrev AreResultSteps : Setting → List ℕ → Body → Control → Block → Type 0

@@ -4,6 +4,7 @@ use Rattle.isle_core.specs.declared.BindingId.{BindingId}
 use Rattle.isle_core.specs.declared.rule_sets.Binding.{Binding}
 use Rattle.isle_core.specs.declared.rule_sets.Binding.TheVariants as binding
 use Rattle.isle_core.specs.ArmPlaces.{bound_within}
+use Rattle.isle_core.specs.BindingParts.{over, made_parts}
 use Rattle.isle_core.specs.Bindable.{bound_by}
 use Rattle.isle_core.specs.Block.{Block, Stop, Step, Control, Match, Equal, Loop, Return, Arms, NoArm, Arm}
 use Rattle.isle_core.specs.Setting.{Setting}
@@ -13,22 +14,8 @@ use Rattle.isle_simulation.specs.Operands.{is_bound}
 
 -- the parts of a made value that needs a local: a struct without fields is a name
 abbrev pub local_parts : Option Binding → Option (List BindingId)
-local_parts (Some (binding.MakeVariant ty variant fields)) = Some fields
-local_parts (Some (binding.MakeStruct ty [])) = None
-local_parts (Some (binding.MakeStruct ty (f ∷ fs))) = Some (f ∷ fs)
-local_parts (Some (binding.ConstBool val ty)) = None
-local_parts (Some (binding.ConstInt val ty)) = None
-local_parts (Some (binding.ConstPrim val)) = None
-local_parts (Some (binding.Argument index)) = None
-local_parts (Some (binding.Extractor term parameter)) = None
-local_parts (Some (binding.Constructor term parameters instance)) = None
-local_parts (Some (binding.Iterator source)) = None
-local_parts (Some (binding.MatchVariant source variant field)) = None
-local_parts (Some (binding.ExtractStruct source field)) = None
-local_parts (Some (binding.MakeSome inner)) = None
-local_parts (Some (binding.MatchSome source)) = None
-local_parts (Some (binding.MatchTuple source field)) = None
 local_parts None = None
+local_parts (Some b) = made_parts b
 
 -- what is needed for each of some bindings in order, those before being bound
 abbrev pub each_needed : (List ℕ → BindingId → List BindingId) → List ℕ → List BindingId → List BindingId
@@ -53,21 +40,12 @@ needs s bound bs = each_needed (needed s (length s.bindings)) bound bs
 
 -- what a binding is computed from
 abbrev pub read_for : Option Binding → List BindingId
-read_for (Some (binding.Constructor term parameters instance)) = parameters
-read_for (Some (binding.MatchSome source)) = source ∷ []
-read_for (Some (binding.MakeVariant ty variant fields)) = fields
-read_for (Some (binding.MakeStruct ty fields)) = fields
-read_for (Some (binding.ConstBool val ty)) = []
-read_for (Some (binding.ConstInt val ty)) = []
-read_for (Some (binding.ConstPrim val)) = []
-read_for (Some (binding.Argument index)) = []
-read_for (Some (binding.Extractor term parameter)) = parameter ∷ []
+read_for None = []
 read_for (Some (binding.Iterator source)) = []
 read_for (Some (binding.MatchVariant source variant field)) = []
 read_for (Some (binding.ExtractStruct source field)) = []
 read_for (Some (binding.MakeSome inner)) = []
-read_for (Some (binding.MatchTuple source field)) = source ∷ []
-read_for None = []
+read_for (Some b) = over b
 
 -- what a step reads after its bindings
 abbrev pub read_by : Control → List BindingId

@@ -89,7 +89,7 @@ RunsAsBlock env t bs b f = (p : Program) (args : List Value) (m : Meaning) (spac
     → AreSameRuns env (run p (sym_text env t.name) args m space) (ran_of t (block_outcome env m args (paths_of bs) b (kind_of t.kind)))
 
 -- so of a term that answers several times: the function appends the first results of the block, as many as there is room for and at least one, and
--- makes the calls up to the last of them, or all where the room isn't used up
+-- makes the calls up to the last of them, or all if the room isn't used up
 abbrev pub RunsAsSeveral : Environment → Term → List Binding → Block → Function → Type 0
 RunsAsSeveral env t bs b f = (p : Program) (args : List Value) (m : Meaning) (space : Space)
     → function_of (sym_text env t.name) p.fns ≡ Some f → HaveTypes env args t.arg_tys → AnswersBindings env m bs → ValuesConstants env m

@@ -13,6 +13,11 @@ pub mod TraitFns
 pub mod TermFns
 pub mod OfTerm
 pub mod Bare
+pub mod OperandOf
+pub mod ReadOf
+pub mod ComputedBy
+pub mod LocalsOf
+pub mod StatementsOf
 pub mod Shape
 pub mod Emitted
 pub mod RustNames

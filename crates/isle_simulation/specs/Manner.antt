@@ -9,7 +9,7 @@ use Rattle.isle_tree.specs.Program.{Body}
 use Rattle.isle_simulation.specs.LogLines.{LogLine}
 use Rattle.isle_simulation.specs.Telling.{Telling, telling_of}
 
--- which lines stand before results, and whether the statements stand in a closure, which they leave where the list of results is full
+-- which lines stand before results, and whether the statements stand in a closure, which they leave if the list of results is full
 pub record Manner : Type 0 where
   pub telling : Telling
   pub inside : Bool

@@ -61,6 +61,6 @@ tested env constraint.Some = None
 abbrev pub is_bound : List ℕ → BindingId → Bool
 is_bound bound b = list_any (λ (n : ℕ). n == b.0) bound
 
--- the operand of a binding: its local where it is bound or made, or else what is read in place
+-- the operand of a binding: its local if it is bound or made, or else what is read in place
 abbrev pub operand_of : Environment → List Binding → List ℕ → BindingId → Option Operand
 operand_of env bs bound b = if is_bound bound b then Some (operand.Local b.0) else in_place env b.0 (at (paths_of bs) b)

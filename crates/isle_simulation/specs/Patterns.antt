@@ -21,7 +21,7 @@ abbrev pub bind_before : TBind → Option (List TBind) → Option (List TBind)
 bind_before b None = None
 bind_before b (Some bs) = Some (b ∷ bs)
 
--- the fields that places bind, under their names, by reference where they are enums or structs; there is a field for each place
+-- the fields that places bind, under their names, by reference if they are enums or structs; there is a field for each place
 abbrev pub field_binds : Environment → List (List ℕ × TypeId) → List (Option BindingId) → Option (List TBind)
 field_binds env fields [] = Some []
 field_binds env (f ∷ fields) (None ∷ places) = field_binds env fields places
@@ -40,7 +40,7 @@ abbrev pub pattern_named : Environment → Sym → Option Sym → (more : Bool) 
 pattern_named env ty (Some variant) more binds = pattern.Variant (sym_text env ty) (sym_text env variant) binds more
 pattern_named env ty None more binds = pattern.Struct (sym_text env ty) binds more
 
--- that of a form, where there is one
+-- that of a form, if there is one
 abbrev pub form_pattern : Environment → Option Form → List (Option BindingId) → Option TPat
 form_pattern env None places = None
 form_pattern env (Some f) places = option_map (pattern_named env f.ty f.variant (leaves_out (typed_fields env f.fields) places)) (field_binds env (typed_fields env f.fields) places)

@@ -52,7 +52,7 @@ extractor_at (Part part p) = None
 abbrev pub results_of : Environment → Option TermId → Option (List TypeId)
 results_of env o = option_and_then (λ (term : TermId). option_map (λ (x : Term). x.arg_tys) (slice_get env.terms term.0)) o
 
--- the type of what stands at a path, where it has one; of an option it is the type of what is within, of a list that of its items, and a tuple has
+-- the type of what stands at a path, if it has one; of an option it is the type of what is within, of a list that of its items, and a tuple has
 -- none
 abbrev pub type_at : Environment → Term → Path → Option TypeId
 type_at env t (Arg i) = slice_get t.arg_tys i

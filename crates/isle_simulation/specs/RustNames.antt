@@ -13,7 +13,7 @@ use Rattle.isle_core.specs.Terms.{sym_text}
 use Rattle.isle_spelling.specs.Identifier.{IsIdentifier}
 use Rattle.isle_spelling.specs.Names.{IsName, IsFieldName}
 
--- the name of a variant, where it is one
+-- the name of a variant, if it is one
 abbrev pub IsVariantName : Environment → Option Sym → Type 0
 IsVariantName env (Some variant) = IsIdentifier (sym_text env variant)
 IsVariantName env None = Unit {0}

@@ -1,5 +1,5 @@
 -- When statements have the shape of a block.
-use Rattle.std.specs.Prelude.{◌≡◌, ℕ, List, [], ◌∷◌, ◌++◌, Bool, true, false, Some}
+use Rattle.std.specs.Prelude.{◌≡◌, ℕ, List, [], ◌∷◌, ◌++◌, true, false, Some}
 use Rattle.isle_core.specs.declared.BindingId.{BindingId}
 use Rattle.isle_core.specs.ArmPlaces.{bound_within}
 use Rattle.isle_core.specs.Bindable.{bound_by}
@@ -18,17 +18,11 @@ use Rattle.isle_tree.specs.declared.tree.TExpr.TheVariants as expr
 use Rattle.isle_tree.specs.Program.{Stmt, Let, LetList, IfEq, IfLet, Match, Loop, Return, Extend, Overflow, Log, Split, Tail, Body, Done, Then}
 use Rattle.isle_tree.specs.Program as tree
 use Rattle.isle_simulation.specs.Bare.{bare}
-use Rattle.isle_simulation.specs.Operands.{tested, operand_of}
+use Rattle.isle_simulation.specs.OperandOf.{IsOperandOf}
+use Rattle.isle_simulation.specs.Operands.{tested}
 use Rattle.isle_simulation.specs.Patterns.{pattern_of, arm_pattern}
-use Rattle.isle_simulation.specs.Statements.{looped_local, plain_read, read_in, match_read}
-
--- the operand is that of the binding, where these are bound
-abbrev pub IsOperandOf : Setting → List ℕ → BindingId → Operand → Type 0
-IsOperandOf s bound b o = operand_of s.env s.bindings bound b ≡ Some o
-
--- what is read is the operand of the binding, as it is read where a reference is wanted or not
-abbrev pub IsReadOf : Setting → List ℕ → (wanted : Bool) → BindingId → Read → Type 0
-IsReadOf s bound wanted b r = read_in s bound wanted b ≡ Some r
+use Rattle.isle_simulation.specs.ReadOf.{IsReadOf, IsPlainOf, IsReadBy}
+use Rattle.isle_simulation.specs.Statements.{looped_local}
 
 -- the value of a binding is returned
 abbrev pub IsValueOf : Setting → List ℕ → BindingId → TExpr → Type 0
@@ -82,12 +76,12 @@ IsPatternArm s bound pat does block.NoArm = ⊥
 IsPatternArm s bound pat does (block.Arm c places body block.NoArm) = (pattern_of s.env c places ≡ Some pat) × does (bound_within bound places) body
 IsPatternArm s bound pat does (block.Arm c places body (block.Arm d others more arms)) = ⊥
 
--- what is read is what a test of this pattern reads: a reference where a variant or a struct is taken apart, and else the operand itself
+-- what is read is what a test of this pattern reads: a reference if a variant or a struct is taken apart, and else the operand itself
 abbrev pub IsTestedBy : Setting → List ℕ → BindingId → TPat → Read → Type 0
 IsTestedBy s bound b (pattern.Variant ty variant binds more) r = IsReadOf s bound true b r
 IsTestedBy s bound b (pattern.Struct ty binds more) r = IsReadOf s bound true b r
-IsTestedBy s bound b (pattern.Some local) r = plain_read (operand_of s.env s.bindings bound b) ≡ Some r
-IsTestedBy s bound b (pattern.Const o) r = plain_read (operand_of s.env s.bindings bound b) ≡ Some r
+IsTestedBy s bound b (pattern.Some local) r = IsPlainOf s bound b r
+IsTestedBy s bound b (pattern.Const o) r = IsPlainOf s bound b r
 
 -- the test by a pattern is the step's, over its source
 abbrev pub IsPatternTest : Setting → List ℕ → TPat → Read → (does : List ℕ → Block → Type 0) → Control → Type 0
@@ -100,7 +94,7 @@ IsPatternTest s bound pat r does (block.Return pos result) = ⊥
 abbrev pub IsMatchRead : Setting → List ℕ → BindingId → Arms → Read → Type 0
 IsMatchRead s bound source block.NoArm r = ⊥
 IsMatchRead s bound source (block.Arm c places body block.NoArm) r = ⊥
-IsMatchRead s bound source (block.Arm c places body (block.Arm d others more arms)) r = match_read s bound source c ≡ Some r
+IsMatchRead s bound source (block.Arm c places body (block.Arm d others more arms)) r = IsReadBy s bound source c r
 
 -- the match is the step's, over its source, and its arms are these
 abbrev pub IsMatchOf : Setting → List ℕ → Read → (do_arms : Arms → Type 0) → Control → Type 0
@@ -161,6 +155,6 @@ abbrev mutual
   DoArms s bound tree.NoArm (block.Arm c places body more) = ⊥
   DoArms s bound (tree.Arm pat inside arms) block.NoArm = ⊥
 
--- the body of a function, where nothing is bound yet
+-- the body of a function, if nothing is bound yet
 abbrev pub HasShape : Setting → Body → Block → Type 0
 HasShape s body b = AreSteps s [] (bare body) b

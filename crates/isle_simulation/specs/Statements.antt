@@ -1,4 +1,4 @@
--- The statements of a block in its setting, where all of its forms are built.
+-- The statements of a block in its setting, if all of its forms are built.
 use Rattle.std.specs.Prelude.{ℕ, List, [], ◌∷◌, ◌++◌, Bool, true, false, Option, Some, None, option_map, slice_get}
 use Rattle.std.specs.Option.{option_map_or}
 use Rattle.isle_core.specs.declared.BindingId.{BindingId}
@@ -57,14 +57,14 @@ read_before None rs = None
 abbrev pub read_in : Setting → List ℕ → (wanted : Bool) → BindingId → Option Read
 read_in s bound wanted b = option_map (read_as wanted (is_reference_in s b)) (operand_of s.env s.bindings bound b)
 
--- the operands of bindings as they are handed to parameters of these types, in order: by reference where they are enums or structs
+-- the operands of bindings as they are handed to parameters of these types, in order: by reference if they are enums or structs
 abbrev pub reads : Setting → List ℕ → List TypeId → List BindingId → Option (List Read)
 reads s bound [] [] = Some []
 reads s bound (ty ∷ tys) (b ∷ more) = read_before (read_in s bound (is_declared s.env ty) b) (reads s bound tys more)
 reads s bound [] (b ∷ more) = None
 reads s bound (ty ∷ tys) [] = None
 
--- a call of what is called on what is read, behind a & where it gives an enum or a struct
+-- a call of what is called on what is read, behind a & if it gives an enum or a struct
 abbrev pub call_on : (borrow : Bool) → Option Callee → Option (List Read) → Option TExpr
 call_on borrow (Some callee) (Some args) = Some (expr.Call borrow (record { callee = callee; args = args }))
 call_on borrow (Some callee) None = None
@@ -75,7 +75,7 @@ abbrev pub call_of : Setting → List ℕ → Option Term → Option Callee → 
 call_of s bound None callee parameters = None
 call_of s bound (Some t) callee parameters = call_on (is_declared s.env t.ret_ty) callee (reads s bound t.arg_tys parameters)
 
--- a call of the extractor of a term that is there, on what it takes apart, behind a & where its one result is an enum or a struct
+-- a call of the extractor of a term that is there, on what it takes apart, behind a & if its one result is an enum or a struct
 abbrev pub extraction_of : Setting → List ℕ → Option Term → Option Callee → BindingId → Option TExpr
 extraction_of s bound None callee parameter = None
 extraction_of s bound (Some t) callee parameter = call_on (option_map_or (is_declared s.env) (result_type (Some t)) false) callee (reads s bound (t.ret_ty ∷ []) (parameter ∷ []))
@@ -118,7 +118,7 @@ made_named env ty None (f ∷ fields) = expr.Struct (sym_text env ty) (f ∷ fie
 abbrev pub made_of : Environment → Form → List (List ℕ × Read) → TExpr
 made_of env f fields = made_named env f.ty f.variant fields
 
--- what is made of the parts, where there is such a form
+-- what is made of the parts, if there is such a form
 abbrev pub made_in : Setting → List ℕ → Option Form → List BindingId → Option TExpr
 made_in s bound None parts = None
 made_in s bound (Some f) parts = option_map (made_of s.env f) (field_reads s bound (typed_fields s.env f.fields) parts)
@@ -191,7 +191,7 @@ abbrev pub local_stmt : (often : Bool) → ℕ → TExpr → Stmt
 local_stmt true n e = list_stmt n e
 local_stmt false n e = Let n e
 
--- so where something is computed
+-- so if something is computed
 abbrev pub let_of : (often : Bool) → ℕ → Option TExpr → Option Stmt
 let_of often n e = option_map (local_stmt often n) e
 

@@ -33,7 +33,7 @@ ends_in_return Stop = false
 ends_in_return (Step bs c Stop) = is_return c
 ends_in_return (Step bs c (Step ds e more)) = ends_in_return (Step ds e more)
 
--- what the tail of a function says: nothing, or that no rule matches, with the name and the place of its term; where a
+-- what the tail of a function says: nothing, or that no rule matches, with the name and the place of its term; if a
 -- term answers several times there is no tail
 abbrev pub mark_of : ReturnKind → List ℕ → List ℕ → Option (Option (List ℕ × List ℕ))
 mark_of kind.Plain name place = Some (Some (name, place))
@@ -49,7 +49,7 @@ tail_body None = Done
 abbrev pub mark_in : Files → Environment → Term → Option (Option (List ℕ × List ℕ))
 mark_in files env t = mark_of (kind_of t.kind) (sym_text env t.name) (place_in files t.decl_pos)
 
--- what stands after the steps of the root: nothing where its last step is a Return
+-- what stands after the steps of the root: nothing if its last step is a Return
 abbrev pub tail_of : ReturnKind → List ℕ → List ℕ → Block → Body
 tail_of of name place b = if ends_in_return b then Done else tail_body (mark_of of name place)
 
@@ -57,7 +57,7 @@ tail_of of name place b = if ends_in_return b then Done else tail_body (mark_of 
 abbrev pub tail_in : Files → Environment → Term → Block → Body
 tail_in files env t b = tail_of (kind_of t.kind) (sym_text env t.name) (place_in files t.decl_pos) b
 
--- the statements of a term's function, with log lines where they are asked for
+-- the statements of a term's function, with log lines if they are asked for
 abbrev pub root_body : (options : CodegenOptions) → Files → Setting → Block → Option Body
 root_body options files s b = told_body (manner_of options files s) s [] (completed s [] b) (Some (tail_in files s.env s.term b))
 
@@ -71,10 +71,10 @@ function_with env t body = record {
   body = body;
 }
 
--- the function of a term whose block is this, where its forms are built; the files have the place of its declaration, and those of its rules
+-- the function of a term whose block is this, if its forms are built; the files have the place of its declaration, and those of its rules
 abbrev pub term_function : (options : CodegenOptions) → Files → Setting → Block → Option Function
 term_function options files s b = option_map (function_with s.env s.term) (root_body options files s b)
 
--- the log lines of a term's function, where logging is asked for: one for each Return of its block, in order
+-- the log lines of a term's function, if logging is asked for: one for each Return of its block, in order
 abbrev pub log_lines : (options : CodegenOptions) → Files → Setting → Block → List LogLine
 log_lines options files s b = if options.emit_logging then map (log_line files s) (return_positions b) else []

@@ -3,15 +3,10 @@ use Rattle.std.specs.Prelude.{List, [], ◌∷◌, Bool, Option, Some, None, map
 use Rattle.std.specs.List.{AllByRecursion, IsDistinct, cons_option}
 use Rattle.std.specs.Str.{bytes_eq}
 use Rattle.isle_base.specs.declared.ids.Sym.{Sym}
-use Rattle.isle_core.specs.declared.types.ConstructorKind.{ConstructorKind}
-use Rattle.isle_core.specs.declared.types.ConstructorKind.TheVariants as constructor
 use Rattle.isle_core.specs.declared.types.Term.{Term}
-use Rattle.isle_core.specs.declared.types.TermKind.{TermKind}
-use Rattle.isle_core.specs.declared.types.TermKind.TheVariants as kind
-use Rattle.isle_core.specs.declared.types.ExtractorKind.{ExtractorKind}
-use Rattle.isle_core.specs.declared.types.ExtractorKind.TheVariants as extractor
 use Rattle.isle_core.specs.declared.types.ReturnKind.{ReturnKind}
-use Rattle.isle_core.specs.Calling.{kind_of, extractor_kind}
+use Rattle.isle_core.specs.Calling.{kind_of}
+pub use Rattle.isle_core.specs.ExternalSig.{func_by, func_of, extracted_of}
 use Rattle.isle_core.specs.Terms.{sym_text}
 use Rattle.isle_core.specs.Rule.{Environment}
 use Rattle.isle_tree.specs.declared.tree.TraitFn.{TraitFn}
@@ -30,19 +25,7 @@ constructor_fn env t func = record {
   kind = kind_of t.kind;
 }
 
--- the symbol of an external constructor
-abbrev pub func_by : ConstructorKind → Option Sym
-func_by constructor.Absent = None
-func_by constructor.Internal = None
-func_by (constructor.External func) = Some func
-
--- that of a term of this kind
-abbrev pub func_of : TermKind → Option Sym
-func_of (kind.Decl pure multi partial recursive by extractor) = func_by by
-func_of (kind.Variant ty variant) = None
-func_of (kind.Struct ty) = None
-
--- the function of a term's external constructor, where it has one
+-- the function of a term's external constructor, if it has one
 abbrev pub constructor_fn_of : Environment → Term → Option TraitFn
 constructor_fn_of env t = option_map (constructor_fn env t) (func_of t.kind)
 
@@ -57,19 +40,7 @@ extractor_fn env t extracted = record {
   kind = extracted.1;
 }
 
--- the symbol of an external extractor, and how often it answers
-abbrev pub extracted_by : (multi : Bool) → ExtractorKind → Option (Sym × ReturnKind)
-extracted_by multi extractor.Absent = None
-extracted_by multi extractor.Internal = None
-extracted_by multi (extractor.External func infallible) = Some (func, extractor_kind multi infallible)
-
--- those of a term of this kind
-abbrev pub extracted_of : TermKind → Option (Sym × ReturnKind)
-extracted_of (kind.Decl pure multi partial recursive by extractor) = extracted_by multi extractor
-extracted_of (kind.Variant ty variant) = None
-extracted_of (kind.Struct ty) = None
-
--- the function of a term's external extractor, where it has one
+-- the function of a term's external extractor, if it has one
 abbrev pub extractor_fn_of : Environment → Term → Option TraitFn
 extractor_fn_of env t = option_map (extractor_fn env t) (extracted_of t.kind)
 

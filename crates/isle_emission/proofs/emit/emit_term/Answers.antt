@@ -5,7 +5,8 @@ use Rattle.isle_core.specs.Setting.{setting}
 use Rattle.isle_tree.specs.Views.{function}
 use Rattle.isle_emission.specs.MayEmit.{MayEmit}
 use Rattle.isle_emission.specs.Origin.{origin}
-use Rattle.isle_simulation.specs.TermFunction.{term_function}
+use Rattle.isle_simulation.specs.StatementsOf.{IsFunctionOf}
+use Rattle.isle_simulation.proofs.StatementsAre.{function_is}
 use Rattle.isle_emission.proofs.EmittedLaws.{in_range, of_item, at_item, is_well_formed, is_shaped, is_run, is_logged, is_alike}
 use Rattle.isle_emission.proofs.emit.emit_term.Goals as goal
 
@@ -29,8 +30,10 @@ returns-clause-emitted c =
     let x = c.index-as_slice-index.result in
     let is : x ≡ get_or terms c.args.term.0 x = c.index-as_slice-index.is ∙ ap (λ xs. get_or xs c.index.result x) c.as_slice-2.ensures ∙ ap (λ i. get_or terms i x) c.index.ensures in
     let o = origin c.args.files.now c.args.typeenv.now c.args.termenv.now c.args.term c.args.rules.now c.args.block.now in
+    let may = of_item terms c.args.term.0 x (λ (u : Term). MayEmit o.files (setting o.env u o.bindings) o.block) c.requires.term is in
     IfOk-weaker c.term_function.result _ _
-    (λ f given. at_item terms c.args.term.0 x _ (λ t. term_function c.args.options.now o.files (setting o.env t o.bindings) o.block ≡ Some (function f)) c.requires.term is given)
+    (λ f given. at_item terms c.args.term.0 x _ (λ t. IsFunctionOf c.args.options.now o.files (setting o.env t o.bindings) o.block (function f)) c.requires.term is
+    (function_is c.args.options.now o.files (setting o.env x o.bindings) o.block (function f) may.lawful given))
     c.term_function.ensures
 
 pub returns-clause-well_formed : goal.returns-clause-well_formed
