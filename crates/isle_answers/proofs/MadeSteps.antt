@@ -22,7 +22,7 @@ no_only f [] h = refl
 no_only f (x ∷ []) h = cc
 no_only f (x ∷ y ∷ xs) h = refl
 
--- values where none may be
+-- values if none may be
 pub none_of_some : {B : Type 0} (f : B → Written) (w : List ℕ) (vs : List B) → bytes_eq w (codes "none") ≡ true → (length vs == 0) ≡ false → None ≡ answer_is (Made w (in_order (map f vs)))
 none_of_some f w [] e h = cc
 none_of_some f w (v ∷ vs) e h = sym (ap (λ z. answer_is (Made z (in_order (map f (v ∷ vs))))) ((bytes_eq-Decides w (codes "none")).0 e))

@@ -88,7 +88,7 @@ pub law_simple_result : (n k : ℕ) → k ≤ most_open → Law (Opened k) (λ r
 unfolding read_simple_result read_simple
 law_simple_result n k l = law_next _ _ (law_word word_value a_simple (opened_word k word_value l)) (λ v. law_ret _ (λ q p. p))
 
--- after the first word, where the parenthesis is open
+-- after the first word, if the parenthesis is open
 pub law_result_after : (n k d : ℕ) → suc k + d ≡ most_open → (h : ResultHead) → Law (Opened (suc k)) (λ r. Opened k) Anything n (ResultAfterS h) (read_result_after n d h)
 unfolding read_result_after
 law_result_after n k d e TupleHead = law_next _ _ (law_values n k (read_value n d) (omega (arith, e)) (law_value n k d e)) (λ vs. law_ret _ (λ q p. p))

@@ -18,7 +18,7 @@ use Rattle.isle_answers.proofs.CaseLaws.{true_rest}
 use Rattle.isle_answers.proofs.Fuel.{law_out, takes}
 use Rattle.isle_answers.proofs.TurnValues.{onto, EndedS, turns_onto, turns_to, turns_from}
 
--- the parenthesis, where the turns are these
+-- the parenthesis, if the turns are these
 abbrev HereS : Option Turned → Turned → List Lexeme → List Lexeme → Type 0
 HereS o x ts rest = (at : ℕ) × (ts ≡ Close at ∷ rest) × (o ≡ Some x)
 

@@ -45,7 +45,7 @@ closed_turn (Some y) x next at (Less k ∷ ts) us o e f = cc
 closed_turn (Some y) x next at (Greater k ∷ ts) us o e f = cc
 closed_turn (Some y) x next at (Word k w ∷ ts) us o e f = cc
 
--- one closes where there is no rest
+-- one closes if there is no rest
 stuck_turn : (o : Option Turned) (next : Reader Turned) (ts : List Lexeme) → o ≡ None → stops (run next ts) ≡ Some (length ts) → stops (run (read_ended o next) ts) ≡ Some (length ts)
 stuck_turn None next ts o h = h
 stuck_turn (Some x) next ts o h = cc

@@ -15,7 +15,7 @@ pub data AnswerForm : Type 0 where
   Nothing : AnswerForm
   Several : List ResultForm → AnswerForm
 
--- what is answered where the arguments are these
+-- what is answered if the arguments are these
 pub record CaseForm : Type 0 where
   pub args : List Written
   pub answer : AnswerForm

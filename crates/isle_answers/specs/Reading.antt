@@ -140,7 +140,7 @@ result_is (Truth b) = Some (One (Truth b))
 result_is (Number n) = Some (One (Number n))
 result_is (Made w parts) = if bytes_eq w (codes "tuple") then Some (Tuple (listed parts)) else (if is_reserved w then None else Some (One (Made w parts)))
 
--- one result more, where there is one
+-- one result more, if there is one
 abbrev pub with_result : Option ResultForm → Option (List ResultForm) → Option (List ResultForm)
 with_result None rs = None
 with_result (Some r) rs = option_map (λ others. r ∷ others) rs
@@ -206,7 +206,7 @@ abbrev pub ended : List AnswerForm → Option Turned
 ended [] = None
 ended (last ∷ before) = option_map (λ a. (reverse before, a)) (rest_is last)
 
--- the parenthesis after the turns, where the last one is a rest, or more of them
+-- the parenthesis after the turns, if the last one is a rest, or more of them
 abbrev pub read_ended : Option Turned → Reader Turned → Reader Turned
 read_ended None more = more
 read_ended (Some turns) more = Peek is_close (bind read_close (λ c. Ret turns)) more

@@ -68,7 +68,7 @@ pub data FormS : Form → List Lexeme → List Lexeme → Type 0 where
       → callee_of name ≡ Some callee → TurnsS turns a ts rest
       → FormS (form.Turns callee turns a at) (Open at ∷ Word h w ∷ Word n name ∷ ts) rest
 
--- forms up to the end, where ( held N ) and ( max N ) may still stand, once, or may not
+-- forms up to the end, if ( held N ) and ( max N ) may still stand, once, or may not
 pub data FormsS : (held max : Bool) → List Form → List Lexeme → Type 0 where
   no_form : (held max : Bool) → FormsS held max [] []
   a_form : (held max : Bool) (f : Form) (others : List Form) (ts rest : List Lexeme) → FormS f ts rest → FormsS held max others rest → FormsS held max (f ∷ others) ts

@@ -18,7 +18,7 @@ use std::alloc::Global;
 #[derive(Clone, Copy, Debug, PartialEq, Eq)]
 pub enum AnswersFail {
     /// The start of a comment that never ends, or else the place of the first token with which no answers file begins,
-    /// or the length of the text where a token is missing.
+    /// or the length of the text if a token is missing.
     At(usize),
     Memory,
 }
@@ -38,7 +38,7 @@ fn of_tokens(alloc: Global, tokens: &[Token<'_>], end: usize) -> Result<Vec<Form
     }
 }
 
-/// Returns the forms of the answers file that a text spells, in order. `At` comes exactly where it spells none, with
+/// Returns the forms of the answers file that a text spells, in order. `At` comes exactly if it spells none, with
 /// the place where it goes wrong.
 pub fn forms(alloc: Global, text: &str) -> Result<List<Form>, AnswersFail>
     ensures spelt { IfOk result (λ read. SpellsForms text.now (forms_seen read)) }

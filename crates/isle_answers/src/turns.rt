@@ -119,7 +119,7 @@ fn rest_is(alloc: Global, turn: AnswerForm) -> Result<Option<AnswerForm>, AllocE
     }
 }
 
-// The answer in the last turn, which is taken out, where that is a rest.
+// The answer in the last turn, which is taken out, if that is a rest.
 fn ended(alloc: Global, turns: &mut Vec<AnswerForm>) -> Result<Option<AnswerForm>, AllocError>
     ensures { IfOk result (λ read.
         option_map (λ a. (map answer_seen turns.new.items, answer_seen a)) read

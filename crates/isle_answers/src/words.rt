@@ -37,7 +37,7 @@ fn name_after<'a>(word: &'a str, prefix: &str) -> Option<&'a str>
     if name.is_empty() { None } else { Some(name) }
 }
 
-/// Returns what is called, where the word is `C::F` or `constructor_T`.
+/// Returns what is called, if the word is `C::F` or `constructor_T`.
 #[tactic(auto, unfolding(crate::specs::Words::callee_of))]
 pub fn callee_of(alloc: Global, word: &str) -> Result<Option<Callee>, AllocError>
     ensures { IfOk result (λ callee. callee ≡ callee_of word.now) }

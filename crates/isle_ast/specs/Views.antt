@@ -23,7 +23,7 @@ abbrev pub patterns_of : List Pattern → Patterns
 patterns_of [] = NoPattern
 patterns_of (p ∷ ps) = APattern p (patterns_of ps)
 
--- one pattern, where those inside it are seen already
+-- one pattern, if those inside it are seen already
 abbrev pub pattern_step : AstPattern-F Pattern → Pattern
 pattern_step (code_pattern.Int n) = tree.Int n
 pattern_step (code_pattern.Bool b) = tree.Truth b
@@ -52,7 +52,7 @@ abbrev pub lets_of : List SeenBinding → Lets
 lets_of [] = NoLet
 lets_of (l ∷ ls) = ALet l.0 l.1 l.2 (lets_of ls)
 
--- one expression, where those inside it are seen already
+-- one expression, if those inside it are seen already
 abbrev pub expr_step : AstExpr-F Expr SeenBinding → Expr
 expr_step (code_expr.Int n) = tree.Number n
 expr_step (code_expr.Bool b) = tree.Fact b
@@ -74,7 +74,7 @@ abbrev pub anys_of : List Any → Anys
 anys_of [] = NoAny
 anys_of (a ∷ more) = AnAny a (anys_of more)
 
--- one thing, where those inside it are seen already
+-- one thing, if those inside it are seen already
 abbrev pub any_step : AstAny-F Any → Any
 any_step (code_any.Word w) = tree.Word w
 any_step code_any.At = tree.At

@@ -18,7 +18,7 @@ use Rattle.isle_blocks.proofs.GroupLaws.{gathered_groups}
 
 -- ---- one arm after another
 
--- where others are arms of the groups that are left, these before them are arms of all
+-- if others are arms of the groups that are left, these before them are arms of all
 abbrev pub ArmsLeft : Ground → BindingId → List ℕ → (all left : List (Constraint × List Way)) → List SeenArm → Type 0
 ArmsLeft g source bound all left arms =
     (js : List (Constraint × Way)) (more : Arms) → AreGroups js all → ((others : List (Constraint × Way)) → AreGroups others left → AreTrees g source others bound more) → AreTrees g source js bound (arms_before arms more)

@@ -100,6 +100,6 @@ module _ (env : Environment) (m : Meaning) (args : List Value) (bs : List Bindin
     several_arms_most (Arm c places body arms) free h known g =
         either_most (meets env m c h) (several_ask env m args bs body known g) (arms_several env m args bs arms h known g) (asked_calls env bs body) (asked_arms env bs arms) (several_most body free.0 known g) (several_arms_most arms free.1 h known g)
 
-  -- where a block has no Loop, a run makes no more than the block has
+  -- if a block has no Loop, a run makes no more than the block has
   pub several_asks_most : (b : Block) → HasNoLoop b → several_run_asks env m args bs b ≤ asked_calls env bs b
   several_asks_most b free = several_most b free nothing_known nothing_given

@@ -41,7 +41,8 @@ use Rattle.isle_blocks.proofs.ItemPaths.{item_path}
 use Rattle.isle_blocks.proofs.LeftCounts.{both_kinds}
 use Rattle.isle_blocks.proofs.NeedsAsked.{plain, IsClosed}
 use Rattle.isle_blocks.proofs.NextLaws.{FindsNext, HasNext, has_none, has_inner, has_item, has_next, finds_next}
-use Rattle.isle_blocks.proofs.PlacesRead.{place, places, map_has, at_place, places_closed}
+use Rattle.isle_blocks.proofs.MappedLists.{map_has}
+use Rattle.isle_blocks.proofs.PlacesRead.{place, places, at_place, places_closed}
 use Rattle.isle_blocks.proofs.Reorders.{reorder_all}
 use Rattle.isle_blocks.proofs.StepsAsked.{inner, IsFollowed, unasked, by_inner, by_item, IsCallRead, IsRuleRead}
 use Rattle.isle_blocks.proofs.TreeAsked.{rooms, IsWayRead, AreWaysRead, tree_asks}
@@ -195,7 +196,7 @@ module _ (env : Environment) (t : Term) (s : RuleSet) (several : Bool) (shown : 
   ways_read (w ∷ ws) [] is ready h = absurd h
   ways_read (w ∷ ws) (l ∷ ls) is ready h = (way_read w l is.0 ready.0 h.0, ways_read ws ls is.1 ready.1 h.1)
 
-  -- where nothing is bound, no more is left than the lists are long
+  -- if nothing is bound, no more is left than the lists are long
   all_rooms : (ls : List (List Path)) → rooms s.bindings [] (map (places ps) ls) ≤ lengths ls
   all_rooms [] = omega arith
   all_rooms (l ∷ ls) =

@@ -65,7 +65,7 @@ behind_fewer ps tests more done bound less h = record {
   struct = λ q ty field p e k. h.struct q ty field p e (less (Is p (constraint.Struct ty)) k);
 }
 
--- so where more is bound
+-- so if more is bound
 pub behind_grows : (ps : List Path) (tests : List Test) (done : List Path) (bound more : List ℕ) → Keeps bound more → IsBehind ps tests done bound → IsBehind ps tests done more
 behind_grows ps tests done bound more keeps h = record {
   call = λ q k. keeps q.0 (h.call q k);
@@ -132,7 +132,7 @@ behind_test bs found counts inners f g once tests bound c there h = record {
 abbrev Adds : List Path → BindingId → Path → List ℕ → Type 0
 Adds ps c p more = (q : BindingId) → at ps q ≡ p → Contains more q.0
 
--- after a call, where its inner value and its item are bound, if they stand anywhere
+-- after a call, if its inner value and its item are bound, if they stand anywhere
 pub behind_next : (ps : List Path) (tests : List Test) (done : List Path) (bound more : List ℕ) (c : BindingId) → EachOnce ps → IsThere (at ps c) → Keeps bound more → Contains more c.0 → Adds ps c (Inner (at ps c)) more → Adds ps c (Chosen (at ps c)) more
     → IsBehind ps tests done bound → IsBehind ps tests (at ps c ∷ done) more
 behind_next ps tests done bound more c once there keeps call inner item h = record {

@@ -124,7 +124,7 @@ module _ (env : Environment) (t : Term) (bs : List Binding) (tests : List Test) 
         plain = ap list_before is.1;
       }
 
-  -- what stands after a call, where its item is not bound yet
+  -- what stands after a call, if its item is not bound yet
   next_anew : (c : BindingId) (bound : List ℕ) (kind : ReturnKind) → list_before (slice_get bs c.0) ≡ None → HasNext bs next c kind → (kind ≡ return_kind.Iterator → (b : BindingId) → slice_get bs b.0 ≡ Some (binding.Iterator c) → Contains bound b.0 → ⊥) → AreAnew OfAny bs bound (with_inner (next c.0) c)
   next_anew c bound return_kind.Plain plain (has_none e no_inner no_item) new = subst (λ o. AreAnew OfAny bs bound (with_inner o c)) (sym e) (plain_anew OfAny bs bound c plain, tt)
   next_anew c bound return_kind.Option plain (has_inner b e is path no_item) new =

@@ -19,7 +19,7 @@ use Rattle.isle_core.proofs.Contained.{none_contained}
 abbrev pub IsEach : (Path → Type 0) → List Path → Type 0
 IsEach P xs = (q : Path) → Contains xs q → P q
 
--- so of the one call of a term, where it is ordered
+-- so of the one call of a term, if it is ordered
 abbrev pub IsOfCalls : Environment → (Path → Type 0) → Type 0
 IsOfCalls env P = (term : TermId) (made : Making) (ps : Paths) (instance : ℕ) → IsEach P (if_ordered env (calling env term) (term_path made term ps instance))
 

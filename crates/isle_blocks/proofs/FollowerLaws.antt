@@ -9,7 +9,8 @@ use Rattle.std.proofs.lemmas.Map.Lookups.{exact_unsigned}
 use Rattle.isle_core.specs.declared.BindingId.{BindingId}
 use Rattle.isle_core.specs.declared.rule_sets.Binding.{Binding}
 use Rattle.isle_core.specs.declared.rule_sets.Binding.TheVariants as binding
-use Rattle.isle_blocks.specs.Followers.{follower, inner_source, item_source, followed, earlier, source_at, FindsFollowers}
+use Rattle.isle_core.specs.BindingParts.{list_of, option_of}
+use Rattle.isle_blocks.specs.Followers.{follower, followed, earlier, source_at, FindsFollowers}
 use Rattle.isle_blocks.specs.declared.followers.Following.{Following}
 use Rattle.isle_blocks.specs.declared.followers.Following.TheVariants as following
 use Rattle.isle_blocks.proofs.PushedLists.{get_push, get_last, get_either, some_same}
@@ -24,12 +25,12 @@ eq_is a b e = exact_unsigned a b (pick (nat_cmp a b) e)
     pick Equal k = refl
     pick Greater k = cc
 
--- where a binding has a source, it is what follows it
-pub inner_is : (y : Binding) (s : BindingId) → inner_source y ≡ Some s → y ≡ binding.MatchSome s
+-- if a binding has a source, it is what follows it
+pub inner_is : (y : Binding) (s : BindingId) → option_of y ≡ Some s → y ≡ binding.MatchSome s
 inner_is (binding.MatchSome source) s e = ap binding.MatchSome (some_same source s e)
 inner_is y s e = cc
 
-item_is : (y : Binding) (s : BindingId) → item_source y ≡ Some s → y ≡ binding.Iterator s
+item_is : (y : Binding) (s : BindingId) → list_of y ≡ Some s → y ≡ binding.Iterator s
 item_is (binding.Iterator source) s e = ap binding.Iterator (some_same source s e)
 item_is y s e = cc
 

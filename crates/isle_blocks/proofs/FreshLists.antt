@@ -1,5 +1,5 @@
 -- What is bound for a rule opens each item directly after its list.
-use Rattle.std.proofs.Common.{◌≡◌, ◌⊎◌, inl, inr, ⊎_elim, ℕ, zero, suc, List, [], ◌∷◌, ◌++◌, length, Bool, true, false, cond, Option, Some, None, map, refl, sym, ap, ◌∙◌, subst}
+use Rattle.std.proofs.Common.{◌≡◌, ◌⊎◌, inl, inr, ⊎_elim, ℕ, List, [], ◌∷◌, ◌++◌, Bool, true, false, Option, Some, None, map, refl, sym, ap, ◌∙◌, subst}
 use Rattle.std.specs.Prelude.{slice_get, Contains}
 use Rattle.std.specs.List.{AllByRecursion}
 use Rattle.std.proofs.lemmas.List.Elements.{Contains-push}
@@ -14,8 +14,9 @@ use Rattle.isle_core.specs.Rule.{Environment}
 use Rattle.isle_core.specs.Serializable.{IsSerializableCall, AreSerializableCalls}
 use Rattle.isle_core.specs.Tests.{Test}
 use Rattle.isle_core.proofs.BindingPaths.{paths_there, call_at}
-use Rattle.isle_blocks.specs.Needed.{list_parts, parts_of, list_before, is_bound, each_needed, with_parts, unbound, needed, needs, parameters_of}
+use Rattle.isle_blocks.specs.Needed.{list_before, needs, parameters_of}
 use Rattle.isle_blocks.specs.Nest.{with_inner, call_binds, binds, was_bound, left_one, left_calls, left_items, behind_lists, last_binds, option_before}
+use Rattle.isle_blocks.proofs.NeedsSo.{list_plain, needs_so}
 use Rattle.isle_blocks.proofs.NextLaws.{FindsNext}
 use Rattle.isle_blocks.proofs.OpenedSteps.{FreshBy, AlwaysFresh, fresh_append}
 use Rattle.isle_blocks.proofs.PushedLists.{some_same}
@@ -51,40 +52,11 @@ pair_fresh bs c b plain which = λ fresh. pick fresh (list_before (slice_get bs 
     pick fresh None (Some source) m p d e w = cc
     pick fresh (Some list) o m p d e w = cc
 
--- what a list is made over is that of a call, also of an extractor
-list_plain : (o : Option Binding) (parts : List BindingId) → list_parts o ≡ Some parts → (list_before o ≡ None) × (option_before o ≡ None)
-list_plain (Some (binding.Constructor term parameters instance)) parts e = (refl, refl)
-list_plain (Some (binding.Extractor term parameter)) parts e = (refl, refl)
-list_plain o parts e = cc
-
--- whatever is bound before, what one needs is always fresh
-abbrev OneFresh : List Binding → (List ℕ → BindingId → List BindingId) → Type 0
-OneFresh bs one = (bound : List ℕ) (b : BindingId) → AlwaysFresh bs (one bound b)
-
-each_fresh : (bs : List Binding) (one : List ℕ → BindingId → List BindingId) → OneFresh bs one → (bound : List ℕ) (reads : List BindingId) → AlwaysFresh bs (each_needed one bound reads)
-each_fresh bs one h bound [] = fresh_none bs
-each_fresh bs one h bound (b ∷ reads) = fresh_append bs (one bound b) (each_needed one (bound_by bound (one bound b)) reads) (h bound b) (each_fresh bs one h (bound_by bound (one bound b)) reads)
-
-parts_fresh : (bs : List Binding) (one : List ℕ → BindingId → List BindingId) → OneFresh bs one → (bound : List ℕ) (itself : List BindingId) (o : Option (List BindingId)) → ((parts : List BindingId) → o ≡ Some parts → AlwaysFresh bs itself) → AlwaysFresh bs (with_parts one bound itself o)
-parts_fresh bs one h bound itself None k = fresh_none bs
-parts_fresh bs one h bound itself (Some parts) k = fresh_append bs (each_needed one bound parts) itself (each_fresh bs one h bound parts) (k parts refl)
-
-unbound_fresh : (bs : List Binding) (one : List ℕ → BindingId → List BindingId) → OneFresh bs one → (bound : List ℕ) (b : BindingId) (o : Option Binding) → slice_get bs b.0 ≡ o → AlwaysFresh bs (unbound bs one bound b o)
-unbound_fresh bs one h bound b (Some (binding.Iterator source)) e =
-    parts_fresh bs one h bound (source ∷ b ∷ []) (list_parts (slice_get bs source.0))
-    (λ parts is. let plain = list_plain (slice_get bs source.0) parts is in pair_fresh bs source b (record { no_item = plain.0; no_inner = plain.1 }) (inr (ap list_before e)))
-unbound_fresh bs one h bound b o e = parts_fresh bs one h bound (b ∷ []) (parts_of bs o) (λ parts is. plain_fresh bs b (ap list_before e))
-
-needed_fresh : (bs : List Binding) (depth : ℕ) → OneFresh bs (needed bs depth)
-needed_fresh bs zero bound b = fresh_none bs
-needed_fresh bs (suc depth) bound b = pick (is_bound bound b) (unbound_fresh bs (needed bs depth) (needed_fresh bs depth) bound b (slice_get bs b.0) refl)
-  where
-    pick : (x : Bool) → AlwaysFresh bs (unbound bs (needed bs depth) bound b (slice_get bs b.0)) → AlwaysFresh bs (cond x [] (unbound bs (needed bs depth) bound b (slice_get bs b.0)))
-    pick true k = fresh_none bs
-    pick false k = k
-
 pub needs_fresh : (bs : List Binding) (bound : List ℕ) (reads : List BindingId) → AlwaysFresh bs (needs bs bound reads)
-needs_fresh bs bound reads = each_fresh bs (needed bs (length bs)) (needed_fresh bs (length bs)) bound reads
+needs_fresh bs bound reads =
+    needs_so bs (AlwaysFresh bs) (fresh_none bs) (fresh_append bs)
+    (λ b source parts e is. let plain = list_plain (slice_get bs source.0) parts is in pair_fresh bs source b (record { no_item = plain.0; no_inner = plain.1 }) (inr (ap list_before e)))
+    (λ b o parts e none is. plain_fresh bs b (ap list_before e ∙ none)) bound reads
 
 -- ---- calls
 

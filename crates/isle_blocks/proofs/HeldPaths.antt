@@ -53,7 +53,7 @@ arguments_none NoCall n e = e
 module _ (env : Environment) (l : List Path) (somewhere : Contains l Nowhere → ⊥) where
   -- ---- what the list holds
 
-  -- a path of the list with what it is made over, and with its item where it calls a term that answers several times
+  -- a path of the list with what it is made over, and with its item if it calls a term that answers several times
   pub record IsHeld (p : Path) : Type 0 where
     pub itself : Contains l p
     pub over : IsOver l p
@@ -65,7 +65,7 @@ module _ (env : Environment) (l : List Path) (somewhere : Contains l Nowhere →
   IsTestHeld (Equal p q) = Contains l p × Contains l q
   IsTestHeld (HasItem p) = Unit {0}
 
-  -- a call, with its inner value where it may be answered by nothing
+  -- a call, with its inner value if it may be answered by nothing
   pub record IsCallHeld (p : Path) : Type 0 where
     pub itself : Contains l p
     pub inner : (term : TermId) (qs : Paths) (instance : ℕ) → p ≡ Called term qs instance → is_fallible (calling env term) ≡ true → Contains l (Inner p)
@@ -191,7 +191,7 @@ module _ (env : Environment) (l : List Path) (somewhere : Contains l Nowhere →
     places : ArePlacedSo IsHeld variables
     tests : AllByRecursion IsTestHeld ts
 
-  -- what takes a path apart is called, where it is, and its answer stands in the list
+  -- what takes a path apart is called, if it is, and its answer stands in the list
   abbrev IsOpened : Opening → Path → Type 0
   IsOpened (AsVariant ty variant) p = Unit {0}
   IsOpened (AsStruct ty) p = Unit {0}

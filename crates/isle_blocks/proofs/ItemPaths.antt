@@ -1,23 +1,16 @@
 -- The paths of items, and of the lists that they stand after.
-use Rattle.std.proofs.Common.{◌≡◌, ℕ, ◌<◌, zero, suc, List, [], ◌∷◌, get_or, take, Some, refl, sym, ap, ◌∙◌, subst, arith}
+use Rattle.std.proofs.Common.{◌≡◌, ◌<◌, List, take, Some, sym, ap, ◌∙◌, subst}
 use Rattle.std.specs.Prelude.{slice_get}
 use Rattle.std.proofs.lemmas.List.{get_or-take}
 use Rattle.isle_core.specs.declared.BindingId.{BindingId}
 use Rattle.isle_core.specs.declared.rule_sets.Binding.{Binding}
 use Rattle.isle_core.specs.declared.rule_sets.Binding.TheVariants as binding
 use Rattle.isle_core.specs.Path.{Path, Nowhere, Chosen, at, path_over, paths_of}
-use Rattle.isle_core.proofs.BindingPaths.{IsThere, at_before, binding_at}
+use Rattle.isle_core.proofs.BindingPaths.{IsThere, at_before, binding_at, taken}
 
 -- an item after its list
 pub item_path : (bs : List Binding) (source b : BindingId) → slice_get bs b.0 ≡ Some (binding.Iterator source) → source.0 < b.0 → at (paths_of bs) b ≡ Chosen (at (paths_of bs) source)
 item_path bs source b e lt = at_before bs b (binding.Iterator source) e ∙ ap Chosen (get_or-take b.0 (paths_of bs) source.0 Nowhere lt)
-
--- one among the first n paths
-pub taken : (ps : List Path) (n i : ℕ) → IsThere (get_or (take n ps) i Nowhere) → (i < n) × (get_or (take n ps) i Nowhere ≡ get_or ps i Nowhere)
-taken ps zero i h = absurd h
-taken [] (suc n) i h = absurd h
-taken (p ∷ ps) (suc n) zero h = (omega arith, refl)
-taken (p ∷ ps) (suc n) (suc i) h = let r = taken ps n i h in (omega (arith, r.0), r.1)
 
 -- where an item stands, its list stands before it
 pub item_at : (bs : List Binding) (b : BindingId) (p : Path) → IsThere p → at (paths_of bs) b ≡ Chosen p

@@ -86,7 +86,7 @@ unless_goes Absent known made P is = is
 unless_goes (One i) known made P is = is
 unless_goes (Listed is') known made P is = is
 
--- two runs that are the same where this holds
+-- two runs that are the same if this holds
 then_kept : (w : Went) (P : Known → List Made → Type 0) (f g : Known → List Made → Went) → IfGoes w P → ((known : Known) (made : List Made) → P known made → f known made ≡ g known made) → then_go w f ≡ then_go w g
 then_kept (Goes known made) P f g p h = h known made p
 then_kept (Ends o) P f g p h = refl

@@ -1,4 +1,4 @@
--- The first rule that holds, of rules in falling order, is the highest that holds of them in any order, where no two of one priority hold.
+-- The first rule that holds, of rules in falling order, is the highest that holds of them in any order, if no two of one priority hold.
 use Rattle.std.proofs.Common.{◌≡◌, ◌⊎◌, ⊎_elim, List, [], ◌∷◌, Bool, true, false, cond, Option, Some, None, refl, sym, ap, ◌∙◌, subst, arith}
 use Rattle.std.specs.Prelude.{Contains, ℤ}
 use Rattle.std.specs.Ordering.{int_cmp, is_lt}
@@ -23,7 +23,7 @@ record IsHighest (ok : FlatRule → Bool) (fs : List FlatRule) (f : FlatRule) : 
   holds : ok f ≡ true
   above : (g : FlatRule) → Contains fs g → ok g ≡ true → is_above g f ≡ false
 
--- where there is none, none holds
+-- if there is none, none holds
 abbrev IsTop : (FlatRule → Bool) → List FlatRule → Option FlatRule → Type 0
 IsTop ok fs None = (g : FlatRule) → Contains fs g → ok g ≡ true → ⊥
 IsTop ok fs (Some f) = IsHighest ok fs f

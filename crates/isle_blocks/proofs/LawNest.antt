@@ -36,7 +36,7 @@ if_inside false c x y z e = refl
 abbrev pub step_run : Environment → Meaning → List Value → List Path → SeenStep → Went
 step_run env m args ps s = then_go (bind_all env m args ps s.0 nothing_known []) (control_run env m args ps s.1)
 
--- a step does y where tests hold, and goes on elsewhere
+-- a step does y if tests hold, and goes on elsewhere
 abbrev pub DoesWhere : Environment → Meaning → List Value → List Path → SeenStep → List Test → Went → Type 0
 DoesWhere env m args ps s ts y = step_run env m args ps s ≡ cond (all_hold env m (value_at env m args nothing_known) ts) y (Goes nothing_known [])
 

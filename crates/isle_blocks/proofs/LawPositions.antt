@@ -26,7 +26,7 @@ use Rattle.isle_blocks.proofs.LawNest.{AllHold, hold_more, step_run}
 
 -- ---- one step
 
--- where a step returns at first
+-- if a step returns at first
 abbrev pub step_position : Environment → Meaning → List Value → List Path → SeenStep → Option Pos
 step_position env m args ps s = then_position (bind_all env m args ps s.0 nothing_known []) (control_position env m args ps s.1)
 
@@ -53,7 +53,7 @@ if_within : (b c : Bool) (x : Option Pos) (y : Option Pos) → (b ≡ true → x
 if_within true c x y e = e refl
 if_within false c x y e = refl
 
--- a step returns at y where tests hold, and nowhere else
+-- a step returns at y if tests hold, and nowhere else
 abbrev pub ReturnsWhere : Environment → Meaning → List Value → List Path → SeenStep → List Test → Option Pos → Type 0
 ReturnsWhere env m args ps s ts y = step_position env m args ps s ≡ cond (all_hold env m (value_at env m args nothing_known) ts) y None
 

@@ -58,7 +58,7 @@ eqb_self n = true_of (eqb n n) (eqb_refl n)
     true_of true t = refl
     true_of false t = absurd t
 
--- one less, where it is one of them and not used before
+-- one less, if it is one of them and not used before
 first_one : (kind : ℕ → Bool) (used : List ℕ) (k : ℕ) (l : List ℕ) → kind k ≡ true → is_used used k ≡ false → suc (left_of kind (used ++ k ∷ []) (k ∷ l)) ≤ left_of kind used (k ∷ l)
 first_one kind used k l of_kind free =
     let rest = push_less kind used k l in

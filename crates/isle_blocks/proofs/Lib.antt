@@ -19,6 +19,7 @@ pub mod OrderItems
 pub mod NeededBound
 pub mod NeededItems
 pub mod OpenedSteps
+pub mod NeedsSo
 pub mod FreshLists
 pub mod MadeBefore
 pub mod LawBinds
@@ -53,6 +54,7 @@ pub mod TreeItems
 pub mod TreeTests
 pub mod TreeMerged
 pub mod TreeMakes
+pub mod MappedLists
 pub mod MovedTests
 pub mod TurnLaws
 pub mod ArrangedWays

@@ -1,5 +1,5 @@
 -- Tests that may be made in one order may be made in another one in which parts are tested after what they are part of.
-use Rattle.std.proofs.Common.{◌≡◌, ◌⊎◌, inl, inr, ⊎_elim, ℕ, zero, suc, ◌+◌, ◌<◌, ◌≤◌, List, [], ◌∷◌, ◌++◌, map, take, get_or, Option, Some, None, refl, sym, ◌∙◌, subst, arith}
+use Rattle.std.proofs.Common.{◌≡◌, ◌⊎◌, inl, inr, ⊎_elim, ℕ, zero, suc, ◌+◌, ◌<◌, ◌≤◌, List, [], ◌∷◌, ◌++◌, map, take, Option, Some, None, refl, sym, ◌∙◌, subst, arith}
 use Rattle.std.specs.Prelude.{Contains, slice_get}
 use Rattle.std.specs.List.{AllByRecursion}
 use Rattle.isle_core.specs.declared.BindingId.{BindingId}
@@ -15,10 +15,13 @@ use Rattle.isle_core.specs.RuleSet.{is_test}
 use Rattle.isle_core.specs.Serializable.{StandsWithin, StandsCalled, StandsOn, AllStandOn, IsTest, IsTestable, AreTestable}
 use Rattle.isle_core.specs.StandsFor.{EachOnce}
 use Rattle.isle_core.specs.Tests.{Test, Is}
-use Rattle.isle_core.proofs.BindingPaths.{IsThere, at_before, place_once, binding_at, path_there, option_there}
+use Rattle.isle_core.proofs.BindingPaths.{IsThere, at_before, place_once, binding_at, path_there, option_there, taken}
 use Rattle.isle_core.proofs.Contained.{head_contained, tail_contained, contained_cases, none_contained}
-use Rattle.isle_blocks.specs.Turns.{over, turn_at, TurnsRise, rank}
+use Rattle.isle_core.proofs.RulePairs.{all_from, all_at}
+use Rattle.isle_core.specs.BindingParts.{over}
+use Rattle.isle_blocks.specs.Turns.{turn_at, TurnsRise, rank}
 use Rattle.isle_blocks.proofs.LawBound.{came_behind, came_holds, came_from}
+use Rattle.isle_blocks.proofs.MappedLists.{map_among}
 
 -- ---- what a path needs
 
@@ -141,7 +144,7 @@ mutual
 
 -- ---- more tests
 
--- where some tests are among others, what may be tested after those may be tested after these
+-- if some tests are among others, what may be tested after those may be tested after these
 pub testable_more : (env : Environment) (t : Term) (ps : List Path) (tests more : List Test) (c : BindingId × Constraint) → ((x : Test) → Contains tests x → Contains more x) → IsTestable env t ps tests c → IsTestable env t ps more c
 testable_more env t ps tests more c h k = record {
   test = k.test;
@@ -191,12 +194,6 @@ RanksRise turns (c ∷ cs) = RanksFrom turns c.0 cs × RanksRise turns cs
 
 -- ---- parts stand after what they are part of
 
-among_taken : (ps : List Path) (n i : ℕ) → IsThere (get_or (take n ps) i Nowhere) → (i < n) × (get_or (take n ps) i Nowhere ≡ get_or ps i Nowhere)
-among_taken ps zero i h = absurd h
-among_taken [] (suc n) i h = absurd h
-among_taken (p ∷ ps) (suc n) zero h = (omega arith, refl)
-among_taken (p ∷ ps) (suc n) (suc i) h = let r = among_taken ps n i h in (omega (arith, r.0), r.1)
-
 is_there : (P : Type 0) (p : Path) → (p ≡ Nowhere → P) → (IsThere p → P) → P
 is_there P Nowhere none there = none refl
 is_there P (Arg i) none there = there tt
@@ -224,7 +221,7 @@ module _ (bs : List Binding) (turns : List ℕ) (rise : TurnsRise bs turns) (onc
 
   part_before : (i : ℕ) (x : Binding) (part : BindingId) → slice_get bs i ≡ Some x → Contains (over x) part → IsBefore i (at (take i ps) part)
   part_before i x part is among b e there =
-      let t = among_taken ps i part.0 there in
+      let t = taken ps i part.0 there in
       let same : b.0 ≡ part.0 = place_once ps b.0 part.0 once (subst IsThere (sym e) there) (e ∙ t.1) in
       (subst (λ n. n < i) (sym same) t.0, subst (λ n. turn_at turns n ≤ turn_at turns i) (sym same) (rise i x part is among t.0))
 
@@ -238,7 +235,7 @@ module _ (bs : List Binding) (turns : List ℕ) (rise : TurnsRise bs turns) (onc
       is_there (AllWithin (IsBefore i) p) p
       (λ e. subst (AllWithin (IsBefore i)) (sym e) tt)
       (λ there.
-      let t = among_taken ps i part.0 there in
+      let t = taken ps i part.0 there in
       let later = rise i x part is among t.0 in
       subst (AllWithin (IsBefore i)) (sym t.1)
       (within_map (IsBefore part.0) (IsBefore i) (λ q h b e k. let r = h b e k in (omega (arith, r.0, t.0), omega (arith, r.1, later))) (at ps part) (before part t.0)))
@@ -296,10 +293,6 @@ module _ (bs : List Binding) (turns : List ℕ) (rise : TurnsRise bs turns) (onc
       (λ j. let r = one_of cs p d j in record { source = r.source; there = tail_contained c cs (r.source, d) r.there; path = r.path })
       (contained_cases (is_test ps c) (map (is_test ps) cs) (Is p d) i)
 
-  in_one : (P : BindingId × Constraint → Type 0) (cs : List (BindingId × Constraint)) (c : BindingId × Constraint) → AllByRecursion P cs → Contains cs c → P c
-  in_one P [] c h i = absurd (none_contained c i)
-  in_one P (x ∷ cs) c h i = ⊎_elim (λ (e : x ≡ c). subst P e h.0) (λ j. in_one P cs c h.1 j) (contained_cases x cs c i)
-
   test_there : (env : Environment) (t : Term) (p : Path) (d : Constraint) → IsTest env t p d → IsThere p
   test_there env t p constraint.Some h = option_there env t p h.0 h.1
   test_there env t p (constraint.ConstBool val) h = path_there env t p h.ty h.path
@@ -327,9 +320,9 @@ module _ (bs : List Binding) (turns : List ℕ) (rise : TurnsRise bs turns) (onc
       made p h d i = ⊎_elim (λ j. j)
           (λ j.
           let one = one_of (c ∷ cs) p d j in
-          let there = subst IsThere one.path (test_there env t (at ps one.source) d (in_one (IsTestable env t ps all) (c ∷ cs) (one.source, d) each one.there).test) in
+          let there = subst IsThere one.path (test_there env t (at ps one.source) d (all_at (IsTestable env t ps all) (c ∷ cs) (one.source, d) each one.there).test) in
           let less = h one.source one.path there in
-          absurd (rank_less one.source c.0 less.0 less.1 (in_one (λ (x : BindingId × Constraint). rank turns c.0 ≤ rank turns x.0) (c ∷ cs) (one.source, d) (omega arith, rises.0) one.there)))
+          absurd (rank_less one.source c.0 less.0 less.1 (all_at (λ (x : BindingId × Constraint). rank turns c.0 ≤ rank turns x.0) (c ∷ cs) (one.source, d) (omega arith, rises.0) one.there)))
           (left (Is p d) i)
 
   -- ---- the law
@@ -341,19 +334,7 @@ module _ (bs : List Binding) (turns : List ℕ) (rise : TurnsRise bs turns) (onc
       let all = came_behind [] (map (is_test ps) early) in
       let each = each_testable env t ps [] early (testable_first env t ps [] early late h) in
       testable_both env t ps [] sorted late
-      (testable_rising env t all [] sorted rises (each_from sorted (λ c i. in_one (IsTestable env t ps all) early c each (from c i))) (λ x i. inr (mapped to early (λ c k. k) x (⊎_elim (λ j. absurd (none_contained x j)) (λ j. j) (came_from [] (map (is_test ps) early) x i)))))
+      (testable_rising env t all [] sorted rises (all_from (IsTestable env t ps all) sorted (λ c i. all_at (IsTestable env t ps all) early c each (from c i))) (λ x i. inr (map_among (is_test ps) early sorted to x (⊎_elim (λ j. absurd (none_contained x j)) (λ j. j) (came_from [] (map (is_test ps) early) x i)))))
       (all_testable_more env t ps all (came_behind [] (map (is_test ps) sorted)) late
-      (λ x i. came_holds [] (map (is_test ps) sorted) x (inr (mapped to early (λ c k. k) x (⊎_elim (λ j. absurd (none_contained x j)) (λ j. j) (came_from [] (map (is_test ps) early) x i)))))
+      (λ x i. came_holds [] (map (is_test ps) sorted) x (inr (map_among (is_test ps) early sorted to x (⊎_elim (λ j. absurd (none_contained x j)) (λ j. j) (came_from [] (map (is_test ps) early) x i)))))
       (testable_rest env t ps [] early late h))
-    where
-      each_from : {P : BindingId × Constraint → Type 0} (cs : List (BindingId × Constraint)) → ((c : BindingId × Constraint) → Contains cs c → P c) → AllByRecursion P cs
-      each_from [] f = tt
-      each_from (c ∷ cs) f = (f c (head_contained c cs), each_from cs (λ x i. f x (tail_contained c cs x i)))
-
-      map_keeps : (cs : List (BindingId × Constraint)) (c : BindingId × Constraint) → Contains cs c → Contains (map (is_test ps) cs) (is_test ps c)
-      map_keeps [] c i = absurd (none_contained c i)
-      map_keeps (d ∷ cs) c i = ⊎_elim (λ (e : d ≡ c). subst (λ x. Contains (is_test ps d ∷ map (is_test ps) cs) (is_test ps x)) e (head_contained (is_test ps d) (map (is_test ps) cs))) (λ j. tail_contained (is_test ps d) (map (is_test ps) cs) (is_test ps c) (map_keeps cs c j)) (contained_cases d cs c i)
-
-      mapped : ((c : BindingId × Constraint) → Contains early c → Contains sorted c) → (cs : List (BindingId × Constraint)) → ((c : BindingId × Constraint) → Contains cs c → Contains early c) → (x : Test) → Contains (map (is_test ps) cs) x → Contains (map (is_test ps) sorted) x
-      mapped f [] g x i = absurd (none_contained x i)
-      mapped f (c ∷ cs) g x i = ⊎_elim (λ (e : is_test ps c ≡ x). subst (Contains (map (is_test ps) sorted)) e (map_keeps sorted c (f c (g c (head_contained c cs))))) (λ j. mapped f cs (λ d k. g d (tail_contained c cs d k)) x j) (contained_cases (is_test ps c) (map (is_test ps) cs) x i)

@@ -14,6 +14,7 @@ use Rattle.isle_blocks.specs.AskedCalls.{if_pure, asked_one, asked_binds}
 use Rattle.isle_blocks.specs.Needed.{parts_of, list_before, with_list, is_bound, each_needed, with_parts, unbound, needed, needs}
 use Rattle.isle_blocks.specs.Nest.{option_before}
 use Rattle.isle_blocks.proofs.LeftCounts.{is_used, used_push, left_of, push_less, push_one}
+use Rattle.isle_blocks.proofs.NeedsSo.{no_inner}
 use Rattle.isle_blocks.proofs.OrderItems.{AllUnder, under_append, under_more}
 use Rattle.isle_blocks.proofs.PushedBinds.{bound_append}
 
@@ -39,12 +40,6 @@ item_not_asked env o source e = cc
 pub inner_not_asked : (env : Environment) (o : Option Binding) (source : BindingId) → option_before o ≡ Some source → asked_one env o ≡ 0
 inner_not_asked env (Some (binding.MatchSome option)) source e = refl
 inner_not_asked env o source e = cc
-
--- what is bound where it is first read is no inner value
-no_inner : (bs : List Binding) (o : Option Binding) (parts : List BindingId) → parts_of bs o ≡ Some parts → option_before o ≡ None
-no_inner bs (Some (binding.MatchSome source)) parts e = cc
-no_inner bs (Some y) parts e = refl
-no_inner bs None parts e = refl
 
 -- an item stands after its list
 item_form : (o : Option Binding) (source : BindingId) → list_before o ≡ Some source → o ≡ Some (binding.Iterator source)
@@ -123,7 +118,7 @@ module _ (env : Environment) (bs : List Binding) (l : List ℕ) where
         under = λ n k. let low = k.0 in under_append n (one bound b) (each_needed one (bound_by bound (one bound b)) reads) (under_more (suc b.0) n (one bound b) (omega (arith, low)) r.under) (rest.under n k.1);
       }
 
-  -- the binding itself, directly after its list where it is an item
+  -- the binding itself, directly after its list if it is an item
   itself_asks : IsClosed bs l → (bound : List ℕ) (b : BindingId) (o : Option BindingId) → Contains l b.0 → is_used bound b.0 ≡ false → plain bs b.0 ≡ true → list_before (slice_get bs b.0) ≡ o → OneAsks bound b (with_list o b)
   itself_asks closed bound b None c free is e =
       let one = push_one (plain bs) bound b.0 l c is free in
@@ -141,7 +136,7 @@ module _ (env : Environment) (bs : List Binding) (l : List ℕ) where
   split b [] h = (tt, tt)
   split b (p ∷ parts) h = let k = split b parts h.1 in ((h.0.0, k.0), (h.0.1, k.1))
 
-  -- what is needed for one, where this is what is needed for its parts
+  -- what is needed for one, if this is what is needed for its parts
   behind_parts : IsClosed bs l → (one : List ℕ → BindingId → List BindingId) → ((bound : List ℕ) (b : BindingId) → Contains l b.0 → OneAsks bound b (one bound b)) → (bound : List ℕ) (b : BindingId) → Contains l b.0 → is_bound bound b ≡ false
       → (o : Option (List BindingId)) → parts_of bs (slice_get bs b.0) ≡ o → OneAsks bound b (with_parts one bound (with_list (list_before (slice_get bs b.0)) b) o)
   behind_parts closed one ok bound b c free None e = nothing_asks bound b

@@ -18,7 +18,7 @@ use Rattle.isle_blocks.specs.Followers.{FindsInners, FindsItems}
 use Rattle.isle_blocks.specs.Nest.{next_of, or_later}
 use Rattle.isle_blocks.proofs.ItemPaths.{item_path, item_at}
 
--- by the number of a call, the number of its inner value or of its item, where there is one after it
+-- by the number of a call, the number of its inner value or of its item, if there is one after it
 pub record FindsNext (bs : List Binding) (next : ℕ → Option BindingId) : Type 0 where
   pub found : (c b : BindingId) → next c.0 ≡ Some b → ((slice_get bs b.0 ≡ Some (binding.MatchSome c)) ⊎ (slice_get bs b.0 ≡ Some (binding.Iterator c))) × (c.0 < b.0)
   pub inner : (source b : BindingId) → slice_get bs b.0 ≡ Some (binding.MatchSome source) → source.0 < b.0 → (e : BindingId) × (next source.0 ≡ Some e)
@@ -39,7 +39,7 @@ finds_next bs inners items f g = record {
     behind source b e lt None = g.all source b e lt
     behind source b e lt (Some d) = (d, refl)
 
--- a call has an inner value exactly where it may be nothing, and an item exactly where it answers several times
+-- a call has an inner value exactly if it may be nothing, and an item exactly if it answers several times
 pub data HasNext (bs : List Binding) (next : ℕ → Option BindingId) (c : BindingId) : ReturnKind → Type 0 where
   has_none : next c.0 ≡ None → (Contains (paths_of bs) (Inner (at (paths_of bs) c)) → ⊥) → (Contains (paths_of bs) (Chosen (at (paths_of bs) c)) → ⊥) → HasNext bs next c return_kind.Plain
   has_inner : (b : BindingId) → next c.0 ≡ Some b → slice_get bs b.0 ≡ Some (binding.MatchSome c) → at (paths_of bs) b ≡ Inner (at (paths_of bs) c) → (Contains (paths_of bs) (Chosen (at (paths_of bs) c)) → ⊥)

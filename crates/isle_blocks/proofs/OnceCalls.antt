@@ -22,7 +22,7 @@ use Rattle.isle_blocks.proofs.EachOrdered.{IsEach, IsOfCalls, rule_calls_each}
 
 -- ---- calls that answer several times
 
--- a path that holds an impure call, where it answers several times
+-- a path that holds an impure call, if it answers several times
 abbrev IsLate : Environment → Path → Type 0
 IsLate env q = calls_multi env q ≡ true → holds_impure env q ≡ true
 

@@ -1,4 +1,4 @@
--- What may be bound or opened: an item by a Loop, an inner value by a Match where the term answers several times.
+-- What may be bound or opened: an item by a Loop, an inner value by a Match if the term answers several times.
 use Rattle.std.proofs.Common.{◌≡◌, ℕ, List, [], ◌∷◌, ◌++◌, true, false, Option, Some, refl, sym, ◌∙◌}
 use Rattle.std.specs.Prelude.{slice_get, Contains}
 use Rattle.isle_core.specs.declared.BindingId.{BindingId}

@@ -121,7 +121,7 @@ module _ (s : Setting) where
       let first = occurrence_at s.env (at (paths_in s) b) in
       ((one, h.0), new_both made first (calls step.0) more new h.1, subst (λ ks. IsLawfulControl s (bound_by (bound ++ b.0 ∷ []) step.0) ks step.1 Stop) (append_assoc made first (calls step.0)) h.2, tt)
 
-  -- so where it may be opened
+  -- so if it may be opened
   open_lawful : (o : Option Binding) (bound made more : List ℕ) (b : BindingId) (step : SeenStep) → slice_get s.bindings b.0 ≡ o → IsOpenable s bound (at (paths_in s) b) o → AreNew made (occurrence_at s.env (at (paths_in s) b) ++ more)
       → IsLawfulAlone s (bound ++ b.0 ∷ []) (made ++ occurrence_at s.env (at (paths_in s) b)) step → IsLawfulAlone s bound made (open_one o b step)
   open_lawful (Some (binding.Iterator source)) bound made more b step e one new h =
@@ -145,7 +145,7 @@ module _ (s : Setting) where
 
 -- ---- loops
 
--- each item is opened where its list was bound since the last Loop
+-- each item is opened if its list was bound since the last Loop
 abbrev pub FreshBy : (list option : Option BindingId) → (fresh : List ℕ) → BindingId → (List ℕ → Type 0) → Type 0
 FreshBy (Some list) option fresh b rest = Contains fresh list.0 × rest []
 FreshBy None (Some source) fresh b rest = rest fresh

@@ -35,7 +35,7 @@ NoItems bs order = AllByRecursion (λ (b : BindingId). list_before (slice_get bs
 abbrev pub ItemsBound : List Binding → List Path → List ℕ → Type 0
 ItemsBound bs qs bound = (q : Path) → Contains qs q → (b : BindingId) → at (paths_of bs) b ≡ Chosen q → Contains bound b.0
 
--- where they are, none is opened anew
+-- if they are, none is opened anew
 pub no_items : (env : Environment) (t : Term) (bs : List Binding) (qs : List Path) (order : List BindingId) (bound : List ℕ) → ItemsBound bs qs bound → AreOpenable (setting env t bs) bound order → AreItemsNew qs bs bound order → NoItems bs order
 no_items env t bs qs [] bound items ready new = tt
 no_items env t bs qs (b ∷ order) bound items ready new =

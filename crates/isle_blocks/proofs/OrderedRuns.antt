@@ -63,7 +63,7 @@ pub make_grows : (env : Environment) (m : Meaning) (args : List Value) (p : Path
 make_grows env m args (Called term ps n) known made = call_grows m (calling env term) n (values_at env m args known ps) known made
 make_grows env m args p known made = grows_self known
 
--- what follows calls, where this holds
+-- what follows calls, if this holds
 pub behind_kept : (w : Went) (g : Given) (P : Known → Type 0) (one other : Known → Given → Given) → IfGoes w (λ k d. P k) → ((k : Known) (so : Given) → P k → one k so ≡ other k so) → behind_calls w g one ≡ behind_calls w g other
 behind_kept (Goes known made) g P one other p h = h known (record { results = g.results; calls = made }) p
 behind_kept (Ends o) g P one other p h = refl

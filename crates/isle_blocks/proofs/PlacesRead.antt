@@ -9,13 +9,13 @@ use Rattle.isle_core.specs.declared.rule_sets.Binding.TheVariants as binding
 use Rattle.isle_core.specs.Path.{Path, Nowhere, at, at_all, path_over, paths_of}
 use Rattle.isle_core.specs.SamePath.{same_path}
 use Rattle.isle_core.specs.StandsFor.{EachOnce}
-use Rattle.isle_core.proofs.BindingPaths.{IsThere, at_before, contains_at, paths_count, place_once}
+use Rattle.isle_core.proofs.BindingPaths.{IsThere, at_before, contains_at, paths_count, place_once, taken}
 use Rattle.isle_core.proofs.Contained.{head_contained, tail_contained, contained_cases, none_contained}
 use Rattle.isle_core.proofs.RulePairs.{all_at}
 use Rattle.isle_core.proofs.SamePathLaws.{same_sound, same_self}
 use Rattle.isle_blocks.specs.Needed.{list_parts, parts_of}
 use Rattle.isle_blocks.specs.RuleReads.{AllAmong, IsOver}
-use Rattle.isle_blocks.proofs.ItemPaths.{taken}
+use Rattle.isle_blocks.proofs.MappedLists.{map_has}
 use Rattle.isle_blocks.proofs.NeedsAsked.{IsClosed}
 
 -- ---- the place of a path
@@ -54,12 +54,6 @@ place_is ps i p once h e =
     sym (place_once ps i (place ps p) once (subst IsThere (sym e) h) (e ∙ sym there))
 
 -- ---- lists of places
-
-pub map_has : {A B : Type 0} (f : A → B) (xs : List A) (x : A) → Contains xs x → Contains (map f xs) (f x)
-map_has f [] x c = absurd (none_contained x c)
-map_has f (y ∷ xs) x c = ⊎_elim
-    (λ (same : y ≡ x). subst (λ z. Contains (map f (y ∷ xs)) (f z)) same (head_contained (f y) (map f xs)))
-    (λ d. tail_contained (f y) (map f xs) (f x) (map_has f xs x d)) (contained_cases y xs x c)
 
 of_path : (ps l : List Path) (n : ℕ) → Contains (places ps l) n → (p : Path) × Contains l p × (place ps p ≡ n)
 of_path ps [] n c = absurd (none_contained n c)

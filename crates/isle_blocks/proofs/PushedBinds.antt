@@ -44,7 +44,7 @@ pub needed_parts : (bs : List Binding) (depth less : ℕ) (bound : List ℕ) (b 
 needed_parts bs depth less bound b parts is free has =
     ap (with_parts (needed bs less) bound (with_list (list_before (slice_get bs b.0)) b)) has ∙ ap (λ c. cond c [] (unbound bs (needed bs less) bound b (slice_get bs b.0))) (sym free) ∙ ap (λ d. needed bs d bound b) (sym is)
 
--- nothing, where it is bound
+-- nothing, if it is bound
 pub needed_none : (bs : List Binding) (depth : ℕ) (bound : List ℕ) (b : BindingId) → is_bound bound b ≡ true → needed bs depth bound b ≡ []
 needed_none bs zero bound b is = refl
 needed_none bs (suc depth) bound b is = ap (λ c. cond c [] (unbound bs (needed bs depth) bound b (slice_get bs b.0))) is

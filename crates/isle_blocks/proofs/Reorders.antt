@@ -104,7 +104,7 @@ pub reorder_same : {A : Type 0} (xs : List A) → IsReordered xs xs
 reorder_same [] = nothing
 reorder_same (x ∷ xs) = more x xs xs (x ∷ xs) (reorder_same xs) (here xs)
 
--- what is left where one is taken away
+-- what is left if one is taken away
 put_left : {A : Type 0} (x y : A) (ys zs us vs : List A) → x ≡ y → us ≡ vs → PutIn x ys us → PutIn y zs vs → IsReordered ys zs
 put_left x y ys zs us vs e h (here ys') (here zs') = let tail : ys ≡ zs = cc in subst (IsReordered ys) tail (reorder_same ys)
 put_left {A} x y ys zs us vs e h (here ys') (later w zs' vs' k) =

@@ -117,7 +117,7 @@ module _ (env : Environment) (t : Term) (bs : List Binding) (items : ℕ → Opt
   split [] ys h = (tt, h)
   split (x ∷ xs) ys h = let r = split xs ys h.1 in ((h.0, r.0), r.1)
 
-  -- a list that holds no impure call is opened where its item is bound
+  -- a list that holds no impure call is opened if its item is bound
   one_opened : (l : BindingId) → IsSerializableList env t tests (paths_of bs) (map (at (paths_of bs)) f.ordered) l → holds_impure env (at (paths_of bs) l) ≡ false → (called : Bool) → is_bound (bound_by [] f.ordered) l ≡ called → (o : Option BindingId) → items l.0 ≡ o
       → AllBound (left_item called o) → Contains opened (at (paths_of bs) l)
   one_opened l h e true is o k all =

@@ -84,7 +84,7 @@ module _ (env : Environment) (t : Term) (bs : List Binding) (found : FieldKey �
   abbrev all_at : Meaning → List Value → Known → List Test → Bool
   all_at m args known xs = all_hold env m (value_at env m args known) xs
 
-  -- a step loops over these lists after those that were opened, and adds there where these tests hold what the rule's part adds
+  -- a step loops over these lists after those that were opened, and adds there if these tests hold what the rule's part adds
   pub record Adds (opened' : List Path) (step : SeenStep) (left : List Test) (qs : List Path) : Type 0 where
     pub adds : Meaning → List Value → Known → Given → Given
     pub run : (m : Meaning) (args : List Value) (known : Known) (g : Given) → several_run env m args ps (alone step) known g ≡ each_choice env m args qs known g (λ now so. cond (all_at m args now left) (adds m args now so) so)

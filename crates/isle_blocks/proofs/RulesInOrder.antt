@@ -30,7 +30,7 @@ module _ (env : Environment) (ps : List Path) where
       (λ j. ⊎_elim (λ l. Contains-append_left xs (ys ++ zs) k l) (λ l. Contains-append_right xs (ys ++ zs) k (Contains-append_right ys zs k l)) (Contains-append_cases xs zs k (put_calls f gs' hs' k i j)))
       (Contains-append_cases ys (of_rules hs') k c)
 
-  -- each stands once where it does there
+  -- each stands once if it does there
   put_once : (f : FlatRule) (gs hs : List FlatRule) → PutIn f gs hs → EachOnce (of_rule f ++ of_rules gs) → EachOnce (of_rules hs)
   put_once f gs hs (here gs') h = h
   put_once f gs hs (later g gs' hs' i) h =

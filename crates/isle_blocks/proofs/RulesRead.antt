@@ -34,7 +34,7 @@ use Rattle.isle_blocks.specs.AskedBound.{AsksAtMost, HavePaths}
 use Rattle.isle_blocks.specs.AskedCalls.{asked_calls}
 use Rattle.isle_blocks.specs.RuleReads.{IsOver, IsCallAmong, IsListAmong, HoldsReads, HoldAllReads, lengths}
 use Rattle.isle_blocks.proofs.HeldPaths.{IsHeld, IsTestHeld, IsRuleHeld, rule_held}
-use Rattle.isle_blocks.proofs.PlacesRead.{map_has}
+use Rattle.isle_blocks.proofs.MappedLists.{map_has}
 
 -- ---- bindings stand somewhere
 

@@ -31,7 +31,7 @@ leads_more g ws made count old mid new steps all s longer h l = λ more k.
 pub leads_all : (g : Ground) (ws : List Way) (made : ℕ) (old new : List ℕ) (steps : List SeenStep) → length ws ≤ made → LeadsTo g ws made old new steps → IsTree g ws old (steps_before steps Stop)
 leads_all g ws made old new steps le h = h Stop (subst (λ vs. IsTree g vs new Stop) (sym (drop_all made ws le)) (tree.none new))
 
--- or where one may be the last
+-- or if one may be the last
 pub leads_end : (g : Ground) (ws vs : List Way) (w : Way) (made : ℕ) (old mid : List ℕ) (steps all : List SeenStep) (s : SeenStep) → all ≡ steps ++ s ∷ [] → LeadsTo g ws made old mid steps → MayEnd g (drop made ws) mid s → drop made ws ≡ w ∷ vs
     → Ends g w → IsTree g ws old (steps_before all Stop)
 leads_end g ws vs w made old mid steps all s longer h may is ends =
@@ -78,7 +78,7 @@ starts_not w v is none = found w.early.now (none ∙ ap (λ (u : CodeWay). slice
 pub first_same : (v w : Way) (vs ws : List Way) → v ∷ vs ≡ w ∷ ws → v ≡ w
 first_same v w vs ws e = cc
 
--- where something of a way is left, it has tests
+-- if something of a way is left, it has tests
 something_left : (g : Ground) (w : Way) → w.early ≡ [] → (Ends g w → ⊥) → g.several ≡ false → no_tests w.late w.rule.equals ≡ false
 something_left g w early goes several = pick w.late w.rule.equals refl refl
   where

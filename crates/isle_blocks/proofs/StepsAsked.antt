@@ -97,7 +97,7 @@ abbrev pub inner : List Binding → ℕ → Bool
 inner bs n = cond (plain bs n) false true
 
 module _ (env : Environment) (bs : List Binding) (l : List ℕ) where
-  -- where a call is one of an extractor or a pure term, its inner value is in the list, and not used yet
+  -- if a call is one of an extractor or a pure term, its inner value is in the list, and not used yet
   abbrev IsPaired : List ℕ → BindingId → Type 0
   IsPaired used c = (asked_one env (slice_get bs c.0) ≡ 0) ⊎ ((b : BindingId) × (slice_get bs b.0 ≡ Some (binding.MatchSome c)) × Contains l b.0 × (is_used used b.0 ≡ false))
 
@@ -132,7 +132,7 @@ module _ (env : Environment) (bs : List Binding) (l : List ℕ) where
   -- ---- ordered calls
 
   module _ (next : ℕ → Option BindingId) (finds : FindsNext bs next) where
-    -- what a call is made on is in the list; and where it is pure, what stands directly after it is its inner value, which is in the list, or its item
+    -- what a call is made on is in the list; and if it is pure, what stands directly after it is its inner value, which is in the list, or its item
     pub data IsFollowed (c : BindingId) : Type 0 where
       unasked : asked_one env (slice_get bs c.0) ≡ 0 → IsFollowed c
       by_inner : (b : BindingId) → next c.0 ≡ Some b → slice_get bs b.0 ≡ Some (binding.MatchSome c) → Contains l b.0 → IsFollowed c
@@ -195,7 +195,7 @@ module _ (env : Environment) (bs : List Binding) (l : List ℕ) where
     left_read bound [] h = tt
     left_read bound (c ∷ cs) h = one_read (was_bound next bound c) c (left_calls next bound cs) h.0 (left_read bound cs h.1)
 
-    -- where no item is bound, each call has its inner value
+    -- if no item is bound, each call has its inner value
     followed_paired : (c : BindingId) → HasNoItem bs (with_inner (next c.0) c) → IsFollowed c → IsPaired [] c
     followed_paired c plain' (unasked none) = inl none
     followed_paired c plain' (by_inner b e is k) = inr (b, is, k, refl)

@@ -22,7 +22,7 @@ abbrev pub StillBinds : Environment → List Binding → (ℕ → Option Binding
 StillBinds env bs next [] bound = Unit {0}
 StillBinds env bs next (c ∷ cs) bound = AreStill env (paths_of bs) (needs bs bound (parameters_of (slice_get bs c.0))) × StillBinds env bs next cs (bound_by bound (call_binds bs next bound c))
 
--- a call that tests bound is pure, and where it has an inner value, it was tested that there is one
+-- a call that tests bound is pure, and if it has an inner value, it was tested that there is one
 pub record WasTested (env : Environment) (bs : List Binding) (next : ℕ → Option BindingId) (tests : List Test) (c : BindingId) : Type 0 where
   pub uncalled : occurrence_at env (at (paths_of bs) c) ≡ []
   pub found : (b : BindingId) → next c.0 ≡ Some b → at (paths_of bs) b ≡ Inner (at (paths_of bs) c) → Contains tests (Is (at (paths_of bs) c) constraint.Some)

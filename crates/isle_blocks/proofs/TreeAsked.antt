@@ -30,7 +30,7 @@ abbrev pub rooms : List Binding → List ℕ → List (List ℕ) → ℕ
 rooms bs bound [] = 0
 rooms bs bound (l ∷ ls) = room bs bound l + rooms bs bound ls
 
--- no more is left where more is bound
+-- no more is left if more is bound
 order_rooms : (bs : List Binding) (bound : List ℕ) (order : List BindingId) (ls : List (List ℕ)) → rooms bs (bound_by bound order) ls ≤ rooms bs bound ls
 order_rooms bs bound order [] = omega arith
 order_rooms bs bound order (l ∷ ls) = let one = order_less (plain bs) l bound order in let rest = order_rooms bs bound order ls in omega (arith, one, rest)

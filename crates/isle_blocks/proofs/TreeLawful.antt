@@ -265,7 +265,7 @@ module _ (several : Bool) (env : Environment) (t : Term) (s : RuleSet) (found : 
   rules_append [] ws = refl
   rules_append (v ∷ vs) ws = ap (λ fs. v.rule ∷ fs) (rules_append vs ws)
 
-  -- where a way's step is a Return in a term that answers once, nothing follows it
+  -- if a way's step is a Return in a term that answers once, nothing follows it
   own_ends : (w : Way) (bound : List ℕ) (more : Block) → (several ≡ false → no_tests w.late w.rule.equals ≡ false) → IsReturn (way_step g w bound).1 → gives_several st ≡ false → more ≡ Stop
   own_ends w bound more tested = pick several refl tested
     where

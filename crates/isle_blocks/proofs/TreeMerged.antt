@@ -1,5 +1,5 @@
--- A tree is merged: where steps of a rule's own aren't a Match of a source whose tests are shared, no two neighbours are a Match of such a source.
-use Rattle.std.proofs.Common.{◌≡◌, ⊎_elim, ℕ, zero, suc, List, [], ◌∷◌, ◌++◌, Bool, true, false, cond, Option, Some, None, length, refl, sym, ap, ◌∙◌, subst}
+-- A tree is merged: if steps of a rule's own aren't a Match of a source whose tests are shared, no two neighbours are a Match of such a source.
+use Rattle.std.proofs.Common.{◌≡◌, ⊎_elim, ℕ, List, [], ◌∷◌, ◌++◌, Bool, true, false, Option, Some, None, refl, sym, ap, ◌∙◌, subst}
 use Rattle.std.specs.Prelude.{slice_get}
 use Rattle.std.specs.List.{AllByRecursion}
 use Rattle.isle_core.specs.declared.BindingId.{BindingId}
@@ -14,10 +14,11 @@ use Rattle.isle_core.specs.Block.{Block, Stop, Step, Control, Match, Equal, Loop
 use Rattle.isle_core.specs.BlockViews.{SeenStep}
 use Rattle.isle_core.proofs.AllLaws.{all_append}
 use Rattle.isle_blocks.specs.Merged.{NoMatchNext, AreNeighboursApart, IsNewArm, IsMergedOver, IsMergedControl, AreMergedArms}
-use Rattle.isle_blocks.specs.Needed.{is_bound, list_before, list_parts, parts_of, each_needed, with_parts, unbound, needed, needs, parameters_of}
+use Rattle.isle_blocks.specs.Needed.{list_before, needs, parameters_of}
 use Rattle.isle_blocks.specs.Nest.{Shows, Behind, alone, open_by, opening, opened, option_before, with_inner, call_binds, binds, left_one, was_bound, left_calls, behind_lists, left_items, last_binds, last_step, all_matched, all_equated}
 use Rattle.isle_blocks.specs.Tree.{Way, Ground, way_step, Tests, AllTest, Parts, none, same, other, TestsFirst, StartApart, IsTree, own, last, shared, AreTrees, no_arm, arm}
 use Rattle.isle_blocks.proofs.FreshLists.{IsPlainAt, ArePlainAt}
+use Rattle.isle_blocks.proofs.NeedsSo.{no_inner, list_plain, needs_so}
 use Rattle.isle_blocks.proofs.NextLaws.{FindsNext}
 
 -- ---- a rule's own step
@@ -93,7 +94,7 @@ module _ (Shared : BindingId → Type 0) where
 
   -- ---- what stands first in it
 
-  -- where a Match would open a binding, its tests aren't shared
+  -- if a Match would open a binding, its tests aren't shared
   abbrev InnerApart : List Binding → BindingId → Type 0
   InnerApart bs b = (source : BindingId) → option_before (slice_get bs b.0) ≡ Some source → Shared source → ⊥
 
@@ -116,45 +117,14 @@ module _ (Shared : BindingId → Type 0) where
   opened_apart true bs order c h k = opening_apart bs order c (h refl) k
   opened_apart false bs order c h k = k
 
-  -- what is needed is no inner value
-  no_inner : (bs : List Binding) (o : Option Binding) (parts : List BindingId) → parts_of bs o ≡ Some parts → option_before o ≡ None
-  no_inner bs (Some (binding.MatchSome source)) parts e = cc
-  no_inner bs (Some y) parts e = refl
-  no_inner bs None parts e = refl
-
-  list_no_inner : (o : Option Binding) (parts : List BindingId) → list_parts o ≡ Some parts → option_before o ≡ None
-  list_no_inner (Some (binding.Constructor term parameters instance)) parts e = refl
-  list_no_inner (Some (binding.Extractor term parameter)) parts e = refl
-  list_no_inner o parts e = cc
-
   both_apart : (bs : List Binding) (xs ys : List BindingId) → AllApart bs xs → AllApart bs ys → AllApart bs (xs ++ ys)
   both_apart bs xs ys h k = all_append (InnerApart bs) xs ys h k
 
-  each_apart : (bs : List Binding) (one : List ℕ → BindingId → List BindingId) → ((bound : List ℕ) (b : BindingId) → AllApart bs (one bound b)) → (bound : List ℕ) (reads : List BindingId) → AllApart bs (each_needed one bound reads)
-  each_apart bs one h bound [] = tt
-  each_apart bs one h bound (b ∷ reads) = both_apart bs (one bound b) (each_needed one (bound_by bound (one bound b)) reads) (h bound b) (each_apart bs one h (bound_by bound (one bound b)) reads)
-
-  parts_apart : (bs : List Binding) (one : List ℕ → BindingId → List BindingId) → ((bound : List ℕ) (b : BindingId) → AllApart bs (one bound b)) → (bound : List ℕ) (itself : List BindingId) (o : Option (List BindingId))
-      → ((parts : List BindingId) → o ≡ Some parts → AllApart bs itself) → AllApart bs (with_parts one bound itself o)
-  parts_apart bs one h bound itself None k = tt
-  parts_apart bs one h bound itself (Some parts) k = both_apart bs (each_needed one bound parts) itself (each_apart bs one h bound parts) (k parts refl)
-
-  unbound_apart : (bs : List Binding) (one : List ℕ → BindingId → List BindingId) → ((bound : List ℕ) (b : BindingId) → AllApart bs (one bound b)) → (bound : List ℕ) (b : BindingId) (o : Option Binding) → slice_get bs b.0 ≡ o → AllApart bs (unbound bs one bound b o)
-  unbound_apart bs one h bound b (Some (binding.Iterator source)) e =
-      parts_apart bs one h bound (source ∷ b ∷ []) (list_parts (slice_get bs source.0))
-      (λ parts is. (plain_apart bs source (list_no_inner (slice_get bs source.0) parts is), (plain_apart bs b (ap option_before e), tt)))
-  unbound_apart bs one h bound b o e = parts_apart bs one h bound (b ∷ []) (parts_of bs o) (λ parts is. (plain_apart bs b (ap option_before e ∙ no_inner bs o parts is), tt))
-
-  needed_apart : (bs : List Binding) (depth : ℕ) (bound : List ℕ) (b : BindingId) → AllApart bs (needed bs depth bound b)
-  needed_apart bs zero bound b = tt
-  needed_apart bs (suc depth) bound b = pick (is_bound bound b) (unbound_apart bs (needed bs depth) (needed_apart bs depth) bound b (slice_get bs b.0) refl)
-    where
-      pick : (x : Bool) → AllApart bs (unbound bs (needed bs depth) bound b (slice_get bs b.0)) → AllApart bs (cond x [] (unbound bs (needed bs depth) bound b (slice_get bs b.0)))
-      pick true k = tt
-      pick false k = k
-
+  -- what is needed is no inner value
   needs_apart : (bs : List Binding) (bound : List ℕ) (reads : List BindingId) → AllApart bs (needs bs bound reads)
-  needs_apart bs bound reads = each_apart bs (needed bs (length bs)) (needed_apart bs (length bs)) bound reads
+  needs_apart bs bound reads =
+      needs_so bs (AllApart bs) tt (both_apart bs) (λ b source parts e is. (plain_apart bs source (list_plain (slice_get bs source.0) parts is).1, (plain_apart bs b (ap option_before e), tt)))
+      (λ b o parts e none is. (plain_apart bs b (ap option_before e ∙ no_inner bs o parts is), tt)) bound reads
 
   -- ---- calls
 
@@ -252,7 +222,7 @@ module _ (g : Ground) (Shared : BindingId → Type 0) (Own : Way → Type 0) (ow
   split_of c js others ws (same j more rest vs e k) h = let r = split_of c more rest vs k h.1 in record { same_own = (h.0, r.same_own); others_own = r.others_own; apart = r.apart }
   split_of c js others ws (other j more rest vs e k) h = let r = split_of c more rest vs k h.1 in record { same_own = r.same_own; others_own = (h.0, r.others_own); apart = (e, r.apart) }
 
-  -- where all have another constraint, so has the first of a constraint, and so have the others
+  -- if all have another constraint, so has the first of a constraint, and so have the others
   first_other : (c d : Constraint) (js others : List (Constraint × Way)) (w : Way) (ws : List Way) → Parts d js (w ∷ ws) others → AllByRecursion (λ (j : Constraint × Way). j.0 ≡ c → ⊥) js → d ≡ c → ⊥
   first_other c d js others w ws (same j more rest vs e k) h same' = h.0 (e ∙ same')
   first_other c d js others w ws (other j more rest vs e k) h same' = first_other c d more rest w ws k h.1 same'

@@ -1,4 +1,4 @@
--- A tree of rules of a term that answers once returns where the first of them does that holds.
+-- A tree of rules of a term that answers once returns if the first of them does that holds.
 use Rattle.std.proofs.Common.{◌≡◌, ℕ, List, [], ◌∷◌, ◌++◌, Bool, true, false, cond, ◌&&◌, Option, Some, None, map, refl, sym, ap, ◌∙◌, subst}
 use Rattle.std.specs.Prelude.{Contains}
 use Rattle.std.specs.List.{list_all}
@@ -77,7 +77,7 @@ module _ (env : Environment) (t : Term) (m : Meaning) (args : List Value) (s : R
   abbrev returns_at : Option FlatRule → Option Pos
   returns_at o = rule_position env m args ps o
 
-  -- a way without early tests: its step returns where its rule does, where that holds
+  -- a way without early tests: its step returns if its rule does, if that holds
   own_returns : (before : List Test) (bound : List ℕ) (w : Way) → IsWithin env ps before bound → IsAfter env t s before w → list_all holds_now before ≡ true → w.early ≡ []
       → step_position env m args ps (way_step g w bound) ≡ cond (ok w.rule) (returns_at (Some w.rule)) None
   own_returns before bound w k h e none_left =

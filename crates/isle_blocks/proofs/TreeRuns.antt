@@ -46,7 +46,7 @@ use Rattle.isle_blocks.specs.Arranged.{rules_of}
 
 -- ---- runs
 
--- what the first way gives that holds; where none does, a run goes on
+-- what the first way gives that holds; if none does, a run goes on
 abbrev pub went : Environment → Meaning → List Value → List Path → Option FlatRule → Went
 went env m args ps None = Goes nothing_known []
 went env m args ps (Some f) = flat_run env m args ps f
@@ -61,7 +61,7 @@ one_holds p (y ∷ xs) x e c = split (p y) refl e (contained_cases y xs x c) (λ
     split true is e (inr k) more = more e k
     split false is e k more = absurd cc
 
--- tests hold where each does
+-- tests hold if each does
 pub each_holds : (p : Test → Bool) (xs : List Test) → ((x : Test) → Contains xs x → p x ≡ true) → list_all p xs ≡ true
 each_holds p [] h = refl
 each_holds p (x ∷ xs) h = ap (λ b. b && list_all p xs) (h x (head_contained x xs)) ∙ each_holds p xs (λ y c. h y (tail_contained x xs y c))
@@ -108,7 +108,7 @@ module _ (env : Environment) (t : Term) (m : Meaning) (args : List Value) (s : R
   abbrev ok : FlatRule → Bool
   ok f = flat_holds env m args ps f
 
-  -- where the tests made hold, a rule holds where those that are left do
+  -- if the tests made hold, a rule holds if those that are left do
   pub way_holds : (before : List Test) (w : Way) → IsAfter env t s before w → list_all holds_now before ≡ true
       → ok w.rule ≡ list_all holds_now (left_tests ps w) && list_all holds_now (map (equal_test ps) w.rule.equals)
   way_holds before w h e =
@@ -118,7 +118,7 @@ module _ (env : Environment) (t : Term) (m : Meaning) (args : List Value) (s : R
       (λ all. each_holds holds_now (left_tests ps w) (λ x c. one_holds holds_now (constraint_tests ps w.rule) x all (h.only x (came_holds before (left_tests ps w) x (inr c)))))
       (λ all. each_holds holds_now (constraint_tests ps w.rule) (λ x c. one_holds holds_now (came_behind before (left_tests ps w)) x (came_hold holds_now before (left_tests ps w) e all) (h.made x c))))
 
-  -- a way without early tests: its step gives what its rule does where it holds
+  -- a way without early tests: its step gives what its rule does if it holds
   pub own_does : (before : List Test) (bound : List ℕ) (w : Way) → IsWithin env ps before bound → IsAfter env t s before w → list_all holds_now before ≡ true → w.early ≡ []
       → step_run env m args ps (way_step g w bound) ≡ cond (ok w.rule) (flat_run env m args ps w.rule) (Goes nothing_known [])
   own_does before bound w k h e none_left =
@@ -182,7 +182,7 @@ module _ (env : Environment) (t : Term) (m : Meaning) (args : List Value) (s : R
       unmet false e' = e'
       unmet true e' = absurd (not_is (apart nothing_known (at ps source) j.0 c h.0.1 put e' e))
 
-  -- where it isn't, those of it don't
+  -- if it isn't, those of it don't
   pub unmet_others : (before : List Test) (source : BindingId) (c : Constraint) (js others : List (Constraint × Way)) (ws : List Way) → Parts c js ws others → AreLeft env t s before source js → meets env m c (here source) ≡ false
       → first ok (left_of js) ≡ first ok (left_of others)
   unmet_others before source c js others ws none h e = refl
@@ -208,7 +208,7 @@ module _ (env : Environment) (t : Term) (m : Meaning) (args : List Value) (s : R
   rules_append [] ws = refl
   rules_append (v ∷ vs) ws = ap (λ fs. v.rule ∷ fs) (rules_append vs ws)
 
-  -- a run that goes on where no rule holds
+  -- a run that goes on if no rule holds
   pub then_first : (o p : Option FlatRule) (more : Known → List Made → Went) → more nothing_known [] ≡ went env m args ps p → then_go (went env m args ps o) more ≡ went env m args ps (cond (some o) o p)
   then_first None p more e = e
   then_first (Some f) p more e = result_ends (run_calls env m args (map (at ps) f.ordered) nothing_known []) env m args (at ps f.result) more

@@ -172,7 +172,7 @@ module _ (env : Environment) (t : Term) (s : RuleSet) (found : FieldKey → Opti
       ap (flats_add env m args ps xs) (adds_nothing env m args ps x.rule x.lists h.0.test nothing_known so (order_free env m args x.lists [] (λ k. holds_at env m args k h.0.test) early.0.order (unlisted_free env m args h.0.test h.0.unlisted)) h.0.there h.0.fails)
       ∙ out_adds m args xs so h.1 early.1
 
-  -- where impure calls of other rules are known
+  -- if impure calls of other rules are known
   module _ (m : Meaning) (args : List Value) (known : Known) (ks : List ℕ) (knows : KnowsOnly ks known) where
     -- a test that holds at first holds
     holds_first : (x : Test) → IsUnlisted x → holds_at env m args nothing_known x ≡ true → holds_at env m args known x ≡ true
@@ -194,7 +194,7 @@ module _ (env : Environment) (t : Term) (s : RuleSet) (found : FieldKey → Opti
           others_out apart before source c rest os vs k h.1 unlisted put met,
         )
 
-    -- where it isn't, its own are
+    -- if it isn't, its own are
     same_out : (before : List Test) (source : BindingId) (c : Constraint) (js others : List (Constraint × Way)) (ws : List Way) → Parts c js ws others → AreLeft env t s before source js → ListsWithin [] (at (paths_of s.bindings) source)
         → meets env m c (value_at env m args known (at (paths_of s.bindings) source)) ≡ false → AllByRecursion (IsOut m args) (rules_of ws)
     same_out before source c js others ws none h unlisted unmet = tt
@@ -245,7 +245,7 @@ module _ (env : Environment) (t : Term) (s : RuleSet) (found : FieldKey → Opti
 
   -- ---- what is added
 
-  -- these rules in some order, each over its lists, are what a block adds where the tests made hold
+  -- these rules in some order, each over its lists, are what a block adds if the tests made hold
   pub record IsAdded (before : List Test) (fs : List FlatRule) (b : Block) : Type 0 where
     pub order : List Over
     pub rules : IsReordered fs (rules_over order)
@@ -360,7 +360,7 @@ module _ (env : Environment) (t : Term) (s : RuleSet) (found : FieldKey → Opti
               ∙ sym (flats_append env m args ps one.order rest.order so));
         }
 
-  -- a tree of ways none of whose tests is made adds what the rules of the set add, where the ways are those of the set's rules
+  -- a tree of ways none of whose tests is made adds what the rules of the set add, if the ways are those of the set's rules
   pub tree_adds : (ws : List Way) (b : Block) → IsTree g ws [] b → IsReordered s.rules (rules_of ws) → AreAfter env t s [] ws → AllByRecursion (IsSeveralWay env (paths_of s.bindings)) ws → AddsSeveral env s b
   tree_adds ws b tree rules h ways =
       let all = tree_added ws [] b [] tree (within_none env ps) (opened_none bs) tt h ways in

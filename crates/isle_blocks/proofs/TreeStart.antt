@@ -15,7 +15,6 @@ use Rattle.isle_core.specs.Rule.{Environment}
 use Rattle.isle_core.specs.RuleSet.{is_test}
 use Rattle.isle_core.specs.Serializable.{AreTestable, IsSerializableRule}
 use Rattle.isle_core.specs.StandsFor.{EachOnce}
-use Rattle.isle_core.specs.Tests.{Test}
 use Rattle.isle_core.proofs.Contained.{head_contained, tail_contained, contained_cases, none_contained}
 use Rattle.isle_core.proofs.RulePairs.{all_from, all_at}
 use Rattle.isle_blocks.specs.AllTests.{AreAmong}
@@ -26,6 +25,7 @@ use Rattle.isle_blocks.specs.Tree.{Way}
 use Rattle.isle_blocks.specs.Turns.{TurnsRise, rank}
 use Rattle.isle_blocks.specs.Ways.{early_count, shared_count, way_of}
 use Rattle.isle_blocks.proofs.LawBound.{came_holds, came_from}
+use Rattle.isle_blocks.proofs.MappedLists.{map_among}
 use Rattle.isle_blocks.proofs.MovedTests.{RanksRise, testable_by_ranks}
 use Rattle.isle_blocks.proofs.Reorders.{permutation_reorders, reorder_all, reorder_has, reorder_keeps}
 use Rattle.isle_blocks.proofs.TreeLawful.{AreFreeTests}
@@ -139,17 +139,9 @@ start_after several env t s w once k there h =
       there = there;
       rule = h;
       testable = k.testable env t once h.constraints;
-      made = λ x c. came_holds [] (map (is_test ps) (w.early ++ w.late)) x (inr (among ps w.rule.constraints (w.early ++ w.late) k.has x c));
-      only = λ x c. among ps (w.early ++ w.late) w.rule.constraints k.only x (⊎_elim (λ i. absurd (none_contained x i)) (λ i. i) (came_from [] (map (is_test ps) (w.early ++ w.late)) x c));
+      made = λ x c. came_holds [] (map (is_test ps) (w.early ++ w.late)) x (inr (map_among (is_test ps) w.rule.constraints (w.early ++ w.late) k.has x c));
+      only = λ x c. map_among (is_test ps) (w.early ++ w.late) w.rule.constraints k.only x (⊎_elim (λ i. absurd (none_contained x i)) (λ i. i) (came_from [] (map (is_test ps) (w.early ++ w.late)) x c));
     }
-  where
-    keeps : (ps : List Path) (cs : List (BindingId × Constraint)) (c : BindingId × Constraint) → Contains cs c → Contains (map (is_test ps) cs) (is_test ps c)
-    keeps ps [] c i = absurd (none_contained c i)
-    keeps ps (d ∷ cs) c i = ⊎_elim (λ (e : d ≡ c). subst (λ x. Contains (is_test ps d ∷ map (is_test ps) cs) (is_test ps x)) e (head_contained (is_test ps d) (map (is_test ps) cs))) (λ j. tail_contained (is_test ps d) (map (is_test ps) cs) (is_test ps c) (keeps ps cs c j)) (contained_cases d cs c i)
-
-    among : (ps : List Path) (cs ds : List (BindingId × Constraint)) → ((c : BindingId × Constraint) → Contains cs c → Contains ds c) → (x : Test) → Contains (map (is_test ps) cs) x → Contains (map (is_test ps) ds) x
-    among ps [] ds f x i = absurd (none_contained x i)
-    among ps (c ∷ cs) ds f x i = ⊎_elim (λ (e : is_test ps c ≡ x). subst (Contains (map (is_test ps) ds)) e (keeps ps ds c (f c (head_contained c cs)))) (λ j. among ps cs ds (λ d k. f d (tail_contained c cs d k)) x j) (contained_cases (is_test ps c) (map (is_test ps) cs) x i)
 
 -- ---- of the ways of rules
 

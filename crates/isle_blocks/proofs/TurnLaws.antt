@@ -4,7 +4,8 @@ use Rattle.std.specs.Prelude.{Contains, slice_get}
 use Rattle.std.proofs.lemmas.Option.{slice_get-get_or}
 use Rattle.isle_core.specs.declared.BindingId.{BindingId}
 use Rattle.isle_core.specs.declared.rule_sets.Binding.{Binding}
-use Rattle.isle_blocks.specs.Turns.{over, turn_at, TurnsRise}
+use Rattle.isle_core.specs.BindingParts.{over}
+use Rattle.isle_blocks.specs.Turns.{turn_at, TurnsRise}
 
 -- ---- the latest turn
 

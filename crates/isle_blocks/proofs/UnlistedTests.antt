@@ -45,12 +45,12 @@ module _ (env : Environment) (m : Meaning) (args : List Value) where
   unlisted_all (x ∷ xs) h q place known new =
       ap (λ b. b && list_all (holds_at (choosing known q place)) xs) (unlisted_free x h.0 q place known new) ∙ ap (λ b. holds_at known x && b) (unlisted_all xs h.1 q place known new)
 
-  -- where such tests hold, what is done at each choice may ask for them
+  -- if such tests hold, what is done at each choice may ask for them
   tests_in : (qs : List Path) (xs : List Test) (known : Known) (g : Given) (next : Known → Given → Given) → IsFree env m args qs (λ k. list_all (holds_at k) xs) → list_all (holds_at known) xs ≡ true
       → each_choice env m args qs known g next ≡ each_choice env m args qs known g (λ now so. cond (list_all (holds_at now) xs) (next now so) so)
   tests_in qs xs known g next free e = sym (ap (λ b. cond b (each_choice env m args qs known g next) g) e) ∙ test_out env m args qs (λ k. list_all (holds_at k) xs) known g next free
 
-  -- so what is done may be told for where they hold
+  -- so what is done may be told for if they hold
   pub same_where : (qs : List Path) (xs : List Test) (known : Known) (g : Given) (one other : Known → Given → Given) → IsFree env m args qs (λ k. list_all (holds_at k) xs) → list_all (holds_at known) xs ≡ true
       → ((now : Known) (so : Given) → list_all (holds_at now) xs ≡ true → one now so ≡ other now so) → each_choice env m args qs known g one ≡ each_choice env m args qs known g other
   same_where qs xs known g one other free e h =
@@ -62,7 +62,7 @@ module _ (env : Environment) (m : Meaning) (args : List Value) where
       (λ fails. ap (λ b. cond b (one now so) so) fails ∙ sym (ap (λ b. cond b (other now so) so) fails)))
       ∙ sym (tests_in qs xs known g other free e)
 
-  -- where one doesn't hold, a rule that has it adds nothing
+  -- if one doesn't hold, a rule that has it adds nothing
   pub adds_nothing : (ps : List Path) (f : FlatRule) (qs : List Path) (x : Test) (known : Known) (g : Given) → IsFree env m args qs (λ k. holds_at k x) → Contains (constraint_tests ps f) x → holds_at known x ≡ false
       → each_choice env m args qs known g (flat_adds env m args ps f) ≡ g
   adds_nothing ps f qs x known g free there fails =
@@ -104,7 +104,7 @@ met_there env m c (One i) e = tt
 met_there env m c (Optional o) e = tt
 met_there env m c (Listed is) e = tt
 
--- where such tests hold, they hold with more answers
+-- if such tests hold, they hold with more answers
 pub test_stays : (env : Environment) (m : Meaning) (args : List Value) (x : Test) (known now : Known) → Grows known now → IsUnlisted x → holds_at env m args known x ≡ true → holds_at env m args now x ≡ true
 test_stays env m args (Is p c) known now grows h e = ap (meets env m c) (held_stays p env m args known now grows (met_there env m c (value_at env m args known p) e)) ∙ e
 test_stays env m args (Equal p q) known now grows h e = absurd h

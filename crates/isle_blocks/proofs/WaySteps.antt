@@ -45,7 +45,7 @@ use Rattle.isle_blocks.proofs.UnlistedTests.{IsUnlisted, holds_at, unlisted_all,
 
 -- ---- tests that are left
 
--- where the tests made hold, a rule's tests hold where those that are left do
+-- if the tests made hold, a rule's tests hold if those that are left do
 same_tests : (env : Environment) (t : Term) (s : RuleSet) (p : Test → Bool) (before : List Test) (w : Way) → IsAfter env t s before w → list_all p before ≡ true
     → list_all p (flat_tests (paths_of s.bindings) w.rule) ≡ list_all p (left_tests (paths_of s.bindings) w ++ map (equal_test (paths_of s.bindings)) w.rule.equals)
 same_tests env t s p before w h e =
@@ -130,7 +130,7 @@ module _ (env : Environment) (t : Term) (s : RuleSet) (found : FieldKey → Opti
         );
       }
 
-  -- where the tests made hold, which no choice changes, the step adds what the rule adds
+  -- if the tests made hold, which no choice changes, the step adds what the rule adds
   pub way_run : (m : Meaning) (args : List Value) (known : Known) (so : Given) → AllByRecursion IsUnlisted before → all_hold env m (value_at env m args known) before ≡ true
       → several_run env m args (paths_of s.bindings) (alone (way_step g w bound)) known so ≡ each_choice env m args (way_lists s.bindings (shows found counts inners) items w bound) known so (flat_adds env m args (paths_of s.bindings) w.rule)
   way_run m args known so unlisted e =

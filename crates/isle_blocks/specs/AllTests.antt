@@ -35,7 +35,7 @@ abbrev mutual
 abbrev pub AreAmong : List (BindingId × Constraint) → List (BindingId × Constraint) → Type 0
 AreAmong cs among = AllByRecursion (Contains among) cs
 
--- all tests of all rules are tried where the term answers several times; where it answers once, a test of a rule that is above each rule without
+-- all tests of all rules are tried if the term answers several times; if it answers once, a test of a rule that is above each rule without
 -- equalities whose constraints are among its own, but for those that make the test themselves
 abbrev pub IsTried : (several : Bool) → List FlatRule → FlatRule → BindingId × Constraint → Type 0
 IsTried true rules f c = Unit {0}

@@ -8,12 +8,12 @@ use Rattle.isle_core.specs.Calling.{calling}
 use Rattle.isle_core.specs.HoldsImpure.{takes_turn}
 use Rattle.isle_core.specs.Rule.{Environment}
 
--- a call of a term counts where it isn't impure
+-- a call of a term counts if it isn't impure
 abbrev pub if_pure : (impure : Bool) → ℕ
 if_pure true = 0
 if_pure false = 1
 
--- whether a binding is a call of an extractor or of a pure term: 1 where it is, and 0 where not
+-- whether a binding is a call of an extractor or of a pure term: 1 if it is, and 0 if not
 abbrev pub asked_one : Environment → Option Binding → ℕ
 asked_one env (Some (binding.Extractor term parameter)) = 1
 asked_one env (Some (binding.Constructor term parameters instance)) = if_pure (takes_turn (calling env term))

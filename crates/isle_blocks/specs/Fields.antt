@@ -66,7 +66,7 @@ abbrev pub longer : Option ℕ → ℕ → ℕ
 longer None field = suc field
 longer (Some count) field = if ltb count (suc field) then suc field else count
 
--- by a field the number of its binding, where there is one after its source; by what is shown a count, one more than the highest
+-- by a field the number of its binding, if there is one after its source; by what is shown a count, one more than the highest
 -- of its fields
 pub record FindsFields (bs : List Binding) (found : FieldKey → Option BindingId) (counts : Shown → Option ℕ) : Type 0 where
   pub is_field : (s : Shown) (field : ℕ) (b : BindingId) → found (s, field) ≡ Some b → (slice_get bs b.0 ≡ Some (part_of s field)) × ((source_of s).0 < b.0)
@@ -85,7 +85,7 @@ shown_by source (constraint.ConstInt val ty) = None
 shown_by source (constraint.ConstPrim val) = None
 shown_by source constraint.Some = None
 
--- the one place of an option: its inner value, where that is a binding
+-- the one place of an option: its inner value, if that is a binding
 abbrev pub inner_place : Option BindingId → List (Option BindingId)
 inner_place None = []
 inner_place (Some b) = Some b ∷ []

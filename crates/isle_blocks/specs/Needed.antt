@@ -6,50 +6,27 @@ use Rattle.isle_core.specs.declared.BindingId.{BindingId}
 use Rattle.isle_core.specs.declared.rule_sets.Binding.{Binding}
 use Rattle.isle_core.specs.declared.rule_sets.Binding.TheVariants as binding
 use Rattle.isle_core.specs.Bindable.{bound_by}
-use Rattle.isle_blocks.specs.Followers.{item_source}
+use Rattle.isle_core.specs.BindingParts.{call_parts, made_parts, list_of}
 
 -- what a list is made over: a call's arguments, or what an extractor takes apart
 abbrev pub list_parts : Option Binding → Option (List BindingId)
-list_parts (Some (binding.Constructor term parameters instance)) = Some parameters
-list_parts (Some (binding.Extractor term parameter)) = Some (parameter ∷ [])
-list_parts (Some (binding.MakeVariant ty variant fields)) = None
-list_parts (Some (binding.MakeStruct ty fields)) = None
-list_parts (Some (binding.ConstBool val ty)) = None
-list_parts (Some (binding.ConstInt val ty)) = None
-list_parts (Some (binding.ConstPrim val)) = None
-list_parts (Some (binding.Argument index)) = None
-list_parts (Some (binding.Iterator source)) = None
-list_parts (Some (binding.MatchVariant source variant field)) = None
-list_parts (Some (binding.ExtractStruct source field)) = None
-list_parts (Some (binding.MakeSome inner)) = None
-list_parts (Some (binding.MatchSome source)) = None
-list_parts (Some (binding.MatchTuple source field)) = None
 list_parts None = None
+list_parts (Some b) = call_parts b
 
 -- what a binding is made over that is bound where it is first read: a call, also of an extractor, a part of a tuple, an item of a list, or a made
 -- value; a struct without fields is read by its name. An impure call is bound before all that reads it, so only pure ones are bound here
 abbrev pub parts_of : List Binding → Option Binding → Option (List BindingId)
-parts_of bs (Some (binding.Extractor term parameter)) = Some (parameter ∷ [])
-parts_of bs (Some (binding.MakeVariant ty variant fields)) = Some fields
-parts_of bs (Some (binding.MakeStruct ty [])) = None
-parts_of bs (Some (binding.MakeStruct ty (f ∷ fs))) = Some (f ∷ fs)
-parts_of bs (Some (binding.ConstBool val ty)) = None
-parts_of bs (Some (binding.ConstInt val ty)) = None
-parts_of bs (Some (binding.ConstPrim val)) = None
-parts_of bs (Some (binding.Argument index)) = None
-parts_of bs (Some (binding.Constructor term parameters instance)) = Some parameters
-parts_of bs (Some (binding.Iterator source)) = list_parts (slice_get bs source.0)
-parts_of bs (Some (binding.MatchVariant source variant field)) = None
-parts_of bs (Some (binding.ExtractStruct source field)) = None
-parts_of bs (Some (binding.MakeSome inner)) = None
-parts_of bs (Some (binding.MatchSome source)) = None
-parts_of bs (Some (binding.MatchTuple source field)) = Some (source ∷ [])
 parts_of bs None = None
+parts_of bs (Some (binding.Constructor term parameters instance)) = Some parameters
+parts_of bs (Some (binding.Extractor term parameter)) = Some (parameter ∷ [])
+parts_of bs (Some (binding.Iterator source)) = list_parts (slice_get bs source.0)
+parts_of bs (Some (binding.MatchTuple source field)) = Some (source ∷ [])
+parts_of bs (Some b) = made_parts b
 
 -- the list of an item
 abbrev pub list_before : Option Binding → Option BindingId
 list_before None = None
-list_before (Some b) = item_source b
+list_before (Some b) = list_of b
 
 -- a binding as it is bound: an item directly after its list
 abbrev pub with_list : Option BindingId → BindingId → List BindingId

@@ -9,12 +9,12 @@ use Rattle.isle_core.specs.ArmPlaces.{bound_within}
 use Rattle.isle_core.specs.Bindable.{bound_by}
 use Rattle.isle_core.specs.Block.{Block, Stop, Step, Control, Match, Equal, Loop, Return, NoArm, Arm}
 use Rattle.isle_core.specs.BlockViews.{SeenStep}
-use Rattle.isle_blocks.specs.Followers.{inner_source}
+use Rattle.isle_core.specs.BindingParts.{option_of}
 use Rattle.isle_blocks.specs.Needed.{is_bound, list_before, needs, parameters_of}
 
 -- ---- calls
 
--- the first of two, where there is one
+-- the first of two, if there is one
 abbrev pub or_later : Option BindingId → Option BindingId → Option BindingId
 or_later None later = later
 or_later (Some b) later = Some b
@@ -23,7 +23,7 @@ or_later (Some b) later = Some b
 abbrev pub next_of : (inners items : ℕ → Option BindingId) → ℕ → Option BindingId
 next_of inners items n = or_later (inners n) (items n)
 
--- a call, directly before its inner value or its item where it has one
+-- a call, directly before its inner value or its item if it has one
 abbrev pub with_inner : Option BindingId → BindingId → List BindingId
 with_inner None c = c ∷ []
 with_inner (Some b) c = c ∷ b ∷ []
@@ -46,7 +46,7 @@ bound_with bound c (Some b) = is_bound bound c && is_bound bound b
 abbrev pub was_bound : (ℕ → Option BindingId) → List ℕ → BindingId → Bool
 was_bound next bound c = bound_with bound c (next c.0)
 
--- a call, where it is not bound
+-- a call, if it is not bound
 abbrev pub left_one : Bool → BindingId → List BindingId
 left_one true c = []
 left_one false c = c ∷ []
@@ -63,7 +63,7 @@ behind_lists bs next bound f =
 
 -- ---- lists
 
--- the item of a list, where the list isn't one of the calls that are bound in order
+-- the item of a list, if the list isn't one of the calls that are bound in order
 abbrev pub left_item : (called : Bool) → Option BindingId → List BindingId
 left_item true o = []
 left_item false None = []
@@ -92,7 +92,7 @@ alone s = Step s.0 s.1 Stop
 -- the option whose inner value a binding is
 abbrev pub option_before : Option Binding → Option BindingId
 option_before None = None
-option_before (Some b) = inner_source b
+option_before (Some b) = option_of b
 
 -- a binding before a step: an item of a list is gone through by a Loop, and an inner value of an option is bound by a Match
 abbrev pub open_by : (list option : Option BindingId) → BindingId → SeenStep → SeenStep
@@ -124,7 +124,7 @@ last_step several bs next items f bound = opened several bs (last_binds several 
 abbrev pub Shows : Type 0
 Shows = BindingId → Constraint → List (Option BindingId)
 
--- what follows where these are bound
+-- what follows if these are bound
 abbrev pub Behind : Type 0
 Behind = List ℕ → SeenStep
 

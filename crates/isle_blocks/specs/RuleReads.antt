@@ -38,12 +38,12 @@ IsOver l (Part part p) = Contains l p
 
 -- ---- rules
 
--- a call is in the list, with its inner value where the set has that
+-- a call is in the list, with its inner value if the set has that
 pub record IsCallAmong (ps l : List Path) (p : Path) : Type 0 where
   pub itself : Contains l p
   pub inner : Contains ps (Inner p) → Contains l (Inner p)
 
--- a list is in the list, with its item where the set has that
+-- a list is in the list, with its item if the set has that
 pub record IsListAmong (ps l : List Path) (p : Path) : Type 0 where
   pub itself : Contains l p
   pub item : Contains ps (Chosen p) → Contains l (Chosen p)

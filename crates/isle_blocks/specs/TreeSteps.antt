@@ -24,7 +24,7 @@ abbrev pub steps_before : List SeenStep → Block → Block
 steps_before [] more = more
 steps_before (s ∷ ss) more = Step s.0 s.1 (steps_before ss more)
 
--- where a block is a tree of the ways after the first n, steps before it make it one of all
+-- if a block is a tree of the ways after the first n, steps before it make it one of all
 abbrev pub LeadsTo : Ground → List Way → (n : ℕ) → (old new : List ℕ) → List SeenStep → Type 0
 LeadsTo g ws n old new steps = (more : Block) → IsTree g (drop n ws) new more → IsTree g ws old (steps_before steps more)
 
@@ -42,7 +42,7 @@ Ends g w = (g.several ≡ false) × IsUntested w
 abbrev pub LeadsOn : Ground → List Way → (n : ℕ) → (old new : List ℕ) → SeenStep → Type 0
 LeadsOn g ws n old new s = (w : Way) (rest : List Way) → ws ≡ w ∷ rest → (Ends g w → ⊥) → LeadsTo g ws n old new (s ∷ [])
 
--- where nothing follows the first way, the step is a tree of the ways
+-- if nothing follows the first way, the step is a tree of the ways
 abbrev pub MayEnd : Ground → List Way → List ℕ → SeenStep → Type 0
 MayEnd g ws bound s = (w : Way) (rest : List Way) → ws ≡ w ∷ rest → Ends g w → IsTree g ws bound (alone s)
 

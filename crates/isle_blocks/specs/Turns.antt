@@ -1,27 +1,10 @@
 -- In which order the tests of a rule are made that rules may share.
-use Rattle.std.specs.Prelude.{◌≡◌, ℕ, ◌+◌, ◌*◌, ◌<◌, ◌≤◌, List, [], ◌∷◌, Some, Contains, slice_get, slice_index_or}
+use Rattle.std.specs.Prelude.{◌≡◌, ℕ, ◌+◌, ◌*◌, ◌<◌, ◌≤◌, List, Some, Contains, slice_get, slice_index_or}
 use Rattle.isle_core.specs.declared.BindingId.{BindingId}
 use Rattle.isle_core.specs.declared.rule_sets.Binding.{Binding}
-use Rattle.isle_core.specs.declared.rule_sets.Binding.TheVariants as binding
+use Rattle.isle_core.specs.BindingParts.{over}
 
--- what a binding is made over
-abbrev pub over : Binding → List BindingId
-over (binding.ConstBool val ty) = []
-over (binding.ConstInt val ty) = []
-over (binding.ConstPrim val) = []
-over (binding.Argument index) = []
-over (binding.Extractor term parameter) = parameter ∷ []
-over (binding.Constructor term parameters instance) = parameters
-over (binding.Iterator source) = source ∷ []
-over (binding.MakeVariant ty variant fields) = fields
-over (binding.MakeStruct ty fields) = fields
-over (binding.MatchVariant source variant field) = source ∷ []
-over (binding.ExtractStruct source field) = source ∷ []
-over (binding.MakeSome inner) = inner ∷ []
-over (binding.MatchSome source) = source ∷ []
-over (binding.MatchTuple source field) = source ∷ []
-
--- the turn at a place; the first where none stands there
+-- the turn at a place; the first if none stands there
 abbrev pub turn_at : List ℕ → ℕ → ℕ
 turn_at turns n = slice_index_or turns n 0
 

@@ -49,18 +49,7 @@ fn field_at(place: usize, binding: &Binding) -> Option<(Shown, TupleIndex)>
             field,
         } => Shown::Variant(*source, *variant).before(place, *field),
         Binding::ExtractStruct { source, field } => Shown::Struct(*source).before(place, *field),
-        Binding::ConstBool { .. }
-        | Binding::ConstInt { .. }
-        | Binding::ConstPrim { .. }
-        | Binding::Argument { .. }
-        | Binding::Extractor { .. }
-        | Binding::Constructor { .. }
-        | Binding::Iterator { .. }
-        | Binding::MakeVariant { .. }
-        | Binding::MakeStruct { .. }
-        | Binding::MakeSome { .. }
-        | Binding::MatchSome { .. }
-        | Binding::MatchTuple { .. } => None,
+        _ => None,
     }
 }
 

@@ -16,50 +16,6 @@ pub enum Following {
     Item,
 }
 
-/// Returns the option of an inner value.
-pub fn inner_source(binding: &Binding) -> Option<BindingId>
-    ensures { result ≡ Followers.inner_source binding.now }
-{
-    match binding {
-        Binding::MatchSome { source } => Some(*source),
-        Binding::ConstBool { .. }
-        | Binding::ConstInt { .. }
-        | Binding::ConstPrim { .. }
-        | Binding::Argument { .. }
-        | Binding::Extractor { .. }
-        | Binding::Constructor { .. }
-        | Binding::Iterator { .. }
-        | Binding::MakeVariant { .. }
-        | Binding::MakeStruct { .. }
-        | Binding::MatchVariant { .. }
-        | Binding::ExtractStruct { .. }
-        | Binding::MakeSome { .. }
-        | Binding::MatchTuple { .. } => None,
-    }
-}
-
-/// Returns the list of an item.
-pub fn item_source(binding: &Binding) -> Option<BindingId>
-    ensures { result ≡ Followers.item_source binding.now }
-{
-    match binding {
-        Binding::Iterator { source } => Some(*source),
-        Binding::ConstBool { .. }
-        | Binding::ConstInt { .. }
-        | Binding::ConstPrim { .. }
-        | Binding::Argument { .. }
-        | Binding::Extractor { .. }
-        | Binding::Constructor { .. }
-        | Binding::MakeVariant { .. }
-        | Binding::MakeStruct { .. }
-        | Binding::MatchVariant { .. }
-        | Binding::ExtractStruct { .. }
-        | Binding::MakeSome { .. }
-        | Binding::MatchSome { .. }
-        | Binding::MatchTuple { .. } => None,
-    }
-}
-
 // A source that stands before a place.
 fn earlier(place: usize, source: Option<BindingId>) -> Option<BindingId>
     ensures { result ≡ Followers.earlier place source }
@@ -81,8 +37,8 @@ fn source_at(following: Following, place: usize, binding: &Binding) -> Option<Bi
     ensures { result ≡ Followers.source_at following place binding.now }
 {
     match following {
-        Following::Inner => earlier(place, inner_source(binding)),
-        Following::Item => earlier(place, item_source(binding)),
+        Following::Inner => earlier(place, binding.option()),
+        Following::Item => earlier(place, binding.list()),
     }
 }
 

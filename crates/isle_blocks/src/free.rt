@@ -42,15 +42,19 @@ fn is_free(free: &[bool], binding: &Binding) -> bool
         | Binding::ConstInt { .. }
         | Binding::ConstPrim { .. }
         | Binding::Argument { .. } => true,
-        Binding::Extractor { parameter, .. } => is_free_at(free, *parameter),
         Binding::Constructor { parameters, .. } => are_free_at(free, parameters.as_slice()),
-        Binding::MakeVariant { fields, .. } => are_free_at(free, fields.as_slice()),
-        Binding::MakeStruct { fields, .. } => are_free_at(free, fields.as_slice()),
-        Binding::MatchVariant { source, .. } => is_free_at(free, *source),
-        Binding::ExtractStruct { source, .. } => is_free_at(free, *source),
-        Binding::MakeSome { inner } => is_free_at(free, *inner),
-        Binding::MatchSome { source } => is_free_at(free, *source),
-        Binding::MatchTuple { source, .. } => is_free_at(free, *source),
+        Binding::MakeVariant { fields, .. } | Binding::MakeStruct { fields, .. } => {
+            are_free_at(free, fields.as_slice())
+        }
+        Binding::Extractor {
+            parameter: source,
+            ..
+        }
+        | Binding::MakeSome { inner: source }
+        | Binding::MatchVariant { source, .. }
+        | Binding::ExtractStruct { source, .. }
+        | Binding::MatchSome { source }
+        | Binding::MatchTuple { source, .. } => is_free_at(free, *source),
     }
 }
 

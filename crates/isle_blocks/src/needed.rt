@@ -1,14 +1,10 @@
 //! What is bound before bindings are read: calls that aren't bound yet, also of extractors, parts of their answers,
 //! items of lists, and the made values on the way to them.
 
-ghost use Rattle.std.specs.Prelude.{◌≡◌, OnOk, [], ◌∷◌, Some as Is, List as ListOf, option_map, slice_get};
-ghost use Rattle.isle_core.specs.declared.TypeId.{TypeId as TypeIdOf};
-ghost use Rattle.isle_core.specs.declared.rule_sets.Binding.{Binding as BindingOf};
-ghost use Rattle.isle_core.specs.declared.rule_sets.Binding.TheVariants.{MakeStruct};
+ghost use Rattle.std.specs.Prelude.{◌≡◌, OnOk, [], ◌∷◌, Some as Is, option_map, slice_get};
 ghost use Rattle.isle_blocks.specs.Needed as Needed;
 ghost use Rattle.isle_blocks.specs.Pushed.{Pushes};
 
-use crate::followers::item_source;
 use isle_core::{Binding, BindingId};
 use isle_scope::Scope;
 use std::alloc::AllocError;
@@ -28,48 +24,13 @@ pub fn push_one(
     Ok(())
 }
 
-// Returns the parts of a struct, where it has any.
-fn some_parts<'a>(fields: &'a [BindingId]) -> Option<&'a [BindingId]>
-    ensures { (bs : ListOf BindingOf) (ty : TypeIdOf)
-        → option_map (λ parts. parts.now) result
-        ≡ Needed.parts_of bs (Is (MakeStruct ty fields.now)) }
-{
-    if fields.is_empty() {
-        None
-    } else {
-        Some(fields)
-    }
-}
-
-// Returns what a list is made over: its call's arguments, or what an extractor takes apart.
-fn list_parts<'a>(binding: &'a Binding) -> Option<&'a [BindingId]>
-    ensures { option_map (λ parts. parts.now) result ≡ Needed.list_parts (Is binding.now) }
-{
-    match binding {
-        Binding::Constructor { parameters, .. } => Some(parameters.as_slice()),
-        Binding::Extractor { parameter, .. } => Some(slice::from_ref(parameter)),
-        Binding::ConstBool { .. }
-        | Binding::ConstInt { .. }
-        | Binding::ConstPrim { .. }
-        | Binding::Argument { .. }
-        | Binding::Iterator { .. }
-        | Binding::MakeVariant { .. }
-        | Binding::MakeStruct { .. }
-        | Binding::MatchVariant { .. }
-        | Binding::ExtractStruct { .. }
-        | Binding::MakeSome { .. }
-        | Binding::MatchSome { .. }
-        | Binding::MatchTuple { .. } => None,
-    }
-}
-
-// Returns that of the list of this number.
+// Returns what the list of this number is made over: its call's arguments, or what an extractor takes apart.
 fn list_parts_at<'a>(bindings: &'a [Binding], list: BindingId) -> Option<&'a [BindingId]>
     ensures { option_map (λ parts. parts.now) result
         ≡ Needed.list_parts (slice_get bindings.now list.0) }
 {
     match bindings.get(list.index()) {
-        Some(of) => list_parts(of),
+        Some(of) => of.call_parts(),
         None => None,
     }
 }
@@ -80,19 +41,11 @@ fn parts_of<'a>(bindings: &'a [Binding], binding: &'a Binding) -> Option<&'a [Bi
         ≡ Needed.parts_of bindings.now (Is binding.now) }
 {
     match binding {
-        Binding::Constructor { .. } | Binding::Extractor { .. } => list_parts(binding),
+        Binding::Constructor { parameters, .. } => Some(parameters.as_slice()),
+        Binding::Extractor { parameter, .. } => Some(slice::from_ref(parameter)),
         Binding::Iterator { source } => list_parts_at(bindings, *source),
         Binding::MatchTuple { source, .. } => Some(slice::from_ref(source)),
-        Binding::MakeVariant { fields, .. } => Some(fields.as_slice()),
-        Binding::MakeStruct { fields, .. } => some_parts(fields.as_slice()),
-        Binding::ConstBool { .. }
-        | Binding::ConstInt { .. }
-        | Binding::ConstPrim { .. }
-        | Binding::Argument { .. }
-        | Binding::MatchVariant { .. }
-        | Binding::ExtractStruct { .. }
-        | Binding::MakeSome { .. }
-        | Binding::MatchSome { .. } => None,
+        _ => binding.made_parts(),
     }
 }
 
@@ -112,7 +65,7 @@ pub fn list_at(bindings: &[Binding], binding: BindingId) -> Option<BindingId>
     ensures { result ≡ Needed.list_before (slice_get bindings.now binding.0) }
 {
     match bindings.get(binding.index()) {
-        Some(of) => item_source(of),
+        Some(of) => of.list(),
         None => None,
     }
 }
@@ -201,34 +154,12 @@ pub fn push_needs(
     push_each(bindings, bound, bindings.len(), reads, order)
 }
 
-// Returns what a call is made on.
-fn parameters_of<'a>(binding: &'a Binding) -> &'a [BindingId]
-    ensures { result.now ≡ Needed.parameters_of (Is binding.now) }
-{
-    match binding {
-        Binding::Constructor { parameters, .. } => parameters.as_slice(),
-        Binding::ConstBool { .. }
-        | Binding::ConstInt { .. }
-        | Binding::ConstPrim { .. }
-        | Binding::Argument { .. }
-        | Binding::Extractor { .. }
-        | Binding::Iterator { .. }
-        | Binding::MakeVariant { .. }
-        | Binding::MakeStruct { .. }
-        | Binding::MatchVariant { .. }
-        | Binding::ExtractStruct { .. }
-        | Binding::MakeSome { .. }
-        | Binding::MatchSome { .. }
-        | Binding::MatchTuple { .. } => &[],
-    }
-}
-
 /// Returns what the call of this number is made on.
 pub fn parameters_at<'a>(bindings: &'a [Binding], call: BindingId) -> &'a [BindingId]
     ensures { result.now ≡ Needed.parameters_of (slice_get bindings.now call.0) }
 {
     match bindings.get(call.index()) {
-        Some(of) => parameters_of(of),
-        None => &[],
+        Some(Binding::Constructor { parameters, .. }) => parameters.as_slice(),
+        _ => &[],
     }
 }

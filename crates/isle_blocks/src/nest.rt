@@ -11,7 +11,7 @@ ghost use Rattle.isle_blocks.specs.Ways.{way};
 
 use crate::needed::{is_bound, parameters_at, push_needs, push_one};
 use crate::openings::opened;
-use crate::steps::{equated, matched, returned};
+use crate::steps::{equal_step, match_step, return_step};
 use crate::tables::Tables;
 use crate::ways::Way;
 use isle_core::{BindingId, Constraint, EvalStep, FlatRule};
@@ -70,7 +70,7 @@ fn was_bound(tables: &Tables<'_>, bound: &Scope, call: BindingId) -> bool
     }
 }
 
-// Puts a call after others, where it is still to be bound.
+// Puts a call after others, if it is still to be bound.
 fn push_left(
     tables: &Tables<'_>,
     bound: &Scope,
@@ -124,7 +124,7 @@ fn push_behind_lists(
     Ok(())
 }
 
-// Puts the item of a list after others, where the list isn't one of the calls that are bound in order.
+// Puts the item of a list after others, if the list isn't one of the calls that are bound in order.
 fn push_item(
     tables: &Tables<'_>,
     called: &Scope,
@@ -223,7 +223,7 @@ fn last_step(
 {
     let mut order = Vec::new(alloc);
     push_last(alloc, tables, bound, rule, &mut order)?;
-    opened(alloc, tables, order, returned(rule.pos, rule.result))
+    opened(alloc, tables, order, return_step(rule.pos, rule.result))
 }
 
 // The equalities of a rule, each round those after it, and the last one round the rule's last step.
@@ -247,7 +247,7 @@ fn equals_from(
             let mut order = Vec::new(alloc);
             push_needs(tables.bindings, bound, &[*a, *b], &mut order)?;
             let inner = equals_from(alloc, tables, bound, rule, more)?;
-            let check = equated(alloc, *a, *b, inner)?;
+            let check = equal_step(alloc, *a, *b, inner)?;
             opened(alloc, tables, order, check)
         }
     }
@@ -300,7 +300,7 @@ fn matches_from(
             let places = tables.places(alloc, *source, *constraint)?;
             bind_places(bound, places.as_slice())?;
             let inner = matches_from(alloc, tables, bound, rule, more)?;
-            let check = matched(alloc, *source, *constraint, places, inner)?;
+            let check = match_step(alloc, *source, *constraint, places, inner)?;
             opened(alloc, tables, order, check)
         }
     }

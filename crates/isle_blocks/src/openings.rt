@@ -5,9 +5,8 @@ ghost use Rattle.std.specs.Prelude.{◌≡◌, IfOk, [], reverse, slice_get};
 ghost use Rattle.isle_core.specs.BlockViews as BlockViews;
 ghost use Rattle.isle_blocks.specs.Nest as Nest;
 
-use crate::followers::inner_source;
 use crate::needed::list_at;
-use crate::steps::{looped, matched, step_of};
+use crate::steps::{loop_step, match_step, step_of};
 use crate::tables::Tables;
 use isle_core::{Binding, BindingId, Constraint, ControlFlow, EvalStep};
 use std::alloc::{AllocError, Global};
@@ -18,7 +17,7 @@ fn option_at(bindings: &[Binding], binding: BindingId) -> Option<BindingId>
     ensures { result ≡ Nest.option_before (slice_get bindings.now binding.0) }
 {
     match bindings.get(binding.index()) {
-        Some(of) => inner_source(of),
+        Some(of) => of.option(),
         None => None,
     }
 }
@@ -48,12 +47,12 @@ fn open_one(
 {
     if list_at(tables.bindings, binding).is_some() {
         let inner = gathered(alloc, check, behind);
-        return looped(alloc, binding, inner);
+        return loop_step(alloc, binding, inner);
     }
     if let Some(source) = option_at(tables.bindings, binding) {
         let inner = gathered(alloc, check, behind);
         let places = vec![in alloc; Some(binding)]?;
-        return matched(alloc, source, Constraint::Some, places, inner);
+        return match_step(alloc, source, Constraint::Some, places, inner);
     }
     behind.push(binding)?;
     Ok(check)

@@ -63,7 +63,7 @@ fn alone(alloc: Global, step: EvalStep) -> Result<Block, AllocError>
 }
 
 /// A match of one arm, whose places are bound round what follows it. The only error is want of memory.
-pub fn matched(
+pub fn match_step(
     alloc: Global,
     source: BindingId,
     constraint: Constraint,
@@ -82,7 +82,7 @@ pub fn matched(
 
 /// An equality round what follows it. The only error is want of memory.
 #[tactic(auto, using(isle_core::proofs::SeesBlocks::sees_blocks))]
-pub fn equated(
+pub fn equal_step(
     alloc: Global,
     a: BindingId,
     b: BindingId,
@@ -97,7 +97,7 @@ pub fn equated(
 
 /// A loop over the items of a list round what is done with each. The only error is want of memory.
 #[tactic(auto, using(isle_core::proofs::SeesBlocks::sees_blocks))]
-pub fn looped(alloc: Global, item: BindingId, inner: EvalStep) -> Result<ControlFlow, AllocError>
+pub fn loop_step(alloc: Global, item: BindingId, inner: EvalStep) -> Result<ControlFlow, AllocError>
     ensures { IfOk result (λ c.
         BlockViews.control c ≡ Blocks.Loop item (Nest.alone (BlockViews.step inner))) }
 {
@@ -107,7 +107,7 @@ pub fn looped(alloc: Global, item: BindingId, inner: EvalStep) -> Result<Control
 
 /// A return.
 #[tactic(auto, using(isle_core::proofs::SeesBlocks::sees_blocks))]
-pub fn returned(pos: Pos, value: BindingId) -> ControlFlow
+pub fn return_step(pos: Pos, value: BindingId) -> ControlFlow
     ensures { BlockViews.control result ≡ Blocks.Return pos value }
 {
     ControlFlow::Return { pos, result: value }

@@ -8,31 +8,8 @@ ghost use Rattle.isle_blocks.specs.Turns as Turns;
 use crate::ways::Way;
 use isle_core::{Binding, BindingId};
 use std::alloc::{AllocError, Global};
-use std::slice;
 
-// Returns what a binding is made over.
-fn parts_of<'a>(binding: &'a Binding) -> &'a [BindingId]
-    ensures { result.now ≡ Turns.over binding.now }
-{
-    match binding {
-        Binding::ConstBool { .. }
-        | Binding::ConstInt { .. }
-        | Binding::ConstPrim { .. }
-        | Binding::Argument { .. } => &[],
-        Binding::Extractor { parameter, .. } => slice::from_ref(parameter),
-        Binding::Constructor { parameters, .. } => parameters.as_slice(),
-        Binding::MakeVariant { fields, .. } => fields.as_slice(),
-        Binding::MakeStruct { fields, .. } => fields.as_slice(),
-        Binding::Iterator { source } => slice::from_ref(source),
-        Binding::MatchVariant { source, .. } => slice::from_ref(source),
-        Binding::ExtractStruct { source, .. } => slice::from_ref(source),
-        Binding::MakeSome { inner } => slice::from_ref(inner),
-        Binding::MatchSome { source } => slice::from_ref(source),
-        Binding::MatchTuple { source, .. } => slice::from_ref(source),
-    }
-}
-
-// Returns the turn of a binding, the first one where none is known.
+// Returns the turn of a binding, the first one if none is known.
 fn turn_at(turns: &[usize], place: usize) -> usize
     ensures { result ≡ Turns.turn_at turns.now place }
 {
@@ -98,7 +75,7 @@ pub fn turns_of(
     let mut turns = Vec::new(alloc);
     for binding in bindings {
         let own = own_turn(turn_at(tested.as_slice(), turns.len()), ways.len());
-        let turn = turn_after(turns.as_slice(), own, parts_of(binding));
+        let turn = turn_after(turns.as_slice(), own, binding.parts());
         turns.push(turn)?;
     }
     Ok(turns)

@@ -10,13 +10,13 @@ use isle_outside::{MemDir, MemSink};
 use isle_top::run_words;
 use std::alloc::{AllocError, Global};
 
-/// The most bytes that the directory gives at once, where a case says nothing.
+/// The most bytes that the directory gives at once, if a case says nothing.
 const DIR_PIECE: usize = 1 << 20;
 
-/// The most bytes that a sink takes at once, where a case says nothing.
+/// The most bytes that a sink takes at once, if a case says nothing.
 const SINK_PIECE: usize = 10;
 
-/// The room of a sink, where a case says nothing.
+/// The room of a sink, if a case says nothing.
 const ROOM: usize = 1 << 20;
 
 /// What a run left.

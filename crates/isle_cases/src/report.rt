@@ -1,4 +1,4 @@
-//! What is told of the cases.
+//! What is known of the cases.
 
 use crate::slip::Slip;
 use std::alloc::{AllocError, Global};

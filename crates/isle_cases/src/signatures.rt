@@ -74,7 +74,7 @@ fn push_sig(lines: &mut String, env: &TypeEnv, sig: &ExternalSig) -> Result<(), 
     push_all(lines, &[" ", kind_name(sig.ret_kind), "\n"])
 }
 
-// Writes the signature of one of a term's functions, where it has that function.
+// Writes the signature of one of a term's functions, if it has that function.
 fn push_function(
     lines: &mut String,
     env: &TypeEnv,

@@ -196,7 +196,7 @@ fn count_all<D: Dir>(
     count_named(alloc, words, &shelf, report)
 }
 
-/// Holds the cases of the topics that the words name, of all where there are none, and reports on them.
+/// Holds the cases of the topics that the words name, of all if there are none, and reports on them.
 pub fn hold_all(alloc: Global, rt: HostRuntime, words: &[String]) -> Result<Report, Slip> {
     let mut report = Report::new(alloc);
     let mut dir = StdDir::new(rt, String::new(alloc));

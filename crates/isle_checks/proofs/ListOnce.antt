@@ -15,7 +15,7 @@ first_once P None (Some j) h k = absurd (h j k.0)
 first_once P (Some i) None h k = absurd (k i h.0)
 first_once P (Some i) (Some j) h k = let le = h.1 j k.0 in let ge = k.1 i h.0 in ap Some {y = j} (omega (arith, le, ge))
 
--- what holds exactly where something does is one truth
+-- what holds exactly if something does is one truth
 truth_once : (P : Type 0) (u v : Bool) → IsTrue u ↔ P → IsTrue v ↔ P → u ≡ v
 truth_once P true v h k = sym (k.1 (h.0 refl))
 truth_once P false true h k = h.1 (k.0 refl)
@@ -49,6 +49,6 @@ nil_of : (errors : List Error) → map told errors ≡ [] → errors ≡ []
 nil_of [] e = refl
 nil_of (x ∷ errors) e = cc
 
--- where nothing is wrong there are none
+-- if nothing is wrong there are none
 pub none_wrong : (env : Environment) (errors : List Error) → IsClean env → IsCheckList env errors → errors ≡ []
 none_wrong env errors h k = nil_of errors (sym (list_once env [] errors h k))

@@ -155,7 +155,7 @@ conditions_supplied env id m r lawful c h = record {
   named = λ ty name k. lawful.named ty name (constants_among (rules_of env id) r (ty, Named name) c (Contains-append_left (args_constants r.args ++ iflets_constants r.iflets) (expr_constants r.rhs) (ty, Named name) (Contains-append_right (args_constants r.args) (iflets_constants r.iflets) (ty, Named name) k)));
 }
 
--- of a term whose rules are built and have its types, where the meaning is lawful and the values have the arguments' types
+-- of a term whose rules are built and have its types, if the meaning is lawful and the values have the arguments' types
 module _ (env : Environment) (id : TermId) (t : Term) (fit : All (IsTested env t.arg_tys) (rules_of env id)) (once : All (λ (r : Rule). HaveOneType (rule_typed r)) (rules_of env id)) (variants : AreVariantsApart env) (plain : AreConstantsPlain env)
     (m : Meaning) (args : List Value) (lawful : IsLawful env id m) (typed : HaveTypes env args t.arg_tys) where
   abbrev its_rules : List Rule

@@ -20,7 +20,7 @@ module _ (files : Files) where
   abbrev pub LieIn : List Rule → Type 0
   LieIn rules = AllByRecursion (λ (r : Rule). LiesIn files r.pos) rules
 
-  -- a span begins in the files, where it is there
+  -- a span begins in the files, if it is there
   abbrev BeginsIn : Option Span → Type 0
   BeginsIn o = IfSome o (λ (s : Span). LiesIn files s.from)
 

@@ -21,7 +21,7 @@ module _ (env : Environment) (sets : List (TermId × RuleSet)) (stand : AreRuleS
       let same = same_unmarked env sets stand heads s.0 in
       (h.0, h.1, (λ t. same.0 (h.2.0 t), λ u. h.2.1 (same.1 u)), told_by_rules some h.1 h.3, h.4)
 
-  -- what is told of rule sets is told of the rules that they stand for
+  -- what is known of rule sets is told of the rules that they stand for
   pub list_of_rules : (errors : List Error) → IsRecursionList env.terms sets errors → IsRecursionOf env errors
   list_of_rules errors h = (h.0, subst (λ (ids : List TermId). AreUnmarkedTerms env ids h.0) stand.ids (told_by_rules sets h.0 h.1), h.2)
 

@@ -18,10 +18,10 @@ module _ (env : Environment) (sets : List (TermId × RuleSet)) (stand : AreRuleS
   walk_of_sets from to [] walk = rules_use env sets stand heads from to walk
   walk_of_sets from to (next ∷ rest) walk = (rules_use env sets stand heads from next walk.0, walk_of_sets next to rest walk.1)
 
-  -- a term is on a closed walk of rule sets exactly where it is on one of rules
+  -- a term is on a closed walk of rule sets exactly if it is on one of rules
   pub same_closed_walks : (id : TermId) → IsOnClosedWalk env.terms sets id ↔ IsOnRuleWalk env id
   same_closed_walks id = ((λ walk. (walk.0, walk_of_rules id id walk.0 walk.1)), (λ walk. (walk.0, walk_of_sets id id walk.0 walk.1)))
 
-  -- a term is told by its rule set exactly where its rules say so
+  -- a term is told by its rule set exactly if its rules say so
   pub same_unmarked : (id : TermId) → IsUnmarked env.terms sets id ↔ IsUnmarkedTerm env id
   same_unmarked id = ((λ h. ((same_closed_walks id).0 h.0, h.1)), (λ h. ((same_closed_walks id).1 h.0, h.1)))

@@ -37,7 +37,7 @@ use Rattle.isle_checks.proofs.PlacedLaws.{only_one}
 abbrev pub field_type : Environment → Making → ℕ → Option TypeId
 field_type env mk i = option_and_then (λ tys. slice_get tys i) (option_map (form_types env) (form env mk))
 
--- the type of the first result, or of the value where there is none
+-- the type of the first result, or of the value if there is none
 abbrev pub first_type : List TypeId → TypeId → TypeId
 first_type [] ty = ty
 first_type (of ∷ tys) ty = of

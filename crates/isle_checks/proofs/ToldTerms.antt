@@ -29,7 +29,7 @@ none_told terms sets = record { done = []; are = refl; rest = λ ps h. h }
 marked_is : (terms : List Term) (id : TermId) (t : Term) → slice_get terms id.0 ≡ Some t → is_marked terms id ≡ is_recursive t.kind
 marked_is terms id t found = ap (λ o. option_map_or (λ (u : Term). is_recursive u.kind) o false) found
 
--- what is told of a term is that it is on a closed walk and not marked
+-- what is known of a term is that it is on a closed walk and not marked
 told_is : (terms : List Term) (sets : List (TermId × RuleSet)) (graph : List (List ℕ)) (i : ℕ) (s : TermId × RuleSet) (t : Term) (b : Bool) → IsGraph terms sets graph → IsDistinct eqb (ids_of sets) → slice_get sets i ≡ Some s → slice_get terms s.0.0 ≡ Some t
     → b ≡ on_closed_walk graph i && not (is_recursive t.kind) → IsTrue b ↔ IsUnmarked terms sets s.0
 told_is terms sets graph i s t b g once at found is = subst (λ x. IsTrue x ↔ IsUnmarked terms sets s.0) (sym is) (by (on_closed_walk graph i) (is_recursive t.kind) refl refl)

@@ -1,4 +1,4 @@
--- A flat rule is unreachable by itself exactly where its rule is.
+-- A flat rule is unreachable by itself exactly if its rule is.
 use Rattle.std.proofs.Common.{◌≡◌, inl, inr, ⊎_elim, ℕ, List, [], ◌∷◌, map, refl, sym, ◌∙◌, subst}
 use Rattle.std.specs.Prelude.{Contains}
 use Rattle.std.proofs.lemmas.List.Elements.{Contains-append_right, Contains-append_cases}

@@ -203,7 +203,7 @@ module _ (terms : List Term) (sets : List (TermId × RuleSet)) (table : List (Op
       (λ more. let rest = walk_of steps first.0 j mid.0 t mid.1 to more in (mid.0.0 ∷ rest.0, (uses, rest.1)))
       first.2
 
-  -- a rule set's place is on a closed walk exactly where its term is
+  -- a rule set's place is on a closed walk exactly if its term is
   pub closed_term : (i : ℕ) (s : TermId × RuleSet) → slice_get sets i ≡ Some s → on_closed_walk graph i ≡ true → IsOnClosedWalk terms sets s.0
   closed_term i s at e = walk_of (length graph) i i s s at at e
 

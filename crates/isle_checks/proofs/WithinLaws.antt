@@ -100,7 +100,7 @@ module _ (check : Check) (s : Splitter) (group : List Placed) (p : Sided) (h : A
           (some_found check group p.rest group f3 f4 h.others (λ x k. k) d))
           (some_found check group group p.rest f4 f5 (λ x k. k) h.others e)
 
--- places lie below a number in a part, and where as many were found
+-- places lie below a number in a part, and if as many were found
 pub below_part : (group part : List Placed) (n m : ℕ) → Within part group → m ≡ n → AreBelow n group → AreBelow m part
 below_part group part n m h e k a c = subst (λ x. a.place < x) (sym e) (k a (h a c))
 

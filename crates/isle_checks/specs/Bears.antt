@@ -31,7 +31,7 @@ abbrev pub AreAmong : (some all : Constraints) → Type 0
 AreAmong [] all = Unit {0}
 AreAmong (x ∷ xs) all = IsAmong all x × AreAmong xs all
 
--- the one constraint on a binding, where it is the only one there
+-- the one constraint on a binding, if it is the only one there
 pub record IsSole (xs : Constraints) (b : BindingId) (c : Constraint) : Type 0 where
   pub found : IsAmong xs (b, c)
   pub alone : HasOther xs b c → ⊥

@@ -32,12 +32,12 @@ abbrev pub unreachable_of : List Pos → ℕ → Bool → List RuleError
 unreachable_of ps j false = []
 unreachable_of ps j true = Unreached (span_at ps j) ∷ []
 
--- the overlap of the rule at a place with an earlier one, where there is one
+-- the overlap of the rule at a place with an earlier one, if there is one
 abbrev pub overlap_of : List Pos → ℕ → Option ℕ → List RuleError
 overlap_of ps j None = []
 overlap_of ps j (Some i) = Overlap (span_at ps i) (span_at ps j) ∷ []
 
--- the rule at a place under the one that shadows it, where there is one
+-- the rule at a place under the one that shadows it, if there is one
 abbrev pub shadow_of : List Pos → ℕ → Option ℕ → List RuleError
 shadow_of ps j None = []
 shadow_of ps j (Some i) = Shadowed (span_at ps j) (span_at ps i) ∷ []

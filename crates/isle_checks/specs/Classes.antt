@@ -15,11 +15,11 @@ use Rattle.isle_checks.specs.declared.classes.Classes.{Classes}
 abbrev pub binding_cmp : BindingId → BindingId → Ordering
 binding_cmp a b = nat_cmp a.0 b.0
 
--- the representative of a binding: itself, where it has no entry
+-- the representative of a binding: itself, if it has no entry
 abbrev pub representative : BTreeMap BindingId BindingId → BindingId → BindingId
 representative map b = unwrap_or (get binding_cmp map b) b
 
--- the bindings of a representative: itself alone, where it has no entry
+-- the bindings of a representative: itself alone, if it has no entry
 abbrev pub members : BTreeMap BindingId (Vec BindingId) → BindingId → List BindingId
 members map r = option_map_or (λ (v : Vec BindingId). v.items) (get binding_cmp map r) (r ∷ [])
 

@@ -12,7 +12,7 @@ abbrev pub is_declared : Option Term → Bool
 is_declared None = false
 is_declared (Some t) = not (is_made_kind t.kind)
 
--- a term that is used, where it is declared; made terms don't count
+-- a term that is used, if it is declared; made terms don't count
 abbrev pub used : List Term → TermId → List TermId
 used terms id = if is_declared (slice_get terms id.0) then id ∷ [] else []
 

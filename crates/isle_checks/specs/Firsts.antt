@@ -6,7 +6,7 @@ use Rattle.isle_checks.specs.declared.placed.Placed.{Placed}
 use Rattle.isle_checks.specs.Makes.{Makes, MakesAt}
 use Rattle.isle_checks.specs.Sides.{Rises}
 
--- of each rule the place of a rule that makes an error of it, where one was found
+-- of each rule the place of a rule that makes an error of it, if one was found
 abbrev pub Found : Type 0
 Found = List (Option ℕ)
 
@@ -32,7 +32,7 @@ pub record Notes (old new : Found) (j p : ℕ) : Type 0 where
   pub kept : (k i : ℕ) → Has old k i → HasUpTo new k i
   pub here : HasUpTo new j p
 
--- what was found once a maker of a rule was noted, where there was one
+-- what was found once a maker of a rule was noted, if there was one
 abbrev pub After : (old new : Found) (j : ℕ) → Option ℕ → Type 0
 After old new j None = new ≡ old
 After old new j (Some p) = Notes old new j p
@@ -83,7 +83,7 @@ pub record AreFirstMakers (check : Check) (rules : List FlatRule) (found : Found
   pub long : length found ≡ length rules
   pub each : (j : ℕ) (o : Option ℕ) → slice_get found j ≡ Some o → IsFirst (λ i. MakesAt check rules i j) o
 
--- for each rule of a term the same; no rule makes an error of another where the term answers several times (multi)
+-- for each rule of a term the same; no rule makes an error of another if the term answers several times (multi)
 pub record AreFirstsOfTerm (check : Check) (multi : Bool) (rules : List FlatRule) (found : Found) : Type 0 where
   pub long : length found ≡ length rules
   pub each : (j : ℕ) (o : Option ℕ) → slice_get found j ≡ Some o

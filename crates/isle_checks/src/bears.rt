@@ -83,7 +83,7 @@ fn first_on(constraints: &[(BindingId, Constraint)], binding: BindingId) -> Opti
     None
 }
 
-/// Returns the constraint on a binding, where it is the only one there.
+/// Returns the constraint on a binding, if it is the only one there.
 pub fn sole(constraints: &[(BindingId, Constraint)], binding: BindingId) -> Option<Constraint>
     ensures { MaySole constraints.now binding result }
 {

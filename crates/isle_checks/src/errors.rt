@@ -23,7 +23,7 @@ fn unreachable_error(alloc: Global, rule: Pos) -> Result<Error, AllocError>
     })
 }
 
-/// The rules of a term, and its names where words tell them.
+/// The rules of a term, and its names if words tell them.
 #[derive(Clone, Copy)]
 pub struct TermRules<'a> {
     pub rules: &'a [FlatRule],
@@ -93,7 +93,7 @@ fn push_unreachable(
     Ok(())
 }
 
-// Adds the overlap of the rule at a place with an earlier one, where there is one.
+// Adds the overlap of the rule at a place with an earlier one, if there is one.
 fn push_overlap(
     alloc: Global,
     term: &TermRules<'_>,
@@ -114,7 +114,7 @@ fn push_overlap(
     Ok(())
 }
 
-// Adds the rule at a place under the one that shadows it, where there is one.
+// Adds the rule at a place under the one that shadows it, if there is one.
 fn push_shadow(
     rules: &[FlatRule],
     place: usize,
@@ -133,7 +133,7 @@ fn push_shadow(
 }
 
 /// Adds the errors of the rules of a term, rule by rule: that it is unreachable by itself, then the first
-/// earlier one that overlaps it, then the first that shadows it; only the unreachable ones where the term
+/// earlier one that overlaps it, then the first that shadows it; only the unreachable ones if the term
 /// answers several times (`multi`). The only error is want of memory.
 pub fn push_errors(
     alloc: Global,

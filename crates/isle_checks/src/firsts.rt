@@ -125,7 +125,7 @@ fn firsts(alloc: Global, check: Check, rules: &[FlatRule]) -> Result<Vec<Option<
     Ok(found)
 }
 
-/// Finds for each rule of a term the place of the first one that makes an error of it: none where the term
+/// Finds for each rule of a term the place of the first one that makes an error of it: none if the term
 /// answers several times (`multi`), since its rules may overlap, and shadow each other. The only error is
 /// want of memory.
 pub fn firsts_of_term(

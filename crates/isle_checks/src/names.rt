@@ -40,7 +40,7 @@ impl<'a> Names<'a> {
         })
     }
 
-    /// Returns the names of a term and of its rules, where the term is there.
+    /// Returns the names of a term and of its rules, if the term is there.
     pub fn of(&self, id: TermId) -> Option<TermNames<'_>> {
         let rules = self.rules.get(id.index())?;
         Some(TermNames {

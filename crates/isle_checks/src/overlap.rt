@@ -75,7 +75,7 @@ fn is_multi(terms: &[Term], id: TermId) -> bool
     }
 }
 
-// The names of a term, where names are given.
+// The names of a term, if names are given.
 fn term_names<'a>(names: Option<&'a Names<'_>>, id: TermId) -> Option<TermNames<'a>> {
     names?.of(id)
 }
@@ -119,7 +119,7 @@ fn errors_of(
     Ok(errors)
 }
 
-// Makes the rule sets, or tells what is wrong with rules, with the names that are given.
+// Makes the rule sets, or reports what is wrong with rules, with the names that are given.
 fn checked(
     alloc: Global,
     names: Option<&Names<'_>>,
@@ -142,9 +142,9 @@ fn checked(
     Err(CheckError::Rules(List::new(errors)))
 }
 
-/// Makes the rule set of each term with rules, in order of ids, where none of its rules is unreachable by
+/// Makes the rule set of each term with rules, in order of ids, if none of its rules is unreachable by
 /// itself, and no two overlap and none is shadowed unless the term answers several times (`multi`). `Rules`
-/// comes exactly where one is, and tells each, rule by rule: that it is unreachable by itself, then, where
+/// comes exactly if one is, and reports each, rule by rule: that it is unreachable by itself, then, if
 /// the term answers at most once, the first earlier rule that overlaps it, and the first that shadows it.
 pub fn check(alloc: Global, termenv: &TermEnv) -> Result<Vec<(TermId, RuleSet)>, CheckError>
     requires built { All (IsBuiltRule termenv.now.terms) (map seen termenv.now.rules) }

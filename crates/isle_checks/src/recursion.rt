@@ -51,7 +51,7 @@ fn errors_of(
 }
 
 /// Looks for terms that use themselves, by themselves or through others, and are not marked with `rec`: `Rules` comes
-/// exactly where there is one, and has an error at the declaration of each, in order (`specs/Recursions.antt`). Each
+/// exactly if there is one, and has an error at the declaration of each, in order (`specs/Recursions.antt`). Each
 /// term is one of the environment, and listed once.
 pub fn check(
     alloc: Global,

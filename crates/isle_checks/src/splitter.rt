@@ -85,7 +85,7 @@ impl<'a> Parts<'a> {
     }
 }
 
-// The priority in the middle, where there are several.
+// The priority in the middle, if there are several.
 fn middle_priority(alloc: Global, group: &[Placed<'_>]) -> Result<Option<i64>, AllocError> {
     let mut prios = Vec::new(alloc);
     for placed in group {
@@ -108,7 +108,7 @@ struct Tally {
 }
 
 // One constraint more on a binding.
-fn tallied(before: Option<&Tally>, constraint: Constraint) -> Tally {
+fn tally_with(before: Option<&Tally>, constraint: Constraint) -> Tally {
     match before {
         None => Tally {
             count: 1,
@@ -128,7 +128,7 @@ fn tallies(alloc: Global, group: &[Placed<'_>]) -> Result<BTreeMap<BindingId, Ta
     let mut tallies = BTreeMap::new(alloc);
     for placed in group {
         for (binding, constraint) in placed.rule.constraints.as_slice() {
-            let tally = tallied(tallies.get(binding), *constraint);
+            let tally = tally_with(tallies.get(binding), *constraint);
             tallies.insert(*binding, tally)?;
         }
     }
@@ -165,7 +165,7 @@ fn middle_constraint(
     Ok(constraints.get(constraints.len() / 2).copied())
 }
 
-/// Chooses by what the rules of a group are told apart: their priorities where these tell apart what is
+/// Chooses by what the rules of a group are told apart: their priorities if these tell apart what is
 /// looked for, or else the binding on which most have constraints that differ. The only error is want of
 /// memory.
 pub fn choose(

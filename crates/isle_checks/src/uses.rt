@@ -30,7 +30,7 @@ fn is_declared(terms: &[Term], id: TermId) -> bool
     }
 }
 
-// The term, where it is declared.
+// The term, if it is declared.
 fn declared(terms: &[Term], id: TermId) -> Option<TermId>
     ensures { option_to_list result ≡ used terms.now id }
 {
@@ -49,18 +49,7 @@ fn used_by(terms: &[Term], binding: &Binding) -> Option<TermId>
         Binding::Constructor { term, .. } | Binding::Extractor { term, .. } => {
             declared(terms, *term)
         }
-        Binding::ConstBool { .. }
-        | Binding::ConstInt { .. }
-        | Binding::ConstPrim { .. }
-        | Binding::Argument { .. }
-        | Binding::Iterator { .. }
-        | Binding::MakeVariant { .. }
-        | Binding::MakeStruct { .. }
-        | Binding::MatchVariant { .. }
-        | Binding::ExtractStruct { .. }
-        | Binding::MakeSome { .. }
-        | Binding::MatchSome { .. }
-        | Binding::MatchTuple { .. } => None,
+        _ => None,
     }
 }
 

@@ -23,7 +23,7 @@ use Rattle.isle_command_line.proofs.WordLaws.{both, kind_again, count_again, siz
 use Rattle.isle_command_line.proofs.RunWords.{name_no_trace, source_again, source_named}
 use Rattle.isle_command_line.proofs.ChoiceLaws.{free, all_kept, all_free}
 
--- what the words ask for where something is known after them
+-- what the words ask for if something is known after them
 abbrev pub request_of : Option Known → Option Request
 request_of (Some s) = asks s
 request_of None = None

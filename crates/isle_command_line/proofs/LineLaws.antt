@@ -23,7 +23,7 @@ use Rattle.isle_command_line.proofs.Steps.{read_append}
 use Rattle.isle_command_line.proofs.Sound.{HasRead, After, Answers, told, has_read_asks, has_read_named, has_read_next}
 use Rattle.isle_command_line.proofs.Complete.{request_of, complete}
 
--- what is asked for, where something is known
+-- what is asked for, if something is known
 pub line_of : (ws : List (List ℕ)) (s : Known) (c : Request) → read state.Begin ws ≡ Some s → asks s ≡ Some c → LineS ws c
 line_of ws s c e f = subst (λ r. Answers r ws) f (has_read_asks s ws (subst (λ r. After r ws) e (told ws)))
 

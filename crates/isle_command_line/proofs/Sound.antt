@@ -34,7 +34,7 @@ verb_word verb.Compile = codes "compile"
 verb_word verb.Build = codes "build"
 verb_word (verb.Run t) = codes "run"
 
--- the words after the first one are options that ask for this, after --trace where the run is traced
+-- the words after the first one are options that ask for this, after --trace if the run is traced
 abbrev pub Begun : Verb → CodegenOptions → List (List ℕ) → Type 0
 Begun (verb.Run true) o us = (vs : List (List ℕ)) × Chose o vs × (us ≡ codes "--trace" ∷ vs)
 Begun (verb.Run false) o us = Chose o us
@@ -88,7 +88,7 @@ HasRead (state.Values t o s m) ws = (front : List (List ℕ)) × Sourced t o s f
 HasRead (state.AfterValues t o s m vs) ws = (front : List (List ℕ)) × Sourced t o s front × (is_name m ≡ true) × (x : List ℕ) × SpellsValues x vs × (ws ≡ codes "run" ∷ (front ++ m ∷ x ∷ []))
 HasRead (state.Answers t o s m vs) ws = (front : List (List ℕ)) × Sourced t o s front × (is_name m ≡ true) × (x : List ℕ) × SpellsValues x vs × (ws ≡ codes "run" ∷ (front ++ m ∷ x ∷ codes "--answers" ∷ []))
 
--- where anything is known
+-- if anything is known
 abbrev pub After : Option Known → List (List ℕ) → Type 0
 After (Some s) ws = HasRead s ws
 After None ws = Unit {0}

@@ -62,7 +62,7 @@ kind_of w =
 unfoldable pub count : List ℕ → Option ℕ
 count w = if nat_le 1 (length w) && (nat_le (length w) 18 && list_all is_digit w) then Some (decimal_value w) else None
 
--- a count, where it is the size of a sample
+-- a count, if it is the size of a sample
 abbrev pub bounded : Option ℕ → Option ℕ
 bounded (Some n) = if nat_le 1 n && nat_le n 10000 then Some n else None
 bounded None = None
@@ -153,7 +153,7 @@ abbrev pub valued : Bool → CodegenOptions → Source → List ℕ → Option W
 valued t o s m (Some vs) = Some (state.AfterValues t o s m vs)
 valued t o s m None = None
 
--- what is known after one word more, where a line continues with it
+-- what is known after one word more, if a line continues with it
 abbrev pub next : Known → List ℕ → Option Known
 next state.Begin w = begun (first w)
 next (state.Whole c) w = None
@@ -170,7 +170,7 @@ next (state.Values t o s m) w = valued t o s m (spelt w)
 next (state.AfterValues t o s m vs) w = if is_answers w then Some (state.Answers t o s m vs) else None
 next (state.Answers t o s m vs) w = if is_name w then Some (state.Whole (command.run_of t o s m vs (Some w))) else None
 
--- goes on where something is known
+-- goes on if something is known
 abbrev pub onward : Option Known → (Known → Option Known) → Option Known
 onward (Some s) f = f s
 onward None f = None
@@ -180,7 +180,7 @@ abbrev pub read : Known → List (List ℕ) → Option Known
 read s [] = Some s
 read s (w ∷ ws) = onward (next s w) (λ t. read t ws)
 
--- what the words so far ask for, where they are a line
+-- what the words so far ask for, if they are a line
 abbrev pub asks : Known → Option Request
 asks state.Begin = Some (command.Compile no_options (codes "first.isle" ∷ []))
 asks (state.Whole c) = Some c

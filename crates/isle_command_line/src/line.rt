@@ -51,7 +51,7 @@ fn request(alloc: Global, state: State) -> Result<Command, LineFail>
     ensures good { (i : ℕ) → result ≢ Err (Bad i) }
 {
     match state {
-        State::Begin => stored(alloc),
+        State::Begin => default_command(alloc),
         State::Whole(command) => Ok(command),
         State::Names(options, names) => Ok(Command::Compile { options, names }),
         State::AfterValues(trace, options, source, term, values) => Ok(Command::Run(RunLine {
@@ -76,7 +76,7 @@ fn request(alloc: Global, state: State) -> Result<Command, LineFail>
 }
 
 // What no words ask for.
-fn stored(alloc: Global) -> Result<Command, LineFail>
+fn default_command(alloc: Global) -> Result<Command, LineFail>
     ensures asks { IfOk result (λ c. asks Begin ≡ Some (seen_command c)) }
     ensures memory { IfErr result (λ e. e ≡ Memory) }
 {

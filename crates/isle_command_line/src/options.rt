@@ -6,7 +6,7 @@ ghost use Rattle.isle_command_line.specs.Views.{seen_state};
 ghost use Rattle.isle_command_line.specs.declared.state.WordFail.TheVariants.{Bad};
 
 use crate::commands::Command;
-use crate::run::sourced;
+use crate::run::after_source;
 use crate::state::{State, Verb, WordFail};
 use crate::word::{OptionWord, count, is_name, mark};
 use isle_core::{CodegenOptions, List, Prefix, Text};
@@ -43,7 +43,7 @@ fn named(alloc: Global, verb: Verb, options: CodegenOptions, word: &str) -> Resu
             let unit = Text::copied(alloc, word)?;
             Ok(State::Whole(Command::Build { options, unit }))
         }
-        Verb::Run(trace) => sourced(alloc, trace, options, word),
+        Verb::Run(trace) => after_source(alloc, trace, options, word),
     }
 }
 
@@ -111,7 +111,7 @@ pub fn prefix(
     match parts(word) {
         Some((prefix, name)) => {
             if is_name(name) {
-                prefixed(alloc, verb, options, prefix, name)
+                after_prefix(alloc, verb, options, prefix, name)
             } else {
                 Err(WordFail::Bad)
             }
@@ -121,7 +121,7 @@ pub fn prefix(
 }
 
 // What is known after this prefix, whose name is one.
-fn prefixed(
+fn after_prefix(
     alloc: Global,
     verb: Verb,
     options: CodegenOptions,

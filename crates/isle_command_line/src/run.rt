@@ -48,7 +48,7 @@ fn source(alloc: Global, word: &str) -> Result<Source, AllocError>
 }
 
 /// Returns what is known after a source.
-pub fn sourced(
+pub fn after_source(
     alloc: Global,
     trace: bool,
     options: CodegenOptions,

@@ -110,7 +110,7 @@ pub fn next(alloc: Global, state: State, word: &str) -> Result<State, WordFail>
         State::Names(options, names) => one_name(alloc, options, names, word),
         State::Kind => request(kind_of(word)),
         State::Target => target(alloc, word),
-        State::Size => sized(size(word)),
+        State::Size => after_size(size(word)),
         State::Run => run(alloc, word),
         State::Term(trace, options, source) => term(alloc, trace, options, source, word),
         State::Values(trace, options, source, term) => {
@@ -165,7 +165,7 @@ fn target(alloc: Global, word: &str) -> Result<State, WordFail>
 }
 
 // What is known after the size of a sample.
-fn sized(size: Option<usize>) -> Result<State, WordFail>
+fn after_size(size: Option<usize>) -> Result<State, WordFail>
     ensures next { IfOk result (λ s. sized size ≡ Some (seen_state s)) }
     ensures bad { result ≡ Err Bad → sized size ≡ None }
 {

@@ -41,7 +41,7 @@ use Rattle.isle_core.proofs.PatternTests.{case_fits}
 
 -- ---- a turn
 
--- what the answer of a term holds: a value, an option of one where the term is partial, or a list of values where it is `multi`
+-- what the answer of a term holds: a value, an option of one if the term is partial, or a list of values if it is `multi`
 abbrev pub IsOfKind : ReturnKind → Held → Type 0
 IsOfKind return_kind.Plain h = (v : Value) × (h ≡ a_value v)
 IsOfKind return_kind.Option h = (o : Option Value) × (h ≡ an_option o)

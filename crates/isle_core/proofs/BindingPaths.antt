@@ -103,7 +103,7 @@ pub placed : (ps : List Path) (p : Path) → Contains ps p → (b : BindingId) �
 placed ps p c = (record { 0 = c.0 }, get_or_from_slice_get ps c.0 p Nowhere (slice_get-get_or ps c.0 p c.1 ∙ ap Some c.2))
 
 -- one among the first n paths
-taken : (ps : List Path) (n i : ℕ) → IsThere (get_or (take n ps) i Nowhere) → (i < n) × (get_or (take n ps) i Nowhere ≡ get_or ps i Nowhere)
+pub taken : (ps : List Path) (n i : ℕ) → IsThere (get_or (take n ps) i Nowhere) → (i < n) × (get_or (take n ps) i Nowhere ≡ get_or ps i Nowhere)
 taken ps zero i h = absurd h
 taken [] (suc n) i h = absurd h
 taken (p ∷ ps) (suc n) zero h = (omega arith, refl)

@@ -197,7 +197,7 @@ turn_follows env m args n n' known made term ps callee kind vs place e next once
     (record { by = λ j low. with_else known.answers (suc n) j a (λ (q : suc n ≡ j). let bad : ⊥ = omega arith in bad); choice = refl })
     (record { by = λ j lt. with_else known.answers (suc n) j a (λ (q : suc n ≡ j). let bad : ⊥ = omega arith in bad) ∙ fr.by j (omega arith) }))
 
--- a pure call makes no call: where it may be nothing, it is checked
+-- a pure call makes no call: if it may be nothing, it is checked
 case_run : (env : Environment) (m : Meaning) (args : List Value) (term : TermId) (ps : Paths) (callee : Callee) (kind : ReturnKind) (cs : List Path) (known : Known) (made : List Made) → AnswersOnce kind → calling env term ≡ ByCases callee kind
     → run_calls env m args (cs ++ if_ordered env (ByCases callee kind) (Called term ps 0)) known made
     ≡ then_go (run_calls env m args cs known made) (λ known' made'. cond (may_be_nothing kind) (unless_nothing (value_at env m args known' (Called term ps 0)) known' made') (Goes known' made'))

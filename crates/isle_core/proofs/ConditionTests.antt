@@ -1,4 +1,4 @@
--- The expression of a condition gives a value exactly where its calls find something, and that value stands at its path.
+-- The expression of a condition gives a value exactly if its calls find something, and that value stands at its path.
 use Rattle.std.proofs.Common.{◌≡◌, ⊎_elim, ℕ, ◌+◌, List, [], ◌∷◌, ◌++◌, map, Bool, true, false, cond, ◌&&◌, Option, Some, None, refl, sym, ap, ◌∙◌, subst, arith}
 use Rattle.std.specs.Prelude.{Contains, IsSomeAnd, option_map, slice_get}
 use Rattle.std.proofs.lemmas.Bool.{eq-eqb, ne_eqb}
@@ -138,7 +138,7 @@ module _ (env : Environment) (m : Meaning) (choice : Choice) (args : List Value)
   abbrev val : Values
   val = value_at env m args (none_made choice)
 
-  -- a value of the type, at the path, exactly where the tests hold; no call counts
+  -- a value of the type, at the path, exactly if the tests hold; no call counts
   abbrev pub Gives : TypeId → (holds : Bool) → Path → List Made → Evaluated → Type 0
   Gives ty b p made (Answered v calls) = (calls ≡ made) × (b ≡ true) × (val p ≡ a_value v) × HasType env v ty
   Gives ty b p made (Failed calls) = b ≡ false
@@ -240,7 +240,7 @@ module _ (env : Environment) (m : Meaning) (choice : Choice) (args : List Value)
   constant_gives ty p made (Some v) e h = (refl, refl, e, h)
   constant_gives ty p made None e h = absurd h
 
-  -- a constructor is served where it isn't made
+  -- a constructor is served if it isn't made
   call_served : (term : TermId) (es : Exprs) (c : Term) → slice_get env.terms term.0 ≡ Some c → AreServed env m (called_by_all env es ++ unless_made env Constructor term) → making env term ≡ MakesNothing → CallingFits env m (c.ret_ty ∷ []) (calling env term)
   call_served term es c there served none =
       let o : CalledTerm = record { term = term; role = Constructor } in

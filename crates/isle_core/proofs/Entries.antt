@@ -70,7 +70,7 @@ pub record Finds (es : List Entry) (s : Service) : Type 0 where
   pub service : entry.service ≡ s
   pub among : Contains es entry
 
--- where one is there, and all of its callee have one service
+-- if one is there, and all of its callee have one service
 pub finds : (es : List Entry) (s : Service) → ((e : Entry) → Contains es e → s.callee ≡ e.service.callee → e.service ≡ s) → (w : Entry) → Contains es w → w.service ≡ s → Finds es s
 finds [] s alike w c is = absurd (none_contained w c)
 finds (e ∷ es) s alike w c is = pick (λ d. finds es s (λ x k. alike x (tail_contained e es x k)) w d is) (serves s.callee e) refl
@@ -92,7 +92,7 @@ finds (e ∷ es) s alike w c is = pick (λ d. finds es s (λ x k. alike x (tail_
         })
         (contained_cases e es w c)
 
--- where none is of the callee, none is found
+-- if none is of the callee, none is found
 pub finds_none : (es : List Entry) (callee : Callee) → ((e : Entry) → Contains es e → callee ≡ e.service.callee → ⊥) → find (serves callee) es ≡ None
 finds_none [] callee none = refl
 finds_none (e ∷ es) callee none = pick (finds_none es callee (λ x k. none x (tail_contained e es x k))) (serves callee e) refl

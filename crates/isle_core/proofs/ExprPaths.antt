@@ -25,7 +25,7 @@ use Rattle.isle_core.proofs.AnsweredTerms.{called_here}
 abbrev pub constructed : TermId → CalledTerm
 constructed term = record { term = term; role = Constructor }
 
--- so of the path of a variable, where it has one
+-- so of the path of a variable, if it has one
 abbrev pub IsPlaceSo : (Path → Type 0) → Option Path → Type 0
 IsPlaceSo P None = Unit {0}
 IsPlaceSo P (Some p) = P p

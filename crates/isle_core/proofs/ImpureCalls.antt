@@ -182,7 +182,7 @@ given_impure : (env : Environment) (m : Meaning) (kind : ReturnKind) (o : Option
 given_impure env m kind None made h = h
 given_impure env m kind (Some o) made h = prescribed_impure env (rule_value env m o.0 o.1 made) (expr_impure o.0.rhs env m first_items o.1 (rule_places env o.0) 0 made h)
 
--- the calls of an outcome, where those made before are
+-- the calls of an outcome, if those made before are
 pub outcome_impure : (env : Environment) (m : Meaning) (args : List Value) (rules : List Rule) (kind : ReturnKind) (made : List Made) → AreImpure env made → AreImpure env (outcome_of env m args rules kind made).calls
 outcome_impure env m args rules kind made h = given_impure env m kind (highest_match env m args rules) made h
 

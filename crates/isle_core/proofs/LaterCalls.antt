@@ -218,7 +218,7 @@ module _ (S : ℕ → Type 0) (env : Environment) where
   pub none_within : (n k : ℕ) → S 0 → k ≡ 0 → Within S n k
   none_within n k s none = record { pure = s; own = λ j lt up. let bad : ⊥ = omega arith in absurd bad }
 
-  -- a sum is none where both parts are
+  -- a sum is none if both parts are
   left_none : (a b : ℕ) → a + b ≡ 0 → a ≡ 0
   left_none a b e = omega arith
 

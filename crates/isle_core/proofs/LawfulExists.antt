@@ -189,7 +189,7 @@ module _ (env : Environment) (os : List CalledTerm) (h : List AnsweredCall) (can
         all_answers (Fits env s.kind s.types) e.service.callee h (λ d j at_d. calls_fit o s k is d j (ap (λ (x : Service). x.callee) (sym same) ∙ at_d)),
       )
 
-  -- where it is impure
+  -- if it is impure
   finds_turns : (o : CalledTerm) (s : Service) → Contains os o → service_of env o ≡ Some s → s.pure ≡ false → Finds (filter takes_turns made_entries) s
   finds_turns o s k is impure =
       let w = has_entry env os can.each o k in
@@ -197,7 +197,7 @@ module _ (env : Environment) (os : List CalledTerm) (h : List AnsweredCall) (can
       finds (filter takes_turns made_entries) s (λ e c. entries_alike o s k is e (filter_from takes_turns made_entries e c).0) w.entry
       (filter_keeps takes_turns made_entries w.entry w.among (ap (λ (x : Service). not x.pure) same ∙ ap not impure)) same
 
-  -- where it is pure
+  -- if it is pure
   finds_cases : (o : CalledTerm) (s : Service) → Contains os o → service_of env o ≡ Some s → Finds made_entries s
   finds_cases o s k is =
       let w = has_entry env os can.each o k in
@@ -292,7 +292,7 @@ written_apart env m cs none ty c (Named name) h k e = absurd (none ty name k)
 
 -- ---- the laws
 
--- each finite history of calls with fitting answers is that of some lawful meaning, where no constant is named
+-- each finite history of calls with fitting answers is that of some lawful meaning, if no constant is named
 pub lawful_with : (env : Environment) (term : TermId) (h : List AnsweredCall) → AreAnswerable env (called env (rules_of env term)) → NamesNone (rules_constants (rules_of env term)) → IsHistory env (called env (rules_of env term)) h
     → (m : Meaning) × IsLawful env term m × AnswersSo m [] h
 lawful_with env term h can none history = (
@@ -312,6 +312,6 @@ no_history env os = record {
   alike = λ c d o s k. absurd (none_contained c k);
 }
 
--- a lawful meaning exists of each term whose called terms may be answered, where no constant is named
+-- a lawful meaning exists of each term whose called terms may be answered, if no constant is named
 pub lawful_exists : (env : Environment) (term : TermId) → AreAnswerable env (called env (rules_of env term)) → NamesNone (rules_constants (rules_of env term)) → (m : Meaning) × IsLawful env term m
 lawful_exists env term can none = let w = lawful_with env term [] can none (no_history env (called env (rules_of env term))) in (w.0, w.1)

@@ -24,7 +24,7 @@ line_next n (suc j) (b ∷ bs) e h = one (eqb b 10) refl (λ later some. line_ne
         let more : n + 1 + j ≡ n + suc j = omega arith in
         rw is (go (omega arith) (omega arith) ∙ ap (λ k. k ∷ starts_from k (drop j bs)) more)
 
--- and none where there is no line feed
+-- and none if there is no line feed
 none_next : (n : ℕ) (bs : List ℕ) → place bs ≡ length bs → starts_from n bs ≡ []
 none_next n [] h = refl
 none_next n (b ∷ bs) h = one (eqb b 10) refl (λ none. none_next (n + 1) bs none)

@@ -67,7 +67,7 @@ pub record PartsTyped (env : Environment) (o : Option Form) (v : Value) : Type 0
   pub is : option_map (form_types env) o ≡ Some tys
   pub types : HaveTypes env (parts v) tys
 
--- the name of the variant of this number, where the type and the variant are there
+-- the name of the variant of this number, if the type and the variant are there
 name_at : (env : Environment) (ty : TypeId) (d : TypeDef) (name : Sym) (variants : List VariantDef) (variant : VariantId) (w : VariantDef) → slice_get env.types.types ty.0 ≡ Some d
     → variant_form variant d ≡ option_map (form_of_variant name) (slice_get variants variant.0) → slice_get variants variant.0 ≡ Some w → option_map (form_name env) (form env (MakesVariant ty variant)) ≡ Some (sym_text env name, Some (sym_text env w.name))
 name_at env ty d name variants variant w e f k = ap (λ o. option_map (form_name env) (option_and_then (variant_form variant) o)) e ∙ ap (option_map (form_name env)) f ∙ ap (λ o. option_map (form_name env) (option_map (form_of_variant name) o)) k

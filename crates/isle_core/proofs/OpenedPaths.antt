@@ -26,7 +26,7 @@ IsOpened (Chosen p) = IsExtracted p
 IsOpened (Part i p) = Unit {0}
 IsOpened p = ⊥
 
--- so where there is a path
+-- so if there is a path
 abbrev pub IsOpenedPlace : Option Path → Type 0
 IsOpenedPlace None = Unit {0}
 IsOpenedPlace (Some p) = IsOpened p

@@ -94,7 +94,7 @@ prescribed_by : (env : Environment) (m : Meaning) (args : List Value) (rules : L
 prescribed_by env m args rules kind made None e h f = no_rule f
 prescribed_by env m args rules kind made (Some o) e h f = one_rule o.0 o.1 (highest_of env m args rules o e h f)
 
--- what the highest rule gives is prescribed, where no other has its priority
+-- what the highest rule gives is prescribed, if no other has its priority
 pub outcome_prescribed : (env : Environment) (m : Meaning) (args : List Value) (rules : List Rule) (kind : ReturnKind) (made : List Made) → HighestIsOne env m args rules → Prescribed env m args rules kind made (outcome_of env m args rules kind made)
 outcome_prescribed env m args rules kind made h = prescribed_by env m args rules kind made (highest_match env m args rules) refl h (found env m args rules)
 
@@ -102,7 +102,7 @@ top_of : (env : Environment) (m : Meaning) (args : List Value) (rules : List Rul
 top_of env m args rules o None e f = cc
 top_of env m args rules o (Some p) e f = subst (Tops env m args rules) (some_pair p o e) f
 
--- where rules that match differ by priority, no other one has that of the highest
+-- if rules that match differ by priority, no other one has that of the highest
 pub highest_is_one : (env : Environment) (m : Meaning) (args : List Value) (rules : List Rule) → AreApart env m args rules → HighestIsOne env m args rules
 highest_is_one env m args rules h = record {
   one = λ r q names others e c f p.

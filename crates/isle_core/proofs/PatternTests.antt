@@ -1,4 +1,4 @@
--- Patterns match arguments exactly where their tests hold, and then names are the values of places.
+-- Patterns match arguments exactly if their tests hold, and then names are the values of places.
 use Rattle.std.proofs.Common.{◌≡◌, ℕ, zero, suc, ◌+◌, List, [], ◌∷◌, ◌++◌, length, map, Bool, true, false, cond, eqb, ◌&&◌, Option, Some, None, refl, sym, ap, ◌∙◌, subst, arith}
 use Rattle.std.specs.Prelude.{IsSomeAnd, All, Contains, find, slice_get, option_and_then, option_map}
 use Rattle.std.specs.List.{AllByRecursion}
@@ -129,7 +129,7 @@ abbrev PartsBoth : Environment → Meaning → Choice → Values → Opening →
 PartsBoth env m choice val o at types ps names places = (vs : List Value) (tys : List TypeId) → types ≡ Some tys → HaveTypes env vs tys → PartsStand val o at 0 vs
     → Both val (matches_parts env m choice o ps 0 at vs names) (all_hold env m val (parts_tests env o ps 0 at places)) (after_parts env o ps 0 at places)
 
--- what is made by the term stands at the path exactly where its test holds
+-- what is made by the term stands at the path exactly if its test holds
 made_tested : (env : Environment) (m : Meaning) (val : Values) (term : TermId) (c : Calling) (t : Option Term) (ty : TypeId) (mk : Making) (v : Value) (p : Path) → IsOfMaking ty mk → val p ≡ a_value v → all_hold env m val (opening_tests (opening_by term mk c t) p) ≡ is_made_by env mk v
 made_tested env m val term c t ty (MakesVariant of variant) v p is e = ap (λ h. is_one (is_made_by env (MakesVariant of variant)) h && true) e ∙ and_true (is_made_by env (MakesVariant of variant) v)
 made_tested env m val term c t ty (MakesStruct of) v p is e = ap (λ h. is_one (is_made_by env (MakesStruct of)) h && true) e ∙ and_true (is_made_by env (MakesStruct of) v)

@@ -1,4 +1,4 @@
--- A rule matches exactly where its tests hold, and then names are the values of places.
+-- A rule matches exactly if its tests hold, and then names are the values of places.
 use Rattle.std.proofs.Common.{◌≡◌, ℕ, ◌+◌, ◌≤◌, List, [], ◌∷◌, ◌++◌, Bool, ◌&&◌, Option, Some, None, refl, sym, ap, subst, arith}
 use Rattle.std.specs.Prelude.{option_and_then}
 use Rattle.std.proofs.lemmas.List.Elements.{Contains-append_left, Contains-append_right}
@@ -84,7 +84,7 @@ module _ (env : Environment) (m : Meaning) (choice : Choice) (args : List Value)
 
 -- ---- a rule
 
--- a rule matches with these items chosen exactly where its tests hold
+-- a rule matches with these items chosen exactly if its tests hold
 pub rule_both : (env : Environment) (m : Meaning) (choice : Choice) (args : List Value) (tys : List TypeId) (r : Rule) → AreVariantsApart env → IsTested env tys r → HaveTypes env args tys → AreServed env m (extracted_in env r.args) → IsSupplied env m (called_in_iflets env r.iflets) (iflets_constants r.iflets)
     → Both (value_at env m args (none_made choice)) (chosen_names env m choice args r) (all_hold env m (value_at env m args (none_made choice)) (rule_tests env r)) (rule_places env r)
 rule_both env m choice args tys r apart h t served supplied =

@@ -97,7 +97,7 @@ pub record IsWork (env : Environment) (m : Meaning) (tys : List TypeId) (ps : Li
   pub order : AreListsInOrder [] w.lists
   pub same : (q : Path) → Contains w.lists q ↔ Contains (choice_paths env w.of) q
 
--- the pair of a choice, where the rule matches with it
+-- the pair of a choice, if the rule matches with it
 abbrev pub pair_if : Placed → Choice → Option Names → List Pair → List Pair
 pair_if p c None qs = qs
 pair_if p c (Some names) qs = record { of = p; choice = c; names = names } ∷ qs
@@ -128,7 +128,7 @@ module _ (env : Environment) (m : Meaning) (args : List Value) (tys : List TypeI
   trivial_so w c h chosen (Equal p q) so trivial = subst (λ x. equal_held (value_at env m args (none_made c) p) (value_at env m args (none_made c) x) ≡ true) trivial (equal_held-self (value_at env m args (none_made c) p))
   trivial_so w c h chosen (HasItem p) so trivial = chosen_item c p (all_at (IsChosen env m args c) w.lists p chosen (listed w h p so.0 so.1 so.2))
 
-  -- the rule matches with a choice exactly where its flat rule holds
+  -- the rule matches with a choice exactly if its flat rule holds
   work_both : (w : Work) (c : Choice) → IsWork env m tys ps w → HasChosen w c → Both (value_at env m args (none_made c)) (chosen_names env m c args w.of.rule) (all_hold env m (value_at env m args (none_made c)) (flat_tests ps w.flat)) (rule_places env w.of.rule)
   work_both w c h chosen =
       let val = value_at env m args (none_made c) in

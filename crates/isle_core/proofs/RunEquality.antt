@@ -50,7 +50,7 @@ mutual
 mutual
   unfolding same_value same_in_run
 
-  -- so where it is the other one
+  -- so if it is the other one
   pub same_clear : (v w : Value) → IsClear w → same_in_run v w ≡ same_value v w
   same_clear (Truth a) (Truth b) c = refl
   same_clear (Int s a) (Int t b) c = refl

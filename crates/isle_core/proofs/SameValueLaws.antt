@@ -1,4 +1,4 @@
--- Two values are equal exactly where `same_value` says so.
+-- Two values are equal exactly if `same_value` says so.
 use Rattle.std.proofs.Common.{◌≡◌, ℕ, Bool, true, false, cond, eqb, ◌&&◌, refl, sym, ap, ◌∙◌}
 use Rattle.std.specs.Bool.{Decides}
 use Rattle.std.specs.Ordering.{int_eq}
@@ -52,7 +52,7 @@ triple make a s b t c u x y z h k l apart =
 mutual
   unfolding same_value
 
-  -- `same_value` is true exactly where the values are equal
+  -- `same_value` is true exactly if the values are equal
   pub same_value_decides : (v w : Value) → Decides (same_value v w) (v ≡ w)
   same_value_decides (Truth a) (Truth b) = Decides-like (same_truth a b) (λ e. ap Truth e) (λ e. cc) (truth_decides a b)
   same_value_decides (Int s a) (Int t b) = pair Int s t a b (eqb (int_place s) (int_place t)) (int_eq a b) (place_decides s t) (Decides-int_eq a b) (λ e. (cc, cc))

@@ -89,7 +89,7 @@ plain_at : (ts : List Test) → AllByRecursion IsPlainTest ts → (t : Test) →
 plain_at [] h t c = absurd (none_contained t c)
 plain_at (x ∷ ts) h t c = ⊎_elim (λ (e : x ≡ t). subst IsPlainTest e h.0) (λ d. plain_at ts h.1 t d) (contained_cases x ts t c)
 
--- a flat rule holds where its rule's tests do, if the trivial ones hold
+-- a flat rule holds if its rule's tests do, if the trivial ones hold
 pub flat_same_at : (env : Environment) (m : Meaning) (val : Path → Held) (ps : List Path) (r : Rule) (n : ℕ) (f : FlatRule) → ((t : Test) → Contains (rule_tests env r) t → IsTrivial t → holds env m val t ≡ true) → IsFlat env ps r n f → all_hold env m val (flat_tests ps f) ≡ all_hold env m val (rule_tests env r)
 flat_same_at env m val ps r n f trivial h =
     iff_same (list_all (holds env m val) (flat_tests ps f)) (list_all (holds env m val) (rule_tests env r))

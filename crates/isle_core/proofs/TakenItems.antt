@@ -63,7 +63,7 @@ settled_on : (env : Environment) (done later : List Path) (q : Path) → GoesThr
 settled_on env done later q g h = ⊎_elim (λ e. inl e) (λ e. inr (g.by q e)) h
 
 mutual
-  -- more lists are settled where more are gone through
+  -- more lists are settled if more are gone through
   pub takes_on : (p : Path) (env : Environment) (done later : List Path) → GoesThrough done later → TakesOf env done p → TakesOf env later p
   takes_on (Chosen p) env done later g h = (settled_on env done later p g h.0, takes_on p env done later g h.1)
   takes_on (Called term ps k) env done later g h = all_take_on ps env done later g h
@@ -161,7 +161,7 @@ chosen_else : (b : Bool) (place : ℕ) (i : ℕ) → b ≡ false → cond b plac
 chosen_else true place i e = cc
 chosen_else false place i e = refl
 
--- what is known stays where an item of it is chosen
+-- what is known stays if an item of it is chosen
 pub choosing_kept : (env : Environment) (n : ℕ) (done : List Path) (p : Path) (place : ℕ) (known : Known) → IsNewList env n done p → KeptTo env n done known (choosing known p place)
 choosing_kept env n done p place known h = record { by = λ k low. refl; choice = λ q s. chosen_else (same_path p q) place (known.choice q) (other_list env n done p q h s) }
 

@@ -11,7 +11,7 @@ use Rattle.isle_core.specs.Value.{Value}
 use Rattle.isle_core.specs.ValueAt.{Known, value_at}
 use Rattle.isle_core.proofs.TakenItems.{by_truth}
 
--- what is done at each item, where it is the same as something else
+-- what is done at each item, if it is the same as something else
 abbrev pub Turn : Type 0
 Turn = Known → Given → Given
 

@@ -39,7 +39,7 @@ use Rattle.isle_core.proofs.SameValueLaws.{same_value_decides}
 abbrev pub AreNamed : Environment → List (TypeId × ℕ) → Names → Type 0
 AreNamed env vars names = (ty : TypeId) (x : ℕ) → Contains vars (ty, x) → IsSomeAnd (names x) (λ v. HasType env v ty)
 
--- so where there are names
+-- so if there are names
 abbrev pub HasNamed : Environment → List (TypeId × ℕ) → Option Names → Type 0
 HasNamed env vars None = Unit {0}
 HasNamed env vars (Some names) = AreNamed env vars names
@@ -49,7 +49,7 @@ then_named : (env : Environment) (vars more : List (TypeId × ℕ)) (o : Option 
 then_named env vars more None go h k = tt
 then_named env vars more (Some names) go h k = k names h
 
--- where a test holds
+-- if a test holds
 if_named : (env : Environment) (vars : List (TypeId × ℕ)) (b : Bool) (names : Names) → AreNamed env vars names → HasNamed env vars (if_holds b names)
 if_named env vars true names h = h
 if_named env vars false names h = tt

@@ -111,7 +111,7 @@ abbrev mutual
 abbrev pub without : List ℕ → List ℕ → List ℕ
 without xs ys = filter (λ (x : ℕ). not (list_any (λ (y : ℕ). x == y) ys)) xs
 
--- each Loop is over a list that is bound, and not looped over since; none that is bound outside a Loop is looped over within it, where there is a
+-- each Loop is over a list that is bound, and not looped over since; none that is bound outside a Loop is looped over within it, if there is a
 -- later turn. These lists are bound and not looped over
 abbrev mutual
   pub LoopsOnce : Setting → (fresh : List ℕ) → Block → Type 0
@@ -129,7 +129,7 @@ abbrev mutual
   ArmsLoopOnce s fresh NoArm = Unit {0}
   ArmsLoopOnce s fresh (Arm c places body arms) = LoopsOnce s fresh body × ArmsLoopOnce s fresh arms
 
--- where nothing is bound yet; Loops are over new items
+-- if nothing is bound yet; Loops are over new items
 pub record IsLawfulBlock (s : Setting) (b : Block) : Type 0 where
   pub from : IsLawfulFrom s [] [] b
   pub loops : LoopsOnce s [] b

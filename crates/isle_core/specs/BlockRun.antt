@@ -40,7 +40,7 @@ abbrev pub bind_all : Environment → Meaning → List Value → List Path → L
 bind_all env m args ps [] known made = Goes known made
 bind_all env m args ps (b ∷ bs) known made = then_go (bind_one env m args (at ps b) known made) (bind_all env m args ps bs)
 
--- steps in order; a Match runs the first arm whose constraint holds, an Equal its body where the two are equal; no Loop is built
+-- steps in order; a Match runs the first arm whose constraint holds, an Equal its body if the two are equal; no Loop is built
 abbrev mutual
   pub block_run : Environment → Meaning → List Value → List Path → Block → Known → List Made → Went
   block_run env m args ps Stop known made = Goes known made

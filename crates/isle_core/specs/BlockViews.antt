@@ -28,7 +28,7 @@ abbrev pub arms_of : List SeenArm → Arms
 arms_of [] = NoArm
 arms_of (a ∷ more) = Arm a.0 a.1 a.2 (arms_of more)
 
--- one layer, where what is inside it is seen already
+-- one layer, if what is inside it is seen already
 abbrev pub control_step : ControlFlow-F Control Block SeenStep SeenArm → Control
 control_step (code.Match source arms) = Match source (arms_of arms)
 control_step (code.Equal a b body) = Equal a b body

@@ -107,7 +107,7 @@ abbrev mutual
   BindingsHaveTerms K terms NoBinding = Unit {0}
   BindingsHaveTerms K terms (ABinding x ty e more) = HasTerms K terms e × BindingsHaveTerms K terms more
 
--- so where each is built
+-- so if each is built
 abbrev pub HasBuiltTerms : List Term → Expr → Type 0
 HasBuiltTerms terms e = HasTerms IsBuiltKind terms e
 

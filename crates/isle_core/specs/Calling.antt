@@ -68,7 +68,7 @@ calling_by kind (Some callee) pure = ByTurns callee kind
 calling_by kind None (Some callee) = ByCases callee kind
 calling_by kind None None = NoCall
 
--- how a term is called, where it is there
+-- how a term is called, if it is there
 abbrev pub calling_of : Environment → Option Term → Calling
 calling_of env None = NoCall
 calling_of env (Some t) = calling_by (kind_of t.kind) (impure_callee env t t.kind) (pure_callee env t t.kind)

@@ -6,6 +6,6 @@ use Rattle.isle_core.specs.Path.{Path}
 abbrev pub Choice : Type 0
 Choice = Path → ℕ
 
--- the first item of each list, which stands for any choice where nothing is a list
+-- the first item of each list, which stands for any choice if nothing is a list
 abbrev pub first_items : Choice
 first_items p = 0

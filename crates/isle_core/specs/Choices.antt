@@ -40,6 +40,6 @@ abbrev pub each_choice : Environment → Meaning → List Value → List Path �
 each_choice env m args [] known g next = next known g
 each_choice env m args (q ∷ qs) known g next = on_items q (value_at env m args known q) known g (λ now so. each_choice env m args qs now so next)
 
--- what a flat rule adds with the items that are chosen: its part where it holds
+-- what a flat rule adds with the items that are chosen: its part if it holds
 abbrev pub flat_adds : Environment → Meaning → List Value → List Path → FlatRule → Known → Given → Given
 flat_adds env m args ps f known g = if all_hold env m (value_at env m args known) (flat_tests ps f) then flat_part env m args ps f known g else g

@@ -19,7 +19,7 @@ int_of_def env (Some (def.Enum name is_extern is_nodebug variants pos)) n = Opaq
 int_of_def env (Some (def.Struct name is_extern is_nodebug fields pos)) n = Opaque [] n
 int_of_def env None n = Opaque [] n
 
--- the type of a named constant, where it is declared
+-- the type of a named constant, if it is declared
 abbrev pub const_type : Environment → Sym → Option TypeId
 const_type env name = option_map (λ (c : Sym × TypeId). c.1) (find (λ (c : Sym × TypeId). c.0.0 == name.0) env.types.consts)
 

@@ -4,7 +4,7 @@ use Rattle.isle_core.specs.Parts.{Given}
 use Rattle.isle_core.specs.Space.{Space, room}
 use Rattle.isle_core.specs.Value.{Value, Made, GivesList, Ran}
 
--- the first results, at most so many and one more, and the calls made up to the last of them; all calls where there are fewer
+-- the first results, at most so many and one more, and the calls made up to the last of them; all calls if there are fewer
 abbrev pub cut_after : ℕ → List (Value × List Made) → List Made → List Value × List Made
 cut_after k [] calls = ([], calls)
 cut_after zero (r ∷ rs) calls = (r.0 ∷ [], r.1)

@@ -1,4 +1,4 @@
--- The lines in which errors are told.
+-- The lines in which errors are reported.
 use Rattle.std.specs.Prelude.{ℕ, ◌+◌, ◌==◌, List, [], ◌∷◌, ◌++◌, take, map, nat_lt, codes, Option, Some, None, IsSomeAnd, slice_get, if◌then◌else◌}
 use Rattle.std.specs.Fmt.{decimal}
 use Rattle.isle_core.specs.declared.errors.Error.{Error}
@@ -27,7 +27,7 @@ kind_of (error.OverlapError msg rules) = codes "overlap error"
 kind_of (error.ShadowedError shadowed mask) = codes "shadowed rule"
 kind_of (error.RecursionError msg span) = codes "recursion error"
 
--- the words that tell it; those of a shadowed rule are fixed
+-- the words that report it; those of a shadowed rule are fixed
 abbrev pub words_of : Error → List ℕ
 words_of (error.ParseError msg span) = msg
 words_of (error.TypeError row msg span) = msg
@@ -57,12 +57,12 @@ told_at name line column said = name ++ (codes ":" ++ (decimal line ++ (codes ":
 abbrev pub told_of : Files → Pos → List ℕ → List ℕ
 told_of files pos said = told_at (name_in files pos.file) (line_of (text_in files pos.file) pos.offset) (column_of (text_in files pos.file) pos.offset) said
 
--- what tells an error whose span is this
+-- what reports an error whose span is this
 abbrev pub text_at : Files → Error → Option Span → List ℕ
 text_at files e (Some s) = told_of files s.from (kind_of e ++ (codes ": " ++ words_of e))
 text_at files e None = kind_of e ++ (codes ": " ++ words_of e)
 
--- what tells an error, without a line's end
+-- what reports an error, without a line's end
 abbrev pub error_text : Files → Error → List ℕ
 error_text files e = text_at files e (span_of e)
 

@@ -110,7 +110,7 @@ abbrev mutual
   bound env m choice (ABinding x ty e more) names places n made =
       then_bind (evaluated env m choice e names places n made) (λ v calls. bound env m choice more (with names x.0 v) (with places x.0 (path env e places n)) (n + impure env e) calls)
 
--- the value, where there is one
+-- the value, if there is one
 abbrev pub value_of : Evaluated → Option Value
 value_of (Answered v made) = Some v
 value_of (Failed made) = None

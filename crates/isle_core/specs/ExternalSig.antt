@@ -1,5 +1,6 @@
 -- The functions of a term: which it has, and their signatures.
 use Rattle.std.specs.Prelude.{ℕ, List, [], ◌∷◌, ◌++◌, Bool, true, false, Option, Some, None, codes}
+use Rattle.isle_base.specs.declared.ids.Sym.{Sym}
 use Rattle.isle_core.specs.declared.types.Term.{Term}
 use Rattle.isle_core.specs.declared.types.TypeEnv.{TypeEnv}
 use Rattle.isle_core.specs.declared.types.ExternalSig.{ExternalSig}
@@ -37,6 +38,30 @@ has_external_constructor (kind.Variant ty variant) = false
 has_external_constructor (kind.Struct ty) = false
 has_external_constructor (kind.Decl pure multi partial recursive by taken) = is_external_constructor by
 
+-- the symbol of the function that makes values
+abbrev pub func_by : ConstructorKind → Option Sym
+func_by constructor.Absent = None
+func_by constructor.Internal = None
+func_by (constructor.External func) = Some func
+
+-- that of a term of this kind
+abbrev pub func_of : TermKind → Option Sym
+func_of (kind.Decl pure multi partial recursive by taken) = func_by by
+func_of (kind.Variant ty variant) = None
+func_of (kind.Struct ty) = None
+
+-- the symbol of the function that takes values apart, and how often it answers
+abbrev pub extracted_by : (multi : Bool) → ExtractorKind → Option (Sym × ReturnKind)
+extracted_by multi extractor.Absent = None
+extracted_by multi extractor.Internal = None
+extracted_by multi (extractor.External func infallible) = Some (func, extractor_kind multi infallible)
+
+-- those of a term of this kind
+abbrev pub extracted_of : TermKind → Option (Sym × ReturnKind)
+extracted_of (kind.Decl pure multi partial recursive by taken) = extracted_by multi taken
+extracted_of (kind.Variant ty variant) = None
+extracted_of (kind.Struct ty) = None
+
 -- a term is declared with `rec`
 abbrev pub is_recursive : TermKind → Bool
 is_recursive (kind.Variant ty variant) = false
@@ -63,7 +88,7 @@ extractor_sig_by types t multi (extractor.External func infallible) = Some (reco
   ret_kind = extractor_kind multi infallible;
 })
 
--- that of a term, where it has an external one
+-- that of a term, if it has an external one
 abbrev pub extractor_sig : TypeEnv → Term → TermKind → Option ExternalSig
 extractor_sig types t (kind.Variant ty variant) = None
 extractor_sig types t (kind.Struct ty) = None
@@ -78,7 +103,7 @@ constructor_sig_by types t answers constructor.Absent = None
 constructor_sig_by types t answers constructor.Internal = Some (constructor_of t (constructor_name (symbol_text types t.name)) (constructor_name (symbol_text types t.name)) answers)
 constructor_sig_by types t answers (constructor.External func) = Some (constructor_of t (symbol_text types func) (context_path (symbol_text types func)) answers)
 
--- that of a term, where it has one of its rules or an external one
+-- that of a term, if it has one of its rules or an external one
 abbrev pub constructor_sig : TypeEnv → Term → TermKind → Option ExternalSig
 constructor_sig types t (kind.Variant ty variant) = None
 constructor_sig types t (kind.Struct ty) = None

@@ -63,7 +63,7 @@ abbrev pub value_named : Environment → Sym → Option Sym → FieldValues → 
 value_named env ty (Some variant) fs = Variant (sym_text env ty) (sym_text env variant) fs
 value_named env ty None fs = Struct (sym_text env ty) fs
 
--- the value of a form, whose fields have these values; where there is no form, an opaque number under no name, and of no type
+-- the value of a form, whose fields have these values; if there is no form, an opaque number under no name, and of no type
 abbrev pub form_value : Environment → Option Form → List Value → Value
 form_value env (Some f) vs = value_named env f.ty f.variant (field_values (typed_fields env f.fields) vs)
 form_value env None vs = Opaque [] (pos 0)

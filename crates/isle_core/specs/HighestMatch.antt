@@ -13,7 +13,7 @@ abbrev pub better : Rule → Names → Option (Rule × Names) → Rule × Names
 better r names None = (r, names)
 better r names (Some o) = if is_lt (int_cmp r.prio o.0.prio) then o else (r, names)
 
--- a rule where it matches, and those after it
+-- a rule if it matches, and those after it
 abbrev pub or_later : Rule → Option Names → Option (Rule × Names) → Option (Rule × Names)
 or_later r None later = later
 or_later r (Some names) later = Some (better r names later)

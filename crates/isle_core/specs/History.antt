@@ -38,7 +38,7 @@ service_by role (Some t) NoCall = None
 abbrev pub service_of : Environment → CalledTerm → Option Service
 service_of env o = service_by o.role (slice_get env.terms o.term.0) (called_as env o.term o.role)
 
--- a called term that may be answered: its callee has an answer of its kind and types, as where its types have values
+-- a called term that may be answered: its callee has an answer of its kind and types, as if its types have values
 pub record IsAnswerable (env : Environment) (o : CalledTerm) : Type 0 where
   pub service : Service
   pub is : service_of env o ≡ Some service

@@ -22,7 +22,7 @@ use Rattle.isle_core.specs.Rule.{Environment, rules_of}
 
 -- ---- answers
 
--- an answer of this kind, with results of these types, in each item where there are several
+-- an answer of this kind, with results of these types, in each item if there are several
 abbrev pub Fits : Environment → ReturnKind → List TypeId → Answer → Type 0
 Fits env return_kind.Plain tys (Plain vs) = HaveTypes env vs tys
 Fits env return_kind.Plain tys (Found vs) = ⊥

@@ -39,6 +39,7 @@ pub mod ValueAt
 pub mod CallRun
 pub mod RuleSet
 pub mod SameBinding
+pub mod BindingParts
 pub mod StandsFor
 pub mod Block
 pub mod BlockViews
@@ -61,7 +62,6 @@ pub mod Occurrences
 pub mod ArmPlaces
 pub mod NewItems
 pub mod BlockLawful
-pub mod SingleArms
 pub mod Serializable
 pub mod CalledTerms
 pub mod OccurringConstants

@@ -27,7 +27,7 @@ no_names var = None
 abbrev pub with : {A : Type 0} → (ℕ → Option A) → ℕ → A → ℕ → Option A
 with names x v y = if x == y then Some v else names y
 
--- the names as they are, where the test holds
+-- the names as they are, if the test holds
 abbrev pub if_holds : Bool → Names → Option Names
 if_holds holds names = if holds then Some names else None
 
@@ -36,7 +36,7 @@ abbrev pub met : Option Value → ℕ → Value → Names → Option Names
 met None x v names = Some (with names x v)
 met (Some w) x v names = if_holds (same_value w v) names
 
--- the value of a named constant, where it has one
+-- the value of a named constant, if it has one
 abbrev pub equals_const : Option Value → Value → Names → Option Names
 equals_const None v names = None
 equals_const (Some w) v names = if_holds (same_value v w) names

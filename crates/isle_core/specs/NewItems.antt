@@ -15,7 +15,7 @@ pub record IsNewItem (s : Setting) (bound : List ℕ) (result : BindingId) : Typ
   pub path : at (paths_in s) result ≡ Chosen (at (paths_in s) source)
   pub new : (b : BindingId) → Contains bound b.0 → at (paths_in s) b ≡ at (paths_in s) result → ⊥
 
--- so of each Loop, where these are bound
+-- so of each Loop, if these are bound
 abbrev mutual
   pub HasNewItemsFrom : Setting → (bound : List ℕ) → Block → Type 0
   HasNewItemsFrom s bound Stop = Unit {0}
@@ -31,6 +31,6 @@ abbrev mutual
   ArmsNewItems s bound NoArm = Unit {0}
   ArmsNewItems s bound (Arm c places body arms) = HasNewItemsFrom s (bound_within bound places) body × ArmsNewItems s bound arms
 
--- where nothing is bound yet
+-- if nothing is bound yet
 abbrev pub HasNewItems : Setting → Block → Type 0
 HasNewItems s b = HasNewItemsFrom s [] b

@@ -44,7 +44,7 @@ pub record IsHighest (env : Environment) (m : Meaning) (args : List Value) (rule
   pub matched : rule_names env m args r ≡ Some names
   pub above : (q : Rule) (others : Names) → Contains rules q → rule_names env m args q ≡ Some others → (q ≡ r) ⊎ (q.prio <ℤ r.prio)
 
--- where no rule matches: a term that must answer is not to be called so, any other one gives nothing
+-- if no rule matches: a term that must answer is not to be called so, any other one gives nothing
 abbrev pub unmatched : ReturnKind → Result
 unmatched return_kind.Plain = Unmatched
 unmatched return_kind.Option = Failure

@@ -8,7 +8,7 @@ use Rattle.isle_base.specs.declared.ids.VariantId.{VariantId}
 use Rattle.isle_core.specs.declared.rule_sets.Binding.{Binding}
 use Rattle.isle_core.specs.declared.rule_sets.Binding.TheVariants as binding
 
--- an argument, a constant, the answer of an extractor or of a call (by its occurrence where it is impure), a chosen
+-- an argument, a constant, the answer of an extractor or of a call (by its occurrence if it is impure), a chosen
 -- item, a made value, a field, the inner value or a part of an answer, or nothing that there is
 mutual
   pub data Path : Type 0 where

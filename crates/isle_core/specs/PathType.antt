@@ -57,7 +57,7 @@ abbrev mutual
   IsTupleOf env t (Wrapped q) tys = ⊥
   IsTupleOf env t (Part part q) tys = ⊥
 
-  -- a path that holds an option: of a value where there is one type, else of a tuple
+  -- a path that holds an option: of a value if there is one type, else of a tuple
   pub IsOptionOf : Environment → Term → Path → List TypeId → Type 0
   IsOptionOf env t (Called term ps instance) tys = IsCall return_kind.Option (calling env term) × IsSomeAnd (slice_get env.terms term.0) (λ (c : Term). (c.ret_ty ∷ [] ≡ tys) × ArePathsOf env t ps c.arg_tys)
   IsOptionOf env t (Extracted term q) tys = IsExtraction return_kind.Option (extracting env term) × IsSomeAnd (slice_get env.terms term.0) (λ (c : Term). (c.arg_tys ≡ tys) × IsPathOf env t q c.ret_ty)
@@ -75,7 +75,7 @@ abbrev mutual
   IsOptionOf env t (Inner q) tys = ⊥
   IsOptionOf env t (Part part q) tys = ⊥
 
-  -- a path that holds a list: of values where there is one type, else of tuples
+  -- a path that holds a list: of values if there is one type, else of tuples
   pub IsListOf : Environment → Term → Path → List TypeId → Type 0
   IsListOf env t (Called term ps instance) tys = IsCall return_kind.Iterator (calling env term) × IsSomeAnd (slice_get env.terms term.0) (λ (c : Term). (c.ret_ty ∷ [] ≡ tys) × ArePathsOf env t ps c.arg_tys)
   IsListOf env t (Extracted term q) tys = IsExtraction return_kind.Iterator (extracting env term) × IsSomeAnd (slice_get env.terms term.0) (λ (c : Term). (c.arg_tys ≡ tys) × IsPathOf env t q c.ret_ty)

@@ -27,7 +27,7 @@ IsInPlace (Inner p) = ⊥
 IsInPlace (Part part p) = ⊥
 IsInPlace Nowhere = ⊥
 
--- a binding that may be read where these are bound: one of them, an argument, a constant, or a made value of parts that may be
+-- a binding that may be read if these are bound: one of them, an argument, a constant, or a made value of parts that may be
 -- read
 mutual
   pub data IsReadable (s : Setting) (bound : List ℕ) : BindingId → Type 0 where

@@ -18,7 +18,7 @@ abbrev pub then_position : Went → (Known → List Made → Option Pos) → Opt
 then_position (Goes known made) go = go known made
 then_position (Ends o) go = None
 
--- the first of two, where there is one
+-- the first of two, if there is one
 abbrev pub or_else : Option Pos → Option Pos → Option Pos
 or_else (Some p) o = Some p
 or_else None o = o
@@ -40,7 +40,7 @@ abbrev mutual
   arms_position env m args ps NoArm h known made = None
   arms_position env m args ps (Arm c places body arms) h known made = if meets env m c h then block_position env m args ps body known made else arms_position env m args ps arms h known made
 
--- that of the rule whose result is given: none where no rule holds, or one of its calls fails
+-- that of the rule whose result is given: none if no rule holds, or one of its calls fails
 abbrev pub rule_position : Environment → Meaning → List Value → List Path → Option FlatRule → Option Pos
 rule_position env m args ps None = None
 rule_position env m args ps (Some f) = then_position (run_calls env m args (map (at ps) f.ordered) nothing_known []) (λ known made. Some f.pos)

@@ -12,7 +12,7 @@ use Rattle.isle_core.specs.RightSide.{bool_type, path_or, call_path, path, paths
 use Rattle.isle_core.specs.Rule.{Environment, IfLet, Rule}
 use Rattle.isle_core.specs.Tests.{Places, no_places, after, args_after, rule_places}
 
--- a call, and its chosen item or its inner value where it answers several times or may be nothing
+-- a call, and its chosen item or its inner value if it answers several times or may be nothing
 abbrev pub with_inner : Calling → Path → List Path
 with_inner c p = if answers_often c then p ∷ Chosen p ∷ [] else if is_fallible c then p ∷ Inner p ∷ [] else p ∷ []
 

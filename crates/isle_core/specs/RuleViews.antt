@@ -26,7 +26,7 @@ abbrev pub patterns_of : List Pattern → Patterns
 patterns_of [] = NoPattern
 patterns_of (p ∷ ps) = APattern p (patterns_of ps)
 
--- one pattern, where those inside it are seen already
+-- one pattern, if those inside it are seen already
 abbrev pub pattern_step : Pattern-F Pattern → Pattern
 pattern_step (code_pattern.BindPattern ty var inner) = pure_pattern.BindPattern ty var inner
 pattern_step (code_pattern.Var ty var) = pure_pattern.Var ty var
@@ -55,7 +55,7 @@ abbrev pub bindings_of : List SeenBinding → LetBindings
 bindings_of [] = NoBinding
 bindings_of (b ∷ bs) = ABinding b.0 b.1 b.2 (bindings_of bs)
 
--- one expression, where those inside it are seen already
+-- one expression, if those inside it are seen already
 abbrev pub expr_step : Expr-F Expr SeenBinding → Expr
 expr_step (code_expr.Term ty term args) = pure_expr.Term ty term (exprs_of args)
 expr_step (code_expr.Var ty var) = pure_expr.Var ty var

@@ -42,15 +42,15 @@ StandsWithin tests done (Wrapped q) = Unit {0}
 StandsWithin tests done (Inner q) = Unit {0}
 StandsWithin tests done (Part part q) = Unit {0}
 
--- an impure call may be read after itself, a pure one where its arguments may be
+-- an impure call may be read after itself, a pure one if its arguments may be
 abbrev pub StandsCalled : Calling → (itself arguments : Type 0) → Type 0
 StandsCalled (ByTurns callee kind) itself arguments = itself
 StandsCalled (ByCases callee kind) itself arguments = arguments
 StandsCalled NoCall itself arguments = ⊥
 
 -- a path may be read after these tests and these calls: a field after the test that shows it, an impure call after itself, a pure call
--- where its arguments may be read, an extractor's answer where what it takes apart may be, an item where its list may be, but after the list's
--- own call where that holds an impure one, a part where its tuple may be, and a made value where its parts may be
+-- if its arguments may be read, an extractor's answer if what it takes apart may be, an item if its list may be, but after the list's
+-- own call if that holds an impure one, a part if its tuple may be, and a made value if its parts may be
 abbrev mutual
   pub StandsOn : Environment → (tests : List Test) → (done : List Path) → Path → Type 0
   StandsOn env tests done (Called term ps instance) = StandsCalled (calling env term) (Contains done (Called term ps instance)) (AllStandOn env tests done ps)
@@ -111,8 +111,8 @@ pub record AreComparable (env : Environment) (t : Term) (ps : List Path) (tests 
 
 -- ---- calls
 
--- a call of a term on values of its types, which stand on earlier calls; it has an inner value exactly where it may be nothing, which is only so in
--- a term that may stop, and an item exactly where it answers several times, which is only so in a term that does so, too
+-- a call of a term on values of its types, which stand on earlier calls; it has an inner value exactly if it may be nothing, which is only so in
+-- a term that may stop, and an item exactly if it answers several times, which is only so in a term that does so, too
 pub record IsSerializableCall (env : Environment) (t : Term) (tests : List Test) (ps done : List Path) (p : Path) : Type 0 where
   pub term : TermId
   pub parameters : Paths

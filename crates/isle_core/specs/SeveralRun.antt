@@ -59,7 +59,7 @@ list_of (Wrapped p) = Nowhere
 list_of (Inner p) = Nowhere
 list_of (Part part p) = Nowhere
 
--- steps in order; a Match runs the first arm whose constraint holds, an Equal its body where the two are equal, a Loop its body for each item
+-- steps in order; a Match runs the first arm whose constraint holds, an Equal its body if the two are equal, a Loop its body for each item
 abbrev mutual
   pub several_run : Environment → Meaning → List Value → List Path → Block → Known → Given → Given
   several_run env m args ps Stop known g = g

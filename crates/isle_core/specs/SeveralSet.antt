@@ -18,7 +18,7 @@ use Rattle.isle_core.specs.ValueAt.{Known, value_at, is_found}
 abbrev pub is_among : Path → List Path → Bool
 is_among p done = list_any (same_path p) done
 
--- what follows where these calls are made, and the items of those that are lists are gone through
+-- what follows if these calls are made, and the items of those that are lists are gone through
 abbrev pub Rest : Type 0
 Rest = List Path → Known → Given → Given
 

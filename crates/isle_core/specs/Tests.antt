@@ -101,7 +101,7 @@ abbrev pub args_after : Environment → List Pattern → ℕ → Places → Plac
 args_after env [] i places = places
 args_after env (q ∷ qs) i places = args_after env qs (suc i) (after env q (Arg i) places)
 
--- that each call of a condition's expression finds something, where it may be nothing
+-- that each call of a condition's expression finds something, if it may be nothing
 abbrev mutual
   pub called_tests : Environment → Expr → Places → List Test
   called_tests env (expr.Term ty term es) places = all_called_tests env es places ++ found_tests (calling env term) (call_path env term (paths env es places 0) 0)

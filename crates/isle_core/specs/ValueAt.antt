@@ -36,12 +36,12 @@ nothing_known = none_made first_items
 abbrev pub answered_too : Known → ℕ → Answer → Known
 answered_too known instance a = record { answers = with known.answers instance a; choice = known.choice }
 
--- a value, where there is one
+-- a value, if there is one
 abbrev pub held : Option Value → Held
 held None = Absent
 held (Some v) = a_value v
 
--- what the answer of a call holds, where it is known
+-- what the answer of a call holds, if it is known
 abbrev pub held_of : Option Answer → Held
 held_of None = Absent
 held_of (Some a) = answer_held a
@@ -54,7 +54,7 @@ inner_held Absent = Absent
 inner_held (One i) = Absent
 inner_held (Listed is) = Absent
 
--- a value before others, where all are there
+-- a value before others, if all are there
 abbrev pub value_before : Held → Option (List Value) → Option (List Value)
 value_before (One (AValue v)) (Some vs) = Some (v ∷ vs)
 value_before (One (AValue v)) None = None
@@ -63,7 +63,7 @@ value_before Absent o = None
 value_before (Optional i) o = None
 value_before (Listed is) o = None
 
--- what a pure call answers to its arguments, where all are there
+-- what a pure call answers to its arguments, if all are there
 abbrev pub case_held : Meaning → Calling → Option (List Value) → Held
 case_held m (ByCases callee kind) (Some vs) = answer_held (case m callee vs)
 case_held m (ByCases callee kind) None = Absent
@@ -76,7 +76,7 @@ call_held m (ByTurns callee kind) known vs = held_of known
 call_held m (ByCases callee kind) known vs = case_held m (ByCases callee kind) vs
 call_held m NoCall known vs = Absent
 
--- what an extractor answers to a value, where it is there
+-- what an extractor answers to a value, if it is there
 abbrev pub extracted_held : Meaning → Calling → Held → Held
 extracted_held m c h = case_held m c (value_before h (Some []))
 
@@ -95,7 +95,7 @@ part_held i Absent = Absent
 part_held i (Optional o) = Absent
 part_held i (Listed is) = Absent
 
--- what a term makes of values, where all are there
+-- what a term makes of values, if all are there
 abbrev pub made_held : Environment → Making → Option (List Value) → Held
 made_held env made None = Absent
 made_held env made (Some vs) = a_value (made_value env made vs)
@@ -168,7 +168,7 @@ is_one test Absent = false
 is_one test (Optional o) = false
 is_one test (Listed is) = false
 
--- a value of a named constant, where it has one
+-- a value of a named constant, if it has one
 abbrev pub is_const : Option Value → Held → Bool
 is_const None h = false
 is_const (Some w) h = is_value w h
@@ -236,7 +236,7 @@ is_item Absent = false
 is_item (Optional o) = false
 is_item (Listed is) = false
 
--- a test holds where the paths have these values
+-- a test holds if the paths have these values
 abbrev pub holds : Environment → Meaning → (Path → Held) → Test → Bool
 holds env m at (Is p c) = meets env m c (at p)
 holds env m at (Equal p q) = equal_held (at p) (at q)

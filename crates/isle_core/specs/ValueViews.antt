@@ -22,7 +22,7 @@ abbrev pub fields_of : List (List ℕ × Value) → FieldValues
 fields_of [] = NoField
 fields_of (field ∷ fields) = Field field.0 field.1 (fields_of fields)
 
--- one value, where those inside it are seen already
+-- one value, if those inside it are seen already
 abbrev pub value_step : Value-F Value → Value
 value_step (code.Bool b) = Truth b
 value_step (code.Int ty n) = Int ty n

@@ -16,7 +16,7 @@ pub record Work : Type 0 where
   pub flat : FlatRule
   pub lists : List Path
 
--- what they add where the bindings have these paths
+-- what they add if the bindings have these paths
 abbrev pub works_add : Environment → Meaning → List Value → List Path → List Work → Given → Given
 works_add env m args ps [] g = g
 works_add env m args ps (w ∷ ws) g = works_add env m args ps ws (each_choice env m args w.lists nothing_known g (flat_adds env m args ps w.flat))

@@ -17,7 +17,7 @@ pub struct EvalStep {
     pub check: ControlFlow,
 }
 
-/// A constraint, the bindings of the parts that it shows, and what follows where it holds.
+/// A constraint, the bindings of the parts that it shows, and what follows if it holds.
 #[cycle(block)]
 #[derive(Debug)]
 pub struct MatchArm {

@@ -1,4 +1,4 @@
-//! Faults in definitions, and the lines in which they are told.
+//! Faults in definitions, and the lines in which they are reported.
 
 ghost use Rattle.std.specs.Prelude.{◌≡◌, ◌++◌, All, Some as SomeOf, IfOk, OnOk, IsSomeAnd, codes, map, option_copied};
 ghost use Rattle.std.specs.String.{string_bytes};
@@ -74,7 +74,7 @@ impl Error {
         }
     }
 
-    // The words that tell it.
+    // The words that report it.
     fn words(&self) -> &str
         ensures { result.now ≡ words_of self.now }
     {
@@ -104,7 +104,7 @@ impl Error {
         }
     }
 
-    // What tells it, without a line's end.
+    // What reports it, without a line's end.
     fn text(&self, alloc: Global, starts: &LineStarts, files: &Files) -> Result<String, OutOfMemory>
         requires table { starts.now ≡ map starts_of files.now.file_texts }
         requires placed { IsPlaced files.now self.now }
@@ -119,7 +119,7 @@ impl Error {
         }
     }
 
-    // The line that tells it.
+    // The line that reports it.
     fn line(&self, alloc: Global, starts: &LineStarts, files: &Files) -> Result<String, OutOfMemory>
         requires table { starts.now ≡ map starts_of files.now.file_texts }
         requires placed { IsPlaced files.now self.now }
@@ -130,7 +130,7 @@ impl Error {
         Ok(line)
     }
 
-    // The line that tells it, as it is shown.
+    // The line that reports it, as it is shown.
     fn shown(
         &self,
         alloc: Global,

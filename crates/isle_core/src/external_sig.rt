@@ -3,12 +3,12 @@
 ghost use Rattle.std.specs.Prelude.{◌≡◌, ◌++◌, ◌∷◌, [], IfOk, option_map};
 ghost use Rattle.isle_core.specs.Calling.{kind_by, kind_of, extractor_kind};
 ghost use Rattle.isle_core.specs.ExternalSig.{has_external_extractor, has_external_constructor, is_recursive};
-ghost use Rattle.isle_core.specs.ExternalSig.{extractor_sig, constructor_sig};
+ghost use Rattle.isle_core.specs.ExternalSig.{extractor_sig, constructor_sig, func_of, extracted_of};
 
 use crate::types::{
     ConstructorKind, ExternalSig, ExtractorKind, ReturnKind, Term, TermKind, TypeEnv,
 };
-use isle_base::{List, Text, TypeId};
+use isle_base::{List, Sym, Text, TypeId};
 use isle_outside::OutOfMemory;
 use std::alloc::{AllocError, Global};
 
@@ -102,6 +102,34 @@ impl Term {
         }
     }
 
+    /// Returns the symbol of the function that makes the term's values, if there is one.
+    pub fn maker(&self) -> Option<Sym>
+        ensures { result ≡ func_of self.now.kind }
+    {
+        match &self.kind {
+            TermKind::Decl {
+                constructor: ConstructorKind::External { func },
+                ..
+            } => Some(*func),
+            _ => None,
+        }
+    }
+
+    /// Returns the symbol of the function that takes the term's values apart and how often it answers, if there is
+    /// one.
+    pub fn taker(&self) -> Option<(Sym, ReturnKind)>
+        ensures { result ≡ extracted_of self.now.kind }
+    {
+        match &self.kind {
+            TermKind::Decl {
+                multi,
+                extractor: ExtractorKind::External { func, infallible },
+                ..
+            } => Some((*func, extractor_kind(*multi, *infallible))),
+            _ => None,
+        }
+    }
+
     /// Tells whether the term is declared with `rec`.
     pub fn is_recursive(&self) -> bool
         ensures { result ≡ is_recursive self.now.kind }
@@ -113,7 +141,7 @@ impl Term {
     }
 
     /// Returns the signature of the term's external extractor, if it has one: it takes the term's result and gives its
-    /// arguments, several times where the term is `multi`, once where the extractor is `infallible`, and at most once
+    /// arguments, several times if the term is `multi`, once if the extractor is `infallible`, and at most once
     /// otherwise (`specs/ExternalSig.antt`). Names are symbols of `env`. The only error is want of memory.
     pub fn extractor_sig(
         &self,
@@ -141,7 +169,7 @@ impl Term {
     }
 
     /// Returns the signature of the term's constructor, if it has an external one or rules: it takes the term's
-    /// arguments and gives its result, several times where the term is `multi`, at most once where it is `partial`, and
+    /// arguments and gives its result, several times if the term is `multi`, at most once if it is `partial`, and
     /// once otherwise (`specs/ExternalSig.antt`). Names are symbols of `env`. The only error is want of memory.
     pub fn constructor_sig(
         &self,

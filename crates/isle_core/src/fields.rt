@@ -28,7 +28,7 @@ pub fn numbered(alloc: Global, index: usize) -> Result<Text, AllocError>
 }
 
 impl TypeEnv {
-    /// Returns the name and the type of the field of this number, where there is one; the fields of a tuple have their
+    /// Returns the name and the type of the field of this number, if there is one; the fields of a tuple have their
     /// numbers for names. The only error is want of memory.
     pub fn field_at(
         &self,

@@ -21,7 +21,7 @@ pub struct CodegenOptions {
     pub emit_logging: bool,
     /// Put the bodies of large match arms into closures.
     pub split_match_arms: bool,
-    /// The weight above which an arm's body is large; 256 where none is given.
+    /// The weight above which an arm's body is large; 256 if none is given.
     pub match_arm_split_threshold: Option<usize>,
 }
 

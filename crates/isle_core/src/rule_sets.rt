@@ -1,7 +1,10 @@
+ghost use Rattle.std.specs.Prelude.{◌≡◌, option_map};
+ghost use Rattle.isle_core.specs.BindingParts as BindingParts;
 ghost use Rattle.isle_core.specs.SameBinding.{IsPlaceOf};
 
 use crate::position::Pos;
 use isle_base::{BindingId, List, Sym, TermId, TupleIndex, TypeId, VariantId};
+use std::slice;
 
 /// A value that a rule speaks of, by the values that it comes from.
 #[derive(Debug, PartialEq)]
@@ -105,6 +108,76 @@ impl Drop for Binding {
                 source: _source,
                 field: _field,
             } => {}
+        }
+    }
+}
+
+// Returns the parts, if there are any.
+fn some_parts<'a>(parts: &'a [BindingId]) -> Option<&'a [BindingId]>
+    ensures { option_map (λ parts. parts.now) result ≡ BindingParts.some_parts parts.now }
+{
+    if parts.is_empty() { None } else { Some(parts) }
+}
+
+impl Binding {
+    /// Returns what the binding is made over.
+    pub fn parts(&self) -> &[BindingId]
+        ensures { result.now ≡ BindingParts.over self.now }
+    {
+        match self {
+            Binding::Extractor { parameter, .. } => slice::from_ref(parameter),
+            Binding::Constructor { parameters, .. } => parameters.as_slice(),
+            Binding::MakeVariant { fields, .. } => fields.as_slice(),
+            Binding::MakeStruct { fields, .. } => fields.as_slice(),
+            Binding::Iterator { source } => slice::from_ref(source),
+            Binding::MatchVariant { source, .. } => slice::from_ref(source),
+            Binding::ExtractStruct { source, .. } => slice::from_ref(source),
+            Binding::MakeSome { inner } => slice::from_ref(inner),
+            Binding::MatchSome { source } => slice::from_ref(source),
+            Binding::MatchTuple { source, .. } => slice::from_ref(source),
+            _ => &[],
+        }
+    }
+
+    /// Returns what a call is made over, of a term's constructor or of its extractor.
+    pub fn call_parts(&self) -> Option<&[BindingId]>
+        ensures { option_map (λ parts. parts.now) result ≡ BindingParts.call_parts self.now }
+    {
+        match self {
+            Binding::Constructor { parameters, .. } => Some(parameters.as_slice()),
+            Binding::Extractor { parameter, .. } => Some(slice::from_ref(parameter)),
+            _ => None,
+        }
+    }
+
+    /// Returns the parts of a made value. A struct without fields is a name, and has none.
+    pub fn made_parts(&self) -> Option<&[BindingId]>
+        ensures { option_map (λ parts. parts.now) result ≡ BindingParts.made_parts self.now }
+    {
+        match self {
+            Binding::MakeVariant { fields, .. } => Some(fields.as_slice()),
+            Binding::MakeStruct { fields, .. } => some_parts(fields.as_slice()),
+            _ => None,
+        }
+    }
+
+    /// Returns the list of an item.
+    pub fn list(&self) -> Option<BindingId>
+        ensures { result ≡ BindingParts.list_of self.now }
+    {
+        match self {
+            Binding::Iterator { source } => Some(*source),
+            _ => None,
+        }
+    }
+
+    /// Returns the option of an inner value.
+    pub fn option(&self) -> Option<BindingId>
+        ensures { result ≡ BindingParts.option_of self.now }
+    {
+        match self {
+            Binding::MatchSome { source } => Some(*source),
+            _ => None,
         }
     }
 }

@@ -52,7 +52,7 @@ named_is (first ∷ sigs) name s e = first_is first name s (bytes_eq first.term 
 pub there : {X : Type 0} (xs : List X) (i : ℕ) (r : Option (Bor X)) (x : Bor X) → IfSome r (λ x. x.now ≡ get_or xs i x.now) → MatchOption r (length xs ≤ i) (λ x. (i < length xs) × HoldsAt (λ y. x.now ≡ y) xs i) → r ≡ Some x → slice_get xs i ≡ Some x.now
 there xs i r x e h is = sym (got xs i r e h) ∙ ap option_copied is
 
--- where there is nothing at the place, nothing is left
+-- if there is nothing at the place, nothing is left
 pub past : {X : Type 0} (xs : List X) (i : ℕ) (r : Option (Bor X)) → MatchOption r (length xs ≤ i) (λ x. (i < length xs) × HoldsAt (λ y. x.now ≡ y) xs i) → r ≡ None → length xs ≤ i
 past xs i None h e = h
 past xs i (Some x) h e = cc

@@ -150,7 +150,7 @@ put_again numbers count i table p lt below there h =
       places = λ k l. h.places k l ∙ sym (ap (λ xs. place_of xs k) more ∙ place_end (take i numbers) n k ∙ place_kept (place_of (take i numbers) k) (n == k) (length (take i numbers)) p (λ e. ap (place_of (take i numbers)) (sym ((Decides-eqb n k).0 e)) ∙ at));
     }
 
--- the same where something is found
+-- the same if something is found
 pub put_found : (numbers : List ℕ) (count i : ℕ) (table : List (Option ℕ)) (o : Option ℕ) → i < length numbers → AllByRecursion (λ (n : ℕ). n < count) numbers → place_in table (Some (get_or numbers i 0)) ≡ o → is_some o ≡ true
     → ArePut numbers count i table → ArePut numbers count (i + 1) table
 put_found numbers count i table None lt below there some h = absurd cc
@@ -191,7 +191,7 @@ some_later true has o h = refl
 some_later false has None h = h
 some_later false has (Some p) h = h
 
--- a name is among the heads where it has a rule
+-- a name is among the heads if it has a rule
 pub has_head : (rules : List RuleDef) (name : List ℕ) → is_some (index_of (heads_of rules) name) ≡ has_rule rules name
 has_head [] name = refl
 has_head (r ∷ rules) name = some_later (bytes_eq r.term name) (has_rule rules name) (index_of (heads_of rules) name) (has_head rules name)
@@ -201,7 +201,7 @@ func_later g x true o p h = refl
 func_later g x false o None h = h
 func_later g x false o (Some n) h = h
 
--- a term has an external constructor where it is among their terms
+-- a term has an external constructor if it is among their terms
 pub has_func : (xs : List Extern) (name : List ℕ) → is_some (func_named xs name) ≡ is_some (index_of (extern_terms xs) name)
 has_func [] name = refl
 has_func (x ∷ xs) name = func_later (λ (y : Extern). y.func) x (bytes_eq x.term name) (find (λ (y : Extern). bytes_eq y.term name) xs) (index_of (extern_terms xs) name) (has_func xs name)

@@ -12,7 +12,7 @@ use Rattle.isle_declarations.specs.Symbols.{index_of, added}
 use Rattle.isle_declarations.specs.LookedUp.{texts, at_name, FindsFirst}
 use Rattle.isle_declarations.proofs.SymbolLaws.{index_of_more, index_of_new, none_of}
 
--- a place, or else this one where it is the name's
+-- a place, or else this one if it is the name's
 abbrev pub or_at : Option ℕ → Bool → ℕ → Option ℕ
 or_at (Some n) here end = Some n
 or_at None here end = cond here (Some end) None

@@ -137,7 +137,7 @@ pub same_name : (names : List (List ℕ)) (x y : List ℕ) (n : ℕ) → index_o
 same_name [] x y n e f = cc
 same_name (first ∷ names) x y n e f = same_first first names x y n (bytes_eq first x) (bytes_eq first y) refl refl (same_name names x y) e f
 
--- numbers are one where the names are
+-- numbers are one if the names are
 pub same_number : (syms : List (List ℕ)) (a b : List ℕ) (m n : ℕ) → index_of syms a ≡ Some m → index_of syms b ≡ Some n → m == n ≡ bytes_eq a b
 same_number syms a b m n e f =
     same_from_decides (m == n) (bytes_eq a b)

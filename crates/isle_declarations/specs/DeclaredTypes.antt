@@ -65,7 +65,7 @@ made_by name (Primitive rust) = []
 made_by name (Enum variants) = map (λ (v : AstVariant). variant_term name v.name) variants
 made_by name (Struct fields) = name ∷ []
 
--- the terms that a type makes, where there is one
+-- the terms that a type makes, if there is one
 abbrev pub made_or_none : Option DeclaredType → List (List ℕ)
 made_or_none None = []
 made_or_none (Some t) = made_by t.name t.body

@@ -8,7 +8,7 @@ abbrev pub place_of : List ℕ → ℕ → Option ℕ
 place_of [] k = None
 place_of (n ∷ ns) k = if n == k then Some 0 else option_map (λ (p : ℕ). p + 1) (place_of ns k)
 
--- what is at a place where something may be
+-- what is at a place if something may be
 abbrev pub joined : Option (Option ℕ) → Option ℕ
 joined None = None
 joined (Some o) = o

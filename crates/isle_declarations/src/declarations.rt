@@ -46,7 +46,8 @@ impl<'d> Model for Declarations<'d> {
 
     ghost view = { λ k. k.defs.now };
 
-    ghost invariant = { λ k. AreTables (seen k.defs.now) k.given k.declared k.external k.extracting k.ruled };
+    ghost invariant = { λ k.
+        AreTables (seen k.defs.now) k.given k.declared k.external k.extracting k.ruled };
 }
 
 // What is known of how an extractor takes values apart.
@@ -112,7 +113,7 @@ impl<'d> Declarations<'d> {
         self.given.symbols.len()
     }
 
-    /// Returns the number of a name, where it is a symbol.
+    /// Returns the number of a name, if it is a symbol.
     pub fn number(&self, name: &Text) -> Option<usize>
         ensures { result ≡ index_of (symbols (seen self.now)) name.now }
     {

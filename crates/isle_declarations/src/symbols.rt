@@ -45,7 +45,7 @@ impl<'d> Symbols<'d> {
         self.names.len()
     }
 
-    /// Returns the number of a name, the next one where it is met first. The only error is want of memory.
+    /// Returns the number of a name, the next one if it is met first. The only error is want of memory.
     pub fn intern(&mut self, name: &'d str) -> Result<usize, AllocError>
         ensures place { IfOk result (λ place. index_of self.new name.now ≡ Some place) }
         ensures names { OnOk result (self.new ≡ added self.old name.now) }
@@ -65,7 +65,7 @@ impl<'d> Symbols<'d> {
         }
     }
 
-    /// Returns the number of a name, where it is there.
+    /// Returns the number of a name, if it is there.
     pub fn find(&self, name: &str) -> Option<usize>
         ensures { result ≡ index_of self.now name.now }
     {

@@ -131,7 +131,7 @@ fn push_made<'d>(
     }
 }
 
-// The terms that a definition gives, where the names of those that its type makes are given.
+// The terms that a definition gives, if the names of those that its type makes are given.
 fn push_terms<'d>(
     terms: &mut Vec<TermDef<'d>>,
     given: &'d Def,
@@ -181,7 +181,7 @@ fn push_terms<'d>(
     }
 }
 
-// The terms of definitions, where the names of those that types make are given.
+// The terms of definitions, if the names of those that types make are given.
 fn gathered<'d>(
     alloc: Global,
     defs: &'d [Def],

@@ -15,7 +15,7 @@ leaf_none : run read_leaf [] ≡ Stuck []
 unfolding read_leaf
 leaf_none = word_none _
 
--- where no parenthesis opens, it is one word
+-- if no parenthesis opens, it is one word
 pub expr_leaf : (n d : ℕ) (ts : List Lexeme) → None ≡ opens ts → run (read_expr n d) ts ≡ run read_leaf ts
 unfolding read_expr
 expr_leaf n zero ts e = other_peek _ read_leaf ts leaf_none e

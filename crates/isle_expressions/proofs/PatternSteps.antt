@@ -17,7 +17,7 @@ worded_none : (n d : ℕ) → run (read_worded n d) [] ≡ Stuck []
 unfolding read_worded read_first
 worded_none n d = run-bind read_first (suffix (read_binds n d)) [] ∙ ap (λ o. after o (λ f us. run (suffix (read_binds n d) f) us)) (word_none _)
 
--- where no parenthesis opens, it begins with a word
+-- if no parenthesis opens, it begins with a word
 pub pattern_word : (n d : ℕ) (ts : List Lexeme) → None ≡ opens ts → run (read_pattern n d) ts ≡ run (read_worded n d) ts
 unfolding read_pattern read_worded read_binds read_listed
 pattern_word n zero ts e = other_peek Halt (read_worded n zero) ts (worded_none n zero) e
@@ -39,7 +39,7 @@ pattern_list n (suc d) at ts l e = let k : d ≡ suc d - 1 = omega arith in open
 pub pattern_none : (n d : ℕ) → run (read_pattern n d) [] ≡ Stuck []
 pattern_none n d = pattern_word n d [] refl ∙ worded_none n d
 
--- where no `@` stands after a symbol, it is a pattern by itself
+-- if no `@` stands after a symbol, it is a pattern by itself
 pub symbol_alone : (n d : ℕ) (x : List ℕ) (ts : List Lexeme) → 0 < length ts → None ≡ signs ts → run (read_symbol n d x) ts ≡ Got (symbol_of x (kind x)) ts
 unfolding read_symbol
 symbol_alone n d x ts l e = no_at_peek (read_binds n d x) (Ret (symbol_of x (kind x))) ts l e ∙ done_got (symbol_of x (kind x)) ts

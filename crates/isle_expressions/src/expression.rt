@@ -197,7 +197,7 @@ fn let_in(
     Ok(AstExpr::Let(List::new(lets), Boxed::new(alloc, value)?))
 }
 
-// The failure where a parenthesis is wanted, and none more may be open.
+// The failure if a parenthesis is wanted, and none more may be open.
 fn too_deep(tokens: &mut Tokens<'_>) -> Fail
     ensures { result ≡ At (length (left tokens.old)) }
 {

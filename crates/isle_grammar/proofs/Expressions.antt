@@ -123,7 +123,7 @@ bindings_end = (Open 0 ∷ Close 0 ∷ [], [], λ tail c. (0, Close 0 ∷ tail, 
 binding_heads : (b : SeenBinding) (ts rest : List Lexeme) → BindingS b ts rest → Heads is_close false ts
 binding_heads b ts rest s = (Open s.0, s.1, s.2, refl)
 
--- inside as many lists, where so many more may be open
+-- inside as many lists, if so many more may be open
 law_binding : (n d : ℕ) → ((k : ℕ) → d ≡ suc k → ExprLaw n k) → (ms : List Mark) → suc (length ms) + d ≡ most_open → Law (Inside (Round ∷ ms)) (λ b. Inside (Round ∷ ms)) Anything n BindingS (read_binding n d)
 unfolding read_expr
 law_binding n zero h ms e = law_walled is_open (λ b ts rest s c. (Open s.0, s.1, s.2, refl)) (inside_over (Round ∷ ms) tt (omega (arith, e))) binding_ends

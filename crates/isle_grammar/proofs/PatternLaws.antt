@@ -128,7 +128,7 @@ pattern_no_at _ _ _ (list at n w h ps ts rest hw m) = (Open at, Word n w ∷ ts,
 
 -- ---- the law
 
--- what stands after a word, where the readers after an `@` are barred or read
+-- what stands after a word, if the readers after an `@` are barred or read
 law_suffix : (n : ℕ) (ms : List Mark) (binds : List ℕ → Reader Pattern)
     → ((x : List ℕ) → Law (Behind ms) (λ p. Inside (settled ms)) NoAt n (SuffixS (Symbol x)) (Peek is_at (binds x) (Ret (symbol_of x (kind x))))) → (f : First)
     → Law (Behind ms) (λ p. Inside (settled ms)) NoAt n (SuffixS f) (suffix binds f)

@@ -57,7 +57,7 @@ read_pattern n zero = Peek is_open Halt (bind read_first (suffix (λ x. Halt)))
 read_pattern n (suc d) = Peek is_open (bind read_open (λ o. bind read_pattern_head (λ h. bind (many n (read_pattern n d)) (λ ps. Ret (listed h (patterns_of ps))))))
     (bind read_first (suffix (λ x. bind read_at (λ a. bind (read_pattern n d) (λ p. Ret (tree.Bind x p))))))
 
--- after an `@`, where d more may be open
+-- after an `@`, if d more may be open
 unfoldable pub read_binds : ℕ → ℕ → List ℕ → Reader Pattern
 read_binds n zero x = Halt
 read_binds n (suc d) x = bind read_at (λ a. bind (read_pattern n d) (λ p. Ret (tree.Bind x p)))

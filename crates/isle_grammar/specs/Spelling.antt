@@ -27,5 +27,5 @@ pub record Spells (file : ℕ) (text : List ℕ) (defs : List Def) : Type 0 wher
 pub data IsTextFault (file : ℕ) (text : List ℕ) (at : ℕ) : Type 0 where
   -- a comment that begins there never ends, which goes before every other fault
   open_comment : unclosed text ≡ Some at → IsTextFault file text at
-  -- its tokens go wrong there: the first byte of a token, or the text's end where a token is missing
+  -- its tokens go wrong there: the first byte of a token, or the text's end if a token is missing
   bad_tokens : IsClosed text → IsFaultAt (IsFile file) (lexemes text) (length text) at → IsTextFault file text at

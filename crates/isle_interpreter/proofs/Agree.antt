@@ -294,7 +294,7 @@ module _ (m given : Meaning) (has : HasAnswers m given) where
     same_function kind.Option b fits alike same = same_ending kind.Option b [] nothing_done fits alike same
     same_function kind.Iterator b fits alike same = same_body kind.Iterator false b [] nothing_done fits alike same
 
-    -- the two runs are one, where names without an entry have no value under the one either
+    -- the two runs are one, if names without an entry have no value under the one either
     pub same_limited : FitsFunction f.kind f.body → AreAnswered f (entries given)
         → ((name : List ℕ) → Contains (body_names f.body) name → const_of given name ≡ None → const_of m name ≡ None) → limited_run p m args limit f ≡ limited_run p given args limit f
     same_limited fits some none = ap (ended f.kind) (same_function f.kind f.body fits (λ callee there. same_answer callee (some callee there)) (λ name there. same_name name (none name there)))

@@ -67,7 +67,7 @@ fitting p g m earlier f callee s of b e serves fresh is fits = (
   λ r. fits.1 (subst (λ o. IsSomeAnd o (EntryFits p.types f)) is (known p g m earlier f callee e r).1),
 )
 
--- so of the test that tells it
+-- so of the test that reports it
 pub fits_right : {E : Type 0} (p : Program) (f : Entry) (callee : Callee) (s : Served) (of : Signature) (types : List TypeItem) (r : Result Bool E) → answers_for f ≡ Some callee → has s callee ≡ false → signature_of p callee ≡ Some of → types ≡ p.types
     → IfOk r (λ b. IsTrue b ↔ EntryFits types f of) → IfOk r (λ b. (earlier : List Entry) (g : Function) (m : Meaning) → Serves earlier s → IsTrue b ↔ IsRight p g m earlier f)
 fits_right p f callee s of types (result.Ok b) e fresh is same fits = λ earlier g m serves. fitting p g m earlier f callee s of b e serves fresh is (subst (λ ts. IsTrue b ↔ EntryFits ts f of) same fits)
@@ -105,7 +105,7 @@ given_right p g m earlier name v s b serves fresh there apart typed fits = (
   λ r. fits.1 r.fits,
 )
 
--- so of the test that tells it
+-- so of the test that reports it
 pub given_fits : {E : Type 0} (p : Program) (name : List ℕ) (v : Value) (s : Served) (clashing : BTreeSet (Bor (List ℕ))) (r : Result Bool E) → has_name s.constants name ≡ false → has_constant p name ≡ true → has_name clashing name ≡ false → is_typed v ≡ true
     → IfOk r (λ b. IsTrue b ↔ FitsPlaces p name v) → IfOk r (λ b. (earlier : List Entry) (g : Function) (m : Meaning) → Serves earlier s → FindsClashes p g m clashing → IsTrue b ↔ IsRight p g m earlier (Constant name v))
 given_fits p name v s clashing (result.Ok b) fresh there alone typed fits = λ earlier g m serves finds. given_right p g m earlier name v s b serves fresh there ((finds name).0 (ap not alone)) typed fits
@@ -210,7 +210,7 @@ is_missing p f fs s serves all = let one = left fs s (body_calls f.body) serves 
 abbrev pub knows : Program → Served → Place → Bool
 knows p s x = known_operand p s x.0
 
--- what is told of it by what is kept of the program
+-- what is known of it by what is kept of the program
 pub known_of : (p kept signed : CodeProgram) (f : Function) (s : Served) (told : Bool) → kept ≡ p → signed ≡ p → told ≡ list_all (knows (program kept) s) (places (program signed) f) → told ≡ list_all (knows (program p) s) (places (program p) f)
 known_of p kept signed f s told one two e =
     e

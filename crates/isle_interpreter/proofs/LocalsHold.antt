@@ -140,7 +140,7 @@ told_fields w bound env (f ∷ fs) is a e = by (is_value (read_holds (length w.a
 
 -- ---- patterns bind what is said of them
 
--- where a pattern fits, what it binds holds that
+-- if a pattern fits, what it binds holds that
 abbrev pub Bound : Locals → Option Env → Type 0
 Bound ls None = Unit {0}
 Bound ls (Some more) = Agree ls more

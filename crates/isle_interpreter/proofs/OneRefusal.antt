@@ -1,4 +1,4 @@
--- There is one refusal at most, and none where the function may run.
+-- There is one refusal at most, and none if the function may run.
 use Rattle.std.proofs.Common.{◌≡◌, ℕ, zero, suc, ◌<◌, List, [], ◌∷◌, ◌++◌, length, take, Bool, true, false, Some, None, refl, sym, ap, ◌∙◌, subst, arith, append_assoc, append-nil}
 use Rattle.std.specs.Prelude.{nat_lt, slice_get}
 use Rattle.std.proofs.lemmas.Bool.Decides.{nat_tests}
@@ -138,12 +138,12 @@ module _ (p : Program) (term : List ℕ) (args : List Value) (m : Meaning) where
   one_refusal _ _ (missing f e s r l) (wrong_entry g j h t w) = absurd (not_wrong g f j h e w r)
   one_refusal _ _ (missing f e s r l) (missing g h t q k) = refl
 
-  -- where the function may run nothing is missing
+  -- if the function may run nothing is missing
   not_missing : (f : Function) → MayRun p term args m f → IsMissing p f (entries m) → ⊥
   not_missing f may (no_answers callee there none) = may.answered callee there none
   not_missing f may (no_value name ty there free none) = may.given name ty there free none
 
-  -- where the function may run there is none
+  -- if the function may run there is none
   pub not_refused : (f : Function) (d : RunError) → MayRun p term args m f → IsRefused p term args m d → ⊥
   not_refused f _ may (no_term b) = let none : None ≡ Some f = sym b ∙ may.found in cc
   not_refused f _ may (arg_count g h k) = not_counted g f h may.found k may.typed

@@ -69,7 +69,7 @@ module _ (of : ReturnKind) (closed : Bool) where
   Well bound (Leaves st) = closed ≡ true
   Well bound Stuck = ⊥
 
-  -- where the locals don't count
+  -- if the locals don't count
   abbrev pub NotStuck : Flow → Type 0
   NotStuck (Goes env st) = Unit {0}
   NotStuck (Ends end st) = EndFits of end

@@ -15,7 +15,7 @@ use Rattle.isle_interpreter.specs.Named.{IsNamed}
 abbrev pub Known : Type 0
 Known = Option (Option (List ℕ))
 
--- the type where a place more has this one, if they agree
+-- the type if a place more has this one, if they agree
 abbrev pub joined : Known → List ℕ → Option (List ℕ)
 joined None ty = Some ty
 joined (Some None) ty = None
@@ -46,7 +46,7 @@ agreed_at name places = fold (noted_place name) None places
 abbrev pub at_name : BTreeMap (Bor (List ℕ)) (Option (Bor (List ℕ))) → List ℕ → Known
 at_name found name = option_map (option_map (λ (t : Bor (List ℕ)). t.now)) (get_by (λ (k : Bor (List ℕ)). slice_cmp nat_cmp name k.now) found)
 
--- a value of the type, where there is a place and they agree
+-- a value of the type, if there is a place and they agree
 abbrev pub FitsKnown : List TypeItem → Known → Value → Type 0
 FitsKnown types None v = Unit {0}
 FitsKnown types (Some None) v = ⊥

@@ -109,7 +109,7 @@ is_only name None = false
 is_only name (Some None) = false
 is_only name (Some (Some first)) = bytes_eq name first
 
--- the name, where it isn't alone
+-- the name, if it isn't alone
 abbrev pub unless_only : List ℕ → Owner → Option (List ℕ)
 unless_only name known = if is_only name known then None else Some name
 

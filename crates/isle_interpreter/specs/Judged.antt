@@ -1,4 +1,4 @@
--- What is told of entries, and of calls that need them.
+-- What is known of entries, and of calls that need them.
 use Rattle.std.specs.Prelude.{◌≡◌, ◌⊎◌, ℕ, List, [], length, Some}
 use Rattle.isle_core.specs.Value.{Value}
 use Rattle.isle_core.specs.Meaning.{Meaning}

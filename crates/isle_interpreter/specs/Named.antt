@@ -37,7 +37,7 @@ AreNamed types (name ∷ names) (v ∷ vs) = IsNamed types name v × AreNamed ty
 AreNamed types [] (v ∷ vs) = ⊥
 AreNamed types (name ∷ names) [] = ⊥
 
--- an answer of the function's kind, with values of its types; where it answers several times, each time
+-- an answer of the function's kind, with values of its types; if it answers several times, each time
 abbrev pub AnswerFits : List TypeItem → Signature → Answer → Type 0
 AnswerFits types s (Plain vs) = (s.kind ≡ kind.Plain) × AreNamed types s.results vs
 AnswerFits types s (Found vs) = (s.kind ≡ kind.Option) × AreNamed types s.results vs

@@ -1,4 +1,4 @@
--- Why a function has no run, and what is asked where it has one.
+-- Why a function has no run, and what is asked if it has one.
 use Rattle.std.specs.Prelude.{◌≡◌, ◌≢◌, ℕ, List, [], length, take, Contains, false, Some, None, slice_get}
 use Rattle.isle_core.specs.declared.values.Callee.{Callee}
 use Rattle.isle_core.specs.Value.{Value}
@@ -41,7 +41,7 @@ pub data IsMissing (p : Program) (f : Function) (fs : List Entry) : Type 0 where
 abbrev pub AreAnswered : Function → List Entry → Type 0
 AreAnswered f fs = (callee : Callee) → Contains (body_calls f.body) callee → IsUnanswered callee fs → ⊥
 
--- each constant that stands in the function has an entry, where the program fixes the type of a place of it
+-- each constant that stands in the function has an entry, if the program fixes the type of a place of it
 abbrev pub AreGiven : Program → Function → List Entry → Type 0
 AreGiven p f fs = (name ty : List ℕ) → StandsAt p f name ty → occurs p name ≡ false → IsUngiven name fs → ⊥
 

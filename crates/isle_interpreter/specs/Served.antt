@@ -30,7 +30,7 @@ pub record Serves (fs : List Entry) (s : Served) : Type 0 where
   pub serves : (callee : Callee) → has s callee ≡ is_answered fs callee
   pub given : (name : List ℕ) → has_name s.constants name ≡ is_given fs name
 
--- whether what stands at a place has a value where it is a constant with a name: it is given one, or is the name of a type that occurs
+-- whether what stands at a place has a value if it is a constant with a name: it is given one, or is the name of a type that occurs
 abbrev pub known_operand : Program → Served → Operand → Bool
 known_operand p s (operand.Name name) = has_name s.constants name || occurs p name
 known_operand p s (operand.Local n) = true

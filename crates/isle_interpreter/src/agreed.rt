@@ -11,7 +11,7 @@ use isle_tree::{Function, Operand};
 use std::alloc::{AllocError, Global};
 use std::collections::BTreeMap;
 
-// The type where a place more has this one, if they agree.
+// The type if a place more has this one, if they agree.
 fn joined<'s>(known: Option<Option<&'s str>>, ty: &'s str) -> Option<&'s str>
     ensures { option_map (λ t. t.now) result
         ≡ joined (option_map (option_map (λ t. t.now)) known.entry) ty.now }

@@ -27,7 +27,7 @@ fn both<'s>(first: &'s str, name: Option<&'s str>) -> Option<&'s str>
     }
 }
 
-// The name that is alone with a key, where one more has it.
+// The name that is alone with a key, if one more has it.
 fn joined<'s>(known: Option<Option<&'s str>>, name: Option<&'s str>) -> Option<&'s str>
     ensures { option_map (λ n. n.now) result
         ≡ joined_owner (option_map (option_map (λ n. n.now)) known.entry)

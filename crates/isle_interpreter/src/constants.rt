@@ -44,7 +44,9 @@ impl<'s> Model for Constants<'s> {
 
     ghost view = { λ c. c.program.now };
 
-    ghost invariant = { λ c. ((name : List ℕ) → has_name c.names name ≡ is_among name (function_names (map function c.program.now.fns)))
+    ghost invariant = { λ c. ((name : List ℕ)
+        → has_name c.names name
+        ≡ is_among name (function_names (map function c.program.now.fns)))
         × ((name : List ℕ) → has_name c.occurring name ≡ occurs (program_of c.program.now) name)
         × ((name : List ℕ)
         → at_name c.types name ≡ agreed name (all_named (program_of c.program.now))) };

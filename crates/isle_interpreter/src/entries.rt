@@ -122,7 +122,7 @@ fn is_right<'a>(
     }
 }
 
-// What the entries answer for, where each entry is right for a run of the function.
+// What the entries answer for, if each entry is right for a run of the function.
 fn all_right<'a>(
     alloc: Global,
     signatures: &Signatures<'_>,
@@ -151,7 +151,7 @@ fn all_right<'a>(
     Ok(served)
 }
 
-/// Tells which entry is wrong first, or that something which the function calls, or a constant in it at a
+/// Reports which entry is wrong first, or that something which the function calls, or a constant in it at a
 /// place whose type the program fixes, has none; else all do.
 pub fn try_entries(
     alloc: Global,

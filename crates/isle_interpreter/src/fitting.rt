@@ -29,7 +29,8 @@ pub fn run_fitting(
     requires may { MayRun (program p.now) term.now (values args.now) (meaning answers.now)
         (function f.now) }
     ensures ran { IfOk result (λ o.
-        run (program p.now) term.now (values args.now) (meaning answers.now) (space answers.now) ≡ Some (ran o)) }
+        run (program p.now) term.now (values args.now) (meaning answers.now) (space answers.now)
+        ≡ Some (ran o)) }
     ensures ends { IfOk result (λ o. EndFits f.now.kind (end o.end)) }
     ensures refused { IfErr result (λ e. e ≡ Memory) }
 {

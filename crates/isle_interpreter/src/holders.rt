@@ -51,7 +51,11 @@ fn key_of(alloc: Global, ty: &str, given: &Value) -> Result<Vec<i128>, AllocErro
 }
 
 // What holds a written value at a place of a type.
-fn written<'s>(alloc: Global, ty: &str, given: &Value) -> Result<Option<Holder<'s>>, AllocError>
+fn written_holder<'s>(
+    alloc: Global,
+    ty: &str,
+    given: &Value,
+) -> Result<Option<Holder<'s>>, AllocError>
     ensures { IfOk result (λ h.
         option_map held h ≡ Some (place_key ty.now (value given.now), None)) }
 {
@@ -115,11 +119,11 @@ fn hold<'s>(
             let name = name.as_str();
             named(alloc, ty, name, value_of(constants, given, name))
         }
-        Operand::Bool(truth) => written(alloc, ty, &Value::Bool(*truth)),
-        Operand::Int(of, number) => written(alloc, ty, &Value::Int(*of, *number)),
+        Operand::Bool(truth) => written_holder(alloc, ty, &Value::Bool(*truth)),
+        Operand::Int(of, number) => written_holder(alloc, ty, &Value::Int(*of, *number)),
         Operand::Raw(number) => {
             let nameless = Text::new(String::new(alloc));
-            written(alloc, ty, &Value::Opaque(nameless, *number))
+            written_holder(alloc, ty, &Value::Opaque(nameless, *number))
         }
         Operand::Local(_) | Operand::Arg(_) => Ok(None),
     }

@@ -1,4 +1,4 @@
-//! Values as keys that are equal exactly where a run takes them for equal.
+//! Values as keys that are equal exactly if a run takes them for equal.
 
 ghost use Rattle.std.specs.Prelude.{◌≡◌, ◌++◌, OnOk};
 ghost use Rattle.isle_core.specs.ValueViews.{value};

@@ -11,7 +11,7 @@ pub enum RunError {
     /// The number of the first argument that is no value of its parameter's type.
     #[error("an argument of another type")]
     ArgType(usize),
-    /// The number of the first entry that is wrong, or that of all entries where one is missing.
+    /// The number of the first entry that is wrong, or that of all entries if one is missing.
     #[error("bad answers")]
     BadAnswers(usize),
     #[error("out of memory")]

@@ -12,7 +12,7 @@ use isle_places::{Signatures, push_places};
 use isle_tree::{Function, Operand};
 use std::alloc::{AllocError, Global};
 
-// Whether what stands at a place has a value where it is a constant with a name.
+// Whether what stands at a place has a value if it is a constant with a name.
 fn is_known(served: &Served<'_>, constants: &Constants<'_>, operand: &Operand) -> bool
     ensures { result ≡ known_operand (program constants.now) served.now operand.now }
 {

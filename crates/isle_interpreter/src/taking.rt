@@ -19,7 +19,7 @@ use isle_places::Types;
 use isle_tree::{Function, Program};
 use std::alloc::Global;
 
-/// Returns the function of a term, where it takes these arguments: else one of the first three refusals, or want of
+/// Returns the function of a term, if it takes these arguments: else one of the first three refusals, or want of
 /// memory.
 pub fn taking<'p>(
     alloc: Global,

@@ -1,4 +1,4 @@
-//! The run of the function of a term, where its arguments and the answers fit.
+//! The run of the function of a term, if its arguments and the answers fit.
 
 ghost use Rattle.std.specs.Prelude.{◌≡◌, ◌+◌, ◌^◌, ◌<◌, ◌⊎◌, length, IfOk, IfErr, OnOk, Some};
 ghost use Rattle.isle_core.specs.Meaning.{Meaning};
@@ -21,7 +21,7 @@ use isle_core::{Answers, Outcome, Value};
 use isle_tree::Program;
 use std::alloc::Global;
 
-/// Tells which of the first three refusals it is, where the function of a term doesn't take the arguments. Beside
+/// Reports which of the first three refusals it is, if the function of a term doesn't take the arguments. Beside
 /// these, want of memory.
 pub fn takes(alloc: Global, p: &Program, term: &str, args: &[Value]) -> Result<(), RunError>
     ensures takes { OnOk result (Takes (program p.now) term.now (values args.now)) }
@@ -40,7 +40,7 @@ pub fn takes(alloc: Global, p: &Program, term: &str, args: &[Value]) -> Result<(
 ///
 /// The errors in the order in which they are asked: the program has no function of the term; it takes another number of
 /// arguments; the first argument that is no value of its parameter's type; the first entry of the answers that is
-/// wrong, or the number of all entries where something that the function calls, or a constant in it at a place whose
+/// wrong, or the number of all entries if something that the function calls, or a constant in it at a place whose
 /// type the program fixes, has none. Beside these, want of memory.
 pub fn run_term(
     alloc: Global,
@@ -53,7 +53,8 @@ pub fn run_term(
     requires counted { length answers.now.consts + length answers.now.pure
         + length answers.now.turns < 2 ^ 64 }
     ensures ran { IfOk result (λ o.
-        run (program p.now) name.now (values args.now) (meaning answers.now) (space answers.now) ≡ Some (ran o)) }
+        run (program p.now) name.now (values args.now) (meaning answers.now) (space answers.now)
+        ≡ Some (ran o)) }
     ensures may { OnOk result
         (Runs (program p.now) name.now (values args.now) (meaning answers.now)) }
     ensures ends { IfOk result (λ o.

@@ -10,7 +10,7 @@ use Rattle.isle_tree.specs.Program.{Program}
 use Rattle.isle_tree.specs.Views.{program, function}
 use Rattle.isle_tree.specs.WellFormed.{Callables, callables, IsTraitFn, IsTypeItem, IsFunction, IsWellFormed, terms, fn_names, declared_names}
 
--- all are where those that are left are, in a program whose functions may call these
+-- all are if those that are left are, in a program whose functions may call these
 abbrev pub Left : Callables → List CodeFunction → ℕ → Type 0
 Left may fns i = (p : Program) → callables p ≡ may → AllByRecursion (IsFunction p) (map function (drop i fns)) ↔ AllByRecursion (IsFunction p) (map function fns)
 

@@ -19,7 +19,7 @@ pub fn local_holds(bound: &Table<Holds>, n: usize) -> Option<Holds>
     bound.get(n).copied()
 }
 
-// What an operand holds, where it is there.
+// What an operand holds, if it is there.
 fn operand_holds(bound: &Table<Holds>, params: usize, o: &Operand) -> Option<Holds>
     ensures { result ≡ operand_holds params bound.now o.now }
 {
@@ -78,7 +78,7 @@ fn are_values(bound: &Table<Holds>, params: usize, reads: &[Read]) -> bool
     true
 }
 
-// What an answer has: a value where there is one result, else a tuple.
+// What an answer has: a value if there is one result, else a tuple.
 fn results_item(results: &[Text]) -> Item
     ensures { result ≡ results_item results.now }
 {
@@ -137,7 +137,7 @@ fn callee_holds(callees: &Callables, callee: &Callee, count: usize) -> Option<Ho
     }
 }
 
-/// Returns what the answer of a call holds, where its arguments are values.
+/// Returns what the answer of a call holds, if its arguments are values.
 pub fn called_holds(
     callees: &Callables,
     bound: &Table<Holds>,
@@ -207,7 +207,7 @@ fn some_holds(bound: &Table<Holds>, params: usize, read: &Read) -> Option<Holds>
     }
 }
 
-// What a part of a tuple holds, where it has that part.
+// What a part of a tuple holds, if it has that part.
 fn part_holds(part: usize, holds: Option<Holds>) -> Option<Holds>
     ensures { result ≡ part_holds part holds }
 {
@@ -240,7 +240,7 @@ fn made_holds(bound: &Table<Holds>, params: usize, fields: &[(Text, Read)]) -> O
     }
 }
 
-/// Returns what is computed holds, where each operand holds what is asked of it.
+/// Returns what is computed holds, if each operand holds what is asked of it.
 pub fn expr_holds(
     callees: &Callables,
     bound: &Table<Holds>,

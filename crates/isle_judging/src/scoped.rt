@@ -26,7 +26,7 @@ fn gives_kind(kind: ReturnKind, holds: Option<Holds>) -> bool
     }
 }
 
-// Binds a local to what is computed, where something is.
+// Binds a local to what is computed, if something is.
 fn bind(bound: &mut Table<Holds>, local: usize, holds: Option<Holds>) -> Result<bool, AllocError>
     ensures holds { IfOk result (λ b. IsTrue b ↔ IsSome holds) }
     ensures bound { OnOk result (bound.new ≡ after_let holds local bound.old) }

@@ -56,7 +56,7 @@ judged_first env xs ys (Some f) h e =
       usage = h.usage;
     }
 
--- where the first ones have none, that of the others is
+-- if the first ones have none, that of the others is
 pub judged_then : (env : Environment) (xs ys : List Claim) (none found : Found) → Judges env xs none → is_some none ≡ false → Judges env ys found → Judges env (xs ++ ys) found
 judged_then env xs ys None None h e k = all_both (IsLawfulClaim env) xs ys h k
 judged_then env xs ys None (Some f) h e k =
@@ -121,7 +121,7 @@ pub one_out : {X : Type 0} (env : Environment) (f : X → Claim) (xs : List X) (
     → Leads env (map f (drop i xs)) (map f xs) → Judges env (map f xs) found
 one_out env f xs i x found lt is h some l = leads_out env (map f (drop i xs)) (f x ∷ []) (map f (drop (i + 1) xs)) (map f xs) found (one_split f xs i x lt is) h some l
 
--- where an item is a number or the like, and stands for itself
+-- if an item is a number or the like, and stands for itself
 pub one_on_at : {X : Type 0} (env : Environment) (f : X → Claim) (xs : List X) (i : ℕ) (d : X) (found : Found) → i < length xs → Judges env (f (get_or xs i d) ∷ []) found → is_some found ≡ false
     → Leads env (map f (drop i xs)) (map f xs) → Leads env (map f (drop (i + 1) xs)) (map f xs)
 one_on_at env f xs i d found lt h none l = leads_on env (map f (drop i xs)) (f (get_or xs i d) ∷ []) (map f (drop (i + 1) xs)) (map f xs) found (ap (map f) (drop_more xs i d lt)) h none l

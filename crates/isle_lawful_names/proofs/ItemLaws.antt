@@ -102,6 +102,6 @@ none_of types (def.Primitive name rust pos ∷ ds) h = absurd h.0
 none_of types (def.Enum name is_extern is_nodebug variants pos ∷ ds) h = absurd h.0
 none_of types (def.Struct name is_extern is_nodebug fields pos ∷ ds) h = absurd h.0
 
--- where all types are builtin, none is declared
+-- if all types are builtin, none is declared
 pub no_items : (types : TypeEnv) → AllByRecursion IsBuiltinDef types.types → items_in types ≡ []
 no_items types h = none_of types types.types h

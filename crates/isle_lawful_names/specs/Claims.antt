@@ -107,7 +107,7 @@ abbrev pub function_claims : (earlier : List (List ℕ)) → List (List ℕ) →
 function_claims earlier [] = []
 function_claims earlier (f ∷ fs) = OfFunction earlier f ∷ function_claims (earlier ++ f ∷ []) fs
 
--- the name of the term of this number, where it has rules
+-- the name of the term of this number, if it has rules
 abbrev pub own_claims : Environment → ℕ → Term → List Claim
 own_claims env id t = if has_rules env (record { 0 = id }) then OfTerm (sym_text env t.name) ∷ [] else []
 

@@ -7,7 +7,7 @@ use Rattle.isle_core.specs.declared.types.TypeEnv.{TypeEnv}
 use Rattle.isle_core.specs.Terms.{symbol_text}
 use Rattle.isle_simulation.specs.TraitFns.{extracted_of}
 
--- the text of a symbol, where there is one
+-- the text of a symbol, if there is one
 abbrev pub texts_of : TypeEnv → Option Sym → List (List ℕ)
 texts_of types None = []
 texts_of types (Some s) = symbol_text types s ∷ []

@@ -30,7 +30,7 @@ abbrev pub Judges : Environment → List Claim → Found → Type 0
 Judges env cs None = AllByRecursion (IsLawfulClaim env) cs
 Judges env cs (Some found) = IsFirst env cs found
 
--- a set of earlier names goes over into another: what is found among names that are judged after the earlier ones; where nothing is, the
+-- a set of earlier names goes over into another: what is found among names that are judged after the earlier ones; if nothing is, the
 -- set has these names too
 pub record JudgesBehind (env : Environment) (of : List (List ℕ) → List Claim) (names : List (List ℕ)) (old new : BTreeSet (Bor (List ℕ))) (found : Found) : Type 0 where
   pub judged : (earlier : List (List ℕ)) → HasNames earlier old → Judges env (of earlier) found

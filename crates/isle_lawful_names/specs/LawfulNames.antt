@@ -32,7 +32,7 @@ constant_words = codes "ctx" ∷ codes "returns" ∷ codes "Some" ∷ codes "Non
 
 -- ---- types
 
--- the name of a type: an identifier that no local and no parameter has, none of those words, and not C where a term has rules
+-- the name of a type: an identifier that no local and no parameter has, none of those words, and not C if a term has rules
 pub record IsTypeName (has_rules : Bool) (text : List ℕ) : Type 0 where
   pub name : IsName text
   pub free : list_any (bytes_eq text) type_words ≡ false
@@ -94,7 +94,7 @@ pub record AreNamesApart (env : TypeEnv) : Type 0 where
   pub types : IsDistinct bytes_eq (emitted_names env env.types)
   pub constants : AllByRecursion (IsNoType env) env.consts
 
--- all names may be emitted, where a term has rules or none has
+-- all names may be emitted, if a term has rules or none has
 pub record AreLawful (has_rules : Bool) (env : TypeEnv) : Type 0 where
   pub types : AllByRecursion (IsLawfulType has_rules env) env.types
   pub constants : AllByRecursion (IsLawfulConstant env) env.consts

@@ -140,7 +140,7 @@ fn type_item(alloc: Global, types: &TypeEnv, def: &TypeDef) -> Result<Option<Typ
     }
 }
 
-// Adds a type, where there is one.
+// Adds a type, if there is one.
 fn push_some(items: &mut Vec<TypeItem>, found: Option<TypeItem>) -> Result<(), AllocError>
     ensures { OnOk result (items.new.items ≡ items.old.items ++ option_to_list found) }
 {

@@ -56,7 +56,7 @@ fn first_unlawful<'a>(
     unlawful_declared(alloc, typeenv, termenv)
 }
 
-// Tells that a name may not be emitted, or that there is no memory to say so.
+// Reports that a name may not be emitted, or that there is no memory to say so.
 fn refused(alloc: Global, usage: NameUse, name: &str) -> NameFail
     ensures { IsTold usage name.now result }
 {
@@ -66,7 +66,7 @@ fn refused(alloc: Global, usage: NameUse, name: &str) -> NameFail
     }
 }
 
-/// Looks for names that may not be emitted: `Name` comes exactly where there is one, and tells the first, in the order
+/// Looks for names that may not be emitted: `Name` comes exactly if there is one, and reports the first, in the order
 /// of files as printed, types with their variants and fields, terms with their external functions, and constants
 /// (`specs/Claims.antt`); beside it only want of memory.
 pub fn lawful_names(

@@ -6,7 +6,7 @@ ghost use Rattle.isle_lawful_names.specs.LawfulNames.{IsTypeName, IsConstantName
 use crate::words::{is_constant_word, is_type_word};
 use isle_spelling::is_name;
 
-/// Tells whether a type may have the name, where a term has rules or none has.
+/// Tells whether a type may have the name, if a term has rules or none has.
 pub fn is_type_name(name: &str, has_rules: bool) -> bool
     ensures { IsTrue result ↔ IsTypeName has_rules name.now }
 {

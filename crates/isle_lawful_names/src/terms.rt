@@ -6,7 +6,6 @@ ghost use Rattle.isle_core.specs.Rule.{Environment};
 ghost use Rattle.isle_core.specs.RuleViews.{environment};
 ghost use Rattle.isle_core.specs.Terms.{has_rules};
 ghost use Rattle.isle_lawful_names.specs.NameSet.{HasNames};
-ghost use Rattle.isle_simulation.specs.TraitFns.{func_of};
 ghost use Rattle.isle_lawful_names.specs.Claims.{functions_of, function_claims, own_claims, term_claims};
 ghost use Rattle.isle_lawful_names.specs.Functions.{texts_of, taker_of};
 ghost use Rattle.isle_lawful_names.specs.Judges.{Judges, JudgesBehind, AreRuled};
@@ -16,38 +15,22 @@ use crate::name_error::NameUse;
 use crate::name_set::added;
 use crate::ruled::{ruled_terms, told_at};
 use crate::single::unless_lawful;
-use isle_core::{ConstructorKind, ExtractorKind, Sym, Term, TermEnv, TermKind, TypeEnv};
+use isle_core::{Sym, Term, TermEnv, TypeEnv};
 use isle_spelling::{are_word_bytes, is_identifier};
 use std::alloc::{AllocError, Global};
 use std::collections::BTreeSet;
 
-// Returns the symbol of a term's external constructor, where it has one.
-fn constructed(term: &Term) -> Option<Sym>
-    ensures { result ≡ func_of term.now.kind }
-{
-    match &term.kind {
-        TermKind::Decl {
-            constructor: ConstructorKind::External { func },
-            ..
-        } => Some(*func),
-        TermKind::Decl { .. } | TermKind::Variant { .. } | TermKind::Struct { .. } => None,
-    }
-}
-
-// Returns the symbol of a term's external extractor, where it has one.
+// Returns the symbol of a term's external extractor, if it has one.
 fn extracted(term: &Term) -> Option<Sym>
     ensures { result ≡ taker_of term.now.kind }
 {
-    match &term.kind {
-        TermKind::Decl {
-            extractor: ExtractorKind::External { func, .. },
-            ..
-        } => Some(*func),
-        TermKind::Decl { .. } | TermKind::Variant { .. } | TermKind::Struct { .. } => None,
+    match term.taker() {
+        Some((func, _)) => Some(func),
+        None => None,
     }
 }
 
-// The name of a function, where there is one, unless it may be emitted after the earlier ones, to which it is added.
+// The name of a function, if there is one, unless it may be emitted after the earlier ones, to which it is added.
 fn function_found<'a>(
     types: &'a TypeEnv,
     names: &mut BTreeSet<&'a str>,
@@ -79,7 +62,7 @@ fn in_functions<'a>(
         (functions_of env term.now) names.old names.new found) }
 {
     let taker = extracted(term);
-    let maker = constructed(term);
+    let maker = term.maker();
     let found = function_found(types, names, taker)?;
     if found.is_some() {
         return Ok(found);
@@ -128,7 +111,7 @@ fn in_term<'a>(
     Ok(own_found(types, term, ruled))
 }
 
-// So of all terms, where a table says which have rules.
+// So of all terms, if a table says which have rules.
 fn in_terms<'a>(
     types: &'a TypeEnv,
     names: &mut BTreeSet<&'a str>,

@@ -134,7 +134,7 @@ fn in_type<'a>(
     Ok(in_parts(types, def))
 }
 
-/// Gives the first name of a type, a variant or a field that may not be emitted; where there is none, the set has the
+/// Gives the first name of a type, a variant or a field that may not be emitted; if there is none, the set has the
 /// names of all types. It is empty before. The only error is want of memory.
 pub fn unlawful_type<'a>(
     types: &'a TypeEnv,

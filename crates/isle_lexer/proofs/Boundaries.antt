@@ -111,7 +111,7 @@ module _ (text : List ℕ) (at : ℕ) (utf8 : IsUtf8 text) (inside : at < length
   ended_cut InLine h e = tt
   ended_cut (InComment from outer seen) h e = tt
 
-  -- and so where a byte may end it
+  -- and so if a byte may end it
   any_cut : (state : State) → Starts text state at → AreCuts text (ended state at (get_or text at 0))
   any_cut state h = by (ends state (get_or text at 0)) refl
     where

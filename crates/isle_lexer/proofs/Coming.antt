@@ -29,7 +29,7 @@ passes text at st b l is no_end =
     ap (λ bs. finished (fold step (record { tokens = []; state = st; at = at }) bs)) (drop_more text at 0 l ∙ ap (λ c. c ∷ drop (at + 1) text) (sym is))
     ∙ ap (λ (c : Bool). finished (fold step (record { tokens = if c then pending st at else []; state = next st at b; at = at + 1 }) (drop (at + 1) text))) no_end
 
--- what a byte that ends a token begins is what it begins where nothing was begun
+-- what a byte that ends a token begins is what it begins if nothing was begun
 begins_anew : (st : State) (at b : ℕ) → ends st b ≡ true → next st at b ≡ next Between at b
 begins_anew Between at b e = absurd cc
 begins_anew (InWord from) at b e = by (is_word_byte b) e

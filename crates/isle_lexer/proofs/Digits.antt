@@ -8,7 +8,7 @@ use Rattle.std.proofs.lemmas.Bool.{cases_lt}
 use Rattle.std.proofs.lemmas.Bool.Decides.{nat_tests}
 use Rattle.isle_lexer.specs.Integer.{plain_digits, spelt_number, number, bounded, grown}
 
--- goes on where there is a number
+-- goes on if there is a number
 abbrev pub onward : Option ℕ → (ℕ → Option ℕ) → Option ℕ
 onward None next = None
 onward (Some n) next = next n

@@ -33,7 +33,7 @@ is_single b = (b == 41) || (b == 64) || (b == 60) || (b == 62)
 abbrev pub is_word_byte : ℕ → Bool
 is_word_byte b = not (is_blank b || is_single b || (b == 40) || (b == 59))
 
--- what a byte begins where nothing was begun
+-- what a byte begins if nothing was begun
 abbrev pub begun : ℕ → ℕ → State
 begun at b =
     if is_blank b then Between
@@ -141,7 +141,7 @@ pub record Coming : Type 0 where
 abbrev pub finished : Scan → Coming
 finished s = record { tokens = s.tokens ++ pending s.state s.at; unclosed = open_at s.state }
 
--- what comes of a text from a place on, where this was begun in front of it
+-- what comes of a text from a place on, if this was begun in front of it
 unfoldable pub coming : List ℕ → State → ℕ → Coming
 coming text begun at = finished (fold step (record { tokens = []; state = begun; at = at }) (drop at text))
 

@@ -2,7 +2,7 @@ ghost use Rattle.std.specs.Prelude.{◌≡◌, ℕ};
 ghost use Rattle.isle_lexer.specs.Token.{is_blank, is_single, is_word_byte, begun};
 ghost use Rattle.isle_lexer.specs.LexerViews.{begins};
 
-/// What a byte begins where nothing was begun.
+/// What a byte begins if nothing was begun.
 #[derive(Clone, Copy, Debug, PartialEq, Eq)]
 pub enum Begun {
     /// A blank begins nothing.

@@ -40,7 +40,7 @@ fn behind(outer: usize, last: Seen, byte: u8) -> Option<(usize, Seen)>
     }
 }
 
-/// Returns the place after a comment that nests, of which this place is the first after its opening. None comes where
+/// Returns the place after a comment that nests, of which this place is the first after its opening. None comes if
 /// it never ends.
 pub fn comment_end(text: &[u8], at: usize) -> Option<usize>
     requires { at ≤ length text.now }

@@ -6,7 +6,7 @@ use crate::bytes::{Begun, begun_by, is_word_byte};
 use crate::comments::{comment_end, line_end};
 use crate::token::Tok;
 
-/// What stands at a place, where nothing was begun in front of it.
+/// What stands at a place, if nothing was begun in front of it.
 #[derive(Clone, Copy, Debug, PartialEq, Eq)]
 pub enum Piece {
     /// Blanks or a comment, up to this place.

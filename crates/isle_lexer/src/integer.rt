@@ -38,7 +38,7 @@ impl Signed {
     }
 }
 
-// A number with one digit more of the base. None comes where the byte is no such digit, or the number is too large.
+// A number with one digit more of the base. None comes if the byte is no such digit, or the number is too large.
 fn grown(base: u32, value: u128, byte: u8) -> Option<u128>
     requires low { 2 ≤ base }
     requires high { base ≤ 36 }
@@ -111,7 +111,7 @@ fn is_negative(word: &[u8]) -> bool
 }
 
 /// Returns the value that a word spells: an optional `-`, then a decimal word that begins with a digit, or `0x`, `0o`,
-/// `0b` and digits of that base, `_` anywhere among them. None comes exactly where it spells none, or one of 2^128 and
+/// `0b` and digits of that base, `_` anywhere among them. None comes exactly if it spells none, or one of 2^128 and
 /// more.
 #[tactic(auto, unfolding(crate::specs::Integer::signed_of))]
 pub fn signed_of(word: &[u8]) -> Option<Signed>

@@ -72,7 +72,7 @@ impl<'a> Lexer<'a> {
         }
     }
 
-    /// Returns the next token, by the bytes that it takes. None comes exactly where no token is left. It takes no
+    /// Returns the next token, by the bytes that it takes. None comes exactly if no token is left. It takes no
     /// memory.
     pub fn next_token(&mut self) -> Option<Tok>
         ensures some { IfSome result (λ tok. lexer_left self.old ≡ tok ∷ lexer_left self.new) }

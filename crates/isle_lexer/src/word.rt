@@ -65,7 +65,7 @@ pub fn is_flag(word: &str) -> bool
     matches!(word, "pure" | "multi" | "partial" | "rec")
 }
 
-/// Tells whether a word begins another form than a call where a call has its name.
+/// Tells whether a word begins another form than a call if a call has its name.
 pub fn is_let(word: &str) -> bool
     ensures { result ≡ is_let word.now }
 {

@@ -28,7 +28,7 @@ parts old one two new a b c whole e f g h =
 pub both : {A : Type 0} (old one new a b whole : List A) → one ≡ old ++ a → new ≡ one ++ b → whole ≡ a ++ b → new ≡ old ++ whole
 both old one new a b whole e f h = f ∙ ap (λ xs. xs ++ b) e ∙ append_assoc old a b ∙ ap (λ xs. old ++ xs) (sym h)
 
--- where the last one was appended
+-- if the last one was appended
 pub both_ok : {A B E : Type 0} (r : Result B E) (old one new a b whole : List A) → one ≡ old ++ a → OnOk r (new ≡ one ++ b) → whole ≡ a ++ b → OnOk r (new ≡ old ++ whole)
 both_ok (result.Ok v) old one new a b whole e f h = both old one new a b whole e f h
 both_ok (result.Err x) old one new a b whole e f h = tt

@@ -48,7 +48,7 @@ expr_names (expr.Some r) = read_names r
 expr_names (expr.Try source as_ref) = operand_names source
 expr_names (expr.Tuple source part) = operand_names source
 
--- that of a pattern, where it is a constant
+-- that of a pattern, if it is a constant
 abbrev pub pattern_names : TPat → List (List ℕ)
 pattern_names (pattern.Const o) = operand_names o
 pattern_names (pattern.Variant ty variant binds more) = []

@@ -17,35 +17,17 @@ use Rattle.isle_operands.proofs.PathAt.{path_of, path_none}
 owned_no : (env : Environment) (t : Term) (ps : List Path) (b : Binding) → is_owned (Some b) ≡ true → false ≡ is_reference env t (path_over ps b)
 owned_no env t ps (binding.MakeVariant ty variant fields) e = refl
 owned_no env t ps (binding.MakeStruct ty fields) e = refl
-owned_no env t ps (binding.ConstBool val ty) e = absurd cc
-owned_no env t ps (binding.ConstInt val ty) e = absurd cc
-owned_no env t ps (binding.ConstPrim val) e = absurd cc
-owned_no env t ps (binding.Argument index) e = absurd cc
-owned_no env t ps (binding.Extractor term parameter) e = absurd cc
-owned_no env t ps (binding.Constructor term parameters instance) e = absurd cc
 owned_no env t ps (binding.Iterator source) e = refl
-owned_no env t ps (binding.MatchVariant source variant field) e = absurd cc
-owned_no env t ps (binding.ExtractStruct source field) e = absurd cc
-owned_no env t ps (binding.MakeSome inner) e = absurd cc
-owned_no env t ps (binding.MatchSome source) e = absurd cc
 owned_no env t ps (binding.MatchTuple source field) e = refl
+owned_no env t ps b e = absurd cc
 
 -- of the others the type says it
 typed_so : (env : Environment) (t : Term) (ps : List Path) (b : Binding) → is_owned (Some b) ≡ false → option_map_or (is_declared env) (type_at env t (path_over ps b)) false ≡ is_reference env t (path_over ps b)
 typed_so env t ps (binding.MakeVariant ty variant fields) e = absurd cc
 typed_so env t ps (binding.MakeStruct ty fields) e = absurd cc
-typed_so env t ps (binding.ConstBool val ty) e = refl
-typed_so env t ps (binding.ConstInt val ty) e = refl
-typed_so env t ps (binding.ConstPrim val) e = refl
-typed_so env t ps (binding.Argument index) e = refl
-typed_so env t ps (binding.Extractor term parameter) e = refl
-typed_so env t ps (binding.Constructor term parameters instance) e = refl
 typed_so env t ps (binding.Iterator source) e = absurd cc
-typed_so env t ps (binding.MatchVariant source variant field) e = refl
-typed_so env t ps (binding.ExtractStruct source field) e = refl
-typed_so env t ps (binding.MakeSome inner) e = refl
-typed_so env t ps (binding.MatchSome source) e = refl
 typed_so env t ps (binding.MatchTuple source field) e = absurd cc
+typed_so env t ps b e = refl
 
 pub owned_is_none : (s : Setting) (b : BindingId) → is_owned (slice_get s.bindings b.0) ≡ true → false ≡ is_reference_in s b
 owned_is_none s b e = one (slice_get s.bindings b.0) refl e

@@ -49,7 +49,7 @@ impl<'e> ConstTypes<'e> {
         Ok(ConstTypes { consts, found })
     }
 
-    /// Returns the type of a constant, where it is declared.
+    /// Returns the type of a constant, if it is declared.
     pub fn of(&self, name: Sym) -> Option<TypeId>
         ensures { result ≡ type_in self.now name.0 }
     {

@@ -6,10 +6,7 @@ ghost use Rattle.isle_simulation.specs.TraitFns as TraitFns;
 ghost use Rattle.isle_operands.specs.Views.{IsPushed};
 
 use crate::signature::{params, sym_name, ty_name, ty_names};
-use isle_core::{
-    ConstructorKind, ExtractorKind, List, ReturnKind, Sym, Term, TermEnv, TermKind, TypeEnv,
-    extractor_kind, kind_of,
-};
+use isle_core::{List, ReturnKind, Sym, Term, TermEnv, TypeEnv, kind_of};
 use isle_tree::TraitFn;
 use std::alloc::{AllocError, Global};
 
@@ -53,34 +50,7 @@ fn extractor_fn(
     })
 }
 
-// Returns the symbol of a term's external constructor, where it has one.
-fn constructed(term: &Term) -> Option<Sym>
-    ensures { result ≡ TraitFns.func_of term.now.kind }
-{
-    match &term.kind {
-        TermKind::Decl {
-            constructor: ConstructorKind::External { func },
-            ..
-        } => Some(*func),
-        TermKind::Decl { .. } | TermKind::Variant { .. } | TermKind::Struct { .. } => None,
-    }
-}
-
-// Returns the symbol of a term's external extractor and how often it answers, where it has one.
-fn extracted(term: &Term) -> Option<(Sym, ReturnKind)>
-    ensures { result ≡ TraitFns.extracted_of term.now.kind }
-{
-    match &term.kind {
-        TermKind::Decl {
-            multi,
-            extractor: ExtractorKind::External { func, infallible },
-            ..
-        } => Some((*func, extractor_kind(*multi, *infallible))),
-        TermKind::Decl { .. } | TermKind::Variant { .. } | TermKind::Struct { .. } => None,
-    }
-}
-
-// Adds the function of a term's external extractor, where it has one.
+// Adds the function of a term's external extractor, if it has one.
 fn push_extractor(
     alloc: Global,
     typeenv: &TypeEnv,
@@ -92,13 +62,13 @@ fn push_extractor(
         (IsPushed fns.old.items fns.new.items
         (TraitFns.extractor_fn_of (environment typeenv.now termenv.now) term.now)) }
 {
-    if let Some(of) = extracted(term) {
+    if let Some(of) = term.taker() {
         fns.push(extractor_fn(alloc, typeenv, termenv, term, of)?)?;
     }
     Ok(())
 }
 
-// Adds the function of a term's external constructor, where it has one.
+// Adds the function of a term's external constructor, if it has one.
 fn push_constructor(
     alloc: Global,
     typeenv: &TypeEnv,
@@ -110,7 +80,7 @@ fn push_constructor(
         (IsPushed fns.old.items fns.new.items
         (TraitFns.constructor_fn_of (environment typeenv.now termenv.now) term.now)) }
 {
-    if let Some(func) = constructed(term) {
+    if let Some(func) = term.maker() {
         fns.push(constructor_fn(alloc, typeenv, termenv, term, func)?)?;
     }
     Ok(())

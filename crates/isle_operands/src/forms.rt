@@ -12,7 +12,7 @@ use crate::context::Context;
 use isle_core::{Fields, Sym, Text, TypeDef, TypeId, VariantId};
 use std::alloc::{AllocError, Global};
 
-/// The name of a type, that of a variant of it where it is an enum, and the fields.
+/// The name of a type, that of a variant of it if it is an enum, and the fields.
 #[derive(Clone, Copy)]
 pub struct Form<'a> {
     pub ty: Sym,
@@ -20,7 +20,7 @@ pub struct Form<'a> {
     pub fields: &'a Fields,
 }
 
-/// Returns the form of a variant, where there is such a one.
+/// Returns the form of a variant, if there is such a one.
 pub fn variant_form<'a>(context: &Context<'a>, ty: TypeId, variant: VariantId) -> Option<Form<'a>>
     ensures { option_map form_seen result ≡ form (env_of context.now) (MakesVariant ty variant) }
 {
@@ -40,7 +40,7 @@ pub fn variant_form<'a>(context: &Context<'a>, ty: TypeId, variant: VariantId) -
     }
 }
 
-/// Returns the form of a struct, where the type is one.
+/// Returns the form of a struct, if the type is one.
 pub fn struct_form<'a>(context: &Context<'a>, ty: TypeId) -> Option<Form<'a>>
     ensures { option_map form_seen result ≡ form (env_of context.now) (MakesStruct ty) }
 {
@@ -59,7 +59,7 @@ pub fn struct_form<'a>(context: &Context<'a>, ty: TypeId) -> Option<Form<'a>>
     }
 }
 
-/// Returns the name and the type of the field of this number, where there is one; the fields of a tuple have their
+/// Returns the name and the type of the field of this number, if there is one; the fields of a tuple have their
 /// numbers for names.
 pub fn field_at(
     alloc: Global,
@@ -73,7 +73,7 @@ pub fn field_at(
     context.typeenv.field_at(alloc, fields, index)
 }
 
-// Returns the type of the field of this number, where there is one.
+// Returns the type of the field of this number, if there is one.
 fn type_at(fields: &Fields, index: usize) -> Option<TypeId>
     ensures { (env : Environment)
         → result ≡ slice_get (map (λ field. field.1) (typed_fields env fields.now)) index }
@@ -88,7 +88,7 @@ fn type_at(fields: &Fields, index: usize) -> Option<TypeId>
     }
 }
 
-/// Returns the type of the field of this number, where there is such a form and such a field.
+/// Returns the type of the field of this number, if there is such a form and such a field.
 pub fn field_type(of: Option<Form<'_>>, index: usize) -> Option<TypeId>
     ensures { (env : Environment)
         → result ≡ option_and_then (λ f. slice_get (form_types env f) index)

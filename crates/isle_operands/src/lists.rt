@@ -71,18 +71,7 @@ fn is_list(context: &Context<'_>, binding: &Binding) -> bool
     match binding {
         Binding::Constructor { term, .. } => calls_often(context, *term),
         Binding::Extractor { term, .. } => extracts_often(context, *term),
-        Binding::ConstBool { .. }
-        | Binding::ConstInt { .. }
-        | Binding::ConstPrim { .. }
-        | Binding::Argument { .. }
-        | Binding::Iterator { .. }
-        | Binding::MakeVariant { .. }
-        | Binding::MakeStruct { .. }
-        | Binding::MatchVariant { .. }
-        | Binding::ExtractStruct { .. }
-        | Binding::MakeSome { .. }
-        | Binding::MatchSome { .. }
-        | Binding::MatchTuple { .. } => false,
+        _ => false,
     }
 }
 
@@ -96,34 +85,12 @@ pub fn binds_list(context: &Context<'_>, binding: BindingId) -> bool
     }
 }
 
-// Returns the local of the list whose item a binding is.
-fn list_local(binding: &Binding) -> Option<usize>
-    ensures { result ≡ Statements.list_local (Is binding.now) }
-{
-    match binding {
-        Binding::Iterator { source } => Some(source.index()),
-        Binding::ConstBool { .. }
-        | Binding::ConstInt { .. }
-        | Binding::ConstPrim { .. }
-        | Binding::Argument { .. }
-        | Binding::Extractor { .. }
-        | Binding::Constructor { .. }
-        | Binding::MakeVariant { .. }
-        | Binding::MakeStruct { .. }
-        | Binding::MatchVariant { .. }
-        | Binding::ExtractStruct { .. }
-        | Binding::MakeSome { .. }
-        | Binding::MatchSome { .. }
-        | Binding::MatchTuple { .. } => None,
-    }
-}
-
 /// Returns the local of the list whose item the binding of this number is.
 pub fn looped_local(context: &Context<'_>, binding: BindingId) -> Option<usize>
     ensures { result ≡ Statements.looped_local (setting_of context.now) binding }
 {
     match context.bindings.get(binding.index()) {
-        Some(of) => list_local(of),
-        None => None,
+        Some(Binding::Iterator { source }) => Some(source.index()),
+        _ => None,
     }
 }

@@ -14,7 +14,7 @@ use isle_scope::Scope;
 use isle_tree::Operand;
 use std::alloc::{AllocError, Global};
 
-// Returns a number as an operand of a type, where it has numbers.
+// Returns a number as an operand of a type, if it has numbers.
 fn number(context: &Context<'_>, ty: TypeId, val: i128) -> Option<Operand>
     ensures { result ≡ Operands.constant (int_value (env_of context.now) ty val) }
 {
@@ -35,7 +35,7 @@ fn named(alloc: Global, context: &Context<'_>, name: Sym) -> Result<Operand, All
     Ok(Operand::Name(sym_name(alloc, context.typeenv, name)?))
 }
 
-// Makes what is read in place for a struct with these fields: its name where there are none, or else the local of this
+// Makes what is read in place for a struct with these fields: its name if there are none, or else the local of this
 // number.
 fn struct_operand(
     alloc: Global,
@@ -78,18 +78,11 @@ fn of_binding(
         Binding::MakeStruct { ty, fields } => {
             struct_operand(alloc, context, local, *ty, fields.as_slice())
         }
-        Binding::Extractor { .. }
-        | Binding::Constructor { .. }
-        | Binding::Iterator { .. }
-        | Binding::MatchVariant { .. }
-        | Binding::ExtractStruct { .. }
-        | Binding::MakeSome { .. }
-        | Binding::MatchSome { .. }
-        | Binding::MatchTuple { .. } => Ok(None),
+        _ => Ok(None),
     }
 }
 
-/// Makes what is read in place for the binding of this number, where something is.
+/// Makes what is read in place for the binding of this number, if something is.
 pub fn in_place(
     alloc: Global,
     context: &Context<'_>,
@@ -105,7 +98,7 @@ pub fn in_place(
     }
 }
 
-/// Makes what a constraint tests for, where it tests for a value that has an operand.
+/// Makes what a constraint tests for, if it tests for a value that has an operand.
 pub fn tested(
     alloc: Global,
     context: &Context<'_>,
@@ -128,7 +121,7 @@ pub fn is_bound(bound: &Scope, binding: BindingId) -> bool
     bound.has(binding.index())
 }
 
-/// Makes the binding's local where it is bound, or else what is read in place.
+/// Makes the binding's local if it is bound, or else what is read in place.
 pub fn operand_of(
     alloc: Global,
     context: &Context<'_>,

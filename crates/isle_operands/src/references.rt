@@ -14,7 +14,7 @@ use crate::types::type_of;
 use isle_core::{Binding, BindingId, TypeId};
 use isle_tree::{Operand, Read};
 
-/// Returns whether a value of the type stands behind a reference, where there is a type.
+/// Returns whether a value of the type stands behind a reference, if there is a type.
 pub fn is_declared(typed: &Typed<'_>, ty: Option<TypeId>) -> bool
     ensures { result ≡ option_map_or (References.is_declared (setting_in typed.now).env) ty No }
 {
@@ -29,21 +29,13 @@ fn is_owned(context: &Context<'_>, binding: BindingId) -> bool
     ensures { result ≡ BindingTypes.is_owned (slice_get (bindings_in context.now) binding.0) }
 {
     match context.bindings.get(binding.index()) {
-        Some(Binding::MakeVariant { .. })
-        | Some(Binding::MakeStruct { .. })
-        | Some(Binding::Iterator { .. })
-        | Some(Binding::MatchTuple { .. }) => true,
-        Some(Binding::ConstBool { .. })
-        | Some(Binding::ConstInt { .. })
-        | Some(Binding::ConstPrim { .. })
-        | Some(Binding::Argument { .. })
-        | Some(Binding::Extractor { .. })
-        | Some(Binding::Constructor { .. })
-        | Some(Binding::MatchVariant { .. })
-        | Some(Binding::ExtractStruct { .. })
-        | Some(Binding::MakeSome { .. })
-        | Some(Binding::MatchSome { .. })
-        | None => false,
+        Some(
+            Binding::MakeVariant { .. }
+            | Binding::MakeStruct { .. }
+            | Binding::Iterator { .. }
+            | Binding::MatchTuple { .. },
+        ) => true,
+        _ => false,
     }
 }
 

@@ -15,7 +15,7 @@ use crate::forms::{field_type, struct_form, variant_form};
 use isle_core::{Binding, BindingId, TermId, TupleIndex, TypeId, VariantId};
 use std::alloc::{AllocError, Global};
 
-/// Returns the type where there is only one.
+/// Returns the type if there is only one.
 pub fn one_result(tys: &[TypeId]) -> Option<TypeId>
     ensures { result ≡ References.one_result tys.now }
 {
@@ -47,7 +47,7 @@ fn result_type(context: &Context<'_>, term: TermId) -> Option<TypeId>
     Some(context.termenv.terms.as_slice().get(term.index())?.ret_ty)
 }
 
-/// Returns the type of the binding of this number, where these are the types.
+/// Returns the type of the binding of this number, if these are the types.
 pub fn type_of(types: &[Option<TypeId>], binding: BindingId) -> Option<TypeId>
     ensures { (env : Environment) → (t : TermOf) → (ps : ListOf Path)
         → types.now ≡ map (type_at env t) ps → result ≡ type_at env t (at ps binding) }
@@ -86,7 +86,7 @@ fn struct_field(context: &Context<'_>, source: Option<TypeId>, field: TupleIndex
     }
 }
 
-// Returns the extractor whose answer the binding of this number has, where these are the extractors.
+// Returns the extractor whose answer the binding of this number has, if these are the extractors.
 fn answered_by(extractors: &[Option<TermId>], binding: BindingId) -> Option<TermId>
     ensures { (ps : ListOf Path) → extractors.now ≡ map extractor_at ps
         → result ≡ extractor_at (at ps binding) }
@@ -104,19 +104,10 @@ fn extractor_of(extractors: &[Option<TermId>], binding: &Binding) -> Option<Term
 {
     match binding {
         Binding::Extractor { term, .. } => Some(*term),
-        Binding::MatchSome { source } => answered_by(extractors, *source),
-        Binding::Iterator { source } => answered_by(extractors, *source),
-        Binding::ConstBool { .. }
-        | Binding::ConstInt { .. }
-        | Binding::ConstPrim { .. }
-        | Binding::Argument { .. }
-        | Binding::Constructor { .. }
-        | Binding::MakeVariant { .. }
-        | Binding::MakeStruct { .. }
-        | Binding::MatchVariant { .. }
-        | Binding::ExtractStruct { .. }
-        | Binding::MakeSome { .. }
-        | Binding::MatchTuple { .. } => None,
+        Binding::MatchSome { source } | Binding::Iterator { source } => {
+            answered_by(extractors, *source)
+        }
+        _ => None,
     }
 }
 
@@ -151,13 +142,11 @@ fn binding_type(
         → result ≡ type_at (env_of context.now) context.now.term.now (path_over ps binding.now) }
 {
     match binding {
-        Binding::ConstBool { ty, .. } => Some(*ty),
-        Binding::ConstInt { ty, .. } => Some(*ty),
+        Binding::ConstBool { ty, .. } | Binding::ConstInt { ty, .. } => Some(*ty),
         Binding::ConstPrim { val } => consts.of(*val),
         Binding::Argument { index } => context.term.arg_tys.as_slice().get(*index).copied(),
         Binding::Constructor { term, .. } => result_type(context, *term),
-        Binding::MakeVariant { ty, .. } => Some(*ty),
-        Binding::MakeStruct { ty, .. } => Some(*ty),
+        Binding::MakeVariant { ty, .. } | Binding::MakeStruct { ty, .. } => Some(*ty),
         Binding::MatchVariant {
             source,
             variant,
@@ -166,8 +155,7 @@ fn binding_type(
         Binding::ExtractStruct { source, field } => {
             struct_field(context, type_of(types, *source), *field)
         }
-        Binding::MatchSome { source } => type_of(types, *source),
-        Binding::Iterator { source } => type_of(types, *source),
+        Binding::MatchSome { source } | Binding::Iterator { source } => type_of(types, *source),
         Binding::Extractor { term, .. } => extracted_type(context, *term),
         Binding::MatchTuple { source, field } => {
             part_type(context, answered_by(extractors, *source), *field)

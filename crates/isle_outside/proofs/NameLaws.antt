@@ -18,7 +18,7 @@ pub inside_slash : (file : List ℕ) → ((rest : List ℕ) → file ≢ 47 ∷ 
 inside_slash [] lacks = refl
 inside_slash (b ∷ file) lacks = no_slash b file (eqb b 47) refl lacks
 
--- one byte of both, where the claim holds after it
+-- one byte of both, if the claim holds after it
 lacks_at : (c b : ℕ) (folder file : List ℕ) (t : Bool) → eqb b c ≡ t → (((rest : List ℕ) → file ≢ folder ++ rest) → inside_folder folder file ≡ None)
     → ((rest : List ℕ) → b ∷ file ≢ c ∷ (folder ++ rest)) → cond t (inside_folder folder file) None ≡ None
 lacks_at c b folder file true is later lacks = later (λ rest e. lacks rest (ap (λ x. x ∷ file) (eqb-true b c is) ∙ ap (λ xs. c ∷ xs) e))

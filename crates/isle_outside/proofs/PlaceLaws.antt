@@ -135,6 +135,6 @@ pub pushed_entry : (had names : List (String Global)) (text : String Global) (na
 pushed_entry had names text name entry pushed named is = ap (map string_bytes) pushed ∙ map-append string_bytes had (text ∷ [])
     ∙ ap (λ x. map string_bytes had ++ x ∷ []) named ∙ ap (λ o. map string_bytes had ++ cons_option o []) is
 
--- the names where none was pushed
+-- the names if none was pushed
 pub same_entries : (had names : List (String Global)) (entry : Option (List ℕ)) → names ≡ had → None ≡ entry → map string_bytes names ≡ map string_bytes had ++ cons_option entry []
 same_entries had names entry same is = ap (map string_bytes) same ∙ sym (append-nil (map string_bytes had)) ∙ ap (λ o. map string_bytes had ++ cons_option o []) is

@@ -10,7 +10,7 @@ use Rattle.isle_outside.specs.declared.dir.Found.TheVariants.{Absent, File, Fold
 abbrev pub Contents : Type 0
 Contents = List (List ℕ × List ℕ)
 
--- what is current: nothing, a file with its bytes left where the directory tells them, or a folder
+-- what is current: nothing, a file with its bytes left if the directory tells them, or a folder
 pub data Current : Type 0 where
   Nothing : Current
   Reading : (left : Option (List ℕ)) → Current
@@ -86,7 +86,7 @@ abbrev pub KeepsOthers : Option Contents → Option Contents → List ℕ → Ty
 KeepsOthers None new name = new ≡ None
 KeepsOthers (Some old) new name = IsSomeAnd new (λ fs. (other : List ℕ) → (other ≡ name → ⊥) → bytes_of fs other ≡ bytes_of old other)
 
--- the file of the name holds the bytes, where the directory tells
+-- the file of the name holds the bytes, if the directory tells
 abbrev pub Holds : Option Contents → List ℕ → List ℕ → Type 0
 Holds files name bytes = IfSome files (λ fs. bytes_of fs name ≡ Some bytes)
 
@@ -100,7 +100,7 @@ pub record AddsNoSecond (old new : Contents) (name : List ℕ) : Type 0 where
   pub here : entries_of new name ≤ max 1 (entries_of old name)
   pub others : (other : List ℕ) → (other ≡ name → ⊥) → entries_of new other ≡ entries_of old other
 
--- the same where the directory tells its files
+-- the same if the directory tells its files
 abbrev pub KeepsEntries : Option Contents → Option Contents → List ℕ → Type 0
 KeepsEntries None new name = new ≡ None
 KeepsEntries (Some old) new name = IsSomeAnd new (λ fs. AddsNoSecond old fs name)

@@ -8,7 +8,7 @@ use Rattle.isle_outside.specs.declared.errors.DirFault.TheVariants as fault
 abbrev pub is_failing : ℕ → List ℕ → Bool
 is_failing calls fails = nat_lt calls (2 ^ 64 - 1) && list_any (λ n. n == calls + 1) fails
 
--- a count of faults after a call: one more where it failed, up to the limit
+-- a count of faults after a call: one more if it failed, up to the limit
 abbrev pub counted : Bool → ℕ → ℕ
 counted failed faults = if failed then min (faults + 1) (2 ^ 64 - 1) else faults
 

@@ -31,7 +31,7 @@ abbrev pub folder_before : Option Kept → ℕ → Current
 folder_before None len = Nothing
 folder_before (Some kept) len = InFolder (take len (string_bytes kept.0))
 
--- what is current where the place is kept as numbers
+-- what is current if the place is kept as numbers
 abbrev pub current_at : State → List Kept → Current
 current_at state.Nothing files = Nothing
 current_at (state.Reading file at) files = reading_from (slice_get files file) at

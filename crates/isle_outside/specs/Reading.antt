@@ -24,7 +24,7 @@ ReadsFile view (Ok x) file = IsText (view x) file
 ReadsFile view (Err (fail.Io why)) file = IsCause why file
 ReadsFile view (Err fail.Memory) file = Unit {0}
 
--- of the file's bytes at most so many were taken, where the directory tells them
+-- of the file's bytes at most so many were taken, if the directory tells them
 abbrev pub TakenAtMost : ℕ → Option (List ℕ) → Current → Type 0
 TakenAtMost most file Nothing = Unit {0}
 TakenAtMost most file (InFolder name) = Unit {0}
@@ -37,7 +37,7 @@ left_of Nothing = None
 left_of (InFolder name) = None
 left_of (Reading left) = left
 
--- these bytes were read since, and now the others are left, where the directory tells them
+-- these bytes were read since, and now the others are left, if the directory tells them
 abbrev pub Front : Current → Current → List ℕ → Type 0
 Front (Reading None) now bytes = now ≡ Reading None
 Front (Reading (Some all)) now bytes = (left : List ℕ) × (now ≡ Reading (Some left)) × (all ≡ bytes ++ left)
@@ -53,14 +53,14 @@ ReadsRest view (Err (fail.Io cause.Absent)) all = ⊥
 ReadsRest view (Err (fail.Io cause.NotUtf8)) all = ⊥
 ReadsRest view (Err fail.Memory) all = Unit {0}
 
--- the count of faults rose where the cause is a fault, and is what it was where it is another
+-- the count of faults rose if the cause is a fault, and is what it was if it is another
 abbrev pub RoseAt : IoCause → ℕ → ℕ → Type 0
 RoseAt cause.Fault before after = Rose before after
 RoseAt cause.Absent before after = after ≡ before
 RoseAt cause.TooLong before after = after ≡ before
 RoseAt cause.NotUtf8 before after = after ≡ before
 
--- the count of faults rose where the answer is a fault, and is what it was at every other answer
+-- the count of faults rose if the answer is a fault, and is what it was at every other answer
 abbrev pub CountsFault : {X : Type 0} → Result X ReadFail → ℕ → ℕ → Type 0
 CountsFault (Ok x) before after = after ≡ before
 CountsFault (Err (fail.Io why)) before after = RoseAt why before after

@@ -2,7 +2,7 @@
 use Rattle.std.specs.Prelude.{◌≡◌, ℕ, ◌<◌, List, ◌++◌, length, take, Option}
 use Rattle.std.specs.Option.{option_map}
 
--- a sink has these bytes after what it had, where it tells
+-- a sink has these bytes after what it had, if it tells
 abbrev pub Took : Option (List ℕ) → Option (List ℕ) → List ℕ → Type 0
 Took old new bytes = new ≡ option_map (λ had. had ++ bytes) old
 

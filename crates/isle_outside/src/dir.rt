@@ -23,7 +23,7 @@ pub enum Found {
 /// `Failed` comes only where the count rose in that call, or stood there. After `Failed`, `Absent`, `list` and
 /// `write_file` nothing is current.
 pub trait Dir {
-    /// The files, where it tells them.
+    /// The files, if it tells them.
     ghost files: { Self → Option Contents };
 
     /// What is current.

@@ -84,7 +84,7 @@ impl MemSink {
     }
 }
 
-/// A `put` fails where its number is among those that fail, and where no room is left for a piece that isn't empty.
+/// A `put` fails if its number is among those that fail, and if no room is left for a piece that isn't empty.
 impl Sink for MemSink {
     ghost taken = { λ s. Some s.bytes.items };
 

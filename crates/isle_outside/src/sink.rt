@@ -6,7 +6,7 @@ use crate::errors::Failed;
 
 /// What takes bytes. The count of faults is as that of a `Dir`.
 pub trait Sink {
-    /// The bytes taken, where it tells them.
+    /// The bytes taken, if it tells them.
     ghost taken: { Self → Option (List ℕ) };
 
     /// How often it has failed, up to 2^64 - 1.

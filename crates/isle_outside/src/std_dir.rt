@@ -88,7 +88,7 @@ impl<R: Files + AllocGlobal + Clone + Drop> StdDir<R> {
         Failed
     }
 
-    // Makes what stands at the path current, where nothing is. A file takes no memory.
+    // Makes what stands at the path current, if nothing is. A file takes no memory.
     fn open(&mut self, path: Path<'_>, name: &str) -> Result<Found, Failed>
         requires { opened self.old.file self.old.folder ≡ Nothing }
         ensures found { IfOk result (λ found.

@@ -5,7 +5,7 @@ ghost use Rattle.isle_outside.specs.Sinks.{Took, TookPart};
 use crate::errors::Failed;
 use crate::sink::Sink;
 
-/// Writes all the bytes, piece by piece. `Failed` comes where a piece was refused, and leaves a front of them taken.
+/// Writes all the bytes, piece by piece. `Failed` comes if a piece was refused, and leaves a front of them taken.
 pub fn write_all<S: Sink>(sink: &mut S, bytes: &[u8]) -> Result<(), Failed>
     ensures ok { OnOk result (Took (S.taken sink.old) (S.taken sink.new) bytes.now) }
     ensures part { OnErr result (TookPart (S.taken sink.old) (S.taken sink.new) bytes.now) }

@@ -43,7 +43,7 @@ list_after (result.Err x) p f n call s held old new is held_is more = tt
 pub test_places : (p : Program) (f : Function) (ts : Tells) (a b : Operand) (inside slice : List CodeStmt) (s : CodeStmt) → s ≡ code.IfEq a b inside → slice ≡ inside → stmt_places p f ts (stmt s) ≡ both_places f ts a b ++ body_places p f ts (body slice)
 test_places p f ts a b inside slice s is same = ap (stmt_places p f ts) (ap stmt is ∙ stmt-if_eq a b inside) ∙ ap (λ ss. both_places f ts a b ++ body_places p f ts (body ss)) (sym same)
 
--- what is known of the places so far and of the locals, where arms are left
+-- what is known of the places so far and of the locals, if arms are left
 abbrev pub ArmsLeft : Program → Function → (first now : Tells) → Read → List (TPat × List CodeStmt) → (found all : List Place) → Type 0
 ArmsLeft p f first now r left found all = (found ++ arms_places p f now r (arms left) ≡ all) × (now ≡ first)
 
@@ -59,7 +59,7 @@ arm_step p f xs i x r inside first now later found next old whole lt is same mor
   kept ∙ left.1,
 )
 
--- what is known of the places so far and of the locals, where statements are left
+-- what is known of the places so far and of the locals, if statements are left
 abbrev pub BodyLeft : Program → Function → (first now : Tells) → List CodeStmt → (found all : List Place) → Type 0
 BodyLeft p f first now left found all = (found ++ body_places p f now (body left) ≡ all) × ((more : Tells) × (now ≡ first ++ more))
 

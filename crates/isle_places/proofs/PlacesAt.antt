@@ -15,7 +15,7 @@ use Rattle.isle_places.specs.Places.{Place, at, reads_places}
 pub two : (old one new ps qs whole : List Place) → one ≡ old ++ ps → new ≡ one ++ qs → whole ≡ ps ++ qs → new ≡ old ++ whole
 two old one new ps qs whole e f h = f ∙ ap (λ xs. xs ++ qs) e ∙ append_assoc old ps qs ∙ ap (λ xs. old ++ xs) (sym h)
 
--- where the last one was appended
+-- if the last one was appended
 pub two_ok : {B E : Type 0} (r : Result B E) (old one new ps qs whole : List Place) → one ≡ old ++ ps → OnOk r (new ≡ one ++ qs) → whole ≡ ps ++ qs → OnOk r (new ≡ old ++ whole)
 two_ok (result.Ok v) old one new ps qs whole e f h = two old one new ps qs whole e f h
 two_ok (result.Err x) old one new ps qs whole e f h = tt

@@ -1,4 +1,4 @@
--- What is told of what stands in functions.
+-- What is known of what stands in functions.
 use Rattle.std.proofs.Common.{◌≡◌, ℕ, List, [], ◌∷◌, ◌++◌, fold, length, take, Bool, true, false, Option, Some, None, refl, sym, ap, ◌∙◌, subst, append_assoc, append-nil}
 use Rattle.std.specs.Prelude.{◌==◌, OnOk, if◌then◌else◌}
 use Rattle.std.specs.declared.result.Result.{Result}
@@ -17,7 +17,7 @@ use Rattle.isle_places.specs.declared.told.Told.{Told as CodeTold}
 
 -- ---- locals
 
--- what is told of a local that may be bound
+-- what is known of a local that may be bound
 abbrev told_or : Option CodeTold → Told
 told_or None = Untold
 told_or (Some t) = told t

@@ -95,6 +95,6 @@ variant_asked types name ty variant = if same_bytes name ty then variant_by (typ
 abbrev pub struct_asked : List TypeItem → (name ty : List ℕ) → Asked
 struct_asked types name ty = if same_bytes name ty then struct_by (type_item types name) name else Nowhere
 
--- whether it takes opaque numbers under a name: those of its own, where it is not declared
+-- whether it takes opaque numbers under a name: those of its own, if it is not declared
 abbrev pub takes_opaque : List TypeItem → (name ty : List ℕ) → Bool
 takes_opaque types name ty = same_bytes name ty && (is_foreign name && not (is_declared types name))

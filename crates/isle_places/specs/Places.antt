@@ -20,7 +20,7 @@ use Rattle.isle_places.specs.Told.{Told, AValue, AnOption, ATuple, AnOptionalTup
 abbrev pub Place : Type 0
 Place = Operand × List ℕ
 
--- what is told of an operand's own type, or else of its place
+-- what is known of an operand's own type, or else of its place
 abbrev pub own_or : Operand → Told → Told
 own_or (operand.Bool b) t = AValue (codes "bool")
 own_or (operand.Int ty z) t = AValue (type_name ty)
@@ -75,7 +75,7 @@ expr_places p (expr.Some r) = at (operand_of r) Untold
 expr_places p (expr.Try source as_ref) = at source Untold
 expr_places p (expr.Tuple source part) = at source Untold
 
--- what is told of a value that a function of this kind and result returns
+-- what is known of a value that a function of this kind and result returns
 abbrev pub plain_told : ReturnKind → List ℕ → Told
 plain_told kind.Plain ty = AValue ty
 plain_told kind.Option ty = Untold

@@ -27,7 +27,7 @@ trait_signature f = record { params = type_names f.params; results = f.results; 
 abbrev pub term_signature : Function → Signature
 term_signature f = record { params = type_names f.params; results = f.result ∷ []; kind = f.kind }
 
--- that of what is called, where the program has it
+-- that of what is called, if the program has it
 abbrev pub signature_of : Program → Callee → Option Signature
 signature_of p (callee.External name) = option_map trait_signature (trait_fn p.trait_fns name)
 signature_of p (callee.Internal term) = option_map term_signature (function_of term p.fns)

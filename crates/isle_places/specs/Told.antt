@@ -28,7 +28,7 @@ pub data Told : Type 0 where
   AListOfTuples : (tys : List (List ℕ)) → Told
   Untold : Told
 
--- a value of a type, where there is one
+-- a value of a type, if there is one
 abbrev pub typed_told : Option (List ℕ) → Told
 typed_told None = Untold
 typed_told (Some ty) = AValue ty
@@ -162,7 +162,7 @@ abbrev pub some_told : Option ℕ → Told → Tells
 some_told None t = []
 some_told (Some n) t = (n, within t) ∷ []
 
--- what the locals hold that a pattern binds, where it fits what holds this
+-- what the locals hold that a pattern binds, if it fits what holds this
 abbrev pub pattern_told : Program → TPat → Told → Tells
 pattern_told p (pattern.Const o) t = []
 pattern_told p (pattern.Variant ty variant binds more) t = binds_told (variant_asked p.types ty ty variant) binds

@@ -7,7 +7,7 @@ use Rattle.isle_places.specs.declared.told.Told.TheVariants as code
 use Rattle.isle_places.specs.Told.{Told, AValue, AnOption, ATuple, AnOptionalTuple, AList, AListOfTuples, Untold, Tells}
 use Rattle.isle_places.specs.Places.{Place}
 
--- what is told of something
+-- what is known of something
 abbrev pub told : CodeTold → Told
 told (code.AValue ty) = AValue ty.now
 told (code.AnOption ty) = AnOption ty.now
@@ -17,11 +17,11 @@ told (code.AList ty) = AList ty.now
 told (code.AListOfTuples tys) = AListOfTuples tys.now
 told code.Untold = Untold
 
--- a local with what is told of it
+-- a local with what is known of it
 abbrev pub local_told : ℕ × CodeTold → ℕ × Told
 local_told b = (b.0, told b.1)
 
--- what is told of the locals in order
+-- what is known of the locals in order
 abbrev pub tells : List (ℕ × CodeTold) → Tells
 tells = map local_told
 

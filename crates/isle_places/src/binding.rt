@@ -1,4 +1,4 @@
-//! What is told of the locals that patterns bind.
+//! What is known of the locals that patterns bind.
 
 ghost use Rattle.std.specs.Prelude.{◌≡◌, ◌++◌, OnOk};
 ghost use Rattle.isle_tree.specs.Views.{program};

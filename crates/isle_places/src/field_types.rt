@@ -1,4 +1,4 @@
-//! What is told of fields, by their names.
+//! What is known of fields, by their names.
 
 ghost use Rattle.std.specs.Prelude.{◌≡◌, ◌<◌, ℕ, length, IfOk, option_map};
 ghost use Rattle.std.specs.Fmt.{decimal};
@@ -14,7 +14,7 @@ use isle_core::Text;
 use isle_tree::TFields;
 use std::alloc::{AllocError, Global};
 
-// What is told of a named field.
+// What is known of a named field.
 fn named_field<'s>(found: Option<&'s str>) -> Told<'s>
     ensures { told result ≡ told_of.typed_told (option_map (λ ty. ty.now) found.entry) }
 {
@@ -24,7 +24,7 @@ fn named_field<'s>(found: Option<&'s str>) -> Told<'s>
     }
 }
 
-// What is told of a field whose name may be this number.
+// What is known of a field whose name may be this number.
 fn field_at<'s>(
     alloc: Global,
     tys: &'s [Text],
@@ -47,7 +47,7 @@ fn field_at<'s>(
     }
 }
 
-// What is told of a field whose name is its number.
+// What is known of a field whose name is its number.
 fn numbered_field<'s>(alloc: Global, tys: &'s [Text], name: &str) -> Result<Told<'s>, AllocError>
     ensures { IfOk result (λ t.
         told t ≡ told_of.field_told (These (tuple_fields 0 tys.now)) name.now) }
@@ -58,7 +58,7 @@ fn numbered_field<'s>(alloc: Global, tys: &'s [Text], name: &str) -> Result<Told
     }
 }
 
-/// Returns what is told of the field of this name, of a type that asks so. The only error is want of memory.
+/// Returns what is known of the field of this name, of a type that asks so. The only error is want of memory.
 pub fn field_told<'s>(
     alloc: Global,
     asked: Asked<'s, '_>,

@@ -10,7 +10,7 @@ use std::alloc::{AllocError, Global};
 use std::collections::BTreeMap;
 use std::marker::Model;
 
-/// The fields of a struct or a variant, whose types are found by their names where they have names.
+/// The fields of a struct or a variant, whose types are found by their names if they have names.
 #[derive(Drop)]
 pub struct FieldsByName<'p> {
     fields: &'p TFields,
@@ -27,7 +27,8 @@ impl<'p> Model for FieldsByName<'p> {
 
     ghost view = { λ f. f.fields.now };
 
-    ghost invariant = { λ f. (name : List ℕ) → at_field f.named name ≡ named_type f.fields.now name };
+    ghost invariant = { λ f. (name : List ℕ)
+        → at_field f.named name ≡ named_type f.fields.now name };
 }
 
 // The types of named fields by their names, of each name the first.
@@ -64,7 +65,7 @@ impl<'p> FieldsByName<'p> {
         self.fields
     }
 
-    /// Returns the type of the field of this name, where the fields have names and one has it.
+    /// Returns the type of the field of this name, if the fields have names and one has it.
     pub fn named(&self, name: &str) -> Option<&str>
         ensures { option_map (λ ty. ty.now) result ≡ named_type self.now name.now }
     {

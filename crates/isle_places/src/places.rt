@@ -138,7 +138,7 @@ pub fn push_computed<'s>(
     }
 }
 
-// What is told of a value that a function returns.
+// What is known of a value that a function returns.
 fn plain_told<'s>(f: &'s Function) -> Told<'s>
     ensures { seen result ≡ places_of.plain_told (function f.now).kind (function f.now).result }
 {
@@ -148,7 +148,7 @@ fn plain_told<'s>(f: &'s Function) -> Told<'s>
     }
 }
 
-// What is told of what it returns an option of.
+// What is known of what it returns an option of.
 fn option_told<'s>(f: &'s Function) -> Told<'s>
     ensures { seen result ≡ places_of.option_told (function f.now).kind (function f.now).result }
 {

@@ -24,7 +24,7 @@ pub struct Signature<'p> {
     pub kind: ReturnKind,
 }
 
-// What is told of an answer with these results.
+// What is known of an answer with these results.
 fn plain_told<'p>(results: &'p [Text]) -> Told<'p>
     ensures { told result ≡ answer_told kind.Plain results.now }
 {
@@ -77,7 +77,7 @@ impl<'p> Signature<'p> {
         }
     }
 
-    /// Returns what is told of what a call of the function gives.
+    /// Returns what is known of what a call of the function gives.
     pub fn answer_told(&self) -> Told<'p>
         ensures { told result ≡ answer_told (signature self.now).kind (signature self.now).results }
     {
@@ -88,7 +88,7 @@ impl<'p> Signature<'p> {
         }
     }
 
-    /// Returns what is told of the list of what a call of the function gives, where it answers several times.
+    /// Returns what is known of the list of what a call of the function gives, if it answers several times.
     pub fn answers_told(&self) -> Told<'p>
         ensures { told result
             ≡ answers_told (signature self.now).kind (signature self.now).results }
@@ -121,7 +121,8 @@ impl<'p> Model for Signatures<'p> {
 
     ghost view = { λ s. s.program.now };
 
-    ghost invariant = { λ s. (s.callees ≡ s.program.now.trait_fns) × (s.terms ≡ s.program.now.fns) × (s.types ≡ s.program.now.types) };
+    ghost invariant = { λ s. (s.callees ≡ s.program.now.trait_fns)
+        × (s.terms ≡ s.program.now.fns) × (s.types ≡ s.program.now.types) };
 }
 
 impl<'p> Signatures<'p> {
@@ -147,7 +148,7 @@ impl<'p> Signatures<'p> {
         &self.types
     }
 
-    /// Returns the signature of what is called, where the program has it.
+    /// Returns the signature of what is called, if the program has it.
     pub fn of(&self, callee: &Callee) -> Option<Signature<'_>>
         ensures { option_map signature result ≡ signature_of (program self.now) callee.now }
     {

@@ -1,4 +1,4 @@
-//! What is told of the types of operands, locals and what is computed.
+//! What is known of the types of operands, locals and what is computed.
 
 ghost use Rattle.std.specs.Prelude.{◌≡◌, slice_get};
 ghost use Rattle.isle_tree.specs.Views.{function, program};
@@ -24,7 +24,7 @@ pub enum Told<'s> {
     Untold,
 }
 
-/// Returns what is told of what is within an option.
+/// Returns what is known of what is within an option.
 pub fn within<'s>(of: Told<'s>) -> Told<'s>
     ensures { told result ≡ told_of.within (told of.entry) }
 {
@@ -39,7 +39,7 @@ pub fn within<'s>(of: Told<'s>) -> Told<'s>
     }
 }
 
-// What is told of an option of a value.
+// What is known of an option of a value.
 fn option_of<'s>(of: Told<'s>) -> Told<'s>
     ensures { told result ≡ told_of.option_of (told of.entry) }
 {
@@ -54,7 +54,7 @@ fn option_of<'s>(of: Told<'s>) -> Told<'s>
     }
 }
 
-// What is told of a value of the type at an index, where there is one.
+// What is known of a value of the type at an index, if there is one.
 fn type_told<'s>(tys: &'s [Text], index: usize) -> Told<'s>
     ensures { told result ≡ told_of.typed_told (slice_get tys.now index) }
 {
@@ -64,7 +64,7 @@ fn type_told<'s>(tys: &'s [Text], index: usize) -> Told<'s>
     }
 }
 
-// What is told of a part of a tuple.
+// What is known of a part of a tuple.
 fn part_told<'s>(of: Told<'s>, part: usize) -> Told<'s>
     ensures { told result ≡ told_of.part_told part (told of.entry) }
 {
@@ -79,7 +79,7 @@ fn part_told<'s>(of: Told<'s>, part: usize) -> Told<'s>
     }
 }
 
-/// Returns what is told of an item of a list.
+/// Returns what is known of an item of a list.
 pub fn item_told<'s>(of: Told<'s>) -> Told<'s>
     ensures { told result ≡ told_of.item_told (told of.entry) }
 {
@@ -103,7 +103,7 @@ pub fn operand_of(read: &Read) -> &Operand
     }
 }
 
-/// Returns what is told of a parameter.
+/// Returns what is known of a parameter.
 pub fn param_told<'s>(params: &'s [Ty], index: usize) -> Told<'s>
     ensures { told result ≡ told_of.param_told (slice_get params.now index) }
 {
@@ -113,7 +113,7 @@ pub fn param_told<'s>(params: &'s [Ty], index: usize) -> Told<'s>
     }
 }
 
-/// Returns what is told of a local.
+/// Returns what is known of a local.
 pub fn local_told<'s>(bound: &Table<Told<'s>>, local: usize) -> Told<'s>
     ensures { told result ≡ told_of.look_told (tells bound.now) local }
 {
@@ -123,7 +123,7 @@ pub fn local_told<'s>(bound: &Table<Told<'s>>, local: usize) -> Told<'s>
     }
 }
 
-/// Returns what is told of an operand.
+/// Returns what is known of an operand.
 pub fn operand_told<'s>(f: &'s Function, bound: &Table<Told<'s>>, operand: &Operand) -> Told<'s>
     ensures { told result ≡ told_of.operand_told (function f.now) (tells bound.now) operand.now }
 {
@@ -136,7 +136,7 @@ pub fn operand_told<'s>(f: &'s Function, bound: &Table<Told<'s>>, operand: &Oper
     }
 }
 
-/// Returns what is told of the list that a call gives.
+/// Returns what is known of the list that a call gives.
 pub fn list_told<'s>(signatures: &'s Signatures<'_>, call: &'s TCall) -> Told<'s>
     ensures { told result
         ≡ told_of.list_told (signature_of (program signatures.now) call.now.callee) }
@@ -147,7 +147,7 @@ pub fn list_told<'s>(signatures: &'s Signatures<'_>, call: &'s TCall) -> Told<'s
     }
 }
 
-/// Returns what is told of what is computed.
+/// Returns what is known of what is computed.
 pub fn expr_told<'s>(
     signatures: &'s Signatures<'_>,
     f: &'s Function,

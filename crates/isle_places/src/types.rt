@@ -29,7 +29,8 @@ impl<'p> Model for Declared<'p> {
 
     ghost view = { λ d. d.item.now };
 
-    ghost invariant = { λ d. (d.own ≡ struct_fields d.item.now.body) × ((name : List ℕ) → at_variant d.variants name ≡ variant_fields d.item.now.body name) };
+    ghost invariant = { λ d. (d.own ≡ struct_fields d.item.now.body)
+        × ((name : List ℕ) → at_variant d.variants name ≡ variant_fields d.item.now.body name) };
 }
 
 /// The declared types, each found by its name.
@@ -105,14 +106,14 @@ impl<'p> Declared<'p> {
         })
     }
 
-    /// Returns the fields of the type, where it is a struct.
+    /// Returns the fields of the type, if it is a struct.
     pub fn own(&self) -> Option<&FieldsByName<'p>>
         ensures { option_map (λ fs. fs.now) result ≡ struct_fields self.now.body }
     {
         self.own.as_ref()
     }
 
-    /// Returns the fields of the variant of this name, where the type is an enum that has it.
+    /// Returns the fields of the variant of this name, if the type is an enum that has it.
     pub fn variant(&self, name: &str) -> Option<&FieldsByName<'p>>
         ensures { option_map (λ fs. fs.now) result ≡ variant_fields self.now.body name.now }
     {

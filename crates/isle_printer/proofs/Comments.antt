@@ -43,7 +43,7 @@ tokens-comment_lines (l ∷ ls) rest h =
     ap without_comments (ap (λ t. tokens_of (47 ∷ 47 ∷ t)) (append_assoc l (10 ∷ comment_lines ls) rest) ∙ tokens-comment l (comment_lines ls ++ rest) parts.0)
     ∙ tokens-comment_lines ls rest parts.1
 
--- where no comment is among the tokens, all are read
+-- if no comment is among the tokens, all are read
 pub all_read : (ts : List Token) → list_all is_read ts ≡ true → without_comments ts ≡ ts
 all_read [] h = refl
 all_read (t ∷ ts) h = let parts = and_parts (is_read t) _ h in rw parts.0 (ap (λ us. t ∷ us) (all_read ts parts.1))

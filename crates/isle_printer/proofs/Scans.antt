@@ -72,7 +72,7 @@ pub scan-line : (s : List ℕ) → Ends (scan s).state 10 → scan (s ++ 10 ∷ 
 unfolding begun
 scan-line s e = scan-next s 10 [] e
 
--- four blanks where nothing was begun
+-- four blanks if nothing was begun
 pub scan-pad : (s : List ℕ) → (scan s).state ≡ Between → scan (s ++ 32 ∷ 32 ∷ 32 ∷ 32 ∷ []) ≡ scan s
 unfolding step begun
 scan-pad s h = scan-append s (32 ∷ 32 ∷ 32 ∷ 32 ∷ []) ∙ four (scan s).tokens (scan s).state h

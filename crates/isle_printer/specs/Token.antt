@@ -42,7 +42,7 @@ joins a b =
     ((a == 58) && (b == 58)) || ((a == 45) && (b == 62)) || ((a == 61) && (b == 62)) || ((a == 61) && (b == 61))
     || ((a == 62) && (b == 61)) || ((a == 46) && (b == 46)) || ((a == 124) && (b == 124))
 
--- a byte where nothing was begun
+-- a byte if nothing was begun
 unfoldable pub begun : List Token → ℕ → Scan
 begun ts b =
     if is_word_byte b then record { tokens = ts; state = InWord (b ∷ []) }

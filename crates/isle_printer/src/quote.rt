@@ -42,7 +42,7 @@ fn push_each(out: &mut String, text: &str) -> Result<(), AllocError>
     Ok(())
 }
 
-// Appends a text, as a whole where no byte needs a backslash.
+// Appends a text, as a whole if no byte needs a backslash.
 #[tactic(auto, using(crate::proofs::Quotes::escaped_is_plain))]
 fn push_text(out: &mut String, text: &str) -> Result<(), AllocError>
     ensures { OnOk result (string_bytes out.new ≡ string_bytes out.old ++ escaped text.now) }

@@ -9,7 +9,7 @@ use std::process::ExitCode;
 use std::rt::Env;
 use std::{env, io};
 
-// The words after the program's name, or the status of a run that has none: 2 where one isn't UTF-8, 12 else.
+// The words after the program's name, or the status of a run that has none: 2 if one isn't UTF-8, 12 else.
 fn words_given(rt: &(impl Env + AllocGlobal)) -> Result<Vec<String>, u8> {
     let mut words = Vec::new(rt.alloc());
     let given = match env::args(rt) {

@@ -23,7 +23,7 @@ split (x ∷ front) rest (y ∷ other) us e l =
     let z = split front rest other us behind l in
     (z.0, ap (λ v. v ∷ other) (sym same) ∙ ap (λ v. x ∷ v) z.1, z.2)
 
--- nothing that is spelt is begun further on than another that ends where it does
+-- nothing that is spelt is begun further on than another that ends if it does
 too_far : {A B : Type 0} (S : A → List Lexeme → List Lexeme → Type 0) (T : B → List Lexeme → List Lexeme → Type 0) → ((a : A) (b : B) (ts rest behind : List Lexeme) → S a ts rest → T b ts behind → rest ≡ behind)
     → (b : B) (ts rest us : List Lexeme) → Taken Anything T b ts rest → Begun Anything S ts us → length us < length rest → ⊥
 too_far S T same b ts rest us (front, e, w) (other, f, (others, a, v)) l = by (split front rest other us (sym e ∙ f) l)
@@ -35,7 +35,7 @@ too_far S T same b ts rest us (front, e, w) (other, f, (others, a, v)) l = by (s
         let x : [] ≡ t ∷ (more ++ others) = same a b (front ++ ((t ∷ more) ++ others)) [] ((t ∷ more) ++ others) whole (w ((t ∷ more) ++ others) tt) in
         cc
 
--- what both readers leave, where each takes a token
+-- what both readers leave, if each takes a token
 pub both_less : {A B : Type 0} (n : ℕ) (r : Reader A) (q : Reader B) → ((a : A) (ts rest : List Lexeme) → run r ts ≡ Got a rest → length rest < length ts) → ((b : B) (ts rest : List Lexeme) → run q ts ≡ Got b rest → length rest < length ts)
     → (z : Both A B) (ts mid : List Lexeme) → run (both r q) ts ≡ Got z mid → length ts ≤ suc n → length mid ≤ n
 both_less {A = A} {B = B} n r q hr hq z ts mid e l = let x : length mid < length ts = by z mid (subst (Merged (run r ts) (run q ts)) e (both_merged r q ts)) in omega (arith, l, x)

@@ -1,4 +1,4 @@
--- What comes of two readers over the same tokens, where code runs one after the other.
+-- What comes of two readers over the same tokens, if code runs one after the other.
 use Rattle.std.proofs.Common.{◌≡◌, ℕ, zero, suc, ◌≤◌, ◌<◌, List, length, ◌⊎◌, inl, inr, refl, ap, sym, ◌∙◌, subst, arith, Some}
 use Rattle.std.specs.Prelude.{min}
 use Rattle.isle_lexer.specs.Lexeme.{Lexeme}

@@ -22,7 +22,7 @@ pub record Law {A : Type 0} (P : Nest → Type 0) (E : A → Nest → Type 0) (C
   pub closes : (ts rest : List Lexeme) → run r ts ≡ Stuck rest → Begun C S ts rest
   -- what was taken where it is too deep begins something
   pub deepens : (ts rest : List Lexeme) → run r ts ≡ Deep rest → Begun C S ts rest
-  -- what is taken nests no deeper than may be, leads to E where it is got, and is too deep only where the next token is
+  -- what is taken nests no deeper than may be, leads to E if it is got, and is too deep only where the next token is
   pub leads : (q : Nest) (ts : List Lexeme) → P q → Nests E n q ts (run r ts)
   -- something is spelt
   pub ends : Begins C S []
@@ -145,7 +145,7 @@ then_leads M E n m q ts (Got a mid) k short (p, x, e) h = leads_behind E n m q p
 then_leads M E n m q ts (Stuck rest) k short x h = x
 then_leads M E n m q ts (Deep rest) k short x h = x
 
--- where the first leaves at most m of n tokens
+-- if the first leaves at most m of n tokens
 pub law_less_then : {A B : Type 0} {P : Nest → Type 0} {M : A → Nest → Type 0} {E : B → Nest → Type 0} {C D : List Lexeme → Type 0} {n : ℕ}
     {S : A → List Lexeme → List Lexeme → Type 0} {T : A → B → List Lexeme → List Lexeme → Type 0} (m : ℕ) (r : Reader A) (k : A → Reader B)
     → ((a : A) (ts mid : List Lexeme) → run r ts ≡ Got a mid → length ts ≤ n → length mid ≤ m)

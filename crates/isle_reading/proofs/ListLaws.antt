@@ -20,7 +20,7 @@ longer (t ∷ front) ts rest some e =
     let b : length (front ++ rest) ≡ length front + length rest = length-append front rest in
     omega (arith, a, b)
 
--- what is read takes a token, where nothing spells it in front of some tokens
+-- what is read takes a token, if nothing spells it in front of some tokens
 pub takes : {A : Type 0} {P : Nest → Type 0} {E : A → Nest → Type 0} {C : List Lexeme → Type 0} {n : ℕ} {S : A → List Lexeme → List Lexeme → Type 0} (r : Reader A) → Law P E C n S r
     → (some : List Lexeme) → C some → ((a : A) → S a some some → ⊥) → (a : A) (ts rest : List Lexeme) → run r ts ≡ Got a rest → length rest < length ts
 takes {S = S} r h some c not a ts rest e =

@@ -81,7 +81,7 @@ unfolding many run
 full-by r [] = refl
 full-by r (t ∷ ts) = refl
 
--- a list of values where no parenthesis is next has at least one
+-- a list of values if no parenthesis is next has at least one
 pub some-by : {A : Type 0} (r : Reader A) (m : ℕ) (ts : List Lexeme) → 0 < length ts → None ≡ closes ts → run (many (suc m) r) ts ≡ run (some m r) ts
 unfolding many
 some-by r m ts l e = no_close_peek (bind read_close (λ c. Ret [])) (some m r) ts l e

@@ -71,7 +71,7 @@ same_open n Other w ms h e = (subst NoSign (sym (no_sign_settled ms h)) h, ap le
 pub opened_word : {A : Type 0} (n : ℕ) (f : List ℕ → Option A) → n ≤ most_open → WordSteps (Opened n) (λ a. Opened n) f
 opened_word n f l at w a e q p = let x = same_open n q.last w q.marks p.plain p.counted in (omega (arith, l, x.1), record { plain = x.0; counted = x.1 })
 
--- where as many are open as may be, one more is too deep
+-- if as many are open as may be, one more is too deep
 pub opened_over : (n : ℕ) → most_open ≡ n → (q : Nest) (t : Lexeme) → Opened n q → IsTrue (is_open t) → most_open < length (nest q t).marks
 opened_over n e q t p is =
     let x = more_open n (here q) (subst NoSign (sym (no_sign_here q.last q.marks p.plain)) p.plain) (ap length (no_sign_here q.last q.marks p.plain) ∙ p.counted) in
@@ -169,7 +169,7 @@ head_word f l not at w a e q p =
     let x : nest q (Word at w) ≡ record { marks = Round ∷ []; last = Other } = ap (λ z. nest z (Word at w)) p ∙ ap (λ b. record { marks = if b then Passed ∷ [] else Round ∷ []; last = Other }) (not w a e) in
     (subst (λ z. length z.marks ≤ most_open) (sym x) l, settled_inside (Round ∷ []) (nest q (Word at w)) x)
 
--- where as many are open as may be, one more is too deep
+-- if as many are open as may be, one more is too deep
 pub inside_over : (ms : List Mark) → InList ms → most_open ≡ length ms → (q : Nest) (t : Lexeme) → Inside ms q → IsTrue (is_open t) → most_open < length (nest q t).marks
 inside_over ms h e q t p is =
     let x : length (nest q (Open (place t))).marks ≡ suc (length ms) = ap (λ (z : Nest). length z.marks) (ap opened p.stands ∙ more_inside ms h) in
@@ -194,7 +194,7 @@ passed_length : (k : ℕ) → length (passed k) ≡ k
 passed_length zero = refl
 passed_length (suc k) = ap suc (passed_length k)
 
--- a token that leads there, where so many may be open
+-- a token that leads there, if so many may be open
 led : (j k : ℕ) (t : Lexeme) → k ≤ most_open → nest (record { marks = passed j; last = Other }) t ≡ record { marks = passed k; last = Other } → Steps (InPassed j) (InPassed k) t
 led j k t l e q p =
     let x : nest q t ≡ record { marks = passed k; last = Other } = ap (λ (z : Nest). nest z t) p ∙ e in

@@ -36,7 +36,7 @@ pub refuses_after : {A B : Type 0} (fail : Fail) (o : Reading A) (f : A → List
 refuses_after (code.At k) o f h = stops_after o f k h
 refuses_after code.Memory o f h = tt
 
--- where the first is refused, both are
+-- if the first is refused, both are
 pub bind_refuses : {A B : Type 0} (fail : Fail) (r : Reader A) (k : A → Reader B) (ts : List Lexeme) → Refuses fail (run r ts) → Refuses fail (run (bind r k) ts)
 bind_refuses fail r k ts h = subst (Refuses fail) (sym (run-bind r k ts)) (refuses_after fail (run r ts) (λ a us. run (k a) us) h)
 
@@ -121,7 +121,7 @@ open_peek y n at (Less m ∷ ts) e = cc
 open_peek y n at (Greater m ∷ ts) e = cc
 open_peek y n at (Word m w ∷ ts) e = cc
 
--- something else where none opens
+-- something else if none opens
 pub other_peek : {A : Type 0} (y n : Reader A) (ts : List Lexeme) → run n [] ≡ Stuck [] → None ≡ opens ts → run (Peek is_open y n) ts ≡ run n ts
 unfolding run
 other_peek y n [] none e = sym none
@@ -141,7 +141,7 @@ pub ruleset round = (open_got, open_stops, close_got, close_stops)
 
 -- ---- an `@`
 
--- a list where an `@` is next
+-- a list if an `@` is next
 pub at_peek : {A : Type 0} (y n : Reader A) (at : ℕ) (ts : List Lexeme) → Some at ≡ signs ts → run (Peek is_at y n) ts ≡ run y ts
 unfolding run
 at_peek y n at [] e = cc
@@ -152,7 +152,7 @@ at_peek y n at (Less m ∷ ts) e = cc
 at_peek y n at (Greater m ∷ ts) e = cc
 at_peek y n at (Word m w ∷ ts) e = cc
 
--- something else where none is
+-- something else if none is
 pub no_at_peek : {A : Type 0} (y n : Reader A) (ts : List Lexeme) → 0 < length ts → None ≡ signs ts → run (Peek is_at y n) ts ≡ run n ts
 unfolding run
 no_at_peek y n [] l e = absurd (omega (arith, l))
@@ -179,7 +179,7 @@ unfolding run
 peek_stops test y n [] e = refl
 peek_stops test y n (t ∷ ts) e = absurd (omega (arith, e))
 
--- where a parenthesis closes, and where none does
+-- where a parenthesis closes, and if none does
 pub close_peek : {A : Type 0} (y n : Reader A) (at : ℕ) (ts : List Lexeme) → Some at ≡ closes ts → run (Peek is_close y n) ts ≡ run y ts
 unfolding run
 close_peek y n at [] e = cc

@@ -242,7 +242,7 @@ cond_leads : {A : Type 0} (E : A → Nest → Type 0) (n : ℕ) (q : Nest) (ts :
 cond_leads E n q ts true o p h k = h refl
 cond_leads E n q ts false o p h k = k
 
--- the law of what is read where the test is passed is needed only there
+-- the law of what is read if the test is passed is needed only there
 pub law_peek_when : {A : Type 0} {P : Nest → Type 0} {E : A → Nest → Type 0} {C : List Lexeme → Type 0} {n : ℕ} {S T : A → List Lexeme → List Lexeme → Type 0} (test : Lexeme → Bool) (y r : Reader A)
     → ((a : A) (ts rest : List Lexeme) → S a ts rest → C rest → Heads test true ts) → ((a : A) (ts rest : List Lexeme) → T a ts rest → C rest → Heads test false ts)
     → ((t : Lexeme) → IsTrue (test t) → Law P E C n S y) → Law P E C n T r → Law P E C n (Either S T) (Peek test y r)
@@ -318,7 +318,7 @@ law_barred {A = A} {P = P} {E = E} {C = C} {n = n} {S = S} {T = T} test r sy sr 
     leads q [] p = (q, none q [])
     leads q (t ∷ us) p = barred (test t) q t us (run r (t ∷ us)) (λ is. over q t p is) (hr.leads q (t ∷ us) p)
 
--- the same where nothing else may stand
+-- the same if nothing else may stand
 pub law_walled : {A : Type 0} {P : Nest → Type 0} {E : A → Nest → Type 0} {C : List Lexeme → Type 0} {n : ℕ} {S : A → List Lexeme → List Lexeme → Type 0} (test : Lexeme → Bool)
     → ((a : A) (ts rest : List Lexeme) → S a ts rest → C rest → Heads test true ts) → ((q : Nest) (t : Lexeme) → P q → IsTrue (test t) → most_open < length (nest q t).marks) → Begins C S []
     → Law P E C n S (Peek test Halt refuse)

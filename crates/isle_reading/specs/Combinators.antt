@@ -96,7 +96,7 @@ next_word f (Less at ∷ ts) = None
 next_word f (Greater at ∷ ts) = None
 next_word f (Word at w ∷ ts) = f w
 
--- what a word gives, or else this where there is no such word
+-- what a word gives, or else this if there is no such word
 unfoldable pub read_optional : {A : Type 0} → (List ℕ → Option A) → A → Reader A
 read_optional f other = Peek (on_word (λ w. is_some (f w))) (read_word f) (Ret other)
 
@@ -116,7 +116,7 @@ many (suc n) r = Peek is_close (bind read_close (λ c. Ret [])) (bind r (λ a. b
 abbrev pub some : {A : Type 0} → ℕ → Reader A → Reader (List A)
 some n r = bind r (λ a. bind (many n r) (λ others. Ret (a ∷ others)))
 
--- values up to the end of the text, at most n of them, where each value's reader hangs on a state and the value gives the next
+-- values up to the end of the text, at most n of them, if each value's reader hangs on a state and the value gives the next
 unfoldable pub all_from : {St A : Type 0} → ℕ → (St → Reader A) → (St → A → St) → St → Reader (List A)
 all_from zero r next s = End (Ret []) Halt
 all_from (suc n) r next s = End (Ret []) (bind (r s) (λ a. bind (all_from n r next (next s a)) (λ others. Ret (a ∷ others))))

@@ -21,7 +21,7 @@ pub data GoesWrong (accepted : List Lexeme → Type 0) (front rest : List Lexeme
   -- a token is missing
   missing : rest ≡ [] → (accepted front → ⊥) → GoesWrong accepted front rest
 
--- tokens go wrong where so many of them are left; what is accepted says nothing of how deep it nests
+-- tokens go wrong if so many of them are left; what is accepted says nothing of how deep it nests
 pub record IsFault (accepted : List Lexeme → Type 0) (ts : List Lexeme) (left : ℕ) : Type 0 where
   pub front : List Lexeme
   pub rest : List Lexeme
@@ -36,7 +36,7 @@ abbrev pub first_place : List Lexeme → ℕ → ℕ
 first_place [] end = end
 first_place (t ∷ ts) end = place t
 
--- the place in a text of that length where so many tokens are left
+-- the place in a text of that length if so many tokens are left
 abbrev pub place_left : List Lexeme → ℕ → ℕ → ℕ
 place_left ts left end = first_place (drop (length ts - left) ts) end
 

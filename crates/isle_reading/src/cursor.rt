@@ -230,7 +230,7 @@ fn place(token: Token<'_>) -> usize
     }
 }
 
-/// Returns the place in a text of length `end` where so many of its tokens are left.
+/// Returns the place in a text of length `end` if so many of its tokens are left.
 pub fn place_of(tokens: &[Token<'_>], left: usize, end: usize) -> usize
     ensures { result ≡ place_left (tokens_seen tokens.now) left end }
 {
@@ -248,7 +248,7 @@ fn end_of(token: Token<'_>) -> usize {
     }
 }
 
-/// Returns the end of the first token where so many are left of a text of that length, or the text's length.
+/// Returns the end of the first token if so many are left of a text of that length, or the text's length.
 pub fn token_end(tokens: &[Token<'_>], left: usize, end: usize) -> usize {
     match tokens.get(tokens.len().saturating_sub(left)) {
         Some(token) => end_of(*token),

@@ -165,7 +165,7 @@ value_more old mid new p kind n call number value h m = record {
 pub call_valued : (old mid new : Numbered) (p : Path) (kind : ReturnKind) (n : ℕ) (call value : BindingId) → Calls old mid p return_kind.Plain n call call → Calls mid new (at (paths_of mid.bindings) call) kind mid.calls call value → Calls old new p kind n call value
 call_valued old mid new p kind n call value h m = value_more old mid new p kind n call call value h (subst (λ q. Calls mid new q kind mid.calls call value) (at_get (paths_of mid.bindings) call.0 p h.found) m)
 
--- so where the value could be numbered
+-- so if the value could be numbered
 pub inner_given : {E : Type 0} (r : Result BindingId E) (n new : Numbered) (p : Path) (call : BindingId) → slice_get (paths_of n.bindings) call.0 ≡ Some p → IfOk r (Numbers n new (Inner p)) → IfOk r (Calls n new p return_kind.Option n.calls call)
 inner_given (Err x) n new p call there h = tt
 inner_given (Ok b) n new p call there h = inner_value n new p call b there h

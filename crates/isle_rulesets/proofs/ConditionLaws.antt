@@ -103,7 +103,7 @@ condition_taken terms old mid new d found e none calls c value built start given
           record { knows = k.knows; constraints = k.constraints ∙ asked_alike is_constraint qs ts (λ p. refl) x; equals = k.equals ∙ asked_alike is_equality qs ts (λ p. refl) x };
     }
 
--- so where the pattern is read last
+-- so if the pattern is read last
 pub takes_condition : {T E : Type 0} (r : Result T E) (terms : List Term) (old mid new : Numbered) (d found e : PatternTests) (none calls : List BindingId) (c : IfLet) (value : BindingId) → IsBuiltIfLet terms c → none ≡ [] → Given terms d.variables old mid none calls c.rhs value
     → FindsAll d found calls → OnOk r (TakesIn terms mid new found e c.lhs value) → OnOk r ((env : Environment) → env.terms ≡ terms → TakesCondition env old new d e c)
 takes_condition (Err x) terms old mid new d found e none calls c value built start given finds takes = tt

@@ -1,4 +1,4 @@
--- What a built expression gives calls no term that answers several times, and stands somewhere where its variables do; so do the
+-- What a built expression gives calls no term that answers several times, and stands somewhere if its variables do; so do the
 -- values and the variables of conditions.
 use Rattle.std.proofs.Common.{◌≡◌, ⊎_elim, ℕ, ◌+◌, List, [], ◌∷◌, ◌++◌, Bool, true, false, cond, eqb, Option, Some, None, refl, sym, ap, ◌∙◌, subst}
 use Rattle.std.specs.Prelude.{Contains}

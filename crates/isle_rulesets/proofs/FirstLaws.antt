@@ -37,7 +37,7 @@ firsts_or_seen x (first seen y xs ys d h) c =
     let here : y ≡ x → Contains (y ∷ ys) x = λ e. subst (Contains (y ∷ ys)) e (head_contained y ys) in
     ⊎_elim (λ e. inl (here e)) (λ k. ⊎_elim (λ l. inl (tail_contained y ys x l)) (λ l. ⊎_elim (λ e. inl (here e)) (λ m. inr m) (contained_cases y seen x l)) (firsts_or_seen x h k)) (contained_cases y xs x c)
 
--- so where nothing was seen
+-- so if nothing was seen
 pub firsts_keep : {A : Type 0} (xs ys : List A) (x : A) → AreFirsts [] xs ys → Contains xs x → Contains ys x
 firsts_keep xs ys x h c = ⊎_elim (λ d. d) (λ d. absurd (none_contained x d)) (firsts_or_seen x h c)
 
@@ -53,19 +53,19 @@ firsts_once (no_more seen) = tt
 firsts_once (again seen y xs ys d h) = firsts_once h
 firsts_once (first seen y xs ys d h) = ((λ c. not_seen y h c (head_contained y seen)), firsts_once h)
 
--- ---- the firsts of what is told of items
+-- ---- the firsts of what is known of items
 
--- what is told of an item is among what is told of all
+-- what is known of an item is among what is known of all
 pub map_contains : {A B : Type 0} (f : A → B) (xs : List A) (x : A) → Contains xs x → Contains (map f xs) (f x)
 map_contains f [] x c = absurd (none_contained x c)
 map_contains f (y ∷ xs) x c = ⊎_elim (λ e. subst (λ z. Contains (f y ∷ map f xs) (f z)) e (head_contained (f y) (map f xs))) (λ d. tail_contained (f y) (map f xs) (f x) (map_contains f xs x d)) (contained_cases y xs x c)
 
--- what is told of items is told of one
+-- what is known of items is told of one
 pub map_from : {A B : Type 0} (f : A → B) (xs : List A) (y : B) → Contains (map f xs) y → (x : A) × Contains xs x × (f x ≡ y)
 map_from f [] y c = absurd (none_contained y c)
 map_from f (x ∷ xs) y c = ⊎_elim (λ e. (x, head_contained x xs, e)) (λ d. let h = map_from f xs y d in (h.0, tail_contained x xs h.0 h.1, h.2)) (contained_cases (f x) (map f xs) y c)
 
--- where items are told apart, the firsts are those of the items
+-- if items are told apart, the firsts are those of the items
 pub firsts_map : {A B : Type 0} {seen xs ys : List A} (f : A → B) → AreFirsts seen xs ys → ((x y : A) → Contains seen x ⊎ Contains xs x → Contains seen y ⊎ Contains xs y → f x ≡ f y → x ≡ y) → AreFirsts (map f seen) (map f xs) (map f ys)
 firsts_map f (no_more seen) apart = no_more (map f seen)
 firsts_map f (again seen x xs ys c h) apart =

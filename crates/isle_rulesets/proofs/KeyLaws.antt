@@ -1,4 +1,4 @@
--- Keys are told by their order, and by their paths where their parts are there.
+-- Keys are told by their order, and by their paths if their parts are there.
 use Rattle.std.proofs.Common.{◌≡◌, ℕ, ℤ, List, [], ◌∷◌, Bool, true, false, refl, ap, ◌∙◌, arith, Ordering}
 use Rattle.std.specs.List.{AllByRecursion}
 use Rattle.std.specs.declared.cmp.Ordering.TheVariants.{Less, Equal, Greater}

@@ -91,6 +91,6 @@ keeps_lists old new numbers late k bs cs =
     let same : KeepsNumbers (record { bindings = old.bindings; calls = old.calls; lists = new.lists }) numbers late = record { numbered = record { parts = k.numbered.parts; found = k.numbered.found; kinds = k.numbered.kinds; once = k.numbered.once; counted = k.numbered.counted }; told = k.told } in
     subst (λ xs. KeepsNumbers (record { bindings = xs; calls = new.calls; lists = new.lists }) numbers late) (sym bs) (subst (λ n. KeepsNumbers (record { bindings = old.bindings; calls = n; lists = new.lists }) numbers late) (sym cs) same)
 
--- nothing more, where a push failed
+-- nothing more, if a push failed
 pub keeps_failed : (n : Numbered) (items : List Binding) (numbers : Key → Option BindingId) (late told : List Bool) → KeepsNumbers n numbers late → items ≡ n.bindings → told ≡ late → KeepsNumbers (record { bindings = items; calls = n.calls; lists = n.lists }) numbers told
 keeps_failed n items numbers late told k is same = subst (λ bs. KeepsNumbers (record { bindings = bs; calls = n.calls; lists = n.lists }) numbers told) (sym is) (subst (λ ts. KeepsNumbers n numbers ts) (sym same) k)

@@ -1,4 +1,4 @@
--- The calls that are met where their place counts are the rule's calls in order.
+-- The calls that are met if their place counts are the rule's calls in order.
 use Rattle.std.proofs.Common.{◌≡◌, ℕ, ◌+◌, List, [], ◌∷◌, ◌++◌, Bool, cond, refl, ap, ◌∙◌}
 use Rattle.std.specs.Prelude.{◌||◌, ◌&&◌}
 use Rattle.isle_core.specs.Calling.{Calling, calling, answers_often, is_ordered, impure, impure_all, impure_bindings}

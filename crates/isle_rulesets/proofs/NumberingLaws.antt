@@ -244,7 +244,7 @@ pub without_last : {A : Type 0} (xs : List A) (y : A) → take (length xs) (xs +
 without_last [] y = refl
 without_last (x ∷ xs) y = ap (λ ys. x ∷ ys) (without_last xs y)
 
--- what a numbering is where the last binding was taken away again
+-- what a numbering is if the last binding was taken away again
 pub numbered_back : (old : Numbered) (more items : List Binding) (count : ℕ) (numbers new : BTreeMap Key BindingId) (b : Binding) (n : ℕ) → AreNumbered old (known count numbers) → IsUnchanged numbers new → n ≡ length old.bindings → more ≡ old.bindings ++ b ∷ []
     → items ≡ take n more → AreNumbered (record { bindings = items; calls = old.calls; lists = old.lists }) (known count new)
 numbered_back old more items count numbers new b n a u l longer is =

@@ -113,11 +113,11 @@ all_there_once ps (a ∷ ms) (b ∷ bs) once h k e =
 
 -- ---- lists that are met
 
--- none where nothing is done
+-- none if nothing is done
 pub meets_none : (n : Numbered) → MeetsLists n n []
 meets_none n qs x = sym (append-nil (map (at qs) n.lists))
 
--- nor where they stay
+-- nor if they stay
 pub meets_same : (old new : Numbered) → new.lists ≡ old.lists → MeetsLists old new []
 meets_same old new e qs x = ap (map (at qs)) e ∙ sym (append-nil (map (at qs) old.lists))
 

@@ -168,7 +168,7 @@ some_there P [] i x h e = absurd h
 some_there P (y ∷ xs) zero x h e = ap Some (sym e)
 some_there P (y ∷ xs) (suc i) x h e = some_there P xs i x h e
 
--- by turns where it is impure, and by cases where it is pure
+-- by turns if it is impure, and by cases if it is pure
 pub data IsCalled (k : TermKind) (c : Calling) : Type 0 where
   by_turns : (callee : Callee) → is_pure k ≡ false → c ≡ ByTurns callee (kind_of k) → IsCalled k c
   by_cases : (callee : Callee) → is_pure k ≡ true → c ≡ ByCases callee (kind_of k) → IsCalled k c
@@ -264,7 +264,7 @@ listed_at return_kind.Plain qs call p e = refl
 listed_at return_kind.Option qs call p e = refl
 listed_at return_kind.Iterator qs call p e = ap (λ q. q ∷ []) e
 
--- a call joins those before where its place counts
+-- a call joins those before if its place counts
 call_numbers : (old new : Numbered) (before after : List BindingId) (c : Calling) (kind : ReturnKind) (p : Path) (n : ℕ) (call value : BindingId) (counts : Bool) → kind_answers c kind → Calls old new p kind n call value → n ≡ old.calls + one_more c 0
     → call_met c p ≡ (if counts then p ∷ [] else []) → after ≡ before ++ (if counts then call ∷ [] else []) → NumbersTerm old new before after c p value
 call_numbers old new before after c kind p n call value counts how k count met more = record {
@@ -344,7 +344,7 @@ pure_given (Ok b) old new before after terms term t often counts bs call value h
         (call_numbers old new before after c (kind_of t.kind) p old.calls call value counts (case_answers callee (kind_of t.kind)) (subst (λ f. Calls old new p f old.calls call value) of k) (none_more old.calls)
         (pure_met callee (kind_of t.kind) p ∙ ap (λ (x : Bool). if x then p ∷ [] else []) (sym told)) more)
 
--- a call after its arguments, where it was added
+-- a call after its arguments, if it was added
 pub given_call : {E : Type 0} (r : Result BindingId E) (terms : List Term) (variables : Variables) (old mid new : Numbered) (before middle after : List BindingId) (e : Expr) (ty : TypeId) (term : TermId) (es : Exprs) (bs : List BindingId) → e ≡ expr.Term ty term es
     → AllGiven terms variables old mid before middle es bs
     → IfOk r (λ b. (env : Environment) → env.terms ≡ terms → NumbersTerm mid new middle after (calling env term) (call_path env term (at_all (paths_of mid.bindings) bs) mid.calls) b) → IfOk r (Given terms variables old new before after e)

@@ -1,4 +1,4 @@
--- The calls of a rule's paths have an occurrence of their own exactly where they are impure, so the flags of the code tell which paths hold an
+-- The calls of a rule's paths have an occurrence of their own exactly if they are impure, so the flags of the code tell which paths hold an
 -- impure call.
 use Rattle.std.proofs.Common.{◌≡◌, ℕ, zero, suc, ◌+◌, List, [], ◌∷◌, Bool, true, false, cond, Option, Some, None, refl, ap, ◌∙◌}
 use Rattle.std.specs.Prelude.{◌||◌}
@@ -20,7 +20,7 @@ use Rattle.isle_core.proofs.ExprPaths.{IsPlaceSo, ArePlacedSo, with_placed}
 use Rattle.isle_rulesets.specs.Late.{is_own, has_turn, have_turn}
 
 module _ (env : Environment) where
-  -- each call has an occurrence exactly where it is impure
+  -- each call has an occurrence exactly if it is impure
   abbrev mutual
     pub IsTold : Path → Type 0
     IsTold (Called term ps k) = (is_own k ≡ takes_turn (calling env term)) × AreTold ps

@@ -1,4 +1,4 @@
--- What counts where tests are told apart.
+-- What counts if tests are told apart.
 use Rattle.std.specs.Prelude.{◌≡◌, Bool, not, ◌==◌}
 use Rattle.std.specs.declared.cmp.Ordering.{Ordering}
 use Rattle.std.specs.declared.cmp.Ordering.TheVariants.{Equal}

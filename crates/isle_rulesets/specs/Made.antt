@@ -15,7 +15,7 @@ abbrev pub making_of : Made → Making
 making_of (made.Variant ty variant) = MakesVariant ty variant
 making_of (made.Struct ty) = MakesStruct ty
 
--- so where something is
+-- so if something is
 abbrev pub seen : Option Made → Making
 seen None = MakesNothing
 seen (Some m) = making_of m

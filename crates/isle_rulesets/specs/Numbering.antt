@@ -51,7 +51,7 @@ next_call old term parameters = Called term (at_all (paths_of old.bindings) para
 abbrev pub same_call : Numbered → TermId → List BindingId → Path
 same_call old term parameters = Called term (at_all (paths_of old.bindings) parameters) 0
 
--- what stands at a call's value: its inner value where it may be nothing, an item of it where it answers several times
+-- what stands at a call's value: its inner value if it may be nothing, an item of it if it answers several times
 abbrev pub value_by : ReturnKind → Path → Path
 value_by return_kind.Plain p = p
 value_by return_kind.Option p = Inner p

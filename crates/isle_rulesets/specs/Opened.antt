@@ -60,7 +60,7 @@ value_beside return_kind.Plain p = []
 value_beside return_kind.Option p = Inner p ∷ []
 value_beside return_kind.Iterator p = Chosen p ∷ []
 
--- what is tested of an answer: that it is something, where it may be nothing; of a list, that it has an item
+-- what is tested of an answer: that it is something, if it may be nothing; of a list, that it has an item
 abbrev pub tested_by : ReturnKind → Path → List Test
 tested_by return_kind.Plain p = []
 tested_by return_kind.Option p = Is p constraint.Some ∷ []
@@ -70,7 +70,7 @@ tested_by return_kind.Iterator p = HasItem p ∷ []
 abbrev pub Asks : PatternTests → PatternTests → ReturnKind → BindingId → Type 0
 Asks d e kind call = (ps : List Path) (places : Places) (ts : List Test) → HasTests ps places ts d → HasTests ps places (ts ++ tested_by kind (at ps call)) e
 
--- the answer's value has this number, and the answer is tested and met where it is a list
+-- the answer's value has this number, and the answer is tested and met if it is a list
 pub record Answers (old new : Numbered) (d e : PatternTests) (kind : ReturnKind) (p : Path) (b : BindingId) : Type 0 where
   pub reads : Reads old new d e (value_beside kind p) (listed_by kind p) (λ places. places) (λ places. tested_by kind p)
   pub found : slice_get (paths_of new.bindings) b.0 ≡ Some (value_by kind p)

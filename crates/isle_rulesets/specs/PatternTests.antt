@@ -20,7 +20,7 @@ is_equality (Is p c) = false
 is_equality (Equal p q) = true
 is_equality (HasItem p) = false
 
--- the path of a number, where there is one
+-- the path of a number, if there is one
 abbrev pub path_at : List Path → Option BindingId → Option Path
 path_at ps None = None
 path_at ps (Some b) = Some (at ps b)
@@ -29,13 +29,13 @@ path_at ps (Some b) = Some (at ps b)
 pub record Knows (ps : List Path) (places : Places) (variables : List (ℕ × BindingId)) : Type 0 where
   pub by : (x : ℕ) → path_at ps (held variables x) ≡ places x
 
--- what is gathered knows the variables, and has these tests, where bindings have these paths
+-- what is gathered knows the variables, and has these tests, if bindings have these paths
 pub record HasTests (ps : List Path) (places : Places) (ts : List Test) (d : PatternTests) : Type 0 where
   pub knows : Knows ps places d.variables
   pub constraints : map (is_test ps) d.constraints.items ≡ filter is_constraint ts
   pub equals : map (equal_test ps) d.equals.items ≡ filter is_equality ts
 
--- where bindings have at least these paths, the second has the tests that the first has and more, and knows the places after them
+-- if bindings have at least these paths, the second has the tests that the first has and more, and knows the places after them
 abbrev pub Gathers : List Path → PatternTests → PatternTests → (Places → Places) → (Places → List Test) → Type 0
 Gathers ps d e behind more = (qs : List Path) → Extends ps qs → (places : Places) → (ts : List Test) → HasTests qs places ts d → HasTests qs (behind places) (ts ++ more places) e
 

@@ -53,7 +53,7 @@ impl Made {
     }
 }
 
-/// Returns what a term makes, where it makes something.
+/// Returns what a term makes, if it makes something.
 pub fn made_by(terms: &[Term], term: TermId) -> Option<Made>
     ensures { seen result ≡ making_in terms.now term }
 {

@@ -40,18 +40,7 @@ fn is_next(count: usize, number: usize, key: &Key) -> bool
 {
     match key {
         Key::Argument(index) => *index == count && number == count,
-        Key::ConstBool(_)
-        | Key::ConstInt(..)
-        | Key::ConstPrim(_)
-        | Key::Extractor { .. }
-        | Key::Constructor { .. }
-        | Key::MatchVariant { .. }
-        | Key::ExtractStruct { .. }
-        | Key::MakeVariant { .. }
-        | Key::MakeStruct { .. }
-        | Key::Iterator { .. }
-        | Key::MatchSome { .. }
-        | Key::MatchTuple { .. } => false,
+        _ => false,
     }
 }
 
@@ -74,7 +63,6 @@ fn key_turn(late: &[bool], key: &Key) -> bool
     ensures { result ≡ key_turn late.now key.now }
 {
     match key {
-        Key::Argument(_) | Key::ConstBool(_) | Key::ConstInt(..) | Key::ConstPrim(_) => false,
         Key::Extractor { parameter, .. } => has_turn(late, *parameter),
         Key::Constructor { parameters, .. } => any_turn(late, parameters.as_slice()),
         Key::MakeVariant { fields, .. } | Key::MakeStruct { fields, .. } => {
@@ -85,6 +73,7 @@ fn key_turn(late: &[bool], key: &Key) -> bool
         | Key::Iterator { source }
         | Key::MatchSome { source }
         | Key::MatchTuple { source, .. } => has_turn(late, *source),
+        _ => false,
     }
 }
 
@@ -143,9 +132,12 @@ impl Model for Numbering {
 
     ghost Value = { Numbered };
 
-    ghost view = { λ n. record { bindings = n.bindings.items; calls = n.calls; lists = n.lists.items } };
+    ghost view = { λ n.
+        record { bindings = n.bindings.items; calls = n.calls; lists = n.lists.items } };
 
-    ghost invariant = { λ n. KeepsNumbers (record { bindings = n.bindings.items; calls = n.calls; lists = n.lists.items }) (known n.arguments n.numbers) n.late.items };
+    ghost invariant = { λ n. KeepsNumbers
+        (record { bindings = n.bindings.items; calls = n.calls; lists = n.lists.items })
+        (known n.arguments n.numbers) n.late.items };
 }
 
 impl Numbering {
@@ -185,7 +177,7 @@ impl Numbering {
         has_turn(self.late.as_slice(), number)
     }
 
-    /// Returns the number of the key's binding, and adds it where it is not there yet. The only error is want of
+    /// Returns the number of the key's binding, and adds it if it is not there yet. The only error is want of
     /// memory.
     pub fn intern(&mut self, alloc: Global, key: Key) -> Result<BindingId, AllocError>
         requires { HasParts (paths_of self.old.bindings) key }
@@ -248,7 +240,7 @@ impl Numbering {
         Ok(())
     }
 
-    /// Numbers the value of a call that has a number: its inner value where it may be nothing, an item where it answers
+    /// Numbers the value of a call that has a number: its inner value if it may be nothing, an item if it answers
     /// several times, or else itself; a list is met. The only error is want of memory.
     pub fn answered(
         &mut self,

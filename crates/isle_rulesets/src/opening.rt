@@ -43,7 +43,7 @@ fn how_often(kind: &TermKind) -> ReturnKind
     }
 }
 
-// Tests that an answer is something, where it may be nothing; that a list has an item is seen to by the loop over it.
+// Tests that an answer is something, if it may be nothing; that a list has an item is seen to by the loop over it.
 fn test_answer(
     tests: &mut PatternTests,
     call: BindingId,

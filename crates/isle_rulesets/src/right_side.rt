@@ -46,7 +46,7 @@ fn number_of(variables: &Table<BindingId>, var: VarId) -> BindingId
     }
 }
 
-// The number of a call's value; the call joins those before where its place counts.
+// The number of a call's value; the call joins those before if its place counts.
 fn ordered_call(
     ordered: &mut Vec<BindingId>,
     call: Call,

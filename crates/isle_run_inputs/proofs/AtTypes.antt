@@ -9,7 +9,7 @@ use Rattle.isle_core.specs.declared.types.TypeDef.{TypeDef}
 use Rattle.isle_core.specs.declared.types.TypeEnv.{TypeEnv}
 use Rattle.isle_core.proofs.Got.{got}
 
--- what was found is a type of these, where there is one
+-- what was found is a type of these, if there is one
 abbrev IsFound : TypeEnv → Option (Bor (TypeEnv × TypeDef)) → Option TypeDef → Type 0
 IsFound types r def = option_copied r ≡ option_map (λ (d : TypeDef). (types, d)) def
 

@@ -22,7 +22,7 @@ at_most env (Turns callee turns rest at ∷ forms) = let h = at_most env forms i
 as_many : {X Y : Type 0} (f : X → Y) (xs : List X) (ys : List Y) → map f xs ≡ ys → length xs ≡ length ys
 as_many f xs ys e = sym (length-map xs f) ∙ ap length e
 
--- so where they were found, and the forms are fewer than this
+-- so if they were found, and the forms are fewer than this
 pub counted : (env : Environment) (forms : List CodeForm) (consts : List (List ℕ × CodeValue)) (cases : List CodePureAnswers) (turns : List CodeTurnAnswers) (bound : ℕ)
     → map const consts ≡ constants_at env (forms_seen forms) → map pure_answers cases ≡ cases_at env (forms_seen forms) → map turn_answers turns ≡ turns_at env (forms_seen forms) → length forms < bound
     → length consts + length cases + length turns < bound

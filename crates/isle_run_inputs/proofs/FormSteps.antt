@@ -37,7 +37,7 @@ one_more f g forms i form old new x lt is at e were =
 pub all_made : {X Y Z : Type 0} (f : X → Z) (g : Y → Z) (forms : List Y) (i : ℕ) (found : List X) → length forms ≤ i → map g forms ≡ map f found ++ map g (drop i forms) → map f found ≡ map g forms
 all_made f g forms i found le were = sym (append-nil (map f found)) ∙ ap (λ xs. map f found ++ map g xs) (sym (drop_of_length-le forms le)) ∙ sym were
 
--- what forms give, where one more gives this
+-- what forms give, if one more gives this
 pub given_more : {X Y F : Type 0} (f : X → Y) (g : List F → List Y) (forms : List F) (i : ℕ) (form : F) (old new : List X) (x : X) (all : List Y) → i < length forms → form ≡ get_or forms i form → g (form ∷ drop (i + 1) forms) ≡ f x ∷ g (drop (i + 1) forms)
     → new ≡ old ++ x ∷ [] → all ≡ map f old ++ g (drop i forms) → all ≡ map f new ++ g (drop (i + 1) forms)
 given_more f g forms i form old new x all lt is gives e were =
@@ -46,7 +46,7 @@ given_more f g forms i form old new x all lt is gives e were =
     ∙ ap (λ ys. map f old ++ ys) gives
     ∙ pushed f old new x (g (drop (i + 1) forms)) e
 
--- where one more gives nothing
+-- if one more gives nothing
 pub given_nothing : {X Y F : Type 0} (f : X → Y) (g : List F → List Y) (forms : List F) (i : ℕ) (form : F) (old new : List X) (all : List Y) → i < length forms → form ≡ get_or forms i form → g (form ∷ drop (i + 1) forms) ≡ g (drop (i + 1) forms)
     → new ≡ old → all ≡ map f old ++ g (drop i forms) → all ≡ map f new ++ g (drop (i + 1) forms)
 given_nothing f g forms i form old new all lt is gives e were =

@@ -25,7 +25,7 @@ Matched P (name ∷ names) (v ∷ vs) = P name v × Matched P names vs
 Matched P [] (v ∷ vs) = ⊥
 Matched P (name ∷ names) [] = ⊥
 
--- what holds of a value, where there is one
+-- what holds of a value, if there is one
 abbrev IfThere : {X : Type 0} → (X → Type 0) → Option X → Type 0
 IfThere P None = Unit {0}
 IfThere P (Some x) = P x
@@ -83,7 +83,7 @@ made_with : (env : Environment) (d : TypeDef) (m : Maker) (fields : Option (List
 made_with env d m None parts e all = tt
 made_with env d m (Some known) parts e all = made_by env d m known (fields_in env known parts) e (all known)
 
--- what a name makes, where it says something
+-- what a name makes, if it says something
 made_at : (env : Environment) (d : TypeDef) (m : Option Maker) (parts : Writtens)
     → ((known : List (List ℕ × TypeId)) → IfThere (AreFieldsOf env (Some known)) (fields_in env known parts))
     → IfThere (IsOfDef env d) (option_and_then (λ (x : Maker × List (List ℕ × TypeId)). option_map (made_of x.0) (fields_in env x.1 parts)) (option_and_then (λ y. option_map (λ known. (y, known)) (maker_fields env d y)) m))
@@ -127,7 +127,7 @@ fitting env P bad name d (Some v) h p = h
 of_def : (env : Environment) (P : List ℕ → Value → Type 0) → ((name : List ℕ) → P name misfit → ⊥) → (name : List ℕ) (d : Option TypeDef) (w : Written) → P name (value_of_def env d w) → IsSomeAnd d (λ x. IsOfDef env x (value_of_def env d w))
 of_def env P bad name d w p = fitting env P bad name d (option_and_then (λ x. value_in env x w) d) (at_type env d w (λ x. value_of env x w)) p
 
--- where a property that no misfit has holds of each value by the name at its place, and there are as many names as types, the values are of the types
+-- if a property that no misfit has holds of each value by the name at its place, and there are as many names as types, the values are of the types
 pub have_types : (P : List ℕ → Value → Type 0) → ((name : List ℕ) → P name misfit → ⊥) → (env : Environment) (names : List (List ℕ)) (tys : List TypeId) (ws : Writtens) → length names ≡ length tys
     → Matched P names (values_at env tys ws) → HaveTypes env (values_at env tys ws) tys
 have_types P bad env [] [] NoValue e m = tt

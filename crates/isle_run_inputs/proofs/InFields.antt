@@ -66,7 +66,7 @@ onto_nothing : (xs : List (List ℕ × CodeValue)) → fields xs ≡ fields_onto
 onto_nothing [] = refl
 onto_nothing (x ∷ xs) = ap (Field x.0 (value x.1)) (onto_nothing xs)
 
--- a field after those in front, where the others are there
+-- a field after those in front, if the others are there
 onto_put : (xs : List (List ℕ × CodeValue)) (f : List ℕ × CodeValue) (r : Option FieldValues) → option_map (fields_onto xs) (put_field (Some (field_seen f)) r) ≡ option_map (fields_onto (xs ++ f ∷ [])) r
 onto_put xs f None = refl
 onto_put xs f (Some more) = ap Some (onto_append xs f more)

@@ -15,7 +15,7 @@ unfolded : (kind : Counted) (forms : List CodeForm) (i : ℕ) (form : CodeForm) 
     → left_place kind forms i end more n ≡ place_in end (of_kind kind (form_seen form ∷ forms_seen (drop (i + 1) forms)) ++ more) n
 unfolded kind forms i form end more n lt is = ap (λ fs. place_in end (of_kind kind (forms_seen fs) ++ more) n) (drop_more forms i form lt ∙ ap (λ f. f ∷ drop (i + 1) forms) (sym is))
 
--- the form itself, where none is to be passed
+-- the form itself, if none is to be passed
 pub place_here : (kind : Counted) (forms : List CodeForm) (i : ℕ) (form : CodeForm) (end : ℕ) (more : List Form) (n : ℕ) → i < length forms → form ≡ get_or forms i form → is_of kind (form_seen form) ≡ true → n ≡ zero
     → left_place kind forms i end more n ≡ place_of (form_seen form)
 place_here kind forms i form end more n lt is own none = unfolded kind forms i form end more n lt is ∙ rw (own, none) refl

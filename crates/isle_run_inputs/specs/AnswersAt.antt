@@ -13,13 +13,13 @@ use Rattle.isle_run_inputs.specs.ValuesAt.{misfit, value_at_any, values_at}
 use Rattle.isle_run_inputs.specs.Requested.{answer_type, constant_type}
 use Rattle.isle_run_inputs.specs.Asked.{Asked, asked_as}
 
--- the type where there is only one
+-- the type if there is only one
 abbrev pub one_type : List TypeId → Option TypeId
 one_type [] = None
 one_type (ty ∷ []) = Some ty
 one_type (ty ∷ other ∷ tys) = None
 
--- a tuple at the types of none or several results; where there is one, it is none of its type
+-- a tuple at the types of none or several results; if there is one, it is none of its type
 abbrev pub tuple_at : Environment → List TypeId → List Written → List value.Value
 tuple_at env [] vs = values_at env [] (in_order vs)
 tuple_at env (ty ∷ []) vs = misfit ∷ []
@@ -41,7 +41,7 @@ answer_at env tys (Several rs) = value.Several (map (result_at env tys) rs)
 abbrev pub unfit : Answer
 unfit = value.Plain (misfit ∷ [])
 
--- turns of a callee whose calls are answered with a value of this type; where it is that of no impure term, they fit no function, so that
+-- turns of a callee whose calls are answered with a value of this type; if it is that of no impure term, they fit no function, so that
 -- the form is refused whatever it says
 abbrev pub turns_by : Environment → Option TypeId → Callee → List AnswerForm → (rest : AnswerForm) → TurnAnswers
 turns_by env None callee turns rest = record { callee = callee; turns = []; rest = unfit }
@@ -60,7 +60,7 @@ turns_at env (Answers callee cases rest at ∷ forms) = turns_at env forms
 abbrev pub case_at : Environment → Asked → CaseForm → List value.Value × Answer
 case_at env a c = (values_at env a.params (in_order c.args), answer_at env a.results c.answer)
 
--- cases of a callee whose function is of these types; where it is none that is asked by cases, they fit no function, so that the form is
+-- cases of a callee whose function is of these types; if it is none that is asked by cases, they fit no function, so that the form is
 -- refused whatever it says
 abbrev pub cases_by : Environment → Option Asked → Callee → List CaseForm → (rest : AnswerForm) → PureAnswers
 cases_by env None callee cases rest = record { callee = callee; cases = []; rest = unfit }

@@ -27,7 +27,7 @@ abbrev pub asked_at : ByName → Callee → Option Asked
 asked_at found (External name) = types_at found.external name
 asked_at found (Internal name) = types_at found.internal name
 
--- a function was put there, where calls go to one: of every other callee there is what was
+-- a function was put there, if calls go to one: of every other callee there is what was
 abbrev pub IsPut : Option Callee → Asked → (old new : ByName) → Type 0
 IsPut to a old new = (callee : Callee) → asked_at new callee ≡ (if goes_to callee to then Some a else asked_at old callee)
 

@@ -5,7 +5,7 @@ use Rattle.isle_core.specs.declared.values.Callee.TheVariants as callee
 use Rattle.isle_run_inputs.specs.declared.callees.Called.{Called}
 use Rattle.isle_run_inputs.specs.declared.callees.Called.TheVariants as code
 
--- the callee, where there is one
+-- the callee, if there is one
 abbrev pub called : Called → Option Callee
 called (code.External name) = Some (callee.External name.now)
 called (code.Internal name) = Some (callee.Internal name.now)

@@ -25,7 +25,7 @@ maker_at env (def.Struct own is_extern is_nodebug fields at) name = Some (OfStru
 maker_at env (def.Builtin of) name = None
 maker_at env (def.Primitive own rust at) name = None
 
--- the fields of it, with their types, where the type has such a variant or is the struct of this name
+-- the fields of it, with their types, if the type has such a variant or is the struct of this name
 abbrev pub maker_fields : Environment → TypeDef → Maker → Option (List (List ℕ × TypeId))
 maker_fields env d (OfVariant ty variant) = variant_fields env d ty variant
 maker_fields env d (OfStruct ty) = struct_fields env d ty

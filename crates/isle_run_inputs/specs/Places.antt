@@ -38,7 +38,7 @@ of_kind kind forms = filter (is_of kind) forms
 abbrev pub as_counted : List Form → List Form
 as_counted forms = of_kind counted.Constants forms ++ (of_kind counted.Cases forms ++ of_kind counted.Turns forms)
 
--- where the form of this number begins; where there is none, the end of the file
+-- where the form of this number begins; if there is none, the end of the file
 abbrev pub place_in : (end : ℕ) → List Form → ℕ → ℕ
 place_in end [] i = end
 place_in end (form ∷ forms) zero = place_of form

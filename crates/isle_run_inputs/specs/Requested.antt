@@ -18,7 +18,7 @@ requested_term env name = find (λ (id : TermId). bytes_eq name (term_name env i
 abbrev pub arg_types : Environment → TermId → List TypeId
 arg_types env id = option_map_or (λ (t : Term). t.arg_tys) (slice_get env.terms id.0) []
 
--- those of the term that has this name; where none has rules and it, there are none
+-- those of the term that has this name; if none has rules and it, there are none
 abbrev pub requested_types : Environment → List ℕ → List TypeId
 requested_types env name = option_map_or (arg_types env) (requested_term env name) []
 

@@ -3,7 +3,7 @@ use Rattle.std.specs.Prelude.{ℕ, List, [], ◌∷◌, Option, Some, None}
 use Rattle.isle_core.specs.Space.{Space}
 use Rattle.isle_answers.specs.Form.{Form, Held, Max, Const, Answers, Turns}
 
--- the length at entry, where a form tells it
+-- the length at entry, if a form tells it
 abbrev pub held_by : Form → Option ℕ
 held_by (Held count at) = Some count
 held_by (Max count at) = None
@@ -11,7 +11,7 @@ held_by (Const name v at) = None
 held_by (Answers callee cases rest at) = None
 held_by (Turns callee turns rest at) = None
 
--- the limit, where a form tells it
+-- the limit, if a form tells it
 abbrev pub max_by : Form → Option ℕ
 max_by (Held count at) = None
 max_by (Max count at) = Some count
@@ -29,11 +29,11 @@ abbrev pub first_told : (Form → Option ℕ) → (otherwise : ℕ) → List For
 first_told tells otherwise [] = otherwise
 first_told tells otherwise (form ∷ forms) = told_or (first_told tells otherwise forms) (tells form)
 
--- the length of the list of results at entry, which is 0 where no form tells it
+-- the length of the list of results at entry, which is 0 if no form tells it
 abbrev pub held_at : List Form → ℕ
 held_at forms = first_told held_by 0 forms
 
--- the limit of the list of results, which is 100 where no form tells it
+-- the limit of the list of results, which is 100 if no form tells it
 abbrev pub max_returns_at : List Form → ℕ
 max_returns_at forms = first_told max_by 100 forms
 

@@ -60,7 +60,7 @@ number_in env (def.Builtin builtin.Bool) n = None
 
 -- ---- values
 
--- a field in front of others, where it and they are there
+-- a field in front of others, if it and they are there
 abbrev pub put_field : Option (List ℕ × Value) → Option FieldValues → Option FieldValues
 put_field None fs = None
 put_field (Some f) None = None
@@ -70,7 +70,7 @@ put_field (Some f) (Some fs) = Some (Field f.0 f.1 fs)
 abbrev pub at_field : Environment → List ℕ × TypeId → (TypeDef → Option Value) → Option (List ℕ × Value)
 at_field env f given = option_map (λ v. (f.0, v)) (option_and_then given (slice_get env.types.types f.1.0))
 
--- a written value at a type of this definition, where it is one of the type with all that is inside it
+-- a written value at a type of this definition, if it is one of the type with all that is inside it
 abbrev mutual
   pub value_in : Environment → TypeDef → Written → Option Value
   value_in env d (written.Truth b) = truth_in d b
@@ -88,12 +88,12 @@ abbrev mutual
 abbrev pub field_in : Environment → List ℕ × TypeId → Written → Option (List ℕ × Value)
 field_in env f w = at_field env f (λ d. value_in env d w)
 
--- the value, or what is given where there is none
+-- the value, or what is given if there is none
 abbrev pub or_misfit : Option Value → Value
 or_misfit None = misfit
 or_misfit (Some v) = v
 
--- a written value at a type of this definition, where there is one
+-- a written value at a type of this definition, if there is one
 abbrev pub value_of_def : Environment → Option TypeDef → Written → Value
 value_of_def env d w = or_misfit (option_and_then (λ x. value_in env x w) d)
 
@@ -101,7 +101,7 @@ value_of_def env d w = or_misfit (option_and_then (λ x. value_in env x w) d)
 abbrev pub value_at : Environment → TypeId → Written → Value
 value_at env ty w = value_of_def env (slice_get env.types.types ty.0) w
 
--- where there is no type, no value fits
+-- if there is no type, no value fits
 abbrev pub value_at_any : Environment → Option TypeId → Written → Value
 value_at_any env None w = misfit
 value_at_any env (Some ty) w = value_at env ty w

@@ -15,7 +15,7 @@ use isle_core::{Answer, List, TypeId, Value};
 use isle_values::Written;
 use std::alloc::{AllocError, Global};
 
-// The type where there is only one.
+// The type if there is only one.
 fn one_type(tys: &[TypeId]) -> Option<TypeId>
     ensures { result ≡ one_type tys.now }
 {
@@ -25,7 +25,7 @@ fn one_type(tys: &[TypeId]) -> Option<TypeId>
     }
 }
 
-// A tuple at the types of none or several results; where there is one, it is none of its type.
+// A tuple at the types of none or several results; if there is one, it is none of its type.
 fn tuple_at(
     alloc: Global,
     makers: &Makers<'_>,
@@ -83,7 +83,7 @@ fn items_at(
     Ok(found)
 }
 
-/// Returns an answer at these types: one value where there is one, else a tuple; a list has such results in each item.
+/// Returns an answer at these types: one value if there is one, else a tuple; a list has such results in each item.
 pub fn answer_at(
     alloc: Global,
     makers: &Makers<'_>,

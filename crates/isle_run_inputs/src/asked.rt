@@ -29,7 +29,7 @@ pub struct ByName<'e> {
 }
 
 impl<'e> ByName<'e> {
-    // Puts a function there, where calls go to one.
+    // Puts a function there, if calls go to one.
     fn put(&mut self, callee: Called<'e>, asked: Asked<'e>) -> Result<(), AllocError>
         ensures { OnOk result
             (IsPut (called callee.entry) (asked_seen asked.entry) self.old self.new) }

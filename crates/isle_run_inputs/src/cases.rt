@@ -55,7 +55,7 @@ fn all_cases(
     Ok(found)
 }
 
-// Cases of a callee whose function is of these types; where it is none that is asked by cases, they fit no function.
+// Cases of a callee whose function is of these types; if it is none that is asked by cases, they fit no function.
 fn cases_by(
     alloc: Global,
     makers: &Makers<'_>,

@@ -18,7 +18,7 @@ use isle_core::{Fields, List, Text, TypeId, Value, field_count};
 use isle_values::Written;
 use std::alloc::{AllocError, Global};
 
-// The variant of these names and fields, where there are fields.
+// The variant of these names and fields, if there are fields.
 #[tactic(auto, using(isle_outcomes::proofs::SeesValues::sees_values))]
 fn variant_of(
     alloc: Global,
@@ -40,7 +40,7 @@ fn variant_of(
     }
 }
 
-// The struct of this name and these fields, where there are fields.
+// The struct of this name and these fields, if there are fields.
 #[tactic(auto, using(isle_outcomes::proofs::SeesValues::sees_values))]
 fn struct_of(
     alloc: Global,
@@ -56,7 +56,7 @@ fn struct_of(
     }
 }
 
-/// Returns a written value at this type, where it is one of the type with all that is inside it.
+/// Returns a written value at this type, if it is one of the type with all that is inside it.
 #[cycle(typing)]
 #[tactic(auto, using(isle_values::proofs::Sees::sees))]
 pub fn value_in(
@@ -152,7 +152,7 @@ fn field_in(
     }
 }
 
-// A written value at a type, where there is such a type and it is one of it.
+// A written value at a type, if there is such a type and it is one of it.
 #[cycle(typing)]
 pub fn typed_in(
     alloc: Global,

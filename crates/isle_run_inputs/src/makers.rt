@@ -23,7 +23,8 @@ impl<'e> Model for Makers<'e> {
 
     ghost view = { λ m. m.typeenv.now };
 
-    ghost invariant = { λ m. m.types.items ≡ map (λ (d : TypeDef). (m.typeenv.now, d)) m.typeenv.now.types };
+    ghost invariant = { λ m. m.types.items
+        ≡ map (λ (d : TypeDef). (m.typeenv.now, d)) m.typeenv.now.types };
 }
 
 impl<'e> Makers<'e> {
@@ -45,7 +46,7 @@ impl<'e> Makers<'e> {
         self.typeenv
     }
 
-    /// Returns the type of this number, where there is one.
+    /// Returns the type of this number, if there is one.
     pub fn at(&self, ty: TypeId) -> Option<&TypeMakers<'e>>
         ensures known { IfSome result (λ m. m.now.0 ≡ self.now) }
         ensures found { option_map (λ m. m.now.1) result ≡ slice_get self.now.types ty.0 }

@@ -6,7 +6,7 @@ ghost use Rattle.isle_run_inputs.specs.Returns.{held_by, max_by, held_at, max_re
 
 use isle_answers::Form;
 
-// The length at entry, where the form tells it.
+// The length at entry, if the form tells it.
 fn held_by(form: &Form) -> Option<usize>
     ensures { result ≡ held_by (form_seen form.now) }
 {
@@ -16,7 +16,7 @@ fn held_by(form: &Form) -> Option<usize>
     }
 }
 
-// The limit, where the form tells it.
+// The limit, if the form tells it.
 fn max_by(form: &Form) -> Option<usize>
     ensures { result ≡ max_by (form_seen form.now) }
 {
@@ -26,7 +26,7 @@ fn max_by(form: &Form) -> Option<usize>
     }
 }
 
-/// Returns the length of the list of results at entry: 0 where no form tells it.
+/// Returns the length of the list of results at entry: 0 if no form tells it.
 pub fn held_at(forms: &[Form]) -> usize
     ensures { result ≡ held_at (forms_seen forms.now) }
 {
@@ -38,7 +38,7 @@ pub fn held_at(forms: &[Form]) -> usize
     0
 }
 
-/// Returns the limit of the list of results: 100 where no form tells it.
+/// Returns the limit of the list of results: 100 if no form tells it.
 pub fn max_returns_at(forms: &[Form]) -> usize
     ensures { result ≡ max_returns_at (forms_seen forms.now) }
 {

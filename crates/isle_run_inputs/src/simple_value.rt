@@ -11,7 +11,7 @@ use isle_core::{BuiltinType, IntType, Text, TypeDef, TypeEnv, Value};
 use isle_lexer::Signed;
 use std::alloc::{AllocError, Global};
 
-// A number at an integer type, where it is one of the type.
+// A number at an integer type, if it is one of the type.
 #[tactic(auto, using(isle_outcomes::proofs::SeesValues::sees_values))]
 fn integer_in(ty: IntType, number: Signed) -> Option<Value>
     ensures { option_map value result ≡ integer_in ty (signed number) }
@@ -49,7 +49,7 @@ pub fn truth_in(def: &TypeDef, truth: bool) -> Option<Value>
     }
 }
 
-/// Returns a number at a type of this definition, where it is one of the type; one at a primitive or extern type is
+/// Returns a number at a type of this definition, if it is one of the type; one at a primitive or extern type is
 /// opaque.
 pub fn number_in(
     alloc: Global,

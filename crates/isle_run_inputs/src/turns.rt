@@ -36,7 +36,7 @@ fn all_at(
     Ok(found)
 }
 
-// Turns of a callee whose calls are answered at that type; where there is none, they fit no function.
+// Turns of a callee whose calls are answered at that type; if there is none, they fit no function.
 fn turns_by(
     alloc: Global,
     makers: &Makers<'_>,

@@ -20,7 +20,7 @@ pub fn misfit(alloc: Global) -> Value
     Value::Opaque(Text::new(String::new(alloc)), 0)
 }
 
-// A value, or what is given where there is none.
+// A value, or what is given if there is none.
 fn or_misfit(alloc: Global, found: Option<Value>) -> Value
     ensures { value result ≡ or_misfit (option_map value found) }
 {

@@ -37,7 +37,8 @@ impl<'a> Model for Calls<'a> {
 
     ghost view = { λ c. record { answers = c.answers.now; made = c.calls.items } };
 
-    ghost invariant = { λ c. FindsAnswers c.answers.now c.calls.items c.sources × (c.constants ≡ c.answers.now.consts) };
+    ghost invariant = { λ c. FindsAnswers c.answers.now c.calls.items c.sources
+        × (c.constants ≡ c.answers.now.consts) };
 }
 
 impl<'a> Calls<'a> {

@@ -41,13 +41,13 @@ module _ {S X : Type 0} (steps : S → Option X → S → Type 0) where
   yields_more [] x s t u same step = (u, subst (λ (v : S). steps v (Some x) u) (sym same) step, refl)
   yields_more (y ∷ ys) x s t u run step = (run.0, run.1, yields_more ys x run.0 t u run.2 step)
 
-  -- where all that calls give was appended, so were all items
+  -- if all that calls give was appended, so were all items
   pub extended_all : {E : Type 0} (r : Result (Unit {0}) E) (given old new : List X) (s t : S) → t ≡ s → new ≡ old ++ given → MatchResult r (λ _. Drains steps t given) (λ _. (u : S) × Yields steps t given u)
       → OnOk r ((items : List X) → HasList steps s items → new ≡ old ++ items)
   extended_all (Ok v) given old new s t same is ran = λ items has. appends_all given items old new s t same has ran is
   extended_all (Err e) given old new s t same is ran = tt
 
-  -- where what some calls gave was appended, so was a front of the items
+  -- if what some calls gave was appended, so was a front of the items
   pub extended_front : {E : Type 0} (r : Result (Unit {0}) E) (given old new : List X) (s t : S) → t ≡ s → new ≡ old ++ given → MatchResult r (λ _. Drains steps t given) (λ _. (u : S) × Yields steps t given u)
       → OnErr r ((items : List X) → HasList steps s items → AppendsFront old new items)
   extended_front (Ok v) given old new s t same is ran = tt

@@ -2,7 +2,7 @@
 use Rattle.std.specs.Prelude.{◌≡◌, List, [], ◌∷◌, ◌++◌, Option, MatchOption}
 use Rattle.std.specs.Iterator.{AlwaysYields}
 
--- the first of the items was given and the others are left, or `None` where there is none; `has` tells what is left
+-- the first of the items was given and the others are left, or `None` if there is none; `has` tells what is left
 abbrev pub GivesFirst : {X : Type 0} → Option X → List X → (List X → Type 0) → Type 0
 GivesFirst {X} given items has = MatchOption given (items ≡ []) (λ first. (others : List X) × (items ≡ first ∷ others) × has others)
 

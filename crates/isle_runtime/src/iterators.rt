@@ -12,20 +12,20 @@ pub trait ContextIter {
     /// The states in which `next` may be called.
     ghost can_next: { Self → Type 0 };
 
-    /// Holds of a state and the items still to come, where the iterator tells them.
+    /// Holds of a state and the items still to come, if the iterator tells them.
     ghost has_list: { Self → List Self.Output → Type 0 };
 
     /// How many items are left at most.
     ghost remaining: { Self → Count };
 
-    /// Gives the first of the items still to come and leaves the others, or `None` where there is none.
+    /// Gives the first of the items still to come and leaves the others, or `None` if there is none.
     fn next(&mut self, ctx: &mut Self::Context) -> Option<Self::Output>
         requires { can_next self.old }
         ensures first { (items : List Self.Output) → has_list self.old items
             → GivesFirst result items (has_list self.new) }
         ensures goes { MakesProgress can_next remaining self.old result self.new };
 
-    /// Returns bounds on how many items are left, the second where there is one.
+    /// Returns bounds on how many items are left, the second if there is one.
     fn size_hint(&self) -> (usize, Option<usize>)
         ensures lower { IsWithinCount result.0 (remaining self.now) }
         ensures upper { IfSome result.1 (UpTo (remaining self.now)) }
@@ -42,7 +42,7 @@ pub trait IntoContextIter {
 
     type IntoIter: ContextIter<Context = Self::Context, Output = Self::Output>;
 
-    /// Holds of a value and its items, where it tells them.
+    /// Holds of a value and its items, if it tells them.
     ghost has_items: { Self → List Self.Output → Type 0 };
 
     /// Makes an iterator that has the items still to come.

@@ -21,7 +21,7 @@ impl<T> Length for Vec<T> {
     }
 }
 
-/// Appends the items in order. Room is made before an item is asked for, so that none is lost where memory
+/// Appends the items in order. Room is made before an item is asked for, so that none is lost if memory
 /// runs out.
 pub(crate) fn append<T, It: Iterator<Item = T>>(
     list: &mut Vec<T>,

@@ -43,7 +43,7 @@ body_answers ty (Primitive rust) pos rest h = h
 body_answers ty (Enum variants) pos rest h = variants_answer ty pos 0 variants rest h
 body_answers ty (Struct fields) pos rest h = (record { apart = refl; made = λ e. (refl, refl) }, h)
 
--- so of all terms, where the rows of terms are kept
+-- so of all terms, if the rows of terms are kept
 pub all_answer : (all before ds : List Def) → fault_after OfTerms (whole_of all) before ds ≡ None → AllByRecursion IsAnswering (terms ds)
 all_answer all before [] h = tt
 all_answer all before (tree.Decl term pure multi partial recursive args ret pos ∷ ds) h =
@@ -75,7 +75,7 @@ all_answer all before (tree.Passed head items pos ∷ ds) h = all_answer all (be
 
 -- ---- terms
 
--- a term of this signature may answer nothing where that says `partial`, and answers several times where it says `multi`
+-- a term of this signature may answer nothing if that says `partial`, and answers several times if it says `multi`
 pub record IsAnsweringTerm (s : Signature) (t : Term) : Type 0 where
   pub nothing : may_be_nothing (kind_of t.kind) ≡ s.partial
   pub several : is_several (kind_of t.kind) ≡ s.multi

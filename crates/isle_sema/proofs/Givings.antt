@@ -32,14 +32,14 @@ use Rattle.isle_sema.proofs.DeclaredWell.{terms_made}
 
 -- ---- faults
 
--- what is told of the last stages is told of all, after none of the first two
+-- what is known of the last stages is told of all, after none of the first two
 pub told_last : (ds : List Def) (e : Error) (f : Row × Pos) → type_fault ds ≡ None → term_fault (whole_of ds) ≡ None → later_fault (whole_of ds) ≡ Some f → TellsFault f e → TellsTyping (fault ds) (Some e)
 told_last ds e f types declared later told =
     let w = whole_of ds in
     let is : fault ds ≡ Some f = ap (λ o. or_later o (or_later (term_fault w) (later_fault w))) types ∙ ap (λ o. or_later o (later_fault w)) declared ∙ later in
     subst (λ o. TellsTyping o (Some e)) (sym is) told
 
--- an error that tells the fault of the second, after none of the first
+-- an error that reports the fault of the second, after none of the first
 pub told_behind : (ds : List Def) (e : Error) → type_fault ds ≡ None → TellsTyping (term_fault (whole_of ds)) (Some e) → TellsTyping (fault ds) (Some e)
 told_behind ds e types told = subst (λ o. TellsTyping (or_later o (or_later (term_fault (whole_of ds)) (later_fault (whole_of ds)))) (Some e)) (sym types) (before (term_fault (whole_of ds)) told)
   where

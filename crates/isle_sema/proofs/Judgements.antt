@@ -29,7 +29,7 @@ use Rattle.isle_types.specs.Fault.{or_later}
 
 -- ---- a call
 
--- where the code knows a term, there is one
+-- if the code knows a term, there is one
 pub when_called : (w : Whole) (old new : Judged) (site : Option Signature → Site) (s : Option Signature) (o : Option Called) (c : Called) → o ≡ Some c → MayBeCalled w s o → ((x : Signature) → IsCalled w x c → new ≡ judge w old (site (Some x))) → new ≡ judge w old (site s)
 when_called w old new site None o c is h k = absurd (subst (MayBeCalled w None) is h)
 when_called w old new site (Some x) o c is h k = k x (subst (MayBeCalled w (Some x)) is h)
@@ -193,7 +193,7 @@ abbrev pub tests : (a b c d e u f g x h i k l : Bool) → Option Row
 tests a b c d e u f g x h i k l =
     cond a (Some row.PatternTermMisfit) (cond b (Some row.PatternTypeMisfit) (cond c (Some row.LiteralMisfit) (cond d (Some row.ConstantUndeclared) (cond e (Some row.VariableTypeMisfit) (cond u (Some row.MultiExtractor) (cond f (Some row.ExprNameMisfit) (cond g (Some row.ExprTypeMisfit) (cond x (Some row.ImpureCondition) (cond h (Some row.PartialCall) (cond i (Some row.ImpureCall) (cond k (Some row.MultiCall) (cond l (Some row.ManyNodes) None))))))))))))
 
--- where they give no row, each fails
+-- if they give no row, each fails
 pub record AllFail (a b c d e u f g x h i k l : Bool) : Type 0 where
   pub arity : a ≡ false
   pub taken : b ≡ false
@@ -280,7 +280,7 @@ lowest_is w r s own multis marks is h =
     (both (λ j. j.met_otherwise) is_met_otherwise (λ j x. refl) refl) used (both (λ j. j.unknown) (is_unknown w) (λ j x. refl) refl) (both (λ j. j.mistyped) (is_mistyped w) (λ j x. refl) refl) condition partial impure multi none)
     ∙ sym (row_tests w r ∙ ap (λ (o : Option Signature). tests_of w r o ls rs (is_large w r)) is ∙ last_test _ _ _ _ _ _ _ _ _ _ _ _ (is_large w r))
 
--- where a rule breaks no row, each test fails
+-- if a rule breaks no row, each test fails
 pub row_fails : (w : Whole) (r : RuleDef) → row_of w r ≡ None
     → AllFail (on (termed w r.term) (λ (s : Signature). not (length r.args == length s.args)) || list_any (is_untaken w) (sites_of w r)) (list_any (is_mistaken w) (sites_of w r)) (list_any (is_misplaced w) (sites_of w r)) (list_any is_undeclared (sites_of w r))
     (list_any is_met_otherwise (sites_of w r)) (on (termed w r.term) (λ (s : Signature). not s.multi && list_any (is_use_of (is_multi_used w)) (left_of w r))) (list_any (is_unknown w) (sites_of w r)) (list_any (is_mistyped w) (sites_of w r)) (list_any is_impure_call (left_of w r))

@@ -11,7 +11,7 @@ use Rattle.isle_sema.specs.Site.{Site}
 use Rattle.isle_sema.proofs.Firsts.{any_parts}
 use Rattle.isle_terms.specs.Whole.{Whole}
 
--- no part breaks the rows of literals, names and types, and none calls a term that may answer nothing, or one that isn't pure, where that
+-- no part breaks the rows of literals, names and types, and none calls a term that may answer nothing, or one that isn't pure, if that
 -- is not allowed
 pub record AreKept (w : Whole) (allowed : Allowed) (sites : List Site) : Type 0 where
   pub placed : list_any (is_misplaced w) sites ≡ false

@@ -37,11 +37,11 @@ term_past w (d ∷ sigs) terms (suc i) h past =
 
 -- ---- what is known of a name
 
--- where no term is of the name, none is called
+-- if no term is of the name, none is called
 pub known_absent : (w : Whole) (name : List ℕ) → index_of (terms_of (all_terms w.defs)) name ≡ None → MayBeCalled w (termed w name) None
 known_absent w name absent = let none : termed w name ≡ None = named_at (all_terms w.defs) name ∙ ap (at_place (all_terms w.defs)) absent in subst (λ o. MayBeCalled w o None) (sym none) tt
 
--- nor where nothing stands at its place
+-- nor if nothing stands at its place
 pub known_beyond : (w : Whole) (name : List ℕ) (place : ℕ) → index_of (terms_of (all_terms w.defs)) name ≡ Some place → slice_get (all_terms w.defs) place ≡ None → MayBeCalled w (termed w name) None
 known_beyond w name place at past = let none : termed w name ≡ None = named_at (all_terms w.defs) name ∙ ap (at_place (all_terms w.defs)) at ∙ past in subst (λ o. MayBeCalled w o None) (sym none) tt
 
@@ -54,7 +54,7 @@ named_later x true o p h = refl
 named_later x false o None h = h
 named_later x false o (Some n) h = h
 
--- a term has an external extractor where it is among their terms
+-- a term has an external extractor if it is among their terms
 has_extractor : (xs : List ExtractorDef) (name : List ℕ) → is_some (extractor_named xs name) ≡ is_some (index_of (extractor_terms xs) name)
 has_extractor [] name = refl
 has_extractor (x ∷ xs) name = named_later x (bytes_eq x.term name) (extractor_named xs name) (index_of (extractor_terms xs) name) (has_extractor xs name)

@@ -201,7 +201,7 @@ module _ (env : Environment) (t : Term) (all : List Test) (ps ordered : List Pat
       let k = typed ty x c in
       other_path (path_or (places x)) [] (value_no_list env t (path_or (places x)) ty (subst (λ o. IsPathOf env t (path_or o) ty) (sym k.is) k.typed)) no_lists
 
-  -- a call, which is a list where it answers several times
+  -- a call, which is a list if it answers several times
   call_lists : (d : Calling) (kind : ReturnKind) (callee : Callee) (term : TermId) (c : Term) (qs : Paths) (k : ℕ) → answers_often d ≡ is_several kind → IsCall kind d → calling env term ≡ d → slice_get env.terms term.0 ≡ Some c → ArePathsOf env t qs c.arg_tys → Often t kind
       → (is_several kind ≡ true → ((holds_impure env (Called term qs k) ≡ false) × StandsOn env all [] (Called term qs k)) ⊎ Contains ordered (Called term qs k)) → Among (with_inner (ByTurns callee kind) (Called term qs k)) ps → AreListsAt (with_inner (ByTurns callee kind) (Called term qs k))
   call_lists d return_kind.Plain callee term c qs k same call is there are often stands a = other_path (Called term qs k) [] (ap answers_often is ∙ same) no_lists

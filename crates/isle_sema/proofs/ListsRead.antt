@@ -101,7 +101,7 @@ module _ (env : Environment) (before : List Path) where
   result_within (suc zero) i p h = h
   result_within (suc (suc count)) i p h = h
 
-  -- the answer of an extractor, where it is a list, is listed
+  -- the answer of an extractor, if it is a list, is listed
   extracted_listed : (term : TermId) (c : Calling) (p : Path) → extracting env term ≡ c → AreListed (with_inner c (Extracted term p)) → answers_often c ≡ true → Contains before (Extracted term p)
   extracted_listed term c p is h often = h (Extracted term p) (call_first (answers_often c) (is_fallible c) (Extracted term p)) (ap answers_often is ∙ often)
 

@@ -1,4 +1,4 @@
--- A converter that breaks no row has its types and its term, where no definition breaks a row of types or of terms.
+-- A converter that breaks no row has its types and its term, if no definition breaks a row of types or of terms.
 use Rattle.std.proofs.Common.{◌≡◌, false, List, [], ◌∷◌, ◌++◌, Option, Some, None, refl, ap, ◌∙◌}
 use Rattle.std.specs.Prelude.{not, is_some, option_map, option_and_then}
 use Rattle.std.proofs.lemmas.Bool.{or_parts}

@@ -37,7 +37,7 @@ use Rattle.isle_sema.proofs.TermFaults.{is_made_twice}
 
 -- ---- names of types, and of made terms
 
--- names don't repeat where neither the first of them do, nor those after them
+-- names don't repeat if neither the first of them do, nor those after them
 none_repeats : (before xs ys : List (List ℕ)) → repeats_after before xs ≡ false → repeats_after (before ++ xs) ys ≡ false → repeats_after before (xs ++ ys) ≡ false
 none_repeats before [] ys h k = ap (λ ns. repeats_after ns ys) (sym (append-nil before)) ∙ k
 none_repeats before (x ∷ xs) ys h k =
@@ -154,7 +154,7 @@ body_named ty (Primitive rust) pos rest = refl
 body_named ty (Enum variants) pos rest = variants_named ty pos 0 variants rest
 body_named ty (Struct fields) pos rest = refl
 
--- a name is another than those of terms where it is another than those that are declared and those that types make
+-- a name is another than those of terms if it is another than those that are declared and those that types make
 others_of : (name : List ℕ) (ds : List Def) → AreOther name (terms_of (signatures ds)) → AreOther name (made_terms ds) → AreOther name (terms_of (terms ds))
 others_of name [] h k = tt
 others_of name (tree.Decl term pure multi partial recursive args ret pos ∷ ds) h k = (h.0, others_of name ds h.1 k)
@@ -188,7 +188,7 @@ all_others : (xs : List (List ℕ)) (ds : List Def) → AllByRecursion (λ (x : 
 all_others [] ds h k = tt
 all_others (x ∷ xs) ds h k = (others_of x ds h.0 k.0, all_others xs ds h.1 k.1)
 
--- no two terms have one name where no two that are declared have, nor two that types make, nor one of either kind
+-- no two terms have one name if no two that are declared have, nor two that types make, nor one of either kind
 pub terms_apart : (ds : List Def) → IsDistinct bytes_eq (terms_of (signatures ds)) → IsDistinct bytes_eq (made_terms ds) → AllByRecursion (λ (s : Signature). AllByRecursion (λ (name : List ℕ). bytes_eq s.term name ≡ false) (made_terms ds)) (signatures ds)
     → IsDistinct bytes_eq (terms_of (terms ds))
 unfolding IsDistinct

@@ -74,7 +74,7 @@ module _ (env : Environment) (allowed : Allowed) (end : ℕ) where
   term_occurs n k term c qs cs more (makes_variant of variant made) is h r = subst (λ ps. AreOccurring env end n (ps ++ more)) (sym (append-nil cs)) (h more r)
   term_occurs n k term c qs cs more (makes_struct of made) is h r = subst (λ ps. AreOccurring env end n (ps ++ more)) (sym (append-nil cs)) (h more r)
 
-  -- where nothing is called
+  -- if nothing is called
   none_occurs : (n : ℕ) (more : List Path) → AreOccurring env end (n + 0) more → AreOccurring env end n more
   none_occurs n more r = let same : n + 0 ≡ n = omega arith in subst (λ j. AreOccurring env end j more) same r
 

@@ -111,7 +111,7 @@ kind_single env t (kind.Decl pure multi partial recursive by how) e = extractor_
 marked_is : (xs : List Signature) (n : ℕ) (s : Signature) → slice_get xs n ≡ Some s → marked (map (λ (x : Signature). x.multi) xs) n ≡ s.multi
 marked_is xs n s at = ap (λ (o : Option Bool). unwrap_or o false) (slice_get-map (λ (x : Signature). x.multi) xs n ∙ ap (option_map (λ (x : Signature). x.multi)) at)
 
--- where the term answers several times, so may what it calls
+-- if the term answers several times, so may what it calls
 any_often : (t : Term) (c : Calling) → is_several (kind_of t.kind) ≡ true → HasKind (Often t) c
 any_often t (ByTurns callee k) several = λ e. several
 any_often t (ByCases callee k) several = λ e. several

@@ -31,7 +31,7 @@ use Rattle.isle_terms.proofs.MadeTerms.{term_made, term_is, types_are}
 use Rattle.isle_sema.proofs.RuleRoots.{signature_at}
 use Rattle.isle_sema.proofs.TypedParts.{IsGivenIn}
 
--- what is known of a term that takes values of the type apart, by its template where it has one: the types of its parts
+-- what is known of a term that takes values of the type apart, by its template if it has one: the types of its parts
 pub record IsOpened (defs : List Def) (env : Environment) (s : Signature) (ty : TypeId) (number : TermId) : Type 0 where
   pub types : List TypeId
   pub opens : Opens env (template_of (templates (whole_of defs)) number) ty number
@@ -95,7 +95,7 @@ or_second : (a b : Bool) → a ≡ false → a || b ≡ true → b ≡ true
 or_second true b e h = absurd cc
 or_second false b e h = h
 
--- a term without a template takes values of its result's type apart, into its arguments, where it is made or has an extractor
+-- a term without a template takes values of its result's type apart, into its arguments, if it is made or has an extractor
 record IsOpenedOuter (defs : List Def) (env : Environment) (s : Signature) (ty : TypeId) (number : TermId) : Type 0 where
   types : List TypeId
   opens : OpensType ty (making env number) (slice_get env.terms number.0)

@@ -95,7 +95,7 @@ listed_found (param ∷ params) (of ∷ tys) k (suc i) name ty apart p t =
     ap (λ b. cond b (Some first) (found_in (listed (suc k) params (map Some tys)) name)) (other_all params param i name apart.0 p)
     ∙ listed_found params tys (suc k) i name ty apart.1 p t ∙ ap put at
 
--- where there are as many names as types, each type has one
+-- if there are as many names as types, each type has one
 pub name_at : (params : List (List ℕ)) (tys : List TypeId) (i : ℕ) (ty : TypeId) → length params ≡ length tys → slice_get tys i ≡ Some ty → (name : List ℕ) × (slice_get params i ≡ Some name)
 name_at [] [] i ty long e = cc
 name_at [] (t ∷ tys) i ty long e = absurd (omega (arith, long))

@@ -51,7 +51,7 @@ pub some_of : {A : Type 0} (o : Option A) (P : A → Type 0) → IsSomeAnd o P �
 some_of None P h = absurd h
 some_of (Some x) P h = (x, refl, h)
 
--- a term that makes nothing takes turns, where impure calls are allowed, or has cases, and may answer nothing only where that is
+-- a term that makes nothing takes turns, if impure calls are allowed, or has cases, and may answer nothing only where that is
 -- allowed; a made one is not called, and makes a value of its type
 pub data IsServed (env : Environment) (allowed : Allowed) (c : Term) : Making → Calling → Type 0 where
   takes_turns : (callee : Callee) (kind : ReturnKind) → (IsTrue (may_be_nothing kind) → IsTrue allowed.nothing) → IsTrue allowed.impure → IsServed env allowed c MakesNothing (ByTurns callee kind)
@@ -108,7 +108,7 @@ typed_places env t tests vars places h ty x c = let k = h ty x c in record { pat
 pub standing_places : (env : Environment) (t : Term) (tests : List Test) (done : List Path) (vars : List (TypeId × ℕ)) (places : Places) → ArePlacedAs env t tests vars places → AreStandingPlaces env tests done vars places
 standing_places env t tests done vars places h ty x c = let k = h ty x c in record { path = k.path; is = k.is; stands = λ later a. k.stands later }
 
--- where more calls were made
+-- if more calls were made
 pub later_places : (env : Environment) (tests : List Test) (done later : List Path) (vars : List (TypeId × ℕ)) (places : Places) → Among done later → AreStandingPlaces env tests done vars places → AreStandingPlaces env tests later vars places
 later_places env tests done later vars places a h ty x c = let k = h ty x c in record { path = k.path; is = k.is; stands = λ more b. k.stands more (λ p d. b p (a p d)) }
 

@@ -142,7 +142,7 @@ module _ (env : Environment) (t : Term) (ps : List Path) (fit : FitAnswers env p
       occur_once env ps flat.0.ordered f.ordered refl n (n + impure env r.rhs) (occurrences_of env ps fs)
       (expr_occurs env (in_right_side (may_be_nothing (kind_of t.kind))) (rule_typed r) (rule_places env r) r.rhs n t.ret_ty h.0.rhs) (flats_apart rs (n + impure env r.rhs) fs flat.1 h.1)
 
--- a rule set that stands for typed rules of a term is ready, where what they call answers several times only if the term does
+-- a rule set that stands for typed rules of a term is ready, if what they call answers several times only if the term does
 pub rules_serializable : (env : Environment) (id : TermId) (t : Term) (s : RuleSet) → All (IsRuleOf env t) (rules_of env id) → All (λ (r : Rule). AreOften (Often t) env (called_in env r)) (rules_of env id) → StandsFor env s (rules_of env id) → IsSerializable env t s
 rules_serializable env id t s h often stands =
     let rules = rules_of env id in

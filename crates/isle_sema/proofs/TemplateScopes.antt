@@ -31,7 +31,7 @@ use Rattle.isle_terms.specs.Whole.{Whole, termed, arg_types, ret_type}
 
 -- ---- the scope stays
 
--- so where the variable is bound before
+-- so if the variable is bound before
 met_stays : (scope : Scope) (name : List ℕ) (ty : Option TypeId) → not (is_some (bound_at scope name)) ≡ false → met scope name ty ≡ scope
 met_stays scope name ty h = by (bound_at scope name) refl h
   where

@@ -1,4 +1,4 @@
--- The rows of declarations, external constructors, extractors, converters, and heads are kept where the code takes them.
+-- The rows of declarations, external constructors, extractors, converters, and heads are kept if the code takes them.
 use Rattle.std.proofs.Common.{◌≡◌, ℕ, Bool, true, false, cond, List, length, [], ◌∷◌, ◌++◌, Some, None, refl, sym, ap, ◌∙◌, subst}
 use Rattle.std.specs.Prelude.{◌&&◌, ◌||◌, not, is_some, nat_le}
 use Rattle.std.specs.List.{list_all, list_any, cons_option}

@@ -76,7 +76,7 @@ parts_there env (Some tys) qs h = (tys, refl, h)
 abbrev pub Gives : Environment → Term → TermId → Path → List TypeId → ReturnKind → Type 0
 Gives env t term p tys kind = IsExtraction kind (extracting env term) × IsSomeAnd (slice_get env.terms term.0) (λ (x : Term). (x.arg_tys ≡ tys) × IsPathOf env t p x.ret_ty)
 
--- so where it takes values of the path's type apart
+-- so if it takes values of the path's type apart
 pub extractor_gives : (env : Environment) (t : Term) (term : TermId) (c : Calling) (count : ℕ) (p : Path) (ty : TypeId) (tys : List TypeId) (kind : ReturnKind) → OpensInto env ty (ByExtractor term c count) tys → IsPathOf env t p ty → IsExtraction kind c → Gives env t term p tys kind
 extractor_gives env t term c count p ty tys kind into h ext =
     let on : IsPathOf env t p into.called.ret_ty = subst (IsPathOf env t p) (sym into.taken) h in
@@ -112,7 +112,7 @@ parts_are env t opened p ty tys into h = from_start env t (λ k. part_path opene
 abbrev pub HasConstraints : (all ts : List Test) → Type 0
 HasConstraints all ts = (y : Test) → is_constraint y ≡ true → Contains ts y → Contains all y
 
--- what an extractor finds stands after the test that it is something, where no impure call is held
+-- what an extractor finds stands after the test that it is something, if no impure call is held
 found_stands : {c : Calling} (env : Environment) (term : TermId) (tests : List Test) (done : List Path) (p : Path) → IsFinding c → StandsOn env tests done p → holds_impure env p ≡ false → HasConstraints tests (found_tests c (Extracted term p)) → StandsOn env tests done (answer_path c (Extracted term p))
 found_stands env term tests done p (finds name) s early among = s
 found_stands env term tests done p (lists name) s early among = (s, λ e. absurd (no_both e early))
@@ -312,7 +312,7 @@ module _ (env : Environment) (t : Term) (all : List Test) (vars : List (TypeId �
     there = λ v c. ⊎_elim (λ d. let s = h.there v d in (s.0, keeps v.1 s.0 s.1)) (λ d. k.there v d) (Contains-append_cases xs ys v c);
   }
 
-  -- where one variable more has a path, each is held
+  -- if one variable more has a path, each is held
   held_more : (of ty : TypeId) (x : ℕ) (p : Path) (places : Places) → of ≡ ty → Contains vars (of, x) → IsPathOf env t p ty → IsStanding env all p → AreHeld env t all vars places → AreHeld env t all vars (met_after None x p places)
   held_more of ty x p places is within typed s h other y q c e = pick (eqb x y) refl e
     where

@@ -41,6 +41,6 @@ told_lies P ds error h t = told_by P (fault ds) error lies t
     lies : (f : Row × Pos) → fault ds ≡ Some f → P f.1
     lies f k = ⊎_elim (λ x. fault_lies P ds f h x) (after f) (of_either (type_fault ds) (or_later (term_fault (whole_of ds)) behind) f k)
 
--- where there is none, no error tells one
+-- if there is none, no error reports one
 pub untold : (ds : List Def) (error : Error) → fault ds ≡ None → TellsTyping (fault ds) (Some error) → ⊥
 untold ds error none h = subst (λ o. TellsTyping o (Some error)) none h

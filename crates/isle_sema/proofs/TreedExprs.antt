@@ -101,7 +101,7 @@ record AreTreedLets (p : LetsPass) : Type 0 where
   are : p.trees ≡ Some trees
   after : AreTypedLocals p.locals
 
--- a call has a tree where its arguments have
+-- a call has a tree if its arguments have
 call_treed : (w : Whole) (expected : Option TypeId) (name : List ℕ) (count : ℕ) (o : Option Signature) (args : ExprsPass) → KnowsTypes w → termed w name ≡ o → AreUsedWell w (CalledAt expected o count ∷ []) → AreTreedExprs args
     → (x : CoreExpr) × (call_tree (ret_type w o) (term_named (terms w.defs) name) args.trees ≡ Some x)
 call_treed w expected name count None args knows is well have = absurd cc

@@ -80,7 +80,7 @@ integer_there (Some (Primitive name rust at)) n h = (_, refl)
 integer_there (Some (Enum name is_extern is_nodebug variants at)) n h = absurd cc
 integer_there (Some (Struct name is_extern is_nodebug fields at)) n h = absurd cc
 
--- an integer where a type of integers is expected has its value
+-- an integer if a type of integers is expected has its value
 pub integer_given : (types : TypeEnv) (ty : TypeId) (n : ℤ) → takes_integers types (Some ty) ≡ true → (v : TypeId × ℤ) × (typed_integer types (Some ty) n ≡ Some v)
 integer_given types ty n h = let z = integer_there (slice_get types.types ty.0) n h in ((ty, z.0), ap (option_map (λ (x : ℤ). (ty, x))) z.1)
 
@@ -145,7 +145,7 @@ abbrev pub AreExpected : List (Option TypeId) → Patterns → Type 0
 AreExpected expected NoPattern = Unit {0}
 AreExpected expected (APattern p ps) = (ty : TypeId) × (first_expected expected ≡ Some ty) × AreExpected (later_expected expected) ps
 
--- so where there are as many types
+-- so if there are as many types
 pub as_many_expected : (tys : List TypeId) (ps : Patterns) → count_of ps ≡ length tys → AreExpected (map Some tys) ps
 as_many_expected tys NoPattern h = tt
 as_many_expected [] (APattern p ps) h = absurd (omega arith)
@@ -170,7 +170,7 @@ term_there : (of : Option TypeId) (term : Option TermId) (ps : Option (List Core
     → term_tree of term ps ≡ Some (core_pattern.Term ty n (core_patterns parts))
 term_there of term ps ty n parts a b c = ap (λ o. term_tree o term ps) a ∙ ap (λ o. term_tree (Some ty) o ps) b ∙ ap (λ o. term_tree (Some ty) (Some n) o) c
 
--- a term's pattern has a tree where its parts have
+-- a term's pattern has a tree if its parts have
 term_treed : (w : Whole) (expected : Option TypeId) (scope : Scope) (ps : Patterns) (name : List ℕ) (o : Option Signature) → KnowsTypes w → termed w name ≡ o → HaveTrees w scope ps
     → AreTakenWell w (TakenAt expected o (count_of ps) ∷ (patterns_pass w (arg_types w o) scope ps).sites) → IsTermTreed (ret_type w o) (term_named (terms w.defs) name) (patterns_pass w (arg_types w o) scope ps)
 term_treed w expected scope ps name None knows is go well = absurd cc
@@ -199,7 +199,7 @@ behind_converter : (w : Whole) (by : Option Signature) (of expected : Option Typ
     → AreTakenWell w (TakenAt (within by of expected) o (count_of ps) ∷ (patterns_pass w (arg_types w o) scope ps).sites)
 behind_converter w by of expected o scope ps well = (taken_parts w (taken_by by expected) (TakenAt (within by of expected) o (count_of ps) ∷ (patterns_pass w (arg_types w o) scope ps).sites) well).1
 
--- `@` has a tree where its pattern has
+-- `@` has a tree if its pattern has
 bind_treed : (w : Whole) (ty : TypeId) (scope : Scope) (name : List ℕ) (p : Pattern) (blank : Bool) → ((mid : Scope) → AreTypedIn mid → AreTakenWell w (pattern_pass w (Some ty) mid p).sites → IsTreed (pattern_pass w (Some ty) mid p)) → AreTypedIn scope
     → AreTakenWell w (bind_pass w (Some ty) scope name p blank).sites → IsTreed (bind_pass w (Some ty) scope name p blank)
 bind_treed w ty scope name p true go typed well = let k = go scope typed well in record { tree = k.tree; is = k.is; after = k.after }

@@ -1,4 +1,4 @@
--- A rule that breaks no row has a tree, where no definition breaks a row of types or of terms.
+-- A rule that breaks no row has a tree, if no definition breaks a row of types or of terms.
 use Rattle.std.proofs.Common.{◌≡◌, ℕ, ◌+◌, false, cond, List, [], ◌∷◌, ◌++◌, length, map, Option, Some, None, refl, sym, ap, ◌∙◌, subst}
 use Rattle.std.specs.Prelude.{◌==◌, not, is_some, Contains, option_map, option_and_then}
 use Rattle.std.specs.List.{list_any}
@@ -73,7 +73,7 @@ conditions_treed w scope (c ∷ cs) knows typed used taken =
 
 -- ---- rules
 
--- a rule has a tree where its parts have
+-- a rule has a tree if its parts have
 rule_there : (w : Whole) (i : ℕ) (r : RuleDef) (o : Option TermId) (ps : Option (List CorePattern)) (cs : Option (List CoreIfLet)) (e : Option CoreExpr) (term : TermId) (args : List CorePattern) (iflets : List CoreIfLet) (rhs : CoreExpr)
     → o ≡ Some term → ps ≡ Some args → cs ≡ Some iflets → e ≡ Some rhs
     → option_and_then (λ (t : TermId). option_and_then (λ (xs : List CorePattern). option_and_then (λ (ys : List CoreIfLet). option_map (rule_from w i r t xs ys) e) cs) ps) o ≡ Some (rule_from w i r term args iflets rhs)
@@ -105,7 +105,7 @@ heads_declared defs d r c =
     let head = or_parts (not (is_some (declared (whole_of defs) r.term))) (is_some (func_named (externs defs) r.term)) (fails_at (is_headless defs) (rule_defs defs) r (declarations_kept defs d).heads c) in
     ap is_some (declared_term defs r.term d head.0).there
 
--- a rule of a term that is there has a tree where it breaks no row
+-- a rule of a term that is there has a tree if it breaks no row
 row_treed : (w : Whole) (i : ℕ) (r : RuleDef) (s : Signature) → KnowsTypes w → termed w r.term ≡ Some s → row_of w r ≡ None → (x : CoreRule) × (written_pass w i r ≡ Some x)
 row_treed w i r s knows there row =
     let f = row_fails w r row in

@@ -1,4 +1,4 @@
--- A template that breaks no row has a tree, where no definition breaks a row of types or of terms.
+-- A template that breaks no row has a tree, if no definition breaks a row of types or of terms.
 use Rattle.std.proofs.Common.{◌≡◌, ℕ, Bool, true, false, List, [], ◌∷◌, length, map, Some, refl, sym, ap, ◌∙◌, subst, arith}
 use Rattle.std.specs.Prelude.{◌==◌, not, is_some, Contains}
 use Rattle.std.specs.List.{list_all, list_any}
@@ -24,7 +24,7 @@ use Rattle.isle_sema.proofs.TreedPatterns.{AreTypedIn, none_typed, met_typed, pa
 use Rattle.isle_sema.proofs.TypedPatterns.{AreTakenWell}
 use Rattle.isle_sema.proofs.DeclaredWell.{AreDeclaredWell, declarations_kept, knows_types, declared_term}
 
--- each parameter has a type where there are as many
+-- each parameter has a type if there are as many
 params_typed : (scope : Scope) (params : List (List ℕ)) (tys : List TypeId) → length params ≡ length tys → AreTypedIn scope → AreTypedIn (params_met scope params (map Some tys))
 params_typed scope [] tys long h = h
 params_typed scope (param ∷ params) [] long h = absurd (omega (arith, long))
@@ -48,7 +48,7 @@ template_treed defs term t d known unfit well =
     let k = pattern_treed w is.ret scope t.pattern (knows_types defs d) typed (subst (λ o. AreTakenWell w (pattern_pass w o scope t.pattern).sites) ret well) in
     ap (λ o. is_some (pattern_pass w o scope t.pattern).tree) ret ∙ ap is_some k.is
 
--- an extractor that breaks no row has a tree, where it has a template
+-- an extractor that breaks no row has a tree, if it has a template
 pub extractor_treed : (defs : List Def) (x : ExtractorDef) → AreDeclaredWell defs → Contains (extractors defs) x → is_misbuilt (whole_of defs) x ≡ false → has_tree (whole_of defs) x ≡ true
 extractor_treed defs x d c h = by x.by refl
   where
@@ -70,6 +70,6 @@ hold_all : {X : Type 0} (test : X → Bool) (xs : List X) → ((x : X) → Conta
 hold_all test [] h = refl
 hold_all test (x ∷ xs) h = and_from (test x) (list_all test xs) (h x (head_contained x xs)) (hold_all test xs (λ y c. h y (tail_contained x xs y c)))
 
--- so have all, where none breaks a row
+-- so have all, if none breaks a row
 pub all_treed : (defs : List Def) → AreDeclaredWell defs → list_any (is_misbuilt (whole_of defs)) (extractors defs) ≡ false → are_treed (whole_of defs) ≡ true
 all_treed defs d h = hold_all (has_tree (whole_of defs)) (extractors defs) (λ x c. extractor_treed defs x d c (fails_at (is_misbuilt (whole_of defs)) (extractors defs) x h c))

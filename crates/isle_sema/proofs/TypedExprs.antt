@@ -133,11 +133,11 @@ pub record IsOver (defs : List Def) (env : Environment) (locals : List Local) (v
   pub bound : (name : List ℕ) (l : Local) (ty : TypeId) → local_named locals name ≡ Some l → l.ty ≡ Some ty → Contains vars (ty, l.number)
   pub below : (ty : TypeId) (x : ℕ) → Contains vars (ty, x) → x < next
 
--- so where the next number is a later one
+-- so if the next number is a later one
 over_later : (defs : List Def) (env : Environment) (locals : List Local) (vars : List (TypeId × ℕ)) (next later : ℕ) → next ≤ later → IsOver defs env locals vars next → IsOver defs env locals vars later
 over_later defs env locals vars next later le over = record { given = over.given; bound = over.bound; below = λ ty x c. let lt = over.below ty x c in omega (arith, lt, le) }
 
--- the arguments of a call, where they are kept at its term's types
+-- the arguments of a call, if they are kept at its term's types
 abbrev ArgsTyped : (defs : List Def) (env : Environment) (allowed : Allowed) (locals : List Local) (vars : List (TypeId × ℕ)) (next : ℕ) → Exprs → Type 0
 ArgsTyped defs env allowed locals vars next es = (tys : List TypeId) (xs : CoreExprs) → count_of es ≡ length tys → (exprs_pass (whole_of defs) locals next (map Some tys) es).trees ≡ Some xs → AreKept (whole_of defs) allowed (exprs_pass (whole_of defs) locals next (map Some tys) es).sites
     → AreExprsOf env allowed vars tys xs

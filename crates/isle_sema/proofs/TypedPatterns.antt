@@ -158,19 +158,19 @@ parts_of env given [] (q ∷ qs) h = absurd h
 parts_of env given (ty ∷ tys) [] h = absurd h
 parts_of env given (ty ∷ tys) (q ∷ qs) h = (h.0, parts_of env given tys qs h.1)
 
--- patterns are of the types that are expected, where they are as many
+-- patterns are of the types that are expected, if they are as many
 abbrev AreTyped : List Def → Environment → Scope → Patterns → Type 0
 AreTyped defs env scope ps = (tys : List TypeId) (qs : List CorePattern) → count_of ps ≡ length tys → (patterns_pass (whole_of defs) (map Some tys) scope ps).trees ≡ Some qs → AreTakenWell (whole_of defs) (patterns_pass (whole_of defs) (map Some tys) scope ps).sites
     → AreWrittenPatternsOf env (templates (whole_of defs)) tys qs
 
--- a term's pattern is of the type that the term gives where its parts are of its arguments' types
+-- a term's pattern is of the type that the term gives if its parts are of its arguments' types
 opened_typed : (defs : List Def) (env : Environment) (ty of : TypeId) (name : List ℕ) (s : Signature) (number : TermId) (qs : List CorePattern) → KnowsTerms defs env → termed (whole_of defs) name ≡ Some s → term_named (terms defs) name ≡ Some number
     → has_extractor (whole_of defs) s ≡ true → type_named defs s.ret ≡ Some of → of ≡ ty → ((tys : List TypeId) → map (type_named defs) s.args ≡ map Some tys → AreWrittenPatternsOf env (templates (whole_of defs)) tys qs) → IsWrittenOf env (templates (whole_of defs)) ty (core_pattern.Term of number (core_patterns qs))
 opened_typed defs env ty of name s number qs knows is numbered has ret same typed =
     let m = knows.opened name s number ty is numbered has (ret ∙ ap Some same) in
     (same, m.opens, subst (λ o. AreWrittenPartsOf env (templates (whole_of defs)) o (core_patterns qs)) (sym m.parts) (parts_of env (templates (whole_of defs)) m.types qs (typed m.types m.args)))
 
--- so where nothing stands around it
+-- so if nothing stands around it
 term_typed : (defs : List Def) (env : Environment) (ty : TypeId) (scope : Scope) (ps : Patterns) (name : List ℕ) (o : Option Signature) (q : CorePattern) → KnowsTerms defs env → termed (whole_of defs) name ≡ o → AreTyped defs env scope ps
     → term_tree (ret_type (whole_of defs) o) (term_named (terms defs) name) (patterns_pass (whole_of defs) (arg_types (whole_of defs) o) scope ps).trees ≡ Some q
     → AreTakenWell (whole_of defs) (TakenAt (Some ty) o (count_of ps) ∷ (patterns_pass (whole_of defs) (arg_types (whole_of defs) o) scope ps).sites) → IsWrittenOf env (templates (whole_of defs)) ty q
@@ -227,7 +227,7 @@ converter_typed defs env ty of s (Some x) q knows is well typed h =
     one_typed (t ∷ []) e k = let same : of ≡ t = cc in (subst (λ (y : TypeId). IsWrittenOf env (templates (whole_of defs)) y x) same k, tt)
     one_typed (t ∷ u ∷ tys) e k = absurd cc
 
--- a term's pattern is of the type, within a converter where it is of another one
+-- a term's pattern is of the type, within a converter if it is of another one
 within_typed : (defs : List Def) (env : Environment) (ty : TypeId) (scope : Scope) (ps : Patterns) (name : List ℕ) (q : CorePattern) (of : Option TypeId) (by : Option Signature) → KnowsTerms defs env → AreTyped defs env scope ps → ret_type (whole_of defs) (termed (whole_of defs) name) ≡ of
     → conversion (whole_of defs) of (Some ty) ≡ by → pattern_within (whole_of defs) by (term_tree (ret_type (whole_of defs) (termed (whole_of defs) name)) (term_named (terms defs) name) (patterns_pass (whole_of defs) (arg_types (whole_of defs) (termed (whole_of defs) name)) scope ps).trees) ≡ Some q
     → AreTakenWell (whole_of defs) (taken_by by (Some ty) ++ TakenAt (within by of (Some ty)) (termed (whole_of defs) name) (count_of ps) ∷ (patterns_pass (whole_of defs) (arg_types (whole_of defs) (termed (whole_of defs) name)) scope ps).sites) → IsWrittenOf env (templates (whole_of defs)) ty q
@@ -240,7 +240,7 @@ within_typed defs env ty scope ps name q (Some of) (Some s) knows typed ret is h
     let inner = term_tree (ret_type w o) (term_named (terms defs) name) (patterns_pass w (arg_types w o) scope ps).trees in
     converter_typed defs env ty of s inner q knows is k.0 (λ x e. term_typed defs env of scope ps name o x knows refl typed e k.1) h
 
--- `@` is of the type where its pattern is
+-- `@` is of the type if its pattern is
 bind_typed : (defs : List Def) (env : Environment) (ty : TypeId) (scope : Scope) (name : List ℕ) (p : Pattern) (q : CorePattern) (blank : Bool)
     → ((mid : Scope) (x : CorePattern) → (pattern_pass (whole_of defs) (Some ty) mid p).tree ≡ Some x → AreTakenWell (whole_of defs) (pattern_pass (whole_of defs) (Some ty) mid p).sites → IsWrittenOf env (templates (whole_of defs)) ty x)
     → (bind_pass (whole_of defs) (Some ty) scope name p blank).tree ≡ Some q → AreTakenWell (whole_of defs) (bind_pass (whole_of defs) (Some ty) scope name p blank).sites → IsWrittenOf env (templates (whole_of defs)) ty q

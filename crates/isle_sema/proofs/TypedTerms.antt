@@ -175,7 +175,7 @@ all_stand all (tree.Extractor term params template pos ∷ ds) h = all_stand all
 all_stand all (tree.Converter from to term pos ∷ ds) h = all_stand all ds (rest_in all (tree.Converter from to term pos) ds h)
 all_stand all (tree.Passed head items pos ∷ ds) h = all_stand all ds (rest_in all (tree.Passed head items pos) ds h)
 
--- a term stands where a definition does: a made one where its type's does
+-- a term stands where a definition does: a made one if its type's does
 pub typed_places : (defs : List Def) (env : Environment) (i : ℕ) (t : Term) → Typed defs env → slice_get env.terms i ≡ Some t → (d : Def) × Contains defs d × (place_of d ≡ t.decl_pos)
 typed_places defs env i t h at =
     let m = made_of (whole_of defs) (terms defs) env.terms i t (given_in h).terms at in

@@ -1,4 +1,4 @@
--- What a template uses are numbers of terms that have templates, and what is told of them.
+-- What a template uses are numbers of terms that have templates, and what is known of them.
 use Rattle.std.proofs.Common.{◌≡◌, ⊎_elim, ℕ, zero, suc, ◌<◌, ◌++◌, List, [], length, Bool, true, false, Option, Some, None, refl, sym, ap, ◌∙◌, subst, true≢false, eqb-true}
 use Rattle.std.specs.Prelude.{◌==◌, ◌||◌, Contains, slice_get, option_map, option_and_then, option_to_list}
 use Rattle.std.proofs.lemmas.List.{length-map}
@@ -136,7 +136,7 @@ reached graph (suc steps) from to e =
 pub closed_used : (w : Whole) (n : ℕ) → on_closed_walk (template_uses w) n ≡ true → IsUsed w n
 closed_used w n h = let r = reached (template_uses w) (length (template_uses w)) n n h in next_used w r.0 n r.1
 
--- ---- what is told of a term
+-- ---- what is known of a term
 
 -- a term that is not there is on no walk
 pub no_walk : (w : Whole) (x : ExtractorDef) → MayBeCalled w (termed w x.term) None → false ≡ is_on_walk w x

@@ -25,7 +25,7 @@ use Rattle.isle_sema.specs.ExprPass.{binding_tree, expr_pass, exprs_pass, lets_p
 use Rattle.isle_sema.specs.RulePass.{patterns_of, condition_pass, conditions_pass, conditions_of, right_side_of, left_of}
 use Rattle.isle_sema.specs.Judging.{unjudged, judge_all}
 
--- the trees of patterns, where they are there
+-- the trees of patterns, if they are there
 abbrev pub pattern_trees : Option (Vec CodePattern) → Option (List CorePattern)
 pattern_trees found = option_map (λ (ps : Vec CodePattern). map elaborated_pattern ps.items) found
 
@@ -41,7 +41,7 @@ seen_binding b = (b.var, b.ty, elaborated_expr b.val)
 abbrev pub binding_trees : Option (Vec LetBinding) → Option LetBindings
 binding_trees found = option_map (λ (bs : Vec LetBinding). bindings_of (map seen_binding bs.items)) found
 
--- a type so many times, or none where there is none
+-- a type so many times, or none if there is none
 abbrev pub copies : Option TypeId → ℕ → List TypeId
 copies None count = []
 copies (Some ty) count = replicate count ty

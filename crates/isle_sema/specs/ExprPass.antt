@@ -23,7 +23,7 @@ use Rattle.isle_terms.specs.TypeNames.{type_named}
 use Rattle.isle_terms.specs.Whole.{Whole, termed, arg_types, ret_type, number_of, constant_type}
 use Rattle.isle_sema.specs.PatternPass.{first_expected, later_expected}
 
--- an expression's tree, where its types are known, the next number after it, and its parts
+-- an expression's tree, if its types are known, the next number after it, and its parts
 pub record ExprPass : Type 0 where
   pub tree : Option CoreExpr
   pub next : ℕ
@@ -46,11 +46,11 @@ pub record LetsPass : Type 0 where
 abbrev pub integer_tree : TypeEnv → Option TypeId → ℤ → Option CoreExpr
 integer_tree types expected n = option_map (λ (v : TypeId × ℤ). core_expr.ConstInt v.0 v.1) (typed_integer types expected n)
 
--- a variable's tree, where it is bound at a type that is known
+-- a variable's tree, if it is bound at a type that is known
 abbrev pub local_tree : Option Local → Option CoreExpr
 local_tree found = option_map (λ (v : TypeId × VarId). core_expr.Var v.0 v.1) (typed_local found)
 
--- a constant's tree, where it is declared
+-- a constant's tree, if it is declared
 abbrev pub constant_tree : TypeEnv → Option TypeId → List ℕ → Option CoreExpr
 constant_tree types ty name = option_map (λ (t : TypeId). core_expr.ConstPrim t (sym_of types.syms name)) ty
 
@@ -58,7 +58,7 @@ constant_tree types ty name = option_map (λ (t : TypeId). core_expr.ConstPrim t
 abbrev pub call_tree : Option TypeId → Option TermId → Option CoreExprs → Option CoreExpr
 call_tree ty term es = option_and_then (λ (t : TypeId). option_and_then (λ (n : TermId). option_map (core_expr.Term t n) es) term) ty
 
--- the tree of an expression within a converter, where one is inserted
+-- the tree of an expression within a converter, if one is inserted
 abbrev pub expr_within : Whole → Option Signature → Option CoreExpr → Option CoreExpr
 expr_within w None e = e
 expr_within w (Some s) e = call_tree (ret_type w (Some s)) (number_of w (Some s)) (option_map (λ (x : CoreExpr). CoreAnExpr x CoreNoExpr) e)
@@ -68,11 +68,11 @@ abbrev pub called_by : Option Signature → Option TypeId → List Site
 called_by None expected = []
 called_by (Some s) expected = CalledAt expected (Some s) 1 ∷ []
 
--- the type that a variable was bound at, where it is known
+-- the type that a variable was bound at, if it is known
 abbrev pub known_type : Option Local → Option TypeId
 known_type found = option_and_then (λ (l : Local). l.ty) found
 
--- a tree before others, where all are there
+-- a tree before others, if all are there
 abbrev pub expr_before : Option CoreExpr → Option CoreExprs → Option CoreExprs
 expr_before None es = None
 expr_before (Some e) es = option_map (CoreAnExpr e) es
@@ -88,11 +88,11 @@ expr_type (core_expr.ConstInt ty n) = ty
 expr_type (core_expr.ConstPrim ty name) = ty
 expr_type (core_expr.Let ty bindings inner) = ty
 
--- a variable of this number with its value, where its type is declared
+-- a variable of this number with its value, if its type is declared
 abbrev pub binding_tree : ℕ → Option TypeId → Option CoreExpr → Option SeenBinding
 binding_tree number ty e = option_and_then (λ (t : TypeId). option_map (λ (v : CoreExpr). (record { 0 = number }, t, v)) e) ty
 
--- a variable before others, where all are there
+-- a variable before others, if all are there
 abbrev pub binding_before : Option SeenBinding → Option LetBindings → Option LetBindings
 binding_before None bs = None
 binding_before (Some b) bs = option_map (ABinding b.0 b.1 b.2) bs
@@ -109,7 +109,7 @@ count_of NoExpr = 0
 count_of (AnExpr e es) = suc (count_of es)
 
 -- an expression where this is expected; a variable has the type that it was bound at, a constant its own, a call that of its term, each
--- within a converter where another one is expected and a converter fits, and a `let` hands its own on
+-- within a converter if another one is expected and a converter fits, and a `let` hands its own on
 abbrev mutual
   pub expr_pass : Whole → List Local → (next : ℕ) → Option TypeId → Expr → ExprPass
   expr_pass w locals next expected (tree.Number n) = record { tree = integer_tree w.types expected n; next = next; sites = IntegerAt expected ∷ [] }

@@ -11,7 +11,7 @@ abbrev pub is_template : Extracting → Bool
 is_template (ByFunction func infallible) = false
 is_template (ByTemplate t) = true
 
--- so does that of a term, where it has one
+-- so does that of a term, if it has one
 abbrev pub is_templated : Option ExtractorDef → Bool
 is_templated None = false
 is_templated (Some x) = is_template x.by
@@ -30,7 +30,7 @@ pub record IsCalled (w : Whole) (s : Signature) (c : Called) : Type 0 where
   pub templated : is_templated (extractor_named (extractors w.defs) s.term) ≡ c.templated
   pub ruled : has_rule (rule_defs w.defs) s.term ≡ c.ruled
 
--- the same where the term may not be there
+-- the same if the term may not be there
 abbrev pub MayBeCalled : Whole → Option Signature → Option Called → Type 0
 MayBeCalled w None None = Unit {0}
 MayBeCalled w (Some s) (Some c) = IsCalled w s c

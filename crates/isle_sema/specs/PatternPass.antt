@@ -20,7 +20,7 @@ use Rattle.isle_terms.specs.Converters.{conversion, within}
 use Rattle.isle_terms.specs.TermPass.{tree_before}
 use Rattle.isle_terms.specs.Whole.{Whole, termed, arg_types, ret_type, number_of, constant_type}
 
--- a pattern's tree, where its types are known; the variables after it; and its parts
+-- a pattern's tree, if its types are known; the variables after it; and its parts
 pub record PatternPass : Type 0 where
   pub tree : Option CorePattern
   pub scope : Scope
@@ -30,11 +30,11 @@ pub record PatternPass : Type 0 where
 abbrev pub integer_tree : TypeEnv → Option TypeId → ℤ → Option CorePattern
 integer_tree types expected n = option_map (λ (v : TypeId × ℤ). core_pattern.ConstInt v.0 v.1) (typed_integer types expected n)
 
--- a variable's tree, where it is bound at a type that is known
+-- a variable's tree, if it is bound at a type that is known
 abbrev pub variable_tree : Scope → List ℕ → Option CorePattern
 variable_tree scope name = option_map (λ (v : TypeId × VarId). core_pattern.Var v.0 v.1) (variable scope name)
 
--- a constant's tree, where it is declared
+-- a constant's tree, if it is declared
 abbrev pub constant_tree : TypeEnv → Option TypeId → List ℕ → Option CorePattern
 constant_tree types ty name = option_map (λ (t : TypeId). core_pattern.ConstPrim t (sym_of types.syms name)) ty
 
@@ -42,7 +42,7 @@ constant_tree types ty name = option_map (λ (t : TypeId). core_pattern.ConstPri
 abbrev pub term_tree : Option TypeId → Option TermId → Option (List CorePattern) → Option CorePattern
 term_tree ty term ps = option_and_then (λ (t : TypeId). option_and_then (λ (n : TermId). option_map (λ (parts : List CorePattern). core_pattern.Term t n (core_patterns parts)) ps) term) ty
 
--- the tree of a pattern within a converter, where one is inserted
+-- the tree of a pattern within a converter, if one is inserted
 abbrev pub pattern_within : Whole → Option Signature → Option CorePattern → Option CorePattern
 pattern_within w None p = p
 pattern_within w (Some s) p = term_tree (ret_type w (Some s)) (number_of w (Some s)) (option_map (λ (q : CorePattern). q ∷ []) p)
@@ -64,7 +64,7 @@ named scope name expected = if is_blank name then scope else met scope name expe
 abbrev pub named_sites : Scope → List ℕ → Option TypeId → List Site
 named_sites scope name expected = if is_blank name then [] else MetAt expected (bound_at scope name) ∷ []
 
--- the tree of a variable at a pattern, where both are there
+-- the tree of a variable at a pattern, if both are there
 abbrev pub bound_tree : Option (TypeId × VarId) → Option CorePattern → Option CorePattern
 bound_tree v p = option_and_then (λ (b : TypeId × VarId). option_map (core_pattern.BindPattern b.0 b.1) p) v
 
@@ -98,7 +98,7 @@ abbrev pub of_each : Option TypeId → Patterns → List (Option TypeId)
 of_each expected NoPattern = []
 of_each expected (APattern p ps) = expected ∷ of_each expected ps
 
--- a pattern where this is expected; a variable has the type that it was bound at, a term that which it makes, within a converter where
+-- a pattern where this is expected; a variable has the type that it was bound at, a term that which it makes, within a converter if
 -- another one is expected and a converter fits, and `@` and `and` hand theirs on
 abbrev mutual
   pub pattern_pass : Whole → Option TypeId → Scope → Pattern → PatternPass

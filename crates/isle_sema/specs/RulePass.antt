@@ -27,7 +27,7 @@ patterns_of w r = patterns_pass w (arg_types w (termed w r.term)) no_variables (
 
 -- ---- conditions
 
--- a condition's tree, where both its parts have one
+-- a condition's tree, if both its parts have one
 abbrev pub iflet_tree : Option CorePattern → Option CoreExpr → Option CoreIfLet
 iflet_tree lhs rhs = option_and_then (λ (p : CorePattern). option_map (λ (e : CoreExpr). record { lhs = p; rhs = e }) rhs) lhs
 
@@ -89,12 +89,12 @@ sites_of w r = left_of w r ++ (right_side_of w r).sites
 abbrev pub rule_from : Whole → ℕ → RuleDef → TermId → List CorePattern → List CoreIfLet → CoreExpr → CoreRule
 rule_from w i r term args iflets rhs = record { id = record { 0 = i }; root_term = term; args = args; iflets = iflets; rhs = rhs; prio = r.prio; pos = r.pos; name = option_map (sym_of w.types.syms) r.name }
 
--- the same where its parts may not be there
+-- the same if its parts may not be there
 abbrev pub written_from : Whole → ℕ → RuleDef → TermId → Option (List CorePattern) → Option (List CoreIfLet) → Option CoreExpr → Option CoreRule
 written_from w i r term args iflets rhs =
     option_and_then (λ (ps : List CorePattern). option_and_then (λ (cs : List CoreIfLet). option_map (rule_from w i r term ps cs) rhs) iflets) args
 
--- the rule of that number as it is written, where its types are known
+-- the rule of that number as it is written, if its types are known
 abbrev pub written_pass : Whole → ℕ → RuleDef → Option CoreRule
 written_pass w i r =
     option_and_then (λ (term : TermId). written_from w i r term (patterns_of w r).trees (conditions_of w r).trees (right_side_of w r).tree)

@@ -20,7 +20,7 @@ use Rattle.isle_templates.specs.Substituted.{whole_templates}
 use Rattle.isle_types.specs.TypeRows.{on}
 use Rattle.isle_terms.specs.Context.{Context}
 
--- the parts of a term's template, where its extractor has one
+-- the parts of a term's template, if its extractor has one
 abbrev pub template_sites : Whole → (term : List ℕ) → Extracting → List Site
 template_sites w term (ByFunction func infallible) = []
 template_sites w term (ByTemplate t) = (template_pass w term t).sites
@@ -84,7 +84,7 @@ is_mistaken w (BoundAt ty) = false
 abbrev pub pattern_type_misfit : Context → Def → Bool
 pattern_type_misfit c d = list_any (is_mistaken c.whole) (sites_in c.whole d)
 
--- an integer where no type of integers is expected, or `true` or `false` where another type than bool is
+-- an integer where no type of integers is expected, or `true` or `false` if another type than bool is
 abbrev pub is_misplaced : Whole → Site → Bool
 is_misplaced w (IntegerAt expected) = not (takes_integers w.types expected)
 is_misplaced w (TruthAt expected) = not (takes_truths w.types expected)
@@ -116,7 +116,7 @@ is_undeclared (BoundAt ty) = false
 abbrev pub constant_undeclared : Context → Def → Bool
 constant_undeclared c d = list_any is_undeclared (sites_in c.whole d)
 
--- a type that differs from the one that is expected, where there is one
+-- a type that differs from the one that is expected, if there is one
 abbrev pub is_other_type : Option (Option TypeId) → Option TypeId → Bool
 is_other_type None expected = false
 is_other_type (Some ty) expected = differ ty expected

@@ -11,15 +11,15 @@ pub data Site : Type 0 where
   TruthAt : (expected : Option TypeId) → Site
   -- a part that no row looks at: a wildcard, `and` or `let`
   PartAt : Site
-  -- a variable in a pattern, also one of `@`, and the type that it was bound at before, where it was
+  -- a variable in a pattern, also one of `@`, and the type that it was bound at before, if it was
   MetAt : (expected : Option TypeId) (bound : Option (Option TypeId)) → Site
-  -- a variable in an expression, and the type that it was bound at, where it was
+  -- a variable in an expression, and the type that it was bound at, if it was
   UsedAt : (expected : Option TypeId) (bound : Option (Option TypeId)) → Site
-  -- a call of this term, where it is there, on so many arguments
+  -- a call of this term, if it is there, on so many arguments
   CalledAt : (expected : Option TypeId) (callee : Option Signature) (count : ℕ) → Site
-  -- this term in a pattern, where it is there, on so many patterns
+  -- this term in a pattern, if it is there, on so many patterns
   TakenAt : (expected : Option TypeId) (callee : Option Signature) (count : ℕ) → Site
-  -- a named constant in a pattern or in an expression, and its type, where it is declared
+  -- a named constant in a pattern or in an expression, and its type, if it is declared
   ConstantAt : (in_pattern : Bool) (expected found : Option TypeId) → Site
-  -- a variable of a `let`, and its type, where it is declared
+  -- a variable of a `let`, and its type, if it is declared
   BoundAt : (ty : Option TypeId) → Site

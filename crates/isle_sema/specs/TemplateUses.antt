@@ -10,7 +10,7 @@ use Rattle.isle_terms.specs.Converters.{conversion}
 use Rattle.isle_terms.specs.Whole.{Whole, termed, arg_types, ret_type}
 use Rattle.isle_sema.specs.PatternPass.{first_expected, later_expected, of_each}
 
--- the number of a term that takes values apart so, where it does so by a template
+-- the number of a term that takes values apart so, if it does so by a template
 abbrev pub templated_by : Whole → (term : List ℕ) → Extracting → List ℕ
 templated_by w term (ByFunction func infallible) = []
 templated_by w term (ByTemplate t) = option_to_list (option_map (λ (n : TermId). n.0) (term_named (terms w.defs) term))

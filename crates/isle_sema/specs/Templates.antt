@@ -22,7 +22,7 @@ parameters w term params = params_met no_variables params (arg_types w (termed w
 abbrev pub template_pass : Whole → (term : List ℕ) → Template → PatternPass
 template_pass w term t = pattern_pass w (ret_type w (termed w term)) (parameters w term t.params) t.pattern
 
--- the tree of a template, where the extractor has one and its types are known
+-- the tree of a template, if the extractor has one and its types are known
 abbrev pub template_tree : Whole → (term : List ℕ) → Extracting → Option CorePattern
 template_tree w term (ByFunction func infallible) = None
 template_tree w term (ByTemplate t) = (template_pass w term t).tree
@@ -32,7 +32,7 @@ abbrev pub is_treed : Whole → (term : List ℕ) → Extracting → Bool
 is_treed w term (ByFunction func infallible) = true
 is_treed w term (ByTemplate t) = is_some (template_pass w term t).tree
 
--- so where the extractor has one
+-- so if the extractor has one
 abbrev pub has_tree : Whole → ExtractorDef → Bool
 has_tree w x = is_treed w x.term x.by
 

@@ -38,7 +38,7 @@ extractors_fault w (x ∷ xs) = or_later (option_map (λ (r : Row). (r, x.pos)) 
 
 -- ---- trees
 
--- the tree of an extractor's template, where it has one
+-- the tree of an extractor's template, if it has one
 abbrev pub tree_of : Whole → ExtractorDef → Option CorePattern
 tree_of w x = template_tree w x.term x.by
 

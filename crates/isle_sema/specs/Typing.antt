@@ -1,4 +1,4 @@
--- What definitions give, where no row of the typing table is broken.
+-- What definitions give, if no row of the typing table is broken.
 use Rattle.std.specs.Prelude.{◌≡◌, List, Option, Some, None}
 use Rattle.isle_core.specs.declared.position.Pos.{Pos}
 use Rattle.isle_core.specs.declared.types.TypeEnv.{TypeEnv}
@@ -32,7 +32,7 @@ pub record Typed (defs : List Def) (env : Environment) : Type 0 where
 abbrev pub SomeTyped : List Def → Type 0
 SomeTyped defs = (env : Environment) × Typed defs env
 
--- why definitions with this fault, or none, give no types or no environment: the fault, which is told; or want of memory
+-- why definitions with this fault, or none, give no types or no environment: the fault, which is reported; or want of memory
 abbrev pub IsUntyped : (found : Option (Row × Pos)) → EnvError → Type 0
 IsUntyped found (error.Typing e) = TellsTyping found (Some e)
 IsUntyped found error.Memory = Unit {0}

@@ -52,7 +52,7 @@ fn type_over<'d>(
     own_type(known, &mut locals, e)
 }
 
-// A condition of these parts, where both are there.
+// A condition of these parts, if both are there.
 fn condition_of(lhs: Option<Pattern>, rhs: Option<Expr>) -> Option<IfLet>
     ensures { condition_tree result
         ≡ iflet_tree (option_map elaborated_pattern lhs) (option_map elaborated_expr rhs) }
@@ -85,7 +85,7 @@ fn condition_at<'d>(
     Ok(condition_of(lhs, rhs))
 }
 
-/// Elaborates conditions in order, each over the variables before it: gives their trees, where all have one.
+/// Elaborates conditions in order, each over the variables before it: gives their trees, if all have one.
 pub fn conditions_at<'d>(
     alloc: Global,
     known: &Known,

@@ -31,7 +31,7 @@ fn integer_at(types: &TypeEnv, expected: Option<TypeId>, n: i128) -> Option<Expr
     Some(Expr::ConstInt(ty, reduced))
 }
 
-// A constant of this type, where it is declared.
+// A constant of this type, if it is declared.
 #[tactic(auto, using(isle_core::proofs::SeesRules::sees))]
 fn constant_at(known: &Known, found: Option<TypeId>, name: &Text) -> Option<Expr>
     ensures { option_map elaborated result ≡ constant_tree (whole known.now).types found name.now }
@@ -40,7 +40,7 @@ fn constant_at(known: &Known, found: Option<TypeId>, name: &Text) -> Option<Expr
     Some(Expr::ConstPrim(ty, known.sym(name)))
 }
 
-// A call of a term on these expressions, where all are there.
+// A call of a term on these expressions, if all are there.
 #[tactic(auto, using(isle_core::proofs::SeesRules::sees))]
 fn call_of(callee: &Option<Called>, args: Option<Vec<Expr>>) -> Option<Expr>
     ensures { (w : Whole) (s : Option Signature) → MayBeCalled w s callee.now
@@ -54,7 +54,7 @@ fn call_of(callee: &Option<Called>, args: Option<Vec<Expr>>) -> Option<Expr>
     }
 }
 
-// An expression within a converter, where there is one.
+// An expression within a converter, if there is one.
 fn converted(
     alloc: Global,
     converter: &Option<Called>,
@@ -75,7 +75,7 @@ fn converted(
     Ok(call_of(converter, Some(args)))
 }
 
-// A variable, where it is bound at a type that is known.
+// A variable, if it is bound at a type that is known.
 #[tactic(auto, using(isle_core::proofs::SeesRules::sees))]
 fn variable_of(found: Option<(Option<TypeId>, usize)>) -> Option<Expr>
     ensures { (l : Option Local) → found ≡ option_map (λ v. (v.ty, v.number)) l
@@ -145,7 +145,7 @@ fn type_of(e: &Expr) -> TypeId
     }
 }
 
-// A `let` of these variables, where all are there.
+// A `let` of these variables, if all are there.
 fn let_of(
     alloc: Global,
     bindings: Option<Vec<LetBinding>>,
@@ -166,7 +166,7 @@ fn let_of(
     Ok(Some(Expr::Let(ty, List::new(bindings), inner)))
 }
 
-// A variable of this number with its value, where its type is declared.
+// A variable of this number with its value, if its type is declared.
 fn binding_of(number: usize, ty: Option<TypeId>, found: Option<Expr>) -> Option<LetBinding>
     ensures { option_map seen_binding result
         ≡ binding_tree number ty (option_map elaborated found) }
@@ -180,7 +180,7 @@ fn binding_of(number: usize, ty: Option<TypeId>, found: Option<Expr>) -> Option<
     })
 }
 
-/// Elaborates an expression where this type is expected: gives its tree, where its types are known
+/// Elaborates an expression where this type is expected: gives its tree, if its types are known
 /// (`specs/ExprPass.antt`).
 #[cycle(exprs)]
 #[tactic(auto, using(isle_ast::proofs::Sees::expr_sees, isle_core::proofs::SeesRules::sees))]
@@ -255,7 +255,7 @@ fn call_at<'d>(
     converted(alloc, &converter, call_of(&callee, typed))
 }
 
-// Expressions where these types are expected, beyond them none: their trees, where all have one.
+// Expressions where these types are expected, beyond them none: their trees, if all have one.
 #[cycle(exprs)]
 fn exprs_at<'d>(
     alloc: Global,
@@ -280,7 +280,7 @@ fn exprs_at<'d>(
     Ok(if complete { Some(typed) } else { None })
 }
 
-// The variables of a `let`, each with its value: their trees, where all have one.
+// The variables of a `let`, each with its value: their trees, if all have one.
 #[cycle(exprs)]
 fn lets_at<'d>(
     alloc: Global,

@@ -28,7 +28,7 @@ fn integer_at(types: &TypeEnv, expected: Option<TypeId>, n: i128) -> Option<Patt
     Some(Pattern::ConstInt(ty, reduced))
 }
 
-// A variable, where it is bound at a type that is known.
+// A variable, if it is bound at a type that is known.
 #[tactic(auto, using(isle_core::proofs::SeesRules::sees))]
 fn variable_at(vars: &Variables, name: &Text) -> Option<Pattern>
     ensures { option_map elaborated result ≡ variable_tree vars.now name.now }
@@ -37,7 +37,7 @@ fn variable_at(vars: &Variables, name: &Text) -> Option<Pattern>
     Some(Pattern::Var(ty, var))
 }
 
-// A variable at a pattern, where both are there.
+// A variable at a pattern, if both are there.
 #[tactic(auto, using(isle_core::proofs::SeesRules::sees))]
 fn bound_to(
     alloc: Global,
@@ -56,7 +56,7 @@ fn bound_to(
     Ok(Some(Pattern::BindPattern(ty, var, Boxed::new(alloc, inner)?)))
 }
 
-// Patterns that all match one value of the type that is expected, where all are there.
+// Patterns that all match one value of the type that is expected, if all are there.
 #[tactic(auto, using(isle_core::proofs::SeesRules::sees))]
 fn all_of(expected: Option<TypeId>, parts: Option<Vec<Pattern>>) -> Option<Pattern>
     ensures { option_map elaborated result ≡ and_tree expected (pattern_trees parts) }
@@ -78,7 +78,7 @@ fn copies(alloc: Global, expected: Option<TypeId>, count: usize) -> Result<Vec<T
     Ok(types)
 }
 
-// A constant of this type, where it is declared.
+// A constant of this type, if it is declared.
 #[tactic(auto, using(isle_core::proofs::SeesRules::sees))]
 fn constant_at(known: &Known, found: Option<TypeId>, name: &Text) -> Option<Pattern>
     ensures { option_map elaborated result ≡ constant_tree (whole known.now).types found name.now }
@@ -87,7 +87,7 @@ fn constant_at(known: &Known, found: Option<TypeId>, name: &Text) -> Option<Patt
     Some(Pattern::ConstPrim(ty, known.sym(name)))
 }
 
-// A term on these patterns, where all are there.
+// A term on these patterns, if all are there.
 #[tactic(auto, using(isle_core::proofs::SeesRules::sees))]
 fn made_of(callee: &Option<Called>, parts: Option<Vec<Pattern>>) -> Option<Pattern>
     ensures { (w : Whole) (s : Option Signature) → MayBeCalled w s callee.now
@@ -101,7 +101,7 @@ fn made_of(callee: &Option<Called>, parts: Option<Vec<Pattern>>) -> Option<Patte
     }
 }
 
-// A pattern within a converter, where there is one.
+// A pattern within a converter, if there is one.
 fn converted(
     alloc: Global,
     converter: &Option<Called>,
@@ -122,7 +122,7 @@ fn converted(
     Ok(made_of(converter, Some(parts)))
 }
 
-/// A pattern where this type is expected: its tree, where its types are known.
+/// A pattern where this type is expected: its tree, if its types are known.
 #[cycle(patterns)]
 #[tactic(auto, using(isle_ast::proofs::Sees::pattern_sees, isle_core::proofs::SeesRules::sees))]
 pub fn pattern_at<'d>(
@@ -246,7 +246,7 @@ fn term_at<'d>(
     converted(alloc, &converter, made_of(&callee, typed))
 }
 
-/// Patterns where these types are expected, beyond them none: their trees, where all have one.
+/// Patterns where these types are expected, beyond them none: their trees, if all have one.
 #[cycle(patterns)]
 pub fn patterns_at<'d>(
     alloc: Global,

@@ -62,7 +62,7 @@ fn rule_from(
     }
 }
 
-// The rule of that number, of this term with these parts, where each has a tree.
+// The rule of that number, of this term with these parts, if each has a tree.
 fn written_from(
     known: &Known,
     own: &Called,

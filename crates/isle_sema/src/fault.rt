@@ -1,4 +1,4 @@
-//! What is wrong with a template or a rule, and how it is told.
+//! What is wrong with a template or a rule, and how it is reported.
 
 ghost use Rattle.std.specs.Prelude.{IfOk};
 ghost use Rattle.isle_types.specs.Gathered.{TellsFault};
@@ -8,7 +8,7 @@ use isle_terms::{Culprit, push_culprit};
 use isle_types::{Row, push_name, told, type_error};
 use std::alloc::Global;
 
-/// The row that a template or a rule breaks, its place, the name of its term, and the part that breaks it, where one
+/// The row that a template or a rule breaks, its place, the name of its term, and the part that breaks it, if one
 /// does.
 #[derive(Clone, Copy)]
 pub struct Fault<'d> {
@@ -19,7 +19,7 @@ pub struct Fault<'d> {
 }
 
 impl<'d> Fault<'d> {
-    /// Returns the error that tells it, with the names of these types.
+    /// Returns the error that reports it, with the names of these types.
     pub fn error(&self, alloc: Global, types: &TypeEnv) -> Result<Error, OutOfMemory>
         ensures { IfOk result (λ error. TellsFault (self.now.row, self.now.pos) error) }
     {

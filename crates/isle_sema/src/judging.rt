@@ -25,7 +25,7 @@ pub struct Judging<'m, 'd> {
     pub firsts: Firsts<'d>,
 }
 
-// Whether a type differs from the one that is expected, where there is one.
+// Whether a type differs from the one that is expected, if there is one.
 fn is_other_type(bound: Option<Option<TypeId>>, expected: Option<TypeId>) -> bool
     ensures { result ≡ is_other_type bound expected }
 {
@@ -75,7 +75,7 @@ impl<'m, 'd> Judging<'m, 'd> {
         }
     }
 
-    /// Judges a variable of a `let` by its type, which has this name, where it is declared.
+    /// Judges a variable of a `let` by its type, which has this name, if it is declared.
     pub fn bound(&mut self, ty: Option<TypeId>, name: &'d Text)
         ensures { self.new.rows ≡ judge (whole_of []) self.old.rows (BoundAt ty) }
     {
@@ -104,7 +104,7 @@ impl<'m, 'd> Judging<'m, 'd> {
             .note(&self.rows, Thing::Truth(b), expected, None, None);
     }
 
-    /// Judges a variable in a pattern by the type that it was bound at before, where it was.
+    /// Judges a variable in a pattern by the type that it was bound at before, if it was.
     pub fn met(&mut self, expected: Option<TypeId>, bound: Option<Option<TypeId>>, name: &'d Text)
         ensures { self.new.rows ≡ judge (whole_of []) self.old.rows (MetAt expected bound) }
     {
@@ -119,7 +119,7 @@ impl<'m, 'd> Judging<'m, 'd> {
         );
     }
 
-    /// Judges a variable in an expression by the type that it was bound at, where it was.
+    /// Judges a variable in an expression by the type that it was bound at, if it was.
     pub fn used(&mut self, expected: Option<TypeId>, bound: Option<Option<TypeId>>, name: &'d Text)
         ensures { self.new.rows ≡ judge (whole_of []) self.old.rows (UsedAt expected bound) }
     {
@@ -193,7 +193,7 @@ impl<'m, 'd> Judging<'m, 'd> {
         self.firsts.note(&self.rows, thing, expected, Some(callee.ret), Some(counts));
     }
 
-    /// Judges a converter around a pattern of this type, where there is one.
+    /// Judges a converter around a pattern of this type, if there is one.
     pub fn taken_by(
         &mut self,
         expected: Option<TypeId>,
@@ -208,7 +208,7 @@ impl<'m, 'd> Judging<'m, 'd> {
         }
     }
 
-    /// Judges a converter around an expression of this type, where there is one.
+    /// Judges a converter around an expression of this type, if there is one.
     pub fn called_by(
         &mut self,
         expected: Option<TypeId>,
@@ -223,7 +223,7 @@ impl<'m, 'd> Judging<'m, 'd> {
         }
     }
 
-    /// Judges a constant of this type, where it is declared.
+    /// Judges a constant of this type, if it is declared.
     pub fn constant(
         &mut self,
         in_pattern: bool,

@@ -56,7 +56,8 @@ impl<'s, 'd> Model for Known<'s, 'd> {
 
     ghost view = { λ k. k.declarations.now };
 
-    ghost invariant = { λ k. AreKnown k.declarations.now k.before.now k.types.now k.terms.now k.typed.now k.converters.now };
+    ghost invariant = { λ k. AreKnown k.declarations.now k.before.now
+        k.types.now k.terms.now k.typed.now k.converters.now };
 }
 
 /// Returns the types of a term's arguments: of a term that is not there, none.
@@ -78,7 +79,7 @@ impl<'s, 'd> Known<'s, 'd> {
         self.types
     }
 
-    /// Returns the type of a constant, where it is declared.
+    /// Returns the type of a constant, if it is declared.
     pub fn constant(&self, name: &Text) -> Option<TypeId>
         ensures { result ≡ constant_type (whole self.now) name.now }
     {
@@ -91,10 +92,7 @@ impl<'s, 'd> Known<'s, 'd> {
     pub fn sym(&self, name: &Text) -> Sym
         ensures { result ≡ sym_of (whole self.now).types.syms name.now }
     {
-        match self.declarations.number(name) {
-            Some(number) => Sym(number),
-            None => Sym(0),
-        }
+        self.declarations.sym(name)
     }
 
     /// Returns the term of the name of this number.
@@ -138,7 +136,7 @@ impl<'s, 'd> Known<'s, 'd> {
         }
     }
 
-    /// Returns the term of the converter that makes what is expected of another type, where there is one.
+    /// Returns the term of the converter that makes what is expected of another type, if there is one.
     pub fn conversion(&self, of: Option<TypeId>, expected: Option<TypeId>) -> Option<Called<'s>>
         ensures { MayBeCalled (whole self.now) (conversion (whole self.now) of expected) result }
     {
@@ -163,7 +161,7 @@ pub fn result_type(callee: &Option<Called>) -> Option<TypeId>
     }
 }
 
-/// Returns what is expected within a converter, where there is one: the other type.
+/// Returns what is expected within a converter, if there is one: the other type.
 pub fn within(
     converter: &Option<Called>,
     of: Option<TypeId>,

@@ -15,7 +15,7 @@ use isle_declarations::RuleDef;
 use isle_terms::Variables;
 use std::alloc::{AllocError, Global};
 
-/// The patterns, the conditions and the right side of a rule, where they have trees, and what the rows say of the parts
+/// The patterns, the conditions and the right side of a rule, if they have trees, and what the rows say of the parts
 /// of the patterns and conditions, and of those of the right side.
 #[derive(Drop)]
 pub struct Sides<'m, 'd> {
@@ -26,7 +26,7 @@ pub struct Sides<'m, 'd> {
     pub right: Judging<'m, 'd>,
 }
 
-/// Elaborates both sides of a rule of this term, and its conditions, over these marks of terms that are `multi` where a
+/// Elaborates both sides of a rule of this term, and its conditions, over these marks of terms that are `multi` if a
 /// pattern uses them.
 pub fn sides_of<'m, 'd>(
     alloc: Global,

@@ -87,7 +87,7 @@ fn note_each(
     Ok(())
 }
 
-// The terms with templates that a term's template uses, where it has one.
+// The terms with templates that a term's template uses, if it has one.
 fn used_of(alloc: Global, known: &Known, term: &TermDef) -> Result<Vec<usize>, AllocError>
     requires { is_some (index_of (symbols (seen known.now)) term.now.term.now) ≡ true }
     ensures { IfOk result (λ found.

@@ -193,7 +193,7 @@ fn extractors_of(
     Ok(Extractors { templates, multis })
 }
 
-/// Looks for extractors that break a row of the typing table: tells the first that does, by the lowest row that it
+/// Looks for extractors that break a row of the typing table: reports the first that does, by the lowest row that it
 /// breaks (`specs/Fault.antt`); or else returns what stands for all terms. The only error is want of memory.
 pub fn check_templates<'d>(
     alloc: Global,

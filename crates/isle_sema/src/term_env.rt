@@ -53,7 +53,7 @@ fn rules_of<'d>(
     rules_at(alloc, &known, &extractors, declarations.rules())
 }
 
-/// Returns the terms, rules and converters of definitions, whose types make these: `Typing` comes where a declaration,
+/// Returns the terms, rules and converters of definitions, whose types make these: `Typing` comes if a declaration,
 /// what names its term, a converter or a head is wrong, or else an extractor, or else a rule.
 pub fn term_env<'d>(
     alloc: Global,

@@ -78,7 +78,7 @@ fn built_env<'d>(
     Ok((types, terms))
 }
 
-// What definitions declare, whose types make these terms, where no type and no constant is wrong.
+// What definitions declare, whose types make these terms, if no type and no constant is wrong.
 fn gathered<'d>(
     alloc: Global,
     defs: &'d [Def],
@@ -99,7 +99,7 @@ fn gathered<'d>(
 }
 
 /// Types the definitions' symbols, types and constants, of all forms (`specs/Typing.antt`). `Typing` comes exactly
-/// where one of their types or constants is wrong, and tells the first by the lowest row that it breaks; beside it only
+/// if one of their types or constants is wrong, and reports the first by the lowest row that it breaks; beside it only
 /// want of memory.
 pub fn type_env_from_ast(alloc: Global, defs: &[Def]) -> Result<TypeEnv, EnvError>
     ensures ok { IfOk result (λ env. TypesFrom (seen defs.now) env) }
@@ -111,8 +111,8 @@ pub fn type_env_from_ast(alloc: Global, defs: &[Def]) -> Result<TypeEnv, EnvErro
 }
 
 /// Types the terms, rules and converters of the definitions, whose types are given (`specs/Typing.antt`). `Typing`
-/// comes exactly where a declaration, what names its term, a converter or a rule's head is wrong, or else an extractor,
-/// or else a rule; it tells the first by the lowest row that it breaks. Beside it only want of memory.
+/// comes exactly if a declaration, what names its term, a converter or a rule's head is wrong, or else an extractor,
+/// or else a rule; it reports the first by the lowest row that it breaks. Beside it only want of memory.
 pub fn term_env_from_ast(alloc: Global, env: &TypeEnv, defs: &[Def]) -> Result<TermEnv, EnvError>
     requires { TypesFrom (seen defs.now) env.now }
     ensures ok { IfOk result (λ terms. TypedOnly (seen defs.now) (environment env.now terms)) }

@@ -8,7 +8,7 @@ use Rattle.isle_printer.specs.Token.{Token, Word, Mark}
 use Rattle.isle_printer.specs.Number.{numeral, numeral_of}
 use Rattle.isle_printer.specs.Bytes.{same_bytes}
 
--- the digits of a magnitude: hexadecimal where the type is unsigned, else decimal
+-- the digits of a magnitude: hexadecimal if the type is unsigned, else decimal
 abbrev pub digits_word : IntType → ℕ → List ℕ
 digits_word ty n = if is_signed ty then numeral 10 n else codes "0x" ++ numeral 16 n
 

@@ -8,7 +8,7 @@ use Rattle.isle_spelling.specs.Literal.{after_0x}
 abbrev pub raw_word : ℤ → List ℕ
 raw_word z = codes "0x" ++ numeral 16 (cast_unsigned w128 z)
 
--- the number that the bits stand for, where there are no more than 128
+-- the number that the bits stand for, if there are no more than 128
 abbrev pub raw_at : Option ℕ → Option ℤ
 raw_at None = None
 raw_at (Some n) = let z = cast_signed w128 n in if cast_unsigned w128 z == n then Some z else None

@@ -44,7 +44,7 @@ thing_none : run read_token [] ≡ Stuck []
 unfolding run read_token
 thing_none = refl
 
--- where no parenthesis opens, it is one token
+-- if no parenthesis opens, it is one token
 pub any_thing : (n d : ℕ) (ts : List Lexeme) → None ≡ opens ts → run (read_any n d) ts ≡ run read_token ts
 unfolding read_any
 any_thing n zero ts e = other_peek _ read_token ts thing_none e

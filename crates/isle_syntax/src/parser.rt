@@ -24,7 +24,7 @@ use std::alloc::Global;
 /// What was met where a text goes wrong, and what may stand there: the user's help, of which no clause speaks.
 #[derive(Clone, Copy, Debug, PartialEq, Eq)]
 pub struct Mismatch {
-    /// The end of the token that was met, or the place itself where one is missing.
+    /// The end of the token that was met, or the place itself if one is missing.
     pub to: Pos,
     pub expected: Expected,
 }
@@ -39,7 +39,7 @@ pub enum ParseFail {
 }
 
 // The definitions that tokens of the file of that number spell, which a cursor stands in front of. `At` comes exactly
-// where they spell none, or nest too deep, and says how many tokens are left where they go wrong.
+// if they spell none, or nest too deep, and says how many tokens are left where they go wrong.
 fn definitions(
     cursor: &mut Tokens<'_>,
     alloc: Global,
@@ -75,7 +75,7 @@ fn fail_at(
     ParseFail::At(Pos { file, offset }, Mismatch { to, expected })
 }
 
-// The definitions that tokens of a text of that length spell. `At` comes exactly where they spell none.
+// The definitions that tokens of a text of that length spell. `At` comes exactly if they spell none.
 fn of_tokens(
     alloc: Global,
     file: usize,
@@ -100,7 +100,7 @@ fn of_tokens(
     }
 }
 
-/// Returns the definitions that the reader's text spells, in order (`specs/Grammar.antt`). `At` comes exactly where
+/// Returns the definitions that the reader's text spells, in order (`specs/Grammar.antt`). `At` comes exactly if
 /// none are spelt, and gives the place where the text goes wrong.
 pub fn parse(alloc: Global, lexer: Lexer<'_>) -> Result<Vec<Def>, ParseFail>
     requires untaken { IsUntaken lexer }

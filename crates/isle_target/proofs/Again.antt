@@ -74,7 +74,7 @@ result_apart kind.Plain name ts m = refl
 result_apart kind.Option name ts m = refl
 result_apart kind.Iterator name ts m = refl
 
--- a result is read again, where no < stands after it
+-- a result is read again, if no < stands after it
 result_again : (how : ReturnKind) (name : List ℕ) (ts : List Token) → at (Mark (codes "<")) ts ≡ false → read_result (result_tokens how name ++ ts) ≡ Some ((how, name), ts)
 unfolding read_result
 result_again kind.Plain name ts e = rw (second_apart (Word (codes "Option")) (Mark (codes "<")) (Word name) ts e) refl
@@ -178,7 +178,7 @@ item_again [] ts = tuple_again [] ts
 item_again (ty ∷ []) ts = refl
 item_again (ty ∷ more ∷ tys) ts = tuple_again (ty ∷ more ∷ tys) ts
 
--- a plain answer's types don't begin as an option's, where no < stands after them
+-- a plain answer's types don't begin as an option's, if no < stands after them
 plain_again : (tys : List (List ℕ)) (ts : List Token) → at (Mark (codes "<")) ts ≡ false → read_results (item_tokens tys ++ ts) ≡ Some ((kind.Plain, tys), ts)
 unfolding read_results
 plain_again [] ts e = rw (item_again [] ts) refl

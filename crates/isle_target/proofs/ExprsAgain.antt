@@ -72,7 +72,7 @@ literal_no_call : (ty : IntType) (n : ℤ) (ts : List Token) → at (Mark (codes
 literal_no_call ty (pos n) ts e = rw e refl
 literal_no_call ty (negsuc n) ts e = refl
 
--- an operand is no call of a term's function, where no ( stands after it
+-- an operand is no call of a term's function, if no ( stands after it
 operand_no_call : (o : Operand) (ts : List Token) → at (Mark (codes "(")) ts ≡ false → called_term_fn (operand_tokens o ++ ts) ≡ None
 operand_no_call (operand.Local n) ts e = rw e refl
 operand_no_call (operand.Arg n) ts e = rw e refl
@@ -98,7 +98,7 @@ length-fields : (fs : List (List ℕ × Read)) → length fs < length (field_rea
 length-fields [] = omega arith
 length-fields (f ∷ fs) = omega (arith, length-append (field_read_tokens f) (field_reads_tokens fs), length-fields fs)
 
--- the braces of a made value, where no { stands after it
+-- the braces of a made value, if no { stands after it
 made_again : (fs : List (List ℕ × Read)) (ts : List Token) → AllByRecursion IsFieldRead fs → at (Mark (codes "{")) ts ≡ false → read_made_fields (made_tokens fs ++ ts) ≡ Some (fs, ts)
 unfolding read_made_fields
 made_again [] ts h e = rw e refl
@@ -111,7 +111,7 @@ made_again (f ∷ fs) ts h e =
 abbrev called_behind : List Token → Reads Callee
 called_behind ts = called_name ts >>= (λ name. Some (callee.External name.0, name.1))
 
--- a variant is no call, where no ( stands after it
+-- a variant is no call, if no ( stands after it
 variant_no_call : (ty variant : List ℕ) (ts : List Token) → at (Mark (codes "(")) ts ≡ false → called (Word ty ∷ Mark (codes "::") ∷ Word variant ∷ ts) ≡ None
 variant_no_call ty variant ts e = one _
   where

@@ -38,7 +38,7 @@ length-binds : (bs : List TBind) (more : Bool) → length bs < length (binds_tok
 length-binds [] more = omega (arith, length-append (more_part more) (Mark (codes "}") ∷ []))
 length-binds (b ∷ bs) more = omega (arith, length-append (bind_tokens b) (binds_tokens bs more), length-binds bs more)
 
--- what stands between braces is read again, where no { stands after it
+-- what stands between braces is read again, if no { stands after it
 braced_again : (bs : List TBind) (more : Bool) (ts : List Token) → at (Mark (codes "{")) ts ≡ false → read_braced (braced_tokens bs more ++ ts) ≡ Some ((bs, more), ts)
 unfolding read_braced
 braced_again [] false ts e = rw e refl

@@ -74,7 +74,7 @@ part_again o part ts h =
     let apart = λ (w : List ℕ) (e : is_number w ≡ false). apart_by is_number w (numeral 10 part) e (numeral_number part) in
     rw (operand_again o (Mark (codes ".") ∷ Word (numeral 10 part) ∷ ts) h, apart (codes "clone") refl, apart (codes "as_ref") refl, numeral_again 10 part (omega arith) (omega arith)) refl
 
--- what is read is read again, where nothing goes on it
+-- what is read is read again, if nothing goes on it
 pub read_again : (r : Read) (ts : List Token) → IsRead r → goes_on ts ≡ false → read_read (read_tokens r ++ ts) ≡ Some (r, ts)
 unfolding read_read
 read_again (read.Plain o) ts h e = rw (operand_no_mark (codes "&") o ts refl, bare_again o ts h e) refl

@@ -68,7 +68,7 @@ tuple_again public tys ts =
     let fuel : length tys < length inside = omega (arith, length-append (places_tokens public 0 tys) ts, length-places public 0 tys) in
     rw (places_again public (length inside) 0 tys ts fuel) refl
 
--- where none are, neither { nor ( stands
+-- if none are, neither { nor ( stands
 none_again : (public : Bool) (ts : List Token) → at (Mark (codes "{")) ts ≡ false → at (Mark (codes "(")) ts ≡ false → read_fields public ts ≡ Some (shape.Unit, ts)
 unfolding read_fields
 none_again public ts e f = rw (e, f) refl

@@ -126,7 +126,7 @@ digits_number (b ∷ bs) h = (and_parts (is_digit b) _ h).0
 pub numeral_number : (n : ℕ) → is_number (numeral 10 n) ≡ true
 numeral_number n = digits_number (numeral 10 n) (numeral_is_digits n)
 
--- two words are apart where one passes a test and the other doesn't
+-- two words are apart if one passes a test and the other doesn't
 pub apart_by : (p : List ℕ → Bool) (v w : List ℕ) → p v ≡ false → p w ≡ true → same_bytes v w ≡ false
 apart_by p v w e f = one (same_bytes v w) refl
   where

@@ -55,7 +55,7 @@ called_term_fn ts = do
   term ← after_prefix (codes "constructor_") name.0
   Some (callee.Internal term, name.1)
 
--- the function that is called here, up to the ( after its name: one of the trait where :: stands after the first word, else one of a term
+-- the function that is called here, up to the ( after its name: one of the trait if :: stands after the first word, else one of a term
 abbrev pub called : List Token → Reads Callee
 called ts = if at (Mark (codes "::")) (rest ts) then called_trait_fn ts else called_term_fn ts
 
@@ -85,7 +85,7 @@ read_field_reads (suc k) ts = if at (Mark (codes "}")) ts then Some ([], rest ts
 abbrev pub read_some_fields : List Token → Reads (List (List ℕ × Read))
 read_some_fields ts = if at (Mark (codes "}")) ts then None else read_field_reads (length ts) ts
 
--- fields between braces, where these are there
+-- fields between braces, if these are there
 unfoldable pub read_made_fields : List Token → Reads (List (List ℕ × Read))
 read_made_fields ts = if at (Mark (codes "{")) ts then read_some_fields (rest ts) else Some ([], ts)
 
@@ -105,7 +105,7 @@ read_struct_made ts = do
   fields ← read_made_fields ty.1
   Some (expr.Struct ty.0 fields.0, fields.1)
 
--- a made value where :: or { stands after the first word, and else an operand with what goes on it
+-- a made value if :: or { stands after the first word, and else an operand with what goes on it
 abbrev pub read_made : List Token → Reads TExpr
 read_made ts =
     if at (Mark (codes "::")) (rest ts) then read_variant_made ts

@@ -60,7 +60,7 @@ abbrev pub is_number : List ℕ → Bool
 is_number [] = false
 is_number (b ∷ bs) = nat_le 48 b && nat_le b 57
 
--- the integer, where the type has this number
+-- the integer, if the type has this number
 abbrev pub number_at : IntType → ℤ → Option Operand
 number_at ty n = let z = signed_bits ty n in if int_eq (wrapped ty z) n then Some (operand.Int ty z) else None
 

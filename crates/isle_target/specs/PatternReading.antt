@@ -48,7 +48,7 @@ read_binds (suc k) ts =
 abbrev pub read_some_binds : List Token → Reads (List TBind × Bool)
 read_some_binds ts = if at (Mark (codes "}")) ts then None else read_binds (length ts) ts
 
--- what stands between braces, where these are there
+-- what stands between braces, if these are there
 unfoldable pub read_braced : List Token → Reads (List TBind × Bool)
 read_braced ts = if at (Mark (codes "{")) ts then read_some_binds (rest ts) else Some (([], false), ts)
 

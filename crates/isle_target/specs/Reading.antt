@@ -190,7 +190,7 @@ read_once_fn ts = do
   ts4 ← after (Mark (codes ";")) r.1
   Some (record { name = name.0; params = params.0; results = r.0.1; kind = r.0.0 }, ts4)
 
--- the function, where the list is that of its name
+-- the function, if the list is that of its name
 abbrev pub if_listed : List ℕ → TraitFn → List Token → Reads TraitFn
 if_listed list f ts = if same_bytes list (returns_word f.name) then Some (f, ts) else None
 

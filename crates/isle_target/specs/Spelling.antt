@@ -73,7 +73,7 @@ abbrev pub functions_tokens : List Function → List Token
 functions_tokens [] = []
 functions_tokens (f ∷ fs) = function_tokens f ++ functions_tokens fs
 
--- the allow lines, where the program has them
+-- the allow lines, if the program has them
 abbrev pub allow_part : Bool → List Token
 allow_part true = allow_tokens
 allow_part false = []
@@ -140,7 +140,7 @@ list_bound =
     ∷ Mark (codes ",") ∷ Word (codes "Output") ∷ Mark (codes "=")
     ∷ []
 
--- the type of the list that a function of the trait fills, where it answers several times
+-- the type of the list that a function of the trait fills, if it answers several times
 abbrev pub list_type : ReturnKind → List ℕ → List (List ℕ) → List Token
 list_type kind.Plain name tys = []
 list_type kind.Option name tys = []

@@ -63,7 +63,7 @@ read_loop body n ts = do
   ts2 ← phrase (next_part n) w.1
   read_inside body (Loop n item) ts2
 
--- a loop where . stands after the first word, and else a list
+-- a loop if . stands after the first word, and else a list
 abbrev pub read_list_or_loop : (List Token → Reads Body) → ℕ → List Token → Reads Stmt
 read_list_or_loop body n ts = if at (Mark (codes ".")) (rest ts) then read_loop body n ts else read_list n ts
 

@@ -57,7 +57,7 @@ read_tokens (read.Plain o) = operand_tokens o
 read_tokens (read.Borrow o) = Mark (codes "&") ∷ operand_tokens o
 read_tokens (read.Clone o) = operand_tokens o ++ clone_part
 
--- a &, where something is after one
+-- a &, if something is after one
 abbrev pub borrow_part : Bool → List Token
 borrow_part true = Mark (codes "&") ∷ []
 borrow_part false = []
@@ -97,7 +97,7 @@ abbrev pub field_reads_tokens : List (List ℕ × Read) → List Token
 field_reads_tokens [] = Mark (codes "}") ∷ []
 field_reads_tokens (f ∷ fs) = field_read_tokens f ++ field_reads_tokens fs
 
--- its fields between braces, where it has some
+-- its fields between braces, if it has some
 abbrev pub made_tokens : List (List ℕ × Read) → List Token
 made_tokens [] = []
 made_tokens (f ∷ fs) = Mark (codes "{") ∷ field_reads_tokens (f ∷ fs)
@@ -119,7 +119,7 @@ expr_tokens (expr.Tuple source part) = operand_tokens source ++ Mark (codes ".")
 
 -- ---- patterns
 
--- ref, where a field is bound by it
+-- ref, if a field is bound by it
 abbrev pub ref_part : Bool → List Token
 ref_part true = Word (codes "ref") ∷ []
 ref_part false = []
@@ -128,7 +128,7 @@ ref_part false = []
 abbrev pub bind_tokens : TBind → List Token
 bind_tokens b = Word b.field ∷ Mark (codes ":") ∷ (ref_part b.by_ref ++ local_token b.local ∷ Mark (codes ",") ∷ [])
 
--- .., where fields are left out
+-- .., if fields are left out
 abbrev pub more_part : Bool → List Token
 more_part true = Mark (codes "..") ∷ []
 more_part false = []
@@ -138,7 +138,7 @@ abbrev pub binds_tokens : List TBind → Bool → List Token
 binds_tokens [] more = more_part more ++ Mark (codes "}") ∷ []
 binds_tokens (b ∷ bs) more = bind_tokens b ++ binds_tokens bs more
 
--- these between braces, where there are any
+-- these between braces, if there are any
 abbrev pub braced_tokens : List TBind → Bool → List Token
 braced_tokens [] false = []
 braced_tokens [] true = Mark (codes "{") ∷ binds_tokens [] true
@@ -177,7 +177,7 @@ any_list =
     ∷ Mark (codes ",") ∷ Word (codes "_") ∷ Mark (codes ">")
     ∷ []
 
--- the type of the list that is filled: the function's own where it is one of the trait
+-- the type of the list that is filled: the function's own if it is one of the trait
 abbrev pub list_tokens : Callee → List Token
 list_tokens (callee.External name) = Word (codes "C") ∷ Mark (codes "::") ∷ Word (returns_word name) ∷ []
 list_tokens (callee.Internal term) = any_list
@@ -262,7 +262,7 @@ arm_head pat = pattern_tokens pat ++ Mark (codes "=>") ∷ Mark (codes "{") ∷ 
 abbrev pub match_end : List Token
 match_end = Word (codes "_") ∷ Mark (codes "=>") ∷ Mark (codes "{") ∷ Mark (codes "}") ∷ Mark (codes "}") ∷ []
 
--- what is said where no rule of a term that must answer matches
+-- what is said if no rule of a term that must answer matches
 unfoldable pub no_rule : List ℕ
 no_rule = codes "no rule matched for term {} at {}; should it be partial?"
 

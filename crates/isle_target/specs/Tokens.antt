@@ -3,7 +3,7 @@ use Rattle.std.specs.Prelude.{ℕ, List, [], ◌∷◌, Bool, false, Option, Som
 use Rattle.isle_printer.specs.Token.{Token, Word, Mark, Quoted, Stray, Comment}
 use Rattle.isle_printer.specs.Bytes.{same_bytes}
 
--- what follows where something is there
+-- what follows if something is there
 infixl 10 ◌>>=◌
 abbrev pub ◌>>=◌ : {A B : Type 0} → Option A → (A → Option B) → Option B
 None >>= f = None

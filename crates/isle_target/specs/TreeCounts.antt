@@ -4,7 +4,7 @@ use Rattle.isle_tree.specs.Program.{Stmt, Let, LetList, IfEq, IfLet, Match, Loop
 use Rattle.isle_tree.specs.Walk.{of_stmt, of_body, of_arms}
 use Rattle.isle_target.specs.declared.counting.TreeCounts.{TreeCounts}
 
--- the statement, where it is a test
+-- the statement, if it is a test
 abbrev pub own_tests : Stmt → List Stmt
 own_tests (Let n e) = []
 own_tests (LetList n call) = []

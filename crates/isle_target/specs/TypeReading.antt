@@ -75,7 +75,7 @@ read_tuple public ts = do
   tys ← read_places public (length ts) 0 ts
   Some (shape.Tuple tys.0, tys.1)
 
--- the fields of a variant or a struct: none where neither { nor ( stands
+-- the fields of a variant or a struct: none if neither { nor ( stands
 unfoldable pub read_fields : Bool → List Token → Reads TFields
 read_fields public ts =
     if at (Mark (codes "{")) ts then read_braced public (rest ts)
@@ -125,7 +125,7 @@ abbrev pub fits_derive : Bool → Bool → Bool
 fits_derive true plain = plain
 fits_derive false plain = not plain
 
--- the type, where the derive is that of its body
+-- the type, if the derive is that of its body
 abbrev pub derived : Bool × Bool → List ℕ × TypeBody → Option TypeItem
 derived derive item = if fits_derive (is_plain item.1) derive.0 then Some (record { name = item.0; debug = derive.1; body = item.1 }) else None
 

@@ -172,7 +172,7 @@ fn print_list(out: &mut Printer, name: &str, tys: &[Text]) -> Result<(), AllocEr
     out.mark(";")
 }
 
-// Prints this type on a line of its own, where the function answers several times.
+// Prints this type on a line of its own, if the function answers several times.
 fn print_list_type(
     out: &mut Printer,
     kind: ReturnKind,

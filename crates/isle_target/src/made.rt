@@ -39,7 +39,7 @@ fn print_field_reads(out: &mut Printer, fields: &[(Text, Read)]) -> Result<(), A
     out.mark("}")
 }
 
-// Prints the fields between braces, where there are any.
+// Prints the fields between braces, if there are any.
 fn print_made(out: &mut Printer, fields: &[(Text, Read)]) -> Result<(), AllocError>
     requires { AllByRecursion IsFieldRead fields.now }
     ensures { OnOk result (out.new ≡ out.old ++ made_tokens fields.now) }

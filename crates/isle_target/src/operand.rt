@@ -35,7 +35,7 @@ fn print_clone(out: &mut Printer) -> Result<(), AllocError>
     out.piece(".clone()")
 }
 
-/// Prints a `&`, where something is after one. What is printed after an error is left open.
+/// Prints a `&`, if something is after one. What is printed after an error is left open.
 pub fn print_borrow(out: &mut Printer, borrow: bool) -> Result<(), AllocError>
     ensures { OnOk result (out.new ≡ out.old ++ borrow_part borrow) }
 {

@@ -13,7 +13,7 @@ use isle_printer::Printer;
 use isle_tree::{TBind, TPat};
 use std::alloc::AllocError;
 
-// Prints `ref`, where a field is bound by it.
+// Prints `ref`, if a field is bound by it.
 fn print_ref(out: &mut Printer, by_ref: bool) -> Result<(), AllocError>
     ensures { OnOk result (out.new ≡ out.old ++ ref_part by_ref) }
 {
@@ -33,7 +33,7 @@ fn print_bind(out: &mut Printer, bind: &TBind) -> Result<(), AllocError>
     out.mark(",")
 }
 
-// Prints `..`, where fields are left out.
+// Prints `..`, if fields are left out.
 fn print_more(out: &mut Printer, more: bool) -> Result<(), AllocError>
     ensures { OnOk result (out.new ≡ out.old ++ more_part more) }
 {
@@ -58,7 +58,7 @@ fn print_binds(out: &mut Printer, binds: &[TBind], more: bool) -> Result<(), All
     out.mark("}")
 }
 
-// Prints the fields between braces, where there are any or some are left out.
+// Prints the fields between braces, if there are any or some are left out.
 fn print_braced(out: &mut Printer, binds: &[TBind], more: bool) -> Result<(), AllocError>
     requires { AllByRecursion IsBind binds.now }
     ensures { OnOk result (out.new ≡ out.old ++ braced_tokens binds.now more) }

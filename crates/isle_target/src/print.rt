@@ -17,7 +17,7 @@ use isle_spelling::{print_allow, print_fixed, print_uses};
 use isle_tree::Program;
 use std::alloc::{AllocError, Global};
 
-// The allow lines, where they are wanted, and the uses.
+// The allow lines, if they are wanted, and the uses.
 fn print_head(out: &mut Printer, allow: bool) -> Result<(), AllocError>
     ensures { OnOk result (out.new ≡ out.old ++ (allow_part allow ++ uses_tokens)) }
 {

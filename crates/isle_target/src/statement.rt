@@ -106,7 +106,7 @@ fn print_match_end(out: &mut Printer) -> Result<(), AllocError>
     out.mark("}")
 }
 
-// Prints what is said where no rule matches, up to the term.
+// Prints what is said if no rule matches, up to the term.
 #[tactic(auto, unfolding(crate::specs::StatementSpelling::no_rule, isle_printer::specs::Token::step, isle_printer::specs::Token::begun))]
 fn print_no_rule(out: &mut Printer) -> Result<(), AllocError>
     ensures { OnOk result

@@ -1,4 +1,4 @@
--- A pattern whose templates are replaced has all variables that it had, where each template that it uses has all its parameters.
+-- A pattern whose templates are replaced has all variables that it had, if each template that it uses has all its parameters.
 use Rattle.std.proofs.Common.{◌≡◌, ℕ, suc, List, [], ◌∷◌, Option, Some, None, refl, sym, subst, ⊎_elim}
 use Rattle.std.specs.Prelude.{Contains, slice_get}
 use Rattle.std.proofs.lemmas.List.Elements.{Contains-append_left, Contains-append_right, Contains-append_cases}

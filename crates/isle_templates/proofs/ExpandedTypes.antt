@@ -29,7 +29,7 @@ parts_in_order env (ty ∷ tys) (q ∷ qs) h = (h.0, parts_in_order env tys qs h
 parts_in_order env [] (q ∷ qs) h = absurd h
 parts_in_order env (ty ∷ tys) [] h = absurd h
 
--- patterns that have these types, where there are any
+-- patterns that have these types, if there are any
 abbrev pub AreOfTypes : Environment → Option (List TypeId) → List Pattern → Type 0
 AreOfTypes env o qs = IsSomeAnd o (λ tys. ArePatternsOf env tys qs)
 

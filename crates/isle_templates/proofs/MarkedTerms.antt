@@ -72,7 +72,7 @@ module _ (written : List (Option Pattern)) (f g : ℕ → Bool) (outside : (term
       pick (Some t) e same = same (head_contained term.0 [])
 
   mutual
-    -- a pattern uses one of either where they say the same of those that it uses
+    -- a pattern uses one of either if they say the same of those that it uses
     pub uses_alike : (p : Pattern) → ((term : TermId) → Contains (used_in written p) term.0 → f term.0 ≡ g term.0) → uses_one f p ≡ uses_one g p
     uses_alike (pattern.BindPattern ty x p) alike = uses_alike p alike
     uses_alike (pattern.Var ty x) alike = refl

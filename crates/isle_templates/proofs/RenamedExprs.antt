@@ -53,7 +53,7 @@ new_renamed order vars x known c new ty d =
     let same = one_to_one order v.0.1 x (known v.0 v.1) c (ap (λ u. u.1) v.2) in
     new v.0.0 (subst (λ n. Contains {X = TypeId × ℕ} vars (v.0.0, n)) same v.1)
 
--- a call keeps its type where its arguments do
+-- a call keeps its type if its arguments do
 pub call_kept : (env : Environment) (allowed : Allowed) (vars others : List (TypeId × ℕ)) (ty : TypeId) (es fs : Exprs) (o : Option Term) → ((t : Term) → AreExprsOf env allowed vars t.arg_tys es → AreExprsOf env allowed others t.arg_tys fs)
     → IsSomeAnd o (λ (c : Term). IsTermKind env allowed c c.kind × (c.ret_ty ≡ ty) × AreExprsOf env allowed vars c.arg_tys es) → IsSomeAnd o (λ (c : Term). IsTermKind env allowed c c.kind × (c.ret_ty ≡ ty) × AreExprsOf env allowed others c.arg_tys fs)
 call_kept env allowed vars others ty es fs (Some t) kept h = (h.0, h.1, kept t h.2)

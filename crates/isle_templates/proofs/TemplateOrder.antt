@@ -42,7 +42,7 @@ module _ (written a b : List (Option Pattern)) (outside : (term : TermId) → te
       pick (Some t) e same = same (head_contained term.0 [])
 
   mutual
-    -- a pattern is the same where the templates that it uses are
+    -- a pattern is the same if the templates that it uses are
     pub expanded_alike : (p : Pattern) → ((term : TermId) → Contains (used_in written p) term.0 → template_of a term ≡ template_of b term) → expanded a p ≡ expanded b p
     expanded_alike (pattern.BindPattern ty x p) alike = ap (pattern.BindPattern ty x) (expanded_alike p alike)
     expanded_alike (pattern.Var ty x) alike = refl

@@ -31,7 +31,7 @@ term_within : (templates : List (Option Pattern)) (term : TermId) (template : Pa
 term_within templates term template e = option_and_then_some (λ (t : Option Pattern). t) (slice_get templates term.0) template e (λ o there same. slice_get_within templates term.0 o there)
 
 module _ (env : Environment) (written : List (Option Pattern)) (sound : AreWrittenTemplates env written) where
-  -- a template is complete where those that it uses are
+  -- a template is complete if those that it uses are
   one_deeper : (depth : ℕ) (term : TermId) → ((other : TermId) → walks (uses written) depth other.0 ≡ false → IsComplete env (templates_at written depth) other) → walks (uses written) (suc depth) term.0 ≡ false
       → IsComplete env (templates_at written (suc depth)) term
   one_deeper depth term below ends t template there e = pick (template_of written term) refl

@@ -78,7 +78,7 @@ module _ (env : Environment) (written : List (Option Pattern)) (sound : AreWritt
   written_at zero ty p h = written_changed env blank written ty p h
   written_at (suc depth) ty p h = written_changed env (expanded (templates_at written depth)) written ty p h
 
-  -- a changed template is one of its term, where the change makes one of each
+  -- a changed template is one of its term, if the change makes one of each
   changed_sound : (f : Pattern → Pattern) → ((t : Term) (template : Pattern) (term : TermId) → slice_get env.terms term.0 ≡ Some t → template_of written term ≡ Some template → IsTemplateOf env t (f template)) → AreTemplates env (map (option_map f) written)
   changed_sound f each term t template there e = pick (template_of written term) refl
     where

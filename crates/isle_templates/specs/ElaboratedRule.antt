@@ -1,4 +1,4 @@
--- Elaborated rules, where they have few enough nodes.
+-- Elaborated rules, if they have few enough nodes.
 use Rattle.std.specs.Prelude.{◌≡◌, ◌<◌, ◌≤◌, List, Option, Some, None}
 use Rattle.isle_core.specs.declared.rules.Rule.{Rule as CodeRule}
 use Rattle.isle_core.specs.Pattern.{Pattern}

@@ -5,7 +5,7 @@ use Rattle.isle_core.specs.Pattern as pattern
 use Rattle.isle_core.specs.Pattern.{Pattern, Patterns, NoPattern, APattern}
 use Rattle.isle_templates.specs.Substituted.{template_of}
 
--- the mark of a number; where there is none, it has no mark
+-- the mark of a number; if there is none, it has no mark
 abbrev pub marked : List Bool → ℕ → Bool
 marked marks n = unwrap_or (slice_get marks n) false
 
@@ -36,7 +36,7 @@ abbrev pub multi_at : List (Option Pattern) → (declared : List Bool) → (dept
 multi_at templates declared zero n = multi_by (marked declared n) (λ (m : ℕ). false) (template_of templates (record { 0 = n }))
 multi_at templates declared (suc depth) n = multi_by (marked declared n) (multi_at templates declared depth) (template_of templates (record { 0 = n }))
 
--- where no template reaches itself, none lies deeper than there are terms
+-- if no template reaches itself, none lies deeper than there are terms
 abbrev pub is_multi : List (Option Pattern) → (declared : List Bool) → ℕ → Bool
 is_multi templates declared n = multi_at templates declared (length templates) n
 

@@ -9,6 +9,6 @@ abbrev pub times_in : List ℕ → ℕ → ℕ
 times_in [] x = 0
 times_in (y ∷ ys) x = if y == x then suc (times_in ys x) else times_in ys x
 
--- the map has for each number how often it stands among these, and nothing where that is never
+-- the map has for each number how often it stands among these, and nothing if that is never
 pub record CountsTimes (all : List ℕ) (times : BTreeMap ℕ ℕ) : Type 0 where
   pub counts : (x : ℕ) → unwrap_or (get nat_cmp times x) 0 ≡ times_in all x

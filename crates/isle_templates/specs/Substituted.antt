@@ -8,7 +8,7 @@ use Rattle.isle_core.specs.Pattern.{Pattern, Patterns, NoPattern, APattern}
 use Rattle.isle_core.specs.RightSide.{bool_type}
 use Rattle.isle_core.specs.RuleViews.{patterns_of}
 
--- a pattern, or another where there is none
+-- a pattern, or another if there is none
 abbrev pub pattern_or : Pattern → Option Pattern → Pattern
 pattern_or other None = other
 pattern_or other (Some p) = p
@@ -34,7 +34,7 @@ abbrev mutual
   all_substituted args NoPattern = NoPattern
   all_substituted args (APattern p ps) = APattern (substituted args p) (all_substituted args ps)
 
--- the template of a term, where it has one
+-- the template of a term, if it has one
 abbrev pub template_of : List (Option Pattern) → TermId → Option Pattern
 template_of templates term = option_and_then (λ (t : Option Pattern). t) (slice_get templates term.0)
 
@@ -80,6 +80,6 @@ abbrev pub templates_at : List (Option Pattern) → ℕ → List (Option Pattern
 templates_at written zero = map (option_map blank) written
 templates_at written (suc depth) = map (option_map (expanded (templates_at written depth))) written
 
--- templates that use no other: where none reaches itself, none lies deeper than there are terms, so no `_` stands for one
+-- templates that use no other: if none reaches itself, none lies deeper than there are terms, so no `_` stands for one
 abbrev pub whole_templates : List (Option Pattern) → List (Option Pattern)
 whole_templates written = templates_at written (length written)

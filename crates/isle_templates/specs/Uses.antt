@@ -27,7 +27,7 @@ abbrev mutual
   all_used_in templates NoPattern = []
   all_used_in templates (APattern p ps) = used_in templates p ++ all_used_in templates ps
 
--- those of a template, where there is one
+-- those of a template, if there is one
 abbrev pub used_by : List (Option Pattern) → Option Pattern → List ℕ
 used_by templates None = []
 used_by templates (Some template) = used_in templates template

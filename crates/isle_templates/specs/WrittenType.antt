@@ -15,7 +15,7 @@ use Rattle.isle_core.specs.TypedVariables.{typed_variables}
 use Rattle.isle_core.specs.Value.{Truth}
 use Rattle.isle_templates.specs.Substituted.{template_of}
 
--- a term that takes values of the type apart, by its template where it has one
+-- a term that takes values of the type apart, by its template if it has one
 abbrev pub Opens : Environment → Option Pattern → TypeId → TermId → Type 0
 Opens env None ty term = OpensType ty (making env term) (slice_get env.terms term.0)
 Opens env (Some template) ty term = IsSomeAnd (slice_get env.terms term.0) (λ (x : Term). x.ret_ty ≡ ty)

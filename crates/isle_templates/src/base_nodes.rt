@@ -7,7 +7,7 @@ ghost use Rattle.isle_templates.specs.Substituted.{substituted, all_substituted}
 
 use isle_core::Pattern;
 
-/// Returns how many nodes a template has where each parameter is one.
+/// Returns how many nodes a template has if each parameter is one.
 #[cycle(counting)]
 #[tactic(auto, using(isle_core::proofs::SeesRules::sees))]
 pub fn base_nodes(template: &Pattern) -> usize

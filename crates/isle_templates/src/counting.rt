@@ -56,7 +56,7 @@ pub fn term_of(ty: TypeId, term: TermId, parts: Option<Parts>) -> Option<Counted
     })
 }
 
-/// Makes the pattern that matches where each of these parts does.
+/// Makes the pattern that matches if each of these parts does.
 #[tactic(auto, using(isle_core::proofs::SeesRules::sees))]
 pub fn and_of(ty: TypeId, parts: Option<Parts>) -> Option<Counted>
     ensures { (ps : List Tree) → AreCounted 1 ps parts

@@ -17,7 +17,7 @@ use crate::template::{Template, Whole};
 use isle_core::{Pattern, TermId, TypeId};
 use std::alloc::{AllocError, Global};
 
-/// A pattern with templates in place of terms, and its nodes; `None` where they are more than a rule may have. The only
+/// A pattern with templates in place of terms, and its nodes; `None` if they are more than a rule may have. The only
 /// error is want of memory.
 #[cycle(expanding)]
 #[tactic(auto, using(isle_core::proofs::SeesRules::sees, crate::proofs::ExpansionSteps::parts_each))]

@@ -51,7 +51,7 @@ fn rule_expanded(
 }
 
 /// Replaces the templates that a rule uses, and numbers its variables as they stand first (`specs/Elaborated.antt`);
-/// `None` where there are more nodes than a rule may have. The only error is want of memory.
+/// `None` if there are more nodes than a rule may have. The only error is want of memory.
 pub fn elaborated(
     alloc: Global,
     templates: &Templates,

@@ -10,7 +10,7 @@ use crate::copies::copied;
 use isle_core::{List, Pattern, TypeId, VarId};
 use std::alloc::{AllocError, Global};
 
-// A copy of what stands for a parameter, whose number is its place; where nothing does, the parameter itself.
+// A copy of what stands for a parameter, whose number is its place; if nothing does, the parameter itself.
 #[tactic(auto, using(isle_core::proofs::SeesRules::sees))]
 fn argument(
     alloc: Global,

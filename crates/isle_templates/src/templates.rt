@@ -96,7 +96,7 @@ fn filled(
     Ok(table)
 }
 
-/// Replaces the templates that templates use; `None` where one uses itself, through others or not. The only error is
+/// Replaces the templates that templates use; `None` if one uses itself, through others or not. The only error is
 /// want of memory.
 pub fn whole_templates(
     alloc: Global,
@@ -121,7 +121,7 @@ impl Templates {
         self.table.as_slice()
     }
 
-    /// Replaces the templates that a pattern uses; `None` where there are more nodes than a rule may have. The only
+    /// Replaces the templates that a pattern uses; `None` if there are more nodes than a rule may have. The only
     /// error is want of memory.
     pub fn expanded(&self, alloc: Global, p: &Pattern) -> Result<Option<Pattern>, AllocError>
         ensures { IfOk result (λ found.

@@ -36,7 +36,7 @@ use Rattle.isle_terms.proofs.MadeTerms.{first_there}
 
 -- ---- heads
 
--- a head whose term is declared is wrong where the term has an external constructor
+-- a head whose term is declared is wrong if the term has an external constructor
 pub headed : (all : List Def) (term : List ℕ) (s : Signature) (o : Option ℕ) (given : Bool) → signature_named (signatures all) term ≡ Some s → o ≡ index_of (extern_terms (externs all)) term → is_some o ≡ given
     → not (is_some (signature_named (signatures all) term)) || is_some (func_named (externs all) term) ≡ given
 headed all term s o given declared at is =

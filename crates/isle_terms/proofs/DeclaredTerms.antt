@@ -28,7 +28,7 @@ declared_at defs given name number place (Some s) are numbered at is held =
     let own : index_of (symbols defs) s.now.term.now ≡ Some s.now.number = number_at (λ (x : CodeSignature). x.term.now) (λ (x : CodeSignature). x.number) (symbols defs) given place s.now are.numbered stands in
     (named, ap (index_of (symbols defs)) (sym (named_is (signatures defs) name (signature s.now) named)) ∙ own)
 
--- where something is found of a term, it is declared
+-- if something is found of a term, it is declared
 pub found_declared : (defs : List Def) (name : List ℕ) (found : Option (Bor CodeSignature)) → is_some found ≡ true → IsDeclared defs name found → is_some (signature_named (signatures defs) name) ≡ true
 found_declared defs name None some h = absurd cc
 found_declared defs name (Some s) some h = ap is_some h.0

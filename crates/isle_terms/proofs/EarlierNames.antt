@@ -21,7 +21,7 @@ later false None (Some m) k h = h
 later false (Some n) None k h = h ∙ sym (less n k)
 later false (Some n) (Some m) k h = h ∙ sym (less n k)
 
--- a name is among the first so many where its first place is before them
+-- a name is among the first so many if its first place is before them
 pub earlier : (names : List (List ℕ)) (name : List ℕ) (k : ℕ) → is_some (index_of (take k names) name) ≡ on (index_of names name) (λ (n : ℕ). nat_lt n k)
 earlier [] name zero = refl
 earlier [] name (suc k) = refl

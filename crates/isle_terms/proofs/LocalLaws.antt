@@ -152,7 +152,7 @@ found_outer xs ys name r q h none k = k ∙ by (local_named ys name) (sym none �
     by None e = refl
     by (Some l) e = absurd cc
 
--- those in scope stay where those of patterns and those of `let`s do
+-- those in scope stay if those of patterns and those of `let`s do
 pub kept_locals : (old new : Bound) → new.patterns ≡ old.patterns → new.lets ≡ old.lets → locals_of new ≡ locals_of old
 kept_locals old new p l = ap (λ (s : Scope). of_patterns s ++ new.lets) p ∙ ap (λ (ls : List Local). of_patterns old.patterns ++ ls) l
 

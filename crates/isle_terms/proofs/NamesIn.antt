@@ -31,7 +31,7 @@ or_assoc : (a b c : Bool) → a || (b || c) ≡ (a || b) || c
 or_assoc true b c = refl
 or_assoc false b c = refl
 
--- a name is among names with one more where it is among them, or is that one
+-- a name is among names with one more if it is among them, or is that one
 in_added : (names : List (List ℕ)) (new name : List ℕ) → is_some (index_of (added names new) name) ≡ is_some (index_of names name) || bytes_eq new name
 in_added names new name = by (is_some (index_of names new)) refl
   where

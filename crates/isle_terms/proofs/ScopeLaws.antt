@@ -44,7 +44,7 @@ none_found : (o : Option Local) → local_type o ≡ None → o ≡ None
 none_found None h = refl
 none_found (Some l) h = absurd cc
 
--- the scope stays where it is bound
+-- the scope stays if it is bound
 pub met_again : (scope : Scope) (name : List ℕ) (ty of : Option TypeId) → bound_at scope name ≡ Some of → met scope name ty ≡ scope
 met_again scope name ty of h = by (found_in scope.variables name) h
   where
@@ -126,6 +126,6 @@ met_numbered scope name ty h = by (found_in scope.variables name)
     by (Some l) = h
     by None = record { below = below; once = once }
 
--- so where numbers are left out
+-- so if numbers are left out
 pub behind_numbered : (scope : Scope) (next : ℕ) → IsNumbered scope → IsNumbered (behind scope next)
 behind_numbered scope next h = record { below = λ l c. let lt = h.below l c in omega (arith, lt); once = h.once }

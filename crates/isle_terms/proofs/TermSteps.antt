@@ -37,7 +37,7 @@ no_func : (number : List ℕ → ℕ) (o : Option (List ℕ)) → None ≡ optio
 no_func number None h = refl
 no_func number (Some func) h = absurd cc
 
--- a term without an external constructor comes from its rules, where it has some
+-- a term without an external constructor comes from its rules, if it has some
 pub inside : (w : Whole) (name : List ℕ) (rule : Option ℕ) (ruled : Bool) → None ≡ option_map (λ (func : List ℕ). number_or (index_of w.types.syms func)) (func_named (externs w.defs) name) → rule ≡ index_of (heads_of (rule_defs w.defs)) name → is_some rule ≡ ruled
     → constructor_of w.types.syms None ruled ≡ constructor_named w name
 inside w name rule ruled none at is =

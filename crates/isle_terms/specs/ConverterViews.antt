@@ -38,11 +38,11 @@ IsNumberOf defs (Some c) None = ⊥
 pub record AreFound (defs : List Def) (cs : List Conversion) (found : Converters) : Type 0 where
   pub finds : (from to : TypeId) → IsNumberOf defs (converter_between defs cs from to) (at_types found.numbers from to)
 
--- a converter that follows these, where it is right and its term is there
+-- a converter that follows these, if it is right and its term is there
 abbrev pub taken_converter : Whole → List Conversion → Conversion → Option (TypeId × TypeId × TermId)
 taken_converter w before c = if is_misconverting w.defs before c then None else converter_pass w c
 
--- those that follow these, where all are
+-- those that follow these, if all are
 abbrev pub taken_converters : Whole → (before : List Conversion) → List Conversion → Option (List (TypeId × TypeId × TermId))
 taken_converters w before [] = Some []
 taken_converters w before (c ∷ cs) = tree_before (taken_converter w before c) (taken_converters w (before ++ c ∷ []) cs)

@@ -35,7 +35,7 @@ converters = filter_map converter_of
 
 -- ---- their types
 
--- the types that it stands between, where both are declared
+-- the types that it stands between, if both are declared
 abbrev pub types_of : List Def → Conversion → Option (TypeId × TypeId)
 types_of defs c = option_and_then (λ (from : TypeId). option_map (λ (to : TypeId). (from, to)) (type_named defs c.to)) (type_named defs c.from)
 
@@ -68,13 +68,13 @@ abbrev pub repeats_after : List Def → List Conversion → Option (TypeId × Ty
 repeats_after defs before None = true
 repeats_after defs before (Some found) = is_some (converter_between defs before found.0 found.1)
 
--- so, or its term does not fit it, where it is declared
+-- so, or its term does not fit it, if it is declared
 abbrev pub is_misfit : List Def → List Conversion → Conversion → Bool
 is_misfit defs before c = repeats_after defs before (types_of defs c) || on (signature_named (signatures defs) c.term) (λ (s : Signature). not (fits c s))
 
 -- ---- where one is inserted
 
--- the term of the converter that makes what is expected of another type, where there is one
+-- the term of the converter that makes what is expected of another type, if there is one
 abbrev pub conversion : Whole → (of expected : Option TypeId) → Option Signature
 conversion w None expected = None
 conversion w (Some of) None = None
@@ -88,7 +88,7 @@ within (Some s) of expected = of
 
 -- ---- the environment's converters
 
--- its types and its term, where all are declared
+-- its types and its term, if all are declared
 abbrev pub converter_pass : Whole → Conversion → Option (TypeId × TypeId × TermId)
 converter_pass w c = option_and_then (λ (found : TypeId × TypeId). option_map (λ (term : TermId). (found.0, found.1, term)) (term_named (terms w.defs) c.term)) (types_of w.defs c)
 

@@ -23,12 +23,12 @@ is_bool_def (Primitive name rust pos) = false
 is_bool_def (Enum name is_extern is_nodebug variants pos) = false
 is_bool_def (Struct name is_extern is_nodebug fields pos) = false
 
--- an integer may stand where this is expected: where nothing is, it may not
+-- an integer may stand where this is expected: if nothing is, it may not
 abbrev pub takes_integers : TypeEnv → Option TypeId → Bool
 takes_integers types None = false
 takes_integers types (Some ty) = option_map_or is_integer_def (slice_get types.types ty.0) false
 
--- `true` and `false` may stand where this is expected: where nothing is, they may
+-- `true` and `false` may stand where this is expected: if nothing is, they may
 abbrev pub takes_truths : TypeEnv → Option TypeId → Bool
 takes_truths types None = true
 takes_truths types (Some ty) = option_map_or is_bool_def (slice_get types.types ty.0) false

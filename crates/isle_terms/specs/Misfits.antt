@@ -72,7 +72,7 @@ misdeclared_row all is_both args ret =
     else if is_both then Some row.MultiAndPartial
     else None
 
--- one more, where there is something
+-- one more, if there is something
 abbrev pub one_more : {X : Type 0} → Option X → ℕ → ℕ
 one_more None n = n
 one_more (Some x) n = n + 1

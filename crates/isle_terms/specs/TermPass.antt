@@ -1,4 +1,4 @@
--- The terms that definitions give, where all of their types are declared.
+-- The terms that definitions give, if all of their types are declared.
 use Rattle.std.specs.Prelude.{ℕ, List, [], ◌∷◌, Bool, true, false, Option, Some, None, option_map, option_and_then}
 use Rattle.isle_core.specs.declared.TypeId.{TypeId}
 use Rattle.isle_core.specs.declared.types.Term.{Term}
@@ -16,17 +16,17 @@ use Rattle.isle_declarations.specs.Signatures.{Signature, Extracting, ByFunction
 use Rattle.isle_terms.specs.TypeNames.{type_named}
 use Rattle.isle_terms.specs.Whole.{Whole}
 
--- a thing before others, where all are there
+-- a thing before others, if all are there
 abbrev pub tree_before : {X : Type 0} → Option X → Option (List X) → Option (List X)
 tree_before None xs = None
 tree_before (Some x) xs = option_map (λ (others : List _). x ∷ others) xs
 
--- the types of names, where all are declared
+-- the types of names, if all are declared
 abbrev pub types_named : List Def → List (List ℕ) → Option (List TypeId)
 types_named defs [] = Some []
 types_named defs (name ∷ names) = tree_before (type_named defs name) (types_named defs names)
 
--- a term comes from its external constructor, or else from its rules, where it has some
+-- a term comes from its external constructor, or else from its rules, if it has some
 abbrev pub constructor_of : List (List ℕ) → Option (List ℕ) → Bool → ConstructorKind
 constructor_of syms (Some func) has_rule = constructor.External (sym_of syms func)
 constructor_of syms None true = constructor.Internal
@@ -41,7 +41,7 @@ abbrev pub extractor_by : List (List ℕ) → Extracting → ExtractorKind
 extractor_by syms (ByFunction func infallible) = extractor.External (sym_of syms func) infallible
 extractor_by syms (ByTemplate template) = extractor.Internal
 
--- so where it has one
+-- so if it has one
 abbrev pub extractor_from : List (List ℕ) → Option ExtractorDef → ExtractorKind
 extractor_from syms None = extractor.Absent
 extractor_from syms (Some x) = extractor_by syms x.by
@@ -66,7 +66,7 @@ term_from w s args ret = record {
   kind = kind_from w s ret s.origin;
 }
 
--- the term, where its types are declared
+-- the term, if its types are declared
 abbrev pub term_pass : Whole → Signature → Option Term
 term_pass w s = option_and_then (λ (args : List TypeId). option_map (term_from w s args) (type_named w.defs s.ret)) (types_named w.defs s.args)
 

@@ -6,6 +6,6 @@ use Rattle.isle_ast.specs.Tree.{Def}
 use Rattle.isle_types.specs.Builtins.{type_id}
 use Rattle.isle_types.specs.TypeNames.{type_names}
 
--- the type of a name, where it is declared
+-- the type of a name, if it is declared
 abbrev pub type_named : List Def → List ℕ → Option TypeId
 type_named defs name = option_map type_id (index_of (type_names defs) name)

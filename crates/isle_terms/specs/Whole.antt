@@ -49,7 +49,7 @@ ret_type w (Some s) = type_named w.defs s.ret
 abbrev pub number_of : Whole → Option Signature → Option TermId
 number_of w s = option_and_then (λ (d : Signature). term_named (terms w.defs) d.term) s
 
--- the type of a constant, where it is declared
+-- the type of a constant, if it is declared
 abbrev pub constant_type : Whole → List ℕ → Option TypeId
 constant_type w name = option_map (λ (c : Sym × TypeId). c.1) (option_and_then (slice_get w.types.consts) (index_of (map (λ (c : Constant). c.name) (constants w.defs)) name))
 

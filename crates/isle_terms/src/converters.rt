@@ -52,7 +52,7 @@ fn fits(given: Conversion, signature: &Signature) -> bool
     }
 }
 
-// The types that a converter stands between, where both are declared.
+// The types that a converter stands between, if both are declared.
 fn types_of(before: &Before, given: Conversion) -> Option<(TypeId, TypeId)>
     ensures { (defs : List PureDef) → IsBefore defs before.now
         → result ≡ types_of defs (seen given.entry) }
@@ -82,7 +82,7 @@ impl Converters {
         self.numbers.get(&(from.index(), to.index())).copied()
     }
 
-    /// Returns what is known of a converter that follows these: nothing where it is wrong.
+    /// Returns what is known of a converter that follows these: nothing if it is wrong.
     pub(crate) fn known(
         &self,
         declarations: &Declarations,

@@ -51,7 +51,7 @@ pub struct Culprit<'d> {
     pub part: Part<'d>,
 }
 
-/// A row that is broken, and the part that breaks it, where it is not the whole extractor or rule.
+/// A row that is broken, and the part that breaks it, if it is not the whole extractor or rule.
 #[derive(Clone, Copy)]
 pub struct Breach<'d> {
     pub row: Row,

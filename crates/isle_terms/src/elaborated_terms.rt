@@ -15,7 +15,7 @@ use isle_declarations::{Declarations, KnownExtractor, Origin, TermDef, Terms};
 use isle_types::Before;
 use std::alloc::{AllocError, Global};
 
-// A term comes from its external constructor, or else from its rules, where it has some.
+// A term comes from its external constructor, or else from its rules, if it has some.
 fn constructor_of(declarations: &Declarations, number: usize) -> ConstructorKind
     ensures { (name : List ℕ) → index_of (symbols (defs declarations.now)) name ≡ Some number
         → result ≡ constructor_named (whole declarations.now) name }
@@ -32,7 +32,7 @@ fn constructor_of(declarations: &Declarations, number: usize) -> ConstructorKind
     }
 }
 
-// A term is taken apart by its extractor, where it has one.
+// A term is taken apart by its extractor, if it has one.
 fn extractor_of(declarations: &Declarations, number: usize) -> ExtractorKind
     ensures { (name : List ℕ) → index_of (symbols (defs declarations.now)) name ≡ Some number
         → result ≡ extracting_named (whole declarations.now) name }
@@ -47,7 +47,7 @@ fn extractor_of(declarations: &Declarations, number: usize) -> ExtractorKind
     }
 }
 
-// What a term is that gives this type, where its name has this number.
+// What a term is that gives this type, if its name has this number.
 fn kind_of(declarations: &Declarations, number: usize, given: &TermDef, ret: TypeId) -> TermKind
     requires { index_of (symbols (defs declarations.now)) given.now.term.now ≡ Some number }
     ensures { result ≡ kind_from (whole declarations.now) (seen given.now) ret given.now.origin }
@@ -69,7 +69,7 @@ fn kind_of(declarations: &Declarations, number: usize, given: &TermDef, ret: Typ
     }
 }
 
-// The term, where its types are declared.
+// The term, if its types are declared.
 fn term_of(
     alloc: Global,
     declarations: &Declarations,

@@ -5,7 +5,7 @@ ghost use Rattle.isle_terms.specs.Expected.{takes_integers, takes_truths};
 
 use isle_core::{BuiltinType, TypeDef, TypeEnv, TypeId};
 
-/// Tells whether an integer may stand where this type is expected: where none is, it may not.
+/// Tells whether an integer may stand where this type is expected: if none is, it may not.
 pub fn takes_integers(types: &TypeEnv, expected: Option<TypeId>) -> bool
     ensures { result ≡ takes_integers types.now expected }
 {
@@ -21,7 +21,7 @@ pub fn takes_integers(types: &TypeEnv, expected: Option<TypeId>) -> bool
     }
 }
 
-/// Tells whether `true` and `false` may stand where this type is expected: where none is, they may.
+/// Tells whether `true` and `false` may stand where this type is expected: if none is, they may.
 pub fn takes_truths(types: &TypeEnv, expected: Option<TypeId>) -> bool
     ensures { result ≡ takes_truths types.now expected }
 {

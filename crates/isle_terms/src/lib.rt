@@ -1,7 +1,7 @@
 //! The terms and converters that definitions declare, with types in them, and what may be wrong with their
 //! declarations; and what may stand where a type is expected.
 //! The variables of rules: those that patterns bind, and those of `let`s.
-//! Parts of rules and of templates that are wrong, and how they are told.
+//! Parts of rules and of templates that are wrong, and how they are reported.
 #![tactic(auto)]
 
 mod converters;

@@ -10,7 +10,7 @@ use isle_scope::Scope;
 use std::alloc::{AllocError, Global};
 use std::marker::Model;
 
-/// A variable of a `let`: its type, where it is declared, and its number.
+/// A variable of a `let`: its type, if it is declared, and its number.
 #[derive(Drop)]
 pub struct LetVariable<'d> {
     pub name: &'d Text,
@@ -39,7 +39,8 @@ impl<'v, 'd> Model for Locals<'v, 'd> {
 
     ghost coded = { coded_bound };
 
-    ghost view = { λ v. record { patterns = v.patterns.now; lets = map local v.lets.items; next = v.next } };
+    ghost view = { λ v.
+        record { patterns = v.patterns.now; lets = map local v.lets.items; next = v.next } };
 
     ghost invariant = { λ v. AreNumbered v.names (map name_of v.lets.items) v.scope };
 }
@@ -58,7 +59,7 @@ impl<'v, 'd> Locals<'v, 'd> {
         }
     }
 
-    // The variable of a `let` of this name, where it is in scope.
+    // The variable of a `let` of this name, if it is in scope.
     fn of_let(&self, name: &Text) -> Option<(Option<TypeId>, usize)>
         ensures { result ≡ option_map (λ l. (l.ty, l.number)) (local_named self.now.lets name.now) }
     {
@@ -67,7 +68,7 @@ impl<'v, 'd> Locals<'v, 'd> {
         Some((found.ty, found.number))
     }
 
-    /// Returns the type that a variable was bound at and its number, where it is in scope.
+    /// Returns the type that a variable was bound at and its number, if it is in scope.
     pub fn find(&self, name: &Text) -> Option<(Option<TypeId>, usize)>
         ensures { result
             ≡ option_map (λ l. (l.ty, l.number)) (local_named (locals_of self.now) name.now) }

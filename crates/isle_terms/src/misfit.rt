@@ -1,4 +1,4 @@
-//! What is wrong with a declaration, with what names a term, with a converter or with a head, and how it is told.
+//! What is wrong with a declaration, with what names a term, with a converter or with a head, and how it is reported.
 
 ghost use Rattle.std.specs.Prelude.{◌≡◌};
 ghost use Rattle.isle_terms.specs.Misfits.{misfit_row};
@@ -55,7 +55,7 @@ impl<'d> Misfit<'d> {
         }
     }
 
-    /// Tells it in words, for the user: no clause speaks of them.
+    /// Reports it in words, for the user: no clause speaks of them.
     pub fn words(&self, alloc: Global) -> Result<Text, OutOfMemory> {
         match self {
             Misfit::ParameterCount(term, params, args) => counts(alloc, term, *params, *args),

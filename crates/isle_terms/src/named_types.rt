@@ -13,7 +13,7 @@ use isle_declarations::ArgTypes;
 use isle_types::Before;
 use std::alloc::{AllocError, Global};
 
-/// Returns the type of a name, where it is declared.
+/// Returns the type of a name, if it is declared.
 pub fn type_named(before: &Before, name: &Text) -> Option<TypeId>
     ensures { (defs : List Def) → IsBefore defs before.now → result ≡ type_named defs name.now }
 {
@@ -49,7 +49,7 @@ pub fn missing_type<'d>(before: &Before, names: &'d [Text]) -> Option<&'d Text>
     None
 }
 
-// The types of names, where all are declared.
+// The types of names, if all are declared.
 fn plain_types(
     alloc: Global,
     before: &Before,
@@ -69,7 +69,7 @@ fn plain_types(
     Ok(Some(types))
 }
 
-// The types of fields, where all are declared.
+// The types of fields, if all are declared.
 fn field_types(
     alloc: Global,
     before: &Before,
@@ -90,7 +90,7 @@ fn field_types(
     Ok(Some(types))
 }
 
-/// Returns the types of a term's arguments, where all are declared.
+/// Returns the types of a term's arguments, if all are declared.
 pub fn types_of(
     alloc: Global,
     before: &Before,

@@ -31,7 +31,7 @@ fn is_before(place: Option<usize>, count: usize) -> bool
 }
 
 impl<'k, 'd> Names<'k, 'd> {
-    /// Returns the declaration of a term, where it is declared.
+    /// Returns the declaration of a term, if it is declared.
     pub fn declared(&self, term: &Text) -> Option<&'k Signature<'d>>
         ensures { IsDeclared (seen self.now.declarations.now) term.now result }
     {

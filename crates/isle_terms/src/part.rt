@@ -1,4 +1,4 @@
-//! The parts of rules and of templates, as they are told.
+//! The parts of rules and of templates, as they are reported.
 
 use isle_core::{Text, TypeId};
 
@@ -25,7 +25,7 @@ pub struct Counts {
     pub wanted: usize,
 }
 
-/// A part with the type that is expected where it stands and its own, where they are known, and the counts of a term
+/// A part with the type that is expected where it stands and its own, if they are known, and the counts of a term
 /// that is there.
 #[derive(Clone, Copy)]
 pub struct Part<'d> {

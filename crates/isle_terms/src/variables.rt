@@ -15,7 +15,7 @@ pub fn is_blank(name: &Text) -> bool
     name.as_str() == "_"
 }
 
-/// Variables, each once, with the types that they are bound at, where those are known, and their numbers, and the next
+/// Variables, each once, with the types that they are bound at, if those are known, and their numbers, and the next
 /// number that is free. Contracts see them in order.
 #[derive(Drop)]
 pub struct Variables<'d> {
@@ -57,7 +57,7 @@ impl<'d> Variables<'d> {
         self.next
     }
 
-    /// Returns the type that a variable is bound at and its number, where it is bound.
+    /// Returns the type that a variable is bound at and its number, if it is bound.
     pub fn find(&self, name: &Text) -> Option<(Option<TypeId>, usize)>
         ensures { result
             ≡ option_map (λ l. (l.ty, l.number)) (found_in self.now.variables name.now) }
@@ -67,7 +67,7 @@ impl<'d> Variables<'d> {
         Some(*found)
     }
 
-    /// Returns the type and the number of a variable, where it is bound at a type that is known.
+    /// Returns the type and the number of a variable, if it is bound at a type that is known.
     pub fn typed(&self, name: &Text) -> Option<(TypeId, VarId)>
         ensures { result ≡ variable self.now name.now }
     {
@@ -77,8 +77,8 @@ impl<'d> Variables<'d> {
         }
     }
 
-    /// Meets a variable of a pattern, which is bound at this type where it is met first, with the next number; returns
-    /// the type that it was bound at before, where it was. Errors are want of memory or of numbers.
+    /// Meets a variable of a pattern, which is bound at this type if it is met first, with the next number; returns
+    /// the type that it was bound at before, if it was. Errors are want of memory or of numbers.
     pub fn meet(
         &mut self,
         name: &'d Text,

@@ -24,7 +24,7 @@ use Rattle.isle_tree.specs.Caller.{Called, Answered, Ended, Unanswered, Caller, 
 use Rattle.isle_tree.specs.Program.{Stmt, Let, LetList, IfEq, IfLet, Match, Loop, Return, Extend, Overflow, Log, Split, Tail, Body, Done, Then, Arms, NoArm, Arm, Function, Program}
 
 -- what a function runs in: who answers its calls, what constants stand for, the program, the function itself, its arguments, and how many
--- results there is room for, where that is limited
+-- results there is room for, if that is limited
 pub record Around : Type 0 where
   pub caller : Caller
   pub meaning : Meaning
@@ -92,12 +92,12 @@ read_value w env (read.Plain o) = value_of w env o
 read_value w env (read.Borrow o) = value_of w env o
 read_value w env (read.Clone o) = value_of w env o
 
--- the values that are read, where all are
+-- the values that are read, if all are
 abbrev pub read_values : Around → Env → List Read → Option (List Value)
 read_values w env [] = Some []
 read_values w env (r ∷ rs) = value_before (read_value w env r) (read_values w env rs)
 
--- a field of this name before others, where it holds a value and so do they
+-- a field of this name before others, if it holds a value and so do they
 abbrev pub field_before : List ℕ → Held → Option FieldValues → Option FieldValues
 field_before name (One (AValue v)) (Some fs) = Some (Field name v fs)
 field_before name (One (AValue v)) None = None
@@ -106,7 +106,7 @@ field_before name Absent o = None
 field_before name (Optional i) o = None
 field_before name (Listed is) o = None
 
--- the values that are read as fields, under their names, where all are
+-- the values that are read as fields, under their names, if all are
 abbrev pub read_fields : Around → Env → List (List ℕ × Read) → Option FieldValues
 read_fields w env [] = Some NoField
 read_fields w env (f ∷ fs) = field_before f.0 (read_value w env f.1) (read_fields w env fs)
@@ -119,7 +119,7 @@ on_value (Optional o) go = Stuck
 on_value (Listed is) go = Stuck
 on_value Absent go = Stuck
 
--- what follows where something is there
+-- what follows if something is there
 abbrev pub on_held : Held → (Held → Flow) → Flow
 on_held (One i) go = go (One i)
 on_held (Optional o) go = go (Optional o)
@@ -135,7 +135,7 @@ on_list Absent go = Stuck
 
 -- ---- patterns
 
--- the value that a place holds, where it is one
+-- the value that a place holds, if it is one
 abbrev pub value_in : Held → Option Value
 value_in (One (AValue v)) = Some v
 value_in (One (ATuple vs)) = None
@@ -172,7 +172,7 @@ abbrev pub field_of : List ℕ → FieldValues → Option Value
 field_of name NoField = None
 field_of name (Field other v fs) = if same_bytes name other then Some v else field_of name fs
 
--- a local bound to a field's value before others, where all are there
+-- a local bound to a field's value before others, if all are there
 abbrev pub local_before : ℕ → Option Value → Option Env → Option Env
 local_before n (Some v) (Some env) = Some ((n, a_value v) ∷ env)
 local_before n (Some v) None = None
@@ -201,14 +201,14 @@ fit_struct ty binds (Some (Opaque of z)) = None
 fit_struct ty binds (Some (Variant of name fs)) = None
 fit_struct ty binds None = None
 
--- what a pattern binds, where it fits what is read; `ref` and `..` mean nothing
+-- what a pattern binds, if it fits what is read; `ref` and `..` mean nothing
 abbrev pub fit : Around → TPat → Held → Option Env
 fit w (pattern.Const o) h = if are_same (value_in h) (constant w.meaning o) then Some [] else None
 fit w (pattern.Some local) h = fit_some local h
 fit w (pattern.Variant ty variant binds more) h = fit_variant ty variant binds (value_in h)
 fit w (pattern.Struct ty binds more) h = fit_struct ty binds (value_in h)
 
--- what follows where a pattern fits, or where it doesn't
+-- what follows if a pattern fits, or if it doesn't
 abbrev pub fitted : Option Env → (Env → Flow) → Flow → Flow
 fitted (Some bound) go other = go bound
 fitted None go other = other
@@ -262,7 +262,7 @@ abbrev pub run_struct : ℕ → List ℕ → Option FieldValues → Env → Stat
 run_struct n ty None env s = Stuck
 run_struct n ty (Some fs) env s = Goes (bind env n (a_value (Struct ty fs))) s
 
--- the value of a part of a tuple, where it has that part
+-- the value of a part of a tuple, if it has that part
 abbrev pub part_of : ℕ → Held → Option Value
 part_of part (One (AValue v)) = None
 part_of part (One (ATuple vs)) = slice_get vs part
@@ -270,7 +270,7 @@ part_of part Absent = None
 part_of part (Optional o) = None
 part_of part (Listed is) = None
 
--- a local bound to a value, where it is there
+-- a local bound to a value, if it is there
 abbrev pub run_part : ℕ → Option Value → Env → State → Flow
 run_part n None env s = Stuck
 run_part n (Some v) env s = Goes (bind env n (a_value v)) s
@@ -315,7 +315,7 @@ abbrev pub is_full : Option ℕ → List Value → Bool
 is_full None given = false
 is_full (Some room) given = nat_le room (length given)
 
--- where no room is left, the closure around is left, or else the function ends with its results
+-- if no room is left, the closure around is left, or else the function ends with its results
 abbrev pub stops : (inside : Bool) → State → Flow
 stops true s = Leaves s
 stops false s = Ends (GivesList s.given) s
@@ -355,13 +355,13 @@ abbrev mutual
 
 -- ---- functions
 
--- a function that goes on after its last statement ends with its results, where it gives several; any other has no end there
+-- a function that goes on after its last statement ends with its results, if it gives several; any other has no end there
 abbrev pub runs_out : ReturnKind → State → Option Ran
 runs_out kind.Plain s = None
 runs_out kind.Option s = None
 runs_out kind.Iterator s = Some (record { end = GivesList s.given; calls = s.made })
 
--- the end of a function of the kind; a body that leaves a closure where there is none, or is stuck, has none
+-- the end of a function of the kind; a body that leaves a closure if there is none, or is stuck, has none
 abbrev pub ended : ReturnKind → Flow → Option Ran
 ended of (Goes env s) = runs_out of s
 ended of (Ends end s) = Some (record { end = end; calls = s.made })
@@ -373,7 +373,7 @@ abbrev pub function_of : List ℕ → List Function → Option Function
 function_of term [] = None
 function_of term (f ∷ fs) = if same_bytes term f.term then Some f else function_of term fs
 
--- what a function of a program runs in, where its results are limited so
+-- what a function of a program runs in, if its results are limited so
 abbrev pub around : Program → Meaning → List Value → Option ℕ → Function → Around
 around p m args limit f = record { caller = by_meaning m; meaning = m; program = p; function = f; args = args; limit = limit }
 
@@ -381,11 +381,11 @@ around p m args limit f = record { caller = by_meaning m; meaning = m; program =
 abbrev pub limited_run : Program → Meaning → List Value → Option ℕ → Function → Option Ran
 limited_run p m args limit f = ended f.kind (run_body (around p m args limit f) f.body [] nothing_done)
 
--- the run of a function in its program, where there is one
+-- the run of a function in its program, if there is one
 abbrev pub function_run : Program → Meaning → Space → List Value → Option Function → Option Ran
 function_run p m space args None = None
 function_run p m space args (Some f) = limited_run p m args (Some (room space)) f
 
--- the run of the function of a term in a program, where there is one
+-- the run of the function of a term in a program, if there is one
 abbrev pub run : Program → List ℕ → List Value → Meaning → Space → Option Ran
 run p term args m space = function_run p m space args (function_of term p.fns)

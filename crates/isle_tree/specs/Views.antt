@@ -19,7 +19,7 @@ abbrev pub arms_of : List (TPat × List Stmt) → Arms
 arms_of [] = NoArm
 arms_of (arm ∷ arms) = Arm arm.0 (body_of arm.1) (arms_of arms)
 
--- one statement, where those inside it are seen already
+-- one statement, if those inside it are seen already
 abbrev pub stmt_step : Stmt-F Stmt → Stmt
 stmt_step (code.Let local e) = Let local e
 stmt_step (code.LetList local call) = LetList local call

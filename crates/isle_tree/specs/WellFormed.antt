@@ -136,11 +136,11 @@ Locals = List (ℕ × Holds)
 abbrev pub newer : ℕ → Option Holds → ℕ × Holds → Option Holds
 newer n h bound = if bound.0 == n then Some bound.1 else h
 
--- what a local holds, where it is bound
+-- what a local holds, if it is bound
 abbrev pub local_holds : Locals → ℕ → Option Holds
 local_holds bound n = fold (newer n) None bound
 
--- what an operand holds, where it is there: an argument lies below the number of parameters
+-- what an operand holds, if it is there: an argument lies below the number of parameters
 abbrev pub operand_holds : ℕ → Locals → Operand → Option Holds
 operand_holds params bound (operand.Local n) = local_holds bound n
 operand_holds params bound (operand.Arg n) = if nat_lt n params then Some (holds.One item.Value) else None
@@ -167,7 +167,7 @@ is_value (Some (holds.Several x)) = false
 abbrev pub are_values : ℕ → Locals → List Read → Bool
 are_values params bound rs = list_all (λ r. is_value (read_holds params bound r)) rs
 
--- what an answer has: a value where there is one result, else a tuple
+-- what an answer has: a value if there is one result, else a tuple
 abbrev pub results_item : List (List ℕ) → Item
 results_item [] = item.Tuple 0
 results_item (ty ∷ []) = item.Value
@@ -249,7 +249,7 @@ called_holds fns params bound call = if are_values params bound call.args then c
 abbrev pub are_field_values : ℕ → Locals → List (List ℕ × Read) → Bool
 are_field_values params bound fs = list_all (λ (f : List ℕ × Read). is_value (read_holds params bound f.1)) fs
 
--- a made value, where its fields are of values
+-- a made value, if its fields are of values
 abbrev pub made_holds : Bool → Option Holds
 made_holds good = if good then Some (holds.One item.Value) else None
 
@@ -261,7 +261,7 @@ part_holds part (Some (holds.One (item.Tuple count))) = if nat_lt part count the
 part_holds part (Some (holds.Optional x)) = None
 part_holds part (Some (holds.Several x)) = None
 
--- what is computed holds, where each operand holds what is asked of it
+-- what is computed holds, if each operand holds what is asked of it
 abbrev pub expr_holds : Callables → ℕ → Locals → TExpr → Option Holds
 expr_holds fns params bound (expr.Read r) = read_holds params bound r
 expr_holds fns params bound (expr.Call borrow call) = once_holds (called_holds fns params bound call)

@@ -24,7 +24,8 @@ impl<'p> Model for Callables<'p> {
 
     ghost Value = { Callables };
 
-    ghost view = { λ c. record { trait_fns = c.callees; heads = map function_head (map function c.terms) } };
+    ghost view = { λ c.
+        record { trait_fns = c.callees; heads = map function_head (map function c.terms) } };
 }
 
 impl<'p> Callables<'p> {

@@ -250,7 +250,7 @@ pub enum Stmt {
     },
     Return(TExpr),
     Extend(Read),
-    /// Stop where the list of results is full.
+    /// Stop if the list of results is full.
     Overflow {
         inside: bool,
     },

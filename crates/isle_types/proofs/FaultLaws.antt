@@ -38,12 +38,12 @@ terms_at [] i x d terms lt is at = absurd cc
 terms_at (y ∷ ds) zero x d terms lt is at = let same : made_of (def y) ≡ terms = cc in sym same ∙ ap (λ z. made_of (def z)) (sym is)
 terms_at (y ∷ ds) (suc i) x d terms lt is at = terms_at ds i x d terms (omega (arith, lt)) is at
 
--- where no error is told, there is no fault
+-- if no error is reported, there is no fault
 pub none_told : (fault : Option (Row × Pos)) → TellsTyping fault None → fault ≡ None
 none_told None h = refl
 none_told (Some f) h = absurd h
 
--- where there is none, no error tells one
+-- if there is none, no error reports one
 pub untold : (ds : List Def) (error : Error) → type_fault ds ≡ None → TellsTyping (type_fault ds) (Some error) → ⊥
 untold ds error none h = subst (λ o. TellsTyping o (Some error)) none h
 
@@ -60,7 +60,7 @@ after_lies P broken before (d ∷ ds) f h e = later_lies P (broken before d) (pl
 pub fault_lies : (P : Pos → Type 0) (ds : List Def) (f : Row × Pos) → AllByRecursion (λ (d : Def). P (place_of d)) ds → type_fault ds ≡ Some f → P f.1
 fault_lies P ds f h e = after_lies P (type_row ds) [] ds f h e
 
--- so does the error that tells one
+-- so does the error that reports one
 pub told_by : (P : Pos → Type 0) (fault : Option (Row × Pos)) (error : Error) → ((f : Row × Pos) → fault ≡ Some f → P f.1) → TellsTyping fault (Some error) → (f : Row × Pos) × P f.1 × TellsFault f error
 told_by P None error h t = absurd t
 told_by P (Some f) error h t = (f, h f refl, t)

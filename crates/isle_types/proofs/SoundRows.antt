@@ -45,6 +45,6 @@ unbroken_after all before (d ∷ ds) h =
     let r = no_fault (type_row all before d) (place_of d) (fault_after (type_row all) (before ++ d ∷ []) ds) h in
     (unbroken all before d r.0, unbroken_after all (before ++ d ∷ []) ds r.1)
 
--- where there is no fault, no definition breaks a row
+-- if there is no fault, no definition breaks a row
 pub all_unbroken : (defs : List Def) → type_fault defs ≡ None → AllByRecursion (IsUnbroken defs) defs
 all_unbroken defs h = unbroken_after defs [] defs h

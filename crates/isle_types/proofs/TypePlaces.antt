@@ -104,7 +104,7 @@ declared_at all (Passed head items pos ∷ ds) name body e = let r = declared_at
 abbrev pub all_types : List Def → List TypeDef
 all_types defs = builtins ++ filter_map (type_def_in defs) defs
 
--- a type is there by this name, a builtin or primitive one where the name is of such a type
+-- a type is there by this name, a builtin or primitive one if the name is of such a type
 pub record IsFound (defs : List Def) (name : List ℕ) : Type 0 where
   pub what : TypeDef
   pub stands : slice_get (all_types defs) (type_in defs name).0 ≡ Some what

@@ -12,7 +12,7 @@ abbrev pub first_broken : (Row → Bool) → List Row → Option Row
 first_broken breaks [] = None
 first_broken breaks (r ∷ rows) = if breaks r then Some r else first_broken breaks rows
 
--- the first of two, where there is one
+-- the first of two, if there is one
 abbrev pub or_later : {X : Type 0} → Option X → Option X → Option X
 or_later None later = later
 or_later (Some first) later = Some first

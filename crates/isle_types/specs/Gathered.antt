@@ -62,7 +62,7 @@ pub record TellsFault (fault : Row × Pos) (e : Error) : Type 0 where
   pub words : List ℕ
   pub is : e ≡ error.TypeError (number fault.0) words (single fault.1)
 
--- an error where there is a fault, which it tells, and none where there is none
+-- an error if there is a fault, which it tells, and none if there is none
 abbrev pub TellsTyping : Option (Row × Pos) → Option Error → Type 0
 TellsTyping None None = Unit {0}
 TellsTyping None (Some e) = ⊥

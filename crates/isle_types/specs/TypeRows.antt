@@ -10,7 +10,7 @@ use Rattle.isle_declarations.specs.DeclaredTypes.{DeclaredType, Constant, type_o
 use Rattle.isle_types.specs.Bodies.{any_fields, fields_repeat, variants_repeat, field_types, are_many}
 use Rattle.isle_types.specs.TypeNames.{type_names, is_type, is_scalar}
 
--- the test holds of what a definition is, where it is that
+-- the test holds of what a definition is, if it is that
 abbrev pub on : {X : Type 0} → Option X → (X → Bool) → Bool
 on None test = false
 on (Some x) test = test x

@@ -31,7 +31,7 @@ impl<'d> Before<'d> {
         })
     }
 
-    /// Returns the type of a name, by its number; where there is none, the first.
+    /// Returns the type of a name, by its number; if there is none, the first.
     pub fn type_id(&self, name: &Text) -> TypeId
         ensures { result ≡ type_id (number_or (index_of self.now.types name.now)) }
     {

@@ -133,7 +133,7 @@ pub fn place_of(given: &Def) -> Pos
     }
 }
 
-/// Returns the error that tells in these words that a definition at this place breaks a row of the typing table.
+/// Returns the error that reports in these words that a definition at this place breaks a row of the typing table.
 pub fn type_error(row: Row, pos: Pos, msg: Text) -> Error
     ensures { TellsFault (row, pos) result }
 {

@@ -44,7 +44,7 @@ impl<'d> KnownTypes<'d> {
         Ok(known)
     }
 
-    // Adds the type that a definition declares, where it is the first of its name.
+    // Adds the type that a definition declares, if it is the first of its name.
     fn declare(&mut self, given: &'d Def) -> Result<(), AllocError>
         ensures { OnOk result
             ((before : List PureDef) → AreKnown before self.old

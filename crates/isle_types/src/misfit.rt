@@ -1,4 +1,4 @@
-//! What is wrong with a definition, and how it is told.
+//! What is wrong with a definition, and how it is reported.
 
 ghost use Rattle.std.specs.Prelude.{◌≡◌};
 ghost use Rattle.isle_types.specs.Gathered.{misfit_row};
@@ -39,7 +39,7 @@ impl<'d> Misfit<'d> {
         }
     }
 
-    /// Tells it in words, for the user: no clause speaks of them.
+    /// Reports it in words, for the user: no clause speaks of them.
     pub fn words(&self, alloc: Global) -> Result<Text, OutOfMemory> {
         match self {
             Misfit::TypeTwice(name) => told(alloc, "type '", name, "' is declared twice"),

@@ -50,7 +50,7 @@ pub enum Row {
     PatternTermMisfit,
     /// A pattern's type is not the expected one, and no converter fits.
     PatternTypeMisfit,
-    /// An integer where no type of integers is expected, or `true` or `false` where another type
+    /// An integer where no type of integers is expected, or `true` or `false` if another type
     /// than bool is.
     LiteralMisfit,
     /// A constant is not declared.

@@ -193,7 +193,7 @@ fn builtin_types(alloc: Global) -> Result<Vec<TypeDef>, AllocError>
     ]?)
 }
 
-// Adds a thing, where there is one.
+// Adds a thing, if there is one.
 fn push_some<T: Drop>(things: &mut Vec<T>, found: Option<T>) -> Result<(), AllocError>
     ensures { OnOk result (things.new.items ≡ things.old.items ++ option_to_list found) }
 {

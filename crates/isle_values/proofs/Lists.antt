@@ -42,7 +42,7 @@ values_refused k ts vs e l s = let x : stops (values_of ts) ≡ None = ap stops 
 pub values_got : (most : ℕ) (ts us rest : List Lexeme) (vs : List Written) → most ≡ length us → ts ≡ us → run (read_whole most) ts ≡ Got vs rest → ListS (in_order vs) us × (depth us ≤ most_open)
 values_got most ts us rest vs e g h = let x : values_of us ≡ Got vs rest = rw (← e, ← g) h in values_sound us rest vs x
 
--- what came of reading, where a value came
+-- what came of reading, if a value came
 pub comes_ok : {T A : Type 0} (view : T → A) (result : Result T Fail) (o : Reading A) (rest : List Lexeme) (P : T → Type 0) → Comes view result o rest → ((x : T) → o ≡ Got (view x) rest → P x) → IfOk result P
 comes_ok view (Ok x) o rest P h f = f x h
 comes_ok view (Err e) o rest P h f = tt

@@ -45,7 +45,7 @@ spelt_again text vs h =
     let b : is_none (unclosed text) ≡ true = ap is_none h.closed in
     (λ k. if a k && b k then got (x.2 k) else None) ∙ ap (λ z. Some z) x.1
 
--- where no values are spelt, none are decided
+-- if no values are spelt, none are decided
 pub spelt_none : (text : List ℕ) → ((vs : Writtens) → SpellsValues text vs → ⊥) → spelt text ≡ None
 spelt_none text h = by (spelt text) (spelt_is text)
   where

@@ -114,7 +114,7 @@ law_simple : (n k : ℕ) → k ≤ most_open → Law (Opened k) (λ v. Opened k)
 unfolding read_simple
 law_simple n k l = law_word word_value a_simple (opened_word k word_value l)
 
--- a value keeps the law where so many parentheses are open
+-- a value keeps the law if so many parentheses are open
 pub law_value : (n k d : ℕ) → suc k + d ≡ most_open → Law (Opened (suc k)) (λ v. Opened (suc k)) Anything n ValueS (read_value n d)
 unfolding read_value
 law_value n k zero e = law_map shape_to shape_from (law_barred is_open read_simple made_heads simple_heads (opened_over (suc k) (omega (arith, e))) (law_simple n (suc k) (omega (arith, e))))
@@ -127,7 +127,7 @@ law_value n k (suc d) e =
 abbrev pub PlainS : List Written → List Lexeme → List Lexeme → Type 0
 PlainS = Then OpenS (λ o. Many ValueS)
 
--- a list keeps the law where so many parentheses are open
+-- a list keeps the law if so many parentheses are open
 pub law_list : (n k d : ℕ) → suc k + d ≡ most_open → Law (Opened k) (λ vs. Opened k) Anything n PlainS (read_list n d)
 unfolding read_list
 law_list n k d e = law_next _ _ (law_open (opened_open k (omega (arith, e)))) (λ o. law_values n k (read_value n d) (omega (arith, e)) (law_value n k d e))

@@ -15,7 +15,7 @@ pub simple_none : run read_simple [] ≡ Stuck []
 unfolding read_simple
 simple_none = word_none _
 
--- where no parenthesis opens, it is one word
+-- if no parenthesis opens, it is one word
 pub value_simple : (n d : ℕ) (ts : List Lexeme) → None ≡ opens ts → run (read_value n d) ts ≡ run read_simple ts
 unfolding read_value
 value_simple n zero ts e = other_peek Halt read_simple ts simple_none e

@@ -12,7 +12,7 @@ abbrev pub in_order : List Written → Writtens
 in_order [] = NoValue
 in_order (v ∷ vs) = AValue v (in_order vs)
 
--- one value, where those inside it are seen already
+-- one value, if those inside it are seen already
 abbrev pub written_step : Written-F Written → Written
 written_step (code.Bool b) = Truth b
 written_step (code.Number n) = Number (signed n)

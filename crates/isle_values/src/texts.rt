@@ -26,7 +26,7 @@ fn listed(alloc: Global, tokens: &[Token<'_>]) -> Result<Vec<Written>, Fail>
 }
 
 /// Returns the list of values that a text spells, `( V* )` and nothing after it. A V is `true`, `false`, an integer,
-/// or `( N V* )` with a name N. None comes exactly where the text spells no such list with at most 256 parentheses open
+/// or `( N V* )` with a name N. None comes exactly if the text spells no such list with at most 256 parentheses open
 /// at once.
 pub fn values(alloc: Global, text: &str) -> Result<Option<List<Written>>, OutOfMemory>
     ensures some { IfOk result (λ read. IfSome read (λ vs. SpellsValues text.now (seen vs))) }

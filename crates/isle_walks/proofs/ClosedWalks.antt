@@ -87,7 +87,7 @@ way_of graph (suc steps) from e =
     let more = way_of graph steps found.1 found.4 in
     (found.1 ∷ more.0, ((found.0, found.2, found.3), more.1), ap suc more.2)
 
--- where no node is on a closed walk, none is of as many steps as there are nodes
+-- if no node is on a closed walk, none is of as many steps as there are nodes
 pub no_long_walk : (graph : List (List ℕ)) → AreNodes graph → ((node : ℕ) → on_closed_walk graph node ≡ false) → (from : ℕ) → from < length graph → walks graph (length graph) from ≡ false
 no_long_walk graph there none from lt = by (walks graph (length graph) from) refl
   where

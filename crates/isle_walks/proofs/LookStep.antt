@@ -1,4 +1,4 @@
--- The last node that waits, where it is not new: it is looked at, or the last part joins the one before it.
+-- The last node that waits, if it is not new: it is looked at, or the last part joins the one before it.
 use Rattle.std.proofs.Common.{◌≡◌, ◌⊎◌, inl, inr, ⊎_elim, ℕ, ◌-◌, ◌<◌, ◌≤◌, List, [], ◌∷◌, ◌++◌, length, take, Bool, sym, ap, ◌∙◌, subst, arith, Contains, slice_index}
 use Rattle.std.proofs.lemmas.Bool.{cases_lt}
 use Rattle.std.proofs.lemmas.List.{get_or_push, length_push, get_or_append_left}

@@ -113,7 +113,7 @@ module _ (graph : List (List ℕ)) (looked : List ℕ) (done : List Bool) (order
     once = IsDistinct-push nat_eq_equiv order node sound.once new;
   }
 
-  -- where all nodes are done, they are in order
+  -- if all nodes are done, they are in order
   pub order_found : ((node : ℕ) → node < length graph → has order node ≡ true) → IsOrder graph order
   order_found all = record {
     ordered = sound.ordered;

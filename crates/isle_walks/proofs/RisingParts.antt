@@ -76,7 +76,7 @@ next_reached graph path parts before node parted room place lt = ⊎_elim
         leads_reach graph (slice_index path place) (slice_index path last.begin) node (to_last graph path rest last (before ++ node ∷ []) of place last.begin lt begins (omega arith))
         (subst (Reaches graph (slice_index path last.begin)) (get_or_push before node 0 (length before) refl) (of.reached last c (length before) from (omega arith)))
 
--- where a node waits for the last part, the last node that waits is the next one
+-- if a node waits for the last part, the last node that waits is the next one
 module _ (graph : List (List ℕ)) (path : List ℕ) (parts : List Part) (waiting : List ℕ) (last : Part) (many : ℕ) (parted : AreParted graph path parts waiting)
     (none : parts ≡ [] → (last.begin ≡ 0) × (last.from ≡ 0)) (some : IsLast parts last) (count : many ≡ length waiting) (differs : many ≡ last.from → ⊥)
   where

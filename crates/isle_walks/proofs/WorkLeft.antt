@@ -9,7 +9,7 @@ use Rattle.isle_walks.specs.declared.parts.Mark.{Mark}
 use Rattle.isle_walks.specs.declared.parts.Mark.TheVariants.{New, Opened, Done}
 use Rattle.isle_walks.specs.declared.parts.Part.{Part}
 
--- where no node becomes new, there is no more to do
+-- if no node becomes new, there is no more to do
 pub no_more : (work : ℕ) (marks marks' : List Mark) → length marks' ≡ length marks → ((node : ℕ) → mark_of marks' node ≡ New → mark_of marks node ≡ New) → sum_by (work_of work) marks' ≤ sum_by (work_of work) marks
 no_more work [] [] long stays = omega arith
 no_more work [] (mark' ∷ marks') long stays = absurd (omega arith)

@@ -82,7 +82,7 @@ pub record IsSearchedAt (graph : List (List ℕ)) (marks : List Mark) (path : Li
 abbrev pub IsSearched : List (List ℕ) → Search → Type 0
 IsSearched graph search = IsSearchedAt graph search.marks.items search.path.items search.parts.items search.waiting.items
 
--- a part is the last of these, where there are any
+-- a part is the last of these, if there are any
 abbrev pub IsLast : List Part → Part → Type 0
 IsLast parts last = (rest : List Part) (own : Part) → parts ≡ rest ++ own ∷ [] → last ≡ own
 
@@ -96,7 +96,7 @@ pub record IsNextAt (parts : List Part) (waiting : List ℕ) (node : ℕ) : Type
 abbrev pub IsNext : Search → ℕ → Type 0
 IsNext search node = IsNextAt search.parts.items search.waiting.items node
 
--- no node waits for the last part, or at all where there is no part
+-- no node waits for the last part, or at all if there is no part
 pub record IsIdleAt (parts : List Part) (waiting : List ℕ) : Type 0 where
   pub none : parts ≡ [] → length waiting ≡ 0
   pub some : (rest : List Part) (last : Part) → parts ≡ rest ++ last ∷ [] → length waiting ≡ last.from
@@ -105,7 +105,7 @@ pub record IsIdleAt (parts : List Part) (waiting : List ℕ) : Type 0 where
 abbrev pub IsIdle : Search → Type 0
 IsIdle search = IsIdleAt search.parts.items search.waiting.items
 
--- what is left to do for a node that is marked so: so much where it is new
+-- what is left to do for a node that is marked so: so much if it is new
 abbrev pub work_of : ℕ → Mark → ℕ
 work_of work New = work
 work_of work (Opened place) = 0

@@ -113,7 +113,7 @@ impl DepthFirst {
     }
 }
 
-/// Finds an order of all nodes of a graph in which each leads only to nodes before it; there is none where a node is on
+/// Finds an order of all nodes of a graph in which each leads only to nodes before it; there is none if a node is on
 /// a closed walk. Fails for want of memory alone.
 pub fn order(alloc: Global, graph: &[List<usize>]) -> Result<Option<Vec<usize>>, AllocError>
     requires { AreNodes graph.now }

@@ -99,7 +99,7 @@ impl Search {
         })
     }
 
-    // Returns the last part, or an empty one where there is none.
+    // Returns the last part, or an empty one if there is none.
     fn last_part(&self) -> Part
         ensures none { self.now.parts.items ≡ [] → (result.begin ≡ 0) × (result.from ≡ 0) }
         ensures some { IsLast self.now.parts.items result }
@@ -131,7 +131,7 @@ impl Search {
         Ok(())
     }
 
-    // Ends the last part, which no node waits for any more. Returns false where there is none.
+    // Ends the last part, which no node waits for any more. Returns false if there is none.
     fn finish(&mut self, graph: &[List<usize>]) -> bool
         requires nodes { AreNodes graph.now }
         requires searched { IsSearched graph.now self.old }
@@ -178,7 +178,7 @@ impl Search {
         }
     }
 
-    // Goes one step on. Returns false where all nodes are done.
+    // Goes one step on. Returns false if all nodes are done.
     fn step(&mut self, graph: &[List<usize>]) -> Result<bool, AllocError>
         requires nodes { AreNodes graph.now }
         requires searched { IsSearched graph.now self.old }

@@ -14,7 +14,7 @@ loop-binding-preserved c =
       long = long_more old c.push.new.self.items turn c.loop-binding.binding-index items c.loop-binding.invariant.long;
       rise = subst (RiseTo (c.loop-binding.binding-index + 1) c.args.bindings.now) (sym items)
           (rise_more c.args.bindings.now c.loop-binding.binding-index x x old turn c.loop-binding-test.true c.binding-item.is c.loop-binding.invariant.long c.loop-binding.invariant.rise
-          (λ part i. subst (λ ts. turn_at ts part.0 ≤ turn) c.as_slice-in-loop-binding.ensures.value (c.turn_after-turn.ensures part (subst (λ bs. Contains bs part) (sym c.parts_of.ensures) i))));
+          (λ part i. subst (λ ts. turn_at ts part.0 ≤ turn) c.as_slice-in-loop-binding.ensures.value (c.turn_after-turn.ensures part (subst (λ bs. Contains bs part) (sym c.parts.ensures) i))));
     }
 
 pub returns : goal.returns
