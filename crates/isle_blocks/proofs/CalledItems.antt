@@ -22,6 +22,7 @@ use Rattle.isle_core.specs.StandsFor.{EachOnce}
 use Rattle.isle_core.specs.Tests.{Test}
 use Rattle.isle_core.proofs.BindingPaths.{IsThere, call_at, paths_there}
 use Rattle.isle_core.proofs.Contained.{head_contained, tail_contained, contained_cases, none_contained}
+use Rattle.isle_core.proofs.OptionLaws.{some_same}
 use Rattle.isle_blocks.specs.Needed.{list_before, needs, parameters_of}
 use Rattle.isle_blocks.specs.Nest.{with_inner, call_binds, binds, was_bound, left_one, left_calls}
 use Rattle.isle_blocks.proofs.Behind.{IsBehind, behind_none, behind_grows, behind_next, adds_none, adds_one}
@@ -32,7 +33,6 @@ use Rattle.isle_blocks.proofs.NeededItems.{IsAnew, AreAnew, anew_append, anew_mo
 use Rattle.isle_blocks.proofs.NextLaws.{FindsNext, HasNext, has_none, has_inner, has_item, has_next}
 use Rattle.isle_blocks.proofs.OpenedItems.{IsNoItem}
 use Rattle.isle_blocks.proofs.PushedBinds.{bound_append}
-use Rattle.isle_blocks.proofs.PushedLists.{some_same}
 
 -- whatever list
 abbrev pub OfAny : Path → Type 0

@@ -11,10 +11,11 @@ use Rattle.isle_core.specs.declared.TupleIndex.{TupleIndex}
 use Rattle.isle_core.specs.declared.VariantId.{VariantId}
 use Rattle.isle_core.specs.declared.rule_sets.Binding.{Binding}
 use Rattle.isle_core.specs.declared.rule_sets.Binding.TheVariants as binding
+use Rattle.isle_core.proofs.OptionLaws.{some_same}
 use Rattle.isle_blocks.specs.declared.fields.Shown.{Shown}
 use Rattle.isle_blocks.specs.declared.fields.Shown.TheVariants as shown
 use Rattle.isle_blocks.specs.Fields.{shown_cmp, FieldKey, key_cmp, source_of, part_of, before, field_at, longer, FindsFields}
-use Rattle.isle_blocks.proofs.PushedLists.{get_push, get_last, get_either, some_same}
+use Rattle.isle_blocks.proofs.PushedLists.{get_push, get_last, get_either}
 
 -- ---- keys
 

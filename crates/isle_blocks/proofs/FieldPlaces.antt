@@ -30,12 +30,12 @@ use Rattle.isle_core.specs.Setting.{Setting, setting}
 use Rattle.isle_core.specs.StandsFor.{EachOnce}
 use Rattle.isle_core.proofs.BindingPaths.{IsThere, contains_at, place_once, at_before}
 use Rattle.isle_core.proofs.Contained.{contained_cases, none_contained}
+use Rattle.isle_core.proofs.OptionLaws.{some_same}
 use Rattle.isle_blocks.specs.declared.fields.Shown.{Shown}
 use Rattle.isle_blocks.specs.declared.fields.Shown.TheVariants as shown
 use Rattle.isle_blocks.specs.Fields.{FieldKey, source_of, part_of, FindsFields, first_places, inner_place, places_of, shows}
 use Rattle.isle_blocks.specs.Followers.{FindsInners}
 use Rattle.isle_blocks.proofs.PathTypes.{path_type_once}
-use Rattle.isle_blocks.proofs.PushedLists.{some_same}
 
 -- ---- lists of places
 

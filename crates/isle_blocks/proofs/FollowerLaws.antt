@@ -10,10 +10,11 @@ use Rattle.isle_core.specs.declared.BindingId.{BindingId}
 use Rattle.isle_core.specs.declared.rule_sets.Binding.{Binding}
 use Rattle.isle_core.specs.declared.rule_sets.Binding.TheVariants as binding
 use Rattle.isle_core.specs.BindingParts.{list_of, option_of}
+use Rattle.isle_core.proofs.OptionLaws.{some_same}
 use Rattle.isle_blocks.specs.Followers.{follower, followed, earlier, source_at, FindsFollowers}
 use Rattle.isle_blocks.specs.declared.followers.Following.{Following}
 use Rattle.isle_blocks.specs.declared.followers.Following.TheVariants as following
-use Rattle.isle_blocks.proofs.PushedLists.{get_push, get_last, get_either, some_same}
+use Rattle.isle_blocks.proofs.PushedLists.{get_push, get_last, get_either}
 
 -- ---- one binding more
 

@@ -14,12 +14,12 @@ use Rattle.isle_core.specs.Rule.{Environment}
 use Rattle.isle_core.specs.Serializable.{IsSerializableCall, AreSerializableCalls}
 use Rattle.isle_core.specs.Tests.{Test}
 use Rattle.isle_core.proofs.BindingPaths.{paths_there, call_at}
+use Rattle.isle_core.proofs.OptionLaws.{some_same}
 use Rattle.isle_blocks.specs.Needed.{list_before, needs, parameters_of}
 use Rattle.isle_blocks.specs.Nest.{with_inner, call_binds, binds, was_bound, left_one, left_calls, left_items, behind_lists, last_binds, option_before}
 use Rattle.isle_blocks.proofs.NeedsSo.{list_plain, needs_so}
 use Rattle.isle_blocks.proofs.NextLaws.{FindsNext}
 use Rattle.isle_blocks.proofs.OpenedSteps.{FreshBy, AlwaysFresh, fresh_append}
-use Rattle.isle_blocks.proofs.PushedLists.{some_same}
 
 fresh_none : (bs : List Binding) → AlwaysFresh bs []
 fresh_none bs = λ fresh. tt

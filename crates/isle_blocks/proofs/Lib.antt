@@ -76,5 +76,4 @@ pub mod TreeAsked
 pub mod PlacesRead
 pub mod Grown
 pub mod AskedSets
-pub mod AskedRuns
 pub mod RulesRead

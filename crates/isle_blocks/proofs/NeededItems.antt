@@ -20,11 +20,11 @@ use Rattle.isle_core.specs.Rule.{Environment}
 use Rattle.isle_core.specs.Serializable.{StandsOn, AllStandOn, StandsCalled}
 use Rattle.isle_core.specs.Tests.{Test}
 use Rattle.isle_core.proofs.BindingPaths.{IsThere, AreThere, HasParts, at_before, path_at, binding_at, path_there, option_there}
+use Rattle.isle_core.proofs.OptionLaws.{some_same}
 use Rattle.isle_blocks.specs.Needed.{list_parts, list_before, is_bound, each_needed, with_parts, unbound, needed, needs}
 use Rattle.isle_blocks.proofs.Behind.{IsBehind}
 use Rattle.isle_blocks.proofs.MoreBound.{by_kept}
 use Rattle.isle_blocks.proofs.NeededBound.{is_marked}
-use Rattle.isle_blocks.proofs.PushedLists.{some_same}
 
 -- ---- new items
 

@@ -8,7 +8,7 @@ use Rattle.isle_core.specs.Making.{MakesVariant, MakesStruct}
 use Rattle.isle_core.specs.Path.{Path, Arg, ConstBool, ConstInt, ConstPrim, Extracted, Called, Chosen, MadeVariant, MadeStruct, VariantField, StructField, Inner, Part, Paths}
 use Rattle.isle_core.specs.PathType.{IsPathOf, IsTupleOf, IsOptionOf, IsListOf, ArePathsOf}
 use Rattle.isle_core.specs.Rule.{Environment}
-use Rattle.isle_blocks.proofs.PushedLists.{some_same}
+use Rattle.isle_core.proofs.OptionLaws.{some_same}
 
 -- a term answers one type, also in an option
 answer_once : (env : Environment) (t : Term) (ps : Paths) (o : Option Term) (a b : TypeId) → IsSomeAnd o (λ (c : Term). (c.ret_ty ≡ a) × ArePathsOf env t ps c.arg_tys) → IsSomeAnd o (λ (c : Term). (c.ret_ty ≡ b) × ArePathsOf env t ps c.arg_tys) → a ≡ b

@@ -1,6 +1,7 @@
 -- What stands in a list that one item was added to.
 use Rattle.std.proofs.Common.{◌≡◌, ◌⊎◌, inl, inr, ⊎_elim, ℕ, zero, suc, List, [], ◌∷◌, ◌++◌, length, Some, refl, ap}
 use Rattle.std.specs.Prelude.{slice_get}
+use Rattle.isle_core.proofs.OptionLaws.{some_same}
 
 pub get_push : {A : Type 0} (xs : List A) (y : A) (b : ℕ) (x : A) → slice_get xs b ≡ Some x → slice_get (xs ++ y ∷ []) b ≡ Some x
 get_push [] y b x e = cc
@@ -16,6 +17,3 @@ get_either [] y zero x e = inr (refl, cc)
 get_either [] y (suc b) x e = cc
 get_either (z ∷ xs) y zero x e = inl e
 get_either (z ∷ xs) y (suc b) x e = ⊎_elim (λ h. inl h) (λ h. inr (ap suc h.0, h.1)) (get_either xs y b x e)
-
-pub some_same : {A : Type 0} (x y : A) → Some x ≡ Some y → x ≡ y
-some_same x y e = cc

@@ -24,4 +24,3 @@ pub mod AskedCalls
 pub mod LoopFree
 pub mod RuleReads
 pub mod AskedBound
-pub mod AskedRun

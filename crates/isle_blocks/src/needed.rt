@@ -41,8 +41,7 @@ fn parts_of<'a>(bindings: &'a [Binding], binding: &'a Binding) -> Option<&'a [Bi
         ≡ Needed.parts_of bindings.now (Is binding.now) }
 {
     match binding {
-        Binding::Constructor { parameters, .. } => Some(parameters.as_slice()),
-        Binding::Extractor { parameter, .. } => Some(slice::from_ref(parameter)),
+        Binding::Constructor { .. } | Binding::Extractor { .. } => binding.call_parts(),
         Binding::Iterator { source } => list_parts_at(bindings, *source),
         Binding::MatchTuple { source, .. } => Some(slice::from_ref(source)),
         _ => binding.made_parts(),

@@ -8,6 +8,7 @@ use Rattle.isle_core.specs.declared.BindingId.{BindingId}
 use Rattle.isle_core.specs.declared.rule_sets.Constraint.{Constraint}
 use Rattle.isle_core.specs.declared.rule_sets.FlatRule.{FlatRule}
 use Rattle.isle_core.proofs.Contained.{head_contained, tail_contained, contained_cases, none_contained}
+use Rattle.isle_core.proofs.OptionLaws.{some_same}
 use Rattle.isle_checks.specs.declared.classes.Classes.{Classes}
 use Rattle.isle_checks.specs.Bears.{Constraints, IsAmong}
 use Rattle.isle_checks.specs.Joined.{Equalities, IsWay, AreJoined, IsUnreachable}
@@ -29,9 +30,6 @@ pub record IsNoted (rep : BindingId → BindingId) (front : Constraints) (r : Bi
 pub record AreSeen (rep : BindingId → BindingId) (front : Constraints) (seen : BTreeMap BindingId Constraint) : Type 0 where
   pub each : (x : BindingId × Constraint) → Contains front x → get binding_cmp seen (rep x.0) ≡ Some x.1
   pub only : (r : BindingId) (c : Constraint) → get binding_cmp seen r ≡ Some c → IsNoted rep front r c
-
-some_same : (c d : Constraint) → Some c ≡ Some d → c ≡ d
-some_same c d e = cc
 
 noted_kept : (rep : BindingId → BindingId) (front : Constraints) (x : BindingId × Constraint) (r : BindingId) (c : Constraint) → IsNoted rep front r c → IsNoted rep (front ++ x ∷ []) r c
 noted_kept rep front x r c h = record { item = h.item; among = Contains-append_left front (x ∷ []) h.item h.among; of = h.of; is = h.is }

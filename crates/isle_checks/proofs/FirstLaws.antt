@@ -2,6 +2,7 @@
 use Rattle.std.proofs.Common.{◌≡◌, ⊎_elim, ℕ, zero, suc, ◌<◌, List, [], ◌∷◌, length, replicate, true, false, Option, Some, None, refl, sym, ap, ◌∙◌, subst, arith}
 use Rattle.std.specs.Prelude.{IsSomeAnd, slice_get}
 use Rattle.isle_core.specs.declared.rule_sets.FlatRule.{FlatRule}
+use Rattle.isle_core.proofs.OptionLaws.{some_same}
 use Rattle.isle_checks.specs.declared.placed.Check.{Check}
 use Rattle.isle_checks.specs.declared.placed.Placed.{Placed}
 use Rattle.isle_checks.specs.Makes.{Makes, MakesOf, MakesAt}
@@ -62,9 +63,6 @@ module _ (check : Check) (rules : List FlatRule) (group : List Placed) (old new 
 
       none_some : (a : ℕ) → None ≡ Some a → ⊥
       none_some a q = cc
-
-      some_same : (a b : ℕ) → Some a ≡ Some b → a ≡ b
-      some_same a b q = cc
 
       first_of : (j : ℕ) (o : Option ℕ) → slice_get new j ≡ Some o → IsFirst (λ i. MakesAt check rules i j) o
       first_of j None h = λ i m. let u = found_up_to i j m in none_some u.k (some_one None (Some u.k) (sym h ∙ u.has))

@@ -13,6 +13,7 @@ use Rattle.isle_core.specs.BuiltRule.{IsBuiltRule}
 use Rattle.isle_core.specs.Scope.{IsScopedRule}
 use Rattle.isle_core.specs.Rule.{Environment, Rule}
 use Rattle.isle_core.proofs.Contained.{head_contained, tail_contained, contained_cases, none_contained}
+use Rattle.isle_core.proofs.OptionLaws.{some_same}
 use Rattle.isle_rulesets.proofs.RuleTests.{rule_stands}
 use Rattle.isle_checks.specs.Bears.{Constraints, IsAmong}
 use Rattle.isle_checks.proofs.PlacedLaws.{only_one}
@@ -47,22 +48,13 @@ there_of (q ∷ ps) (suc i) p e n = there_of ps i p e n
 contains_at : (ps : List Path) (i : ℕ) (p : Path) → slice_get ps i ≡ Some p → Contains ps p
 contains_at [] i p e = cc
 contains_at (q ∷ ps) zero p e = subst (Contains (q ∷ ps)) (some_same q p e) (head_contained q ps)
-  where
-    some_same : (x y : Path) → Some x ≡ Some y → x ≡ y
-    some_same x y e' = cc
 contains_at (q ∷ ps) (suc i) p e = tail_contained q ps p (contains_at ps i p e)
 
 one_place : (ps : List Path) (i j : ℕ) (p : Path) → EachOnce ps → slice_get ps i ≡ Some p → slice_get ps j ≡ Some p → i ≡ j
 one_place [] i j p once e h = cc
 one_place (q ∷ ps) zero zero p once e h = refl
 one_place (q ∷ ps) zero (suc j) p once e h = absurd (once.0 (subst (Contains ps) (some_same p q (sym e)) (contains_at ps j p h)))
-  where
-    some_same : (x y : Path) → Some x ≡ Some y → x ≡ y
-    some_same x y e' = cc
 one_place (q ∷ ps) (suc i) zero p once e h = absurd (once.0 (subst (Contains ps) (some_same p q (sym h)) (contains_at ps i p e)))
-  where
-    some_same : (x y : Path) → Some x ≡ Some y → x ≡ y
-    some_same x y e' = cc
 one_place (q ∷ ps) (suc i) (suc j) p once e h = ap suc (one_place ps i j p once.1 e h)
 
 pub same_binding : (ps : List Path) (b c : BindingId) (p : Path) → EachOnce ps → at ps b ≡ p → at ps c ≡ p → (p ≡ Nowhere → ⊥) → b ≡ c

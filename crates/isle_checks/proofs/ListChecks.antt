@@ -8,6 +8,7 @@ use Rattle.isle_core.specs.Calling.{impure}
 use Rattle.isle_core.specs.StandsFor.{EachOnce, IsFlat, AreFlat}
 use Rattle.isle_checks.proofs.FlatTests.{IsReady}
 use Rattle.isle_core.specs.Rule.{Environment, Rule}
+use Rattle.isle_core.proofs.OptionLaws.{some_same}
 use Rattle.isle_checks.specs.declared.placed.Check.{Check}
 use Rattle.isle_checks.specs.declared.placed.Check.TheVariants as check
 use Rattle.isle_checks.specs.Makes.{MakesAt}
@@ -30,9 +31,6 @@ pub record BothAt (env : Environment) (ps : List Path) (rules : List Rule) (fs :
   pub flat_at : slice_get fs i ≡ Some flat
   pub is : IsFlat env ps rule n flat
   pub built : IsReady env rule
-
-some_same : {X : Type 0} (x y : X) → Some x ≡ Some y → x ≡ y
-some_same x y e = cc
 
 both_of_rule : (env : Environment) (ps : List Path) (rules : List Rule) (fs : List FlatRule) (n i : ℕ) (r : Rule) → AllByRecursion (IsReady env) rules → AreFlat env ps rules n fs → slice_get rules i ≡ Some r → BothAt env ps rules fs i
 both_of_rule env ps [] fs n i r b h e = cc

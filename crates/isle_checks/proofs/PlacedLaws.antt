@@ -5,6 +5,7 @@ use Rattle.std.specs.List.{AllByRecursion}
 use Rattle.std.proofs.lemmas.List.Elements.{Contains-append_left, Contains-append_right, Contains-append_cases}
 use Rattle.isle_core.specs.declared.rule_sets.FlatRule.{FlatRule}
 use Rattle.isle_core.proofs.Contained.{head_contained, contained_cases, none_contained}
+use Rattle.isle_core.proofs.OptionLaws.{some_same}
 use Rattle.isle_checks.specs.declared.placed.Placed.{Placed}
 use Rattle.isle_checks.specs.Sides.{Rises}
 use Rattle.isle_checks.specs.Firsts.{ArePlaced}
@@ -38,9 +39,6 @@ pub get_there : {X : Type 0} (xs : List X) (i : ℕ) (x : X) → i < length xs �
 get_there [] i x lt e = absurd (omega (arith, lt))
 get_there (y ∷ ys) zero x lt e = ap Some (sym e)
 get_there (y ∷ ys) (suc i) x lt e = get_there ys i x (omega (arith, lt)) e
-
-some_same : {X : Type 0} (x y : X) → Some x ≡ Some y → x ≡ y
-some_same x y e = cc
 
 pub placed_more : (rules : List FlatRule) (i : ℕ) (group new : List Placed) (b : Placed) → i < length rules → b.place ≡ i → b.rule.now ≡ get_or rules i b.rule.now → new ≡ group ++ b ∷ [] → PlacedSoFar rules i group → PlacedSoFar rules (i + 1) new
 placed_more rules i group new b lt at is more h = subst (PlacedSoFar rules (i + 1)) (sym more) (record {

@@ -9,6 +9,7 @@ use Rattle.isle_core.specs.declared.rule_sets.Binding.{Binding}
 use Rattle.isle_core.specs.declared.rule_sets.Binding.TheVariants as binding
 use Rattle.isle_core.specs.declared.rule_sets.RuleSet.{RuleSet}
 use Rattle.isle_core.specs.declared.types.Term.{Term}
+use Rattle.isle_core.proofs.OptionLaws.{some_same}
 use Rattle.isle_walks.specs.Walks.{next_of, reaches, on_closed_walk, AreNodes}
 use Rattle.isle_walks.specs.Ways.{Reaches}
 use Rattle.isle_walks.proofs.Reaching.{reaches_first, first_step, closed_within}
@@ -16,9 +17,6 @@ use Rattle.isle_checks.specs.ClosedWalks.{is_declared, used, used_by, uses_of, U
 use Rattle.isle_checks.specs.Graph.{IsAt, HasPlace, ArePlaces, places_of, graph_by, ids_of}
 
 -- ---- rule sets and their places
-
-some_same : {X : Type 0} (x y : X) → Some x ≡ Some y → x ≡ y
-some_same x y e = cc
 
 -- a rule set of a list stands at some place
 pub set_at : (sets : List (TermId × RuleSet)) (s : TermId × RuleSet) → Contains sets s → (place : ℕ) × (slice_get sets place ≡ Some s)

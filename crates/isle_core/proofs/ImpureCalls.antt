@@ -26,6 +26,7 @@ use Rattle.isle_core.specs.Having.{const_of}
 use Rattle.isle_core.specs.Making.{Making, MakesVariant, MakesStruct, MakesNothing, making}
 use Rattle.isle_core.specs.Terms.{sym_text, goes_to, impure_callee, is_impure}
 use Rattle.isle_core.specs.Rule.{Environment, Rule}
+use Rattle.isle_core.proofs.OptionLaws.{some_same}
 
 -- each call goes to an impure term
 abbrev pub AreImpure : Environment → List Made → Type 0
@@ -45,9 +46,6 @@ goes_there (Internal name) = same_bytes name
 or_true : (b c : Bool) → c ≡ true → (b || c) ≡ true
 or_true true c e = refl
 or_true false c e = e
-
-some_same : (a b : Term) → Some a ≡ Some b → a ≡ b
-some_same a b e = cc
 
 any_there : (env : Environment) (callee : Callee) (ts : List Term) (i : ℕ) (t : Term) → slice_get ts i ≡ Some t → goes_to callee (impure_callee env t t.kind) ≡ true → list_any (λ (u : Term). goes_to callee (impure_callee env u u.kind)) ts ≡ true
 any_there env callee [] i t e h = cc

@@ -1,3 +1,4 @@
+pub mod OptionLaws
 pub mod OutcomeOnce
 pub mod Prefixes
 pub mod InputLaws

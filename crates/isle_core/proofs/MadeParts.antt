@@ -16,6 +16,7 @@ use Rattle.isle_core.specs.PatternType.{AreVariantsApart, IsOfMaking}
 use Rattle.isle_core.specs.Rule.{Environment}
 use Rattle.isle_core.specs.Terms.{sym_text}
 use Rattle.isle_core.specs.Value.{Value, Truth, Int, Opaque, Variant, Struct, FieldValues, NoField, Field}
+use Rattle.isle_core.proofs.OptionLaws.{some_same}
 
 -- ---- fields
 
@@ -42,9 +43,6 @@ record FoundAt {A : Type 0} (p : A → Bool) (xs : List A) : Type 0 where
 found_more : {A : Type 0} (p : A → Bool) (x : A) (xs : List A) (b : Bool) → p x ≡ b → FoundAt p xs → FoundAt p (x ∷ xs)
 found_more p x xs true e h = record { place = 0; found = x; is = rw e refl; there = refl; holds = e }
 found_more p x xs false e h = record { place = suc h.place; found = h.found; is = rw e h.is; there = h.there; holds = h.holds }
-
-some_same : {A : Type 0} (x y : A) → Some x ≡ Some y → x ≡ y
-some_same x y e = cc
 
 find_there : {A : Type 0} (p : A → Bool) (xs : List A) (k : ℕ) (x : A) → slice_get xs k ≡ Some x → p x ≡ true → FoundAt p xs
 find_there p [] k x e h = cc

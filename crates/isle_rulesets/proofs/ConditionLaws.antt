@@ -20,6 +20,7 @@ use Rattle.isle_core.specs.Tests.{Test, is_constraint, Places, no_places, called
 use Rattle.isle_core.specs.Rule.{Environment, IfLet, Rule}
 use Rattle.isle_core.proofs.AnsweredTerms.{IsPlaced}
 use Rattle.isle_core.proofs.PlacedVariables.{rule_placed}
+use Rattle.isle_core.proofs.OptionLaws.{some_same}
 use Rattle.isle_scope.specs.Table.{held}
 use Rattle.isle_rulesets.specs.declared.pattern_tests.PatternTests.{PatternTests}
 use Rattle.isle_rulesets.specs.Conditions.{is_something, found_at, FindsAll, condition_paths, TakesCondition, with_iflets, NumbersRule}
@@ -185,9 +186,6 @@ iflets_turn env (c ∷ cs) places b w =
 var_stands : (ps : List Path) (o : Option BindingId) (q : Option Path) → path_at ps o ≡ q → ((p : Path) → q ≡ Some p → p ≡ Nowhere → ⊥) → StandsAt ps o q
 var_stands ps None None e h = tt
 var_stands ps (Some b) (Some p) e h = at_there ps b.0 p (h p refl) (some_same (at ps b) p e)
-  where
-    some_same : (x y : Path) → Some x ≡ Some y → x ≡ y
-    some_same x y e' = cc
 var_stands ps None (Some p) e h = cc
 var_stands ps (Some b) None e h = cc
 

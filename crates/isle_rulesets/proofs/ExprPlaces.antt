@@ -23,6 +23,7 @@ use Rattle.isle_core.specs.Rule.{Environment, IfLet, Rule}
 use Rattle.isle_core.proofs.AnsweredTerms.{IsPlaced}
 use Rattle.isle_core.proofs.Contained.{contained_cases, none_contained}
 use Rattle.isle_core.proofs.PlacedVariables.{rule_placed}
+use Rattle.isle_core.proofs.OptionLaws.{some_same}
 use Rattle.isle_rulesets.specs.Conditions.{with_iflets}
 use Rattle.isle_rulesets.proofs.ConditionCalls.{terms_built}
 use Rattle.isle_rulesets.proofs.LetLaws.{itself}
@@ -41,9 +42,6 @@ ArePlain env places = (x : ℕ) (p : Path) → places x ≡ Some p → calls_mul
 
 some_plain : (env : Environment) (b : Bool) (q : Path) (o : Option Path) (p : Path) → calls_multi env q ≡ false → (o ≡ Some p → calls_multi env p ≡ false) → cond b (Some q) o ≡ Some p → calls_multi env p ≡ false
 some_plain env true q o p h k e = subst (λ r. calls_multi env r ≡ false) (some_same q p e) h
-  where
-    some_same : (a b : Path) → Some a ≡ Some b → a ≡ b
-    some_same a b e' = cc
 some_plain env false q o p h k e = k e
 
 pub with_plain : (env : Environment) (places : Places) (x : ℕ) (q : Path) → ArePlain env places → calls_multi env q ≡ false → ArePlain env (with places x q)

@@ -13,6 +13,7 @@ use Rattle.isle_core.specs.declared.rule_sets.Binding.{Binding}
 use Rattle.isle_core.specs.Path.{Path, add_path, paths_of}
 use Rattle.isle_core.specs.StandsFor.{EachOnce}
 use Rattle.isle_core.proofs.Contained.{contained_cases, none_contained}
+use Rattle.isle_core.proofs.OptionLaws.{some_same}
 use Rattle.isle_rulesets.specs.declared.keys.Key.{Key}
 use Rattle.isle_rulesets.specs.declared.keys.Key.TheVariants as key
 use Rattle.isle_rulesets.specs.Keys.{key_cmp, key_binding, key_path, HasParts}
@@ -31,9 +32,6 @@ paths_push bs k = fold_push add_path [] bs (key_binding k)
 pub record Puts (old new : Key → Option BindingId) (k : Key) (b : BindingId) : Type 0 where
   pub at : new k ≡ Some b
   pub others : (q : Key) → new q ≡ cond (is_eq (key_cmp k q)) (Some b) (old q)
-
-some_same : {A : Type 0} (x y : A) → Some x ≡ Some y → x ≡ y
-some_same x y e = cc
 
 none_some : {A : Type 0} (x : A) → None ≡ Some x → ⊥
 none_some x e = cc

@@ -8,6 +8,7 @@ use Rattle.isle_core.specs.declared.BindingId.{BindingId}
 use Rattle.isle_core.specs.Path.{Path, Paths, APath, Nowhere, at, at_all, paths_of}
 use Rattle.isle_core.specs.StandsFor.{EachOnce}
 use Rattle.isle_core.proofs.Contained.{head_contained, tail_contained}
+use Rattle.isle_core.proofs.OptionLaws.{some_same}
 use Rattle.isle_rulesets.specs.Keys.{IsThere}
 use Rattle.isle_rulesets.specs.Numbering.{Numbered, Extends, MeetsLists}
 
@@ -79,9 +80,6 @@ pub append_once : {A : Type 0} (xs ys : List A) → EachOnce xs → EachOnce ys 
 append_once [] ys h k apart = k
 append_once (x ∷ xs) ys h k apart =
     (λ c. ⊎_elim h.0 (apart x (head_contained x xs)) (Contains-append_cases xs ys x c), append_once xs ys h.1 k (λ y c d. apart y (tail_contained x xs y c) d))
-
-some_same : {A : Type 0} (x y : A) → Some x ≡ Some y → x ≡ y
-some_same x y e = cc
 
 at_once : (ps : List Path) (a b : ℕ) (p : Path) → EachOnce ps → slice_get ps a ≡ Some p → slice_get ps b ≡ Some p → a ≡ b
 at_once [] a b p h e f = cc

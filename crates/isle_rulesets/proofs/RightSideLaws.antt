@@ -35,6 +35,7 @@ use Rattle.isle_core.specs.Rule.{Environment}
 use Rattle.isle_core.specs.Scope.{IsInScope, AreInScope}
 use Rattle.isle_scope.specs.Table.{held}
 use Rattle.isle_core.proofs.Contained.{head_contained, contained_cases, none_contained}
+use Rattle.isle_core.proofs.OptionLaws.{some_same}
 use Rattle.isle_rulesets.specs.declared.made.Made.{Made}
 use Rattle.isle_rulesets.specs.declared.made.Made.TheVariants as made
 use Rattle.isle_rulesets.specs.Keys.{key_path, IsThere, HasParts}
@@ -103,9 +104,6 @@ given_prim (Ok b) terms variables old new bs e ty name is h = λ env places t s.
 
 var_there : (ps : List Path) (o : Option BindingId) (q : Option Path) (b : BindingId) → o ≡ Some b → StandsAt ps o q → slice_get ps b.0 ≡ Some (path_or q)
 var_there ps (Some c) (Some p) b e h = subst (λ (x : BindingId). slice_get ps x.0 ≡ Some p) (some_same c b e) h
-  where
-    some_same : (x y : BindingId) → Some x ≡ Some y → x ≡ y
-    some_same x y e' = cc
 var_there ps None q b e h = cc
 var_there ps (Some c) None b e h = absurd h
 
@@ -451,17 +449,11 @@ given_over terms variables old new before after es i bs le h = subst (λ xs. All
 known_in : (scope : List ℕ) (es : List Expr) (i : ℕ) (e : Expr) → AreInScope scope (exprs_of es) → slice_get es i ≡ Some e → IsInScope scope e
 known_in scope [] i e h k = cc
 known_in scope (x ∷ es) zero e h k = subst (IsInScope scope) (some_same x e k) h.0
-  where
-    some_same : (x y : Expr) → Some x ≡ Some y → x ≡ y
-    some_same x y e' = cc
 known_in scope (x ∷ es) (suc i) e h k = known_in scope es i e h.1 k
 
 terms_in : (terms : List Term) (es : List Expr) (i : ℕ) (e : Expr) → AllHaveBuiltTerms terms (exprs_of es) → slice_get es i ≡ Some e → HasBuiltTerms terms e
 terms_in terms [] i e h k = cc
 terms_in terms (x ∷ es) zero e h k = subst (HasBuiltTerms terms) (some_same x e k) h.0
-  where
-    some_same : (x y : Expr) → Some x ≡ Some y → x ≡ y
-    some_same x y e' = cc
 terms_in terms (x ∷ es) (suc i) e h k = terms_in terms es i e h.1 k
 
 seen_at : (es : List CodeExpr) (i : ℕ) (x : CodeExpr) → i < length es → x ≡ get_or es i x → slice_get (map seen es) i ≡ Some (seen x)
@@ -493,9 +485,6 @@ there_stand ps variables h = record { by = λ x. stands_there ps (held variables
 there_by : (ps : List Path) (o : Option BindingId) (q : Option Path) (b : BindingId) → StandsAt ps o q → o ≡ Some b → IsThere ps b
 there_by ps None q b s e = cc
 there_by ps (Some c) (Some p) b s e = (p, subst (λ (d : BindingId). slice_get ps d.0 ≡ Some p) (some_same c b e) s)
-  where
-    some_same : (x y : BindingId) → Some x ≡ Some y → x ≡ y
-    some_same x y e' = cc
 there_by ps (Some c) None b s e = absurd s
 
 -- numbers that stand for paths are there

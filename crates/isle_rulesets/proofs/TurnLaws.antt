@@ -9,6 +9,7 @@ use Rattle.isle_core.specs.Pattern.{Pattern, Patterns, NoPattern, APattern}
 use Rattle.isle_core.specs.RightSide.{path_or}
 use Rattle.isle_core.specs.Rule.{Environment}
 use Rattle.isle_core.specs.Tests.{Places, no_places, met_after, after, after_parts, after_each, args_after}
+use Rattle.isle_core.proofs.OptionLaws.{some_same}
 use Rattle.isle_rulesets.specs.Late.{has_turn, HasNoTurns}
 
 pub place_turn : (o : Option Path) → ((p : Path) → o ≡ Some p → has_turn p ≡ false) → has_turn (path_or o) ≡ false
@@ -17,9 +18,6 @@ place_turn (Some p) h = h p refl
 
 some_turn : (b : Bool) (q : Path) (o : Option Path) (p : Path) → has_turn q ≡ false → (o ≡ Some p → has_turn p ≡ false) → cond b (Some q) o ≡ Some p → has_turn p ≡ false
 some_turn true q o p h k e = subst (λ r. has_turn r ≡ false) (some_same q p e) h
-  where
-    some_same : (a b : Path) → Some a ≡ Some b → a ≡ b
-    some_same a b e' = cc
 some_turn false q o p h k e = k e
 
 -- one variable more

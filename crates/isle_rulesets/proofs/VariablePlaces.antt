@@ -13,6 +13,7 @@ use Rattle.isle_core.specs.Path.{Path, Nowhere, Arg, Extracted}
 use Rattle.isle_core.specs.Pattern.{Pattern, Patterns, NoPattern, APattern, Var, ConstBool, ConstInt, ConstPrim, Term, Wildcard, BindPattern, And}
 use Rattle.isle_core.specs.Tests.{Places, no_places, met_after, after, after_parts, after_each, args_after}
 use Rattle.isle_core.specs.Rule.{Environment}
+use Rattle.isle_core.proofs.OptionLaws.{some_same}
 
 -- it stands somewhere, and calls no such term
 abbrev pub IsLone : Environment → Path → Type 0
@@ -62,9 +63,6 @@ part_lone env (ByExtractor term c count) i p o = result_lone env count i (answer
 
 with_lone : (env : Environment) (b : Bool) (q : Path) (o : Option Path) (p : Path) → IsLone env q → (o ≡ Some p → IsLone env p) → cond b (Some q) o ≡ Some p → IsLone env p
 with_lone env true q o p h k e = subst (IsLone env) (some_same q p e) h
-  where
-    some_same : (a b : Path) → Some a ≡ Some b → a ≡ b
-    some_same a b f = cc
 with_lone env false q o p h k e = k e
 
 pub met_lone : (env : Environment) (o : Option Path) (x : ℕ) (p : Path) (places : Places) → IsLone env p → AreLone env places → AreLone env (met_after o x p places)
