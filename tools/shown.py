@@ -59,7 +59,7 @@ def value_behind(words, option):
 def function_text(program, words):
     """The emitted function of the term that a line runs."""
     run = [word for word in words if word not in ("--trace", "--no-allow", "--log", "--split")]
-    for option in ("--answers", "--threshold", "--prefix"):
+    for option in ("--answers", "--threshold", "--prefix", "--max-returns"):
         while option in run[:-1]:
             at = run.index(option)
             run = run[:at] + run[at + 2:]

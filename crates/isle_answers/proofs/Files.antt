@@ -12,25 +12,24 @@ use Rattle.isle_reading.proofs.ListLaws.{law_all_from}
 use Rattle.isle_reading.proofs.States.{Opened, opened_start}
 use Rattle.isle_answers.specs.Form.{Form}
 use Rattle.isle_answers.specs.Places.{AreForms}
-use Rattle.isle_answers.specs.Reading.{Still, still_after, read_form, read_forms}
-use Rattle.isle_answers.specs.Spelling.{FormsS, no_form, a_form, held_form, max_form, SpellsTokens}
-use Rattle.isle_answers.proofs.FormLaws.{OneS, one_forms, form_one, held_one, max_one, one_some, law_form}
+use Rattle.isle_answers.specs.Reading.{held_after, read_form, read_forms}
+use Rattle.isle_answers.specs.Spelling.{FormsS, no_form, a_form, held_form, SpellsTokens}
+use Rattle.isle_answers.proofs.FormLaws.{OneS, one_forms, form_one, held_one, one_some, law_form}
 
 -- forms up to the end, and nothing after them
 abbrev WholeS : List Form → List Lexeme → List Lexeme → Type 0
-WholeS fs ts rest = FormsS true true fs ts × (rest ≡ [])
+WholeS fs ts rest = FormsS true fs ts × (rest ≡ [])
 
-all_forms : (still : Still) (fs : List Form) (ts rest : List Lexeme) → AllFrom OneS still_after still fs ts rest → FormsS still.0 still.1 fs ts
-all_forms _ _ _ _ (no_item still) = no_form still.0 still.1
-all_forms _ _ _ _ (an_item still f others ts rest x m) = one_forms still f others ts rest x (all_forms (still_after still f) others rest [] m)
+all_forms : (held : Bool) (fs : List Form) (ts rest : List Lexeme) → AllFrom OneS held_after held fs ts rest → FormsS held fs ts
+all_forms _ _ _ _ (no_item held) = no_form held
+all_forms _ _ _ _ (an_item held f others ts rest x m) = one_forms held f others ts rest x (all_forms (held_after held f) others rest [] m)
 
-forms_all : (held max : Bool) (fs : List Form) (ts : List Lexeme) → FormsS held max fs ts → AllFrom OneS still_after (held, max) fs ts []
-forms_all _ _ _ _ (no_form held max) = no_item (held, max)
-forms_all _ _ _ _ (a_form held max f others ts rest s k) =
-    let x = form_one held max f ts rest s in
-    an_item (held, max) f others ts rest x.0 (subst (λ z. AllFrom OneS still_after (z, (still_after (held, max) f).1) others rest []) (sym x.1) (subst (λ z. AllFrom OneS still_after (held, z) others rest []) (sym x.2) (forms_all held max others rest k)))
-forms_all _ _ _ _ (held_form max at h n c count w digits others rest e ec k) = an_item (true, max) _ others _ rest (held_one max at h n c count w digits rest e ec) (forms_all false max others rest k)
-forms_all _ _ _ _ (max_form held at h n c count w digits others rest e ec k) = an_item (held, true) _ others _ rest (max_one held at h n c count w digits rest e ec) (forms_all held false others rest k)
+forms_all : (held : Bool) (fs : List Form) (ts : List Lexeme) → FormsS held fs ts → AllFrom OneS held_after held fs ts []
+forms_all _ _ _ (no_form held) = no_item held
+forms_all _ _ _ (a_form held f others ts rest s k) =
+    let x = form_one held f ts rest s in
+    an_item held f others ts rest x.0 (subst (λ z. AllFrom OneS held_after z others rest []) (sym x.1) (forms_all held others rest k))
+forms_all _ _ _ (held_form at h n c count w digits others rest e ec k) = an_item true _ others _ rest (held_one at h n c count w digits rest e ec) (forms_all false others rest k)
 
 most_is : 1 + (most_open - 1) ≡ most_open
 unfolding most_open
@@ -42,12 +41,12 @@ two_inside = omega arith
 
 law_forms : (n : ℕ) → Law (Opened 0) (λ fs. Opened 0) Ended n WholeS (read_forms n)
 unfolding read_forms
-law_forms n = law_map (λ fs ts rest s. (all_forms (true, true) fs ts rest s, ended (true, true) fs ts rest s)) (λ fs ts rest s. subst (AllFrom OneS still_after (true, true) fs ts) (sym s.1) (forms_all true true fs ts s.0))
-    (law_all_from (Opened 0) n OneS (read_form n (most_open - 1)) still_after (law_form n (most_open - 1) most_is two_inside) (λ s f ts rest x. tt) tt one_some n (omega arith) (true, true))
+law_forms n = law_map (λ fs ts rest s. (all_forms true fs ts rest s, ended true fs ts rest s)) (λ fs ts rest s. subst (AllFrom OneS held_after true fs ts) (sym s.1) (forms_all true fs ts s.0))
+    (law_all_from (Opened 0) n OneS (read_form n (most_open - 1)) held_after (law_form n (most_open - 1) most_is two_inside) (λ s f ts rest x. tt) tt one_some n (omega arith) true)
   where
-    ended : (still : Still) (fs : List Form) (ts rest : List Lexeme) → AllFrom OneS still_after still fs ts rest → rest ≡ []
-    ended _ _ _ _ (no_item still) = refl
-    ended _ _ _ _ (an_item still f others ts rest x m) = refl
+    ended : (held : Bool) (fs : List Form) (ts rest : List Lexeme) → AllFrom OneS held_after held fs ts rest → rest ≡ []
+    ended _ _ _ _ (no_item held) = refl
+    ended _ _ _ _ (an_item held f others ts rest x m) = refl
 
 -- what is got is spelt
 pub forms_got : (n : ℕ) (ts rest : List Lexeme) (fs : List Form) → run (read_forms n) ts ≡ Got fs rest → SpellsTokens ts fs

@@ -23,8 +23,6 @@ pub record CaseForm : Type 0 where
 pub data Form : Type 0 where
   -- the length of the returns list at entry
   Held : (count at : ℕ) → Form
-  -- the limit of the returns list
-  Max : (count at : ℕ) → Form
   Const : (name : List ℕ) → Written → (at : ℕ) → Form
   Answers : Callee → List CaseForm → (rest : AnswerForm) → (at : ℕ) → Form
   Turns : Callee → List AnswerForm → (rest : AnswerForm) → (at : ℕ) → Form

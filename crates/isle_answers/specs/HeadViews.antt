@@ -7,7 +7,7 @@ use Rattle.isle_answers.specs.declared.cases.PartHead.{PartHead as CodePartHead}
 use Rattle.isle_answers.specs.declared.cases.PartHead.TheVariants as code_part
 use Rattle.isle_answers.specs.declared.reading.FormHead.{FormHead as CodeFormHead}
 use Rattle.isle_answers.specs.declared.reading.FormHead.TheVariants as code_form
-use Rattle.isle_answers.specs.Reading.{ResultHead, TupleHead, MadeHead, AnswerHead, SomeHead, NoneHead, ListHead, ResultIs, PartHead, CaseHead, RestHead, FormHead, HeldHead, MaxHead, ConstHead, AnswersHead, TurnsHead}
+use Rattle.isle_answers.specs.Reading.{ResultHead, TupleHead, MadeHead, AnswerHead, SomeHead, NoneHead, ListHead, ResultIs, PartHead, CaseHead, RestHead, FormHead, HeldHead, ConstHead, AnswersHead, TurnsHead}
 
 -- what a result's list is
 abbrev pub result_head_seen : CodeResultHead → ResultHead
@@ -29,7 +29,6 @@ part_head_seen code_part.Rest = RestHead
 -- what a form is
 abbrev pub form_head_seen : CodeFormHead → FormHead
 form_head_seen code_form.Held = HeldHead
-form_head_seen code_form.Max = MaxHead
 form_head_seen code_form.Const = ConstHead
 form_head_seen code_form.Answers = AnswersHead
 form_head_seen code_form.Turns = TurnsHead

@@ -8,7 +8,7 @@ use Rattle.isle_answers.specs.Spelling.{FormsS}
 
 -- the tokens are the forms of an answers file, however deep they nest
 abbrev pub AreForms : List Lexeme → Type 0
-AreForms ts = (forms : List Form) × FormsS true true forms ts
+AreForms ts = (forms : List Form) × FormsS true forms ts
 
 -- the place of a fault of a text
 pub data IsFault (text : List ℕ) (at : ℕ) : Type 0 where

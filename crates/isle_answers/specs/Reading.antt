@@ -221,24 +221,22 @@ read_turns n d (suc m) done = read_ended (ended done) (bind (read_answer n d) (�
 -- what a form is
 pub data FormHead : Type 0 where
   HeldHead : FormHead
-  MaxHead : FormHead
   ConstHead : FormHead
   AnswersHead : FormHead
   TurnsHead : FormHead
 
--- what a form is, where `held` and `max` may still stand or may not
-abbrev pub form_head_of : (held max : Bool) → List ℕ → Option FormHead
-form_head_of held max w =
+-- what a form is, where `held` may still stand or may not
+abbrev pub form_head_of : (held : Bool) → List ℕ → Option FormHead
+form_head_of held w =
     if held && bytes_eq w (codes "held") then Some HeldHead
-    else (if max && bytes_eq w (codes "max") then Some MaxHead
     else (if bytes_eq w (codes "const") then Some ConstHead
     else (if bytes_eq w (codes "answers") then Some AnswersHead
     else (if bytes_eq w (codes "turns") then Some TurnsHead
-    else None))))
+    else None)))
 
 -- the first word of a form, as it is read
-unfoldable pub read_form_head : (held max : Bool) → Reader FormHead
-read_form_head held max = read_word (form_head_of held max)
+unfoldable pub read_form_head : (held : Bool) → Reader FormHead
+read_form_head held = read_word (form_head_of held)
 
 -- N
 unfoldable pub read_count : Reader ℕ
@@ -251,10 +249,6 @@ read_callee = read_word callee_of
 -- N ) of `held` at that place
 unfoldable pub read_held : ℕ → Reader Form
 read_held at = bind read_count (λ count. bind read_close (λ c. Ret (form.Held count at)))
-
--- N ) of `max` at that place
-unfoldable pub read_max : ℕ → Reader Form
-read_max at = bind read_count (λ count. bind read_close (λ c. Ret (form.Max count at)))
 
 -- NAME V ) of the constant at that place
 unfoldable pub read_const : ℕ → ℕ → ℕ → Reader Form
@@ -271,39 +265,21 @@ read_turned n d at = bind read_callee (λ callee. bind (read_turns n d n []) (λ
 -- after the first word of the form at that place
 abbrev pub read_form_after : ℕ → ℕ → ℕ → FormHead → Reader Form
 read_form_after n d at HeldHead = read_held at
-read_form_after n d at MaxHead = read_max at
 read_form_after n d at ConstHead = read_const n d at
 read_form_after n d at AnswersHead = read_answers n d at
 read_form_after n d at TurnsHead = read_turned n d at
 
--- whether `held` and `max` may still stand
-abbrev pub Still : Type 0
-Still = Bool × Bool
-
--- a form
-unfoldable pub read_form : ℕ → ℕ → Still → Reader Form
-read_form n d still = bind read_open (λ at. bind (read_form_head still.0 still.1) (λ h. read_form_after n d at h))
+-- a form, where `held` may still stand or may not
+unfoldable pub read_form : ℕ → ℕ → (held : Bool) → Reader Form
+read_form n d held = bind read_open (λ at. bind (read_form_head held) (λ h. read_form_after n d at h))
 
 -- whether `held` may still stand after the form
 abbrev pub held_after : Bool → Form → Bool
 held_after held (form.Held count at) = false
-held_after held (form.Max count at) = held
 held_after held (form.Const name v at) = held
 held_after held (form.Answers callee cases rest at) = held
 held_after held (form.Turns callee turns rest at) = held
 
--- whether `max` may still stand after the form
-abbrev pub max_after : Bool → Form → Bool
-max_after max (form.Held count at) = max
-max_after max (form.Max count at) = false
-max_after max (form.Const name v at) = max
-max_after max (form.Answers callee cases rest at) = max
-max_after max (form.Turns callee turns rest at) = max
-
--- what may still stand after the form
-abbrev pub still_after : Still → Form → Still
-still_after still f = (held_after still.0 f, max_after still.1 f)
-
 -- forms up to the end, of at most n tokens
 unfoldable pub read_forms : ℕ → Reader (List Form)
-read_forms n = all_from n (read_form n (most_open - 1)) still_after (true, true)
+read_forms n = all_from n (read_form n (most_open - 1)) held_after true

@@ -68,21 +68,18 @@ pub data FormS : Form → List Lexeme → List Lexeme → Type 0 where
       → callee_of name ≡ Some callee → TurnsS turns a ts rest
       → FormS (form.Turns callee turns a at) (Open at ∷ Word h w ∷ Word n name ∷ ts) rest
 
--- forms up to the end, if ( held N ) and ( max N ) may still stand, once, or may not
-pub data FormsS : (held max : Bool) → List Form → List Lexeme → Type 0 where
-  no_form : (held max : Bool) → FormsS held max [] []
-  a_form : (held max : Bool) (f : Form) (others : List Form) (ts rest : List Lexeme) → FormS f ts rest → FormsS held max others rest → FormsS held max (f ∷ others) ts
-  held_form : (max : Bool) (at h n c count : ℕ) (w digits : List ℕ) (others : List Form) (rest : List Lexeme) → w ≡ codes "held" → count_of digits ≡ Some count
-      → FormsS false max others rest
-      → FormsS true max (form.Held count at ∷ others) (Open at ∷ Word h w ∷ Word n digits ∷ Close c ∷ rest)
-  max_form : (held : Bool) (at h n c count : ℕ) (w digits : List ℕ) (others : List Form) (rest : List Lexeme) → w ≡ codes "max" → count_of digits ≡ Some count
-      → FormsS held false others rest
-      → FormsS held true (form.Max count at ∷ others) (Open at ∷ Word h w ∷ Word n digits ∷ Close c ∷ rest)
+-- forms up to the end, if ( held N ) may still stand, once, or may not
+pub data FormsS : (held : Bool) → List Form → List Lexeme → Type 0 where
+  no_form : (held : Bool) → FormsS held [] []
+  a_form : (held : Bool) (f : Form) (others : List Form) (ts rest : List Lexeme) → FormS f ts rest → FormsS held others rest → FormsS held (f ∷ others) ts
+  held_form : (at h n c count : ℕ) (w digits : List ℕ) (others : List Form) (rest : List Lexeme) → w ≡ codes "held" → count_of digits ≡ Some count
+      → FormsS false others rest
+      → FormsS true (form.Held count at ∷ others) (Open at ∷ Word h w ∷ Word n digits ∷ Close c ∷ rest)
 
 -- the tokens are accepted: no deeper than they may be, and forms
 pub record SpellsTokens (ts : List Lexeme) (forms : List Form) : Type 0 where
   pub shallow : depth ts ≤ most_open
-  pub spelt : FormsS true true forms ts
+  pub spelt : FormsS true forms ts
 
 -- the text spells the forms
 pub record SpellsForms (text : List ℕ) (forms : List Form) : Type 0 where

@@ -30,7 +30,6 @@ case_seen c = record { args = map written c.0; answer = answer_seen c.1 }
 -- a form
 abbrev pub form_seen : CodeForm → Form
 form_seen (code_form.Held count at) = form.Held count at
-form_seen (code_form.Max count at) = form.Max count at
 form_seen (code_form.Const name v at) = form.Const name (written v) at
 form_seen (code_form.Answers callee cases rest at) = form.Answers callee (map case_seen cases) (answer_seen rest) at
 form_seen (code_form.Turns callee turns rest at) = form.Turns callee (map answer_seen turns) (answer_seen rest) at

@@ -25,11 +25,6 @@ pub enum Form {
         count: usize,
         at: usize,
     },
-    /// The limit of the returns list.
-    Max {
-        count: usize,
-        at: usize,
-    },
     Const {
         name: Text,
         value: Written,

@@ -4,8 +4,8 @@ ghost use Rattle.isle_reading.specs.Nesting.{most_open};
 ghost use Rattle.isle_reading.specs.Views.{left, Reads};
 ghost use Rattle.isle_answers.specs.Words.{count_of, callee_of};
 ghost use Rattle.isle_answers.specs.Reading.{form_head_of, read_form_head, read_count, read_callee};
-ghost use Rattle.isle_answers.specs.Reading.{read_held, read_max, read_const, read_answers, read_turned};
-ghost use Rattle.isle_answers.specs.Reading.{read_form_after, held_after, max_after, read_form, read_forms};
+ghost use Rattle.isle_answers.specs.Reading.{read_held, read_const, read_answers, read_turned};
+ghost use Rattle.isle_answers.specs.Reading.{read_form_after, held_after, read_form, read_forms};
 ghost use Rattle.isle_answers.specs.Views.{form_seen, forms_seen};
 ghost use Rattle.isle_answers.specs.HeadViews.{form_head_seen};
 
@@ -22,21 +22,18 @@ use std::alloc::{AllocError, Global};
 #[derive(Clone, Copy)]
 enum FormHead {
     Held,
-    Max,
     Const,
     Answers,
     Turns,
 }
 
-// What the form is that is next, where `held` and `max` may still stand or may not.
+// What the form is that is next, where `held` may still stand or may not.
 #[tactic(auto, using(isle_reading::proofs::Steps::next))]
-fn next_head(tokens: &Tokens<'_>, held: bool, max: bool) -> Option<FormHead>
-    ensures { option_map form_head_seen result
-        ≡ next_word (form_head_of held max) (left tokens.now) }
+fn next_head(tokens: &Tokens<'_>, held: bool) -> Option<FormHead>
+    ensures { option_map form_head_seen result ≡ next_word (form_head_of held) (left tokens.now) }
 {
     match tokens.word()? {
         "held" if held => Some(FormHead::Held),
-        "max" if max => Some(FormHead::Max),
         "const" => Some(FormHead::Const),
         "answers" => Some(FormHead::Answers),
         "turns" => Some(FormHead::Turns),
@@ -46,11 +43,11 @@ fn next_head(tokens: &Tokens<'_>, held: bool, max: bool) -> Option<FormHead>
 
 // What a form is.
 #[tactic(auto, using(isle_reading::proofs::Steps::words), unfolding(crate::specs::Reading::read_form_head))]
-fn head(tokens: &mut Tokens<'_>, held: bool, max: bool) -> Result<FormHead, Fail>
-    ensures { Reads form_head_seen result (read_form_head held max) (left tokens.old)
+fn head(tokens: &mut Tokens<'_>, held: bool) -> Result<FormHead, Fail>
+    ensures { Reads form_head_seen result (read_form_head held) (left tokens.old)
         (left tokens.new) }
 {
-    match next_head(tokens, held, max) {
+    match next_head(tokens, held) {
         Some(head) => {
             tokens.skip();
             Ok(head)
@@ -89,16 +86,6 @@ fn held_form(tokens: &mut Tokens<'_>, at: usize) -> Result<Form, Fail>
     let count = count(tokens)?;
     tokens.close()?;
     Ok(Form::Held { count, at })
-}
-
-// The count of `max` at that place, and the closing parenthesis after it.
-#[tactic(auto, using(isle_reading::proofs::Steps::chain), unfolding(crate::specs::Reading::read_max))]
-fn max_form(tokens: &mut Tokens<'_>, at: usize) -> Result<Form, Fail>
-    ensures { Reads form_seen result (read_max at) (left tokens.old) (left tokens.new) }
-{
-    let count = count(tokens)?;
-    tokens.close()?;
-    Ok(Form::Max { count, at })
 }
 
 // What is called, by the word that is next.
@@ -202,27 +189,20 @@ fn form_after(
 {
     match head {
         FormHead::Held => held_form(tokens, at),
-        FormHead::Max => max_form(tokens, at),
         FormHead::Const => constant(tokens, alloc, most, depth, at),
         FormHead::Answers => answered(tokens, alloc, most, depth, at),
         FormHead::Turns => turned(tokens, alloc, most, depth, at),
     }
 }
 
-// A form, where `held` and `max` may still stand or may not.
+// A form, where `held` may still stand or may not.
 #[tactic(auto, using(isle_reading::proofs::Steps::chain), unfolding(crate::specs::Reading::read_form))]
-fn form(
-    tokens: &mut Tokens<'_>,
-    alloc: Global,
-    most: usize,
-    held: bool,
-    max: bool,
-) -> Result<Form, Fail>
-    ensures { Reads form_seen result (read_form most (most_open - 1) (held, max)) (left tokens.old)
+fn form(tokens: &mut Tokens<'_>, alloc: Global, most: usize, held: bool) -> Result<Form, Fail>
+    ensures { Reads form_seen result (read_form most (most_open - 1) held) (left tokens.old)
         (left tokens.new) }
 {
     let at = tokens.open()?;
-    let head = head(tokens, held, max)?;
+    let head = head(tokens, held)?;
     form_after(tokens, alloc, most, most_inside(), at, head)
 }
 
@@ -236,16 +216,6 @@ fn held_after(held: bool, form: &Form) -> bool
     }
 }
 
-// Whether `max` may still stand after the form.
-fn max_after(max: bool, form: &Form) -> bool
-    ensures { result ≡ max_after max (form_seen form.now) }
-{
-    match form {
-        Form::Max { .. } => false,
-        _ => max,
-    }
-}
-
 /// Reads the forms of a file of at most `most` tokens, up to its end.
 #[tactic(auto, using(isle_reading::proofs::ListSteps::alls), unfolding(crate::specs::Reading::read_forms))]
 pub fn all_forms(tokens: &mut Tokens<'_>, alloc: Global, most: usize) -> Result<Vec<Form>, Fail>
@@ -254,14 +224,12 @@ pub fn all_forms(tokens: &mut Tokens<'_>, alloc: Global, most: usize) -> Result<
 {
     let mut forms = Vec::new(alloc);
     let mut held = true;
-    let mut max = true;
     for _ in 0..most {
         if tokens.len() == 0 {
             return Ok(forms);
         }
-        let form = form(tokens, alloc, most, held, max)?;
+        let form = form(tokens, alloc, most, held)?;
         held = held_after(held, &form);
-        max = max_after(max, &form);
         forms.push(form)?;
     }
     if tokens.len() == 0 {

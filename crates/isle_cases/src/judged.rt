@@ -7,7 +7,7 @@ use isle_tree::{Function, Operand, Program, Read, Stmt, TCall, TExpr, Ty};
 use std::alloc::{AllocError, Global};
 
 /// What the one statement of each program does, in the order of `statement`.
-const PROGRAMS: [&str; 12] = [
+const PROGRAMS: [&str; 14] = [
     "returns its parameter",
     "returns another parameter",
     "returns a local that isn't bound",
@@ -20,6 +20,8 @@ const PROGRAMS: [&str; 12] = [
     "calls itself without an argument",
     "calls itself with two arguments",
     "calls a function that isn't there",
+    "stops the closure that it stands in",
+    "stops the function in a closure",
 ];
 
 // A return of an operand.
@@ -45,6 +47,15 @@ fn called(alloc: Global, term: &str, count: usize) -> Result<Stmt, AllocError> {
     Ok(Stmt::LetList { local: 0, call })
 }
 
+// A closure that stops itself, or the function around it, at two results.
+fn closed(alloc: Global, inside: bool) -> Result<Stmt, AllocError> {
+    let stop = Stmt::Overflow { inside, limit: 2 };
+    Ok(Stmt::Split {
+        body: List::new(vec![in alloc; stop]?),
+        inside: false,
+    })
+}
+
 // The statement of a program.
 fn statement(alloc: Global, number: usize) -> Result<Stmt, AllocError> {
     match number {
@@ -58,7 +69,8 @@ fn statement(alloc: Global, number: usize) -> Result<Stmt, AllocError> {
         8 => called(alloc, "f", 1),
         9 => called(alloc, "f", 0),
         10 => called(alloc, "f", 2),
-        _ => called(alloc, "g", 1),
+        11 => called(alloc, "g", 1),
+        _ => closed(alloc, number == 12),
     }
 }
 

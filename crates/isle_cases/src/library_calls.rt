@@ -6,6 +6,7 @@ use crate::literals::push_literals;
 use crate::samples::push_samples;
 use crate::signatures::push_signatures;
 use crate::slip::Slip;
+use crate::weights::push_weights;
 use std::alloc::{AllocError, Global};
 
 // Writes what the calls answer.
@@ -13,6 +14,7 @@ fn push_calls(alloc: Global, lines: &mut String) -> Result<(), AllocError> {
     push_signatures(alloc, lines)?;
     push_literals(alloc, lines)?;
     push_judged(alloc, lines)?;
+    push_weights(alloc, lines)?;
     push_samples(alloc, lines)?;
     match push_iterators(alloc, lines) {
         Ok(()) => Ok(()),

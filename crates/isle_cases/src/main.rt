@@ -17,6 +17,7 @@ mod spelling;
 mod tokens;
 mod topics;
 mod wanted;
+mod weights;
 
 use report::Report;
 use slip::Slip;

@@ -24,6 +24,7 @@ use Rattle.isle_core.specs.HoldsImpure.{takes_turn}
 use Rattle.isle_core.specs.Rule.{Environment}
 use Rattle.isle_core.specs.Setting.{Setting, gives_several}
 use Rattle.isle_core.specs.Terms.{is_impure}
+use Rattle.isle_core.proofs.OptionLaws.{some_same}
 use Rattle.isle_blocks.specs.AskedCalls.{if_pure, asked_one, asked_binds, asked_calls, asked_control, asked_arms}
 use Rattle.isle_blocks.specs.LoopFree.{HasNoLoop, HasNoLoopWithin, HaveNoLoop}
 use Rattle.isle_blocks.proofs.NeedsAsked.{asked_append as binds_append}
@@ -37,7 +38,7 @@ use Rattle.isle_tree.specs.Program as tree
 use Rattle.isle_tree.specs.Program.{Stmt, Let, Overflow, Body, Done, Then, Function}
 use Rattle.isle_simulation.specs.Completed.{local_parts, each_needed, with_parts, needed, needs, read_for, read_by, with_needs, completed_binds, step_binds, completed, completed_control, completed_arms}
 use Rattle.isle_simulation.specs.LogLines.{LogLine}
-use Rattle.isle_simulation.specs.Manner.{Manner, manner_of}
+use Rattle.isle_simulation.specs.Manner.{Manner, manner_of, has_closure, closed_if, arm_manner, arm_body}
 use Rattle.isle_simulation.specs.Operands.{is_bound}
 use Rattle.isle_simulation.specs.Patterns.{arm_pattern}
 use Rattle.isle_simulation.specs.Statements.{callee_of, call_on, call_of, extraction_of, inner_of, part_of, read_of, made_named, made_of, made_in, computed, bound_expr, stmt_before, binds_list, local_stmt, let_of, lets, if_eq, if_let, return_of, stop_before, looped_local, loop_of, read_in, arm_stmt, match_read, match_of, arm_before, told_body, told_control, told_arms, told_each}
@@ -45,7 +46,7 @@ use Rattle.isle_simulation.specs.Telling.{Telling, told_before, line_before}
 use Rattle.isle_simulation.specs.TermFunction.{ends_in_return, tail_body, mark_in, tail_in, root_body, function_with, term_function}
 use Rattle.isle_simulation.proofs.NamelessLaws.{turned_impure}
 use Rattle.isle_codegen.specs.Asking.{asked_callees, IsLoopFree, IsFreeStmt, AreFreeArms}
-use Rattle.isle_codegen.proofs.AskedFlow.{some_same, asked_append}
+use Rattle.isle_codegen.proofs.AskedFlow.{asked_append}
 
 -- ---- what bound locals compute
 
@@ -219,15 +220,17 @@ module _ (s : Setting) where
   told_asks n F (Some line) (block.Loop result body) made end h = h
   told_asks n F (Some line) (block.Return pos result) made end h = lined_asks n F (line pos) made end h
 
-  overflow_asks : (inside : Bool) → MakesStmt 0 (Unit {0}) (Some (Overflow inside))
-  overflow_asks inside t e = record { asks = let none : asked_callees s.env (stmt_calls t) ≡ 0 = ap (λ x. asked_callees s.env (stmt_calls x)) (sym (some_same (Overflow inside) t e)) in omega (arith, none); free = λ f. tt }
+  overflow_asks : (inside : Bool) (limit : ℕ) → MakesStmt 0 (Unit {0}) (Some (Overflow inside limit))
+  overflow_asks inside limit t e = record { asks = let none : asked_callees s.env (stmt_calls t) ≡ 0 = ap (λ x. asked_callees s.env (stmt_calls x)) (sym (some_same (Overflow inside limit) t e)) in omega (arith, none); free = λ f. tt }
 
-  stop_asks : (n : ℕ) (F : Type 0) (inside several : Bool) (c : Control) (made end : Option Body) → MakesBody n F made end → MakesBody n F (stop_before inside several c made) end
-  stop_asks n F inside true (block.Return pos result) made end h = more_asks (0 + n) n (Unit {0} × F) F (stmt_before (Some (Overflow inside)) made) end (omega arith) (λ f. f.1) (then_asks 0 n (Unit {0}) F (Some (Overflow inside)) made end (overflow_asks inside) h)
-  stop_asks n F inside true (block.Match source arms) made end h = h
-  stop_asks n F inside true (block.Equal a b body) made end h = h
-  stop_asks n F inside true (block.Loop result body) made end h = h
-  stop_asks n F inside false c made end h = h
+  stop_asks : (n : ℕ) (F : Type 0) (manner : Manner) (several : Bool) (c : Control) (made end : Option Body) → MakesBody n F made end → MakesBody n F (stop_before manner several c made) end
+  stop_asks n F manner true (block.Return pos result) made end h =
+      let stop = Overflow manner.inside manner.limit in
+      more_asks (0 + n) n (Unit {0} × F) F (stmt_before (Some stop) made) end (omega arith) (λ f. f.1) (then_asks 0 n (Unit {0}) F (Some stop) made end (overflow_asks manner.inside manner.limit) h)
+  stop_asks n F manner true (block.Match source arms) made end h = h
+  stop_asks n F manner true (block.Equal a b body) made end h = h
+  stop_asks n F manner true (block.Loop result body) made end h = h
+  stop_asks n F manner false c made end h = h
 
   -- the locals of a bind order
   let_asks : (often : Bool) (n k : ℕ) (o : Option TExpr) → ((x : TExpr) → o ≡ Some x → asked_callees s.env (expr_calls x) ≤ k) → MakesStmt k (Unit {0}) (let_of often n o)
@@ -256,6 +259,22 @@ module _ (s : Setting) where
       let none = done_none h.rest h.is in
       let asks = h.asks in
       (omega (arith, none, asks), λ f. (h.free f).0)
+
+  -- statements in a closure of their own, or as they are
+  closure_asks : (n : ℕ) (F : Type 0) (own inside : Bool) (made : Option Body) → MakesBody n F made (Some Done) → MakesBody n F (option_map (closed_if own inside) made) (Some Done)
+  closure_asks n F true inside (Some x) h b e =
+      let k = inside_asks n F x (h x refl) in
+      let same = some_same (Then (tree.Split x inside) Done) b e in
+      let sum = asked_append s.env (body_calls x) [] in
+      let asks = k.0 in
+      record {
+        rest = Done;
+        is = refl;
+        asks = subst (λ y. asked_callees s.env (body_calls y) ≤ n + 0) same (omega (arith, sum, asks));
+        free = λ f. (k.1 (subst IsLoopFree (sym same) f).0, tt);
+      }
+  closure_asks n F false inside (Some x) h b e = h b e
+  closure_asks n F own inside None h b e = absurd cc
 
   if_eq_asks : (n : ℕ) (F : Type 0) (o q : Option Operand) (made : Option Body) → MakesBody n F made (Some Done) → MakesStmt n F (if_eq o q made)
   if_eq_asks n F (Some o) (Some q) (Some b) h t e =
@@ -333,12 +352,12 @@ module _ (s : Setting) where
         let after = bound_by bound order in
         let within = asked_control s.env s.bindings c in
         let behind = asked_calls s.env s.bindings more in
-        let rest = stop_before manner.inside (gives_several s) c (told_body manner s after more end) in
+        let rest = stop_before manner (gives_several s) c (told_body manner s after more end) in
         let own = stmt_before (told_control manner s after c) rest in
         lets_ask (within + behind) (HasNoLoopWithin c × HasNoLoop more) order bound (told_before manner.telling c own) end
         (told_asks (within + behind) (HasNoLoopWithin c × HasNoLoop more) manner.telling c own end
         (then_asks within behind (HasNoLoopWithin c) (HasNoLoop more) (told_control manner s after c) rest end (control_asks manner c after)
-        (stop_asks behind (HasNoLoop more) manner.inside (gives_several s) c (told_body manner s after more end) end (body_asks manner more after end))))
+        (stop_asks behind (HasNoLoop more) manner (gives_several s) c (told_body manner s after more end) end (body_asks manner more after end))))
 
     control_asks : (manner : Manner) (c : Control) (bound : List ℕ) → MakesStmt (asked_control s.env s.bindings c) (HasNoLoopWithin c) (told_control manner s bound c)
     control_asks manner (block.Match source arms) bound = arms_ask manner arms bound source
@@ -350,18 +369,21 @@ module _ (s : Setting) where
     arms_ask manner block.NoArm bound source = λ t e. absurd cc
     arms_ask manner (block.Arm c places body block.NoArm) bound source =
         let n = asked_calls s.env s.bindings body in
-        more_stmt n (n + 0) (HasNoLoop body) (HasNoLoop body × Unit {0}) (arm_stmt s bound source c places (told_body manner s (bound_within bound places) body (Some Done))) (omega arith) (λ f. (f, tt))
-        (arm_asks n (HasNoLoop body) bound source c places (told_body manner s (bound_within bound places) body (Some Done)) (body_asks manner body (bound_within bound places) (Some Done)))
+        let made = told_body (arm_manner manner body) s (bound_within bound places) body (Some Done) in
+        more_stmt n (n + 0) (HasNoLoop body) (HasNoLoop body × Unit {0}) (arm_stmt s bound source c places (arm_body manner body made)) (omega arith) (λ f. (f, tt))
+        (arm_asks n (HasNoLoop body) bound source c places (arm_body manner body made) (closure_asks n (HasNoLoop body) (has_closure manner body) manner.inside made (body_asks (arm_manner manner body) body (bound_within bound places) (Some Done))))
     arms_ask manner (block.Arm c places body (block.Arm d others inside arms)) bound source =
+        let made = told_body (arm_manner manner body) s (bound_within bound places) body (Some Done) in
         match_asks (asked_arms s.env s.bindings (block.Arm c places body (block.Arm d others inside arms))) (HaveNoLoop (block.Arm c places body (block.Arm d others inside arms))) (match_read s bound source c) _
         (before_arms (asked_calls s.env s.bindings body) (asked_arms s.env s.bindings (block.Arm d others inside arms)) (HasNoLoop body) (HaveNoLoop (block.Arm d others inside arms)) (arm_pattern s.env c places)
-        (told_body manner s (bound_within bound places) body (Some Done)) (told_each manner s bound (block.Arm d others inside arms)) (body_asks manner body (bound_within bound places) (Some Done)) (each_ask manner (block.Arm d others inside arms) bound))
+        (arm_body manner body made) (told_each manner s bound (block.Arm d others inside arms)) (closure_asks (asked_calls s.env s.bindings body) (HasNoLoop body) (has_closure manner body) manner.inside made (body_asks (arm_manner manner body) body (bound_within bound places) (Some Done))) (each_ask manner (block.Arm d others inside arms) bound))
 
     each_ask : (manner : Manner) (arms : Arms) (bound : List ℕ) → MakesArms (asked_arms s.env s.bindings arms) (HaveNoLoop arms) (told_each manner s bound arms)
     each_ask manner block.NoArm bound = no_arm_asks
     each_ask manner (block.Arm c places body arms) bound =
-        before_arms (asked_calls s.env s.bindings body) (asked_arms s.env s.bindings arms) (HasNoLoop body) (HaveNoLoop arms) (arm_pattern s.env c places) (told_body manner s (bound_within bound places) body (Some Done)) (told_each manner s bound arms)
-        (body_asks manner body (bound_within bound places) (Some Done)) (each_ask manner arms bound)
+        let made = told_body (arm_manner manner body) s (bound_within bound places) body (Some Done) in
+        before_arms (asked_calls s.env s.bindings body) (asked_arms s.env s.bindings arms) (HasNoLoop body) (HaveNoLoop arms) (arm_pattern s.env c places) (arm_body manner body made) (told_each manner s bound arms)
+        (closure_asks (asked_calls s.env s.bindings body) (HasNoLoop body) (has_closure manner body) manner.inside made (body_asks (arm_manner manner body) body (bound_within bound places) (Some Done))) (each_ask manner arms bound)
 
   -- ---- made values have locals
 

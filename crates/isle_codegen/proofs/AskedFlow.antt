@@ -9,12 +9,13 @@ use Rattle.isle_core.specs.Rule.{Environment}
 use Rattle.isle_core.specs.SameInRun.{same_in_run}
 use Rattle.isle_core.specs.Terms.{is_impure}
 use Rattle.isle_core.specs.Value.{Value, FieldValues, Made, Ran}
+use Rattle.isle_core.proofs.OptionLaws.{some_same}
 use Rattle.isle_blocks.specs.AskedCalls.{if_pure}
 use Rattle.isle_tree.specs.declared.tree.TExpr.{TExpr}
 use Rattle.isle_tree.specs.declared.tree.TExpr.TheVariants as expr
 use Rattle.isle_tree.specs.Calls.{expr_calls, stmt_calls, body_calls, arms_calls}
 use Rattle.isle_tree.specs.Program.{Stmt, Let, LetList, IfEq, IfLet, Match, Loop, Return, Extend, Overflow, Log, Split, Tail, Body, Done, Then, Arms, NoArm, Arm, Function, Program}
-use Rattle.isle_tree.specs.Run.{Around, State, Env, Flow, Goes, Ends, Leaves, Stuck, on_value, fit, fitted, then_run, after_scope, read_value, value_of, read_values, run_bind, run_call, run_try, run_variant, run_struct, run_part, part_of, read_fields, run_let, ends_with, run_return, is_full, stops, run_stmt, run_body, run_arms, ended, around, limited_run, nothing_done}
+use Rattle.isle_tree.specs.Run.{Around, State, Env, Flow, Goes, Ends, Leaves, Stuck, on_value, fit, fitted, then_run, after_scope, after_closure, read_value, value_of, read_values, run_bind, run_call, run_try, run_variant, run_struct, run_part, part_of, read_fields, run_let, ends_with, run_return, is_full, stops, run_stmt, run_body, run_arms, ended, around, held_run, nothing_done}
 use Rattle.isle_codegen.specs.Asking.{asked_callees, asked_made, IsLoopFree, IsFreeStmt, AreFreeArms}
 
 -- ---- calls
@@ -27,9 +28,6 @@ asked_append env (x ∷ xs) ys = let k = asked_append env xs ys in omega (arith,
 asked_push : (env : Environment) (made : List Made) (c : Made) → asked_made env (made ++ c ∷ []) ≡ asked_made env made + if_pure (is_impure env c.callee)
 asked_push env [] c = omega arith
 asked_push env (x ∷ made) c = let k = asked_push env made c in omega (arith, k)
-
-pub some_same : {A : Type 0} (x y : A) → Some x ≡ Some y → x ≡ y
-some_same x y e = cc
 
 -- ---- flows
 
@@ -108,15 +106,21 @@ module _ (env : Environment) where
   stops_most n true s k = k
   stops_most n false s k = k
 
+  closure_most : (n : ℕ) (within : Bool) (e : Env) (f : Flow) → IsMost env n f → IsMost env n (after_closure within e f)
+  closure_most n within e (Goes inner s) h = h
+  closure_most n within e (Ends end s) h = h
+  closure_most n within e (Leaves s) h = stops_most n within s h
+  closure_most n within e Stuck h = tt
+
   either_most : (n : ℕ) (b : Bool) (f g : Flow) → IsMost env n f → IsMost env n g → IsMost env n (cond b f g)
   either_most n true f g h k = h
   either_most n false f g h k = k
 
   -- ---- statements
 
-  module _ (p : Program) (m : Meaning) (args : List Value) (limit : Option ℕ) (of : Function) where
+  module _ (p : Program) (m : Meaning) (args : List Value) (held : Option ℕ) (of : Function) where
     abbrev w : Around
-    w = around p m args limit of
+    w = around p m args held of
 
     call_most : (n local : ℕ) (callee : Callee) (vs : Option (List Value)) (e : Env) (s : State) → asked_made env s.made ≤ n → IsMost env (n + if_pure (is_impure env callee)) (run_call w local callee vs e s)
     call_most n local callee None e s k = tt
@@ -156,9 +160,9 @@ module _ (env : Environment) where
       stmt_most (Loop list item inside) free n e s k = absurd free
       stmt_most (Return x) free n e s k = more_most n (n + asked_callees env (expr_calls x)) (run_return w x e s) (omega arith) (return_most n x e s k)
       stmt_most (Extend r) free n e s k = value_most (n + 0) (read_value w e r) _ (λ v. omega (arith, k))
-      stmt_most (Overflow within) free n e s k = either_most (n + 0) (is_full limit s.given) _ _ (stops_most (n + 0) within s (omega (arith, k))) (omega (arith, k))
+      stmt_most (Overflow within limit) free n e s k = either_most (n + 0) (is_full held limit s.given) _ _ (stops_most (n + 0) within s (omega (arith, k))) (omega (arith, k))
       stmt_most (Log term place) free n e s k = omega (arith, k)
-      stmt_most (Split inside within) free n e s k = tt
+      stmt_most (Split inside within) free n e s k = closure_most (n + asked_callees env (body_calls inside)) within e (run_body w inside e s) (body_most inside free n e s k)
       stmt_most (Tail mark) free n e s k = omega (arith, k)
 
       body_most : (b : Body) → IsLoopFree b → (n : ℕ) (e : Env) (s : State) → asked_made env s.made ≤ n → IsMost env (n + asked_callees env (body_calls b)) (run_body w b e s)
@@ -188,7 +192,7 @@ module _ (env : Environment) where
     ended_most n answers Stuck ran h is = absurd cc
 
   -- a run makes no more than the function has
-  pub run_asks : (p : Program) (m : Meaning) (args : List Value) (limit : Option ℕ) (f : Function) (ran : Ran) → IsLoopFree f.body → limited_run p m args limit f ≡ Some ran → asked_made env ran.calls ≤ asked_callees env (body_calls f.body)
-  run_asks p m args limit f ran free is =
-      let most = ended_most p m args limit f (0 + asked_callees env (body_calls f.body)) f.kind (run_body (around p m args limit f) f.body [] nothing_done) ran (body_most p m args limit f f.body free 0 [] nothing_done (omega arith)) is in
+  pub run_asks : (p : Program) (m : Meaning) (args : List Value) (held : Option ℕ) (f : Function) (ran : Ran) → IsLoopFree f.body → held_run p m args held f ≡ Some ran → asked_made env ran.calls ≤ asked_callees env (body_calls f.body)
+  run_asks p m args held f ran free is =
+      let most = ended_most p m args held f (0 + asked_callees env (body_calls f.body)) f.kind (run_body (around p m args held f) f.body [] nothing_done) ran (body_most p m args held f f.body free 0 [] nothing_done (omega arith)) is in
       omega (arith, most)

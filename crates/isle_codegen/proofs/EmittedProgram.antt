@@ -59,6 +59,7 @@ use Rattle.isle_simulation.proofs.GivenFunctions.{emitted_well_formed, has_shape
 use Rattle.isle_codegen.proofs.RulePositions.{returns_of_rules}
 use Rattle.isle_core.specs.Path.{paths_of}
 use Rattle.isle_core.specs.ReturnPositions.{return_positions}
+use Rattle.isle_core.proofs.OptionLaws.{some_same}
 
 -- each function is of its term
 are_declared : (options : CodegenOptions) (files : Files) (env : Environment) (sets : List (TermId × RuleSet)) (fs : List Function) → AreEmitted options files env sets fs → AreDeclared files env (map (λ (s : TermId × RuleSet). s.0) sets) fs
@@ -101,9 +102,6 @@ are_from_blocks options files env (s ∷ sets) (f ∷ fs) stand h = (
 )
 are_from_blocks options files env [] (f ∷ fs) stand h = absurd h
 are_from_blocks options files env (s ∷ sets) [] stand h = absurd h
-
-some_same : (a b : Term) → Some a ≡ Some b → a ≡ b
-some_same a b e = cc
 
 -- each is well formed
 are_well_formed : (options : CodegenOptions) (files : Files) (env : Environment) (p : Program) (sets : List (TermId × RuleSet)) (fs : List Function) → callables p ≡ callables_of env → AllByRecursion (CanEmit files env) sets → AreEmitted options files env sets fs → AllByRecursion (IsFunction p) fs

@@ -13,6 +13,7 @@ use Rattle.isle_core.specs.StandsFor.{StandsFor}
 use Rattle.isle_core.specs.Terms.{term_name, with_rules}
 use Rattle.isle_core.specs.Rule.{Environment, rules_of}
 use Rattle.isle_core.proofs.Contained.{head_contained, tail_contained}
+use Rattle.isle_core.proofs.OptionLaws.{some_same}
 use Rattle.isle_ast.specs.Tree.{Def}
 use Rattle.isle_lawful_names.specs.LawfulNames.{AreLawful}
 use Rattle.isle_lawful_names.proofs.HasRustNames.{has_rust_names}
@@ -35,9 +36,6 @@ use Rattle.isle_codegen.proofs.TypedNames.{typed_parts}
 placed_at : (files : Files) (ts : List Term) (i : ℕ) (t : Term) → AllByRecursion (λ (u : Term). LiesIn files u.decl_pos) ts → slice_get ts i ≡ Some t → LiesIn files t.decl_pos
 placed_at files [] i t h e = cc
 placed_at files (u ∷ ts) zero t h e = subst (λ (x : Term). LiesIn files x.decl_pos) (some_same u t e) h.0
-  where
-    some_same : (a b : Term) → Some a ≡ Some b → a ≡ b
-    some_same a b e = cc
 placed_at files (u ∷ ts) (suc i) t h e = placed_at files ts i t h.1 e
 
 -- a term of those with rules, its name and its rule set

@@ -14,7 +14,6 @@ use Rattle.isle_core.specs.declared.types.ReturnKind.TheVariants as return_kind
 use Rattle.isle_core.specs.declared.types.Term.{Term}
 use Rattle.isle_core.specs.Value.{Value, End, Ran}
 use Rattle.isle_core.specs.Meaning.{Meaning}
-use Rattle.isle_core.specs.Space.{Space}
 use Rattle.isle_core.specs.HasType.{HaveTypes}
 use Rattle.isle_core.specs.Nameless.{nameless_end, nameless_ran}
 use Rattle.isle_core.specs.Lawful.{IsLawful}
@@ -191,7 +190,7 @@ module _ (defs : List Def) (options : CodegenOptions) (files : Files) (env : Env
 
   -- ---- a term that answers at most once
 
-  module _ (single : is_several kind ≡ false) (args : List Value) (m : Meaning) (space : Space) (types : HaveTypes env args the_term.arg_tys) (lawful : IsLawful env id m) where
+  module _ (single : is_several kind ≡ false) (args : List Value) (m : Meaning) (held : ℕ) (types : HaveTypes env args the_term.arg_tys) (lawful : IsLawful env id m) where
     abbrev once : AnswersOnce kind
     once = answers_once kind single
 
@@ -204,14 +203,14 @@ module _ (defs : List Def) (options : CodegenOptions) (files : Files) (env : Env
         ∙ set_means env m args the_term.arg_tys (paths_of h.set.bindings) (rules_of env id) h.set.rules kind names.apart.variants types
         (record { built = met.built; scoped = met.scoped; terms = met.terms; typed = met.typed; served = met.served; single = typed_single defs env id the_term typed h.emitted.found once }) h.stands.flat
 
-    runs : AreSameRuns env (run p (term_name env id) args m space) (ran_of the_term (outcome_of env m args (rules_of env id) kind []))
+    runs : AreSameRuns env (run p (term_name env id) args m held) (ran_of the_term (outcome_of env m args (rules_of env id) kind []))
     runs =
-        ap (λ (n : List ℕ). option_map (λ (q : Ran). nameless_ran (impure_ran env q)) (run p n args m space)) its_name
-        ∙ runs_as_block options files env the_term h.set.bindings h.emitted.block h.function h.emitted.lawful h.emitted.given once names fns term_fns p args m space
+        ap (λ (n : List ℕ). option_map (λ (q : Ran). nameless_ran (impure_ran env q)) (run p n args m held)) its_name
+        ∙ runs_as_block options files env the_term h.set.bindings h.emitted.block h.function h.emitted.lawful h.emitted.given once names fns term_fns p args m held
         by_name types (bindings_answered env id h.set h.stands m lawful) lawful.declared
         ∙ ap (λ (o : Prescription). option_map nameless_ran (ran_of the_term o)) same_outcome
 
-    gives_outcome : GivesOutcome env p id the_term args m space
+    gives_outcome : GivesOutcome env p id the_term args m held
     gives_outcome =
         let outcome = outcome_of env m args (rules_of env id) kind [] in
         let apart = rules_apart defs env id the_term typed clean listed h.emitted.found single m args lawful types in
@@ -220,28 +219,28 @@ module _ (defs : List Def) (options : CodegenOptions) (files : Files) (env : Env
           outcome = outcome;
           prescribed = prescribed;
           only = λ other k. prescribed_once k prescribed;
-          given = gives_as env the_term outcome (run p (term_name env id) args m space) once runs;
+          given = gives_as env the_term outcome (run p (term_name env id) args m held) once runs;
         }
 
   -- ---- a term that answers several times
 
-  gives_first : is_several kind ≡ true → (args : List Value) (m : Meaning) (space : Space) → HaveTypes env args the_term.arg_tys → IsLawful env id m → GivesFirst env p id args m space
-  gives_first several args m space types lawful = record {
+  gives_first : is_several kind ≡ true → (args : List Value) (m : Meaning) (held : ℕ) → HaveTypes env args the_term.arg_tys → IsLawful env id m → GivesFirst options env p id args m held
+  gives_first several args m held types lawful = record {
     given = several_outcome env m args (paths_of h.set.bindings) h.emitted.block;
     prescribed = h.emitted.means.several several m args the_term.arg_tys (rules_of env id) (served_set m args types lawful);
     runs =
-        ap (λ (n : List ℕ). option_map (λ (q : Ran). nameless_ran (impure_ran env q)) (run p n args m space)) its_name
-        ∙ runs_as_several options files env the_term h.set.bindings h.emitted.block h.function h.emitted.lawful h.emitted.given several h.emitted.lawful.items names fns term_fns p args m space
+        ap (λ (n : List ℕ). option_map (λ (q : Ran). nameless_ran (impure_ran env q)) (run p n args m held)) its_name
+        ∙ runs_as_several options files env the_term h.set.bindings h.emitted.block h.function h.emitted.lawful h.emitted.given several h.emitted.lawful.items names fns term_fns p args m held
         by_name types (bindings_answered env id h.set h.stands m lawful) lawful.declared;
   }
 
-  gives_rules : (often : ReturnKind) → kind ≡ often → (args : List Value) (m : Meaning) (space : Space) → HaveTypes env args the_term.arg_tys → IsLawful env id m → GivesRules often env p id the_term args m space
-  gives_rules return_kind.Plain is args m space types lawful = gives_outcome (ap is_several is) args m space types lawful
-  gives_rules return_kind.Option is args m space types lawful = gives_outcome (ap is_several is) args m space types lawful
-  gives_rules return_kind.Iterator is args m space types lawful = gives_first (ap is_several is) args m space types lawful
+  gives_rules : (often : ReturnKind) → kind ≡ often → (args : List Value) (m : Meaning) (held : ℕ) → HaveTypes env args the_term.arg_tys → IsLawful env id m → GivesRules options often env p id the_term args m held
+  gives_rules return_kind.Plain is args m held types lawful = gives_outcome (ap is_several is) args m held types lawful
+  gives_rules return_kind.Option is args m held types lawful = gives_outcome (ap is_several is) args m held types lawful
+  gives_rules return_kind.Iterator is args m held types lawful = gives_first (ap is_several is) args m held types lawful
 
   -- the function of the term means its rules
-  pub means_rules : MeansRules env p id
+  pub means_rules : MeansRules options env p id
   means_rules =
-      subst (λ (o : Option Term). IsSomeAnd o (λ (t : Term). (args : List Value) (m : Meaning) (space : Space) → HaveTypes env args t.arg_tys → IsLawful env id m → GivesRules (kind_of t.kind) env p id t args m space)) (sym h.emitted.found)
+      subst (λ (o : Option Term). IsSomeAnd o (λ (t : Term). (args : List Value) (m : Meaning) (held : ℕ) → HaveTypes env args t.arg_tys → IsLawful env id m → GivesRules options (kind_of t.kind) env p id t args m held)) (sym h.emitted.found)
       (gives_rules kind refl)

@@ -342,7 +342,8 @@ module _ (env : Environment) (t : Term) (set : RuleSet) (rules : List Rule) (sta
   operands_made = record {
     bound = bound_stmt_so;
     result = λ bound result h. result_so (kind_of t.kind) (written_read s bound false result) (read_so false (is_reference_in s result) (written_operand s bound result) (ready_so bound result t.ret_ty h));
-    stop = λ inside. tt;
+    stop = λ inside limit. tt;
+    split = λ inside within. tt;
     log = λ line. tt;
     equal = λ bound a b ty inside h k. (ready_so bound a ty h, (ready_so bound b ty k, tt));
     arm = arm_so;

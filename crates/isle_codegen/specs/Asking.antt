@@ -5,7 +5,6 @@ use Rattle.isle_core.specs.declared.values.Callee.{Callee}
 use Rattle.isle_core.specs.Meaning.{Meaning}
 use Rattle.isle_core.specs.Path.{Path}
 use Rattle.isle_core.specs.Rule.{Environment, rules_of}
-use Rattle.isle_core.specs.Space.{Space}
 use Rattle.isle_core.specs.Terms.{is_impure, term_name}
 use Rattle.isle_core.specs.Value.{Value, Made, Ran}
 use Rattle.isle_blocks.specs.AskedBound.{HavePaths}
@@ -42,7 +41,7 @@ abbrev mutual
   IsFreeStmt (Loop list item inside) = ⊥
   IsFreeStmt (Return e) = Unit {0}
   IsFreeStmt (Extend read) = Unit {0}
-  IsFreeStmt (Overflow within) = Unit {0}
+  IsFreeStmt (Overflow within limit) = Unit {0}
   IsFreeStmt (Log term place) = Unit {0}
   IsFreeStmt (Split inside within) = IsLoopFree inside
   IsFreeStmt (Tail mark) = Unit {0}
@@ -57,5 +56,5 @@ abbrev mutual
 -- than there are in lists with the paths of each rule, and the shortest have each path once
 abbrev pub AsksPaths : Environment → Program → TermId → Type 0
 AsksPaths env p id =
-    (f : Function) (args : List Value) (m : Meaning) (space : Space) (ran : Ran) (ls : List (List Path)) → function_of (term_name env id) p.fns ≡ Some f → IsLoopFree f.body
-    → run p (term_name env id) args m space ≡ Some ran → HavePaths env (rules_of env id) 0 ls → asked_made env ran.calls ≤ lengths ls
+    (f : Function) (args : List Value) (m : Meaning) (held : ℕ) (ran : Ran) (ls : List (List Path)) → function_of (term_name env id) p.fns ≡ Some f → IsLoopFree f.body
+    → run p (term_name env id) args m held ≡ Some ran → HavePaths env (rules_of env id) 0 ls → asked_made env ran.calls ≤ lengths ls

@@ -9,7 +9,7 @@ use Rattle.isle_core.specs.declared.options.CodegenOptions.{CodegenOptions}
 use Rattle.isle_core.specs.declared.files.Files.{Files}
 use Rattle.isle_core.specs.Value.{Value, Ran}
 use Rattle.isle_core.specs.Meaning.{Meaning}
-use Rattle.isle_core.specs.Space.{Space}
+use Rattle.isle_core.specs.Space.{space_of}
 use Rattle.isle_core.specs.Cut.{cut_run}
 use Rattle.isle_core.specs.HasType.{HaveTypes}
 use Rattle.isle_core.specs.Lawful.{IsLawful}
@@ -39,30 +39,30 @@ pub record GivesAs (env : Environment) (kind : ReturnKind) (o : Prescription) (r
   pub calls : map nameless_made (impure_calls env r.calls) ≡ map nameless_made o.calls
 
 -- the run of the term's function gives the one outcome that its rules prescribe
-pub record GivesOutcome (env : Environment) (p : Program) (id : TermId) (t : Term) (args : List Value) (m : Meaning) (space : Space) : Type 0 where
+pub record GivesOutcome (env : Environment) (p : Program) (id : TermId) (t : Term) (args : List Value) (m : Meaning) (held : ℕ) : Type 0 where
   pub outcome : Prescription
   pub prescribed : Prescribed env m args (rules_of env id) (kind_of t.kind) [] outcome
   pub only : (other : Prescription) → Prescribed env m args (rules_of env id) (kind_of t.kind) [] other → other ≡ outcome
-  pub given : IsSomeAnd (run p (term_name env id) args m space) (GivesAs env (kind_of t.kind) outcome)
+  pub given : IsSomeAnd (run p (term_name env id) args m held) (GivesAs env (kind_of t.kind) outcome)
 
 -- the run of the function of a term that answers several times gives the first of the results that its rules prescribe, as many as there is
 -- room for and at least one, and the calls of impure terms up to the last of them, or all if the room isn't used up
-pub record GivesFirst (env : Environment) (p : Program) (id : TermId) (args : List Value) (m : Meaning) (space : Space) : Type 0 where
+pub record GivesFirst (options : CodegenOptions) (env : Environment) (p : Program) (id : TermId) (args : List Value) (m : Meaning) (held : ℕ) : Type 0 where
   pub given : Given
   pub prescribed : PrescribesSeveral env m args (rules_of env id) given
-  pub runs : AreSameRuns env (run p (term_name env id) args m space) (Some (cut_run space given))
+  pub runs : AreSameRuns env (run p (term_name env id) args m held) (Some (cut_run (space_of options held) given))
 
 -- the run gives what the rules prescribe of a term that answers so often
-abbrev pub GivesRules : ReturnKind → Environment → Program → TermId → Term → List Value → Meaning → Space → Type 0
-GivesRules return_kind.Plain env p id t args m space = GivesOutcome env p id t args m space
-GivesRules return_kind.Option env p id t args m space = GivesOutcome env p id t args m space
-GivesRules return_kind.Iterator env p id t args m space = GivesFirst env p id args m space
+abbrev pub GivesRules : CodegenOptions → ReturnKind → Environment → Program → TermId → Term → List Value → Meaning → (held : ℕ) → Type 0
+GivesRules options return_kind.Plain env p id t args m held = GivesOutcome env p id t args m held
+GivesRules options return_kind.Option env p id t args m held = GivesOutcome env p id t args m held
+GivesRules options return_kind.Iterator env p id t args m held = GivesFirst options env p id args m held
 
--- it does so on all well-typed arguments, under every lawful meaning, and whatever space the list of results has
-abbrev pub MeansRules : Environment → Program → TermId → Type 0
-MeansRules env p id = IsSomeAnd (slice_get env.terms id.0) (λ (t : Term).
-    (args : List Value) (m : Meaning) (space : Space) → HaveTypes env args t.arg_tys → IsLawful env id m
-    → GivesRules (kind_of t.kind) env p id t args m space)
+-- it does so on all well-typed arguments, under every lawful meaning, and whatever length the list of results has at entry
+abbrev pub MeansRules : CodegenOptions → Environment → Program → TermId → Type 0
+MeansRules options env p id = IsSomeAnd (slice_get env.terms id.0) (λ (t : Term).
+    (args : List Value) (m : Meaning) (held : ℕ) → HaveTypes env args t.arg_tys → IsLawful env id m
+    → GivesRules options (kind_of t.kind) env p id t args m held)
 
 -- the functions of the program are the terms with rules, in order of ids, each as its term is declared, made from a block
 -- of its rules, and with their meaning, which says something: there are arguments and lawful meanings if types have values,
@@ -71,7 +71,7 @@ pub record FunctionsMean (options : CodegenOptions) (files : Files) (env : Envir
   pub names : map (λ (f : Function). f.term) p.fns ≡ map (term_name env) (with_rules env)
   pub declared : AreDeclared files env (with_rules env) p.fns
   pub blocks : AreFromBlocks options files env (with_rules env) p.fns
-  pub mean : (id : TermId) → Contains (with_rules env) id → MeansRules env p id
+  pub mean : (id : TermId) → Contains (with_rules env) id → MeansRules options env p id
   pub meant : (id : TermId) → Contains (with_rules env) id → IsMeant env id
   pub values : (ty : TypeId) → IsInhabited env ty → HasValue env ty
   pub asks : (id : TermId) → Contains (with_rules env) id → AsksPaths env p id

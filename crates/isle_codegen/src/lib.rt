@@ -17,7 +17,7 @@ pub use compiled::compile;
 pub use file_error::FileError;
 pub use files::from_files;
 pub use isle_checks::recursion;
-pub use isle_emission::emit_term;
+pub use isle_emission::{block_weight, emit_term};
 pub use isle_lawful_names::{NameError, NameFail, NameUse, lawful_names};
 pub use text::codegen;
 pub use tree::codegen_tree;

@@ -9,11 +9,12 @@ use Rattle.isle_values.specs.Reading.{spelt}
 use Rattle.isle_values.proofs.Spelt.{spelt_again}
 use Rattle.isle_command_line.specs.Words.{is_name}
 use Rattle.isle_command_line.specs.Lines as choice
-use Rattle.isle_command_line.specs.Lines.{Choice, ChoiceS, no_allow, log, split, threshold, prefixed, ChoicesS, no_choice, a_choice, AreOnce, no_options, with_choice, options_of, kind_word, LineS, AnswersS, traced}
+use Rattle.isle_command_line.specs.Lines.{Choice, ChoiceS, no_allow, log, split, threshold, max_returns, prefixed, ChoicesS, no_choice, a_choice, AreOnce, options_of, kind_word, LineS, AnswersS, traced}
 use Rattle.isle_command_line.specs.Reading as reading
-use Rattle.isle_command_line.specs.Reading.{named, sourced, valued, optional, is_trace, is_answers, chosen, counted, request, sized, next, onward, read, asks, first, mark, kind_of, count, size, parts}
+use Rattle.isle_command_line.specs.Reading.{named, sourced, valued, optional, is_trace, is_answers, nothing_given, given_more, chosen, counted, with_limit, request, sized, next, onward, read, asks, first, mark, kind_of, count, size, parts}
 use Rattle.isle_command_line.specs.Request.{Request}
 use Rattle.isle_command_line.specs.declared.commands.Source.{Source}
+use Rattle.isle_command_line.specs.declared.state.GivenOptions.{GivenOptions}
 use Rattle.isle_command_line.specs.declared.state.Verb.{Verb}
 use Rattle.isle_command_line.specs.declared.state.Verb.TheVariants as verb
 use Rattle.isle_command_line.specs.Request as command
@@ -21,7 +22,7 @@ use Rattle.isle_command_line.specs.Known.{Known}
 use Rattle.isle_command_line.specs.Known as state
 use Rattle.isle_command_line.proofs.WordLaws.{both, kind_again, count_again, size_again, parts_again}
 use Rattle.isle_command_line.proofs.RunWords.{name_no_trace, source_again, source_named}
-use Rattle.isle_command_line.proofs.ChoiceLaws.{free, all_kept, all_free}
+use Rattle.isle_command_line.proofs.ChoiceLaws.{free, all_kept, all_free, given_asked}
 
 -- what the words ask for if something is known after them
 abbrev pub request_of : Option Known → Option Request
@@ -32,25 +33,28 @@ unless : (b : Bool) (s : Known) (f : Known → Option Known) → not b ≡ true 
 unless false s f h = refl
 unless true s f h = cc
 
-read_choice : {c : Choice} {us : List (List ℕ)} → ChoiceS c us → (v : Verb) (o : CodegenOptions) (more : List (List ℕ)) → free o c ≡ true → read (state.Options v o) (us ++ more) ≡ read (state.Options v (with_choice o c)) more
+read_choice : {c : Choice} {us : List (List ℕ)} → ChoiceS c us → (v : Verb) (g : GivenOptions) (more : List (List ℕ)) → free g c ≡ true → read (state.Options v g) (us ++ more) ≡ read (state.Options v (given_more g c)) more
 unfolding mark
-read_choice no_allow v o more h = unless o.exclude_global_allow_pragmas (state.Options v (with_choice o choice.NoAllow)) (λ t. read t more) h
-read_choice log v o more h = unless o.emit_logging (state.Options v (with_choice o choice.Log)) (λ t. read t more) h
-read_choice split v o more h = unless o.split_match_arms (state.Options v (with_choice o choice.Split)) (λ t. read t more) h
-read_choice (threshold n word is) v o more h =
-    unless (is_some o.match_arm_split_threshold) (state.Threshold v o) (λ t. read t (word ∷ more)) h
-    ∙ ap (λ r. onward (counted v o r) (λ t. read t more)) (count_again word n is)
-read_choice (prefixed p n word is) v o more h =
-    ap (λ r. onward (reading.prefixed v o r) (λ t. read t more)) (parts_again word p n is)
-    ∙ ap (λ b. onward (if b then Some (state.Options v (with_choice o (choice.Prefixed p n))) else None) (λ t. read t more)) is.named
+read_choice no_allow v g more h = unless g.options.exclude_global_allow_pragmas (state.Options v (given_more g choice.NoAllow)) (λ t. read t more) h
+read_choice log v g more h = unless g.options.emit_logging (state.Options v (given_more g choice.Log)) (λ t. read t more) h
+read_choice split v g more h = unless g.options.split_match_arms (state.Options v (given_more g choice.Split)) (λ t. read t more) h
+read_choice (threshold n word is) v g more h =
+    unless (is_some g.options.match_arm_split_threshold) (state.Threshold v g) (λ t. read t (word ∷ more)) h
+    ∙ ap (λ r. onward (counted v g r) (λ t. read t more)) (count_again word n is)
+read_choice (max_returns n word is) v g more h =
+    unless g.limited (state.MaxReturns v g) (λ t. read t (word ∷ more)) h
+    ∙ ap (λ r. onward (with_limit v g r) (λ t. read t more)) (count_again word n is)
+read_choice (prefixed p n word is) v g more h =
+    ap (λ r. onward (reading.prefixed v g r) (λ t. read t more)) (parts_again word p n is)
+    ∙ ap (λ b. onward (if b then Some (state.Options v (given_more g (choice.Prefixed p n))) else None) (λ t. read t more)) is.named
 
-read_choices : {cs : List Choice} {us : List (List ℕ)} → ChoicesS cs us → (v : Verb) (o : CodegenOptions) (more : List (List ℕ)) → list_all (free o) cs ≡ true → AreOnce cs
-    → read (state.Options v o) (us ++ more) ≡ read (state.Options v (fold with_choice o cs)) more
-read_choices no_choice v o more h once = refl
-read_choices (a_choice c cs us others s ss) v o more h once =
-    let f : (free o c ≡ true) × (list_all (free o) cs ≡ true) = both _ _ h in
-    ap (read (state.Options v o)) (append_assoc us others more) ∙ read_choice s v o (others ++ more) f.0
-    ∙ read_choices ss v (with_choice o c) more (all_kept o c cs f.1 once.0) once.1
+read_choices : {cs : List Choice} {us : List (List ℕ)} → ChoicesS cs us → (v : Verb) (g : GivenOptions) (more : List (List ℕ)) → list_all (free g) cs ≡ true → AreOnce cs
+    → read (state.Options v g) (us ++ more) ≡ read (state.Options v (fold given_more g cs)) more
+read_choices no_choice v g more h once = refl
+read_choices (a_choice c cs us others s ss) v g more h once =
+    let f : (free g c ≡ true) × (list_all (free g) cs ≡ true) = both _ _ h in
+    ap (read (state.Options v g)) (append_assoc us others more) ∙ read_choice s v g (others ++ more) f.0
+    ∙ read_choices ss v (given_more g c) more (all_kept g c cs f.1 once.0) once.1
 
 read_names : (o : CodegenOptions) (ns ms : List (List ℕ)) → list_all is_name ms ≡ true → read (state.Names o ns) ms ≡ Some (state.Names o (ns ++ ms))
 read_names o ns [] h = ap (λ z. Some (state.Names o z)) (sym (append-nil ns))
@@ -59,22 +63,30 @@ read_names o ns (m ∷ ms) h =
     ap (λ b. onward (if b then Some (state.Names o (ns ++ m ∷ [])) else None) (λ t. read t ms)) f.0
     ∙ read_names o (ns ++ m ∷ []) ms f.1 ∙ ap (λ z. Some (state.Names o z)) (append_assoc ns (m ∷ []) ms)
 
-read_named : (v : Verb) (o : CodegenOptions) (w : List ℕ) (more : List (List ℕ)) → is_name w ≡ true → read (state.Options v o) (w ∷ more) ≡ onward (named v o w) (λ t. read t more)
-read_named v o w more h = ap (λ b. onward (if b then named v o w else chosen v o (mark w)) (λ t. read t more)) h
+read_named : (v : Verb) (g : GivenOptions) (w : List ℕ) (more : List (List ℕ)) → is_name w ≡ true → read (state.Options v g) (w ∷ more) ≡ onward (named v g.options w) (λ t. read t more)
+read_named v g w more h = ap (λ b. onward (if b then named v g.options w else chosen v g (mark w)) (λ t. read t more)) h
+
+-- options and the first name
+read_given : {cs : List Choice} {us : List (List ℕ)} → ChoicesS cs us → AreOnce cs → (v : Verb) (w : List ℕ) (more : List (List ℕ)) → is_name w ≡ true
+    → read (state.Options v nothing_given) (us ++ w ∷ more) ≡ onward (named v (options_of cs) w) (λ t. read t more)
+read_given {cs = cs} ss once v w more h =
+    read_choices ss v nothing_given (w ∷ more) (all_free cs) once ∙ read_named v (fold given_more nothing_given cs) w more h
+    ∙ ap (λ o. onward (named v o w) (λ t. read t more)) (given_asked cs nothing_given)
 
 -- a run that is not traced goes on with its options
 read_untraced : {cs : List Choice} {us : List (List ℕ)} → ChoicesS cs us → (w : List ℕ) (more : List (List ℕ)) → is_name w ≡ true
-    → read state.Run (us ++ w ∷ more) ≡ read (state.Options (verb.Run false) no_options) (us ++ w ∷ more)
+    → read state.Run (us ++ w ∷ more) ≡ read (state.Options (verb.Run false) nothing_given) (us ++ w ∷ more)
 unfolding is_trace
-read_untraced no_choice w more h = ap (λ b. onward (if b then Some (state.Options (verb.Run true) no_options) else optional (verb.Run false) no_options w) (λ t. read t more)) (name_no_trace w h)
+read_untraced no_choice w more h = ap (λ b. onward (if b then Some (state.Options (verb.Run true) nothing_given) else optional (verb.Run false) nothing_given w) (λ t. read t more)) (name_no_trace w h)
 read_untraced (a_choice c cs us others no_allow ss) w more h = refl
 read_untraced (a_choice c cs us others log ss) w more h = refl
 read_untraced (a_choice c cs us others split ss) w more h = refl
 read_untraced (a_choice c cs us others (threshold n word is) ss) w more h = refl
+read_untraced (a_choice c cs us others (max_returns n word is) ss) w more h = refl
 read_untraced (a_choice c cs us others (prefixed p n word is) ss) w more h = refl
 
 read_run : (t : Bool) {cs : List Choice} {us : List (List ℕ)} → ChoicesS cs us → (w : List ℕ) (more : List (List ℕ)) → is_name w ≡ true
-    → read state.Run (traced t ++ us ++ w ∷ more) ≡ read (state.Options (verb.Run t) no_options) (us ++ w ∷ more)
+    → read state.Run (traced t ++ us ++ w ∷ more) ≡ read (state.Options (verb.Run t) nothing_given) (us ++ w ∷ more)
 unfolding is_trace
 read_run true ss w more h = refl
 read_run false ss w more h = read_untraced ss w more h
@@ -99,18 +111,15 @@ complete choice.help = refl
 complete choice.version = refl
 complete (choice.compile cs us name names ss once good) =
     let f : (is_name name ≡ true) × (list_all is_name names ≡ true) = both _ _ good in
-    ap request_of (read_choices ss verb.Compile no_options (name ∷ names) (all_free cs) once ∙ read_named verb.Compile (options_of cs) name names f.0
-    ∙ read_names (options_of cs) (name ∷ []) names f.1)
-complete (choice.build cs us unit ss once good) =
-    ap request_of (read_choices ss verb.Build no_options (unit ∷ []) (all_free cs) once ∙ read_named verb.Build (options_of cs) unit [] good)
+    ap request_of (read_given ss once verb.Compile name names f.0 ∙ read_names (options_of cs) (name ∷ []) names f.1)
+complete (choice.build cs us unit ss once good) = ap request_of (read_given ss once verb.Build unit [] good)
 complete (choice.prelude k) = ap (λ r. request_of (onward (request r) (λ t. Some t))) (kind_again k)
 complete choice.units = refl
 complete (choice.isa target) = refl
 complete (choice.sample n w is) = ap (λ r. request_of (onward (sized r) (λ t. Some t))) (size_again w n is)
 complete (choice.run t cs us s from m x vs a last ss once is good spells la) =
     ap request_of (read_run t ss from (m ∷ x ∷ last) (source_named is)
-    ∙ read_choices ss (verb.Run t) no_options (from ∷ m ∷ x ∷ last) (all_free cs) once
-    ∙ read_named (verb.Run t) (options_of cs) from (m ∷ x ∷ last) (source_named is)
+    ∙ read_given ss once (verb.Run t) from (m ∷ x ∷ last) (source_named is)
     ∙ ap (λ r. onward (sourced t (options_of cs) r) (λ k. read k (m ∷ x ∷ last))) (source_again is)
     ∙ read_term t (options_of cs) s m x vs last good (spelt_again x vs spells))
     ∙ read_last t (options_of cs) s m vs la

@@ -6,8 +6,8 @@ use Rattle.isle_core.specs.declared.options.CodegenOptions.{CodegenOptions}
 use Rattle.isle_values.specs.Written.{NoValue}
 use Rattle.isle_values.proofs.Spelt.{empty_list}
 use Rattle.isle_command_line.specs.Lines as choice
-use Rattle.isle_command_line.specs.Lines.{LineS, no_options, with_choice, Continues, IsBad, IsMissing}
-use Rattle.isle_command_line.specs.Reading.{onward, read, asks, valued, source_of, is_trace, is_answers, count, size, parts, kind_of, StopsAt}
+use Rattle.isle_command_line.specs.Lines.{LineS, Continues, IsBad, IsMissing}
+use Rattle.isle_command_line.specs.Reading.{nothing_given, given_more, onward, read, asks, valued, source_of, is_trace, is_answers, count, size, parts, kind_of, StopsAt}
 use Rattle.isle_command_line.specs.Request.{Request}
 use Rattle.isle_command_line.specs.Request as command
 use Rattle.isle_command_line.specs.declared.commands.Kind.TheVariants as kind
@@ -15,6 +15,7 @@ use Rattle.isle_command_line.specs.declared.commands.Source.{Source}
 use Rattle.isle_command_line.specs.declared.commands.Source.TheVariants as source
 use Rattle.isle_command_line.specs.declared.commands.LineFail.{LineFail}
 use Rattle.isle_command_line.specs.declared.commands.LineFail.TheVariants as fail
+use Rattle.isle_command_line.specs.declared.state.GivenOptions.{GivenOptions}
 use Rattle.isle_command_line.specs.declared.state.Verb.{Verb}
 use Rattle.isle_command_line.specs.declared.state.Verb.TheVariants as verb
 use Rattle.isle_command_line.specs.Known.{Known}
@@ -44,26 +45,28 @@ with_values t o s m ws h = continues_less ws (codes "()") (whole _ (command.run_
 with_term : (t : Bool) (o : CodegenOptions) (s : Source) (ws : List (List ℕ)) → HasRead (state.Term t o s) ws → Continues ws
 with_term t o s ws h = continues_less ws (codes "a") (with_values t o s (codes "a") _ (has_read_next (state.Term t o s) ws (codes "a") h))
 
-with_name : (v : Verb) (o : CodegenOptions) (ws : List (List ℕ)) → HasRead (state.Options v o) ws → Continues ws
+with_name : (v : Verb) (g : GivenOptions) (ws : List (List ℕ)) → HasRead (state.Options v g) ws → Continues ws
 unfolding source_of
-with_name verb.Compile o ws h = continues_less ws (codes "a") (whole _ (command.Compile o (codes "a" ∷ [])) (has_read_asks (state.Names o (codes "a" ∷ [])) _ (has_read_named verb.Compile o ws (codes "a") h refl)))
-with_name (verb.Run t) o ws h = continues_less ws (codes "a") (with_term t o (source.File (codes "a")) _ (has_read_named (verb.Run t) o ws (codes "a") h refl))
-with_name verb.Build o ws h = continues_less ws (codes "a") (whole _ (command.Build o (codes "a")) (has_read_named verb.Build o ws (codes "a") h refl))
+with_name verb.Compile g ws h = continues_less ws (codes "a") (whole _ (command.Compile g.options (codes "a" ∷ []))
+    (has_read_asks (state.Names g.options (codes "a" ∷ [])) _ (has_read_named verb.Compile g ws (codes "a") h refl)))
+with_name (verb.Run t) g ws h = continues_less ws (codes "a") (with_term t g.options (source.File (codes "a")) _ (has_read_named (verb.Run t) g ws (codes "a") h refl))
+with_name verb.Build g ws h = continues_less ws (codes "a") (whole _ (command.Build g.options (codes "a")) (has_read_named verb.Build g ws (codes "a") h refl))
 
 -- a line begins with words after which something is known
 pub continues : (s : Known) (ws : List (List ℕ)) → HasRead s ws → Continues ws
 unfolding count size parts kind_of is_trace is_answers
 continues state.Begin ws h = whole ws _ (has_read_asks state.Begin ws h)
 continues (state.Whole c) ws h = whole ws c h
-continues (state.Options v o) ws h = with_name v o ws h
-continues (state.Threshold v o) ws h = continues_less ws (codes "0") (with_name v (with_choice o (choice.Threshold 0)) _ (has_read_next (state.Threshold v o) ws (codes "0") h))
-continues (state.Prefix v o) ws h = continues_less ws (codes "=a") (with_name v (with_choice o (choice.Prefixed [] (codes "a"))) _ (has_read_next (state.Prefix v o) ws (codes "=a") h))
+continues (state.Options v g) ws h = with_name v g ws h
+continues (state.Threshold v g) ws h = continues_less ws (codes "0") (with_name v (given_more g (choice.Threshold 0)) _ (has_read_next (state.Threshold v g) ws (codes "0") h))
+continues (state.MaxReturns v g) ws h = continues_less ws (codes "0") (with_name v (given_more g (choice.MaxReturns 0)) _ (has_read_next (state.MaxReturns v g) ws (codes "0") h))
+continues (state.Prefix v g) ws h = continues_less ws (codes "=a") (with_name v (given_more g (choice.Prefixed [] (codes "a"))) _ (has_read_next (state.Prefix v g) ws (codes "=a") h))
 continues (state.Names o []) ws h = let some = h.2 in absurd (omega (arith, some))
 continues (state.Names o (n ∷ ns)) ws h = whole ws (command.Compile o (n ∷ ns)) (has_read_asks (state.Names o (n ∷ ns)) ws h)
 continues state.Kind ws h = continues_less ws (codes "numerics") (whole _ (command.Prelude kind.Numerics) (has_read_next state.Kind ws (codes "numerics") h))
 continues state.Target ws h = continues_less ws [] (whole _ (command.Isa []) (has_read_next state.Target ws [] h))
 continues state.Size ws h = continues_less ws (codes "1") (whole _ (command.Sample 1) (has_read_next state.Size ws (codes "1") h))
-continues state.Run ws h = continues_less ws (codes "--trace") (with_name (verb.Run true) no_options _ (has_read_next state.Run ws (codes "--trace") h))
+continues state.Run ws h = continues_less ws (codes "--trace") (with_name (verb.Run true) nothing_given _ (has_read_next state.Run ws (codes "--trace") h))
 continues (state.Term t o s) ws h = with_term t o s ws h
 continues (state.Values t o s m) ws h = with_values t o s m ws h
 continues (state.AfterValues t o s m vs) ws h = whole ws _ (has_read_asks (state.AfterValues t o s m vs) ws h)

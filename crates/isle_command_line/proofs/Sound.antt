@@ -11,8 +11,8 @@ use Rattle.isle_values.specs.Reading.{spelt}
 use Rattle.isle_values.proofs.Spelt.{IsSpelt, spelt_is}
 use Rattle.isle_command_line.specs.Words.{is_name}
 use Rattle.isle_command_line.specs.Lines as choice
-use Rattle.isle_command_line.specs.Lines.{LineS, SourceS, AnswersS, no_options, with_choice, options_of}
-use Rattle.isle_command_line.specs.Reading.{begun, named, sourced, source_of, optional, valued, is_trace, is_answers, chosen, counted, prefixed, request, sized, next, onward, read, asks, first, mark, kind_of, count, size, parts}
+use Rattle.isle_command_line.specs.Lines.{LineS, SourceS, AnswersS, no_options}
+use Rattle.isle_command_line.specs.Reading.{begun, named, sourced, source_of, optional, valued, is_trace, is_answers, nothing_given, given_more, chosen, counted, with_limit, prefixed, request, sized, next, onward, read, asks, first, mark, kind_of, count, size, parts}
 use Rattle.isle_command_line.specs.declared.commands.Kind.{Kind}
 use Rattle.isle_command_line.specs.declared.commands.Source.{Source}
 use Rattle.isle_command_line.specs.Request.{Request}
@@ -21,12 +21,13 @@ use Rattle.isle_command_line.specs.declared.word.FirstWord.{FirstWord}
 use Rattle.isle_command_line.specs.declared.word.FirstWord.TheVariants as first_word
 use Rattle.isle_command_line.specs.declared.word.OptionWord.{OptionWord}
 use Rattle.isle_command_line.specs.declared.word.OptionWord.TheVariants as marked
+use Rattle.isle_command_line.specs.declared.state.GivenOptions.{GivenOptions}
 use Rattle.isle_command_line.specs.declared.state.Verb.{Verb}
 use Rattle.isle_command_line.specs.declared.state.Verb.TheVariants as verb
 use Rattle.isle_command_line.specs.Known.{Known}
 use Rattle.isle_command_line.specs.Known as state
 use Rattle.isle_command_line.proofs.WordLaws.{on_if, off_if, both, IsFirst, first_is, IsMarked, mark_is, IsKind, kind_is, IsCounted, count_is, IsSized, size_is, IsParted, parts_is}
-use Rattle.isle_command_line.proofs.ChoiceLaws.{free, Chose, chose_none, chose_more}
+use Rattle.isle_command_line.proofs.ChoiceLaws.{free, Asked, Chose, chose_none, chose_more, chose_asked}
 use Rattle.isle_command_line.proofs.RunWords.{trace_is, answers_is, source_is}
 
 abbrev pub verb_word : Verb → List ℕ
@@ -34,23 +35,28 @@ verb_word verb.Compile = codes "compile"
 verb_word verb.Build = codes "build"
 verb_word (verb.Run t) = codes "run"
 
--- the words after the first one are options that ask for this, after --trace if the run is traced
-abbrev pub Begun : Verb → CodegenOptions → List (List ℕ) → Type 0
-Begun (verb.Run true) o us = (vs : List (List ℕ)) × Chose o vs × (us ≡ codes "--trace" ∷ vs)
-Begun (verb.Run false) o us = Chose o us
-Begun verb.Compile o us = Chose o us
-Begun verb.Build o us = Chose o us
+-- the words after the first one are these options, after --trace if the run is traced
+abbrev pub Begun : Verb → (List (List ℕ) → Type 0) → List (List ℕ) → Type 0
+Begun (verb.Run true) Are us = (vs : List (List ℕ)) × Are vs × (us ≡ codes "--trace" ∷ vs)
+Begun (verb.Run false) Are us = Are us
+Begun verb.Compile Are us = Are us
+Begun verb.Build Are us = Are us
 
-begun_more : (v : Verb) (o : CodegenOptions) (us : List (List ℕ)) (c : choice.Choice) (first : List (List ℕ)) → Begun v o us → choice.ChoiceS c first → free o c ≡ true → Begun v (with_choice o c) (us ++ first)
-begun_more (verb.Run true) o us c first h s f = (h.0 ++ first, chose_more o h.0 c first h.1 s f, ap (λ z. z ++ first) h.2)
-begun_more (verb.Run false) o us c first h s f = chose_more o us c first h s f
-begun_more verb.Compile o us c first h s f = chose_more o us c first h s f
-begun_more verb.Build o us c first h s f = chose_more o us c first h s f
+begun_more : (v : Verb) (g : GivenOptions) (us : List (List ℕ)) (c : choice.Choice) (first : List (List ℕ)) → Begun v (Chose g) us → choice.ChoiceS c first → free g c ≡ true
+    → Begun v (Chose (given_more g c)) (us ++ first)
+begun_more (verb.Run true) g us c first h s f = (h.0 ++ first, chose_more g h.0 c first h.1 s f, ap (λ z. z ++ first) h.2)
+begun_more (verb.Run false) g us c first h s f = chose_more g us c first h s f
+begun_more verb.Compile g us c first h s f = chose_more g us c first h s f
+begun_more verb.Build g us c first h s f = chose_more g us c first h s f
+
+begun_asked : (t : Bool) (g : GivenOptions) (us : List (List ℕ)) → Begun (verb.Run t) (Chose g) us → Begun (verb.Run t) (Asked g.options) us
+begun_asked true g us h = (h.0, chose_asked g h.0 h.1, h.2)
+begun_asked false g us h = chose_asked g us h
 
 -- the words are what a run begins with, up to its source
 pub record Sourced (t : Bool) (o : CodegenOptions) (s : Source) (front : List (List ℕ)) : Type 0 where
   pub options : List (List ℕ)
-  pub begun : Begun (verb.Run t) o options
+  pub begun : Begun (verb.Run t) (Asked o) options
   pub from : List ℕ
   pub is : SourceS s from
   pub words : front ≡ options ++ from ∷ []
@@ -62,23 +68,24 @@ ran true o s front m x vs a last h good is la =
     let c = h.begun.1 in
     let e : front ++ m ∷ x ∷ last ≡ codes "--trace" ∷ (h.begun.0 ++ h.from ∷ m ∷ x ∷ last) = ap (λ z. z ++ m ∷ x ∷ last) h.words ∙ append_assoc h.options (h.from ∷ []) (m ∷ x ∷ last) ∙ ap (λ z. z ++ h.from ∷ m ∷ x ∷ last) h.begun.2 in
     subst (λ z. LineS (codes "run" ∷ z) (command.run_of true o s m vs a)) (sym e)
-    (subst (λ p. LineS (codes "run" ∷ codes "--trace" ∷ (h.begun.0 ++ h.from ∷ m ∷ x ∷ last)) (command.run_of true p s m vs a)) c.chosen
+    (subst (λ p. LineS (codes "run" ∷ codes "--trace" ∷ (h.begun.0 ++ h.from ∷ m ∷ x ∷ last)) (command.run_of true p s m vs a)) c.asked
     (choice.run true c.choices h.begun.0 s h.from m x vs a last c.spelt c.once h.is good is la))
 ran false o s front m x vs a last h good is la =
     let c = h.begun in
     let e : front ++ m ∷ x ∷ last ≡ h.options ++ h.from ∷ m ∷ x ∷ last = ap (λ z. z ++ m ∷ x ∷ last) h.words ∙ append_assoc h.options (h.from ∷ []) (m ∷ x ∷ last) in
     subst (λ z. LineS (codes "run" ∷ z) (command.run_of false o s m vs a)) (sym e)
-    (subst (λ p. LineS (codes "run" ∷ (h.options ++ h.from ∷ m ∷ x ∷ last)) (command.run_of false p s m vs a)) c.chosen
+    (subst (λ p. LineS (codes "run" ∷ (h.options ++ h.from ∷ m ∷ x ∷ last)) (command.run_of false p s m vs a)) c.asked
     (choice.run false c.choices h.options s h.from m x vs a last c.spelt c.once h.is good is la))
 
 -- what is known says of the words so far
 abbrev pub HasRead : Known → List (List ℕ) → Type 0
 HasRead state.Begin ws = ws ≡ []
 HasRead (state.Whole c) ws = LineS ws c
-HasRead (state.Options v o) ws = (us : List (List ℕ)) × Begun v o us × (ws ≡ verb_word v ∷ us)
-HasRead (state.Threshold v o) ws = (us : List (List ℕ)) × Begun v o us × (is_some o.match_arm_split_threshold ≡ false) × (ws ≡ verb_word v ∷ (us ++ codes "--threshold" ∷ []))
-HasRead (state.Prefix v o) ws = (us : List (List ℕ)) × Begun v o us × (ws ≡ verb_word v ∷ (us ++ codes "--prefix" ∷ []))
-HasRead (state.Names o ns) ws = (us : List (List ℕ)) × Chose o us × (1 ≤ length ns) × (list_all is_name ns ≡ true) × (ws ≡ codes "compile" ∷ (us ++ ns))
+HasRead (state.Options v g) ws = (us : List (List ℕ)) × Begun v (Chose g) us × (ws ≡ verb_word v ∷ us)
+HasRead (state.Threshold v g) ws = (us : List (List ℕ)) × Begun v (Chose g) us × (is_some g.options.match_arm_split_threshold ≡ false) × (ws ≡ verb_word v ∷ (us ++ codes "--threshold" ∷ []))
+HasRead (state.MaxReturns v g) ws = (us : List (List ℕ)) × Begun v (Chose g) us × (g.limited ≡ false) × (ws ≡ verb_word v ∷ (us ++ codes "--max-returns" ∷ []))
+HasRead (state.Prefix v g) ws = (us : List (List ℕ)) × Begun v (Chose g) us × (ws ≡ verb_word v ∷ (us ++ codes "--prefix" ∷ []))
+HasRead (state.Names o ns) ws = (us : List (List ℕ)) × Asked o us × (1 ≤ length ns) × (list_all is_name ns ≡ true) × (ws ≡ codes "compile" ∷ (us ++ ns))
 HasRead state.Kind ws = ws ≡ codes "prelude" ∷ []
 HasRead state.Target ws = ws ≡ codes "isa" ∷ []
 HasRead state.Size ws = ws ≡ codes "sample" ∷ []
@@ -106,47 +113,57 @@ has_read_begun first_word.Run w is = ap (λ v. v ∷ []) is
 has_read_begun first_word.Other w is = tt
 
 -- the line of a unit that is built
-pub built : (o : CodegenOptions) (us : List (List ℕ)) (w : List ℕ) → Chose o us → is_name w ≡ true → LineS (codes "build" ∷ us ++ w ∷ []) (command.Build o w)
-built o us w h good = subst (λ p. LineS (codes "build" ∷ us ++ w ∷ []) (command.Build p w)) h.chosen (choice.build h.choices us w h.spelt h.once good)
+pub built : (o : CodegenOptions) (us : List (List ℕ)) (w : List ℕ) → Asked o us → is_name w ≡ true → LineS (codes "build" ∷ us ++ w ∷ []) (command.Build o w)
+built o us w h good = subst (λ p. LineS (codes "build" ∷ us ++ w ∷ []) (command.Build p w)) h.asked (choice.build h.choices us w h.spelt h.once good)
 
 -- the line of inputs that are compiled
-pub compiled : (o : CodegenOptions) (us : List (List ℕ)) (n : List ℕ) (ns : List (List ℕ)) → Chose o us → list_all is_name (n ∷ ns) ≡ true → LineS (codes "compile" ∷ us ++ n ∷ ns) (command.Compile o (n ∷ ns))
-compiled o us n ns h good = subst (λ p. LineS (codes "compile" ∷ us ++ n ∷ ns) (command.Compile p (n ∷ ns))) h.chosen (choice.compile h.choices us n ns h.spelt h.once good)
+pub compiled : (o : CodegenOptions) (us : List (List ℕ)) (n : List ℕ) (ns : List (List ℕ)) → Asked o us → list_all is_name (n ∷ ns) ≡ true → LineS (codes "compile" ∷ us ++ n ∷ ns) (command.Compile o (n ∷ ns))
+compiled o us n ns h good = subst (λ p. LineS (codes "compile" ∷ us ++ n ∷ ns) (command.Compile p (n ∷ ns))) h.asked (choice.compile h.choices us n ns h.spelt h.once good)
 
-has_read_sourced : (t : Bool) (o : CodegenOptions) (ws : List (List ℕ)) (s : Source) (w : List ℕ) → HasRead (state.Options (verb.Run t) o) ws → SourceS s w → After (sourced t o s) (ws ++ w ∷ [])
-has_read_sourced t o ws s w h is = (h.0 ++ w ∷ [], record { options = h.0; begun = h.1; from = w; is = is; words = refl }, ap (λ z. z ++ w ∷ []) h.2)
+has_read_sourced : (t : Bool) (g : GivenOptions) (ws : List (List ℕ)) (s : Source) (w : List ℕ) → HasRead (state.Options (verb.Run t) g) ws → SourceS s w → After (sourced t g.options s) (ws ++ w ∷ [])
+has_read_sourced t g ws s w h is = (h.0 ++ w ∷ [], record { options = h.0; begun = begun_asked t g h.0 h.1; from = w; is = is; words = refl }, ap (λ z. z ++ w ∷ []) h.2)
 
-pub has_read_named : (v : Verb) (o : CodegenOptions) (ws : List (List ℕ)) (w : List ℕ) → HasRead (state.Options v o) ws → is_name w ≡ true → After (named v o w) (ws ++ w ∷ [])
-has_read_named verb.Compile o ws w h good = (h.0, h.1, omega arith, (λ k. good k && true), ap (λ z. z ++ w ∷ []) h.2)
-has_read_named verb.Build o ws w h good = subst (λ z. LineS z (command.Build o w)) (sym (ap (λ z. z ++ w ∷ []) h.2)) (built o h.0 w h.1 good)
-has_read_named (verb.Run t) o ws w h good = has_read_sourced t o ws (source_of w) w h (source_is w good)
+pub has_read_named : (v : Verb) (g : GivenOptions) (ws : List (List ℕ)) (w : List ℕ) → HasRead (state.Options v g) ws → is_name w ≡ true → After (named v g.options w) (ws ++ w ∷ [])
+has_read_named verb.Compile g ws w h good = (h.0, chose_asked g h.0 h.1, omega arith, (λ k. good k && true), ap (λ z. z ++ w ∷ []) h.2)
+has_read_named verb.Build g ws w h good = subst (λ z. LineS z (command.Build g.options w)) (sym (ap (λ z. z ++ w ∷ []) h.2)) (built g.options h.0 w (chose_asked g h.0 h.1) good)
+has_read_named (verb.Run t) g ws w h good = has_read_sourced t g ws (source_of w) w h (source_is w good)
 
-has_read_chosen : (v : Verb) (o : CodegenOptions) (ws : List (List ℕ)) (m : OptionWord) (w : List ℕ) → HasRead (state.Options v o) ws → IsMarked m w → After (chosen v o m) (ws ++ w ∷ [])
-has_read_chosen v o ws marked.NoAllow w h is = off_if (λ r. After r (ws ++ w ∷ [])) o.exclude_global_allow_pragmas _ _ tt
-    (λ off. (h.0 ++ codes "--no-allow" ∷ [], begun_more v o h.0 choice.NoAllow (codes "--no-allow" ∷ []) h.1 choice.no_allow (ap not off), λ k. h.2 k ++ is k ∷ []))
-has_read_chosen v o ws marked.Log w h is = off_if (λ r. After r (ws ++ w ∷ [])) o.emit_logging _ _ tt
-    (λ off. (h.0 ++ codes "--log" ∷ [], begun_more v o h.0 choice.Log (codes "--log" ∷ []) h.1 choice.log (ap not off), λ k. h.2 k ++ is k ∷ []))
-has_read_chosen v o ws marked.Split w h is = off_if (λ r. After r (ws ++ w ∷ [])) o.split_match_arms _ _ tt
-    (λ off. (h.0 ++ codes "--split" ∷ [], begun_more v o h.0 choice.Split (codes "--split" ∷ []) h.1 choice.split (ap not off), λ k. h.2 k ++ is k ∷ []))
-has_read_chosen v o ws marked.Threshold w h is = off_if (λ r. After r (ws ++ w ∷ [])) (is_some o.match_arm_split_threshold) _ _ tt
+has_read_chosen : (v : Verb) (g : GivenOptions) (ws : List (List ℕ)) (m : OptionWord) (w : List ℕ) → HasRead (state.Options v g) ws → IsMarked m w → After (chosen v g m) (ws ++ w ∷ [])
+has_read_chosen v g ws marked.NoAllow w h is = off_if (λ r. After r (ws ++ w ∷ [])) g.options.exclude_global_allow_pragmas _ _ tt
+    (λ off. (h.0 ++ codes "--no-allow" ∷ [], begun_more v g h.0 choice.NoAllow (codes "--no-allow" ∷ []) h.1 choice.no_allow (ap not off), λ k. h.2 k ++ is k ∷ []))
+has_read_chosen v g ws marked.Log w h is = off_if (λ r. After r (ws ++ w ∷ [])) g.options.emit_logging _ _ tt
+    (λ off. (h.0 ++ codes "--log" ∷ [], begun_more v g h.0 choice.Log (codes "--log" ∷ []) h.1 choice.log (ap not off), λ k. h.2 k ++ is k ∷ []))
+has_read_chosen v g ws marked.Split w h is = off_if (λ r. After r (ws ++ w ∷ [])) g.options.split_match_arms _ _ tt
+    (λ off. (h.0 ++ codes "--split" ∷ [], begun_more v g h.0 choice.Split (codes "--split" ∷ []) h.1 choice.split (ap not off), λ k. h.2 k ++ is k ∷ []))
+has_read_chosen v g ws marked.Threshold w h is = off_if (λ r. After r (ws ++ w ∷ [])) (is_some g.options.match_arm_split_threshold) _ _ tt
     (λ off. (h.0, h.1, off, λ k. h.2 k ++ is k ∷ []))
-has_read_chosen v o ws marked.Prefix w h is = (h.0, h.1, λ k. h.2 k ++ is k ∷ [])
-has_read_chosen v o ws marked.Other w h is = tt
+has_read_chosen v g ws marked.MaxReturns w h is = off_if (λ r. After r (ws ++ w ∷ [])) g.limited _ _ tt
+    (λ off. (h.0, h.1, off, λ k. h.2 k ++ is k ∷ []))
+has_read_chosen v g ws marked.Prefix w h is = (h.0, h.1, λ k. h.2 k ++ is k ∷ [])
+has_read_chosen v g ws marked.Other w h is = tt
 
-has_read_counted : (v : Verb) (o : CodegenOptions) (ws : List (List ℕ)) (r : Option ℕ) (w : List ℕ) → HasRead (state.Threshold v o) ws → IsCounted r w → After (counted v o r) (ws ++ w ∷ [])
-has_read_counted v o ws None w h is = tt
-has_read_counted v o ws (Some n) w h is = (
+has_read_counted : (v : Verb) (g : GivenOptions) (ws : List (List ℕ)) (r : Option ℕ) (w : List ℕ) → HasRead (state.Threshold v g) ws → IsCounted r w → After (counted v g r) (ws ++ w ∷ [])
+has_read_counted v g ws None w h is = tt
+has_read_counted v g ws (Some n) w h is = (
   h.0 ++ codes "--threshold" ∷ w ∷ [],
-  begun_more v o h.0 (choice.Threshold n) (codes "--threshold" ∷ w ∷ []) h.1 (choice.threshold n w is) (ap not h.2),
+  begun_more v g h.0 (choice.Threshold n) (codes "--threshold" ∷ w ∷ []) h.1 (choice.threshold n w is) (ap not h.2),
   ap (λ z. z ++ w ∷ []) h.3 ∙ ap (λ z. verb_word v ∷ z) (append_assoc h.0 (codes "--threshold" ∷ []) (w ∷ [])),
 )
 
-has_read_prefixed : (v : Verb) (o : CodegenOptions) (ws : List (List ℕ)) (r : Option (List ℕ × List ℕ)) (w : List ℕ) → HasRead (state.Prefix v o) ws → IsParted r w → After (prefixed v o r) (ws ++ w ∷ [])
-has_read_prefixed v o ws None w h is = tt
-has_read_prefixed v o ws (Some p) w h is = on_if (λ r. After r (ws ++ w ∷ [])) (is_name p.1) _ _
+has_read_limit : (v : Verb) (g : GivenOptions) (ws : List (List ℕ)) (r : Option ℕ) (w : List ℕ) → HasRead (state.MaxReturns v g) ws → IsCounted r w → After (with_limit v g r) (ws ++ w ∷ [])
+has_read_limit v g ws None w h is = tt
+has_read_limit v g ws (Some n) w h is = (
+  h.0 ++ codes "--max-returns" ∷ w ∷ [],
+  begun_more v g h.0 (choice.MaxReturns n) (codes "--max-returns" ∷ w ∷ []) h.1 (choice.max_returns n w is) (ap not h.2),
+  ap (λ z. z ++ w ∷ []) h.3 ∙ ap (λ z. verb_word v ∷ z) (append_assoc h.0 (codes "--max-returns" ∷ []) (w ∷ [])),
+)
+
+has_read_prefixed : (v : Verb) (g : GivenOptions) (ws : List (List ℕ)) (r : Option (List ℕ × List ℕ)) (w : List ℕ) → HasRead (state.Prefix v g) ws → IsParted r w → After (prefixed v g r) (ws ++ w ∷ [])
+has_read_prefixed v g ws None w h is = tt
+has_read_prefixed v g ws (Some p) w h is = on_if (λ r. After r (ws ++ w ∷ [])) (is_name p.1) _ _
     (λ good. (
       h.0 ++ codes "--prefix" ∷ w ∷ [],
-      begun_more v o h.0 (choice.Prefixed p.0 p.1) (codes "--prefix" ∷ w ∷ []) h.1 (choice.prefixed p.0 p.1 w (record { parts = is.0; first = is.1; named = good })) refl,
+      begun_more v g h.0 (choice.Prefixed p.0 p.1) (codes "--prefix" ∷ w ∷ []) h.1 (choice.prefixed p.0 p.1 w (record { parts = is.0; first = is.1; named = good })) refl,
       ap (λ z. z ++ w ∷ []) h.2 ∙ ap (λ z. verb_word v ∷ z) (append_assoc h.0 (codes "--prefix" ∷ []) (w ∷ [])),
     ))
     tt
@@ -171,13 +188,13 @@ has_read_sized : (r : Option ℕ) (ws : List (List ℕ)) (w : List ℕ) → ws �
 has_read_sized None ws w h is = tt
 has_read_sized (Some n) ws w h is = subst (λ z. LineS (z ++ w ∷ []) (command.Sample n)) (sym h) (choice.sample n w is)
 
-has_read_optional : (v : Verb) (o : CodegenOptions) (ws : List (List ℕ)) (w : List ℕ) → HasRead (state.Options v o) ws → After (optional v o w) (ws ++ w ∷ [])
-has_read_optional v o ws w h = on_if (λ r. After r (ws ++ w ∷ [])) (is_name w) _ _ (has_read_named v o ws w h) (has_read_chosen v o ws (mark w) w h (mark_is w))
+has_read_optional : (v : Verb) (g : GivenOptions) (ws : List (List ℕ)) (w : List ℕ) → HasRead (state.Options v g) ws → After (optional v g w) (ws ++ w ∷ [])
+has_read_optional v g ws w h = on_if (λ r. After r (ws ++ w ∷ [])) (is_name w) _ _ (has_read_named v g ws w h) (has_read_chosen v g ws (mark w) w h (mark_is w))
 
 has_read_run : (ws : List (List ℕ)) (w : List ℕ) → HasRead state.Run ws → After (next state.Run w) (ws ++ w ∷ [])
 has_read_run ws w h = on_if (λ r. After r (ws ++ w ∷ [])) (is_trace w) _ _
     (λ e. (codes "--trace" ∷ [], ([], chose_none, refl), λ k. h k ++ trace_is w e k ∷ []))
-    (has_read_optional (verb.Run false) no_options ws w ([], chose_none, h))
+    (has_read_optional (verb.Run false) nothing_given ws w ([], chose_none, h))
 
 has_read_valued : (t : Bool) (o : CodegenOptions) (s : Source) (m : List ℕ) (ws : List (List ℕ)) (r : Option Writtens) (w : List ℕ) → HasRead (state.Values t o s m) ws → IsSpelt r w → After (valued t o s m r) (ws ++ w ∷ [])
 has_read_valued t o s m ws None w h is = tt
@@ -199,9 +216,10 @@ has_read_answers t o s m vs ws w h = on_if (λ r. After r (ws ++ w ∷ [])) (is_
 pub has_read_next : (s : Known) (ws : List (List ℕ)) (w : List ℕ) → HasRead s ws → After (next s w) (ws ++ w ∷ [])
 has_read_next state.Begin ws w h = subst (λ z. After (begun (first w)) (z ++ w ∷ [])) (sym h) (has_read_begun (first w) w (first_is w))
 has_read_next (state.Whole c) ws w h = tt
-has_read_next (state.Options v o) ws w h = has_read_optional v o ws w h
-has_read_next (state.Threshold v o) ws w h = has_read_counted v o ws (count w) w h (count_is w)
-has_read_next (state.Prefix v o) ws w h = has_read_prefixed v o ws (parts w) w h (parts_is w)
+has_read_next (state.Options v g) ws w h = has_read_optional v g ws w h
+has_read_next (state.Threshold v g) ws w h = has_read_counted v g ws (count w) w h (count_is w)
+has_read_next (state.MaxReturns v g) ws w h = has_read_limit v g ws (count w) w h (count_is w)
+has_read_next (state.Prefix v g) ws w h = has_read_prefixed v g ws (parts w) w h (parts_is w)
 has_read_next (state.Names o ns) ws w h = on_if (λ r. After r (ws ++ w ∷ [])) (is_name w) _ _ (has_read_more o ns ws w h) tt
 has_read_next state.Kind ws w h = has_read_asked (kind_of w) ws w h (kind_is w)
 has_read_next state.Target ws w h = subst (λ z. LineS (z ++ w ∷ []) (command.Isa w)) (sym h) (choice.isa w)
@@ -232,9 +250,10 @@ Answers None ws = Unit {0}
 pub has_read_asks : (s : Known) (ws : List (List ℕ)) → HasRead s ws → Answers (asks s) ws
 has_read_asks state.Begin ws h = subst (λ z. LineS z (command.Compile no_options (codes "first.isle" ∷ []))) (sym h) choice.stored
 has_read_asks (state.Whole c) ws h = h
-has_read_asks (state.Options v o) ws h = tt
-has_read_asks (state.Threshold v o) ws h = tt
-has_read_asks (state.Prefix v o) ws h = tt
+has_read_asks (state.Options v g) ws h = tt
+has_read_asks (state.Threshold v g) ws h = tt
+has_read_asks (state.MaxReturns v g) ws h = tt
+has_read_asks (state.Prefix v g) ws h = tt
 has_read_asks (state.Names o []) ws h = let some = h.2 in absurd (omega (arith, some))
 has_read_asks (state.Names o (n ∷ ns)) ws h = subst (λ z. LineS z (command.Compile o (n ∷ ns))) (sym h.4) (compiled o h.0 n ns h.1 h.3)
 has_read_asks state.Kind ws h = tt

@@ -65,6 +65,7 @@ IsMarked marked.NoAllow w = w ≡ codes "--no-allow"
 IsMarked marked.Log w = w ≡ codes "--log"
 IsMarked marked.Split w = w ≡ codes "--split"
 IsMarked marked.Threshold w = w ≡ codes "--threshold"
+IsMarked marked.MaxReturns w = w ≡ codes "--max-returns"
 IsMarked marked.Prefix w = w ≡ codes "--prefix"
 IsMarked marked.Other w = Unit {0}
 
@@ -74,8 +75,9 @@ mark_is w = on_if (λ f. IsMarked f w) (bytes_eq w (codes "--no-allow")) _ _ (sa
     (on_if (λ f. IsMarked f w) (bytes_eq w (codes "--log")) _ _ (same w (codes "--log"))
     (on_if (λ f. IsMarked f w) (bytes_eq w (codes "--split")) _ _ (same w (codes "--split"))
     (on_if (λ f. IsMarked f w) (bytes_eq w (codes "--threshold")) _ _ (same w (codes "--threshold"))
+    (on_if (λ f. IsMarked f w) (bytes_eq w (codes "--max-returns")) _ _ (same w (codes "--max-returns"))
     (on_if (λ f. IsMarked f w) (bytes_eq w (codes "--prefix")) _ _ (same w (codes "--prefix"))
-    (tt)))))
+    (tt))))))
 
 -- a word names this kind
 abbrev pub IsKind : Option Kind → List ℕ → Type 0

@@ -4,14 +4,16 @@ use Rattle.isle_core.specs.declared.options.CodegenOptions.{CodegenOptions}
 use Rattle.isle_values.specs.Written.{Writtens}
 use Rattle.isle_command_line.specs.Request.{Request}
 use Rattle.isle_command_line.specs.declared.commands.Source.{Source}
+use Rattle.isle_command_line.specs.declared.state.GivenOptions.{GivenOptions}
 use Rattle.isle_command_line.specs.declared.state.Verb.{Verb}
 
 pub data Known : Type 0 where
   Begin : Known
   Whole : Request → Known
-  Options : Verb → CodegenOptions → Known
-  Threshold : Verb → CodegenOptions → Known
-  Prefix : Verb → CodegenOptions → Known
+  Options : Verb → GivenOptions → Known
+  Threshold : Verb → GivenOptions → Known
+  MaxReturns : Verb → GivenOptions → Known
+  Prefix : Verb → GivenOptions → Known
   Names : CodegenOptions → List (List ℕ) → Known
   Kind : Known
   Target : Known

@@ -19,6 +19,7 @@ pub data Choice : Type 0 where
   Log : Choice
   Split : Choice
   Threshold : ℕ → Choice
+  MaxReturns : ℕ → Choice
   Prefixed : (prefix name : List ℕ) → Choice
 
 -- an option in words
@@ -27,6 +28,7 @@ pub data ChoiceS : Choice → List (List ℕ) → Type 0 where
   log : ChoiceS Log (codes "--log" ∷ [])
   split : ChoiceS Split (codes "--split" ∷ [])
   threshold : (n : ℕ) (word : List ℕ) → IsCount word n → ChoiceS (Threshold n) (codes "--threshold" ∷ word ∷ [])
+  max_returns : (n : ℕ) (word : List ℕ) → IsCount word n → ChoiceS (MaxReturns n) (codes "--max-returns" ∷ word ∷ [])
   prefixed : (prefix name word : List ℕ) → IsPrefix word prefix name → ChoiceS (Prefixed prefix name) (codes "--prefix" ∷ word ∷ [])
 
 -- options in words, one after another
@@ -40,7 +42,8 @@ option_place NoAllow = 0
 option_place Log = 1
 option_place Split = 2
 option_place (Threshold n) = 3
-option_place (Prefixed prefix name) = 4
+option_place (MaxReturns n) = 4
+option_place (Prefixed prefix name) = 5
 
 -- an option that stands in a line once at most
 abbrev pub is_single : Choice → Bool
@@ -48,6 +51,7 @@ is_single NoAllow = true
 is_single Log = true
 is_single Split = true
 is_single (Threshold n) = true
+is_single (MaxReturns n) = true
 is_single (Prefixed prefix name) = false
 
 -- two options that stand not both in one line: they are the same, and no prefix
@@ -61,7 +65,14 @@ AreOnce (c ∷ cs) = (list_all (λ d. not (clash c d)) cs ≡ true) × AreOnce c
 
 -- no option is given
 abbrev pub no_options : CodegenOptions
-no_options = record { exclude_global_allow_pragmas = false; prefixes = []; emit_logging = false; split_match_arms = false; match_arm_split_threshold = None }
+no_options = record {
+  exclude_global_allow_pragmas = false;
+  prefixes = [];
+  emit_logging = false;
+  split_match_arms = false;
+  match_arm_split_threshold = None;
+  max_returns = 100;
+}
 
 -- one option more
 abbrev pub with_choice : CodegenOptions → Choice → CodegenOptions
@@ -69,6 +80,7 @@ with_choice o NoAllow = record o { exclude_global_allow_pragmas = true }
 with_choice o Log = record o { emit_logging = true }
 with_choice o Split = record o { split_match_arms = true }
 with_choice o (Threshold n) = record o { match_arm_split_threshold = Some n }
+with_choice o (MaxReturns n) = record o { max_returns = n }
 with_choice o (Prefixed p n) = record o { prefixes = o.prefixes ++ record { prefix = p; name = n } ∷ [] }
 
 -- what the options ask for

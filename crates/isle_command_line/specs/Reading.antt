@@ -1,5 +1,5 @@
 -- What is known after the first words of a line, and how each word more changes it.
-use Rattle.std.specs.Prelude.{◌≡◌, ℕ, ◌+◌, ◌<◌, List, [], ◌∷◌, ◌++◌, length, take, Bool, true, false, ◌&&◌, ◌==◌, nat_le, Option, Some, None, codes, if◌then◌else◌, is_some, IsSome}
+use Rattle.std.specs.Prelude.{◌≡◌, ℕ, ◌+◌, ◌<◌, List, [], ◌∷◌, ◌++◌, length, take, Bool, true, false, ◌&&◌, ◌||◌, ◌==◌, nat_le, Option, Some, None, codes, if◌then◌else◌, is_some, IsSome}
 use Rattle.std.specs.List.{list_all, position_or_len, before_first, after_first}
 use Rattle.std.specs.Str.{bytes_eq}
 use Rattle.isle_core.specs.declared.options.CodegenOptions.{CodegenOptions}
@@ -8,7 +8,7 @@ use Rattle.isle_values.specs.Reading.{spelt}
 use Rattle.isle_values.specs.Written.{Writtens}
 use Rattle.isle_command_line.specs.Words.{is_name, is_digit, decimal_value}
 use Rattle.isle_command_line.specs.Lines as choice
-use Rattle.isle_command_line.specs.Lines.{no_options, with_choice}
+use Rattle.isle_command_line.specs.Lines.{Choice, no_options, with_choice}
 use Rattle.isle_command_line.specs.declared.commands.Kind.{Kind}
 use Rattle.isle_command_line.specs.declared.commands.Source.{Source}
 use Rattle.isle_command_line.specs.declared.commands.Source.TheVariants as source
@@ -19,6 +19,7 @@ use Rattle.isle_command_line.specs.declared.word.FirstWord.{FirstWord}
 use Rattle.isle_command_line.specs.declared.word.FirstWord.TheVariants as first_word
 use Rattle.isle_command_line.specs.declared.word.OptionWord.{OptionWord}
 use Rattle.isle_command_line.specs.declared.word.OptionWord.TheVariants as marked
+use Rattle.isle_command_line.specs.declared.state.GivenOptions.{GivenOptions}
 use Rattle.isle_command_line.specs.declared.state.Verb.{Verb}
 use Rattle.isle_command_line.specs.declared.state.Verb.TheVariants as verb
 use Rattle.isle_command_line.specs.Known.{Known}
@@ -44,6 +45,7 @@ mark w =
     if bytes_eq w (codes "--log") then marked.Log else
     if bytes_eq w (codes "--split") then marked.Split else
     if bytes_eq w (codes "--threshold") then marked.Threshold else
+    if bytes_eq w (codes "--max-returns") then marked.MaxReturns else
     if bytes_eq w (codes "--prefix") then marked.Prefix else marked.Other
 
 -- the kind that a word names
@@ -92,12 +94,29 @@ source_by w (Some n) = source.Unit n
 unfoldable pub source_of : List ℕ → Source
 source_of w = source_by w (after_prefix (codes "unit:") w)
 
+-- no option is given so far
+abbrev pub nothing_given : GivenOptions
+nothing_given = record { options = no_options; limited = false }
+
+-- an option gives the limit of results
+abbrev pub is_limit : Choice → Bool
+is_limit choice.NoAllow = false
+is_limit choice.Log = false
+is_limit choice.Split = false
+is_limit (choice.Threshold n) = false
+is_limit (choice.MaxReturns n) = true
+is_limit (choice.Prefixed prefix name) = false
+
+-- one option more is given
+abbrev pub given_more : GivenOptions → Choice → GivenOptions
+given_more g c = record { options = with_choice g.options c; limited = is_limit c || g.limited }
+
 -- after the first word
 abbrev pub begun : FirstWord → Option Known
 begun first_word.Help = Some (state.Whole command.Help)
 begun first_word.Version = Some (state.Whole command.Version)
-begun first_word.Compile = Some (state.Options verb.Compile no_options)
-begun first_word.Build = Some (state.Options verb.Build no_options)
+begun first_word.Compile = Some (state.Options verb.Compile nothing_given)
+begun first_word.Build = Some (state.Options verb.Build nothing_given)
 begun first_word.Prelude = Some state.Kind
 begun first_word.Units = Some (state.Whole command.Units)
 begun first_word.Isa = Some state.Target
@@ -116,23 +135,29 @@ named verb.Build o w = Some (state.Whole (command.Build o w))
 named (verb.Run t) o w = sourced t o (source_of w)
 
 -- after a word that names an option
-abbrev pub chosen : Verb → CodegenOptions → OptionWord → Option Known
-chosen v o marked.NoAllow = if o.exclude_global_allow_pragmas then None else Some (state.Options v (with_choice o choice.NoAllow))
-chosen v o marked.Log = if o.emit_logging then None else Some (state.Options v (with_choice o choice.Log))
-chosen v o marked.Split = if o.split_match_arms then None else Some (state.Options v (with_choice o choice.Split))
-chosen v o marked.Threshold = if is_some o.match_arm_split_threshold then None else Some (state.Threshold v o)
-chosen v o marked.Prefix = Some (state.Prefix v o)
-chosen v o marked.Other = None
+abbrev pub chosen : Verb → GivenOptions → OptionWord → Option Known
+chosen v g marked.NoAllow = if g.options.exclude_global_allow_pragmas then None else Some (state.Options v (given_more g choice.NoAllow))
+chosen v g marked.Log = if g.options.emit_logging then None else Some (state.Options v (given_more g choice.Log))
+chosen v g marked.Split = if g.options.split_match_arms then None else Some (state.Options v (given_more g choice.Split))
+chosen v g marked.Threshold = if is_some g.options.match_arm_split_threshold then None else Some (state.Threshold v g)
+chosen v g marked.MaxReturns = if g.limited then None else Some (state.MaxReturns v g)
+chosen v g marked.Prefix = Some (state.Prefix v g)
+chosen v g marked.Other = None
 
 -- after a threshold
-abbrev pub counted : Verb → CodegenOptions → Option ℕ → Option Known
-counted v o (Some n) = Some (state.Options v (with_choice o (choice.Threshold n)))
-counted v o None = None
+abbrev pub counted : Verb → GivenOptions → Option ℕ → Option Known
+counted v g (Some n) = Some (state.Options v (given_more g (choice.Threshold n)))
+counted v g None = None
+
+-- after a limit of results
+abbrev pub with_limit : Verb → GivenOptions → Option ℕ → Option Known
+with_limit v g (Some n) = Some (state.Options v (given_more g (choice.MaxReturns n)))
+with_limit v g None = None
 
 -- after a prefix
-abbrev pub prefixed : Verb → CodegenOptions → Option (List ℕ × List ℕ) → Option Known
-prefixed v o (Some p) = if is_name p.1 then Some (state.Options v (with_choice o (choice.Prefixed p.0 p.1))) else None
-prefixed v o None = None
+abbrev pub prefixed : Verb → GivenOptions → Option (List ℕ × List ℕ) → Option Known
+prefixed v g (Some p) = if is_name p.1 then Some (state.Options v (given_more g (choice.Prefixed p.0 p.1))) else None
+prefixed v g None = None
 
 -- after a kind
 abbrev pub request : Option Kind → Option Known
@@ -145,8 +170,8 @@ sized (Some n) = Some (state.Whole (command.Sample n))
 sized None = None
 
 -- after an option or the first name
-abbrev pub optional : Verb → CodegenOptions → List ℕ → Option Known
-optional v o w = if is_name w then named v o w else chosen v o (mark w)
+abbrev pub optional : Verb → GivenOptions → List ℕ → Option Known
+optional v g w = if is_name w then named v g.options w else chosen v g (mark w)
 
 -- after values
 abbrev pub valued : Bool → CodegenOptions → Source → List ℕ → Option Writtens → Option Known
@@ -157,14 +182,15 @@ valued t o s m None = None
 abbrev pub next : Known → List ℕ → Option Known
 next state.Begin w = begun (first w)
 next (state.Whole c) w = None
-next (state.Options v o) w = optional v o w
-next (state.Threshold v o) w = counted v o (count w)
-next (state.Prefix v o) w = prefixed v o (parts w)
+next (state.Options v g) w = optional v g w
+next (state.Threshold v g) w = counted v g (count w)
+next (state.MaxReturns v g) w = with_limit v g (count w)
+next (state.Prefix v g) w = prefixed v g (parts w)
 next (state.Names o ns) w = if is_name w then Some (state.Names o (ns ++ w ∷ [])) else None
 next state.Kind w = request (kind_of w)
 next state.Target w = Some (state.Whole (command.Isa w))
 next state.Size w = sized (size w)
-next state.Run w = if is_trace w then Some (state.Options (verb.Run true) no_options) else optional (verb.Run false) no_options w
+next state.Run w = if is_trace w then Some (state.Options (verb.Run true) nothing_given) else optional (verb.Run false) nothing_given w
 next (state.Term t o s) w = if is_name w then Some (state.Values t o s w) else None
 next (state.Values t o s m) w = valued t o s m (spelt w)
 next (state.AfterValues t o s m vs) w = if is_answers w then Some (state.Answers t o s m vs) else None
@@ -184,9 +210,10 @@ read s (w ∷ ws) = onward (next s w) (λ t. read t ws)
 abbrev pub asks : Known → Option Request
 asks state.Begin = Some (command.Compile no_options (codes "first.isle" ∷ []))
 asks (state.Whole c) = Some c
-asks (state.Options v o) = None
-asks (state.Threshold v o) = None
-asks (state.Prefix v o) = None
+asks (state.Options v g) = None
+asks (state.Threshold v g) = None
+asks (state.MaxReturns v g) = None
+asks (state.Prefix v g) = None
 asks (state.Names o ns) = Some (command.Compile o ns)
 asks state.Kind = None
 asks state.Target = None

@@ -30,9 +30,10 @@ seen_command (command.Run r) = request.Run (seen_run r)
 abbrev pub seen_state : State → Known
 seen_state state.Begin = known.Begin
 seen_state (state.Whole c) = known.Whole (seen_command c)
-seen_state (state.Options v o) = known.Options v o
-seen_state (state.Threshold v o) = known.Threshold v o
-seen_state (state.Prefix v o) = known.Prefix v o
+seen_state (state.Options v g) = known.Options v g
+seen_state (state.Threshold v g) = known.Threshold v g
+seen_state (state.MaxReturns v g) = known.MaxReturns v g
+seen_state (state.Prefix v g) = known.Prefix v g
 seen_state (state.Names o ns) = known.Names o ns
 seen_state state.Kind = known.Kind
 seen_state state.Target = known.Target

@@ -64,6 +64,7 @@ fn request(alloc: Global, state: State) -> Result<Command, LineFail>
         })),
         State::Options(..)
         | State::Threshold(..)
+        | State::MaxReturns(..)
         | State::Prefix(..)
         | State::Kind
         | State::Target

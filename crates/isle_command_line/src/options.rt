@@ -1,31 +1,26 @@
 ghost use Rattle.std.specs.Prelude.{◌≡◌, ◌≢◌, Err, Some, None, IfOk, IfSome};
-ghost use Rattle.isle_command_line.specs.Lines.{Prefixed, with_choice};
+ghost use Rattle.isle_command_line.specs.Lines.{Prefixed};
 ghost use Rattle.isle_command_line.specs.Known as known;
-ghost use Rattle.isle_command_line.specs.Reading.{next, named, chosen, optional, parts};
+ghost use Rattle.isle_command_line.specs.Reading.{next, named, chosen, optional, parts, given_more};
 ghost use Rattle.isle_command_line.specs.Views.{seen_state};
 ghost use Rattle.isle_command_line.specs.declared.state.WordFail.TheVariants.{Bad};
 
 use crate::commands::Command;
 use crate::run::after_source;
-use crate::state::{State, Verb, WordFail};
+use crate::state::{GivenOptions, State, Verb, WordFail};
 use crate::word::{OptionWord, count, is_name, mark};
 use isle_core::{CodegenOptions, List, Prefix, Text};
 use std::alloc::Global;
 
 /// Returns what is known after a word that stands where an option or the first name may.
-pub fn option(
-    alloc: Global,
-    verb: Verb,
-    options: CodegenOptions,
-    word: &str,
-) -> Result<State, WordFail>
-    ensures next { IfOk result (λ s. optional verb options word.now ≡ Some (seen_state s)) }
-    ensures bad { result ≡ Err Bad → optional verb options word.now ≡ None }
+pub fn option(alloc: Global, verb: Verb, given: GivenOptions, word: &str) -> Result<State, WordFail>
+    ensures next { IfOk result (λ s. optional verb given word.now ≡ Some (seen_state s)) }
+    ensures bad { result ≡ Err Bad → optional verb given word.now ≡ None }
 {
     if is_name(word) {
-        named(alloc, verb, options, word)
+        named(alloc, verb, given.options, word)
     } else {
-        chosen(verb, options, mark(word))
+        chosen(verb, given, mark(word))
     }
 }
 
@@ -48,41 +43,58 @@ fn named(alloc: Global, verb: Verb, options: CodegenOptions, word: &str) -> Resu
 }
 
 // What is known after a word that names an option.
-fn chosen(verb: Verb, mut options: CodegenOptions, mark: OptionWord) -> Result<State, WordFail>
-    ensures next { IfOk result (λ s. chosen verb options mark ≡ Some (seen_state s)) }
-    ensures bad { result ≡ Err Bad → chosen verb options mark ≡ None }
+fn chosen(verb: Verb, mut given: GivenOptions, mark: OptionWord) -> Result<State, WordFail>
+    ensures next { IfOk result (λ s. chosen verb given mark ≡ Some (seen_state s)) }
+    ensures bad { result ≡ Err Bad → chosen verb given mark ≡ None }
 {
     match mark {
-        OptionWord::NoAllow if !options.exclude_global_allow_pragmas => {
-            options.exclude_global_allow_pragmas = true;
-            Ok(State::Options(verb, options))
+        OptionWord::NoAllow if !given.options.exclude_global_allow_pragmas => {
+            given.options.exclude_global_allow_pragmas = true;
+            Ok(State::Options(verb, given))
         }
-        OptionWord::Log if !options.emit_logging => {
-            options.emit_logging = true;
-            Ok(State::Options(verb, options))
+        OptionWord::Log if !given.options.emit_logging => {
+            given.options.emit_logging = true;
+            Ok(State::Options(verb, given))
         }
-        OptionWord::Split if !options.split_match_arms => {
-            options.split_match_arms = true;
-            Ok(State::Options(verb, options))
+        OptionWord::Split if !given.options.split_match_arms => {
+            given.options.split_match_arms = true;
+            Ok(State::Options(verb, given))
         }
-        OptionWord::Threshold if options.match_arm_split_threshold.is_none() => {
-            Ok(State::Threshold(verb, options))
+        OptionWord::Threshold if given.options.match_arm_split_threshold.is_none() => {
+            Ok(State::Threshold(verb, given))
         }
-        OptionWord::Prefix => Ok(State::Prefix(verb, options)),
+        OptionWord::MaxReturns if !given.limited => Ok(State::MaxReturns(verb, given)),
+        OptionWord::Prefix => Ok(State::Prefix(verb, given)),
         _ => Err(WordFail::Bad),
     }
 }
 
 /// Returns what is known after a threshold.
-pub fn threshold(verb: Verb, mut options: CodegenOptions, word: &str) -> Result<State, WordFail>
+pub fn threshold(verb: Verb, mut given: GivenOptions, word: &str) -> Result<State, WordFail>
     ensures next { IfOk result (λ s.
-        next (known.Threshold verb options) word.now ≡ Some (seen_state s)) }
-    ensures bad { result ≡ Err Bad → next (known.Threshold verb options) word.now ≡ None }
+        next (known.Threshold verb given) word.now ≡ Some (seen_state s)) }
+    ensures bad { result ≡ Err Bad → next (known.Threshold verb given) word.now ≡ None }
 {
     match count(word) {
         Some(count) => {
-            options.match_arm_split_threshold = Some(count);
-            Ok(State::Options(verb, options))
+            given.options.match_arm_split_threshold = Some(count);
+            Ok(State::Options(verb, given))
+        }
+        None => Err(WordFail::Bad),
+    }
+}
+
+/// Returns what is known after a limit of results.
+pub fn limit(verb: Verb, mut given: GivenOptions, word: &str) -> Result<State, WordFail>
+    ensures next { IfOk result (λ s.
+        next (known.MaxReturns verb given) word.now ≡ Some (seen_state s)) }
+    ensures bad { result ≡ Err Bad → next (known.MaxReturns verb given) word.now ≡ None }
+{
+    match count(word) {
+        Some(count) => {
+            given.options.max_returns = count;
+            given.limited = true;
+            Ok(State::Options(verb, given))
         }
         None => Err(WordFail::Bad),
     }
@@ -98,20 +110,15 @@ fn parts(word: &str) -> Option<(&str, &str)>
 }
 
 /// Returns what is known after a prefix.
-pub fn prefix(
-    alloc: Global,
-    verb: Verb,
-    options: CodegenOptions,
-    word: &str,
-) -> Result<State, WordFail>
+pub fn prefix(alloc: Global, verb: Verb, given: GivenOptions, word: &str) -> Result<State, WordFail>
     ensures next { IfOk result (λ s.
-        next (known.Prefix verb options) word.now ≡ Some (seen_state s)) }
-    ensures bad { result ≡ Err Bad → next (known.Prefix verb options) word.now ≡ None }
+        next (known.Prefix verb given) word.now ≡ Some (seen_state s)) }
+    ensures bad { result ≡ Err Bad → next (known.Prefix verb given) word.now ≡ None }
 {
     match parts(word) {
         Some((prefix, name)) => {
             if is_name(name) {
-                after_prefix(alloc, verb, options, prefix, name)
+                after_prefix(alloc, verb, given, prefix, name)
             } else {
                 Err(WordFail::Bad)
             }
@@ -124,20 +131,22 @@ pub fn prefix(
 fn after_prefix(
     alloc: Global,
     verb: Verb,
-    options: CodegenOptions,
+    given: GivenOptions,
     prefix: &str,
     name: &str,
 ) -> Result<State, WordFail>
     ensures next { IfOk result (λ s.
-        seen_state s ≡ known.Options verb (with_choice options (Prefixed prefix.now name.now))) }
+        seen_state s ≡ known.Options verb (given_more given (Prefixed prefix.now name.now))) }
     ensures bad { result ≢ Err Bad }
 {
+    let GivenOptions { options, limited } = given;
     let CodegenOptions {
         exclude_global_allow_pragmas,
         prefixes,
         emit_logging,
         split_match_arms,
         match_arm_split_threshold,
+        max_returns,
     } = options;
     let prefix = Text::copied(alloc, prefix)?;
     let name = Text::copied(alloc, name)?;
@@ -149,8 +158,9 @@ fn after_prefix(
         emit_logging,
         split_match_arms,
         match_arm_split_threshold,
+        max_returns,
     };
-    Ok(State::Options(verb, options))
+    Ok(State::Options(verb, GivenOptions { options, limited }))
 }
 
 /// Returns what is known after one name more.

@@ -10,7 +10,7 @@ ghost use Rattle.isle_command_line.specs.declared.state.WordFail.TheVariants.{Ba
 
 use crate::commands::{Command, RunLine, Source};
 use crate::options::option;
-use crate::state::{State, Verb, WordFail};
+use crate::state::{GivenOptions, State, Verb, WordFail};
 use crate::word::{is_answers, is_name, is_trace};
 use isle_core::{CodegenOptions, List, OutOfMemory, Text};
 use isle_values::Written;
@@ -21,11 +21,11 @@ pub fn run(alloc: Global, word: &str) -> Result<State, WordFail>
     ensures next { IfOk result (λ s. next known.Run word.now ≡ Some (seen_state s)) }
     ensures bad { result ≡ Err Bad → next known.Run word.now ≡ None }
 {
-    let options = CodegenOptions::new(alloc);
+    let given = GivenOptions::new(alloc);
     if is_trace(word) {
-        Ok(State::Options(Verb::Run(true), options))
+        Ok(State::Options(Verb::Run(true), given))
     } else {
-        option(alloc, Verb::Run(false), options, word)
+        option(alloc, Verb::Run(false), given, word)
     }
 }
 

@@ -1,11 +1,11 @@
 ghost use Rattle.std.specs.Prelude.{◌≡◌, Err, Some, None, IfOk};
 ghost use Rattle.isle_command_line.specs.Known as known;
-ghost use Rattle.isle_command_line.specs.Reading.{next, begun, request, sized};
+ghost use Rattle.isle_command_line.specs.Reading.{next, begun, nothing_given, request, sized};
 ghost use Rattle.isle_command_line.specs.Views.{seen_state};
 ghost use Rattle.isle_command_line.specs.declared.state.WordFail.TheVariants.{Bad};
 
 use crate::commands::{Command, Kind, Source};
-use crate::options::{one_name, option, prefix, threshold};
+use crate::options::{limit, one_name, option, prefix, threshold};
 use crate::run::{after_values, answers, run, term, values};
 use crate::word::{FirstWord, first, kind_of, size};
 use isle_core::{CodegenOptions, List, OutOfMemory, Text};
@@ -21,6 +21,26 @@ pub enum Verb {
     Run(bool),
 }
 
+/// What the options so far ask for.
+#[derive(Debug, Drop)]
+pub struct GivenOptions {
+    pub options: CodegenOptions,
+    /// Whether the limit of results is given, which may be the one that stands if none is.
+    pub limited: bool,
+}
+
+impl GivenOptions {
+    /// Makes what no options ask for. It takes no memory.
+    pub fn new(alloc: Global) -> GivenOptions
+        ensures { result ≡ nothing_given }
+    {
+        GivenOptions {
+            options: CodegenOptions::new(alloc),
+            limited: false,
+        }
+    }
+}
+
 /// What is known after the first words of a line.
 #[derive(Debug, Drop)]
 pub enum State {
@@ -28,11 +48,13 @@ pub enum State {
     /// A line with which no word continues.
     Whole(Command),
     /// An option or a name is next.
-    Options(Verb, CodegenOptions),
+    Options(Verb, GivenOptions),
     /// A threshold is next.
-    Threshold(Verb, CodegenOptions),
+    Threshold(Verb, GivenOptions),
+    /// A limit of results is next.
+    MaxReturns(Verb, GivenOptions),
     /// A prefix is next.
-    Prefix(Verb, CodegenOptions),
+    Prefix(Verb, GivenOptions),
     /// There is a name, and more of them may follow.
     Names(CodegenOptions, List<Text>),
     /// The kind of a prelude is next.
@@ -104,9 +126,10 @@ pub fn next(alloc: Global, state: State, word: &str) -> Result<State, WordFail>
     match state {
         State::Begin => begun(alloc, first(word)),
         State::Whole(_) => Err(WordFail::Bad),
-        State::Options(verb, options) => option(alloc, verb, options, word),
-        State::Threshold(verb, options) => threshold(verb, options, word),
-        State::Prefix(verb, options) => prefix(alloc, verb, options, word),
+        State::Options(verb, given) => option(alloc, verb, given, word),
+        State::Threshold(verb, given) => threshold(verb, given, word),
+        State::MaxReturns(verb, given) => limit(verb, given, word),
+        State::Prefix(verb, given) => prefix(alloc, verb, given, word),
         State::Names(options, names) => one_name(alloc, options, names, word),
         State::Kind => request(kind_of(word)),
         State::Target => target(alloc, word),
@@ -133,8 +156,8 @@ fn begun(alloc: Global, word: FirstWord) -> Result<State, WordFail>
     match word {
         FirstWord::Help => Ok(State::Whole(Command::Help)),
         FirstWord::Version => Ok(State::Whole(Command::Version)),
-        FirstWord::Compile => Ok(State::Options(Verb::Compile, CodegenOptions::new(alloc))),
-        FirstWord::Build => Ok(State::Options(Verb::Build, CodegenOptions::new(alloc))),
+        FirstWord::Compile => Ok(State::Options(Verb::Compile, GivenOptions::new(alloc))),
+        FirstWord::Build => Ok(State::Options(Verb::Build, GivenOptions::new(alloc))),
         FirstWord::Prelude => Ok(State::Kind),
         FirstWord::Units => Ok(State::Whole(Command::Units)),
         FirstWord::Isa => Ok(State::Target),

@@ -27,6 +27,7 @@ pub enum OptionWord {
     Log,
     Split,
     Threshold,
+    MaxReturns,
     Prefix,
     /// It is no option.
     Other,
@@ -61,6 +62,7 @@ pub fn mark(word: &str) -> OptionWord
         "--log" => OptionWord::Log,
         "--split" => OptionWord::Split,
         "--threshold" => OptionWord::Threshold,
+        "--max-returns" => OptionWord::MaxReturns,
         "--prefix" => OptionWord::Prefix,
         _ => OptionWord::Other,
     }

@@ -15,7 +15,6 @@ use Rattle.isle_core.specs.declared.values.End.TheVariants as code_end
 use Rattle.isle_core.specs.declared.values.Outcome.{Outcome as CodeOutcome}
 use Rattle.isle_core.specs.Value.{Value, Truth, Int, Opaque, Variant, Struct, FieldValues, NoField, Field, Answer, Plain, Found, Nothing, Several, Made, End, Gives, GivesSome, GivesNone, IsUnreachable, GivesList, Ran}
 use Rattle.isle_core.specs.Meaning.{PureAnswers, TurnAnswers, Meaning}
-use Rattle.isle_core.specs.Space.{Space}
 
 -- fields, their values seen already
 abbrev pub fields_of : List (List ℕ × Value) → FieldValues
@@ -64,10 +63,6 @@ const c = (c.0, value c.1)
 -- all answers, as a meaning
 abbrev pub meaning : CodeAnswers → Meaning
 meaning a = record { consts = map const a.consts; pure = map pure_answers a.pure; turns = map turn_answers a.turns }
-
--- the space that the list of results has
-abbrev pub space : CodeAnswers → Space
-space a = record { held = a.held; limit = a.max_returns }
 
 -- a call
 abbrev pub made : CodeCallMade → Made

@@ -82,15 +82,13 @@ pub struct TurnAnswers {
     pub rest: Answer,
 }
 
-/// What constants stand for and what calls answer (a meaning), the length of the returns list at entry, and its limit
-/// (its space).
+/// What constants stand for and what calls answer (a meaning), and the length of the returns list at entry.
 #[derive(Debug, Drop)]
 pub struct Answers {
     pub consts: List<(Text, Value)>,
     pub pure: List<PureAnswers>,
     pub turns: List<TurnAnswers>,
     pub held: usize,
-    pub max_returns: usize,
 }
 
 /// A call that was made.

@@ -16,12 +16,13 @@ use Rattle.isle_tree.specs.declared.tree.Read.{Read}
 use Rattle.isle_tree.specs.declared.tree.TPat.{TPat}
 use Rattle.isle_tree.specs.Program as tree
 use Rattle.isle_tree.specs.Program.{Stmt, Overflow, Body, Done}
-use Rattle.isle_simulation.specs.Completed.{step_binds, completed_control}
+use Rattle.isle_simulation.specs.Completed.{step_binds, completed, completed_control}
 use Rattle.isle_simulation.specs.References.{is_reference_in, read_as}
 use Rattle.isle_simulation.specs.Operands.{operand_of, tested}
 use Rattle.isle_simulation.specs.Patterns.{pattern_of, arm_pattern}
 use Rattle.isle_simulation.specs.Statements.{read_in, plain_read, bound_expr, binds_list, local_stmt, let_of, lets, stmt_before, stop_before, if_eq, if_let, return_of, loop_of, looped_local, arm_stmt, match_read, match_of, arm_before}
-use Rattle.isle_simulation.specs.Manner.{Manner}
+use Rattle.isle_simulation.specs.Manner.{Manner, arm_manner}
+use Rattle.isle_simulation.proofs.CompletedArms.{arm_of}
 use Rattle.isle_simulation.specs.Telling.{Telling, line_before, told_before}
 use Rattle.isle_emission.specs.Built.{AreComputed, IsTested, IsBuilt, IsBuiltControl, AreBuilt, AreCasesBuilt}
 use Rattle.isle_emission.specs.MadeBodies.{made_body, made_control, made_arms, made_each}
@@ -51,12 +52,12 @@ told_some (Some line) (Equal a b body) o h = h
 told_some (Some line) (Loop result body) o h = h
 told_some (Some line) (Return place result) o h = some_of (line_before (line place)) o h
 
-stop_some : (inside several : Bool) (c : Control) (o : Option Body) → IsSome (stop_before inside several c o) → IsSome o
-stop_some inside false c o h = h
-stop_some inside true (Match source arms) o h = h
-stop_some inside true (Equal a b body) o h = h
-stop_some inside true (Loop result body) o h = h
-stop_some inside true (Return place result) o h = (before_some (Some (Overflow inside)) o h).1
+stop_some : (manner : Manner) (several : Bool) (c : Control) (o : Option Body) → IsSome (stop_before manner several c o) → IsSome o
+stop_some manner false c o h = h
+stop_some manner true (Match source arms) o h = h
+stop_some manner true (Equal a b body) o h = h
+stop_some manner true (Loop result body) o h = h
+stop_some manner true (Return place result) o h = (before_some (Some (Overflow manner.inside manner.limit)) o h).1
 
 return_some : (k : ReturnKind) (r : Option Read) → IsSome (return_of k r) → IsSome r
 return_some k (Some r) h = refl
@@ -118,12 +119,12 @@ mutual
       let bs = step_binds s bound binds c in
       let inner = bound_by bound bs in
       let rest = made_body manner s inner more end in
-      let stop = stop_before manner.inside (gives_several s) (completed_control s inner c) rest in
+      let stop = stop_before manner (gives_several s) (completed_control s inner c) rest in
       let then = stmt_before (made_control manner s inner c) stop in
       let l = lets_some s bound bs (told_before manner.telling (completed_control s inner c) then) h in
       let t = told_some manner.telling (completed_control s inner c) then l.1 in
       let k = before_some (made_control manner s inner c) stop t in
-      (l.0, control_built manner c s inner k.0, block_built manner more s inner end (stop_some manner.inside (gives_several s) (completed_control s inner c) rest k.1))
+      (l.0, control_built manner c s inner k.0, block_built manner more s inner end (stop_some manner (gives_several s) (completed_control s inner c) rest k.1))
 
   control_built : (manner : Manner) (c : Control) (s : Setting) (bound : List ℕ) → IsSome (made_control manner s bound c) → IsBuiltControl s bound c
   control_built manner (Match source arms) s bound h = arms_built manner arms s bound source h
@@ -139,15 +140,15 @@ mutual
   arms_built : (manner : Manner) (arms : Arms) (s : Setting) (bound : List ℕ) (source : BindingId) → IsSome (made_arms manner s bound source arms) → AreBuilt s bound source arms
   arms_built manner NoArm s bound source h = cc
   arms_built manner (Arm c places body NoArm) s bound source h =
-      let k = test_some s bound source c places (made_body manner s (bound_within bound places) body (Some Done)) h in
-      (k.0, block_built manner body s (bound_within bound places) (Some Done) k.1)
+      let k = test_some s bound source c places (arm_of manner s (bound_within bound places) body) h in
+      (k.0, block_built (arm_manner manner (completed s (bound_within bound places) body)) body s (bound_within bound places) (Some Done) (some_of _ _ k.1))
   arms_built manner (Arm c places body (Arm d others inside arms)) s bound source h =
       let k = match_some (match_read s bound source c) (made_each manner s bound (Arm c places body (Arm d others inside arms))) h in
-      let l = arm_some (arm_pattern s.env c places) (made_body manner s (bound_within bound places) body (Some Done)) (made_each manner s bound (Arm d others inside arms)) k.1 in
-      (k.0, l.0, block_built manner body s (bound_within bound places) (Some Done) l.1, cases_built manner (Arm d others inside arms) s bound l.2)
+      let l = arm_some (arm_pattern s.env c places) (arm_of manner s (bound_within bound places) body) (made_each manner s bound (Arm d others inside arms)) k.1 in
+      (k.0, l.0, block_built (arm_manner manner (completed s (bound_within bound places) body)) body s (bound_within bound places) (Some Done) (some_of _ _ l.1), cases_built manner (Arm d others inside arms) s bound l.2)
 
   cases_built : (manner : Manner) (arms : Arms) (s : Setting) (bound : List ℕ) → IsSome (made_each manner s bound arms) → AreCasesBuilt s bound arms
   cases_built manner NoArm s bound h = tt
   cases_built manner (Arm c places body arms) s bound h =
-      let k = arm_some (arm_pattern s.env c places) (made_body manner s (bound_within bound places) body (Some Done)) (made_each manner s bound arms) h in
-      (k.0, block_built manner body s (bound_within bound places) (Some Done) k.1, cases_built manner arms s bound k.2)
+      let k = arm_some (arm_pattern s.env c places) (arm_of manner s (bound_within bound places) body) (made_each manner s bound arms) h in
+      (k.0, block_built (arm_manner manner (completed s (bound_within bound places) body)) body s (bound_within bound places) (Some Done) (some_of _ _ k.1), cases_built manner arms s bound k.2)

@@ -16,10 +16,11 @@ use Rattle.isle_tree.proofs.Sees.{stmt-match}
 use Rattle.isle_simulation.specs.Manner.{Manner}
 use Rattle.isle_simulation.specs.Patterns.{arm_pattern}
 use Rattle.isle_simulation.specs.Statements.{match_read, match_of, arm_before}
-use Rattle.isle_emission.specs.BodyOnto.{AreMadeAs}
+use Rattle.isle_emission.specs.BodyOnto.{body_onto}
 use Rattle.isle_emission.specs.Built.{HasRead, AreBuilt, AreCasesBuilt, IsBuiltCase}
 use Rattle.isle_emission.specs.Cases.{Case, cases_onto, PushesCase}
-use Rattle.isle_emission.specs.MadeBodies.{made_body, made_arms, made_each}
+use Rattle.isle_emission.specs.MadeBodies.{made_in_arm, made_arms, made_each}
+use Rattle.isle_simulation.proofs.CompletedArms.{arm_by}
 use Rattle.isle_emission.proofs.Onto.{onto_done}
 
 -- ---- what is made
@@ -37,14 +38,14 @@ onto_case [] x others = refl
 onto_case (y ∷ xs) x others = ap (arm_before (Some y.0) (Some (body y.1))) (onto_case xs x others)
 
 -- an arm is pushed
-pub case_pushed : (manner : Manner) (s : Setting) (bound inner : List ℕ) (x seen : SeenArm) (pat : TPat) (ss : List CodeStmt) (old new : List Case)
-    → x ≡ seen → inner ≡ bound_within bound seen.1 → Some pat ≡ arm_pattern s.env seen.0 seen.1 → AreMadeAs ss (made_body manner s inner seen.2) → new ≡ old ++ (pat, ss) ∷ [] → PushesCase manner s bound x old new
-case_pushed manner s bound inner x seen pat ss old new seen_x at_inner is_pat made is_pushed = λ others.
+pub case_pushed : (manner : Manner) (s : Setting) (bound : List ℕ) (x seen : SeenArm) (pat : TPat) (ss : List CodeStmt) (old new : List Case)
+    → x ≡ seen → Some pat ≡ arm_pattern s.env seen.0 seen.1 → body_onto (map stmt ss) (Some Done) ≡ made_in_arm manner s (bound_within bound seen.1) seen.2 → new ≡ old ++ (pat, ss) ∷ [] → PushesCase manner s bound x old new
+case_pushed manner s bound x seen pat ss old new seen_x is_pat made is_pushed = λ others.
     ap (λ ys. cases_onto ys others) is_pushed
     ∙ onto_case old (pat, ss) others
     ∙ ap (λ p. cases_onto old (arm_before p (Some (body ss)) others)) is_pat
-    ∙ ap (λ i. cases_onto old (arm_before (arm_pattern s.env seen.0 seen.1) i others)) (sym (onto_done (map stmt ss)) ∙ made (Some Done) ∙ ap (λ ls. made_body manner s ls seen.2 (Some Done)) at_inner)
-    ∙ ap (λ (k : SeenArm). cases_onto old (arm_before (arm_pattern s.env k.0 k.1) (made_body manner s (bound_within bound k.1) k.2 (Some Done)) others)) (sym seen_x)
+    ∙ ap (λ i. cases_onto old (arm_before (arm_pattern s.env seen.0 seen.1) i others)) (sym (onto_done (map stmt ss)) ∙ made)
+    ∙ ap (λ (k : SeenArm). cases_onto old (arm_before (arm_pattern s.env k.0 k.1) (made_in_arm manner s (bound_within bound k.1) k.2) others)) (sym seen_x)
 
 -- ---- the loop
 
@@ -55,6 +56,7 @@ pub cases_step : (manner : Manner) (s : Setting) (xs : List CodeArm) (i : ℕ) (
 cases_step manner s xs i x bound new old after lt item at_new p =
     ap (λ ls. cases_onto after (made_each manner s ls (arms_of (map arm (drop (i + 1) xs))))) at_new
     ∙ p (made_each manner s bound (arms_of (map arm (drop (i + 1) xs))))
+    ∙ ap (λ b. cases_onto old (arm_before (arm_pattern s.env (arm x).0 (arm x).1) b (made_each manner s bound (arms_of (map arm (drop (i + 1) xs)))))) (sym (arm_by manner s (bound_within bound (arm x).1) (arm x).2))
     ∙ ap (λ y. cases_onto old (made_each manner s bound (arms_of (map arm (y ∷ drop (i + 1) xs))))) item
     ∙ ap (λ ys. cases_onto old (made_each manner s bound (arms_of (map arm ys)))) (sym (drop_more xs i x lt))
 

@@ -66,26 +66,26 @@ is_shaped options o f h e = both (slice_get o.env.terms o.id.0) _ _ _ (λ t may 
 
 -- it runs as the block of its kind of term
 runs_so : (options : CodegenOptions) (o : Origin) (f : Function) (t : Term) → MayEmit o.files (setting o.env t o.bindings) o.block → IsFunctionOf options o.files (setting o.env t o.bindings) o.block f
-    → RunsAs (is_several (kind_of t.kind)) (setting o.env t o.bindings) o.block f
+    → RunsAs (is_several (kind_of t.kind)) options (setting o.env t o.bindings) o.block f
 runs_so options o f t may is = of (kind_of t.kind) refl
   where
-    of : (k : ReturnKind) → kind_of t.kind ≡ k → RunsAs (is_several k) (setting o.env t o.bindings) o.block f
+    of : (k : ReturnKind) → kind_of t.kind ≡ k → RunsAs (is_several k) options (setting o.env t o.bindings) o.block f
     of kind.Plain e = runs_as_block options o.files o.env t o.bindings o.block f may.lawful (made options o t f is) (subst AnswersOnce (sym e) tt) may.names may.fns may.term_fns
     of kind.Option e = runs_as_block options o.files o.env t o.bindings o.block f may.lawful (made options o t f is) (subst AnswersOnce (sym e) tt) may.names may.fns may.term_fns
     of kind.Iterator e = let several = ap is_several e in runs_as_several options o.files o.env t o.bindings o.block f may.lawful (made options o t f is) several may.lawful.items may.names may.fns may.term_fns
 
-pub is_run : (options : CodegenOptions) (o : Origin) (f : Function) → MayEmitTerm o → IsGiven options o f → RunsAsItsBlock o f
+pub is_run : (options : CodegenOptions) (o : Origin) (f : Function) → MayEmitTerm o → IsGiven options o f → RunsAsItsBlock options o f
 is_run options o f h e = both (slice_get o.env.terms o.id.0) _ _ _ (runs_so options o f) h e
 
 pub is_logged : (options : CodegenOptions) (o : Origin) (f : Function) → MayEmitTerm o → IsGiven options o f → HasLogLines options o f
 is_logged options o f h e = both (slice_get o.env.terms o.id.0) _ _ _ (λ t may is. its_lines options o.files o.env t o.bindings o.block f may.lawful (made options o t f is)) h e
 
-pub is_alike : (options : CodegenOptions) (o : Origin) (f : Function) → MayEmitTerm o → IsGiven options o f → RunsUnderAll o f
-is_alike options o f h e other g k = one (slice_get o.env.terms o.id.0) h e k
+pub is_alike : (options : CodegenOptions) (o : Origin) (f : Function) → MayEmitTerm o → IsGiven options o f → RunsUnderAll options o f
+is_alike options o f h e other g limit k = one (slice_get o.env.terms o.id.0) h e k
   where
     one : (t : Option Term) → IsSomeAnd t (λ u. MayEmit o.files (setting o.env u o.bindings) o.block) → IsSomeAnd t (λ u. IsFunctionOf options o.files (setting o.env u o.bindings) o.block f)
         → IsSomeAnd t (λ u. IsFunctionOf other o.files (setting o.env u o.bindings) o.block g) → RunAlike f g
-    one (Some t) may is also = run_alike options other o.files o.env t o.bindings o.block f g may.lawful (made options o t f is) (made other o t g also)
+    one (Some t) may is also = run_alike options other o.files o.env t o.bindings o.block f g limit may.lawful (made options o t f is) (made other o t g also)
     one None may is also = absurd may
 
 -- and all of its block is built

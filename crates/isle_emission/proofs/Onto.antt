@@ -1,10 +1,11 @@
 -- Statements before a body, as statements are pushed; and the locals that lets bind.
-use Rattle.std.proofs.Common.{◌≡◌, ◌∙◌, ℕ, option_map, List, [], ◌∷◌, ◌++◌, false, Option, Some, None, map, refl, ap}
+use Rattle.std.proofs.Common.{◌≡◌, ◌∙◌, ℕ, option_map, List, [], ◌∷◌, ◌++◌, Bool, true, Option, Some, None, map, refl, sym, ap}
 use Rattle.isle_tree.specs.declared.tree.Stmt.{Stmt as CodeStmt}
 use Rattle.isle_tree.specs.declared.tree.Stmt.TheVariants as code
-use Rattle.isle_tree.specs.Program.{Stmt, Log, Overflow, Body, Done}
-use Rattle.isle_tree.proofs.Sees.{stmt-log, stmt-overflow}
+use Rattle.isle_tree.specs.Program.{Stmt, Log, Overflow, Body, Done, Then}
+use Rattle.isle_tree.proofs.Sees.{stmt-log, stmt-overflow, stmt-split}
 use Rattle.isle_simulation.specs.LogLines.{LogLine}
+use Rattle.isle_simulation.specs.Manner.{closed_if}
 use Rattle.isle_simulation.specs.Telling.{line_before}
 use Rattle.isle_tree.specs.Views.{stmt, body_of}
 use Rattle.isle_emission.specs.BodyOnto.{body_onto}
@@ -26,10 +27,18 @@ onto_line old new term place l end pushed is =
     before (Some b) = refl
 
 -- a stop is pushed
-pub onto_overflow : (old new : List CodeStmt) (end : Option Body) → new ≡ old ++ code.Overflow false ∷ [] → body_onto (map stmt new) end ≡ body_onto (map stmt old) (stmt_before (Some (Overflow false)) end)
-onto_overflow old new end pushed =
-    ap (λ ys. body_onto (map stmt ys) end) pushed ∙ onto_pushed old (code.Overflow false) end ∙ ap (λ y. body_onto (map stmt old) (stmt_before (Some y) end)) (stmt-overflow false)
+pub onto_overflow : (inside : Bool) (limit : ℕ) (old new : List CodeStmt) (end : Option Body) → new ≡ old ++ code.Overflow inside limit ∷ [] → body_onto (map stmt new) end ≡ body_onto (map stmt old) (stmt_before (Some (Overflow inside limit)) end)
+onto_overflow inside limit old new end pushed =
+    ap (λ ys. body_onto (map stmt ys) end) pushed ∙ onto_pushed old (code.Overflow inside limit) end ∙ ap (λ y. body_onto (map stmt old) (stmt_before (Some y) end)) (stmt-overflow inside limit)
 
 pub onto_done : (ss : List Stmt) → body_onto ss (Some Done) ≡ Some (body_of ss)
 onto_done [] = refl
 onto_done (s ∷ ss) = ap (stmt_before (Some s)) (onto_done ss)
+
+-- statements are put into a closure of their own
+pub onto_closed : (own inside : Bool) (ss none closed : List CodeStmt) → own ≡ true → none ≡ [] → closed ≡ none ++ code.Split ss inside ∷ []
+    → body_onto (map stmt closed) (Some Done) ≡ option_map (closed_if own inside) (body_onto (map stmt ss) (Some Done))
+onto_closed own inside ss none closed has empty is =
+    ap (λ ys. body_onto (map stmt ys) (Some Done)) (is ∙ ap (λ ys. ys ++ code.Split ss inside ∷ []) empty) ∙ ap (λ x. Some (Then x Done)) (stmt-split ss inside)
+    ∙ ap (option_map (closed_if true inside)) (sym (onto_done (map stmt ss)))
+    ∙ ap (λ x. option_map (closed_if x inside) (body_onto (map stmt ss) (Some Done))) (sym has)

@@ -1,5 +1,6 @@
 -- The loop that makes statements, and what one statement is made of, over plain variables.
 use Rattle.std.proofs.Common.{◌≡◌, ℕ, ◌+◌, ◌<◌, List, [], ◌∷◌, ◌++◌, length, drop, get_or, map, Bool, false, true, Option, Some, None, refl, sym, ap, ◌∙◌, subst, arith}
+use Rattle.std.specs.Prelude.{option_map}
 use Rattle.std.proofs.lemmas.List.{drop_more}
 use Rattle.isle_core.specs.declared.BindingId.{BindingId}
 use Rattle.isle_core.specs.declared.blocks.EvalStep.{EvalStep as CodeStep}
@@ -20,13 +21,14 @@ use Rattle.isle_tree.specs.Views.{stmt}
 use Rattle.isle_tree.proofs.Sees.{stmt-if_eq, stmt-if_let, stmt-loop}
 use Rattle.isle_simulation.specs.Completed.{step_binds, completed_control}
 use Rattle.isle_simulation.specs.Operands.{operand_of}
-use Rattle.isle_simulation.specs.Manner.{Manner}
+use Rattle.isle_simulation.specs.Manner.{Manner, within, has_closure, closed_if}
 use Rattle.isle_simulation.specs.Telling.{Telling, told_before}
 use Rattle.isle_simulation.specs.Statements.{stmt_before, stop_before, lets, if_eq, if_let, loop_of, arm_stmt}
 use Rattle.isle_emission.specs.BodyOnto.{body_onto, AreMadeAs, ArePushedAs}
 use Rattle.isle_emission.specs.Built.{IsBuilt, IsBuiltStep, IsBuiltArm, AreBuilt}
-use Rattle.isle_emission.specs.MadeBodies.{made_body, made_control, made_arms, binds_of, PushesStep}
+use Rattle.isle_emission.specs.MadeBodies.{made_body, made_in_arm, made_control, made_arms, binds_of, PushesStep}
 use Rattle.isle_emission.specs.PushedLets.{PushesLets}
+use Rattle.isle_simulation.proofs.CompletedArms.{arm_by}
 use Rattle.isle_emission.proofs.Onto.{onto_pushed, onto_done}
 
 -- ---- steps
@@ -49,16 +51,16 @@ told_same (Some line) s bound (block.Loop result body) after = refl
 told_same (Some line) s bound (block.Return place result) after = refl
 
 -- and is stopped after as before
-stop_same : (inside several : Bool) (s : Setting) (bound : List ℕ) (c : Control) (after : Option Body) → stop_before inside several (completed_control s bound c) after ≡ stop_before inside several c after
-stop_same inside false s bound c after = refl
-stop_same inside true s bound (block.Match source arms) after = refl
-stop_same inside true s bound (block.Equal a b body) after = refl
-stop_same inside true s bound (block.Loop result body) after = refl
-stop_same inside true s bound (block.Return place result) after = refl
+stop_same : (manner : Manner) (several : Bool) (s : Setting) (bound : List ℕ) (c : Control) (after : Option Body) → stop_before manner several (completed_control s bound c) after ≡ stop_before manner several c after
+stop_same manner false s bound c after = refl
+stop_same manner true s bound (block.Match source arms) after = refl
+stop_same manner true s bound (block.Equal a b body) after = refl
+stop_same manner true s bound (block.Loop result body) after = refl
+stop_same manner true s bound (block.Return place result) after = refl
 
 -- what a step makes after its lets, if its bindings are bound
 abbrev after_lets : Manner → Setting → (out : List CodeStmt) (bound mid : List ℕ) → SeenStep → (made : Option Stmt) (more : Block) → Option Body → Option Body
-after_lets manner s out bound mid seen made more end = body_onto (map stmt out) (lets s bound (step_binds s bound seen.0 seen.1) (told_before manner.telling seen.1 (stmt_before made (stop_before manner.inside (gives_several s) seen.1 (made_body manner s mid more end)))))
+after_lets manner s out bound mid seen made more end = body_onto (map stmt out) (lets s bound (step_binds s bound seen.0 seen.1) (told_before manner.telling seen.1 (stmt_before made (stop_before manner (gives_several s) seen.1 (made_body manner s mid more end)))))
 
 so_bound : (manner : Manner) (s : Setting) (out : List CodeStmt) (bound mid : List ℕ) (seen : SeenStep) (made : Option Stmt) (more : Block) (end : Option Body)
     → mid ≡ bound_by bound (step_binds s bound seen.0 seen.1) → made ≡ made_control manner s mid seen.1 → after_lets manner s out bound mid seen made more end ≡ body_onto (map stmt out) (made_body manner s bound (Step seen.0 seen.1 more) end)
@@ -67,18 +69,18 @@ so_bound manner s out bound mid seen made more end at_mid is =
     let within = bound_by bound binds in
     ap (λ x. after_lets manner s out bound mid seen x more end) is
     ∙ ap (λ ls. after_lets manner s out bound ls seen (made_control manner s ls seen.1) more end) at_mid
-    ∙ ap (λ y. body_onto (map stmt out) (lets s bound binds (told_before manner.telling seen.1 (stmt_before (made_control manner s within seen.1) y)))) (sym (stop_same manner.inside (gives_several s) s within seen.1 (made_body manner s within more end)))
+    ∙ ap (λ y. body_onto (map stmt out) (lets s bound binds (told_before manner.telling seen.1 (stmt_before (made_control manner s within seen.1) y)))) (sym (stop_same manner (gives_several s) s within seen.1 (made_body manner s within more end)))
     ∙ ap (λ y. body_onto (map stmt out) (lets s bound binds y)) (sym (told_same manner.telling s within seen.1 _))
 
 pub step_made : (manner : Manner) (s : Setting) (x : CodeStep) (seen : SeenStep) (bound mid new : List ℕ) (out lets_out told_out pushed after : List CodeStmt) (made : CodeStmt)
     → step x ≡ seen → PushesLets s (step_binds s bound seen.0 seen.1) bound mid out lets_out → Some (stmt made) ≡ made_control manner s mid seen.1
     → new ≡ mid → ArePushedAs lets_out told_out (λ end. told_before manner.telling seen.1 end) → pushed ≡ told_out ++ made ∷ []
-    → ArePushedAs pushed after (λ end. stop_before manner.inside (gives_several s) seen.1 end)
+    → ArePushedAs pushed after (λ end. stop_before manner (gives_several s) seen.1 end)
     → PushesStep manner s x bound new out after
 step_made manner s x seen bound mid new out lets_out told_out pushed after made seen_x p seen_s at_new told is_pushed stopped = record {
   stmts = λ xs end.
       let more = block_of (map step xs) in
-      let stop = stop_before manner.inside (gives_several s) seen.1 (made_body manner s mid more end) in
+      let stop = stop_before manner (gives_several s) seen.1 (made_body manner s mid more end) in
       ap (λ ls. body_onto (map stmt after) (made_body manner s ls more end)) at_new
       ∙ stopped (made_body manner s mid more end)
       ∙ ap (λ ys. body_onto (map stmt ys) stop) is_pushed
@@ -151,10 +153,20 @@ one_arm manner s bound source (y ∷ []) x one item = ap (λ z. made_arms manner
 one_arm manner s bound source (y ∷ z ∷ xs) x one item = absurd (omega (arith, one))
 
 -- the statement of an arm
-pub arm_made : (manner : Manner) (s : Setting) (bound new : List ℕ) (source : BindingId) (i : Option Body) (r : Option Stmt) (x : CodeArm) (seen : SeenArm)
-    → arm x ≡ seen → new ≡ bound_within bound seen.1 → r ≡ arm_stmt s bound source seen.0 seen.1 i → i ≡ made_body manner s new seen.2 (Some Done)
+pub arm_made : (manner : Manner) (s : Setting) (bound : List ℕ) (source : BindingId) (i : Option Body) (r : Option Stmt) (x : CodeArm) (seen : SeenArm)
+    → arm x ≡ seen → r ≡ arm_stmt s bound source seen.0 seen.1 i → i ≡ made_in_arm manner s (bound_within bound seen.1) seen.2
     → r ≡ made_arms manner s bound source (arms_of (map arm (x ∷ [])))
-arm_made manner s bound new source i r x seen seen_x at_new is is_i =
+arm_made manner s bound source i r x seen seen_x is is_i =
     is
-    ∙ ap (arm_stmt s bound source seen.0 seen.1) (is_i ∙ ap (λ ls. made_body manner s ls seen.2 (Some Done)) at_new)
+    ∙ ap (arm_stmt s bound source seen.0 seen.1) (is_i ∙ sym (arm_by manner s (bound_within bound seen.1) seen.2))
     ∙ ap (λ k. made_arms manner s bound source (arms_of (k ∷ []))) (sym seen_x)
+
+-- what is made inside an arm, by how its block is written
+pub arm_inside : (manner inner : Manner) (s : Setting) (bound now : List ℕ) (b : Block) (own : Bool) (ss closed : List CodeStmt)
+    → inner ≡ within own manner → own ≡ has_closure manner b → now ≡ bound → AreMadeAs ss (made_body inner s now b)
+    → body_onto (map stmt closed) (Some Done) ≡ option_map (closed_if own manner.inside) (body_onto (map stmt ss) (Some Done))
+    → body_onto (map stmt closed) (Some Done) ≡ made_in_arm manner s bound b
+arm_inside manner inner s bound now b own ss closed is_inner is_own at_now made is =
+    is
+    ∙ ap (option_map (closed_if own manner.inside)) (made (Some Done) ∙ ap (λ m. made_body m s now b (Some Done)) is_inner ∙ ap (λ ls. made_body (within own manner) s ls b (Some Done)) at_now)
+    ∙ ap (λ x. option_map (closed_if x manner.inside) (made_body (within x manner) s bound b (Some Done))) is_own

@@ -5,9 +5,9 @@ use Rattle.isle_core.specs.BlockViews.{SeenArm}
 use Rattle.isle_core.specs.Setting.{Setting}
 use Rattle.isle_tree.specs.declared.tree.Stmt.{Stmt as CodeStmt}
 use Rattle.isle_tree.specs.declared.tree.TPat.{TPat}
-use Rattle.isle_tree.specs.Program.{Arms, Done}
+use Rattle.isle_tree.specs.Program.{Arms}
 use Rattle.isle_tree.specs.Views.{body}
-use Rattle.isle_emission.specs.MadeBodies.{made_body}
+use Rattle.isle_emission.specs.MadeBodies.{made_in_arm}
 use Rattle.isle_simulation.specs.Manner.{Manner}
 use Rattle.isle_simulation.specs.Patterns.{arm_pattern}
 use Rattle.isle_simulation.specs.Statements.{arm_before}
@@ -23,4 +23,4 @@ cases_onto (x ∷ xs) others = arm_before (Some x.0) (Some (body x.1)) (cases_on
 
 -- an arm of a block stands after the arms before
 abbrev pub PushesCase : Manner → Setting → List ℕ → SeenArm → (old new : List Case) → Type 0
-PushesCase manner s bound a old new = (others : Option Arms) → cases_onto new others ≡ cases_onto old (arm_before (arm_pattern s.env a.0 a.1) (made_body manner s (bound_within bound a.1) a.2 (Some Done)) others)
+PushesCase manner s bound a old new = (others : Option Arms) → cases_onto new others ≡ cases_onto old (arm_before (arm_pattern s.env a.0 a.1) (made_in_arm manner s (bound_within bound a.1) a.2) others)

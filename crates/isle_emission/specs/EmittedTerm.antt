@@ -31,14 +31,15 @@ abbrev pub HasBlockShape : Origin → Function → Type 0
 HasBlockShape o f = InSetting o (λ (s : Setting). HasShape s f.body o.block)
 
 -- a function runs as the block of a term that answers several times, or at most once
-abbrev pub RunsAs : (several : Bool) → Setting → Block → Function → Type 0
-RunsAs true s b f = RunsAsSeveral s.env s.term s.bindings b f
-RunsAs false s b f = RunsAsBlock s.env s.term s.bindings b f
+abbrev pub RunsAs : (several : Bool) → CodegenOptions → Setting → Block → Function → Type 0
+RunsAs true options s b f = RunsAsSeveral options s.env s.term s.bindings b f
+RunsAs false options s b f = RunsAsBlock s.env s.term s.bindings b f
 
 -- it runs as its block does
-abbrev pub RunsAsItsBlock : Origin → Function → Type 0
-RunsAsItsBlock o f = InSetting o (λ (s : Setting). RunsAs (gives_several s) s o.block f)
+abbrev pub RunsAsItsBlock : (options : CodegenOptions) → Origin → Function → Type 0
+RunsAsItsBlock options o f = InSetting o (λ (s : Setting). RunsAs (gives_several s) options s o.block f)
 
--- it runs like each function that the block gives under other options: everywhere to the same end, with the same calls, also of pure terms
-abbrev pub RunsUnderAll : Origin → Function → Type 0
-RunsUnderAll o f = (other : CodegenOptions) (g : Function) → IsGiven other o g → RunAlike f g
+-- it runs like each function that the block gives under other options with the same limit: everywhere to the same end, with the same calls, also
+-- of pure terms
+abbrev pub RunsUnderAll : (options : CodegenOptions) → Origin → Function → Type 0
+RunsUnderAll options o f = (other : CodegenOptions) (g : Function) → options.max_returns ≡ other.max_returns → IsGiven other o g → RunAlike f g

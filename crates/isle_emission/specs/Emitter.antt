@@ -20,9 +20,9 @@ use Rattle.isle_simulation.specs.TermFunction.{tail_in, mark_in, root_body, term
 abbrev pub setting_in : Emitter → Setting
 setting_in e = Typed.setting_in e.typed
 
--- how the statements of its block are written: with log lines if they are asked for, in no closure
+-- how the statements are written: as the options ask for it, in a closure or not
 abbrev pub manner_in : Emitter → Manner
-manner_in e = manner_of e.options.now e.files.now (setting_in e)
+manner_in e = record (manner_of e.options.now e.files.now (setting_in e)) { inside = e.inside }
 
 -- fields with their names and types
 abbrev pub fields_in : Emitter → Fields → List (List ℕ × TypeId)

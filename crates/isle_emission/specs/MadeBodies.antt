@@ -1,5 +1,5 @@
 -- The statements of blocks that are completed.
-use Rattle.std.specs.Prelude.{◌≡◌, ◌++◌, [], ◌∷◌, ℕ, List, Option, map}
+use Rattle.std.specs.Prelude.{◌≡◌, ◌++◌, [], ◌∷◌, ℕ, List, Option, Some, map}
 use Rattle.isle_core.specs.declared.BindingId.{BindingId}
 use Rattle.isle_core.specs.declared.blocks.EvalStep.{EvalStep as CodeStep}
 use Rattle.isle_core.specs.declared.blocks.MatchArm.{MatchArm as CodeArm}
@@ -9,7 +9,7 @@ use Rattle.isle_core.specs.BlockViews.{step}
 use Rattle.isle_core.specs.Setting.{Setting}
 use Rattle.isle_tree.specs.declared.tree.Stmt.{Stmt as CodeStmt}
 use Rattle.isle_tree.specs.Program as tree
-use Rattle.isle_tree.specs.Program.{Stmt, Body}
+use Rattle.isle_tree.specs.Program.{Stmt, Body, Done}
 use Rattle.isle_tree.specs.Views.{stmt}
 use Rattle.isle_emission.specs.BodyOnto.{body_onto}
 use Rattle.isle_emission.specs.declared.emitter.Emitter.{Emitter}
@@ -17,11 +17,15 @@ use Rattle.isle_emission.specs.Emitter.{setting_in, manner_in}
 use Rattle.isle_emission.specs.Views.{steps_block, match_arms}
 use Rattle.isle_simulation.specs.Completed.{step_binds, completed, completed_control, completed_arms}
 use Rattle.isle_simulation.specs.Statements.{told_body, told_control, told_arms, told_each}
-use Rattle.isle_simulation.specs.Manner.{Manner}
+use Rattle.isle_simulation.specs.Manner.{Manner, arm_manner, arm_body}
 
 -- those of a block, and what follows
 abbrev pub made_body : Manner → Setting → List ℕ → Block → Option Body → Option Body
 made_body manner s bound b end = told_body manner s bound (completed s bound b) end
+
+-- those in an arm of a block
+abbrev pub made_in_arm : Manner → Setting → List ℕ → Block → Option Body
+made_in_arm manner s bound b = arm_body manner b (made_body (arm_manner manner b) s bound b (Some Done))
 
 -- that of what a step does
 abbrev pub made_control : Manner → Setting → List ℕ → Control → Option Stmt
@@ -39,6 +43,11 @@ made_each manner s bound arms = told_each manner s bound (completed_arms s bound
 abbrev pub body_for : Emitter → List ℕ → Block → Option Body → Option Body
 body_for e bound b end = made_body (manner_in e) (setting_in e) bound b end
 
+-- those in an arm of a block, in a closure of their own or not
+abbrev pub arm_body_for : Emitter → List ℕ → Block → Option Body
+arm_body_for e bound b = made_in_arm (manner_in e) (setting_in e) bound b
+
+-- and of what steps, matches and arms are
 abbrev pub control_for : Emitter → List ℕ → Control → Option Stmt
 control_for e bound c = made_control (manner_in e) (setting_in e) bound c
 

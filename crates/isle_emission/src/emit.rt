@@ -1,6 +1,6 @@
 //! The function of a term.
 
-ghost use Rattle.std.specs.Prelude.{◌≡◌, [], Some as Is, map, IfOk};
+ghost use Rattle.std.specs.Prelude.{◌≡◌, [], false, Some as Is, map, IfOk};
 ghost use Rattle.isle_core.specs.BlockViews as BlockViews;
 ghost use Rattle.isle_core.specs.Terms.{sym_text};
 ghost use Rattle.isle_tree.specs.Views as Views;
@@ -49,6 +49,7 @@ impl Emitter<'_> {
     fn function(&self, block: &Block) -> Result<Function, OutOfMemory>
         requires placed { IsPlaced self.now }
         requires built { IsBuilt (setting_in self.now) [] (BlockViews.block block.now) }
+        requires outside { self.now.inside ≡ false }
         ensures { IfOk result (λ f.
             function_for self.now (BlockViews.block block.now) ≡ Is (Views.function f)) }
     {
@@ -94,13 +95,14 @@ pub fn term_function(
         files: sources.files,
         starts: sources.starts,
         options: sources.options,
+        inside: false,
     };
     emitter.function(block)
 }
 
 /// Makes the function of the term of this number, whose rules have this block. It is well formed in every program with
 /// the functions of the trait and of terms that the environment gives, has the shape of the block, and runs as the
-/// block does, and alike under all options. Fails for want of memory alone.
+/// block does, and alike under all options with one limit. Fails for want of memory alone.
 pub fn emit_term(
     alloc: Global,
     files: &Files,
@@ -121,9 +123,9 @@ pub fn emit_term(
         (origin files.now typeenv.now termenv.now term rules.now block.now) (Views.function f)) }
     ensures shape { IfOk result (λ f. HasBlockShape
         (origin files.now typeenv.now termenv.now term rules.now block.now) (Views.function f)) }
-    ensures run { IfOk result (λ f. RunsAsItsBlock
+    ensures run { IfOk result (λ f. RunsAsItsBlock options.now
         (origin files.now typeenv.now termenv.now term rules.now block.now) (Views.function f)) }
-    ensures options { IfOk result (λ f. RunsUnderAll
+    ensures options { IfOk result (λ f. RunsUnderAll options.now
         (origin files.now typeenv.now termenv.now term rules.now block.now) (Views.function f)) }
 {
     let starts = LineStarts::new(alloc, files)?;

@@ -8,7 +8,7 @@ use isle_operands::Typed;
 use std::alloc::Global;
 
 /// What the function of a term is made from: the term in its environment, the bindings of its rules with their types,
-/// the files with the starts of their lines, and what is asked for.
+/// the files with the starts of their lines, what is asked for, and whether the statements stand in a closure.
 #[derive(Clone, Copy)]
 pub struct Emitter<'a> {
     pub alloc: Global,
@@ -16,5 +16,6 @@ pub struct Emitter<'a> {
     pub files: &'a Files,
     pub starts: &'a LineStarts,
     pub options: &'a CodegenOptions,
+    pub inside: bool,
     pub ghost table: { starts.now ≡ map starts_of files.now.file_texts },
 }

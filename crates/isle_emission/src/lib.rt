@@ -4,6 +4,7 @@
 mod bound;
 mod called;
 mod calls;
+mod closures;
 mod computed;
 mod emit;
 mod emitter;
@@ -18,7 +19,9 @@ mod statements;
 mod stops;
 mod tests;
 mod told;
+mod weight;
 
 pub use emit::{emit_term, term_function};
 pub use isle_operands::ConstTypes;
 pub use sources::Sources;
+pub use weight::block_weight;

@@ -1,6 +1,6 @@
 //! The statements of a term's function.
 
-ghost use Rattle.std.specs.Prelude.{◌≡◌, [], Some as Is, map, option_map, IfOk, OnOk};
+ghost use Rattle.std.specs.Prelude.{false, ◌≡◌, [], Some as Is, map, option_map, IfOk, OnOk};
 ghost use Rattle.isle_core.specs.BlockViews as BlockViews;
 ghost use Rattle.isle_tree.specs.Program.{Tail};
 ghost use Rattle.isle_tree.specs.Views.{stmt, body};
@@ -78,6 +78,7 @@ impl Emitter<'_> {
     pub fn root_stmts(&self, block: &Block) -> Result<Vec<Stmt>, OutOfMemory>
         requires placed { IsPlaced self.now }
         requires built { IsBuilt (setting_in self.now) [] (BlockViews.block block.now) }
+        requires outside { self.now.inside ≡ false }
         ensures { IfOk result (λ stmts.
             Is (body stmts.items) ≡ root_for self.now (BlockViews.block block.now)) }
     {

@@ -13,10 +13,11 @@ ghost use Rattle.isle_emission.specs.Built.{HasOperand, IsBuilt, IsBuiltControl,
 ghost use Rattle.isle_emission.specs.Built.{IsBuiltCase};
 ghost use Rattle.isle_emission.specs.Cases.{cases_onto, PushesCase};
 ghost use Rattle.isle_emission.specs.Emitter.{setting_in, manner_in};
-ghost use Rattle.isle_emission.specs.MadeBodies.{body_for, control_for, arm_for, arms_for, PushesStep};
+ghost use Rattle.isle_emission.specs.MadeBodies.{body_for, arm_body_for, control_for, arm_for, arms_for, PushesStep};
 ghost use Rattle.isle_emission.specs.Views.{steps_block, match_arms};
 ghost use Rattle.isle_simulation.specs.Statements as Statements;
 
+use crate::closures::closed_if;
 use crate::emitter::Emitter;
 use crate::tests::{Test, test_within};
 use isle_core::{BindingId, Block, ControlFlow, EvalStep, List, MatchArm, OutOfMemory, ReturnKind};
@@ -233,6 +234,30 @@ impl Emitter<'_> {
         Ok(loop_within(self.list_of(item), item.index(), inside))
     }
 
+    // Makes the statements of an arm's body, in a closure of their own if they have one; its places are bound in it.
+    #[cycle(statements)]
+    fn arm_stmts(
+        &self,
+        bound: &mut Scope,
+        body: &Block,
+        places: &[Option<BindingId>],
+    ) -> Result<Vec<Stmt>, OutOfMemory>
+        requires built { IsBuilt (setting_in self.now) (bound_within bound.old places.now)
+            (BlockViews.block body.now) }
+        ensures stmts { IfOk result (λ stmts. body_onto (map stmt stmts.items) (Is Done)
+            ≡ arm_body_for self.now (bound_within bound.old places.now)
+            (BlockViews.block body.now)) }
+        ensures bound { OnOk result (bound.new ≡ bound.old) }
+    {
+        let own = self.has_closure(body);
+        let inner = self.within(own);
+        let outer = bound.len();
+        inner.enter(bound, places, body)?;
+        let stmts = inner.block_stmts(bound, body)?;
+        bound.truncate(outer);
+        Ok(closed_if(self.alloc, own, self.inside, stmts)?)
+    }
+
     // Makes the test of a binding against an arm's constraint, within which its block stands and its places are bound.
     #[cycle(statements)]
     fn arm_stmt(
@@ -247,10 +272,7 @@ impl Emitter<'_> {
     {
         let places = arm.bindings.as_slice();
         let test = self.arm_test(bound, source, arm.constraint, places)?;
-        let outer = bound.len();
-        self.enter(bound, places, &arm.body)?;
-        let inside = self.block_stmts(bound, &arm.body)?;
-        bound.truncate(outer);
+        let inside = self.arm_stmts(bound, &arm.body, places)?;
         Ok(test_within(test, inside))
     }
 
@@ -269,10 +291,7 @@ impl Emitter<'_> {
     {
         let places = arm.bindings.as_slice();
         let pat = self.arm_pattern(arm.constraint, places)?;
-        let outer = bound.len();
-        self.enter(bound, places, &arm.body)?;
-        let inside = self.block_stmts(bound, &arm.body)?;
-        bound.truncate(outer);
+        let inside = self.arm_stmts(bound, &arm.body, places)?;
         out.push((pat, List::new(inside)))?;
         Ok(())
     }

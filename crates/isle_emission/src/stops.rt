@@ -1,6 +1,6 @@
 //! Where a function that answers several times stops after a result.
 
-ghost use Rattle.std.specs.Prelude.{◌≡◌, false as No, Some as Is, OnOk};
+ghost use Rattle.std.specs.Prelude.{◌≡◌, Some as Is, OnOk};
 ghost use Rattle.isle_core.specs.BlockViews as BlockViews;
 ghost use Rattle.isle_core.specs.Setting as Setting;
 ghost use Rattle.isle_simulation.specs.Statements.{stmt_before, stop_before};
@@ -16,17 +16,17 @@ use std::alloc::AllocError;
 
 // Adds the statement that stops where the list of results is full.
 #[tactic(auto, using(isle_tree::proofs::Sees::sees))]
-fn push_overflow(out: &mut Vec<Stmt>) -> Result<(), AllocError>
+fn push_overflow(out: &mut Vec<Stmt>, inside: bool, limit: usize) -> Result<(), AllocError>
     ensures { OnOk result (ArePushedAs out.old.items out.new.items
-        (λ end. stmt_before (Is (Overflow No)) end)) }
+        (λ end. stmt_before (Is (Overflow inside limit)) end)) }
 {
-    out.push(Stmt::Overflow { inside: false })?;
+    out.push(Stmt::Overflow { inside, limit })?;
     Ok(())
 }
 
 impl Emitter<'_> {
-    // Returns whether the term answers several times.
-    fn gives_several(&self) -> bool
+    /// Tells whether the term answers several times.
+    pub fn gives_several(&self) -> bool
         ensures { result ≡ Setting.gives_several (setting_in self.now) }
     {
         match kind_of(&self.typed.context.term.kind) {
@@ -40,15 +40,16 @@ impl Emitter<'_> {
     #[tactic(auto, using(isle_core::proofs::SeesBlocks::sees_blocks))]
     pub fn push_stop(&self, control: &ControlFlow, out: &mut Vec<Stmt>) -> Result<(), AllocError>
         ensures { OnOk result (ArePushedAs out.old.items out.new.items
-            (λ end. stop_before (manner_in self.now).inside
-            (Setting.gives_several (setting_in self.now))
+            (λ end. stop_before (manner_in self.now) (Setting.gives_several (setting_in self.now))
             (BlockViews.control control.now) end)) }
     {
         if !self.gives_several() {
             return Ok(());
         }
         match control {
-            ControlFlow::Return { .. } => push_overflow(out),
+            ControlFlow::Return { .. } => {
+                push_overflow(out, self.inside, self.options.max_returns)
+            }
             ControlFlow::Match { .. } | ControlFlow::Equal { .. } | ControlFlow::Loop { .. } => {
                 Ok(())
             }

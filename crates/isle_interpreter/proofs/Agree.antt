@@ -8,7 +8,6 @@ use Rattle.std.proofs.lemmas.List.Elements.{recursion_from_All, Contains-append_
 use Rattle.isle_core.specs.declared.types.ReturnKind.{ReturnKind}
 use Rattle.isle_core.specs.declared.types.ReturnKind.TheVariants as kind
 use Rattle.isle_core.specs.declared.values.Callee.{Callee}
-use Rattle.isle_core.specs.Space.{Space, room}
 use Rattle.isle_core.specs.Value.{Value, Made, GivesSome}
 use Rattle.isle_core.specs.SameInRun.{same_in_run}
 use Rattle.isle_core.specs.Meaning.{PureAnswers, TurnAnswers, Meaning, turns_of, cases_of}
@@ -25,9 +24,9 @@ use Rattle.isle_tree.specs.declared.tree.TPat.TheVariants as pattern
 use Rattle.isle_tree.specs.declared.tree.TExpr.{TExpr}
 use Rattle.isle_tree.specs.declared.tree.TExpr.TheVariants as expr
 use Rattle.isle_tree.specs.Program.{Program, Stmt, Let, LetList, IfEq, IfLet, Match, Loop, Return, Extend, Overflow, Log, Split, Tail, Body, Done, Then, Arms, NoArm, Arm, Function}
-use Rattle.isle_tree.specs.WellFormed.{GivesSeveral, FitsStmt, FitsBody, FitsArms, FitsLast, FitsEnding, FitsFunction}
+use Rattle.isle_tree.specs.WellFormed.{FitsStmt, FitsBody, FitsArms, FitsLast, FitsEnding, FitsFunction}
 use Rattle.isle_tree.specs.Caller.{with_call}
-use Rattle.isle_tree.specs.Run.{Around, State, nothing_done, one_given, Env, Flow, Goes, Ends, Leaves, Stuck, look, value_of, name_value, bind, read_value, read_values, field_before, read_fields, on_value, on_list, value_in, constant, are_same, fit, fitted, then_run, after_scope, run_bind, run_call, run_try, run_variant, run_struct, part_of, run_part, run_let, ends_with, run_return, run_items, stops, run_stmt, run_body, run_arms, ended, around, limited_run, function_run}
+use Rattle.isle_tree.specs.Run.{Around, State, nothing_done, one_given, Env, Flow, Goes, Ends, Leaves, Stuck, look, value_of, name_value, bind, read_value, read_values, field_before, read_fields, on_value, on_list, value_in, constant, are_same, fit, fitted, then_run, after_scope, after_closure, run_bind, run_call, run_try, run_variant, run_struct, part_of, run_part, run_let, ends_with, run_return, run_items, run_stmt, run_body, run_arms, ended, around, held_run, function_run}
 use Rattle.isle_interpreter.specs.Entries.{Constant, Cases, Turns, entries, IsUnanswered}
 use Rattle.isle_tree.specs.Calls.{expr_calls, stmt_calls, body_calls, arms_calls}
 use Rattle.isle_operand_names.specs.Names.{operand_names, read_names, reads_names, fields_names, expr_names, pattern_names, patterns_names, stmt_names, body_names, arms_names}
@@ -124,12 +123,12 @@ module _ (m given : Meaning) (has : HasAnswers m given) where
   back : (cs ds : List Callee) → Alike (cs ++ ds) → Alike ds
   back cs ds alike callee there = alike callee (Contains-append_right cs ds callee there)
 
-  module _ (p : Program) (f : Function) (args : List Value) (limit : Option ℕ) where
+  module _ (p : Program) (f : Function) (args : List Value) (held : Option ℕ) where
     abbrev one : Around
-    one = around p m args limit f
+    one = around p m args held f
 
     abbrev other : Around
-    other = around p given args limit f
+    other = around p given args held f
 
     same_operand : (env : Env) (o : Operand) → Same (operand_names o) → value_of one env o ≡ value_of other env o
     same_operand env (operand.Name name) same = ap (λ o. a_value (name_value o name)) (first_same name same)
@@ -245,9 +244,9 @@ module _ (m given : Meaning) (has : HasAnswers m given) where
             same_list (look env list) (λ is. run_items (λ i t. run_body one inside (bind env item (One i)) t) env is s) (λ is. run_items (λ i t. run_body other inside (bind env item (One i)) t) env is s)
             (λ is. same_items (λ i t. run_body one inside (bind env item (One i)) t) (λ i t. run_body other inside (bind env item (One i)) t) env is s (λ i t. same_body closed inside (bind env item (One i)) t fits alike same))
         same_stmt closed (Extend r) env s fits alike same = ap (λ h. on_value h (λ v. Goes env (one_given s v))) (same_read env r same)
-        same_stmt closed (Overflow inside) env s fits alike same = refl
+        same_stmt closed (Overflow inside limit) env s fits alike same = refl
         same_stmt closed (Log term place) env s fits alike same = refl
-        same_stmt closed (Split inside within) env s fits alike same = refl
+        same_stmt closed (Split inside within) env s fits alike same = ap (after_closure within env) (same_body true inside env s fits.2 alike same)
 
         same_body : (closed : Bool) (b : Body) (env : Env) (s : State) → FitsBody of closed b → Alike (body_calls b) → Same (body_names b) → run_body one b env s ≡ run_body other b env s
         same_body closed Done env s fits alike same = refl
@@ -275,7 +274,7 @@ module _ (m given : Meaning) (has : HasAnswers m given) where
       same_last (Match r arms) env s fits same = absurd fits
       same_last (Loop list item inside) env s fits same = absurd fits
       same_last (Extend r) env s fits same = absurd fits
-      same_last (Overflow inside) env s fits same = absurd fits
+      same_last (Overflow inside limit) env s fits same = absurd fits
       same_last (Log term place) env s fits same = absurd fits
       same_last (Split inside within) env s fits same = absurd fits
 
@@ -295,11 +294,11 @@ module _ (m given : Meaning) (has : HasAnswers m given) where
     same_function kind.Iterator b fits alike same = same_body kind.Iterator false b [] nothing_done fits alike same
 
     -- the two runs are one, if names without an entry have no value under the one either
-    pub same_limited : FitsFunction f.kind f.body → AreAnswered f (entries given)
-        → ((name : List ℕ) → Contains (body_names f.body) name → const_of given name ≡ None → const_of m name ≡ None) → limited_run p m args limit f ≡ limited_run p given args limit f
-    same_limited fits some none = ap (ended f.kind) (same_function f.kind f.body fits (λ callee there. same_answer callee (some callee there)) (λ name there. same_name name (none name there)))
+    pub same_held : FitsFunction f.kind f.body → AreAnswered f (entries given)
+        → ((name : List ℕ) → Contains (body_names f.body) name → const_of given name ≡ None → const_of m name ≡ None) → held_run p m args held f ≡ held_run p given args held f
+    same_held fits some none = ap (ended f.kind) (same_function f.kind f.body fits (λ callee there. same_answer callee (some callee there)) (λ name there. same_name name (none name there)))
 
   -- so in a program
-  pub same_run : (p : Program) (f : Function) (args : List Value) (space : Space) → FitsFunction f.kind f.body → AreAnswered f (entries given)
-      → ((name : List ℕ) → Contains (body_names f.body) name → const_of given name ≡ None → const_of m name ≡ None) → function_run p m space args (Some f) ≡ function_run p given space args (Some f)
-  same_run p f args space fits some none = same_limited p f args (Some (room space)) fits some none
+  pub same_run : (p : Program) (f : Function) (args : List Value) (held : ℕ) → FitsFunction f.kind f.body → AreAnswered f (entries given)
+      → ((name : List ℕ) → Contains (body_names f.body) name → const_of given name ≡ None → const_of m name ≡ None) → function_run p m held args (Some f) ≡ function_run p given held args (Some f)
+  same_run p f args held fits some none = same_held p f args (Some held) fits some none

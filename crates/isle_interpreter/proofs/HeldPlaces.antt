@@ -1,9 +1,8 @@
 -- The names that aren't alone with a key are those whose value another constant of their type has.
-use Rattle.std.proofs.Common.{◌≡◌, ◌⊎◌, ℕ, ℤ, List, [], ◌∷◌, ◌++◌, Bool, true, false, Option, Some, None, inl, inr, refl, sym, ap, ◌∙◌, subst, ⊎_elim}
+use Rattle.std.proofs.Common.{◌≡◌, ◌⊎◌, ℕ, ℤ, List, [], ◌∷◌, Bool, true, false, Option, Some, None, inl, inr, refl, sym, ap, ◌∙◌, subst, ⊎_elim}
 use Rattle.std.specs.Prelude.{not, ◌||◌, ◌↔◌, IsTrue, IfOk, Contains, filter_map, option_map, if◌then◌else◌}
 use Rattle.std.specs.declared.result.Result.{Result}
 use Rattle.std.specs.declared.result.Result.TheVariants as result
-use Rattle.std.specs.List.{list_any}
 use Rattle.std.specs.Str.{bytes_eq}
 use Rattle.std.specs.BTreeSet.{BTreeSet}
 use Rattle.std.proofs.lemmas.Slice.Eq.{bytes_eq-Decides}
@@ -13,7 +12,7 @@ use Rattle.isle_core.specs.SameInRun.{same_in_run}
 use Rattle.isle_core.specs.Value.{Value}
 use Rattle.isle_operand_names.specs.Names.{is_among}
 use Rattle.isle_operand_names.specs.Sets.{has_name}
-use Rattle.isle_places.specs.Places.{Place, places, StandsAt}
+use Rattle.isle_places.specs.Places.{places, StandsAt}
 use Rattle.isle_places.proofs.NamesAt.{before, contains_cases, first, later, nothing_there}
 use Rattle.isle_tree.specs.declared.tree.Operand.{Operand}
 use Rattle.isle_tree.specs.declared.tree.Operand.TheVariants as operand
@@ -21,7 +20,7 @@ use Rattle.isle_tree.specs.Program.{Function, Program}
 use Rattle.isle_interpreter.specs.Apart.{is_called, constant_value, IsApart}
 use Rattle.isle_interpreter.specs.Clashes.{Held, Owner, place_key, same_key, owner_of, held_at, all_held, owner_at, is_only, unless_only, clash_of, clashes, FindsClashes}
 use Rattle.isle_interpreter.proofs.KeyOwners.{is_own, not_only, Other, other_there}
-use Rattle.isle_interpreter.proofs.ValueKeys.{key_sound, key_itself, same_places, places_apart}
+use Rattle.isle_interpreter.proofs.ValueKeys.{key_itself, same_places, places_apart}
 
 -- ---- lists
 

@@ -18,7 +18,7 @@ use Rattle.isle_tree.specs.Calls.{expr_calls, stmt_calls, body_calls, arms_calls
 use Rattle.isle_interpreter.specs.Ends.{EndFits}
 use Rattle.isle_interpreter.proofs.AnswersHold.{HoldsIn}
 use Rattle.isle_interpreter.proofs.LocalsHold.{Agree, HoldsIfKnown, known_local, one_more, known_operand, known_read, known_value, told_fields, bound_pattern}
-use Rattle.isle_interpreter.proofs.WellFlows.{Answering, once_is, list_is, front_answering, rest_answering, Well, NotStuck, well_fitted, well_known, well_try, well_part, well_call, then_well, well_test, well_loop, well_stop}
+use Rattle.isle_interpreter.proofs.WellFlows.{Answering, once_is, list_is, front_answering, rest_answering, Well, NotStuck, well_fitted, well_known, well_try, well_part, well_call, then_well, well_test, well_loop, well_stop, well_closure}
 
 -- ---- returns
 
@@ -151,9 +151,10 @@ module _ (of : ReturnKind) (fns : Callables) (w : Around) (asks : w.caller ≡ b
     well_stmt closed (Extend r) bound env st is there fits answering a =
         let one = known_value (read_holds (length w.args) bound r) (read_value w env r) (known_read w bound env r is a) there in
         subst (λ x. Well of closed bound (on_value x (λ v. Goes env (one_given st v)))) (sym one.is) a
-    well_stmt closed (Overflow within) bound env st is there fits answering a = well_stop of closed within (is_full w.limit st.given) bound env st a fits.0 fits.1
+    well_stmt closed (Overflow within limit) bound env st is there fits answering a = well_stop of closed within (is_full w.held limit st.given) bound env st a fits.0 fits.1
     well_stmt closed (Log term place) bound env st is there fits answering a = a
-    well_stmt closed (Split inside within) bound env st is there fits answering a = absurd is
+    well_stmt closed (Split inside within) bound env st is there fits answering a =
+        well_closure of closed within bound env (run_body w inside env st) a fits.0 fits.1 (well_body true inside bound env st is there fits.2 answering a)
 
     pub well_body : (closed : Bool) (b : Body) (bound : Locals) (env : Env) (st : State) → IsBody b → IsBodyScoped fns of (length w.args) bound b → FitsBody of closed b → Answering fns w.meaning (body_calls b) → Agree bound env
         → NotStuck of closed (run_body w b env st)
@@ -199,7 +200,7 @@ module _ (fns : Callables) (w : Around) (asks : w.caller ≡ by_meaning w.meanin
   last_ends of (Match r arms) bound env st is there fits a = absurd fits
   last_ends of (Loop list n inside) bound env st is there fits a = absurd fits
   last_ends of (Extend r) bound env st is there fits a = absurd fits
-  last_ends of (Overflow within) bound env st is there fits a = absurd fits
+  last_ends of (Overflow within limit) bound env st is there fits a = absurd fits
   last_ends of (Log term place) bound env st is there fits a = absurd fits
   last_ends of (Split inside within) bound env st is there fits a = absurd fits
 

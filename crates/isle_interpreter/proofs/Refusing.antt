@@ -11,7 +11,6 @@ use Rattle.isle_interpreter.specs.declared.run_error.RunError.{RunError}
 use Rattle.isle_interpreter.specs.declared.run_error.RunError.TheVariants as error
 use Rattle.isle_places.specs.Signatures.{type_names}
 use Rattle.isle_interpreter.specs.Named.{AreNamed}
-use Rattle.isle_interpreter.specs.Entries.{entries}
 use Rattle.isle_interpreter.specs.Judged.{IsEarly, AreBad}
 use Rattle.isle_interpreter.specs.Refusals.{IsRefused, wrong_entry, missing}
 use Rattle.isle_interpreter.proofs.OneRefusal.{one_refusal}

@@ -7,7 +7,6 @@ use Rattle.isle_core.specs.declared.values.Callee.{Callee}
 use Rattle.isle_core.specs.declared.values.Callee.TheVariants as callee
 use Rattle.isle_core.specs.Value.{Value, Made, Ran}
 use Rattle.isle_core.specs.Meaning.{Meaning}
-use Rattle.isle_core.specs.Space.{Space, room}
 use Rattle.isle_core.specs.Answered.{answer_held, answer}
 use Rattle.isle_printer.specs.Bytes.{same_bytes}
 use Rattle.isle_tree.specs.declared.holds.Holds.{Holds}
@@ -28,9 +27,9 @@ use Rattle.isle_interpreter.proofs.Progress.{function_ends}
 use Rattle.isle_interpreter.proofs.WellFlows.{Answering}
 
 -- there is a run, which ends as the function's kind does
-pub record HasRun (p : Program) (term : List ℕ) (args : List Value) (m : Meaning) (space : Space) (f : Function) : Type 0 where
+pub record HasRun (p : Program) (term : List ℕ) (args : List Value) (m : Meaning) (held : ℕ) (f : Function) : Type 0 where
   pub ran : Ran
-  pub is : run p term args m space ≡ Some ran
+  pub is : run p term args m held ≡ Some ran
   pub fits : EndFits f.kind ran.end
 
 pub found_function : (p : Program) (term : List ℕ) (fs : List Function) (f : Function) → AllByRecursion (IsFunction p) fs → function_of term fs ≡ Some f → IsFunction p f
@@ -81,11 +80,11 @@ answering p m f right some (callee.Internal term) k count h e vs made =
     term_answers p f m term (function_of term p.fns) refl right (some (callee.Internal term) k) count h (ap (λ o. head_holds o count) (first_head term p.fns) ∙ e) vs made
 
 -- in a well-formed program
-pub runs : (p : Program) (term : List ℕ) (args : List Value) (m : Meaning) (space : Space) (f : Function) → IsWellFormed p → MayRun p term args m f → HasRun p term args m space f
-runs p term args m space f well may =
+pub runs : (p : Program) (term : List ℕ) (args : List Value) (m : Meaning) (held : ℕ) (f : Function) → IsWellFormed p → MayRun p term args m f → HasRun p term args m held f
+runs p term args m held f well may =
     let is : IsFunction p f = found_function p term p.fns f well.fns may.found in
     let count : length args ≡ length f.params = named_length p.types (type_names f.params) args may.typed ∙ length-map f.params (λ (ty : Ty). ty.name) in
     let scoped : IsBodyScoped (callables p) f.kind (length args) [] f.body = subst (λ n. IsBodyScoped (callables p) f.kind n [] f.body) (sym count) is.scoped in
-    let w : Around = around p m args (Some (room space)) f in
+    let w : Around = around p m args (Some held) f in
     let ends = function_ends (callables p) w refl f.kind f.body [] [] nothing_done is.forms scoped is.fits (answering p m f may.right may.answered) tt in
-    record { ran = ends.ran; is = ap (function_run p m space args) may.found ∙ ends.is; fits = ends.fits }
+    record { ran = ends.ran; is = ap (function_run p m held args) may.found ∙ ends.is; fits = ends.fits }

@@ -18,7 +18,7 @@ use Rattle.isle_tree.specs.declared.holds.Item.TheVariants as item
 use Rattle.isle_tree.specs.declared.tree.TCall.{TCall}
 use Rattle.isle_tree.specs.WellFormed.{Locals, Callables, IsRead, are_values, callee_holds, inner_holds, once_holds, list_holds, each_holds, part_holds, after_let, GivesSeveral}
 use Rattle.isle_tree.specs.Caller.{by_meaning, with_call}
-use Rattle.isle_tree.specs.Run.{Around, State, Env, Flow, Goes, Ends, Leaves, Stuck, bind, read_values, fitted, on_value, on_list, then_run, after_scope, run_bind, run_call, run_try, part_of, run_part, run_items, stops}
+use Rattle.isle_tree.specs.Run.{Around, State, Env, Flow, Goes, Ends, Leaves, Stuck, bind, read_values, fitted, on_value, on_list, then_run, after_scope, after_closure, run_bind, run_call, run_try, part_of, run_part, run_items, stops}
 use Rattle.isle_interpreter.specs.Ends.{EndFits}
 use Rattle.isle_interpreter.proofs.AnswersHold.{IsItem, HoldsIn}
 use Rattle.isle_interpreter.proofs.LocalsHold.{Agree, HoldsIfKnown, one_more, HasValue, HaveValues, told_values, Bound, both_agree}
@@ -189,13 +189,26 @@ module _ (of : ReturnKind) (closed : Bool) where
   well_loop n inside (Some (holds.Several x)) (Optional o) bound env st a e t next = absurd t
   well_loop n inside (Some (holds.Several x)) Absent bound env st a e t next = absurd t
 
-  -- a stop at a full list
-  pub well_stop : (within full : Bool) (bound : Locals) (env : Env) (st : State) → Agree bound env → GivesSeveral of → within ≡ closed → Well bound (if full then stops within st else Goes env st)
-  well_stop within false bound env st a gives is = a
-  well_stop true true bound env st a gives is = sym is
-  well_stop false true bound env st a gives is = list_fits of gives
+  -- ---- stops and closures
+
+  -- inside a closure that is left, outside all of them the function ends with its list
+  pub well_stopped : (within : Bool) (bound : Locals) (st : State) → GivesSeveral of → within ≡ closed → Well bound (stops within st)
+  well_stopped true bound st gives is = sym is
+  well_stopped false bound st gives is = list_fits of gives
     where
       list_fits : (k : ReturnKind) → GivesSeveral k → EndFits k (GivesList st.given)
       list_fits kind.Plain h = absurd h
       list_fits kind.Option h = absurd h
       list_fits kind.Iterator h = tt
+
+  -- a stop at a full list
+  pub well_stop : (within full : Bool) (bound : Locals) (env : Env) (st : State) → Agree bound env → GivesSeveral of → within ≡ closed → Well bound (if full then stops within st else Goes env st)
+  well_stop within false bound env st a gives is = a
+  well_stop within true bound env st a gives is = well_stopped within bound st gives is
+
+-- after a closure, which may be left
+pub well_closure : (of : ReturnKind) (closed within : Bool) (bound : Locals) (env : Env) (flow : Flow) → Agree bound env → GivesSeveral of → within ≡ closed → NotStuck of true flow → Well of closed bound (after_closure within env flow)
+well_closure of closed within bound env (Goes inner st) a gives is h = a
+well_closure of closed within bound env (Ends end st) a gives is h = h
+well_closure of closed within bound env (Leaves st) a gives is h = well_stopped of closed within bound st gives is
+well_closure of closed within bound env Stuck a gives is h = absurd h

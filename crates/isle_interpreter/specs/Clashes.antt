@@ -1,5 +1,5 @@
 -- How the code finds constants of one type that have one value: by keys that are equal exactly for these.
-use Rattle.std.specs.Prelude.{◌≡◌, ◌↔◌, ℕ, ℤ, pos, List, [], ◌∷◌, ◌++◌, length, map, find, fold, filter_map, Bool, true, false, not, IsTrue, Option, Some, None, option_map, if◌then◌else◌}
+use Rattle.std.specs.Prelude.{◌↔◌, ℕ, ℤ, pos, List, [], ◌∷◌, ◌++◌, length, map, find, fold, filter_map, Bool, true, false, not, IsTrue, Option, Some, None, option_map, if◌then◌else◌}
 use Rattle.std.specs.BTreeMap.{BTreeMap, get_by}
 use Rattle.std.specs.Cmp.Lexicographic.{slice_cmp}
 use Rattle.std.specs.Ordering.{int_cmp, nat_cmp, is_eq}
@@ -10,9 +10,8 @@ use Rattle.isle_core.specs.Meaning.{Meaning}
 use Rattle.isle_core.specs.Value.{Value, Truth, Int, Opaque, Variant, Struct, FieldValues, NoField, Field}
 use Rattle.isle_core.specs.declared.values.Value.{Value as CodeValue}
 use Rattle.isle_core.specs.ValueViews.{value}
-use Rattle.isle_operand_names.specs.Names.{is_among}
 use Rattle.isle_operand_names.specs.Sets.{has_name}
-use Rattle.isle_places.specs.Places.{Place, places}
+use Rattle.isle_places.specs.Places.{Place}
 use Rattle.isle_tree.specs.declared.tree.Operand.{Operand}
 use Rattle.isle_tree.specs.declared.tree.Operand.TheVariants as operand
 use Rattle.isle_tree.specs.Program.{Function, Program}

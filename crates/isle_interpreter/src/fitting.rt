@@ -1,7 +1,7 @@
 //! The run of a function whose arguments and answers fit.
 
 ghost use Rattle.std.specs.Prelude.{◌≡◌, IfOk, IfErr, Some};
-ghost use Rattle.isle_core.specs.ValueViews.{values, meaning, end, space, ran};
+ghost use Rattle.isle_core.specs.ValueViews.{values, meaning, end, ran};
 ghost use Rattle.isle_tree.specs.Run.{run};
 ghost use Rattle.isle_tree.specs.Views.{function, program};
 ghost use Rattle.isle_tree.specs.WellFormed.{IsWellFormed};
@@ -29,7 +29,7 @@ pub fn run_fitting(
     requires may { MayRun (program p.now) term.now (values args.now) (meaning answers.now)
         (function f.now) }
     ensures ran { IfOk result (λ o.
-        run (program p.now) term.now (values args.now) (meaning answers.now) (space answers.now)
+        run (program p.now) term.now (values args.now) (meaning answers.now) answers.now.held
         ≡ Some (ran o)) }
     ensures ends { IfOk result (λ o. EndFits f.now.kind (end o.end)) }
     ensures refused { IfErr result (λ e. e ≡ Memory) }

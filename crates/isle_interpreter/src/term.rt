@@ -2,7 +2,7 @@
 
 ghost use Rattle.std.specs.Prelude.{◌≡◌, ◌+◌, ◌^◌, ◌<◌, ◌⊎◌, length, IfOk, IfErr, OnOk, Some};
 ghost use Rattle.isle_core.specs.Meaning.{Meaning};
-ghost use Rattle.isle_core.specs.ValueViews.{values, meaning, end, space, ran};
+ghost use Rattle.isle_core.specs.ValueViews.{values, meaning, end, ran};
 ghost use Rattle.isle_tree.specs.Program.{Function};
 ghost use Rattle.isle_tree.specs.Run.{function_of, run};
 ghost use Rattle.isle_tree.specs.Views.{program};
@@ -53,7 +53,7 @@ pub fn run_term(
     requires counted { length answers.now.consts + length answers.now.pure
         + length answers.now.turns < 2 ^ 64 }
     ensures ran { IfOk result (λ o.
-        run (program p.now) name.now (values args.now) (meaning answers.now) (space answers.now)
+        run (program p.now) name.now (values args.now) (meaning answers.now) answers.now.held
         ≡ Some (ran o)) }
     ensures may { OnOk result
         (Runs (program p.now) name.now (values args.now) (meaning answers.now)) }

@@ -47,7 +47,7 @@ fn gives_several(kind: ReturnKind) -> bool
     }
 }
 
-// Whether statements may stop at a full list by this return.
+// Whether statements may stop at a full list, or after a closure that did, by this return.
 fn fits_stop(kind: ReturnKind, closed: bool, inside: bool) -> bool
     ensures { IsTrue result ↔ (GivesSeveral kind × (inside ≡ closed)) }
 {
@@ -77,9 +77,18 @@ fn fits_stmt(kind: ReturnKind, closed: bool, s: &Stmt) -> bool
         }
         Stmt::Return(e) => is_returned(e),
         Stmt::Extend(_) => gives_several(kind),
-        Stmt::Overflow { inside } => fits_stop(kind, closed, *inside),
+        Stmt::Overflow { inside, .. } => fits_stop(kind, closed, *inside),
         Stmt::LetList { .. } | Stmt::Log { .. } => true,
-        Stmt::Split { .. } | Stmt::Tail(_) => false,
+        Stmt::Split {
+            body: split,
+            inside,
+        } => {
+            if !fits_stop(kind, closed, *inside) {
+                return false;
+            }
+            fits_body(kind, true, split.as_slice())
+        }
+        Stmt::Tail(_) => false,
     }
 }
 

@@ -140,7 +140,9 @@ fn is_stmt_scoped(
         }
         Stmt::Extend(read) => Ok(is_value(read_holds(bound, params, read))),
         Stmt::Overflow { .. } | Stmt::Log { .. } | Stmt::Tail(_) => Ok(true),
-        Stmt::Split { .. } => Ok(false),
+        Stmt::Split { body, .. } => {
+            is_body_scoped(callees, kind, params, bound, body.as_slice())
+        }
     }
 }
 

@@ -202,10 +202,11 @@ fn is_stmt(s: &Stmt) -> bool
             true
         }
         Stmt::LetList { call, .. } => is_call(call),
-        Stmt::Loop { body: inside, .. } => is_body(inside.as_slice()),
+        Stmt::Loop { body: inside, .. } | Stmt::Split { body: inside, .. } => {
+            is_body(inside.as_slice())
+        }
         Stmt::Extend(read) => is_read(read),
         Stmt::Overflow { .. } | Stmt::Log { .. } | Stmt::Tail(_) => true,
-        Stmt::Split { .. } => false,
     }
 }
 

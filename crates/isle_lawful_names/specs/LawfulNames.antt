@@ -23,12 +23,11 @@ abbrev pub type_words : List (List ℕ)
 type_words =
     codes "Context" ∷ codes "ContextIter" ∷ codes "IntoContextIter" ∷ codes "Length" ∷ codes "ContextIterWrapper" ∷ codes "ConstructorVec"
     ∷ codes "PhantomData" ∷ codes "Option" ∷ codes "Some" ∷ codes "None" ∷ codes "Default" ∷ codes "Extend" ∷ codes "Iterator"
-    ∷ codes "IntoIterator" ∷ codes "From" ∷ codes "Vec" ∷ codes "MAX_ISLE_RETURNS"
-    ∷ []
+    ∷ codes "IntoIterator" ∷ codes "From" ∷ codes "Vec" ∷ []
 
 -- those that no constant may have
 abbrev pub constant_words : List (List ℕ)
-constant_words = codes "ctx" ∷ codes "returns" ∷ codes "Some" ∷ codes "None" ∷ codes "MAX_ISLE_RETURNS" ∷ []
+constant_words = codes "ctx" ∷ codes "returns" ∷ codes "Some" ∷ codes "None" ∷ []
 
 -- ---- types
 

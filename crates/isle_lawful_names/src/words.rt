@@ -8,7 +8,7 @@ ghost use Rattle.isle_lawful_names.specs.LawfulNames.{type_words, constant_words
 use isle_spelling::is_among;
 
 /// The words that no type may have for a name.
-const TYPE_WORDS: [&str; 17] = [
+const TYPE_WORDS: [&str; 16] = [
     "Context",
     "ContextIter",
     "IntoContextIter",
@@ -25,11 +25,10 @@ const TYPE_WORDS: [&str; 17] = [
     "IntoIterator",
     "From",
     "Vec",
-    "MAX_ISLE_RETURNS",
 ];
 
 /// Those that no constant may have.
-const CONSTANT_WORDS: [&str; 5] = ["ctx", "returns", "Some", "None", "MAX_ISLE_RETURNS"];
+const CONSTANT_WORDS: [&str; 4] = ["ctx", "returns", "Some", "None"];
 
 /// Tells whether no type may have the name.
 pub fn is_type_word(name: &str) -> bool

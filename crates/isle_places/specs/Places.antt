@@ -122,7 +122,7 @@ told_after p f tells (Match r arms) = tells
 told_after p f tells (Loop list item inside) = tells
 told_after p f tells (Return e) = tells
 told_after p f tells (Extend r) = tells
-told_after p f tells (Overflow inside) = tells
+told_after p f tells (Overflow inside limit) = tells
 told_after p f tells (Log term place) = tells
 told_after p f tells (Split inner inside) = tells
 told_after p f tells (Tail texts) = tells
@@ -141,7 +141,7 @@ abbrev mutual
   stmt_places p f tells (Loop list item inside) = body_places p f (told_inside list item tells) inside
   stmt_places p f tells (Return e) = returned p f.kind f.result e
   stmt_places p f tells (Extend r) = at (operand_of r) (AValue f.result)
-  stmt_places p f tells (Overflow inside) = []
+  stmt_places p f tells (Overflow inside limit) = []
   stmt_places p f tells (Log term place) = []
   stmt_places p f tells (Split inner inside) = body_places p f tells inner
   stmt_places p f tells (Tail texts) = []

@@ -43,6 +43,7 @@ use Rattle.isle_run.proofs.SourceNames.{lawful_names}
 use Rattle.isle_run.proofs.RequestedTerms.{HasFunction, requested_function}
 use Rattle.isle_run.proofs.NamedTypes.{are_named}
 use Rattle.isle_core.proofs.AllLaws.{all_front, all_back}
+use Rattle.isle_core.proofs.OptionLaws.{some_same}
 use Rattle.isle_run.proofs.RightEntries.{names_of, as_entries, all_right, cased_back, answered_back, given_back}
 
 -- ---- the source
@@ -83,9 +84,6 @@ module _ (options : CodegenOptions) (files : Files) (term : List ℕ) (ws : Writ
 
   abbrev the_function : HasFunction options files c.env term p.fns c.id
   the_function = requested_function options files c.env term (with_rules c.env) p.fns c.id conforms.functions.declared conforms.functions.blocks c.requested
-
-  some_same : (a b : Term) → Some a ≡ Some b → a ≡ b
-  some_same a b e = cc
 
   named : AreNamed p.types (type_names the_function.function.params) args
   named =

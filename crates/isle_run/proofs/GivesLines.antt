@@ -12,7 +12,6 @@ use Rattle.isle_core.specs.HasType.{HaveTypes}
 use Rattle.isle_core.specs.Rule.{Environment}
 use Rattle.isle_core.specs.Terms.{with_rules}
 use Rattle.isle_core.specs.Meaning.{Meaning}
-use Rattle.isle_core.specs.Space.{Space}
 use Rattle.isle_core.specs.Value.{Value, Ran}
 use Rattle.isle_values.specs.Written.{Writtens}
 use Rattle.isle_tree.specs.declared.tree.Ty.{Ty}
@@ -22,7 +21,7 @@ use Rattle.isle_tree.specs.Run.{run}
 use Rattle.isle_simulation.specs.TypeTexts.{parameter}
 use Rattle.isle_run_inputs.specs.Requested.{requested_term, requested_types, arg_types}
 use Rattle.isle_run_inputs.specs.AnswersAt.{answers_at}
-use Rattle.isle_run_inputs.specs.Returns.{space_at}
+use Rattle.isle_run_inputs.specs.Held.{held_at}
 use Rattle.isle_run_inputs.specs.ValuesAt.{values_at}
 use Rattle.isle_run_inputs.proofs.HaveTypes.{Matched, have_types}
 use Rattle.isle_outcomes.specs.Lines.{run_lines}
@@ -65,10 +64,10 @@ types_fit files env types term ws f h named =
     (matched types (type_names (map (parameter env) h.declared.term.arg_tys)) (values_at env h.declared.term.arg_tys ws) at_types))
 
 -- the lines of a run
-pub are_lines : (options : CodegenOptions) (files : Files) (env : Environment) (p : Program) (term : List ℕ) (ws : Writtens) (f : Function) (r : Ran) (answers : Meaning) (space : Space)
-    → leave_out (record { program = p; env = env; term = term; args = args_given env term ws }) answers ≡ false → Conforms options files env p → MayRun p term (args_given env term ws) answers f → run p term (args_given env term ws) answers space ≡ Some r
-    → AreLines options files env term (args_given env term ws) answers space (run_lines (shown_run env r))
-are_lines options files env p term ws f r answers space kept conforms may runs =
+pub are_lines : (options : CodegenOptions) (files : Files) (env : Environment) (p : Program) (term : List ℕ) (ws : Writtens) (f : Function) (r : Ran) (answers : Meaning) (held : ℕ)
+    → leave_out (record { program = p; env = env; term = term; args = args_given env term ws }) answers ≡ false → Conforms options files env p → MayRun p term (args_given env term ws) answers f → run p term (args_given env term ws) answers held ≡ Some r
+    → AreLines options files env term (args_given env term ws) answers held (run_lines (shown_run env r))
+are_lines options files env p term ws f r answers held kept conforms may runs =
     let h = both_found files env term (with_rules env) p.fns f conforms.functions.declared may.found in
     let types = types_fit files env p.types term ws f h may.typed in
     record {
@@ -85,7 +84,7 @@ are_lines options files env p term ws f r answers space kept conforms may runs =
         runs = runs;
       };
       shown = refl;
-      means = means options files env p term (args_given env term ws) answers space f r h.id h.declared.term kept conforms may runs h.among (declared_name files env h.id f h.declared ∙ sym h.named) h.declared.found h.declared.of_term.kind types;
+      means = means options files env p term (args_given env term ws) answers held f r h.id h.declared.term kept conforms may runs h.among (declared_name files env h.id f h.declared ∙ sym h.named) h.declared.found h.declared.of_term.kind types;
     }
 
 -- what a run under the answers of a text gives is a trial
@@ -99,5 +98,5 @@ is_trial options files env p term ws args text r lines checked conforms given h 
       forms = h.forms;
       spelt = h.spelt;
       once = h.once;
-      are_lines = subst (AreLines options files env term (args_given env term ws) (answers_at env h.forms) (space_at h.forms)) (sym shown) (are_lines options files env p term ws under.fits.function r (answers_at env h.forms) (space_at h.forms) under.given conforms under.fits.may under.runs);
+      are_lines = subst (AreLines options files env term (args_given env term ws) (answers_at env h.forms) (held_at h.forms)) (sym shown) (are_lines options files env p term ws under.fits.function r (answers_at env h.forms) (held_at h.forms) under.given conforms under.fits.may under.runs);
     }

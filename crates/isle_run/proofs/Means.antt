@@ -8,7 +8,7 @@ use Rattle.isle_core.specs.declared.options.CodegenOptions.{CodegenOptions}
 use Rattle.isle_core.specs.declared.types.Term.{Term}
 use Rattle.isle_core.specs.Value.{Value, Ran, End, Made}
 use Rattle.isle_core.specs.Meaning.{Meaning}
-use Rattle.isle_core.specs.Space.{Space}
+use Rattle.isle_core.specs.Space.{space_of}
 use Rattle.isle_core.specs.Having.{const_of, HasAnswers}
 use Rattle.isle_core.specs.HasType.{HaveTypes}
 use Rattle.isle_core.specs.Lawful.{IsLawful}
@@ -49,9 +49,9 @@ shown_by calls others end None same alike = absurd cc
 shown_by calls others end (Some e) same alike = let ends : nameless_end end ≡ nameless_end e = cc in lines_same end e calls others ends alike
 
 -- a run that gives what is prescribed shows it
-same_lines : (env : Environment) (id : TermId) (t : Term) (args : List Value) (m : Meaning) (space : Space) (p : Program) (r : Ran) → run p (term_name env id) args m space ≡ Some r → GivesOutcome env p id t args m space → AreOutcome env id t args m (run_lines (shown_run env r))
-same_lines env id t args m space p r e h =
-    let given = some_and (GivesAs env (kind_of t.kind) h.outcome) (run p (term_name env id) args m space) r e h.given in
+same_lines : (env : Environment) (id : TermId) (t : Term) (args : List Value) (m : Meaning) (held : ℕ) (p : Program) (r : Ran) → run p (term_name env id) args m held ≡ Some r → GivesOutcome env p id t args m held → AreOutcome env id t args m (run_lines (shown_run env r))
+same_lines env id t args m held p r e h =
+    let given = some_and (GivesAs env (kind_of t.kind) h.outcome) (run p (term_name env id) args m held) r e h.given in
     record {
       outcome = h.outcome;
       prescribed = h.prescribed;
@@ -60,9 +60,9 @@ same_lines env id t args m space p r e h =
     }
 
 -- a run that gives the first results that are prescribed shows them
-first_lines : (env : Environment) (id : TermId) (args : List Value) (m : Meaning) (space : Space) (p : Program) (r : Ran) → run p (term_name env id) args m space ≡ Some r → GivesFirst env p id args m space → AreFirst env id args m space (run_lines (shown_run env r))
-first_lines env id args m space p r e h =
-    let cut : Ran = cut_run space h.given in
+first_lines : (options : CodegenOptions) (env : Environment) (id : TermId) (args : List Value) (m : Meaning) (held : ℕ) (p : Program) (r : Ran) → run p (term_name env id) args m held ≡ Some r → GivesFirst options env p id args m held → AreFirst options env id args m held (run_lines (shown_run env r))
+first_lines options env id args m held p r e h =
+    let cut : Ran = cut_run (space_of options held) h.given in
     let alike : nameless_ran (impure_ran env r) ≡ nameless_ran cut = same_Some _ _ (ap (option_map (λ (x : Ran). nameless_ran (impure_ran env x))) (sym e) ∙ h.runs) in
     record {
       given = h.given;
@@ -71,11 +71,11 @@ first_lines env id args m space p r e h =
     }
 
 -- a run that gives what the rules prescribe of a term which answers so often
-prescribed_lines : (kind : ReturnKind) (env : Environment) (id : TermId) (t : Term) (args : List Value) (m : Meaning) (space : Space) (p : Program) (r : Ran) → run p (term_name env id) args m space ≡ Some r → GivesRules kind env p id t args m space
-    → ArePrescribed kind env id t args m space (run_lines (shown_run env r))
-prescribed_lines return_kind.Plain env id t args m space p r e h = same_lines env id t args m space p r e h
-prescribed_lines return_kind.Option env id t args m space p r e h = same_lines env id t args m space p r e h
-prescribed_lines return_kind.Iterator env id t args m space p r e h = first_lines env id args m space p r e h
+prescribed_lines : (options : CodegenOptions) (kind : ReturnKind) (env : Environment) (id : TermId) (t : Term) (args : List Value) (m : Meaning) (held : ℕ) (p : Program) (r : Ran) → run p (term_name env id) args m held ≡ Some r → GivesRules options kind env p id t args m held
+    → ArePrescribed options kind env id t args m held (run_lines (shown_run env r))
+prescribed_lines options return_kind.Plain env id t args m held p r e h = same_lines env id t args m held p r e h
+prescribed_lines options return_kind.Option env id t args m held p r e h = same_lines env id t args m held p r e h
+prescribed_lines options return_kind.Iterator env id t args m held p r e h = first_lines options env id args m held p r e h
 
 -- a name in the function that the answers leave out has no value under a meaning that values constants alone
 no_value : (a : Attempt) (answers m : Meaning) (f : Function) → leave_out a answers ≡ false → function_of a.term a.program.fns ≡ Some f → ValuesConstants a.env m → (name : List ℕ) → Contains (body_names f.body) name → const_of answers name ≡ None → const_of m name ≡ None
@@ -86,17 +86,17 @@ no_value a answers m f kept found values name there none = by (const_of m name) 
     by (Some v) e = let c = values name v e in absurd (none_left_out a answers f c.0 name kept found c.1 there none)
 
 -- so it is under every lawful meaning that has the answers
-pub means : (options : CodegenOptions) (files : Files) (env : Environment) (p : Program) (term : List ℕ) (args : List Value) (answers : Meaning) (space : Space) (f : Function) (r : Ran) (id : TermId) (t : Term)
-    → leave_out (record { program = p; env = env; term = term; args = args }) answers ≡ false → Conforms options files env p → MayRun p term args answers f → run p term args answers space ≡ Some r
+pub means : (options : CodegenOptions) (files : Files) (env : Environment) (p : Program) (term : List ℕ) (args : List Value) (answers : Meaning) (held : ℕ) (f : Function) (r : Ran) (id : TermId) (t : Term)
+    → leave_out (record { program = p; env = env; term = term; args = args }) answers ≡ false → Conforms options files env p → MayRun p term args answers f → run p term args answers held ≡ Some r
     → Contains (with_rules env) id → term_name env id ≡ term → slice_get env.terms id.0 ≡ Some t → f.kind ≡ kind_of t.kind → HaveTypes env args t.arg_tys
-    → (m : Meaning) → IsLawful env id m → HasAnswers m answers → ArePrescribed (kind_of t.kind) env id t args m space (run_lines (shown_run env r))
-means options files env p term args answers space f r id t kept conforms may runs among named there kind types m lawful has =
-    let rules = some_and (λ (t : Term). (args : List Value) (m : Meaning) (space : Space) → HaveTypes env args t.arg_tys → IsLawful env id m → GivesRules (kind_of t.kind) env p id t args m space) (slice_get env.terms id.0) t there (conforms.functions.mean id among) in
-    let same : run p (term_name env id) args m space ≡ Some r =
-    ap (λ n. run p n args m space) named
-    ∙ ap (function_run p m space args) may.found
-    ∙ same_run m answers has p f args space (found_function p term p.fns f conforms.well_formed.fns may.found).fits
+    → (m : Meaning) → IsLawful env id m → HasAnswers m answers → ArePrescribed options (kind_of t.kind) env id t args m held (run_lines (shown_run env r))
+means options files env p term args answers held f r id t kept conforms may runs among named there kind types m lawful has =
+    let rules = some_and (λ (t : Term). (args : List Value) (m : Meaning) (held : ℕ) → HaveTypes env args t.arg_tys → IsLawful env id m → GivesRules options (kind_of t.kind) env p id t args m held) (slice_get env.terms id.0) t there (conforms.functions.mean id among) in
+    let same : run p (term_name env id) args m held ≡ Some r =
+    ap (λ n. run p n args m held) named
+    ∙ ap (function_run p m held args) may.found
+    ∙ same_run m answers has p f args held (found_function p term p.fns f conforms.well_formed.fns may.found).fits
     may.answered (no_value (record { program = p; env = env; term = term; args = args }) answers m f kept may.found lawful.declared)
-    ∙ sym (ap (function_run p answers space args) may.found)
+    ∙ sym (ap (function_run p answers held args) may.found)
     ∙ runs in
-    prescribed_lines (kind_of t.kind) env id t args m space p r same (rules args m space types lawful)
+    prescribed_lines options (kind_of t.kind) env id t args m held p r same (rules args m held types lawful)

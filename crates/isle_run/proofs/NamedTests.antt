@@ -22,11 +22,12 @@ use Rattle.isle_core.proofs.Contained.{head_contained}
 use Rattle.isle_blocks.specs.AllTests.{HoldsTest, DoesTest, HasTestWithin, HasArm}
 use Rattle.isle_tree.specs.Program.{Body, Done, Then, Function}
 use Rattle.isle_simulation.specs.Completed.{completed, completed_control, completed_arms, step_binds}
-use Rattle.isle_simulation.specs.Manner.{Manner, manner_of}
+use Rattle.isle_simulation.specs.Manner.{Manner, manner_of, has_closure, closed_if, arm_manner}
 use Rattle.isle_simulation.specs.Telling.{Telling}
 use Rattle.isle_simulation.specs.TermFunction.{tail_in, term_function}
 use Rattle.isle_simulation.proofs.Made.{function_made}
-use Rattle.isle_simulation.proofs.Written.{written_operand, written_arm, match_read, told_each, arm_stmt, bound_stmt, lets, stop_before, told_before, told_body, told_control, function_of}
+use Rattle.isle_core.proofs.OptionLaws.{some_same}
+use Rattle.isle_simulation.proofs.Written.{arm_body, written_operand, written_arm, match_read, told_each, arm_stmt, bound_stmt, lets, stop_before, told_before, told_body, told_control, function_of}
 use Rattle.isle_operand_names.specs.Names.{operand_names, read_names, pattern_names, patterns_names, stmt_names, body_names, arms_names}
 
 module _ (env : Environment) (t : Term) (bs : List Binding) (source : BindingId) (c : Sym) where
@@ -80,12 +81,17 @@ module _ (env : Environment) (t : Term) (bs : List Binding) (source : BindingId)
   in_told (Some line) (block.Loop result body) after h = h
   in_told (Some line) (block.Return place result) after h = h
 
-  in_stop : (inside several : Bool) (k : Control) (after : Body) → IsNamedIn after → IsNamedIn (stop_before inside several k after)
-  in_stop inside true (block.Return place result) after h = h
-  in_stop inside true (block.Match over arms) after h = h
-  in_stop inside true (block.Equal a b body) after h = h
-  in_stop inside true (block.Loop result body) after h = h
-  in_stop inside false k after h = h
+  in_stop : (manner : Manner) (several : Bool) (k : Control) (after : Body) → IsNamedIn after → IsNamedIn (stop_before manner several k after)
+  in_stop manner true (block.Return place result) after h = h
+  in_stop manner true (block.Match over arms) after h = h
+  in_stop manner true (block.Equal a b body) after h = h
+  in_stop manner true (block.Loop result body) after h = h
+  in_stop manner false k after h = h
+
+  -- in a closure, or not
+  in_closure : (own within : Bool) (inside : Body) → IsNamedIn inside → IsNamedIn (closed_if own within inside)
+  in_closure true within inside h = Contains-append_left (body_names inside) [] name h
+  in_closure false within inside h = h
 
   -- inside an arm
   within_arm : (bound : List ℕ) (over : BindingId) (d : Constraint) (places : List (Option BindingId)) (inside : Body) → IsNamedIn inside → Contains (stmt_names (arm_stmt s bound over d places inside)) name
@@ -116,18 +122,18 @@ module _ (env : Environment) (t : Term) (bs : List Binding) (source : BindingId)
     block_names_it manner Stop bound end h = absurd h
     block_names_it manner (Step binds k more) bound end (inl h) =
         let now = bound_by bound binds in
-        let rest = stop_before manner.inside (gives_several s) k (told_body manner s now more end) in
+        let rest = stop_before manner (gives_several s) k (told_body manner s now more end) in
         in_lets bound binds _ (in_told manner.telling k (Then (told_control manner s now k) rest) (Contains-append_left (stmt_names (told_control manner s now k)) (body_names rest) name (control_names_it manner k now h)))
     block_names_it manner (Step binds k more) bound end (inr h) =
         let now = bound_by bound binds in
-        let rest = stop_before manner.inside (gives_several s) k (told_body manner s now more end) in
+        let rest = stop_before manner (gives_several s) k (told_body manner s now more end) in
         in_lets bound binds _ (in_told manner.telling k (Then (told_control manner s now k) rest)
-        (Contains-append_right (stmt_names (told_control manner s now k)) (body_names rest) name (in_stop manner.inside (gives_several s) k (told_body manner s now more end) (block_names_it manner more now end h))))
+        (Contains-append_right (stmt_names (told_control manner s now k)) (body_names rest) name (in_stop manner (gives_several s) k (told_body manner s now more end) (block_names_it manner more now end h))))
 
     control_names_it : (manner : Manner) (k : Control) (bound : List ℕ) → DoesTest source Test k → Contains (stmt_names (told_control manner s bound k)) name
-    control_names_it manner (block.Match over (block.Arm d places body block.NoArm)) bound (inl (e, inl same)) = tested_arm bound over d places (told_body manner s (bound_within bound places) body Done) same
+    control_names_it manner (block.Match over (block.Arm d places body block.NoArm)) bound (inl (e, inl same)) = tested_arm bound over d places (arm_body manner body (told_body (arm_manner manner body) s (bound_within bound places) body Done)) same
     control_names_it manner (block.Match over (block.Arm d places body block.NoArm)) bound (inl (e, inr h)) = absurd h
-    control_names_it manner (block.Match over (block.Arm d places body block.NoArm)) bound (inr (inl h)) = within_arm bound over d places _ (block_names_it manner body (bound_within bound places) Done h)
+    control_names_it manner (block.Match over (block.Arm d places body block.NoArm)) bound (inr (inl h)) = within_arm bound over d places _ (in_closure (has_closure manner body) manner.inside _ (block_names_it (arm_manner manner body) body (bound_within bound places) Done h))
     control_names_it manner (block.Match over (block.Arm d places body block.NoArm)) bound (inr (inr h)) = absurd h
     control_names_it manner (block.Match over (block.Arm d places body (block.Arm e others inside arms))) bound (inl h) =
         let those = told_each manner s bound (block.Arm d places body (block.Arm e others inside arms)) in
@@ -148,15 +154,12 @@ module _ (env : Environment) (t : Term) (bs : List Binding) (source : BindingId)
     arms_name_it : (manner : Manner) (arms : block.Arms) (bound : List ℕ) → HasTestWithin source Test arms → Contains (arms_names (told_each manner s bound arms)) name
     arms_name_it manner block.NoArm bound h = absurd h
     arms_name_it manner (block.Arm d places body arms) bound (inl h) =
-        Contains-append_left (body_names (told_body manner s (bound_within bound places) body Done)) (arms_names (told_each manner s bound arms)) name (block_names_it manner body (bound_within bound places) Done h)
+        Contains-append_left (body_names (arm_body manner body (told_body (arm_manner manner body) s (bound_within bound places) body Done))) (arms_names (told_each manner s bound arms)) name (in_closure (has_closure manner body) manner.inside _ (block_names_it (arm_manner manner body) body (bound_within bound places) Done h))
     arms_name_it manner (block.Arm d places body arms) bound (inr h) =
-        Contains-append_right (body_names (told_body manner s (bound_within bound places) body Done)) (arms_names (told_each manner s bound arms)) name (arms_name_it manner arms bound h)
-
-  one_function : (a b : Function) → Some a ≡ Some b → a ≡ b
-  one_function a b e = cc
+        Contains-append_right (body_names (arm_body manner body (told_body (arm_manner manner body) s (bound_within bound places) body Done))) (arms_names (told_each manner s bound arms)) name (arms_name_it manner arms bound h)
 
   -- so of the function of a block
   pub function_names_it : (options : CodegenOptions) (files : Files) (b : Block) (f : Function) → IsLawfulBlock s b → HoldsTest source Test b → term_function options files s b ≡ Some f → IsNamedIn f.body
   function_names_it options files b f lawful holds given =
-      subst (λ (g : Function). IsNamedIn g.body) (one_function (function_of options files env t bs b) f (sym (function_made options files env t bs b lawful) ∙ given))
+      subst (λ (g : Function). IsNamedIn g.body) (some_same (function_of options files env t bs b) f (sym (function_made options files env t bs b lawful) ∙ given))
       (block_names_it (manner_of options files s) (completed s [] b) [] (tail_in files env t b) (completed_holds [] b holds))

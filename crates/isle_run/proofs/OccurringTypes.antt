@@ -216,7 +216,8 @@ module _ (env : Environment) (Free : List ℕ → Type 0) (free : (ty : TypeId) 
     types_made = record {
       bound = λ bound b h. stmt_free bound b;
       result = λ bound result h. result_free (kind_of s.term.kind) (written_read s bound false result);
-      stop = λ inside. tt;
+      stop = λ inside limit. tt;
+      split = λ inside within. tt;
       log = λ line. tt;
       equal = λ bound a b ty inside h k. tt;
       arm = λ bound source over c places inside h is k w. arm_free bound source c places inside;

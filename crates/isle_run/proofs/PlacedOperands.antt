@@ -108,9 +108,9 @@ module _ (Q : Operand → Type 0) where
     stmt_so (Loop list item inside) p f tells is h = body_so inside p f (told_inside list item tells) is h
     stmt_so (Return e) p f tells is h = returned_so p f.kind f.result e h
     stmt_so (Extend r) p f tells is h = read_at r (AValue f.result) h.0
-    stmt_so (Overflow within) p f tells is h = tt
+    stmt_so (Overflow within limit) p f tells is h = tt
     stmt_so (Log term place) p f tells is h = tt
-    stmt_so (Split inside within) p f tells is h = absurd is
+    stmt_so (Split inside within) p f tells is h = body_so inside p f tells is h
     stmt_so (Tail texts) p f tells is h = tt
 
     -- of the places of a body
@@ -194,9 +194,9 @@ module _ (Q : Operand → Type 0) where
     stmt_named (Loop list item inside) is h = body_named inside is h
     stmt_named (Return e) is h = expr_named e h
     stmt_named (Extend r) is h = read_named r h.0
-    stmt_named (Overflow within) is h = tt
+    stmt_named (Overflow within limit) is h = tt
     stmt_named (Log term place) is h = tt
-    stmt_named (Split inside within) is h = absurd is
+    stmt_named (Split inside within) is h = body_named inside is h
     stmt_named (Tail texts) is h = tt
 
     -- of the names of a body

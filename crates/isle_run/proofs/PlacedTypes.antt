@@ -40,14 +40,14 @@ use Rattle.isle_tree.specs.declared.tree.TCall.{TCall}
 use Rattle.isle_tree.specs.declared.tree.TExpr.TheVariants as expr
 use Rattle.isle_tree.specs.declared.tree.TPat.{TPat}
 use Rattle.isle_tree.specs.declared.tree.TPat.TheVariants as pattern
-use Rattle.isle_tree.specs.Program.{Stmt, IfEq, IfLet, Loop, Return, Body, Done, Then, Function, Program}
+use Rattle.isle_tree.specs.Program.{Stmt, IfEq, IfLet, Loop, Return, Split, Body, Done, Then, Function, Program}
 use Rattle.isle_simulation.specs.Completed.{completed}
 use Rattle.isle_simulation.specs.Operands.{in_place, is_bound}
 use Rattle.isle_simulation.specs.Patterns.{bind_before, field_binds, form_pattern, leaves_out, pattern_named, pattern_of, some_pattern}
 use Rattle.isle_simulation.specs.References.{is_reference_in, read_as}
 use Rattle.isle_simulation.specs.RustNames.{HasRustNames}
 use Rattle.isle_simulation.specs.Statements.{binds_list, list_local, looped_local}
-use Rattle.isle_simulation.specs.Manner.{Manner, manner_of}
+use Rattle.isle_simulation.specs.Manner.{Manner, manner_of, has_closure, closed_if, arm_manner}
 use Rattle.isle_simulation.specs.Telling.{Telling}
 use Rattle.isle_simulation.specs.TermFunction.{ends_in_return, mark_of, tail_body, tail_of, tail_in, term_function}
 use Rattle.isle_simulation.specs.TypeTexts.{type_text, parameter}
@@ -57,7 +57,8 @@ use Rattle.isle_simulation.proofs.LocalStmts.{local_by}
 use Rattle.isle_simulation.proofs.Made.{over_value, over_option, function_made}
 use Rattle.isle_simulation.proofs.PathTypes.{one_type}
 use Rattle.isle_simulation.proofs.Ready.{IsSpelled, IsReady, IsReadyIn, IsReadyBind, AreReadyBinds, IsReadyFrom, IsReadyControl, AreReadyArms}
-use Rattle.isle_simulation.proofs.Written.{written, written_test, written_operand, written_read, written_pattern, written_arm, match_read, told_each, written_list, bound_expr, bound_stmt, lets, result_stmt, stop_before, told_before, told_body, told_control, function_of}
+use Rattle.isle_core.proofs.OptionLaws.{some_same}
+use Rattle.isle_simulation.proofs.Written.{arm_body, written, written_test, written_operand, written_read, written_pattern, written_arm, match_read, told_each, written_list, bound_expr, bound_stmt, lets, result_stmt, stop_before, told_before, told_body, told_control, function_of}
 use Rattle.isle_places.specs.DeclaredTypes.{Asked, These, Anything, Nowhere as NoFields, variant_asked, struct_asked}
 use Rattle.isle_places.specs.Places as placing
 use Rattle.isle_places.specs.Places.{Place, expr_places, plain_told, option_told, both_places, told_after, stmt_places, body_places, places}
@@ -411,12 +412,12 @@ module _ (env : Environment) (t : Term) (bs : List Binding) (p : Program) (Named
 
   -- ---- blocks
 
-  stop_fits : (inside several : Bool) (c : Control) (after : Body) → BodyFits after → BodyFits (stop_before inside several c after)
-  stop_fits inside true (block.Return place given) after h = λ tells r. h tells r
-  stop_fits inside true (block.Match source arms) after h = h
-  stop_fits inside true (block.Equal a b body) after h = h
-  stop_fits inside true (block.Loop given body) after h = h
-  stop_fits inside false c after h = h
+  stop_fits : (manner : Manner) (several : Bool) (c : Control) (after : Body) → BodyFits after → BodyFits (stop_before manner several c after)
+  stop_fits manner true (block.Return place given) after h = λ tells r. h tells r
+  stop_fits manner true (block.Match source arms) after h = h
+  stop_fits manner true (block.Equal a b body) after h = h
+  stop_fits manner true (block.Loop given body) after h = h
+  stop_fits manner false c after h = h
 
   told_before_fits : (telling : Telling) (c : Control) (after : Body) → BodyFits after → BodyFits (told_before telling c after)
   told_before_fits None c after h = h
@@ -432,39 +433,44 @@ module _ (env : Environment) (t : Term) (bs : List Binding) (p : Program) (Named
   loop_list : (k : Option Binding) (source : BindingId) → k ≡ Some (binding.Iterator source) → written_list (list_local k) ≡ source.0
   loop_list k source e = rw e refl
 
+  -- statements in a closure of their own, or as they are
+  closure_fits : (own within : Bool) (inside : Body) → BodyFits inside → BodyFits (closed_if own within inside)
+  closure_fits true within inside h = then_fits (Split inside within) Done (λ tells r. (h tells r, r)) done_fits
+  closure_fits false within inside h = h
+
   mutual
     block_fits : (manner : Manner) (b : Block) (bound made : List ℕ) (end : Body) → IsReadyFrom s bound made b → BodyFits end → BodyFits (told_body manner s bound b end)
     block_fits manner Stop bound made end h k = k
     block_fits manner (Step binds c more) bound made end h k =
         let now = bound_by bound binds in
-        let rest = stop_before manner.inside (gives_several s) c (told_body manner s now more end) in
+        let rest = stop_before manner (gives_several s) c (told_body manner s now more end) in
         lets_fit bound binds (told_before manner.telling c (Then (told_control manner s now c) rest)) h.0
         (told_before_fits manner.telling c (Then (told_control manner s now c) rest)
-        (then_fits (told_control manner s now c) rest (control_fits manner c now _ h.2) (stop_fits manner.inside (gives_several s) c (told_body manner s now more end) (block_fits manner more now _ end h.3 k))))
+        (then_fits (told_control manner s now c) rest (control_fits manner c now _ h.2) (stop_fits manner (gives_several s) c (told_body manner s now more end) (block_fits manner more now _ end h.3 k))))
 
     control_fits : (manner : Manner) (c : Control) (bound made : List ℕ) → IsReadyControl s bound made c → (tells : Tells) → Right tells → StmtFits tells (told_control manner s bound c)
     control_fits manner (block.Match source (block.Arm (constraint.ConstBool val) places body block.NoArm)) bound made k tells r =
         let v = over_value s bound source (constraint.ConstBool val) k.1.0 (λ e. cc) k.1.1 k.1.2.0 in
-        test_fits bound tells source v.ty (written_test env (constraint.ConstBool val)) (ConstBool v.ty val) (told_body manner s (bound_within bound places) body Done) r v.ready (refl, v.is) tt refl (block_fits manner body (bound_within bound places) made Done k.1.2.2 done_fits)
+        test_fits bound tells source v.ty (written_test env (constraint.ConstBool val)) (ConstBool v.ty val) (arm_body manner body (told_body (arm_manner manner body) s (bound_within bound places) body Done)) r v.ready (refl, v.is) tt refl (closure_fits (has_closure manner body) manner.inside _ (block_fits (arm_manner manner body) body (bound_within bound places) made Done k.1.2.2 done_fits))
     control_fits manner (block.Match source (block.Arm (constraint.ConstInt val of) places body block.NoArm)) bound made k tells r =
         let v = over_value s bound source (constraint.ConstInt val of) k.1.0 (λ e. cc) k.1.1 k.1.2.0 in
-        test_fits bound tells source v.ty (written_test env (constraint.ConstInt val of)) (ConstInt of val) (told_body manner s (bound_within bound places) body Done) r v.ready v.is tt refl (block_fits manner body (bound_within bound places) made Done k.1.2.2 done_fits)
+        test_fits bound tells source v.ty (written_test env (constraint.ConstInt val of)) (ConstInt of val) (arm_body manner body (told_body (arm_manner manner body) s (bound_within bound places) body Done)) r v.ready v.is tt refl (closure_fits (has_closure manner body) manner.inside _ (block_fits (arm_manner manner body) body (bound_within bound places) made Done k.1.2.2 done_fits))
     control_fits manner (block.Match source (block.Arm (constraint.ConstPrim val) places body block.NoArm)) bound made k tells r =
         let v = over_value s bound source (constraint.ConstPrim val) k.1.0 (λ e. cc) k.1.1 k.1.2.0 in
-        test_fits bound tells source v.ty (written_test env (constraint.ConstPrim val)) (ConstPrim val) (told_body manner s (bound_within bound places) body Done) r v.ready v.is tt refl (block_fits manner body (bound_within bound places) made Done k.1.2.2 done_fits)
+        test_fits bound tells source v.ty (written_test env (constraint.ConstPrim val)) (ConstPrim val) (arm_body manner body (told_body (arm_manner manner body) s (bound_within bound places) body Done)) r v.ready v.is tt refl (closure_fits (has_closure manner body) manner.inside _ (block_fits (arm_manner manner body) body (bound_within bound places) made Done k.1.2.2 done_fits))
     control_fits manner (block.Match source (block.Arm (constraint.Variant of variant) places body block.NoArm)) bound made k tells r =
         let c = constraint.Variant of variant in
         let v = over_value s bound source c k.1.0 (λ e. cc) k.1.1 k.1.2.0 in
         let a = arm_pattern s source v.ty c places v.is k.1.2.1 tt in
-        variant_arm bound tells source v.ty of variant places _ (told_body manner s (bound_within bound places) body Done) r v.ready v.is k.1.2.1.1 a.is (block_fits manner body (bound_within bound places) made Done k.1.2.2 done_fits)
+        variant_arm bound tells source v.ty of variant places _ (arm_body manner body (told_body (arm_manner manner body) s (bound_within bound places) body Done)) r v.ready v.is k.1.2.1.1 a.is (closure_fits (has_closure manner body) manner.inside _ (block_fits (arm_manner manner body) body (bound_within bound places) made Done k.1.2.2 done_fits))
     control_fits manner (block.Match source (block.Arm (constraint.Struct of) places body block.NoArm)) bound made k tells r =
         let c = constraint.Struct of in
         let v = over_value s bound source c k.1.0 (λ e. cc) k.1.1 k.1.2.0 in
         let a = arm_pattern s source v.ty c places v.is k.1.2.1 tt in
-        struct_arm bound tells source v.ty of places _ (told_body manner s (bound_within bound places) body Done) r v.ready v.is k.1.2.1.1 a.is (block_fits manner body (bound_within bound places) made Done k.1.2.2 done_fits)
+        struct_arm bound tells source v.ty of places _ (arm_body manner body (told_body (arm_manner manner body) s (bound_within bound places) body Done)) r v.ready v.is k.1.2.1.1 a.is (closure_fits (has_closure manner body) manner.inside _ (block_fits (arm_manner manner body) body (bound_within bound places) made Done k.1.2.2 done_fits))
     control_fits manner (block.Match source (block.Arm constraint.Some places body block.NoArm)) bound made k tells r =
         let v = over_option s bound source k.1.0 k.1.1 k.1.2.0 in
-        some_arm bound tells source places (told_body manner s (bound_within bound places) body Done) r v.1.bound' k.1.2.1.0 k.1.2.1.1 (block_fits manner body (bound_within bound places) made Done k.1.2.2 done_fits)
+        some_arm bound tells source places (arm_body manner body (told_body (arm_manner manner body) s (bound_within bound places) body Done)) r v.1.bound' k.1.2.1.0 k.1.2.1.1 (closure_fits (has_closure manner body) manner.inside _ (block_fits (arm_manner manner body) body (bound_within bound places) made Done k.1.2.2 done_fits))
     control_fits manner (block.Match source (block.Arm c places body (block.Arm d others inside arms))) bound made k tells r =
         (cases_fit manner (block.Arm c places body (block.Arm d others inside arms)) bound made source k.1.0 (match_read s bound source c) (match_operand bound source c) k.1.1 k.1.2 tells r, r)
     control_fits manner (block.Match source block.NoArm) bound made k tells r = (tt, r)
@@ -487,9 +493,9 @@ module _ (env : Environment) (t : Term) (bs : List Binding) (p : Program) (Named
         → (tells : Tells) → Right tells → PlacesFit (placing.arms_places p f tells q (told_each manner s bound arms))
     cases_fit manner block.NoArm bound made source over q e ready k tells r = tt
     cases_fit manner (block.Arm c places body arms) bound made source over q e ready k tells r =
-        let inside = told_body manner s (bound_within bound places) body Done in
+        let inside = arm_body manner body (told_body (arm_manner manner body) s (bound_within bound places) body Done) in
         both (placing.arm_places p f tells (written_arm env c places) q inside) (placing.arms_places p f tells q (told_each manner s bound arms))
-        (case_fits bound tells source over c places q inside e r ready k.0 k.1 (block_fits manner body (bound_within bound places) made Done k.2 done_fits)) (cases_fit manner arms bound made source over q e ready k.3 tells r)
+        (case_fits bound tells source over c places q inside e r ready k.0 k.1 (closure_fits (has_closure manner body) manner.inside _ (block_fits (arm_manner manner body) body (bound_within bound places) made Done k.2 done_fits))) (cases_fit manner arms bound made source over q e ready k.3 tells r)
 
   -- ---- functions
 
@@ -504,12 +510,9 @@ module _ (env : Environment) (t : Term) (bs : List Binding) (p : Program) (Named
       one true e = rw e done_fits
       one false e = rw e (mark_fits (mark_of k name place))
 
-  one_function : (a b : Function) → Some a ≡ Some b → a ≡ b
-  one_function a b e = cc
-
   -- the function of a lawful block
   pub function_fits : (options : CodegenOptions) (files : Files) (b : Block) → IsLawfulBlock s b → term_function options files s b ≡ Some f → PlacesFit (places p f)
   function_fits options files b lawful given =
-      let same : function_of options files env t bs b ≡ f = one_function (function_of options files env t bs b) f (sym (function_made options files env t bs b lawful) ∙ given) in
+      let same : function_of options files env t bs b ≡ f = some_same (function_of options files env t bs b) f (sym (function_made options files env t bs b lawful) ∙ given) in
       subst (λ (body : Body). PlacesFit (body_places p f [] body)) (ap (λ (g : Function). g.body) same)
       (block_fits (manner_of options files s) (completed s [] b) [] [] (tail_in files env t b) (completed_ready s b lawful) (tail_fits _ _ _ b) [] tt)

@@ -16,6 +16,7 @@ use Rattle.isle_core.specs.Meaning.{PureAnswers, TurnAnswers, Meaning}
 use Rattle.isle_core.specs.Rule.{Environment}
 use Rattle.isle_core.specs.Terms.{sym_text, with_rules}
 use Rattle.isle_core.specs.Value.{Value, Answer}
+use Rattle.isle_core.proofs.OptionLaws.{some_same}
 use Rattle.isle_tree.specs.declared.tree.TraitFn.{TraitFn}
 use Rattle.isle_tree.specs.Program.{Function, Program}
 use Rattle.isle_tree.specs.WellFormed.{trait_fn, fn_names}
@@ -128,9 +129,6 @@ module _ (options : CodegenOptions) (files : Files) (env : Environment) (names :
           kind = h.declared.of_term.kind ∙ ap (λ (x : Term). kind_of x.kind) same;
         },
       )
-    where
-      some_same : (a b : Term) → Some a ≡ Some b → a ≡ b
-      some_same a b e = cc
 
   -- the signature of what is asked by cases
   pub asked_signature : (c : Callee) (a : Asked) (often : ReturnKind) → IsAsked env c a often → (s : Signature) × (signature_of p c ≡ Some s) × IsSignatureOf env a often s

@@ -1,11 +1,10 @@
 -- A refusal of a run refuses it.
 use Rattle.std.proofs.Common.{◌≡◌, ◌⊎◌, inl, inr, ℕ, List, [], length, Bool, true, false, Some, sym, subst, ap, refl, ◌∙◌}
 use Rattle.isle_core.specs.Meaning.{Meaning}
-use Rattle.isle_core.specs.Space.{Space}
 use Rattle.isle_answers.specs.Form.{Form}
 use Rattle.isle_answers.specs.Spelling.{SpellsForms}
 use Rattle.isle_run_inputs.specs.AnswersAt.{answers_at}
-use Rattle.isle_run_inputs.specs.Returns.{space_at}
+use Rattle.isle_run_inputs.specs.Held.{held_at}
 use Rattle.isle_run_inputs.specs.Places.{place_at}
 use Rattle.isle_core.specs.Value.{Ran}
 use Rattle.isle_tree.specs.Run.{run}
@@ -51,10 +50,10 @@ refuses_left a text forms end m left spelt ends same runs is out =
     subst (λ n. IsRunRefused a text (fail.BadAnswers n)) (sym ends) (left_out forms spelt (subst (Runs a.program a.term a.args) same runs) (ap (leave_out a) (sym same) ∙ sym is ∙ out))
 
 -- a run under forms that leave none out
-pub under_forms : (a : Attempt) (forms : List Form) (m : Meaning) (space : Space) (left : Bool) (r : Ran) → m ≡ answers_at a.env forms → space ≡ space_at forms → Runs a.program a.term a.args m → left ≡ leave_out a m → left ≡ false
-    → run a.program a.term a.args m space ≡ Some r → IsUnder a forms r
-under_forms a forms m space left r same room fits is kept runs = record {
+pub under_forms : (a : Attempt) (forms : List Form) (m : Meaning) (held : ℕ) (left : Bool) (r : Ran) → m ≡ answers_at a.env forms → held ≡ held_at forms → Runs a.program a.term a.args m → left ≡ leave_out a m → left ≡ false
+    → run a.program a.term a.args m held ≡ Some r → IsUnder a forms r
+under_forms a forms m held left r same room fits is kept runs = record {
   fits = subst (Runs a.program a.term a.args) same fits;
   given = ap (leave_out a) (sym same) ∙ sym is ∙ kept;
-  runs = ap (run a.program a.term a.args (answers_at a.env forms)) (sym room) ∙ ap (λ n. run a.program a.term a.args n space) (sym same) ∙ runs;
+  runs = ap (run a.program a.term a.args (answers_at a.env forms)) (sym room) ∙ ap (λ n. run a.program a.term a.args n held) (sym same) ∙ runs;
 }

@@ -9,7 +9,7 @@ use Rattle.isle_core.specs.declared.types.ReturnKind.TheVariants as return_kind
 use Rattle.isle_core.specs.declared.types.Term.{Term}
 use Rattle.isle_core.specs.Value.{Value, Ran}
 use Rattle.isle_core.specs.Meaning.{Meaning}
-use Rattle.isle_core.specs.Space.{Space}
+use Rattle.isle_core.specs.Space.{space_of}
 use Rattle.isle_core.specs.Cut.{cut_run}
 use Rattle.isle_core.specs.Having.{HasAnswers}
 use Rattle.isle_core.specs.Lawful.{IsLawful}
@@ -23,7 +23,7 @@ use Rattle.isle_answers.specs.Spelling.{SpellsForms}
 use Rattle.isle_run_inputs.specs.ValuesAt.{values_at}
 use Rattle.isle_run_inputs.specs.Requested.{requested_types}
 use Rattle.isle_run_inputs.specs.AnswersAt.{answers_at}
-use Rattle.isle_run_inputs.specs.Returns.{space_at}
+use Rattle.isle_run_inputs.specs.Held.{held_at}
 use Rattle.isle_tree.specs.Program.{Program}
 use Rattle.isle_outcomes.specs.Lines.{run_lines}
 use Rattle.isle_simulation.specs.Ends.{end_of}
@@ -52,26 +52,26 @@ pub record AreOutcome (env : Environment) (id : TermId) (t : Term) (args : List 
 
 -- the lines are those of results that the rules of a term prescribe which answers several times: of the first ones, as many as there is room for
 -- and at least one, and of the calls made up to the last of them, or of all if the room isn't used up
-pub record AreFirst (env : Environment) (id : TermId) (args : List Value) (m : Meaning) (space : Space) (lines : List ℕ) : Type 0 where
+pub record AreFirst (options : CodegenOptions) (env : Environment) (id : TermId) (args : List Value) (m : Meaning) (held : ℕ) (lines : List ℕ) : Type 0 where
   pub given : Given
   pub prescribed : PrescribesSeveral env m args (rules_of env id) given
-  pub shown : lines ≡ run_lines (cut_run space given)
+  pub shown : lines ≡ run_lines (cut_run (space_of options held) given)
 
 -- the lines are what the rules prescribe of a term that answers so often
-abbrev pub ArePrescribed : ReturnKind → Environment → TermId → Term → List Value → Meaning → Space → List ℕ → Type 0
-ArePrescribed return_kind.Plain env id t args m space lines = AreOutcome env id t args m lines
-ArePrescribed return_kind.Option env id t args m space lines = AreOutcome env id t args m lines
-ArePrescribed return_kind.Iterator env id t args m space lines = AreFirst env id args m space lines
+abbrev pub ArePrescribed : CodegenOptions → ReturnKind → Environment → TermId → Term → List Value → Meaning → (held : ℕ) → List ℕ → Type 0
+ArePrescribed options return_kind.Plain env id t args m held lines = AreOutcome env id t args m lines
+ArePrescribed options return_kind.Option env id t args m held lines = AreOutcome env id t args m lines
+ArePrescribed options return_kind.Iterator env id t args m held lines = AreFirst options env id args m held lines
 
--- the lines of a run of the term at these arguments, under answers, if the list of results has this space: those of the run of a program; and
+-- the lines of a run of the term at these arguments, under answers, if the list of results has this length at entry: those of the run of a program; and
 -- under every lawful meaning that has the answers what the rules prescribe
-pub record AreLines (options : CodegenOptions) (files : Files) (env : Environment) (term : List ℕ) (args : List Value) (answers : Meaning) (space : Space) (lines : List ℕ) : Type 0 where
+pub record AreLines (options : CodegenOptions) (files : Files) (env : Environment) (term : List ℕ) (args : List Value) (answers : Meaning) (held : ℕ) (lines : List ℕ) : Type 0 where
   pub program : Program
   pub ran : Ran
-  pub is_run : IsRunOf options files env term args answers space program ran
+  pub is_run : IsRunOf options files env term args answers held program ran
   pub shown : lines ≡ run_lines (shown_run env ran)
   pub means : (m : Meaning) → IsLawful env is_run.id m → HasAnswers m answers
-      → ArePrescribed (kind_of is_run.declared.kind) env is_run.id is_run.declared args m space lines
+      → ArePrescribed options (kind_of is_run.declared.kind) env is_run.id is_run.declared args m held lines
 
 -- the lines are those of a run of the source's term at the values, under the answers of the forms that a text spells
 pub record IsTrial (options : CodegenOptions) (files : Files) (term : List ℕ) (ws : Writtens) (text : List ℕ) (lines : List ℕ) : Type 0 where
@@ -80,4 +80,4 @@ pub record IsTrial (options : CodegenOptions) (files : Files) (term : List ℕ) 
   pub forms : List Form
   pub spelt : SpellsForms text forms
   pub once : (others : List Form) → SpellsForms text others → others ≡ forms
-  pub are_lines : AreLines options files env term (args_given env term ws) (answers_at env forms) (space_at forms) lines
+  pub are_lines : AreLines options files env term (args_given env term ws) (answers_at env forms) (held_at forms) lines

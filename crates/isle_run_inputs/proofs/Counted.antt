@@ -6,7 +6,7 @@ use Rattle.isle_core.specs.declared.values.Value.{Value as CodeValue}
 use Rattle.isle_core.specs.declared.values.PureAnswers.{PureAnswers as CodePureAnswers}
 use Rattle.isle_core.specs.declared.values.TurnAnswers.{TurnAnswers as CodeTurnAnswers}
 use Rattle.isle_core.specs.ValueViews.{const, pure_answers, turn_answers}
-use Rattle.isle_answers.specs.Form.{Form, Held, Max, Const, Answers, Turns}
+use Rattle.isle_answers.specs.Form.{Form, Held, Const, Answers, Turns}
 use Rattle.isle_answers.specs.declared.form.Form.{Form as CodeForm}
 use Rattle.isle_answers.specs.Views.{form_seen, forms_seen}
 use Rattle.isle_run_inputs.specs.AnswersAt.{constants_at, cases_at, turns_at}
@@ -14,7 +14,6 @@ use Rattle.isle_run_inputs.specs.AnswersAt.{constants_at, cases_at, turns_at}
 at_most : (env : Environment) (forms : List Form) → length (constants_at env forms) + length (cases_at env forms) + length (turns_at env forms) ≤ length forms
 at_most env [] = omega arith
 at_most env (Held count at ∷ forms) = let h = at_most env forms in omega (arith, h)
-at_most env (Max count at ∷ forms) = let h = at_most env forms in omega (arith, h)
 at_most env (Const name v at ∷ forms) = let h = at_most env forms in omega (arith, h)
 at_most env (Answers callee cases rest at ∷ forms) = let h = at_most env forms in omega (arith, h)
 at_most env (Turns callee turns rest at ∷ forms) = let h = at_most env forms in omega (arith, h)

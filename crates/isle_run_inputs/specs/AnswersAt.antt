@@ -6,7 +6,7 @@ use Rattle.isle_core.specs.Rule.{Environment}
 use Rattle.isle_core.specs.Value.{Answer}
 use Rattle.isle_core.specs.Value as value
 use Rattle.isle_core.specs.Meaning.{PureAnswers, TurnAnswers, Meaning}
-use Rattle.isle_answers.specs.Form.{ResultForm, One, Tuple, AnswerForm, Plain, Found, Nothing, Several, CaseForm, Form, Held, Max, Const, Answers, Turns}
+use Rattle.isle_answers.specs.Form.{ResultForm, One, Tuple, AnswerForm, Plain, Found, Nothing, Several, CaseForm, Form, Held, Const, Answers, Turns}
 use Rattle.isle_values.specs.Views.{in_order}
 use Rattle.isle_values.specs.Written.{Written}
 use Rattle.isle_run_inputs.specs.ValuesAt.{misfit, value_at_any, values_at}
@@ -52,7 +52,6 @@ abbrev pub turns_at : Environment → List Form → List TurnAnswers
 turns_at env [] = []
 turns_at env (Turns callee turns rest at ∷ forms) = turns_by env (answer_type env callee) callee turns rest ∷ turns_at env forms
 turns_at env (Held count at ∷ forms) = turns_at env forms
-turns_at env (Max count at ∷ forms) = turns_at env forms
 turns_at env (Const name v at ∷ forms) = turns_at env forms
 turns_at env (Answers callee cases rest at ∷ forms) = turns_at env forms
 
@@ -71,7 +70,6 @@ abbrev pub cases_at : Environment → List Form → List PureAnswers
 cases_at env [] = []
 cases_at env (Answers callee cases rest at ∷ forms) = cases_by env (asked_as env callee) callee cases rest ∷ cases_at env forms
 cases_at env (Held count at ∷ forms) = cases_at env forms
-cases_at env (Max count at ∷ forms) = cases_at env forms
 cases_at env (Const name v at ∷ forms) = cases_at env forms
 cases_at env (Turns callee turns rest at ∷ forms) = cases_at env forms
 
@@ -80,7 +78,6 @@ abbrev pub constants_at : Environment → List Form → List (List ℕ × value.
 constants_at env [] = []
 constants_at env (Const name v at ∷ forms) = (name, value_at_any env (constant_type env name) v) ∷ constants_at env forms
 constants_at env (Held count at ∷ forms) = constants_at env forms
-constants_at env (Max count at ∷ forms) = constants_at env forms
 constants_at env (Answers callee cases rest at ∷ forms) = constants_at env forms
 constants_at env (Turns callee turns rest at ∷ forms) = constants_at env forms
 

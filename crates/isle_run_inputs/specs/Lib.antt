@@ -4,7 +4,7 @@ pub mod VariantFields
 pub mod ValuesAt
 pub mod Requested
 pub mod Asked
-pub mod Returns
+pub mod Held
 pub mod AnswersAt
 pub mod AnswerTypes
 pub mod AskedFunctions

@@ -1,32 +1,28 @@
 -- The places of forms, by the numbers that a run counts them with.
 use Rattle.std.specs.Prelude.{ℕ, zero, suc, List, [], ◌∷◌, ◌++◌, Bool, true, false, filter, Result, Ok, Err}
-use Rattle.isle_answers.specs.Form.{Form, Held, Max, Const, Answers, Turns}
+use Rattle.isle_answers.specs.Form.{Form, Held, Const, Answers, Turns}
 use Rattle.isle_run_inputs.specs.declared.places.Counted.{Counted}
 use Rattle.isle_run_inputs.specs.declared.places.Counted.TheVariants as counted
 
 -- where a form begins
 abbrev pub place_of : Form → ℕ
 place_of (Held count at) = at
-place_of (Max count at) = at
 place_of (Const name v at) = at
 place_of (Answers callee cases rest at) = at
 place_of (Turns callee turns rest at) = at
 
--- a form of the kind; what is held at entry and the limit of results are of none
+-- a form of the kind; what is held at entry is of none
 abbrev pub is_of : Counted → Form → Bool
 is_of counted.Constants (Const name v at) = true
 is_of counted.Cases (Answers callee cases rest at) = true
 is_of counted.Turns (Turns callee turns rest at) = true
 is_of counted.Constants (Held count at) = false
-is_of counted.Constants (Max count at) = false
 is_of counted.Constants (Answers callee cases rest at) = false
 is_of counted.Constants (Turns callee turns rest at) = false
 is_of counted.Cases (Held count at) = false
-is_of counted.Cases (Max count at) = false
 is_of counted.Cases (Const name v at) = false
 is_of counted.Cases (Turns callee turns rest at) = false
 is_of counted.Turns (Held count at) = false
-is_of counted.Turns (Max count at) = false
 is_of counted.Turns (Const name v at) = false
 is_of counted.Turns (Answers callee cases rest at) = false
 

@@ -109,7 +109,7 @@ fn cases_of(
             let cases = cases_by(alloc, makers, asked, callee, cases.as_slice(), rest)?;
             Ok(Some(cases))
         }
-        Form::Held { .. } | Form::Max { .. } | Form::Const { .. } | Form::Turns { .. } => Ok(None),
+        Form::Held { .. } | Form::Const { .. } | Form::Turns { .. } => Ok(None),
     }
 }
 

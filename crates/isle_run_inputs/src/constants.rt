@@ -35,9 +35,7 @@ fn constant_of(
             let value = value_at_any(alloc, makers, ty, value)?;
             Ok(Some((Text::copied(alloc, name.as_str())?, value)))
         }
-        Form::Held { .. } | Form::Max { .. } | Form::Answers { .. } | Form::Turns { .. } => Ok(
-            None,
-        ),
+        Form::Held { .. } | Form::Answers { .. } | Form::Turns { .. } => Ok(None),
     }
 }
 

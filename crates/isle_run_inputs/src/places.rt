@@ -21,7 +21,6 @@ fn place_of(form: &Form) -> usize
 {
     match form {
         Form::Held { at, .. }
-        | Form::Max { at, .. }
         | Form::Const { at, .. }
         | Form::Answers { at, .. }
         | Form::Turns { at, .. } => *at,
@@ -33,7 +32,7 @@ fn is_of(kind: Counted, form: &Form) -> bool
     ensures { result ≡ is_of kind (form_seen form.now) }
 {
     match form {
-        Form::Held { .. } | Form::Max { .. } => false,
+        Form::Held { .. } => false,
         Form::Const { .. } => matches!(kind, Counted::Constants),
         Form::Answers { .. } => matches!(kind, Counted::Cases),
         Form::Turns { .. } => matches!(kind, Counted::Turns),

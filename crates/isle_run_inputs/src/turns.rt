@@ -90,9 +90,7 @@ fn turns_of(
             let turns = turns_by(alloc, makers, ty, callee, turns.as_slice(), rest)?;
             Ok(Some(turns))
         }
-        Form::Held { .. } | Form::Max { .. } | Form::Const { .. } | Form::Answers { .. } => Ok(
-            None,
-        ),
+        Form::Held { .. } | Form::Const { .. } | Form::Answers { .. } => Ok(None),
     }
 }
 

@@ -23,7 +23,7 @@ pub same_state : (old mid : Frame) → mid.calls ≡ old.calls → mid.given.ite
 same_state old mid calls given = ap (λ (c : Called). record { made = map made c.made; given = values mid.given.items }) calls ∙ ap (λ vs. record { made = map made old.calls.made; given = values vs }) given
 
 pub same_around : (w : CodeAround) (old mid : Frame) → mid.calls.answers ≡ old.calls.answers → within w mid ≡ within w old
-same_around w old mid same = ap (λ (a : Answers). record { caller = by_meaning (meaning a); meaning = meaning a; program = program w.program.now; function = function w.function.now; args = values w.args.now; limit = Some w.room }) same
+same_around w old mid same = ap (λ (a : Answers). record { caller = by_meaning (meaning a); meaning = meaning a; program = program w.program.now; function = function w.function.now; args = values w.args.now; held = Some w.held }) same
 
 -- what was bound after these locals is cut off
 pub cut_back : (old mid after : Frame) (len : ℕ) (ls : List (ℕ × Holding)) → Follows old mid → Follows mid after → len ≡ length old.locals → ls ≡ take len after.locals → ls ≡ old.locals

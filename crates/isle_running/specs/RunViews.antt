@@ -40,7 +40,7 @@ locals = map local
 
 -- ---- a run
 
--- what a function runs in, with what its calls are answered, and the room for its results
+-- what a function runs in, with what its calls are answered, and how long its list of results is at entry
 abbrev pub within : CodeAround → Frame → Around
 within w f = record {
   caller = by_meaning (meaning f.calls.answers);
@@ -48,7 +48,7 @@ within w f = record {
   program = program w.program.now;
   function = function w.function.now;
   args = values w.args.now;
-  limit = Some w.room;
+  held = Some w.held;
 }
 
 -- the calls made, and the results given

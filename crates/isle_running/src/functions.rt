@@ -1,9 +1,8 @@
 //! The run of a function.
 
 ghost use Rattle.std.specs.Prelude.{◌≡◌, IfOk, Some, option_map};
-ghost use Rattle.isle_core.specs.Space.{room};
 ghost use Rattle.isle_core.specs.Value.{GivesList};
-ghost use Rattle.isle_core.specs.ValueViews.{values, meaning, space, ran};
+ghost use Rattle.isle_core.specs.ValueViews.{values, meaning, ran};
 ghost use Rattle.isle_tree.specs.Run.{ended, runs_out, function_run};
 ghost use Rattle.isle_tree.specs.Views.{function, program};
 ghost use Rattle.isle_running.specs.RunViews.{flow, state};
@@ -55,13 +54,6 @@ fn outcome(of: ReturnKind, end: Flow, frame: Frame<'_>) -> Option<Outcome>
     }
 }
 
-// How many results there is room for.
-fn room(answers: &Answers) -> usize
-    ensures { result ≡ room (space answers.now) }
-{
-    answers.max_returns.saturating_sub(answers.held)
-}
-
 /// Runs a function, where it has a run. The only error is want of memory.
 pub fn run_function(
     alloc: Global,
@@ -71,14 +63,14 @@ pub fn run_function(
     answers: &Answers,
 ) -> Result<Option<Outcome>, AllocError>
     ensures { IfOk result (λ o. option_map ran o ≡
-        function_run (program p.now) (meaning answers.now) (space answers.now) (values args.now)
+        function_run (program p.now) (meaning answers.now) answers.now.held (values args.now)
         (Some (function f.now))) }
 {
     let around = Around {
         program: p,
         function: f,
         args,
-        room: room(answers),
+        held: answers.held,
     };
     let calls = Calls::new(alloc, answers)?;
     let locals = Table::new(alloc);

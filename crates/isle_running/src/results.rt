@@ -3,6 +3,7 @@
 ghost use Rattle.std.specs.Prelude.{◌≡◌, IfOk, OnOk, if◌then◌else◌};
 ghost use Rattle.isle_tree.specs.Run as run;
 ghost use Rattle.isle_running.specs.RunViews.{held, locals, state, flow};
+ghost use Rattle.isle_running.specs.declared.frame.Frame.{Frame};
 ghost use Rattle.isle_running.specs.Frames.{Follows};
 ghost use Rattle.isle_running.specs.Steps.{RunsSo};
 
@@ -30,14 +31,36 @@ pub fn run_extend(frame: &mut Frame<'_>, holding: Holding) -> Result<Flow, Alloc
     }
 }
 
-/// Stops where there is no room for another result.
-pub fn run_overflow(around: &Around<'_>, frame: &Frame<'_>, inside: bool) -> Flow
+// Leaves the closure around, or else ends the function with the results given.
+fn stops(inside: bool) -> Flow
+    ensures { (frame : Frame) → run.stops inside (state frame) ≡ flow result frame }
+{
+    if inside { Flow::Leaves } else { Flow::Full }
+}
+
+/// Stops if the list of results has reached the limit.
+pub fn run_overflow(around: &Around<'_>, frame: &Frame<'_>, inside: bool, limit: usize) -> Flow
     ensures { RunsSo
-        (λ w env s. if run.is_full w.limit s.given then run.stops inside s else run.Goes env s)
+        (λ w env s. if run.is_full w.held limit s.given then run.stops inside s else run.Goes env s)
         around.now frame.now frame.now result }
 {
-    if frame.given.len() < around.room {
-        return Flow::Goes;
+    if limit.saturating_sub(around.held) <= frame.given.len() {
+        stops(inside)
+    } else {
+        Flow::Goes
     }
-    if inside { Flow::Leaves } else { Flow::Full }
+}
+
+/// What follows a closure that ended so: it goes on, or stops if the closure was left.
+pub fn after_closure(end: Flow, inside: bool) -> Flow
+    ensures { (frame : Frame)
+        → run.after_closure inside (locals frame.locals) (flow end frame) ≡ flow result frame }
+{
+    match end {
+        Flow::Goes => Flow::Goes,
+        Flow::Ends(end) => Flow::Ends(end),
+        Flow::Full => Flow::Full,
+        Flow::Leaves => stops(inside),
+        Flow::Stuck => Flow::Stuck,
+    }
 }

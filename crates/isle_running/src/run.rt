@@ -19,7 +19,7 @@ use crate::holding::{Holding, Item, is_equal, value_in};
 use crate::lets::{run_call, run_let};
 use crate::lists::{item_at, list_len};
 use crate::reading::{read_value, value_of};
-use crate::results::{run_extend, run_overflow};
+use crate::results::{after_closure, run_extend, run_overflow};
 use isle_core::{End, Value};
 use isle_tree::{Operand, Stmt, TExpr, TPat};
 use std::alloc::{AllocError, Global};
@@ -153,9 +153,12 @@ fn run_stmt(
             let holding = read_value(alloc, around, frame, read)?;
             run_extend(frame, holding)
         }
-        Stmt::Overflow { inside } => Ok(run_overflow(around, frame, *inside)),
+        Stmt::Overflow { inside, limit } => Ok(run_overflow(around, frame, *inside, *limit)),
         Stmt::Log { .. } => Ok(Flow::Goes),
-        Stmt::Split { .. } => Ok(Flow::Stuck),
+        Stmt::Split { body, inside } => {
+            let end = run_inside(alloc, around, body.as_slice(), frame)?;
+            Ok(after_closure(end, *inside))
+        }
     }
 }
 

@@ -37,6 +37,8 @@ use Rattle.isle_simulation.proofs.Made.{callee_made, extractor_made}
 use Rattle.isle_simulation.proofs.MadeStatements.{EachMade, Anything, any_tested, block_holds}
 use Rattle.isle_simulation.proofs.Ready.{IsReadyBind}
 use Rattle.isle_simulation.proofs.Written.{arm_stmt, block_body, bound_expr, bound_stmt, callee_of, call_expr, extraction_expr, made_expr, result_stmt, written_read, written_body, logged_function}
+use Rattle.isle_simulation.proofs.Closed.{Closes}
+use Rattle.isle_simulation.proofs.ClosedLaws.{IsOpen, closed_of}
 use Rattle.isle_simulation.proofs.LoggedLaws.{IsOwn, logged_of}
 use Rattle.isle_tree.specs.declared.tree.TExpr.{TExpr}
 use Rattle.isle_simulation.proofs.LocalStmts.{local_by}
@@ -114,7 +116,8 @@ calls_made : (s : Setting) → EachMade own_calls (IsBoundCall s.env s.bindings)
 calls_made s = record {
   bound = bound_calls;
   result = λ locals result h. result_calls (kind_of s.term.kind) (written_read s locals false result);
-  stop = λ inside. tt;
+  stop = λ inside limit. tt;
+  split = λ inside within. tt;
   log = λ line. tt;
   equal = λ locals a b ty inside h k. tt;
   arm = λ locals source over c places inside h is k w. arm_calls locals source c places inside;
@@ -149,13 +152,16 @@ tail_calls P (Some mark) false = tt
 calls_own : IsOwn own_calls
 calls_own = record { if_eq = λ a b x y. refl; if_let = λ pat r x y. refl; arms = λ r x y. refl; loop = λ list item x y. refl; split = λ within x y. refl; log = λ term place. refl }
 
+calls_open : IsOpen own_calls
+calls_open = record { if_eq = λ a b x y. refl; if_let = λ pat r x y. refl; arms = λ r x y. refl; loop = λ list item x y. refl; split = λ b inside. refl; stop = λ inside limit. refl }
+
 -- each call of a term's function is among the bindings of its block
 pub written_calls : (options : CodegenOptions) (files : Files) (env : Environment) (t : Term) (bs : List Binding) (b : Block) (callee : Callee) → IsLawfulBlock (setting env t bs) b
-    → Contains (body_calls (logged_function options files env t bs b).body) callee → IsBoundCall env bs callee
-written_calls options files env t bs b callee h c =
+    → (written : Body) → Closes (kind_of t.kind) false (logged_function options files env t bs b).body written → Contains (body_calls written) callee → IsBoundCall env bs callee
+written_calls options files env t bs b callee h written closes c =
     let s = setting env t bs in
     let d = completed s [] b in
     let end = tail_in files env t b in
-    all_each (IsBoundCall env bs) (body_calls (block_body s [] d end)) callee
-    (block_holds own_calls (IsBoundCall env bs) s Anything (calls_made s) bare_manner d [] [] end (completed_ready s b h) (any_tested d) (tail_calls (IsBoundCall env bs) (mark_in files env t) (ends_in_return b)))
-    (subst (λ cs. Contains cs callee) (logged_of own_calls calls_own (written_body files env t bs b) (log_lines options files s b)) c)
+    all_each (IsBoundCall env bs) (body_calls (block_body options.max_returns s [] d end)) callee
+    (block_holds own_calls (IsBoundCall env bs) s Anything (calls_made s) (bare_manner options.max_returns) d [] [] end (completed_ready s b h) (any_tested d) (tail_calls (IsBoundCall env bs) (mark_in files env t) (ends_in_return b)))
+    (subst (λ cs. Contains cs callee) (closed_of (kind_of t.kind) own_calls calls_open closes ∙ logged_of own_calls calls_own (written_body options files env t bs b) (log_lines options files s b)) c)

@@ -43,19 +43,19 @@ last_fits return_kind.Option once r = tt
 last_fits return_kind.Iterator once r = absurd once
 
 -- a stop stands where several results are given
-stop_fits : (kind : ReturnKind) (c : Control) (after : Body) → FitsBody kind false after → FitsBody kind false (stop_before false (is_several kind) c after)
-stop_fits return_kind.Plain c after h = h
-stop_fits return_kind.Option c after h = h
-stop_fits return_kind.Iterator (block.Return pos result) after h = ((tt, refl), h)
-stop_fits return_kind.Iterator (block.Match source arms) after h = h
-stop_fits return_kind.Iterator (block.Equal a b body) after h = h
-stop_fits return_kind.Iterator (block.Loop result body) after h = h
+stop_fits : (limit : ℕ) (kind : ReturnKind) (c : Control) (after : Body) → FitsBody kind false after → FitsBody kind false (stop_before (bare_manner limit) (is_several kind) c after)
+stop_fits limit return_kind.Plain c after h = h
+stop_fits limit return_kind.Option c after h = h
+stop_fits limit return_kind.Iterator (block.Return pos result) after h = ((tt, refl), h)
+stop_fits limit return_kind.Iterator (block.Match source arms) after h = h
+stop_fits limit return_kind.Iterator (block.Equal a b body) after h = h
+stop_fits limit return_kind.Iterator (block.Loop result body) after h = h
 
 -- and in no other function
-no_stop : (kind : ReturnKind) → AnswersOnce kind → (c : Control) (after : Body) → stop_before false (is_several kind) c after ≡ after
-no_stop return_kind.Plain once c after = refl
-no_stop return_kind.Option once c after = refl
-no_stop return_kind.Iterator once c after = absurd once
+no_stop : (limit : ℕ) (kind : ReturnKind) → AnswersOnce kind → (c : Control) (after : Body) → stop_before (bare_manner limit) (is_several kind) c after ≡ after
+no_stop limit return_kind.Plain once c after = refl
+no_stop limit return_kind.Option once c after = refl
+no_stop limit return_kind.Iterator once c after = absurd once
 
 option_kind : (kind : ReturnKind) → may_be_nothing kind ≡ true → kind ≡ return_kind.Option
 option_kind return_kind.Plain e = cc
@@ -111,26 +111,6 @@ arm_fits s bound source (constraint.Variant ty variant) places inside h = h
 arm_fits s bound source (constraint.Struct ty) places inside h = h
 arm_fits s bound source constraint.Some places inside h = h
 
-mutual
-  block_fits : (b : Block) (s : Setting) (bound made : List ℕ) → IsReadyFrom s bound made b → FitsBody (kind_of s.term.kind) false (block_body s bound b Done)
-  block_fits Stop s bound made k = tt
-  block_fits (Step binds c more) s bound made k =
-      lets_fit s bound binds (Then (control_stmt s (bound_by bound binds) c) (stop_before false (gives_several s) c (block_body s (bound_by bound binds) more Done))) k.0
-      (control_fits c s (bound_by bound binds) _ k.2, stop_fits (kind_of s.term.kind) c _ (block_fits more s (bound_by bound binds) _ k.3))
-
-  control_fits : (c : Control) (s : Setting) (bound made : List ℕ) → IsReadyControl s bound made c → FitsStmt (kind_of s.term.kind) false (control_stmt s bound c)
-  control_fits (block.Match source (block.Arm c places body block.NoArm)) s bound made k = arm_fits s bound source c places (block_body s (bound_within bound places) body Done) (block_fits body s (bound_within bound places) made k.1.2.2)
-  control_fits (block.Match source (block.Arm c places body (block.Arm d others inside arms))) s bound made k = each_fits (block.Arm c places body (block.Arm d others inside arms)) s bound made source k.1.0 k.1.2
-  control_fits (block.Match source block.NoArm) s bound made k = absurd k.0
-  control_fits (block.Equal x y body) s bound made k = block_fits body s bound made k.1
-  control_fits (block.Loop result body) s bound made k = block_fits body s (bound ++ result.0 ∷ []) made k.1
-  control_fits (block.Return pos result) s bound made k = result_fits (kind_of s.term.kind) (written_read s bound false result)
-
-  -- each of several arms
-  each_fits : (arms : block.Arms) (s : Setting) (bound made : List ℕ) (source : BindingId) (over : Source) → AreReadyArms s bound made source over arms → FitsArms (kind_of s.term.kind) false (told_each bare_manner s bound arms)
-  each_fits block.NoArm s bound made source over k = tt
-  each_fits (block.Arm c places body arms) s bound made source over k = (block_fits body s (bound_within bound places) made k.2, each_fits arms s bound made source over k.3)
-
 -- ---- a whole function
 
 -- a statement more before the last
@@ -143,31 +123,6 @@ lets_before s bound [] more k h = h
 lets_before s bound (b ∷ binds) more k h =
     fits_more (kind_of s.term.kind) (bound_stmt s bound b) (lets s (bound ++ b.0 ∷ []) binds more)
     (stmt_fits s bound b k.0) (lets_before s (bound ++ b.0 ∷ []) binds more k.1 h)
-
--- a block before an end that fits
-block_before : (b : Block) (s : Setting) → AnswersOnce (kind_of s.term.kind) → (bound made : List ℕ) (end : Body) → IsReadyFrom s bound made b → FitsEnding (kind_of s.term.kind) end → FitsEnding (kind_of s.term.kind) (block_body s bound b end)
-block_before Stop s once bound made end k h = h
-block_before (Step binds c more) s once bound made end k h =
-    let after = block_body s (bound_by bound binds) more end in
-    lets_before s bound binds (Then (control_stmt s (bound_by bound binds) c) (stop_before false (gives_several s) c after)) k.0
-    (subst (λ x. FitsEnding (kind_of s.term.kind) (Then (control_stmt s (bound_by bound binds) c) x)) (sym (no_stop (kind_of s.term.kind) once c after))
-    (fits_more (kind_of s.term.kind) (control_stmt s (bound_by bound binds) c) after (control_fits c s (bound_by bound binds) _ k.2) (block_before more s once (bound_by bound binds) _ end k.3 h)))
-
--- a block whose last step is a Return
-return_last : (b : Block) (s : Setting) → AnswersOnce (kind_of s.term.kind) → (bound made : List ℕ) → IsReadyFrom s bound made b → ends_in_return b ≡ true → FitsEnding (kind_of s.term.kind) (block_body s bound b Done)
-return_last Stop s once bound made k e = cc
-return_last (Step binds (block.Return pos result) Stop) s once bound made k e =
-    lets_before s bound binds (Then (control_stmt s (bound_by bound binds) (block.Return pos result)) (stop_before false (gives_several s) (block.Return pos result) Done)) k.0
-    (subst (λ x. FitsEnding (kind_of s.term.kind) (Then (control_stmt s (bound_by bound binds) (block.Return pos result)) x)) (sym (no_stop (kind_of s.term.kind) once (block.Return pos result) Done))
-    (last_fits (kind_of s.term.kind) once (written_read s (bound_by bound binds) false result)))
-return_last (Step binds (block.Match source arms) Stop) s once bound made k e = cc
-return_last (Step binds (block.Equal x y body) Stop) s once bound made k e = cc
-return_last (Step binds (block.Loop result body) Stop) s once bound made k e = cc
-return_last (Step binds c (Step ds d more)) s once bound made k e =
-    let after = block_body s (bound_by bound binds) (Step ds d more) Done in
-    lets_before s bound binds (Then (control_stmt s (bound_by bound binds) c) (stop_before false (gives_several s) c after)) k.0
-    (subst (λ x. FitsEnding (kind_of s.term.kind) (Then (control_stmt s (bound_by bound binds) c) x)) (sym (no_stop (kind_of s.term.kind) once c after))
-    (fits_more (kind_of s.term.kind) (control_stmt s (bound_by bound binds) c) after (control_fits c s (bound_by bound binds) _ k.2) (return_last (Step ds d more) s once (bound_by bound binds) _ k.3 e)))
 
 tail_fits : (kind : ReturnKind) → AnswersOnce kind → (name place : List ℕ) → FitsEnding kind (tail_body (mark_of kind name place))
 tail_fits return_kind.Plain once name place = tt
@@ -195,27 +150,73 @@ by_kind return_kind.Plain = inl tt
 by_kind return_kind.Option = inl tt
 by_kind return_kind.Iterator = inr refl
 
--- a completed block with the tail of its kind
-pub function_fits : (b : Block) (s : Setting) (name place : List ℕ) → IsReadyFrom s [] [] (completed s [] b)
-    → FitsFunction (kind_of s.term.kind) (block_body s [] (completed s [] b) (tail_of (kind_of s.term.kind) name place b))
-function_fits b s name place k =
-    let c = completed s [] b in
-    ⊎_elim (λ once. ending_fits (kind_of s.term.kind) once _ (one once (ends_in_return b) refl))
-    (λ several. subst (λ x. FitsFunction (kind_of s.term.kind) (block_body s [] c x)) (sym (none_behind (kind_of s.term.kind) several (ends_in_return b))) (list_fits (kind_of s.term.kind) several _ (block_fits c s [] [] k)))
-    (by_kind (kind_of s.term.kind))
-  where
-    one : AnswersOnce (kind_of s.term.kind) → (x : Bool) → ends_in_return b ≡ x → FitsEnding (kind_of s.term.kind) (block_body s [] (completed s [] b) (tail_of (kind_of s.term.kind) name place b))
-    one once true is = rw is (return_last (completed s [] b) s once [] [] k (rw (completed_ends b s []) is))
-    one once false is = rw is (block_before (completed s [] b) s once [] [] _ k (tail_fits (kind_of s.term.kind) once name place))
+module _ (limit : ℕ) where
+  mutual
+    block_fits : (b : Block) (s : Setting) (bound made : List ℕ) → IsReadyFrom s bound made b → FitsBody (kind_of s.term.kind) false (block_body limit s bound b Done)
+    block_fits Stop s bound made k = tt
+    block_fits (Step binds c more) s bound made k =
+        lets_fit s bound binds (Then (control_stmt limit s (bound_by bound binds) c) (stop_before (bare_manner limit) (gives_several s) c (block_body limit s (bound_by bound binds) more Done))) k.0
+        (control_fits c s (bound_by bound binds) _ k.2, stop_fits limit (kind_of s.term.kind) c _ (block_fits more s (bound_by bound binds) _ k.3))
 
-    -- if several results are given there is no tail
-    none_behind : (kind : ReturnKind) → kind ≡ return_kind.Iterator → (x : Bool) → cond x Done (tail_body (mark_of kind name place)) ≡ Done
-    none_behind return_kind.Iterator e true = refl
-    none_behind return_kind.Iterator e false = refl
-    none_behind return_kind.Plain e x = cc
-    none_behind return_kind.Option e x = cc
+    control_fits : (c : Control) (s : Setting) (bound made : List ℕ) → IsReadyControl s bound made c → FitsStmt (kind_of s.term.kind) false (control_stmt limit s bound c)
+    control_fits (block.Match source (block.Arm c places body block.NoArm)) s bound made k = arm_fits s bound source c places (block_body limit s (bound_within bound places) body Done) (block_fits body s (bound_within bound places) made k.1.2.2)
+    control_fits (block.Match source (block.Arm c places body (block.Arm d others inside arms))) s bound made k = each_fits (block.Arm c places body (block.Arm d others inside arms)) s bound made source k.1.0 k.1.2
+    control_fits (block.Match source block.NoArm) s bound made k = absurd k.0
+    control_fits (block.Equal x y body) s bound made k = block_fits body s bound made k.1
+    control_fits (block.Loop result body) s bound made k = block_fits body s (bound ++ result.0 ∷ []) made k.1
+    control_fits (block.Return pos result) s bound made k = result_fits (kind_of s.term.kind) (written_read s bound false result)
 
-    list_fits : (kind : ReturnKind) → kind ≡ return_kind.Iterator → (body : Body) → FitsBody kind false body → FitsFunction kind body
-    list_fits return_kind.Iterator e body h = h
-    list_fits return_kind.Plain e body h = cc
-    list_fits return_kind.Option e body h = cc
+    -- each of several arms
+    each_fits : (arms : block.Arms) (s : Setting) (bound made : List ℕ) (source : BindingId) (over : Source) → AreReadyArms s bound made source over arms → FitsArms (kind_of s.term.kind) false (told_each (bare_manner limit) s bound arms)
+    each_fits block.NoArm s bound made source over k = tt
+    each_fits (block.Arm c places body arms) s bound made source over k = (block_fits body s (bound_within bound places) made k.2, each_fits arms s bound made source over k.3)
+
+  -- a block before an end that fits
+  block_before : (b : Block) (s : Setting) → AnswersOnce (kind_of s.term.kind) → (bound made : List ℕ) (end : Body) → IsReadyFrom s bound made b → FitsEnding (kind_of s.term.kind) end → FitsEnding (kind_of s.term.kind) (block_body limit s bound b end)
+  block_before Stop s once bound made end k h = h
+  block_before (Step binds c more) s once bound made end k h =
+      let after = block_body limit s (bound_by bound binds) more end in
+      lets_before s bound binds (Then (control_stmt limit s (bound_by bound binds) c) (stop_before (bare_manner limit) (gives_several s) c after)) k.0
+      (subst (λ x. FitsEnding (kind_of s.term.kind) (Then (control_stmt limit s (bound_by bound binds) c) x)) (sym (no_stop limit (kind_of s.term.kind) once c after))
+      (fits_more (kind_of s.term.kind) (control_stmt limit s (bound_by bound binds) c) after (control_fits c s (bound_by bound binds) _ k.2) (block_before more s once (bound_by bound binds) _ end k.3 h)))
+
+  -- a block whose last step is a Return
+  return_last : (b : Block) (s : Setting) → AnswersOnce (kind_of s.term.kind) → (bound made : List ℕ) → IsReadyFrom s bound made b → ends_in_return b ≡ true → FitsEnding (kind_of s.term.kind) (block_body limit s bound b Done)
+  return_last Stop s once bound made k e = cc
+  return_last (Step binds (block.Return pos result) Stop) s once bound made k e =
+      lets_before s bound binds (Then (control_stmt limit s (bound_by bound binds) (block.Return pos result)) (stop_before (bare_manner limit) (gives_several s) (block.Return pos result) Done)) k.0
+      (subst (λ x. FitsEnding (kind_of s.term.kind) (Then (control_stmt limit s (bound_by bound binds) (block.Return pos result)) x)) (sym (no_stop limit (kind_of s.term.kind) once (block.Return pos result) Done))
+      (last_fits (kind_of s.term.kind) once (written_read s (bound_by bound binds) false result)))
+  return_last (Step binds (block.Match source arms) Stop) s once bound made k e = cc
+  return_last (Step binds (block.Equal x y body) Stop) s once bound made k e = cc
+  return_last (Step binds (block.Loop result body) Stop) s once bound made k e = cc
+  return_last (Step binds c (Step ds d more)) s once bound made k e =
+      let after = block_body limit s (bound_by bound binds) (Step ds d more) Done in
+      lets_before s bound binds (Then (control_stmt limit s (bound_by bound binds) c) (stop_before (bare_manner limit) (gives_several s) c after)) k.0
+      (subst (λ x. FitsEnding (kind_of s.term.kind) (Then (control_stmt limit s (bound_by bound binds) c) x)) (sym (no_stop limit (kind_of s.term.kind) once c after))
+      (fits_more (kind_of s.term.kind) (control_stmt limit s (bound_by bound binds) c) after (control_fits c s (bound_by bound binds) _ k.2) (return_last (Step ds d more) s once (bound_by bound binds) _ k.3 e)))
+
+  -- a completed block with the tail of its kind
+  pub function_fits : (b : Block) (s : Setting) (name place : List ℕ) → IsReadyFrom s [] [] (completed s [] b)
+      → FitsFunction (kind_of s.term.kind) (block_body limit s [] (completed s [] b) (tail_of (kind_of s.term.kind) name place b))
+  function_fits b s name place k =
+      let c = completed s [] b in
+      ⊎_elim (λ once. ending_fits (kind_of s.term.kind) once _ (one once (ends_in_return b) refl))
+      (λ several. subst (λ x. FitsFunction (kind_of s.term.kind) (block_body limit s [] c x)) (sym (none_behind (kind_of s.term.kind) several (ends_in_return b))) (list_fits (kind_of s.term.kind) several _ (block_fits c s [] [] k)))
+      (by_kind (kind_of s.term.kind))
+    where
+      one : AnswersOnce (kind_of s.term.kind) → (x : Bool) → ends_in_return b ≡ x → FitsEnding (kind_of s.term.kind) (block_body limit s [] (completed s [] b) (tail_of (kind_of s.term.kind) name place b))
+      one once true is = rw is (return_last (completed s [] b) s once [] [] k (rw (completed_ends b s []) is))
+      one once false is = rw is (block_before (completed s [] b) s once [] [] _ k (tail_fits (kind_of s.term.kind) once name place))
+
+      -- if several results are given there is no tail
+      none_behind : (kind : ReturnKind) → kind ≡ return_kind.Iterator → (x : Bool) → cond x Done (tail_body (mark_of kind name place)) ≡ Done
+      none_behind return_kind.Iterator e true = refl
+      none_behind return_kind.Iterator e false = refl
+      none_behind return_kind.Plain e x = cc
+      none_behind return_kind.Option e x = cc
+
+      list_fits : (kind : ReturnKind) → kind ≡ return_kind.Iterator → (body : Body) → FitsBody kind false body → FitsFunction kind body
+      list_fits return_kind.Iterator e body h = h
+      list_fits return_kind.Plain e body h = cc
+      list_fits return_kind.Option e body h = cc

@@ -144,12 +144,12 @@ result_is return_kind.Plain r h = h
 result_is return_kind.Option r h = h
 result_is return_kind.Iterator r h = h
 
-stop_is : (several : Bool) (c : Control) (after : Body) → IsBody after → IsBody (stop_before false several c after)
-stop_is true (block.Return place result) after h = (tt, h)
-stop_is true (block.Match source arms) after h = h
-stop_is true (block.Equal a b body) after h = h
-stop_is true (block.Loop result body) after h = h
-stop_is false c after h = h
+stop_is : (limit : ℕ) (several : Bool) (c : Control) (after : Body) → IsBody after → IsBody (stop_before (bare_manner limit) several c after)
+stop_is limit true (block.Return place result) after h = (tt, h)
+stop_is limit true (block.Match source arms) after h = h
+stop_is limit true (block.Equal a b body) after h = h
+stop_is limit true (block.Loop result body) after h = h
+stop_is limit false c after h = h
 
 local_is : (often : Bool) (n : ℕ) (e : TExpr) → IsExpr e → IsStmt (local_stmt often n e)
 local_is often n e h = local_by IsStmt often n e h (λ borrow call is. subst IsExpr is h)
@@ -251,50 +251,51 @@ match_is s bound source (AnOption tys) (constraint.ConstPrim val) names ready is
 match_is s bound source (AnOption tys) (constraint.Variant of variant) names ready is = cc
 match_is s bound source (AnOption tys) (constraint.Struct of) names ready is = cc
 
--- ---- blocks
+module _ (limit : ℕ) where
+  -- ---- blocks
 
-mutual
-  -- the statements of a block
-  pub block_is : (b : Block) (s : Setting) (bound made : List ℕ) (end : Body) → HasRustNames s.env → HasCallees s.env → IsReadyFrom s bound made b → IsBody end → IsBody (block_body s bound b end)
-  block_is Stop s bound made end names fns k h = h
-  block_is (Step binds c more) s bound made end names fns k h =
-      lets_are s bound binds (Then (control_stmt s (bound_by bound binds) c) (stop_before false (gives_several s) c (block_body s (bound_by bound binds) more end))) names fns k.0
-      (control_is c s (bound_by bound binds) _ names fns k.2, stop_is (gives_several s) c _ (block_is more s (bound_by bound binds) _ end names fns k.3 h))
+  mutual
+    -- the statements of a block
+    pub block_is : (b : Block) (s : Setting) (bound made : List ℕ) (end : Body) → HasRustNames s.env → HasCallees s.env → IsReadyFrom s bound made b → IsBody end → IsBody (block_body limit s bound b end)
+    block_is Stop s bound made end names fns k h = h
+    block_is (Step binds c more) s bound made end names fns k h =
+        lets_are s bound binds (Then (control_stmt limit s (bound_by bound binds) c) (stop_before (bare_manner limit) (gives_several s) c (block_body limit s (bound_by bound binds) more end))) names fns k.0
+        (control_is c s (bound_by bound binds) _ names fns k.2, stop_is limit (gives_several s) c _ (block_is more s (bound_by bound binds) _ end names fns k.3 h))
 
-  control_is : (c : Control) (s : Setting) (bound made : List ℕ) → HasRustNames s.env → HasCallees s.env → IsReadyControl s bound made c → IsStmt (control_stmt s bound c)
-  control_is (block.Match source (Arm (constraint.ConstBool val) places body NoArm)) s bound made names fns k =
-      let v = over_value s bound source (constraint.ConstBool val) k.1.0 (λ e. cc) k.1.1 k.1.2.0 in
-      (operand_is s bound source v.ty names v.ready, tested_is s.env (constraint.ConstBool val) v.ty names v.is tt, block_is body s (bound_within bound places) made Done names fns k.1.2.2 tt)
-  control_is (block.Match source (Arm (constraint.ConstInt val of) places body NoArm)) s bound made names fns k =
-      let v = over_value s bound source (constraint.ConstInt val of) k.1.0 (λ e. cc) k.1.1 k.1.2.0 in
-      (operand_is s bound source v.ty names v.ready, tested_is s.env (constraint.ConstInt val of) v.ty names v.is tt, block_is body s (bound_within bound places) made Done names fns k.1.2.2 tt)
-  control_is (block.Match source (Arm (constraint.ConstPrim val) places body NoArm)) s bound made names fns k =
-      let v = over_value s bound source (constraint.ConstPrim val) k.1.0 (λ e. cc) k.1.1 k.1.2.0 in
-      (operand_is s bound source v.ty names v.ready, tested_is s.env (constraint.ConstPrim val) v.ty names v.is tt, block_is body s (bound_within bound places) made Done names fns k.1.2.2 tt)
-  control_is (block.Match source (Arm (constraint.Variant of variant) places body NoArm)) s bound made names fns k =
-      let v = over_value s bound source (constraint.Variant of variant) k.1.0 (λ e. cc) k.1.1 k.1.2.0 in (
-        arm_is s (constraint.Variant of variant) places names (arm_pattern s source v.ty (constraint.Variant of variant) places v.is k.1.2.1 tt),
-        written_is s bound true source v.ty names v.ready,
-        block_is body s (bound_within bound places) made Done names fns k.1.2.2 tt,
-      )
-  control_is (block.Match source (Arm (constraint.Struct of) places body NoArm)) s bound made names fns k =
-      let v = over_value s bound source (constraint.Struct of) k.1.0 (λ e. cc) k.1.1 k.1.2.0 in (
-        arm_is s (constraint.Struct of) places names (arm_pattern s source v.ty (constraint.Struct of) places v.is k.1.2.1 tt),
-        written_is s bound true source v.ty names v.ready,
-        block_is body s (bound_within bound places) made Done names fns k.1.2.2 tt,
-      )
-  control_is (block.Match source (Arm constraint.Some places body NoArm)) s bound made names fns k =
-      let v = over_option s bound source k.1.0 k.1.1 k.1.2.0 in
-      (some_is places k.1.2.1.0, source_is s bound source v.1.bound', block_is body s (bound_within bound places) made Done names fns k.1.2.2 tt)
-  control_is (block.Match source (Arm c places body (Arm d others inside arms))) s bound made names fns k =
-      (match_is s bound source k.1.0 c names k.1.1 k.1.2.0, tt, each_is (Arm c places body (Arm d others inside arms)) s bound made source k.1.0 names fns k.1.2)
-  control_is (block.Match source NoArm) s bound made names fns k = absurd k.0
-  control_is (block.Equal x y body) s bound made names fns k = (operand_is s bound x k.0.0 names k.0.1, operand_is s bound y k.0.0 names k.0.2, block_is body s bound made Done names fns k.1 tt)
-  control_is (block.Loop result body) s bound made names fns k = block_is body s (bound ++ result.0 ∷ []) made Done names fns k.1 tt
-  control_is (block.Return pos result) s bound made names fns k = result_is (kind_of s.term.kind) (written_read s bound false result) (written_is s bound false result s.term.ret_ty names k)
+    control_is : (c : Control) (s : Setting) (bound made : List ℕ) → HasRustNames s.env → HasCallees s.env → IsReadyControl s bound made c → IsStmt (control_stmt limit s bound c)
+    control_is (block.Match source (Arm (constraint.ConstBool val) places body NoArm)) s bound made names fns k =
+        let v = over_value s bound source (constraint.ConstBool val) k.1.0 (λ e. cc) k.1.1 k.1.2.0 in
+        (operand_is s bound source v.ty names v.ready, tested_is s.env (constraint.ConstBool val) v.ty names v.is tt, block_is body s (bound_within bound places) made Done names fns k.1.2.2 tt)
+    control_is (block.Match source (Arm (constraint.ConstInt val of) places body NoArm)) s bound made names fns k =
+        let v = over_value s bound source (constraint.ConstInt val of) k.1.0 (λ e. cc) k.1.1 k.1.2.0 in
+        (operand_is s bound source v.ty names v.ready, tested_is s.env (constraint.ConstInt val of) v.ty names v.is tt, block_is body s (bound_within bound places) made Done names fns k.1.2.2 tt)
+    control_is (block.Match source (Arm (constraint.ConstPrim val) places body NoArm)) s bound made names fns k =
+        let v = over_value s bound source (constraint.ConstPrim val) k.1.0 (λ e. cc) k.1.1 k.1.2.0 in
+        (operand_is s bound source v.ty names v.ready, tested_is s.env (constraint.ConstPrim val) v.ty names v.is tt, block_is body s (bound_within bound places) made Done names fns k.1.2.2 tt)
+    control_is (block.Match source (Arm (constraint.Variant of variant) places body NoArm)) s bound made names fns k =
+        let v = over_value s bound source (constraint.Variant of variant) k.1.0 (λ e. cc) k.1.1 k.1.2.0 in (
+          arm_is s (constraint.Variant of variant) places names (arm_pattern s source v.ty (constraint.Variant of variant) places v.is k.1.2.1 tt),
+          written_is s bound true source v.ty names v.ready,
+          block_is body s (bound_within bound places) made Done names fns k.1.2.2 tt,
+        )
+    control_is (block.Match source (Arm (constraint.Struct of) places body NoArm)) s bound made names fns k =
+        let v = over_value s bound source (constraint.Struct of) k.1.0 (λ e. cc) k.1.1 k.1.2.0 in (
+          arm_is s (constraint.Struct of) places names (arm_pattern s source v.ty (constraint.Struct of) places v.is k.1.2.1 tt),
+          written_is s bound true source v.ty names v.ready,
+          block_is body s (bound_within bound places) made Done names fns k.1.2.2 tt,
+        )
+    control_is (block.Match source (Arm constraint.Some places body NoArm)) s bound made names fns k =
+        let v = over_option s bound source k.1.0 k.1.1 k.1.2.0 in
+        (some_is places k.1.2.1.0, source_is s bound source v.1.bound', block_is body s (bound_within bound places) made Done names fns k.1.2.2 tt)
+    control_is (block.Match source (Arm c places body (Arm d others inside arms))) s bound made names fns k =
+        (match_is s bound source k.1.0 c names k.1.1 k.1.2.0, tt, each_is (Arm c places body (Arm d others inside arms)) s bound made source k.1.0 names fns k.1.2)
+    control_is (block.Match source NoArm) s bound made names fns k = absurd k.0
+    control_is (block.Equal x y body) s bound made names fns k = (operand_is s bound x k.0.0 names k.0.1, operand_is s bound y k.0.0 names k.0.2, block_is body s bound made Done names fns k.1 tt)
+    control_is (block.Loop result body) s bound made names fns k = block_is body s (bound ++ result.0 ∷ []) made Done names fns k.1 tt
+    control_is (block.Return pos result) s bound made names fns k = result_is (kind_of s.term.kind) (written_read s bound false result) (written_is s bound false result s.term.ret_ty names k)
 
-  -- each of several arms
-  each_is : (arms : Arms) (s : Setting) (bound made : List ℕ) (source : BindingId) (over : Source) → HasRustNames s.env → HasCallees s.env → AreReadyArms s bound made source over arms → AreArms (told_each bare_manner s bound arms)
-  each_is NoArm s bound made source over names fns k = tt
-  each_is (Arm c places body arms) s bound made source over names fns k =
-      (pattern_of_arm s source over c places names k.0 k.1, block_is body s (bound_within bound places) made Done names fns k.2 tt, each_is arms s bound made source over names fns k.3)
+    -- each of several arms
+    each_is : (arms : Arms) (s : Setting) (bound made : List ℕ) (source : BindingId) (over : Source) → HasRustNames s.env → HasCallees s.env → AreReadyArms s bound made source over arms → AreArms (told_each (bare_manner limit) s bound arms)
+    each_is NoArm s bound made source over names fns k = tt
+    each_is (Arm c places body arms) s bound made source over names fns k =
+        (pattern_of_arm s source over c places names k.0 k.1, block_is body s (bound_within bound places) made Done names fns k.2 tt, each_is arms s bound made source over names fns k.3)

@@ -139,12 +139,12 @@ result_scoped return_kind.Plain r fns params locals ss e h = (rw e tt, h)
 result_scoped return_kind.Option r fns params locals ss e h = (rw e tt, h)
 result_scoped return_kind.Iterator r fns params locals ss e h = (is_one _ e, h)
 
-stop_scoped : (several : Bool) (c : Control) (fns : Callables) (kind : ReturnKind) (params : ℕ) (locals : Locals) (after : Body) → IsBodyScoped fns kind params locals after → IsBodyScoped fns kind params locals (stop_before false several c after)
-stop_scoped true (block.Return pos result) fns kind params locals after h = (tt, h)
-stop_scoped true (block.Match source arms) fns kind params locals after h = h
-stop_scoped true (block.Equal a b body) fns kind params locals after h = h
-stop_scoped true (block.Loop result body) fns kind params locals after h = h
-stop_scoped false c fns kind params locals after h = h
+stop_scoped : (limit : ℕ) (several : Bool) (c : Control) (fns : Callables) (kind : ReturnKind) (params : ℕ) (locals : Locals) (after : Body) → IsBodyScoped fns kind params locals after → IsBodyScoped fns kind params locals (stop_before (bare_manner limit) several c after)
+stop_scoped limit true (block.Return pos result) fns kind params locals after h = (tt, h)
+stop_scoped limit true (block.Match source arms) fns kind params locals after h = h
+stop_scoped limit true (block.Equal a b body) fns kind params locals after h = h
+stop_scoped limit true (block.Loop result body) fns kind params locals after h = h
+stop_scoped limit false c fns kind params locals after h = h
 
 -- an item of a list holds its results
 item_holds : (s : Setting) (p : Path) (tys : List TypeId) → IsListOf s.env s.term p tys → HoldsAs s.env s.term (Chosen p) (Some (holds.One (items s.env tys)))
@@ -281,80 +281,81 @@ arm_scoped s bound locals source (AnOption tys) (constraint.ConstPrim val) place
 arm_scoped s bound locals source (AnOption tys) (constraint.Variant of variant) places held l ready e is parts = cc
 arm_scoped s bound locals source (AnOption tys) (constraint.Struct of) places held l ready e is parts = cc
 
-mutual
-  -- what a block reads, if what follows reads what is there whatever is bound
-  block_scoped : (b : Block) (s : Setting) (bound made : List ℕ) (locals : Locals) (end : Body) → HasCallees s.env → LocalsHold s bound locals → IsReadyFrom s bound made b
+module _ (limit : ℕ) where
+  mutual
+    -- what a block reads, if what follows reads what is there whatever is bound
+    block_scoped : (b : Block) (s : Setting) (bound made : List ℕ) (locals : Locals) (end : Body) → HasCallees s.env → LocalsHold s bound locals → IsReadyFrom s bound made b
+        → ((after : Locals) → IsBodyScoped (callables_of s.env) (kind_of s.term.kind) (length s.term.arg_tys) after end)
+        → IsBodyScoped (callables_of s.env) (kind_of s.term.kind) (length s.term.arg_tys) locals (block_body limit s bound b end)
+    block_scoped Stop s bound made locals end names l k h = h locals
+    block_scoped (Step binds c more) s bound made locals end names l k h =
+        let rest = block_body limit s (bound_by bound binds) more end in
+        lets_scoped s bound locals binds (Then (control_stmt limit s (bound_by bound binds) c) (stop_before (bare_manner limit) (gives_several s) c rest)) names l k.0
+        (λ after held. control_scoped c s (bound_by bound binds) _ after (stop_before (bare_manner limit) (gives_several s) c rest) names held k.2
+        (stop_scoped limit (gives_several s) c (callables_of s.env) (kind_of s.term.kind) (length s.term.arg_tys) after rest (block_scoped more s (bound_by bound binds) _ after end names held k.3 h)))
+
+    control_scoped : (c : Control) (s : Setting) (bound made : List ℕ) (locals : Locals) (ss : Body) → HasCallees s.env → LocalsHold s bound locals → IsReadyControl s bound made c
+        → IsBodyScoped (callables_of s.env) (kind_of s.term.kind) (length s.term.arg_tys) locals ss → IsBodyScoped (callables_of s.env) (kind_of s.term.kind) (length s.term.arg_tys) locals (Then (control_stmt limit s bound c) ss)
+    control_scoped (block.Match source (Arm (constraint.ConstBool val) places body NoArm)) s bound made locals ss names l k h =
+        let v = over_value s bound source (constraint.ConstBool val) k.1.0 (λ e. cc) k.1.1 k.1.2.0 in (
+          (
+            is_one _ (operand_one s bound locals source v.ty l v.ready),
+            is_one _ (tested_holds s.env (constraint.ConstBool val) (length s.term.arg_tys) locals tt),
+            block_scoped body s (bound_within bound places) made locals Done names (within_hold s bound places locals k.1.2.1 l) k.1.2.2 (λ after. tt),
+          ),
+          h,
+        )
+    control_scoped (block.Match source (Arm (constraint.ConstInt val of) places body NoArm)) s bound made locals ss names l k h =
+        let v = over_value s bound source (constraint.ConstInt val of) k.1.0 (λ e. cc) k.1.1 k.1.2.0 in (
+          (
+            is_one _ (operand_one s bound locals source v.ty l v.ready),
+            is_one _ (tested_holds s.env (constraint.ConstInt val of) (length s.term.arg_tys) locals tt),
+            block_scoped body s (bound_within bound places) made locals Done names (within_hold s bound places locals k.1.2.1 l) k.1.2.2 (λ after. tt),
+          ),
+          h,
+        )
+    control_scoped (block.Match source (Arm (constraint.ConstPrim val) places body NoArm)) s bound made locals ss names l k h =
+        let v = over_value s bound source (constraint.ConstPrim val) k.1.0 (λ e. cc) k.1.1 k.1.2.0 in (
+          (
+            is_one _ (operand_one s bound locals source v.ty l v.ready),
+            is_one _ (tested_holds s.env (constraint.ConstPrim val) (length s.term.arg_tys) locals tt),
+            block_scoped body s (bound_within bound places) made locals Done names (within_hold s bound places locals k.1.2.1 l) k.1.2.2 (λ after. tt),
+          ),
+          h,
+        )
+    control_scoped (block.Match source (Arm (constraint.Variant of variant) places body NoArm)) s bound made locals ss names l k h =
+        let v = over_value s bound source (constraint.Variant of variant) k.1.0 (λ e. cc) k.1.1 k.1.2.0 in
+        form_scoped s bound locals source v.ty (constraint.Variant of variant) places (block_body limit s (bound_within bound places) body Done) ss l v.ready v.is k.1.2.1 tt
+        (λ after held. block_scoped body s (bound_within bound places) made after Done names held k.1.2.2 (λ last. tt)) h
+    control_scoped (block.Match source (Arm (constraint.Struct of) places body NoArm)) s bound made locals ss names l k h =
+        let v = over_value s bound source (constraint.Struct of) k.1.0 (λ e. cc) k.1.1 k.1.2.0 in
+        form_scoped s bound locals source v.ty (constraint.Struct of) places (block_body limit s (bound_within bound places) body Done) ss l v.ready v.is k.1.2.1 tt
+        (λ after held. block_scoped body s (bound_within bound places) made after Done names held k.1.2.2 (λ last. tt)) h
+    control_scoped (block.Match source (Arm constraint.Some places body NoArm)) s bound made locals ss names l k h =
+        let v = over_option s bound source k.1.0 k.1.1 k.1.2.0 in
+        some_scoped s bound locals source v.0 places (block_body limit s (bound_within bound places) body Done) ss l v.1 k.1.2.1
+        (λ after held. block_scoped body s (bound_within bound places) made after Done names held k.1.2.2 (λ last. tt)) h
+    control_scoped (block.Match source (Arm c places body (Arm d others inside arms))) s bound made locals ss names l k h =
+        let held = read_holds (length s.term.arg_tys) locals (match_read s bound source c) in
+        (each_scoped (Arm c places body (Arm d others inside arms)) s bound made locals source k.1.0 held names l k.1.1 (match_holds s bound locals source k.1.0 c l k.1.1 k.1.2.0) k.1.2, h)
+    control_scoped (block.Match source NoArm) s bound made locals ss names l k h = absurd k.0
+    control_scoped (block.Equal x y body) s bound made locals ss names l k h =
+        ((is_one _ (operand_one s bound locals x k.0.0 l k.0.1), is_one _ (operand_one s bound locals y k.0.0 l k.0.2), block_scoped body s bound made locals Done names l k.1 (λ after. tt)), h)
+    control_scoped (block.Loop result body) s bound made locals ss names l k h =
+        loop_scoped s bound locals result (block_body limit s (bound ++ result.0 ∷ []) body Done) ss k.0 l (λ after held. block_scoped body s (bound ++ result.0 ∷ []) made after Done names held k.1 (λ last. tt)) h
+    control_scoped (block.Return pos result) s bound made locals ss names l k h =
+        result_scoped (kind_of s.term.kind) (written_read s bound false result) (callables_of s.env) (length s.term.arg_tys) locals ss (read_one s bound locals false result s.term.ret_ty l k) h
+
+    -- each of several arms, over what holds this
+    each_scoped : (arms : Arms) (s : Setting) (bound made : List ℕ) (locals : Locals) (source : BindingId) (over : Source) (held : Option Holds) → HasCallees s.env → LocalsHold s bound locals → IsReadyIn s bound source over → HoldsOver s over held
+        → AreReadyArms s bound made source over arms → AreArmsScoped (callables_of s.env) (kind_of s.term.kind) (length s.term.arg_tys) locals held (told_each (bare_manner limit) s bound arms)
+    each_scoped NoArm s bound made locals source over held names l ready e k = tt
+    each_scoped (Arm c places body arms) s bound made locals source over held names l ready e k =
+        let p = arm_scoped s bound locals source over c places held l ready e k.0 k.1 in
+        (p.0, block_scoped body s (bound_within bound places) made (locals ++ pattern_locals (written_arm s.env c places) held) Done names p.1 k.2 (λ after. tt), each_scoped arms s bound made locals source over held names l ready e k.3)
+
+  -- what the block of a function reads
+  pub root_scoped : (b : Block) (s : Setting) (end : Body) → HasCallees s.env → IsReadyFrom s [] [] b
       → ((after : Locals) → IsBodyScoped (callables_of s.env) (kind_of s.term.kind) (length s.term.arg_tys) after end)
-      → IsBodyScoped (callables_of s.env) (kind_of s.term.kind) (length s.term.arg_tys) locals (block_body s bound b end)
-  block_scoped Stop s bound made locals end names l k h = h locals
-  block_scoped (Step binds c more) s bound made locals end names l k h =
-      let rest = block_body s (bound_by bound binds) more end in
-      lets_scoped s bound locals binds (Then (control_stmt s (bound_by bound binds) c) (stop_before false (gives_several s) c rest)) names l k.0
-      (λ after held. control_scoped c s (bound_by bound binds) _ after (stop_before false (gives_several s) c rest) names held k.2
-      (stop_scoped (gives_several s) c (callables_of s.env) (kind_of s.term.kind) (length s.term.arg_tys) after rest (block_scoped more s (bound_by bound binds) _ after end names held k.3 h)))
-
-  control_scoped : (c : Control) (s : Setting) (bound made : List ℕ) (locals : Locals) (ss : Body) → HasCallees s.env → LocalsHold s bound locals → IsReadyControl s bound made c
-      → IsBodyScoped (callables_of s.env) (kind_of s.term.kind) (length s.term.arg_tys) locals ss → IsBodyScoped (callables_of s.env) (kind_of s.term.kind) (length s.term.arg_tys) locals (Then (control_stmt s bound c) ss)
-  control_scoped (block.Match source (Arm (constraint.ConstBool val) places body NoArm)) s bound made locals ss names l k h =
-      let v = over_value s bound source (constraint.ConstBool val) k.1.0 (λ e. cc) k.1.1 k.1.2.0 in (
-        (
-          is_one _ (operand_one s bound locals source v.ty l v.ready),
-          is_one _ (tested_holds s.env (constraint.ConstBool val) (length s.term.arg_tys) locals tt),
-          block_scoped body s (bound_within bound places) made locals Done names (within_hold s bound places locals k.1.2.1 l) k.1.2.2 (λ after. tt),
-        ),
-        h,
-      )
-  control_scoped (block.Match source (Arm (constraint.ConstInt val of) places body NoArm)) s bound made locals ss names l k h =
-      let v = over_value s bound source (constraint.ConstInt val of) k.1.0 (λ e. cc) k.1.1 k.1.2.0 in (
-        (
-          is_one _ (operand_one s bound locals source v.ty l v.ready),
-          is_one _ (tested_holds s.env (constraint.ConstInt val of) (length s.term.arg_tys) locals tt),
-          block_scoped body s (bound_within bound places) made locals Done names (within_hold s bound places locals k.1.2.1 l) k.1.2.2 (λ after. tt),
-        ),
-        h,
-      )
-  control_scoped (block.Match source (Arm (constraint.ConstPrim val) places body NoArm)) s bound made locals ss names l k h =
-      let v = over_value s bound source (constraint.ConstPrim val) k.1.0 (λ e. cc) k.1.1 k.1.2.0 in (
-        (
-          is_one _ (operand_one s bound locals source v.ty l v.ready),
-          is_one _ (tested_holds s.env (constraint.ConstPrim val) (length s.term.arg_tys) locals tt),
-          block_scoped body s (bound_within bound places) made locals Done names (within_hold s bound places locals k.1.2.1 l) k.1.2.2 (λ after. tt),
-        ),
-        h,
-      )
-  control_scoped (block.Match source (Arm (constraint.Variant of variant) places body NoArm)) s bound made locals ss names l k h =
-      let v = over_value s bound source (constraint.Variant of variant) k.1.0 (λ e. cc) k.1.1 k.1.2.0 in
-      form_scoped s bound locals source v.ty (constraint.Variant of variant) places (block_body s (bound_within bound places) body Done) ss l v.ready v.is k.1.2.1 tt
-      (λ after held. block_scoped body s (bound_within bound places) made after Done names held k.1.2.2 (λ last. tt)) h
-  control_scoped (block.Match source (Arm (constraint.Struct of) places body NoArm)) s bound made locals ss names l k h =
-      let v = over_value s bound source (constraint.Struct of) k.1.0 (λ e. cc) k.1.1 k.1.2.0 in
-      form_scoped s bound locals source v.ty (constraint.Struct of) places (block_body s (bound_within bound places) body Done) ss l v.ready v.is k.1.2.1 tt
-      (λ after held. block_scoped body s (bound_within bound places) made after Done names held k.1.2.2 (λ last. tt)) h
-  control_scoped (block.Match source (Arm constraint.Some places body NoArm)) s bound made locals ss names l k h =
-      let v = over_option s bound source k.1.0 k.1.1 k.1.2.0 in
-      some_scoped s bound locals source v.0 places (block_body s (bound_within bound places) body Done) ss l v.1 k.1.2.1
-      (λ after held. block_scoped body s (bound_within bound places) made after Done names held k.1.2.2 (λ last. tt)) h
-  control_scoped (block.Match source (Arm c places body (Arm d others inside arms))) s bound made locals ss names l k h =
-      let held = read_holds (length s.term.arg_tys) locals (match_read s bound source c) in
-      (each_scoped (Arm c places body (Arm d others inside arms)) s bound made locals source k.1.0 held names l k.1.1 (match_holds s bound locals source k.1.0 c l k.1.1 k.1.2.0) k.1.2, h)
-  control_scoped (block.Match source NoArm) s bound made locals ss names l k h = absurd k.0
-  control_scoped (block.Equal x y body) s bound made locals ss names l k h =
-      ((is_one _ (operand_one s bound locals x k.0.0 l k.0.1), is_one _ (operand_one s bound locals y k.0.0 l k.0.2), block_scoped body s bound made locals Done names l k.1 (λ after. tt)), h)
-  control_scoped (block.Loop result body) s bound made locals ss names l k h =
-      loop_scoped s bound locals result (block_body s (bound ++ result.0 ∷ []) body Done) ss k.0 l (λ after held. block_scoped body s (bound ++ result.0 ∷ []) made after Done names held k.1 (λ last. tt)) h
-  control_scoped (block.Return pos result) s bound made locals ss names l k h =
-      result_scoped (kind_of s.term.kind) (written_read s bound false result) (callables_of s.env) (length s.term.arg_tys) locals ss (read_one s bound locals false result s.term.ret_ty l k) h
-
-  -- each of several arms, over what holds this
-  each_scoped : (arms : Arms) (s : Setting) (bound made : List ℕ) (locals : Locals) (source : BindingId) (over : Source) (held : Option Holds) → HasCallees s.env → LocalsHold s bound locals → IsReadyIn s bound source over → HoldsOver s over held
-      → AreReadyArms s bound made source over arms → AreArmsScoped (callables_of s.env) (kind_of s.term.kind) (length s.term.arg_tys) locals held (told_each bare_manner s bound arms)
-  each_scoped NoArm s bound made locals source over held names l ready e k = tt
-  each_scoped (Arm c places body arms) s bound made locals source over held names l ready e k =
-      let p = arm_scoped s bound locals source over c places held l ready e k.0 k.1 in
-      (p.0, block_scoped body s (bound_within bound places) made (locals ++ pattern_locals (written_arm s.env c places) held) Done names p.1 k.2 (λ after. tt), each_scoped arms s bound made locals source over held names l ready e k.3)
-
--- what the block of a function reads
-pub root_scoped : (b : Block) (s : Setting) (end : Body) → HasCallees s.env → IsReadyFrom s [] [] b
-    → ((after : Locals) → IsBodyScoped (callables_of s.env) (kind_of s.term.kind) (length s.term.arg_tys) after end)
-    → IsBodyScoped (callables_of s.env) (kind_of s.term.kind) (length s.term.arg_tys) [] (block_body s [] b end)
-root_scoped b s end names k h = block_scoped b s [] [] [] end names (none_hold s) k h
+      → IsBodyScoped (callables_of s.env) (kind_of s.term.kind) (length s.term.arg_tys) [] (block_body limit s [] b end)
+  root_scoped b s end names k h = block_scoped b s [] [] [] end names (none_hold s) k h

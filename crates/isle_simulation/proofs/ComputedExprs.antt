@@ -14,6 +14,7 @@ use Rattle.isle_core.specs.HasType.{typed_fields}
 use Rattle.isle_core.specs.Making.{MakesVariant, MakesStruct}
 use Rattle.isle_core.specs.Path.{at}
 use Rattle.isle_core.specs.Setting.{Setting, paths_in}
+use Rattle.isle_core.proofs.OptionLaws.{some_same}
 use Rattle.isle_tree.specs.declared.tree.Operand.{Operand}
 use Rattle.isle_tree.specs.declared.tree.Read.{Read}
 use Rattle.isle_tree.specs.declared.tree.Read.TheVariants as read
@@ -24,7 +25,7 @@ use Rattle.isle_simulation.specs.ComputedBy as by
 use Rattle.isle_simulation.specs.Operands.{in_place, operand_of}
 use Rattle.isle_simulation.specs.References.{is_declared, is_reference_in, result_type}
 use Rattle.isle_simulation.specs.Statements.{read_before, read_in, reads, call_on, call_of, extraction_of, inner_of, part_of, read_of, field_before, field_reads, made_in, made_of, computed, callee_of}
-use Rattle.isle_simulation.proofs.OperandsAre.{some_same, none_some, read_is, read_found, operand_is, operand_found, place_is, place_found}
+use Rattle.isle_simulation.proofs.OperandsAre.{none_some, read_is, read_found, operand_is, operand_found, place_is, place_found}
 
 -- ---- what is made is so
 

@@ -19,6 +19,9 @@ pub mod CompletedReady
 pub mod Logged
 pub mod LoggedLaws
 pub mod LoggedLines
+pub mod Closed
+pub mod ClosedLaws
+pub mod ClosedBlocks
 pub mod EachArm
 pub mod KnownAlong
 pub mod Simulation
@@ -28,6 +31,7 @@ pub mod CompletedSeveral
 pub mod ClosedItems
 pub mod ResultsGiven
 pub mod SeveralSimulation
+pub mod CompletedArms
 pub mod Made
 pub mod MadeStatements
 pub mod OperandsAre

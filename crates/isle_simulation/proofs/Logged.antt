@@ -15,7 +15,7 @@ own_results (Match read arms) = []
 own_results (Loop list item inside) = []
 own_results (Return e) = Return e ∷ []
 own_results (Extend read) = Extend read ∷ []
-own_results (Overflow within) = []
+own_results (Overflow within limit) = []
 own_results (Log term place) = []
 own_results (Split inside within) = []
 own_results (Tail mark) = []
@@ -49,7 +49,7 @@ abbrev mutual
   logged_before lines (Loop list item inside) after = Then (Loop list item (logged lines inside)) after
   logged_before lines (Return e) after = first_before lines (Then (Return e) after)
   logged_before lines (Extend read) after = first_before lines (Then (Extend read) after)
-  logged_before lines (Overflow within) after = Then (Overflow within) after
+  logged_before lines (Overflow within limit) after = Then (Overflow within limit) after
   logged_before lines (Log term place) after = Then (Log term place) after
   logged_before lines (Split inside within) after = Then (Split (logged lines inside) within) after
   logged_before lines (Tail mark) after = Then (Tail mark) after

@@ -1,5 +1,5 @@
 -- What log lines leave as it was.
-use Rattle.std.proofs.Common.{◌≡◌, ℕ, zero, suc, List, [], ◌∷◌, ◌++◌, Bool, false, cond, Option, Some, None, refl, ap, ◌∙◌}
+use Rattle.std.proofs.Common.{◌≡◌, ℕ, zero, suc, List, [], ◌∷◌, ◌++◌, Bool, true, false, cond, Option, Some, None, refl, ap, ◌∙◌}
 use Rattle.std.specs.Prelude.{drop}
 use Rattle.isle_core.specs.Answered.{Item, Held, Absent, One, Optional, Listed, AValue, ATuple}
 use Rattle.isle_core.specs.Value.{Value}
@@ -7,7 +7,7 @@ use Rattle.isle_core.specs.SameInRun.{same_in_run}
 use Rattle.isle_core.specs.declared.types.ReturnKind.{ReturnKind}
 use Rattle.isle_core.specs.declared.types.ReturnKind.TheVariants as kind
 use Rattle.isle_tree.specs.Program.{Stmt, Let, LetList, IfEq, IfLet, Match, Loop, Return, Extend, Overflow, Log, Split, Tail, Body, Done, Then, Arms, NoArm, Arm}
-use Rattle.isle_tree.specs.Run.{Around, State, Env, Flow, Goes, Ends, Leaves, Stuck, bind, look, value_of, read_value, on_value, on_list, fit, fitted, then_run, after_scope, run_items, run_stmt, run_body, run_arms}
+use Rattle.isle_tree.specs.Run.{Around, State, Env, Flow, Goes, Ends, Leaves, Stuck, bind, look, value_of, read_value, on_value, on_list, fit, fitted, then_run, after_scope, after_closure, run_items, run_stmt, run_body, run_arms}
 use Rattle.isle_tree.specs.Walk.{of_stmt, of_body, of_arms}
 use Rattle.isle_tree.specs.declared.holds.Holds.{Holds}
 use Rattle.isle_tree.specs.WellFormed.{Callables, Locals, HasSeveral, IsStmt, IsBody, AreArms, IsStmtScoped, IsBodyScoped, AreArmsScoped, FitsStmt, FitsBody, FitsArms, FitsEnding, FitsFunction, bound_after, after_let, pattern_locals, read_holds, each_holds, local_holds}
@@ -36,7 +36,7 @@ mutual
   before_none (Loop list item inside) after = ap (λ x. Then (Loop list item x) after) (logged_none inside)
   before_none (Return e) after = refl
   before_none (Extend r) after = refl
-  before_none (Overflow within) after = refl
+  before_none (Overflow within limit) after = refl
   before_none (Log term place) after = refl
   before_none (Split inside within) after = ap (λ x. Then (Split x within) after) (logged_none inside)
   before_none (Tail mark) after = refl
@@ -100,9 +100,9 @@ mutual
       ap (λ f. then_run f (run_body w after)) (list_same (look env list) _ _ (λ is. items_same is env s _ _ (λ i t. logged_runs inside lines w (bind env item (One i)) t)))
   before_runs (Return e) lines w after env s = line_runs lines w (Then (Return e) after) env s
   before_runs (Extend r) lines w after env s = line_runs lines w (Then (Extend r) after) env s
-  before_runs (Overflow within) lines w after env s = refl
+  before_runs (Overflow within limit) lines w after env s = refl
   before_runs (Log term place) lines w after env s = refl
-  before_runs (Split inside within) lines w after env s = refl
+  before_runs (Split inside within) lines w after env s = ap (λ f. then_run (after_closure within env f) (run_body w after)) (logged_runs inside lines w env s)
   before_runs (Tail mark) lines w after env s = refl
 
   arms_runs : (arms : Arms) (lines : List LogLine) (w : Around) (h : Held) (env : Env) (s : State) → run_arms w (logged_arms lines arms) h env s ≡ run_arms w arms h env s
@@ -136,9 +136,9 @@ mutual
   before_is (Loop list item inside) lines after h k = (logged_is inside lines h, k)
   before_is (Return e) lines after h k = line_is lines (Then (Return e) after) (h, k)
   before_is (Extend r) lines after h k = line_is lines (Then (Extend r) after) (h, k)
-  before_is (Overflow within) lines after h k = (h, k)
+  before_is (Overflow within limit) lines after h k = (h, k)
   before_is (Log term place) lines after h k = (h, k)
-  before_is (Split inside within) lines after h k = absurd h
+  before_is (Split inside within) lines after h k = (logged_is inside lines h, k)
   before_is (Tail mark) lines after h k = (h, k)
 
   arms_are : (arms : Arms) (lines : List LogLine) → AreArms arms → AreArms (logged_arms lines arms)
@@ -167,9 +167,9 @@ mutual
   before_scoped (Loop list item inside) lines after fns of params bound h k = ((h.0, logged_scoped inside lines fns of params (after_let (each_holds (local_holds bound list)) item bound) h.1), k)
   before_scoped (Return e) lines after fns of params bound h k = line_scoped lines (Then (Return e) after) fns of params bound (h, k)
   before_scoped (Extend r) lines after fns of params bound h k = line_scoped lines (Then (Extend r) after) fns of params bound (h, k)
-  before_scoped (Overflow within) lines after fns of params bound h k = (h, k)
+  before_scoped (Overflow within limit) lines after fns of params bound h k = (h, k)
   before_scoped (Log term place) lines after fns of params bound h k = (h, k)
-  before_scoped (Split inside within) lines after fns of params bound h k = absurd h
+  before_scoped (Split inside within) lines after fns of params bound h k = (logged_scoped inside lines fns of params bound h, k)
   before_scoped (Tail mark) lines after fns of params bound h k = (h, k)
 
   arms_scoped : (arms : Arms) (lines : List LogLine) (fns : Callables) (of : ReturnKind) (params : ℕ) (bound : Locals) (held : Option Holds) → AreArmsScoped fns of params bound held arms → AreArmsScoped fns of params bound held (logged_arms lines arms)
@@ -197,9 +197,9 @@ mutual
   before_fits (Loop list item inside) lines after of closed h k = (logged_fits inside lines of closed h, k)
   before_fits (Return e) lines after of closed h k = line_fits lines (Then (Return e) after) of closed (h, k)
   before_fits (Extend r) lines after of closed h k = line_fits lines (Then (Extend r) after) of closed (h, k)
-  before_fits (Overflow within) lines after of closed h k = (h, k)
+  before_fits (Overflow within limit) lines after of closed h k = (h, k)
   before_fits (Log term place) lines after of closed h k = (h, k)
-  before_fits (Split inside within) lines after of closed h k = absurd h
+  before_fits (Split inside within) lines after of closed h k = ((h.0, h.1, logged_fits inside lines of true h.2), k)
   before_fits (Tail mark) lines after of closed h k = absurd h
 
   arms_fit : (arms : Arms) (lines : List LogLine) (of : ReturnKind) (closed : Bool) → FitsArms of closed arms → FitsArms of closed (logged_arms lines arms)
@@ -220,9 +220,9 @@ before_ending (Match r arms) lines t ts of h k = (arms_fit arms lines of false h
 before_ending (Loop list item inside) lines t ts of h k = (logged_fits inside lines of false h, k)
 before_ending (Return e) lines t ts of h k = line_ending lines (Return e) (Then t ts) of (h, k)
 before_ending (Extend r) lines t ts of h k = line_ending lines (Extend r) (Then t ts) of (h, k)
-before_ending (Overflow within) lines t ts of h k = (h, k)
+before_ending (Overflow within limit) lines t ts of h k = (h, k)
 before_ending (Log term place) lines t ts of h k = (h, k)
-before_ending (Split inside within) lines t ts of h k = absurd h
+before_ending (Split inside within) lines t ts of h k = ((h.0, h.1, logged_fits inside lines of true h.2), k)
 before_ending (Tail mark) lines t ts of h k = absurd h
 
 -- so the last one
@@ -235,7 +235,7 @@ last_ending (Match r arms) lines of h = absurd h
 last_ending (Loop list item inside) lines of h = absurd h
 last_ending (Return e) lines of h = line_ending lines (Return e) Done of h
 last_ending (Extend r) lines of h = absurd h
-last_ending (Overflow within) lines of h = absurd h
+last_ending (Overflow within limit) lines of h = absurd h
 last_ending (Log term place) lines of h = absurd h
 last_ending (Split inside within) lines of h = absurd h
 last_ending (Tail mark) lines of h = h
@@ -274,7 +274,7 @@ mutual
   before_bare (Loop list item inside) lines after = ap (λ x. Then (Loop list item x) (bare after)) (logged_bare inside lines)
   before_bare (Return e) lines after = line_bare lines (Then (Return e) after)
   before_bare (Extend r) lines after = line_bare lines (Then (Extend r) after)
-  before_bare (Overflow within) lines after = refl
+  before_bare (Overflow within limit) lines after = refl
   before_bare (Log term place) lines after = refl
   before_bare (Split inside within) lines after = ap (λ x. body_before x (bare after)) (logged_bare inside lines)
   before_bare (Tail mark) lines after = refl
@@ -313,7 +313,7 @@ module _ {A : Type 0} (each : Stmt → List A) (own : IsOwn each) where
     before_of (Loop list item inside) lines after = ap (λ xs. (xs ++ of_body each (logged lines inside)) ++ of_body each after) (own.loop list item (logged lines inside) inside) ∙ ap (λ xs. (each (Loop list item inside) ++ xs) ++ of_body each after) (logged_of inside lines)
     before_of (Return e) lines after = line_of lines (Then (Return e) after)
     before_of (Extend r) lines after = line_of lines (Then (Extend r) after)
-    before_of (Overflow within) lines after = refl
+    before_of (Overflow within limit) lines after = refl
     before_of (Log term place) lines after = refl
     before_of (Split inside within) lines after = ap (λ xs. (xs ++ of_body each (logged lines inside)) ++ of_body each after) (own.split within (logged lines inside) inside) ∙ ap (λ xs. (each (Split inside within) ++ xs) ++ of_body each after) (logged_of inside lines)
     before_of (Tail mark) lines after = refl

@@ -37,7 +37,7 @@ use Rattle.isle_simulation.specs.Manner.{bare_manner, lined_manner}
 use Rattle.isle_simulation.specs.Telling.{line_before, log_line}
 use Rattle.isle_simulation.proofs.LocalStmts.{local_by}
 use Rattle.isle_simulation.proofs.LoggedLaws.{logged_none}
-use Rattle.isle_simulation.proofs.Written.{written_operand, written_read, written_list, bound_expr, bound_stmt, arm_stmt, written_arm, match_read, result_stmt, stop_before, told_before, told_body, told_control, told_each, block_body, control_stmt, lets, written_body, logged_function, function_of}
+use Rattle.isle_simulation.proofs.Written.{written_operand, written_read, written_list, bound_expr, bound_stmt, arm_stmt, written_arm, match_read, result_stmt, stop_before, told_before, told_body, told_control, told_each, block_body, control_stmt, lets, written_body, logged_function, open_function}
 
 -- ---- lists
 
@@ -87,7 +87,7 @@ mutual
   before_lines (Loop list item inside) lines after h = ap (λ ls. ls ++ lines_of after) (logged_lines inside lines h)
   before_lines (Return e) lines after h = line_lines lines (Then (Return e) after)
   before_lines (Extend r) lines after h = line_lines lines (Then (Extend r) after)
-  before_lines (Overflow within) lines after h = refl
+  before_lines (Overflow within limit) lines after h = refl
   before_lines (Log term place) lines after h = cc
   before_lines (Split inside within) lines after h = ap (λ ls. ls ++ lines_of after) (logged_lines inside lines h)
   before_lines (Tail mark) lines after h = refl
@@ -113,12 +113,12 @@ result_results return_kind.Plain r = refl
 result_results return_kind.Option r = refl
 result_results return_kind.Iterator r = refl
 
-stop_results : (several : Bool) (c : Control) (after : Body) → of_body own_results (stop_before false several c after) ≡ of_body own_results after
-stop_results true (block.Return place result) after = refl
-stop_results true (block.Match source arms) after = refl
-stop_results true (block.Equal a b body) after = refl
-stop_results true (block.Loop result body) after = refl
-stop_results false c after = refl
+stop_results : (limit : ℕ) (several : Bool) (c : Control) (after : Body) → of_body own_results (stop_before (bare_manner limit) several c after) ≡ of_body own_results after
+stop_results limit true (block.Return place result) after = refl
+stop_results limit true (block.Match source arms) after = refl
+stop_results limit true (block.Equal a b body) after = refl
+stop_results limit true (block.Loop result body) after = refl
+stop_results limit false c after = refl
 
 arm_results : (s : Setting) (bound : List ℕ) (source : BindingId) (c : Constraint) (places : List (Option BindingId)) (inside : Body) → of_stmt own_results (arm_stmt s bound source c places inside) ≡ of_body own_results inside
 arm_results s bound source (constraint.ConstBool val) places inside = refl
@@ -127,35 +127,6 @@ arm_results s bound source (constraint.ConstPrim val) places inside = refl
 arm_results s bound source (constraint.Variant ty variant) places inside = refl
 arm_results s bound source (constraint.Struct ty) places inside = refl
 arm_results s bound source constraint.Some places inside = refl
-
-mutual
-  control_results : (c : Control) (s : Setting) (bound made : List ℕ) → IsReadyControl s bound made c → results_in (control_stmt s bound c) ≡ length (control_positions c)
-  control_results (block.Match source (block.Arm c places body block.NoArm)) s bound made h =
-      ap length (arm_results s bound source c places (block_body s (bound_within bound places) body Done))
-      ∙ block_results body s (bound_within bound places) made Done h.1.2.2 ∙ sym (length-append (return_positions body) [])
-  control_results (block.Match source (block.Arm c places body (block.Arm d others inside arms))) s bound made h = arms_results (block.Arm c places body (block.Arm d others inside arms)) s bound made source h.1.0 h.1.2
-  control_results (block.Match source block.NoArm) s bound made h = absurd h.0
-  control_results (block.Equal a b body) s bound made h = block_results body s bound made Done h.1 ∙ sym (length-append (return_positions body) []) ∙ ap length (append-nil (return_positions body))
-  control_results (block.Loop result body) s bound made h = block_results body s (bound ++ result.0 ∷ []) made Done h.1 ∙ sym (length-append (return_positions body) []) ∙ ap length (append-nil (return_positions body))
-  control_results (block.Return pos result) s bound made h = result_results (kind_of s.term.kind) (written_read s bound false result)
-
-  block_results : (b : Block) (s : Setting) (bound made : List ℕ) (end : Body) → IsReadyFrom s bound made b → results_of (block_body s bound b end) ≡ length (return_positions b) + results_of end
-  block_results block.Stop s bound made end h = omega arith
-  block_results (block.Step binds c more) s bound made end h =
-      let here = of_stmt own_results (control_stmt s (bound_by bound binds) c) in
-      let there = of_body own_results (stop_before false (gives_several s) c (block_body s (bound_by bound binds) more end)) in
-      let one : length here ≡ length (control_positions c) = control_results c s (bound_by bound binds) _ h.2 in
-      let others : length there ≡ length (return_positions more) + results_of end = ap length (stop_results (gives_several s) c (block_body s (bound_by bound binds) more end)) ∙ block_results more s (bound_by bound binds) _ end h.3 in
-      let apart : length (control_positions c ++ return_positions more) ≡ length (control_positions c) + length (return_positions more) = length-append (control_positions c) (return_positions more) in
-      ap length (lets_results s bound binds _) ∙ length-append here there ∙ omega arith
-
-  arms_results : (arms : block.Arms) (s : Setting) (bound made : List ℕ) (source : BindingId) (over : Source) → AreReadyArms s bound made source over arms → length (of_arms own_results (told_each bare_manner s bound arms)) ≡ length (arms_positions arms)
-  arms_results block.NoArm s bound made source over h = refl
-  arms_results (block.Arm c places body arms) s bound made source over h =
-      let one : results_of (block_body s (bound_within bound places) body Done) ≡ length (return_positions body) + 0 = block_results body s (bound_within bound places) made Done h.2 in
-      let others : length (of_arms own_results (told_each bare_manner s bound arms)) ≡ length (arms_positions arms) = arms_results arms s bound made source over h.3 in
-      let apart : length (return_positions body ++ arms_positions arms) ≡ length (return_positions body) + length (arms_positions arms) = length-append (return_positions body) (arms_positions arms) in
-      length-append (of_body own_results (block_body s (bound_within bound places) body Done)) (of_arms own_results (told_each bare_manner s bound arms)) ∙ omega arith
 
 local_lines : (often : Bool) (n : ℕ) (e : TExpr) → of_stmt own_lines (local_stmt often n e) ≡ []
 local_lines often n e = local_by (λ st. of_stmt own_lines st ≡ []) often n e refl (λ borrow call is. refl)
@@ -169,12 +140,12 @@ result_lines return_kind.Plain r = refl
 result_lines return_kind.Option r = refl
 result_lines return_kind.Iterator r = refl
 
-stop_lines : (several : Bool) (c : Control) (after : Body) → lines_of (stop_before false several c after) ≡ lines_of after
-stop_lines true (block.Return place result) after = refl
-stop_lines true (block.Match source arms) after = refl
-stop_lines true (block.Equal a b body) after = refl
-stop_lines true (block.Loop result body) after = refl
-stop_lines false c after = refl
+stop_lines : (limit : ℕ) (several : Bool) (c : Control) (after : Body) → lines_of (stop_before (bare_manner limit) several c after) ≡ lines_of after
+stop_lines limit true (block.Return place result) after = refl
+stop_lines limit true (block.Match source arms) after = refl
+stop_lines limit true (block.Equal a b body) after = refl
+stop_lines limit true (block.Loop result body) after = refl
+stop_lines limit false c after = refl
 
 arm_own : (s : Setting) (bound : List ℕ) (source : BindingId) (c : Constraint) (places : List (Option BindingId)) (inside : Body) → of_stmt own_lines (arm_stmt s bound source c places inside) ≡ lines_of inside
 arm_own s bound source (constraint.ConstBool val) places inside = refl
@@ -183,29 +154,6 @@ arm_own s bound source (constraint.ConstPrim val) places inside = refl
 arm_own s bound source (constraint.Variant ty variant) places inside = refl
 arm_own s bound source (constraint.Struct ty) places inside = refl
 arm_own s bound source constraint.Some places inside = refl
-
-mutual
-  control_lines : (c : Control) (s : Setting) (bound made : List ℕ) → IsReadyControl s bound made c → of_stmt own_lines (control_stmt s bound c) ≡ []
-  control_lines (block.Match source (block.Arm c places body block.NoArm)) s bound made h =
-      arm_own s bound source c places (block_body s (bound_within bound places) body Done) ∙ block_lines body s (bound_within bound places) made Done h.1.2.2
-  control_lines (block.Match source (block.Arm c places body (block.Arm d others inside arms))) s bound made h = no_arms_lines (block.Arm c places body (block.Arm d others inside arms)) s bound made source h.1.0 h.1.2
-  control_lines (block.Match source block.NoArm) s bound made h = absurd h.0
-  control_lines (block.Equal a b body) s bound made h = block_lines body s bound made Done h.1
-  control_lines (block.Loop result body) s bound made h = block_lines body s (bound ++ result.0 ∷ []) made Done h.1
-  control_lines (block.Return pos result) s bound made h = result_lines (kind_of s.term.kind) (written_read s bound false result)
-
-  block_lines : (b : Block) (s : Setting) (bound made : List ℕ) (end : Body) → IsReadyFrom s bound made b → lines_of (block_body s bound b end) ≡ lines_of end
-  block_lines block.Stop s bound made end h = refl
-  block_lines (block.Step binds c more) s bound made end h =
-      lets_lines s bound binds _
-      ∙ ap (λ ls. ls ++ lines_of (stop_before false (gives_several s) c (block_body s (bound_by bound binds) more end))) (control_lines c s (bound_by bound binds) _ h.2)
-      ∙ stop_lines (gives_several s) c (block_body s (bound_by bound binds) more end)
-      ∙ block_lines more s (bound_by bound binds) _ end h.3
-
-  no_arms_lines : (arms : block.Arms) (s : Setting) (bound made : List ℕ) (source : BindingId) (over : Source) → AreReadyArms s bound made source over arms → of_arms own_lines (told_each bare_manner s bound arms) ≡ []
-  no_arms_lines block.NoArm s bound made source over h = refl
-  no_arms_lines (block.Arm c places body arms) s bound made source over h =
-      ap (λ ls. ls ++ of_arms own_lines (told_each bare_manner s bound arms)) (block_lines body s (bound_within bound places) made Done h.2) ∙ no_arms_lines arms s bound made source over h.3
 
 -- ---- positions
 
@@ -243,12 +191,12 @@ lets_logged lines s bound (b ∷ binds) more =
     ∙ ap (λ n. Then (bound_stmt s bound b) (logged (drop n lines) (lets s (bound ++ b.0 ∷ []) binds more))) (ap length (local_results (binds_list s b) b.0 (bound_expr s bound b (slice_get s.bindings b.0))))
     ∙ ap (Then (bound_stmt s bound b)) (lets_logged lines s (bound ++ b.0 ∷ []) binds more)
 
-stop_logged : (lines : List LogLine) (several : Bool) (c : Control) (after : Body) → stop_before false several c (logged lines after) ≡ logged lines (stop_before false several c after)
-stop_logged lines true (block.Return place result) after = refl
-stop_logged lines true (block.Match source arms) after = refl
-stop_logged lines true (block.Equal a b body) after = refl
-stop_logged lines true (block.Loop result body) after = refl
-stop_logged lines false c after = refl
+stop_logged : (limit : ℕ) (lines : List LogLine) (several : Bool) (c : Control) (after : Body) → stop_before (bare_manner limit) several c (logged lines after) ≡ logged lines (stop_before (bare_manner limit) several c after)
+stop_logged limit lines true (block.Return place result) after = refl
+stop_logged limit lines true (block.Match source arms) after = refl
+stop_logged limit lines true (block.Equal a b body) after = refl
+stop_logged limit lines true (block.Loop result body) after = refl
+stop_logged limit lines false c after = refl
 
 result_logged : (l : LogLine) (lines : List LogLine) (kind : ReturnKind) (r : Read) (after : Body) → logged_before (l ∷ lines) (result_stmt kind r) after ≡ line_before l (Then (result_stmt kind r) after)
 result_logged l lines return_kind.Plain r after = refl
@@ -267,68 +215,119 @@ arm_logged lines s bound source constraint.Some places inside after = refl
 parted : (line : Pos → LogLine) (ps qs : List Pos) (lines : List LogLine) → map line ps ++ (map line qs ++ lines) ≡ map line (ps ++ qs) ++ lines
 parted line ps qs lines = sym (append_assoc (map line ps) (map line qs) lines) ∙ ap (λ ls. ls ++ lines) (sym (map-append line ps qs))
 
-mutual
-  -- statements with a line before each Return are those with these lines in order
-  told_logged : (b : Block) (line : Pos → LogLine) (s : Setting) (bound made : List ℕ) (end : Body) (lines : List LogLine) → IsReadyFrom s bound made b
-      → told_body (lined_manner line) s bound b (logged lines end) ≡ logged (map line (return_positions b) ++ lines) (block_body s bound b end)
-  told_logged block.Stop line s bound made end lines h = refl
-  told_logged (block.Step binds c more) line s bound made end lines h =
-      let now = bound_by bound binds in
-      let all = map line (control_positions c ++ return_positions more) ++ lines in
-      let rest = map line (return_positions more) ++ lines in
-      let after = block_body s now more end in
-      let left : drop (results_in (control_stmt s now c)) all ≡ rest =
-      ap (λ n. drop n all) (control_results c s now _ h.2) ∙ drop_lines line (control_positions c) (return_positions more) lines in
-      ap (lets s bound binds)
-      (ap (λ x. told_before (Some line) c (Then (told_control (lined_manner line) s now c) (stop_before false (gives_several s) c x))) (told_logged more line s now _ end lines h.3)
-      ∙ ap (λ x. told_before (Some line) c (Then (told_control (lined_manner line) s now c) x)) (stop_logged rest (gives_several s) c after)
-      ∙ control_logged c line s now _ (return_positions more) lines (logged rest (stop_before false (gives_several s) c after)) h.2
-      ∙ ap (λ ls. logged_before all (control_stmt s now c) (logged ls (stop_before false (gives_several s) c after))) (sym left))
-      ∙ sym (lets_logged all s bound binds (Then (control_stmt s now c) (stop_before false (gives_several s) c after)))
+module _ (limit : ℕ) where
+  mutual
+    control_results : (c : Control) (s : Setting) (bound made : List ℕ) → IsReadyControl s bound made c → results_in (control_stmt limit s bound c) ≡ length (control_positions c)
+    control_results (block.Match source (block.Arm c places body block.NoArm)) s bound made h =
+        ap length (arm_results s bound source c places (block_body limit s (bound_within bound places) body Done))
+        ∙ block_results body s (bound_within bound places) made Done h.1.2.2 ∙ sym (length-append (return_positions body) [])
+    control_results (block.Match source (block.Arm c places body (block.Arm d others inside arms))) s bound made h = arms_results (block.Arm c places body (block.Arm d others inside arms)) s bound made source h.1.0 h.1.2
+    control_results (block.Match source block.NoArm) s bound made h = absurd h.0
+    control_results (block.Equal a b body) s bound made h = block_results body s bound made Done h.1 ∙ sym (length-append (return_positions body) []) ∙ ap length (append-nil (return_positions body))
+    control_results (block.Loop result body) s bound made h = block_results body s (bound ++ result.0 ∷ []) made Done h.1 ∙ sym (length-append (return_positions body) []) ∙ ap length (append-nil (return_positions body))
+    control_results (block.Return pos result) s bound made h = result_results (kind_of s.term.kind) (written_read s bound false result)
 
-  control_logged : (c : Control) (line : Pos → LogLine) (s : Setting) (bound made : List ℕ) (others : List Pos) (lines : List LogLine) (after : Body) → IsReadyControl s bound made c
-      → told_before (Some line) c (Then (told_control (lined_manner line) s bound c) after) ≡ logged_before (map line (control_positions c ++ others) ++ lines) (control_stmt s bound c) after
-  control_logged (block.Match source (block.Arm c places body block.NoArm)) line s bound made others lines after h =
-      let ps = return_positions body in
-      let inside = block_body s (bound_within bound places) body Done in
-      ap (λ x. Then (arm_stmt s bound source c places x) after) (told_logged body line s (bound_within bound places) made Done (map line others ++ lines) h.1.2.2)
-      ∙ sym (arm_logged (map line ps ++ (map line others ++ lines)) s bound source c places inside after)
-      ∙ ap (λ ls. logged_before ls (arm_stmt s bound source c places inside) after) (parted line ps others lines ∙ ap (λ qs. map line (qs ++ others) ++ lines) (sym (append-nil ps)))
-  control_logged (block.Match source (block.Arm c places body (block.Arm d others' inside arms))) line s bound made others lines after h =
-      let all = block.Arm c places body (block.Arm d others' inside arms) in
-      ap (λ x. Then (Match (match_read s bound source c) x) after) (arms_logged (block.Arm c places body (block.Arm d others' inside arms)) line s bound made source h.1.0 (map line others ++ lines) h.1.2)
-      ∙ ap (λ ls. Then (Match (match_read s bound source c) (logged_arms ls (told_each bare_manner s bound all))) after) (parted line (arms_positions all) others lines)
-  control_logged (block.Match source block.NoArm) line s bound made others lines after h = absurd h.0
-  control_logged (block.Equal a b body) line s bound made others lines after h =
-      let ps = return_positions body in
-      let x = written_operand s bound a in
-      let y = written_operand s bound b in
-      let inside = block_body s bound body Done in
-      ap (λ i. Then (IfEq x y i) after) (told_logged body line s bound made Done (map line others ++ lines) h.1)
-      ∙ ap (λ ls. logged_before ls (IfEq x y inside) after) (parted line ps others lines)
-  control_logged (block.Loop result body) line s bound made others lines after h =
-      let ps = return_positions body in
-      let list = written_list (looped_local s result) in
-      let inside = block_body s (bound ++ result.0 ∷ []) body Done in
-      ap (λ i. Then (Loop list result.0 i) after) (told_logged body line s (bound ++ result.0 ∷ []) made Done (map line others ++ lines) h.1)
-      ∙ ap (λ ls. logged_before ls (Loop list result.0 inside) after) (parted line ps others lines)
-  control_logged (block.Return pos result) line s bound made others lines after h = sym (result_logged (line pos) (map line others ++ lines) (kind_of s.term.kind) (written_read s bound false result) after)
+    block_results : (b : Block) (s : Setting) (bound made : List ℕ) (end : Body) → IsReadyFrom s bound made b → results_of (block_body limit s bound b end) ≡ length (return_positions b) + results_of end
+    block_results block.Stop s bound made end h = omega arith
+    block_results (block.Step binds c more) s bound made end h =
+        let here = of_stmt own_results (control_stmt limit s (bound_by bound binds) c) in
+        let there = of_body own_results (stop_before (bare_manner limit) (gives_several s) c (block_body limit s (bound_by bound binds) more end)) in
+        let one : length here ≡ length (control_positions c) = control_results c s (bound_by bound binds) _ h.2 in
+        let others : length there ≡ length (return_positions more) + results_of end = ap length (stop_results limit (gives_several s) c (block_body limit s (bound_by bound binds) more end)) ∙ block_results more s (bound_by bound binds) _ end h.3 in
+        let apart : length (control_positions c ++ return_positions more) ≡ length (control_positions c) + length (return_positions more) = length-append (control_positions c) (return_positions more) in
+        ap length (lets_results s bound binds _) ∙ length-append here there ∙ omega arith
 
-  arms_logged : (arms : block.Arms) (line : Pos → LogLine) (s : Setting) (bound made : List ℕ) (source : BindingId) (over : Source) (lines : List LogLine) → AreReadyArms s bound made source over arms
-      → told_each (lined_manner line) s bound arms ≡ logged_arms (map line (arms_positions arms) ++ lines) (told_each bare_manner s bound arms)
-  arms_logged block.NoArm line s bound made source over lines h = refl
-  arms_logged (block.Arm c places body arms) line s bound made source over lines h =
-      let ps = return_positions body in
-      let qs = arms_positions arms in
-      let pat = written_arm s.env c places in
-      let inside = block_body s (bound_within bound places) body Done in
-      let all = map line (ps ++ qs) ++ lines in
-      let count : results_of inside ≡ length ps = block_results body s (bound_within bound places) made Done h.2 ∙ omega arith in
-      let left : drop (results_of inside) all ≡ map line qs ++ lines = ap (λ n. drop n all) count ∙ drop_lines line ps qs lines in
-      ap (λ i. tree.Arm pat i (told_each (lined_manner line) s bound arms)) (told_logged body line s (bound_within bound places) made Done (map line qs ++ lines) h.2 ∙ ap (λ ls. logged ls inside) (parted line ps qs lines))
-      ∙ ap (tree.Arm pat (logged all inside)) (arms_logged arms line s bound made source over lines h.3 ∙ ap (λ ls. logged_arms ls (told_each bare_manner s bound arms)) (sym left))
+    arms_results : (arms : block.Arms) (s : Setting) (bound made : List ℕ) (source : BindingId) (over : Source) → AreReadyArms s bound made source over arms → length (of_arms own_results (told_each (bare_manner limit) s bound arms)) ≡ length (arms_positions arms)
+    arms_results block.NoArm s bound made source over h = refl
+    arms_results (block.Arm c places body arms) s bound made source over h =
+        let one : results_of (block_body limit s (bound_within bound places) body Done) ≡ length (return_positions body) + 0 = block_results body s (bound_within bound places) made Done h.2 in
+        let others : length (of_arms own_results (told_each (bare_manner limit) s bound arms)) ≡ length (arms_positions arms) = arms_results arms s bound made source over h.3 in
+        let apart : length (return_positions body ++ arms_positions arms) ≡ length (return_positions body) + length (arms_positions arms) = length-append (return_positions body) (arms_positions arms) in
+        length-append (of_body own_results (block_body limit s (bound_within bound places) body Done)) (of_arms own_results (told_each (bare_manner limit) s bound arms)) ∙ omega arith
 
--- ---- functions
+  mutual
+    control_lines : (c : Control) (s : Setting) (bound made : List ℕ) → IsReadyControl s bound made c → of_stmt own_lines (control_stmt limit s bound c) ≡ []
+    control_lines (block.Match source (block.Arm c places body block.NoArm)) s bound made h =
+        arm_own s bound source c places (block_body limit s (bound_within bound places) body Done) ∙ block_lines body s (bound_within bound places) made Done h.1.2.2
+    control_lines (block.Match source (block.Arm c places body (block.Arm d others inside arms))) s bound made h = no_arms_lines (block.Arm c places body (block.Arm d others inside arms)) s bound made source h.1.0 h.1.2
+    control_lines (block.Match source block.NoArm) s bound made h = absurd h.0
+    control_lines (block.Equal a b body) s bound made h = block_lines body s bound made Done h.1
+    control_lines (block.Loop result body) s bound made h = block_lines body s (bound ++ result.0 ∷ []) made Done h.1
+    control_lines (block.Return pos result) s bound made h = result_lines (kind_of s.term.kind) (written_read s bound false result)
+
+    block_lines : (b : Block) (s : Setting) (bound made : List ℕ) (end : Body) → IsReadyFrom s bound made b → lines_of (block_body limit s bound b end) ≡ lines_of end
+    block_lines block.Stop s bound made end h = refl
+    block_lines (block.Step binds c more) s bound made end h =
+        lets_lines s bound binds _
+        ∙ ap (λ ls. ls ++ lines_of (stop_before (bare_manner limit) (gives_several s) c (block_body limit s (bound_by bound binds) more end))) (control_lines c s (bound_by bound binds) _ h.2)
+        ∙ stop_lines limit (gives_several s) c (block_body limit s (bound_by bound binds) more end)
+        ∙ block_lines more s (bound_by bound binds) _ end h.3
+
+    no_arms_lines : (arms : block.Arms) (s : Setting) (bound made : List ℕ) (source : BindingId) (over : Source) → AreReadyArms s bound made source over arms → of_arms own_lines (told_each (bare_manner limit) s bound arms) ≡ []
+    no_arms_lines block.NoArm s bound made source over h = refl
+    no_arms_lines (block.Arm c places body arms) s bound made source over h =
+        ap (λ ls. ls ++ of_arms own_lines (told_each (bare_manner limit) s bound arms)) (block_lines body s (bound_within bound places) made Done h.2) ∙ no_arms_lines arms s bound made source over h.3
+
+  mutual
+    -- statements with a line before each Return are those with these lines in order
+    told_logged : (b : Block) (line : Pos → LogLine) (s : Setting) (bound made : List ℕ) (end : Body) (lines : List LogLine) → IsReadyFrom s bound made b
+        → told_body (lined_manner line limit) s bound b (logged lines end) ≡ logged (map line (return_positions b) ++ lines) (block_body limit s bound b end)
+    told_logged block.Stop line s bound made end lines h = refl
+    told_logged (block.Step binds c more) line s bound made end lines h =
+        let now = bound_by bound binds in
+        let all = map line (control_positions c ++ return_positions more) ++ lines in
+        let rest = map line (return_positions more) ++ lines in
+        let after = block_body limit s now more end in
+        let left : drop (results_in (control_stmt limit s now c)) all ≡ rest =
+        ap (λ n. drop n all) (control_results c s now _ h.2) ∙ drop_lines line (control_positions c) (return_positions more) lines in
+        ap (lets s bound binds)
+        (ap (λ x. told_before (Some line) c (Then (told_control (lined_manner line limit) s now c) (stop_before (bare_manner limit) (gives_several s) c x))) (told_logged more line s now _ end lines h.3)
+        ∙ ap (λ x. told_before (Some line) c (Then (told_control (lined_manner line limit) s now c) x)) (stop_logged limit rest (gives_several s) c after)
+        ∙ control_logged c line s now _ (return_positions more) lines (logged rest (stop_before (bare_manner limit) (gives_several s) c after)) h.2
+        ∙ ap (λ ls. logged_before all (control_stmt limit s now c) (logged ls (stop_before (bare_manner limit) (gives_several s) c after))) (sym left))
+        ∙ sym (lets_logged all s bound binds (Then (control_stmt limit s now c) (stop_before (bare_manner limit) (gives_several s) c after)))
+
+    control_logged : (c : Control) (line : Pos → LogLine) (s : Setting) (bound made : List ℕ) (others : List Pos) (lines : List LogLine) (after : Body) → IsReadyControl s bound made c
+        → told_before (Some line) c (Then (told_control (lined_manner line limit) s bound c) after) ≡ logged_before (map line (control_positions c ++ others) ++ lines) (control_stmt limit s bound c) after
+    control_logged (block.Match source (block.Arm c places body block.NoArm)) line s bound made others lines after h =
+        let ps = return_positions body in
+        let inside = block_body limit s (bound_within bound places) body Done in
+        ap (λ x. Then (arm_stmt s bound source c places x) after) (told_logged body line s (bound_within bound places) made Done (map line others ++ lines) h.1.2.2)
+        ∙ sym (arm_logged (map line ps ++ (map line others ++ lines)) s bound source c places inside after)
+        ∙ ap (λ ls. logged_before ls (arm_stmt s bound source c places inside) after) (parted line ps others lines ∙ ap (λ qs. map line (qs ++ others) ++ lines) (sym (append-nil ps)))
+    control_logged (block.Match source (block.Arm c places body (block.Arm d others' inside arms))) line s bound made others lines after h =
+        let all = block.Arm c places body (block.Arm d others' inside arms) in
+        ap (λ x. Then (Match (match_read s bound source c) x) after) (arms_logged (block.Arm c places body (block.Arm d others' inside arms)) line s bound made source h.1.0 (map line others ++ lines) h.1.2)
+        ∙ ap (λ ls. Then (Match (match_read s bound source c) (logged_arms ls (told_each (bare_manner limit) s bound all))) after) (parted line (arms_positions all) others lines)
+    control_logged (block.Match source block.NoArm) line s bound made others lines after h = absurd h.0
+    control_logged (block.Equal a b body) line s bound made others lines after h =
+        let ps = return_positions body in
+        let x = written_operand s bound a in
+        let y = written_operand s bound b in
+        let inside = block_body limit s bound body Done in
+        ap (λ i. Then (IfEq x y i) after) (told_logged body line s bound made Done (map line others ++ lines) h.1)
+        ∙ ap (λ ls. logged_before ls (IfEq x y inside) after) (parted line ps others lines)
+    control_logged (block.Loop result body) line s bound made others lines after h =
+        let ps = return_positions body in
+        let list = written_list (looped_local s result) in
+        let inside = block_body limit s (bound ++ result.0 ∷ []) body Done in
+        ap (λ i. Then (Loop list result.0 i) after) (told_logged body line s (bound ++ result.0 ∷ []) made Done (map line others ++ lines) h.1)
+        ∙ ap (λ ls. logged_before ls (Loop list result.0 inside) after) (parted line ps others lines)
+    control_logged (block.Return pos result) line s bound made others lines after h = sym (result_logged (line pos) (map line others ++ lines) (kind_of s.term.kind) (written_read s bound false result) after)
+
+    arms_logged : (arms : block.Arms) (line : Pos → LogLine) (s : Setting) (bound made : List ℕ) (source : BindingId) (over : Source) (lines : List LogLine) → AreReadyArms s bound made source over arms
+        → told_each (lined_manner line limit) s bound arms ≡ logged_arms (map line (arms_positions arms) ++ lines) (told_each (bare_manner limit) s bound arms)
+    arms_logged block.NoArm line s bound made source over lines h = refl
+    arms_logged (block.Arm c places body arms) line s bound made source over lines h =
+        let ps = return_positions body in
+        let qs = arms_positions arms in
+        let pat = written_arm s.env c places in
+        let inside = block_body limit s (bound_within bound places) body Done in
+        let all = map line (ps ++ qs) ++ lines in
+        let count : results_of inside ≡ length ps = block_results body s (bound_within bound places) made Done h.2 ∙ omega arith in
+        let left : drop (results_of inside) all ≡ map line qs ++ lines = ap (λ n. drop n all) count ∙ drop_lines line ps qs lines in
+        ap (λ i. tree.Arm pat i (told_each (lined_manner line limit) s bound arms)) (told_logged body line s (bound_within bound places) made Done (map line qs ++ lines) h.2 ∙ ap (λ ls. logged ls inside) (parted line ps qs lines))
+        ∙ ap (tree.Arm pat (logged all inside)) (arms_logged arms line s bound made source over lines h.3 ∙ ap (λ ls. logged_arms ls (told_each (bare_manner limit) s bound arms)) (sym left))
 
 tail_results : (mark : Option (Option (List ℕ × List ℕ))) (x : Bool) → results_of (cond x Done (tail_body mark)) ≡ 0
 tail_results mark true = refl
@@ -346,31 +345,31 @@ logging_lines false files s ps n e = take_none n
 
 -- the log lines of the statements that a lawful block gives
 pub written_lines : (options : CodegenOptions) (files : Files) (env : Environment) (t : Term) (bs : List Binding) (b : Block) → IsLawfulBlock (setting env t bs) b
-    → lines_of (logged (log_lines options files (setting env t bs) b) (block_body (setting env t bs) [] (completed (setting env t bs) [] b) (tail_in files env t b))) ≡ log_lines options files (setting env t bs) b
+    → lines_of (logged (log_lines options files (setting env t bs) b) (block_body options.max_returns (setting env t bs) [] (completed (setting env t bs) [] b) (tail_in files env t b))) ≡ log_lines options files (setting env t bs) b
 written_lines options files env t bs b h =
     let s = setting env t bs in
     let c = completed s [] b in
     let ready = completed_ready s b h in
     let end = tail_in files env t b in
     let lines = log_lines options files s b in
-    let count : results_of (block_body s [] c end) ≡ length (return_positions b) =
-    block_results c s [] [] end ready ∙ ap (λ n. length (return_positions c) + n) (tail_results (mark_in files env t) (ends_in_return b)) ∙ omega arith ∙ ap length (completed_positions b s []) in
-    logged_lines (block_body s [] c end) lines (block_lines c s [] [] end ready ∙ tail_lines (mark_in files env t) (ends_in_return b))
-    ∙ logging_lines options.emit_logging files s (return_positions b) (results_of (block_body s [] c end)) count
+    let count : results_of (block_body options.max_returns s [] c end) ≡ length (return_positions b) =
+    block_results options.max_returns c s [] [] end ready ∙ ap (λ n. length (return_positions c) + n) (tail_results (mark_in files env t) (ends_in_return b)) ∙ omega arith ∙ ap length (completed_positions b s []) in
+    logged_lines (block_body options.max_returns s [] c end) lines (block_lines options.max_returns c s [] [] end ready ∙ tail_lines (mark_in files env t) (ends_in_return b))
+    ∙ logging_lines options.emit_logging files s (return_positions b) (results_of (block_body options.max_returns s [] c end)) count
 
-told_by : (logging : Bool) (files : Files) (env : Environment) (t : Term) (bs : List Binding) (b : Block) → IsLawfulBlock (setting env t bs) b
-    → function_with env t (told_body (record { telling = cond logging (Some (log_line files (setting env t bs))) None; inside = false }) (setting env t bs) [] (completed (setting env t bs) [] b) (tail_in files env t b))
-    ≡ function_with env t (logged (cond logging (map (log_line files (setting env t bs)) (return_positions b)) []) (written_body files env t bs b))
-told_by true files env t bs b h =
+told_by : (logging : Bool) (options : CodegenOptions) (files : Files) (env : Environment) (t : Term) (bs : List Binding) (b : Block) → IsLawfulBlock (setting env t bs) b
+    → function_with env t (told_body (record { telling = cond logging (Some (log_line files (setting env t bs))) None; limit = options.max_returns; above = None; inside = false }) (setting env t bs) [] (completed (setting env t bs) [] b) (tail_in files env t b))
+    ≡ function_with env t (logged (cond logging (map (log_line files (setting env t bs)) (return_positions b)) []) (written_body options files env t bs b))
+told_by true options files env t bs b h =
     let s = setting env t bs in
     let c = completed s [] b in
     let end = tail_in files env t b in
     let line = log_line files s in
     ap (function_with env t)
-    (ap (told_body (lined_manner line) s [] c) (sym (logged_none end)) ∙ told_logged c line s [] [] end [] (completed_ready s b h)
-    ∙ ap (λ ls. logged ls (block_body s [] c end)) (append-nil (map line (return_positions c)) ∙ ap (map line) (completed_positions b s [])))
-told_by false files env t bs b h = ap (function_with env t) (sym (logged_none (written_body files env t bs b)))
+    (ap (told_body (lined_manner line options.max_returns) s [] c) (sym (logged_none end)) ∙ told_logged options.max_returns c line s [] [] end [] (completed_ready s b h)
+    ∙ ap (λ ls. logged ls (block_body options.max_returns s [] c end)) (append-nil (map line (return_positions c)) ∙ ap (map line) (completed_positions b s [])))
+told_by false options files env t bs b h = ap (function_with env t) (sym (logged_none (written_body options files env t bs b)))
 
--- the function of a term, with a line before each Return, is that with these lines
-pub told_is : (options : CodegenOptions) (files : Files) (env : Environment) (t : Term) (bs : List Binding) (b : Block) → IsLawfulBlock (setting env t bs) b → function_of options files env t bs b ≡ logged_function options files env t bs b
-told_is options files env t bs b h = told_by options.emit_logging files env t bs b h
+-- the function of a term, with a line before each Return and without closures, is that with these lines
+pub told_is : (options : CodegenOptions) (files : Files) (env : Environment) (t : Term) (bs : List Binding) (b : Block) → IsLawfulBlock (setting env t bs) b → open_function options files env t bs b ≡ logged_function options files env t bs b
+told_is options files env t bs b h = told_by options.emit_logging options files env t bs b h

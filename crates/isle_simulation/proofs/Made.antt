@@ -46,7 +46,7 @@ use Rattle.isle_simulation.specs.Operands.{constant, in_place, tested, is_bound,
 use Rattle.isle_simulation.specs.Patterns.{some_pattern, arm_pattern as pattern_in_arm}
 use Rattle.isle_simulation.specs.References.{is_declared, result_type, is_reference_in, read_as}
 use Rattle.isle_simulation.specs.Statements.{callee_of, read_before, read_in, reads, call_on, call_of, extraction_of, read_of, field_before, field_reads, made_of, made_in, computed, stmt_before, binds_list, let_of, lets, if_eq, if_let, return_of, stop_before, list_local, loop_of, plain_read, match_read, match_of, arm_before, told_body, told_control, told_each}
-use Rattle.isle_simulation.specs.Manner.{Manner, manner_of}
+use Rattle.isle_simulation.specs.Manner.{Manner, manner_of, has_closure, closed_if, arm_manner, arm_body}
 use Rattle.isle_simulation.specs.Telling.{Telling, line_before, told_before}
 use Rattle.isle_simulation.specs.TermFunction.{tail_in, function_with, term_function}
 use Rattle.isle_simulation.proofs.ArmsRun.{arm_pattern}
@@ -206,12 +206,12 @@ return_made return_kind.Plain o x e = rw e refl
 return_made return_kind.Option o x e = rw e refl
 return_made return_kind.Iterator o x e = rw e refl
 
-stop_made : (inside several : Bool) (c : Control) (o : Option Body) (after : Body) → o ≡ Some after → stop_before inside several c o ≡ Some (written.stop_before inside several c after)
-stop_made inside true (block.Return place result) o after e = ap (stmt_before (Some (Overflow inside))) e
-stop_made inside true (block.Match source arms) o after e = e
-stop_made inside true (block.Equal a b body) o after e = e
-stop_made inside true (block.Loop result body) o after e = e
-stop_made inside false c o after e = e
+stop_made : (manner : Manner) (several : Bool) (c : Control) (o : Option Body) (after : Body) → o ≡ Some after → stop_before manner several c o ≡ Some (written.stop_before manner several c after)
+stop_made manner true (block.Return place result) o after e = ap (stmt_before (Some (Overflow manner.inside manner.limit))) e
+stop_made manner true (block.Match source arms) o after e = e
+stop_made manner true (block.Equal a b body) o after e = e
+stop_made manner true (block.Loop result body) o after e = e
+stop_made manner false c o after e = e
 
 loop_made : (o : Option ℕ) (list item : ℕ) (i : Option Body) (inside : Body) → o ≡ Some list → i ≡ Some inside → loop_of o item i ≡ Some (Loop (written.written_list o) item inside)
 loop_made o list item i inside e f = rw (e, f) refl
@@ -258,33 +258,37 @@ match_made r q o arms e f = rw (e, f) refl
 before_arms : (p : Option TPat) (pat : TPat) (i : Option Body) (inside : Body) (o : Option tree.Arms) (arms : tree.Arms) → p ≡ Some pat → i ≡ Some inside → o ≡ Some arms → arm_before p i o ≡ Some (tree.Arm pat inside arms)
 before_arms p pat i inside o arms e f g = rw (e, f, g) refl
 
+-- statements in an arm, in a closure of their own or not
+arm_made : (manner : Manner) (b : Block) (o : Option Body) (made : Body) → o ≡ Some made → arm_body manner b o ≡ Some (written.arm_body manner b made)
+arm_made manner b o made e = ap (option_map (closed_if (has_closure manner b) manner.inside)) e
+
 mutual
   -- the statements of a lawful block
   block_made : (manner : Manner) (b : Block) (s : Setting) (bound made : List ℕ) (end : Body) → IsReadyFrom s bound made b → told_body manner s bound b (Some end) ≡ Some (written.told_body manner s bound b end)
   block_made manner Stop s bound made end k = refl
   block_made manner (Step binds c more) s bound made end k =
       lets_made s bound binds _ _ k.0
-      (told_made manner.telling c _ _ (before_made _ _ _ _ (control_made manner c s (bound_by bound binds) _ k.2) (stop_made manner.inside (gives_several s) c _ _ (block_made manner more s (bound_by bound binds) _ end k.3))))
+      (told_made manner.telling c _ _ (before_made _ _ _ _ (control_made manner c s (bound_by bound binds) _ k.2) (stop_made manner (gives_several s) c _ _ (block_made manner more s (bound_by bound binds) _ end k.3))))
 
   control_made : (manner : Manner) (c : Control) (s : Setting) (bound made : List ℕ) → IsReadyControl s bound made c → told_control manner s bound c ≡ Some (written.told_control manner s bound c)
   control_made manner (block.Match source (Arm (constraint.ConstBool val) places body NoArm)) s bound made k =
       let v = over_value s bound source (constraint.ConstBool val) k.1.0 (λ e. cc) k.1.1 k.1.2.0 in
-      test_made _ _ _ _ _ _ (operand_there s bound source v.ty v.ready) (test_there s.env (constraint.ConstBool val) tt) (block_made manner body s (bound_within bound places) made Done k.1.2.2)
+      test_made _ _ _ _ _ _ (operand_there s bound source v.ty v.ready) (test_there s.env (constraint.ConstBool val) tt) (arm_made manner body _ _ (block_made (arm_manner manner body) body s (bound_within bound places) made Done k.1.2.2))
   control_made manner (block.Match source (Arm (constraint.ConstInt val of) places body NoArm)) s bound made k =
       let v = over_value s bound source (constraint.ConstInt val of) k.1.0 (λ e. cc) k.1.1 k.1.2.0 in
-      test_made _ _ _ _ _ _ (operand_there s bound source v.ty v.ready) (test_there s.env (constraint.ConstInt val of) tt) (block_made manner body s (bound_within bound places) made Done k.1.2.2)
+      test_made _ _ _ _ _ _ (operand_there s bound source v.ty v.ready) (test_there s.env (constraint.ConstInt val of) tt) (arm_made manner body _ _ (block_made (arm_manner manner body) body s (bound_within bound places) made Done k.1.2.2))
   control_made manner (block.Match source (Arm (constraint.ConstPrim val) places body NoArm)) s bound made k =
       let v = over_value s bound source (constraint.ConstPrim val) k.1.0 (λ e. cc) k.1.1 k.1.2.0 in
-      test_made _ _ _ _ _ _ (operand_there s bound source v.ty v.ready) (test_there s.env (constraint.ConstPrim val) tt) (block_made manner body s (bound_within bound places) made Done k.1.2.2)
+      test_made _ _ _ _ _ _ (operand_there s bound source v.ty v.ready) (test_there s.env (constraint.ConstPrim val) tt) (arm_made manner body _ _ (block_made (arm_manner manner body) body s (bound_within bound places) made Done k.1.2.2))
   control_made manner (block.Match source (Arm (constraint.Variant of variant) places body NoArm)) s bound made k =
       let v = over_value s bound source (constraint.Variant of variant) k.1.0 (λ e. cc) k.1.1 k.1.2.0 in
-      pattern_made _ _ _ _ _ _ (arm_pattern s source v.ty (constraint.Variant of variant) places v.is k.1.2.1 tt).is (read_there s bound true source v.ty v.ready) (block_made manner body s (bound_within bound places) made Done k.1.2.2)
+      pattern_made _ _ _ _ _ _ (arm_pattern s source v.ty (constraint.Variant of variant) places v.is k.1.2.1 tt).is (read_there s bound true source v.ty v.ready) (arm_made manner body _ _ (block_made (arm_manner manner body) body s (bound_within bound places) made Done k.1.2.2))
   control_made manner (block.Match source (Arm (constraint.Struct of) places body NoArm)) s bound made k =
       let v = over_value s bound source (constraint.Struct of) k.1.0 (λ e. cc) k.1.1 k.1.2.0 in
-      pattern_made _ _ _ _ _ _ (arm_pattern s source v.ty (constraint.Struct of) places v.is k.1.2.1 tt).is (read_there s bound true source v.ty v.ready) (block_made manner body s (bound_within bound places) made Done k.1.2.2)
+      pattern_made _ _ _ _ _ _ (arm_pattern s source v.ty (constraint.Struct of) places v.is k.1.2.1 tt).is (read_there s bound true source v.ty v.ready) (arm_made manner body _ _ (block_made (arm_manner manner body) body s (bound_within bound places) made Done k.1.2.2))
   control_made manner (block.Match source (Arm constraint.Some places body NoArm)) s bound made k =
       let v = over_option s bound source k.1.0 k.1.1 k.1.2.0 in
-      pattern_made _ _ _ _ _ _ (some_made places k.1.2.1.0).1 (ap plain_read (option_there s bound source v.0 v.1)) (block_made manner body s (bound_within bound places) made Done k.1.2.2)
+      pattern_made _ _ _ _ _ _ (some_made places k.1.2.1.0).1 (ap plain_read (option_there s bound source v.0 v.1)) (arm_made manner body _ _ (block_made (arm_manner manner body) body s (bound_within bound places) made Done k.1.2.2))
   control_made manner (block.Match source (Arm c places body (Arm d others inside arms))) s bound made k =
       match_made _ _ _ _ (match_there s bound source k.1.0 c k.1.1 k.1.2.0) (each_made manner (Arm c places body (Arm d others inside arms)) s bound made source k.1.0 k.1.2)
   control_made manner (block.Match source NoArm) s bound made k = absurd k.0
@@ -297,7 +301,7 @@ mutual
   each_made : (manner : Manner) (arms : Arms) (s : Setting) (bound made : List ℕ) (source : BindingId) (over : Source) → AreReadyArms s bound made source over arms → told_each manner s bound arms ≡ Some (written.told_each manner s bound arms)
   each_made manner NoArm s bound made source over k = refl
   each_made manner (Arm c places body arms) s bound made source over k =
-      before_arms _ _ _ _ _ _ (arm_there s source over c places k.0 k.1) (block_made manner body s (bound_within bound places) made Done k.2) (each_made manner arms s bound made source over k.3)
+      before_arms _ _ _ _ _ _ (arm_there s source over c places k.0 k.1) (arm_made manner body _ _ (block_made (arm_manner manner body) body s (bound_within bound places) made Done k.2)) (each_made manner arms s bound made source over k.3)
 
 -- ---- functions
 

@@ -20,10 +20,10 @@ use Rattle.isle_tree.specs.Program.{Stmt, IfEq, Overflow, Log, Body, Done, Then}
 use Rattle.isle_tree.specs.declared.tree.TPat.{TPat}
 use Rattle.isle_tree.specs.Walk.{of_stmt, of_body, of_arms}
 use Rattle.isle_simulation.specs.LogLines.{LogLine}
-use Rattle.isle_simulation.specs.Manner.{Manner, arm_manner}
+use Rattle.isle_simulation.specs.Manner.{Manner, has_closure, closed_if, arm_manner}
 use Rattle.isle_simulation.specs.Telling.{Telling}
 use Rattle.isle_simulation.proofs.Ready.{IsReady, IsReadyIn, IsReadyBind, AreReadyBinds, IsReadyFrom, IsReadyControl, AreReadyArms}
-use Rattle.isle_simulation.proofs.Written.{written_operand, written_read, bound_stmt, lets, result_stmt, stop_before, arm_stmt, written_arm, match_read, told_before, told_body, told_control, told_each}
+use Rattle.isle_simulation.proofs.Written.{arm_body, written_operand, written_read, bound_stmt, lets, result_stmt, stop_before, arm_stmt, written_arm, match_read, told_before, told_body, told_control, told_each}
 
 -- what the arms of a block test
 abbrev mutual
@@ -78,7 +78,8 @@ AreArmsOf s Tested source over (tree.Arm pat inside arms) = IsArmOf s Tested sou
 pub record EachMade {A : Type 0} (each : Stmt → List A) (P : A → Type 0) (s : Setting) (Tested : BindingId → Constraint → Type 0) : Type 0 where
   pub bound : (locals : List ℕ) (b : BindingId) → IsReadyBind s locals (at (paths_in s) b) (slice_get s.bindings b.0) → AllByRecursion P (of_stmt each (bound_stmt s locals b))
   pub result : (locals : List ℕ) (result : BindingId) → IsReady s locals result s.term.ret_ty → AllByRecursion P (of_stmt each (result_stmt (kind_of s.term.kind) (written_read s locals false result)))
-  pub stop : (inside : Bool) → AllByRecursion P (each (Overflow inside))
+  pub stop : (inside : Bool) (limit : ℕ) → AllByRecursion P (each (Overflow inside limit))
+  pub split : (inside : Body) (within : Bool) → AllByRecursion P (each (tree.Split inside within))
   pub log : (line : LogLine) → AllByRecursion P (each (Log line.0 line.1))
   pub equal : (locals : List ℕ) (a b : BindingId) (ty : TypeId) (inside : Body) → IsReady s locals a ty → IsReady s locals b ty → AllByRecursion P (each (IfEq (written_operand s locals a) (written_operand s locals b) inside))
   pub arm : (locals : List ℕ) (source : BindingId) (over : Source) (c : Constraint) (places : List (Option BindingId)) (inside : Body)
@@ -104,12 +105,17 @@ module _ {A : Type 0} (each : Stmt → List A) (P : A → Type 0) (s : Setting) 
   told_holds (Some line) (Loop result body) after h = h
   told_holds (Some line) (Return pos result) after h = both (each (Log (line pos).0 (line pos).1)) (of_body each after) (made.log (line pos)) h
 
-  stop_holds : (inside several : Bool) (c : Control) (after : Body) → Holds (of_body each after) → Holds (of_body each (stop_before inside several c after))
-  stop_holds inside true (Return pos result) after h = both (each (Overflow inside)) (of_body each after) (made.stop inside) h
-  stop_holds inside true (Match source arms) after h = h
-  stop_holds inside true (Equal a b body) after h = h
-  stop_holds inside true (Loop result body) after h = h
-  stop_holds inside false c after h = h
+  stop_holds : (manner : Manner) (several : Bool) (c : Control) (after : Body) → Holds (of_body each after) → Holds (of_body each (stop_before manner several c after))
+  stop_holds manner true (Return pos result) after h = both (each (Overflow manner.inside manner.limit)) (of_body each after) (made.stop manner.inside manner.limit) h
+  stop_holds manner true (Match source arms) after h = h
+  stop_holds manner true (Equal a b body) after h = h
+  stop_holds manner true (Loop result body) after h = h
+  stop_holds manner false c after h = h
+
+  -- statements in a closure of their own, or not
+  closure_holds : (own within : Bool) (inside : Body) → Holds (of_body each inside) → Holds (of_body each (closed_if own within inside))
+  closure_holds true within inside h = both (each (tree.Split inside within) ++ of_body each inside) [] (both (each (tree.Split inside within)) (of_body each inside) (made.split inside within) h) tt
+  closure_holds false within inside h = h
 
   -- an arm's test, and what is inside it
   arm_holds : (locals : List ℕ) (source : BindingId) (c : Constraint) (places : List (Option BindingId)) (inside : Body)
@@ -131,15 +137,15 @@ module _ {A : Type 0} (each : Stmt → List A) (P : A → Type 0) (s : Setting) 
     block_holds manner Stop locals calls end h w k = k
     block_holds manner (Step binds c more) locals calls end h w k =
         let now = bound_by locals binds in
-        let rest = stop_before manner.inside (gives_several s) c (told_body manner s now more end) in
+        let rest = stop_before manner (gives_several s) c (told_body manner s now more end) in
         lets_hold locals binds _ h.0
         (told_holds manner.telling c (Then (told_control manner s now c) rest)
-        (both (of_stmt each (told_control manner s now c)) (of_body each rest) (control_holds manner c now _ h.2 w.0) (stop_holds manner.inside (gives_several s) c (told_body manner s now more end) (block_holds manner more now _ end h.3 w.1 k))))
+        (both (of_stmt each (told_control manner s now c)) (of_body each rest) (control_holds manner c now _ h.2 w.0) (stop_holds manner (gives_several s) c (told_body manner s now more end) (block_holds manner more now _ end h.3 w.1 k))))
 
     control_holds : (manner : Manner) (c : Control) (locals calls : List ℕ) → IsReadyControl s locals calls c → AllTestedBy Tested c → Holds (of_stmt each (told_control manner s locals c))
     control_holds manner (Match source (Arm c places body NoArm)) locals calls h w =
-        let inside = told_body (arm_manner manner s body) s (bound_within locals places) body Done in
-        arm_holds locals source c places inside (made.arm locals source h.1.0 c places inside h.1.1 h.1.2.0 h.1.2.1 w.0) (block_holds (arm_manner manner s body) body (bound_within locals places) calls Done h.1.2.2 w.1 tt)
+        let inside = arm_body manner body (told_body (arm_manner manner body) s (bound_within locals places) body Done) in
+        arm_holds locals source c places inside (made.arm locals source h.1.0 c places inside h.1.1 h.1.2.0 h.1.2.1 w.0) (closure_holds (has_closure manner body) manner.inside _ (block_holds (arm_manner manner body) body (bound_within locals places) calls Done h.1.2.2 w.1 tt))
     control_holds manner (Match source (Arm c places body (Arm d others inside arms))) locals calls h w =
         let those = told_each manner s locals (Arm c places body (Arm d others inside arms)) in
         both (each (tree.Match (match_read s locals source c) those)) (of_arms each those)
@@ -155,5 +161,5 @@ module _ {A : Type 0} (each : Stmt → List A) (P : A → Type 0) (s : Setting) 
     each_holds : (manner : Manner) (arms : Arms) (locals calls : List ℕ) (source : BindingId) (over : Source) → AreReadyArms s locals calls source over arms → AllTestedIn Tested source arms → Holds (of_arms each (told_each manner s locals arms))
     each_holds manner NoArm locals calls source over h w = tt
     each_holds manner (Arm c places body arms) locals calls source over h w =
-        both (of_body each (told_body (arm_manner manner s body) s (bound_within locals places) body Done)) (of_arms each (told_each manner s locals arms))
-        (block_holds (arm_manner manner s body) body (bound_within locals places) calls Done h.2 w.1 tt) (each_holds manner arms locals calls source over h.3 w.2)
+        both (of_body each (arm_body manner body (told_body (arm_manner manner body) s (bound_within locals places) body Done))) (of_arms each (told_each manner s locals arms))
+        (closure_holds (has_closure manner body) manner.inside _ (block_holds (arm_manner manner body) body (bound_within locals places) calls Done h.2 w.1 tt)) (each_holds manner arms locals calls source over h.3 w.2)

@@ -17,6 +17,7 @@ use Rattle.isle_core.specs.PatternType.{AreVariantsApart, IsOfMaking}
 use Rattle.isle_core.specs.Rule.{Environment}
 use Rattle.isle_core.specs.Terms.{sym_text}
 use Rattle.isle_core.specs.Value.{Value, Truth, Int, Opaque, Variant, Struct, FieldValues, NoField, Field}
+use Rattle.isle_core.proofs.OptionLaws.{some_same}
 use Rattle.isle_printer.specs.Bytes.{same_bytes}
 use Rattle.isle_printer.proofs.Bytes.{same_bytes_refl, same_bytes_sound}
 use Rattle.isle_tree.specs.Run.{field_of}
@@ -92,9 +93,6 @@ nameless_named env ty (Some variant) fs = refl
 nameless_named env ty None fs = refl
 
 -- ---- the first of a name
-
-some_same : {A : Type 0} (x y : A) → Some x ≡ Some y → x ≡ y
-some_same x y e = cc
 
 suc_same : (n m : ℕ) → suc n ≡ suc m → n ≡ m
 suc_same n m e = cc

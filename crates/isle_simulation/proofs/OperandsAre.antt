@@ -13,6 +13,7 @@ use Rattle.isle_core.specs.Rule.{Environment}
 use Rattle.isle_core.specs.Setting.{Setting}
 use Rattle.isle_core.specs.Terms.{sym_text}
 use Rattle.isle_core.specs.Value.{Value, Truth, Int, Opaque, Variant, Struct}
+use Rattle.isle_core.proofs.OptionLaws.{some_same}
 use Rattle.isle_tree.specs.declared.tree.Operand.{Operand}
 use Rattle.isle_tree.specs.declared.tree.Operand.TheVariants as operand
 use Rattle.isle_tree.specs.declared.tree.Read.{Read}
@@ -22,10 +23,6 @@ use Rattle.isle_simulation.specs.Operands.{constant, in_place, is_bound, operand
 use Rattle.isle_simulation.specs.ReadOf.{IsReadAs, as_it_is, borrowed, cloned, IsReadOf, IsPlainOf, IsReadBy}
 use Rattle.isle_simulation.specs.References.{is_reference_in, read_as}
 use Rattle.isle_simulation.specs.Statements.{read_in, plain_read, match_read}
-
--- equal things that are there are equal
-pub some_same : {A : Type 0} (x y : A) → Some x ≡ Some y → x ≡ y
-some_same x y e = cc
 
 -- nothing is something
 pub none_some : {A : Type 0} (x : A) → None ≡ Some x → ⊥

@@ -1,5 +1,5 @@
 -- How statements of a function with several results go: they go on with the results given so far, or end if no more is kept.
-use Rattle.std.proofs.Common.{◌≡◌, ◌⊎◌, inl, inr, ℕ, suc, ◌+◌, ◌-◌, ◌≤◌, ◌<◌, List, [], ◌∷◌, ◌++◌, length, map, Bool, true, false, cond, Option, Some, refl, sym, ap, ◌∙◌, subst, arith}
+use Rattle.std.proofs.Common.{◌≡◌, ◌⊎◌, inl, inr, ℕ, suc, ◌+◌, ◌≤◌, ◌<◌, List, [], ◌∷◌, ◌++◌, length, map, Bool, true, false, cond, Some, refl, sym, ap, ◌∙◌, subst, arith}
 use Rattle.std.specs.Prelude.{nat_le, slice_get}
 use Rattle.std.proofs.lemmas.Bool.{leb-true, leb-false}
 use Rattle.std.proofs.lemmas.List.{length-append, length-map, map-append}
@@ -10,7 +10,8 @@ use Rattle.isle_core.specs.Parts.{Given, give}
 use Rattle.isle_core.specs.Path.{Path}
 use Rattle.isle_core.specs.Rule.{Environment}
 use Rattle.isle_core.specs.SeveralRun.{choosing, on_turns}
-use Rattle.isle_core.specs.Space.{Space, room}
+use Rattle.isle_core.specs.Space.{Space}
+use Rattle.isle_simulation.specs.Manner.{Manner, bare_manner}
 use Rattle.isle_core.specs.Value.{Value, Made, GivesList}
 use Rattle.isle_core.specs.ValueAt.{Known, a_value}
 use Rattle.isle_core.specs.declared.types.ReturnKind.{ReturnKind}
@@ -109,14 +110,14 @@ run_same (Leaves t) a b h = refl
 run_same Stuck a b h = refl
 
 -- a step's statements, and then the others
-pub step_then : (u : Around) (several : Bool) (c : Control) (st : Stmt) (rest : Body) (env : Env) (s : State) → run_body u (Then st (stop_before false several c rest)) env s ≡ then_run (run_body u (Then st (stop_before false several c Done)) env s) (run_body u rest)
-step_then u true (block.Return pos result) st rest env s =
-    run_same (run_stmt u st env s) _ _ (λ e t. run_assoc (run_stmt u (Overflow false) e t) (run_body u Done) (run_body u rest))
-    ∙ run_assoc (run_stmt u st env s) (run_body u (Then (Overflow false) Done)) (run_body u rest)
-step_then u true (block.Match source arms) st rest env s = run_assoc (run_stmt u st env s) (run_body u Done) (run_body u rest)
-step_then u true (block.Equal a b body) st rest env s = run_assoc (run_stmt u st env s) (run_body u Done) (run_body u rest)
-step_then u true (block.Loop result body) st rest env s = run_assoc (run_stmt u st env s) (run_body u Done) (run_body u rest)
-step_then u false c st rest env s = run_assoc (run_stmt u st env s) (run_body u Done) (run_body u rest)
+pub step_then : (u : Around) (manner : Manner) (several : Bool) (c : Control) (st : Stmt) (rest : Body) (env : Env) (s : State) → run_body u (Then st (stop_before manner several c rest)) env s ≡ then_run (run_body u (Then st (stop_before manner several c Done)) env s) (run_body u rest)
+step_then u manner true (block.Return pos result) st rest env s =
+    run_same (run_stmt u st env s) _ _ (λ e t. run_assoc (run_stmt u (Overflow manner.inside manner.limit) e t) (run_body u Done) (run_body u rest))
+    ∙ run_assoc (run_stmt u st env s) (run_body u (Then (Overflow manner.inside manner.limit) Done)) (run_body u rest)
+step_then u manner true (block.Match source arms) st rest env s = run_assoc (run_stmt u st env s) (run_body u Done) (run_body u rest)
+step_then u manner true (block.Equal a b body) st rest env s = run_assoc (run_stmt u st env s) (run_body u Done) (run_body u rest)
+step_then u manner true (block.Loop result body) st rest env s = run_assoc (run_stmt u st env s) (run_body u Done) (run_body u rest)
+step_then u manner false c st rest env s = run_assoc (run_stmt u st env s) (run_body u Done) (run_body u rest)
 
 -- a single statement
 alone : (f : Flow) → then_run f Goes ≡ f
@@ -126,12 +127,12 @@ alone (Leaves t) = refl
 alone Stuck = refl
 
 -- a step that gives no result has no stop
-pub step_alone : (u : Around) (several : Bool) (c : Control) (st : Stmt) (env : Env) (s : State) → is_return c ≡ false → run_body u (Then st (stop_before false several c Done)) env s ≡ run_stmt u st env s
-step_alone u true (block.Return pos result) st env s e = cc
-step_alone u true (block.Match source arms) st env s e = alone (run_stmt u st env s)
-step_alone u true (block.Equal a b body) st env s e = alone (run_stmt u st env s)
-step_alone u true (block.Loop result body) st env s e = alone (run_stmt u st env s)
-step_alone u false c st env s e = alone (run_stmt u st env s)
+pub step_alone : (u : Around) (manner : Manner) (several : Bool) (c : Control) (st : Stmt) (env : Env) (s : State) → is_return c ≡ false → run_body u (Then st (stop_before manner several c Done)) env s ≡ run_stmt u st env s
+step_alone u manner true (block.Return pos result) st env s e = cc
+step_alone u manner true (block.Match source arms) st env s e = alone (run_stmt u st env s)
+step_alone u manner true (block.Equal a b body) st env s e = alone (run_stmt u st env s)
+step_alone u manner true (block.Loop result body) st env s e = alone (run_stmt u st env s)
+step_alone u manner false c st env s e = alone (run_stmt u st env s)
 
 -- ---- a result
 
@@ -144,14 +145,14 @@ one_more rs given r v calls e f =
     ∙ sym (map-append nameless (values_in rs) (v ∷ [])) ∙ ap (map nameless) (sym (map-append (λ (r : Value × List Made). r.0) rs ((v, calls) ∷ [])))
 
 -- a result is appended, and the function ends if no more fits
-pub result_gives : (env : Environment) (u : Around) (space : Space) (kind : ReturnKind) (several : Bool) (pos : _) (result : _) (q : Read) (r v : Value) (locals : Env) (g : Given) (given : List Value) (those : List Made) → is_several kind ≡ true → several ≡ true → u.limit ≡ Some (room space)
+pub result_gives : (env : Environment) (u : Around) (space : Space) (kind : ReturnKind) (several : Bool) (pos : _) (result : _) (q : Read) (r v : Value) (locals : Env) (g : Given) (given : List Value) (those : List Made) → is_several kind ≡ true → several ≡ true → u.held ≡ Some space.held
     → length g.results ≤ room_after_one space → IsSoFar env g given those → read_value u locals q ≡ a_value r → nameless r ≡ nameless v
-    → GivesSo env (room_after_one space) (λ e. e ≡ locals) (run_body u (Then (result_stmt kind q) (stop_before false several (block.Return pos result) Done)) locals (done given those)) (give v g)
-result_gives env u space return_kind.Plain several pos result q r v locals g given those k e limited le so read same = cc
-result_gives env u space return_kind.Option several pos result q r v locals g given those k e limited le so read same = cc
-result_gives env u space return_kind.Iterator false pos result q r v locals g given those k e limited le so read same = cc
-result_gives env u space return_kind.Iterator true pos result q r v locals g given those k e limited le so read same =
-    gives_by env (room_after_one space) (λ x. x ≡ locals) _ (stopped (is_full u.limit more)) (give v g) (rw read refl) (one (nat_le (room space) (length more)) refl)
+    → GivesSo env (room_after_one space) (λ e. e ≡ locals) (run_body u (Then (result_stmt kind q) (stop_before (bare_manner space.limit) several (block.Return pos result) Done)) locals (done given those)) (give v g)
+result_gives env u space return_kind.Plain several pos result q r v locals g given those k e entered le so read same = cc
+result_gives env u space return_kind.Option several pos result q r v locals g given those k e entered le so read same = cc
+result_gives env u space return_kind.Iterator false pos result q r v locals g given those k e entered le so read same = cc
+result_gives env u space return_kind.Iterator true pos result q r v locals g given those k e entered le so read same =
+    gives_by env (room_after_one space) (λ x. x ≡ locals) _ (stopped (is_full u.held space.limit more)) (give v g) (rw read refl) (one (nat_le space.limit (space.held + length more)) refl)
   where
     more : List Value
     more = given ++ r ∷ []
@@ -159,8 +160,8 @@ result_gives env u space return_kind.Iterator true pos result q r v locals g giv
     stopped : Bool → Flow
     stopped full = then_run (cond full (Ends (GivesList more) (done more those)) (Goes locals (done more those))) (run_body u Done)
 
-    full : is_full u.limit more ≡ nat_le (room space) (length more)
-    full = ap (λ o. is_full o more) limited
+    full : is_full u.held space.limit more ≡ nat_le space.limit (space.held + length more)
+    full = ap (λ o. is_full o space.limit more) entered
 
     count : length more ≡ length g.results + 1
     count = length-append given (r ∷ []) ∙ ap (λ n. n + 1) (as_many env g given those so)
@@ -171,9 +172,9 @@ result_gives env u space return_kind.Iterator true pos result q r v locals g giv
     like : map nameless more ≡ map nameless (values_in (give v g).results)
     like = one_more g.results given r v g.calls so.given' same
 
-    one : (x : Bool) → nat_le (room space) (length more) ≡ x → GivesSo env (room_after_one space) (λ y. y ≡ locals) (stopped (is_full u.limit more)) (give v g)
+    one : (x : Bool) → nat_le space.limit (space.held + length more) ≡ x → GivesSo env (room_after_one space) (λ y. y ≡ locals) (stopped (is_full u.held space.limit more)) (give v g)
     one true is =
-        let fits : room space ≤ length more = leb-true (room space) (length more) is in
+        let fits : space.limit ≤ space.held + length more = leb-true space.limit (space.held + length more) is in
         let last : room_after_one space ≡ length g.results = omega (arith, fits, count, le) in
         let cut : cut_after (room_after_one space) (give v g).results g.calls ≡ (values_in g.results ++ v ∷ [], g.calls) = ap (λ n. cut_after n (give v g).results g.calls) last ∙ cut_last g.results (v, g.calls) g.calls in
         inr (record {
@@ -185,7 +186,7 @@ result_gives env u space return_kind.Iterator true pos result q r v locals g giv
           made = so.made ∙ ap (λ (c : List Value × List Made). map nameless_made c.1) (sym cut);
         })
     one false is =
-        let fits : length more < room space = leb-false (room space) (length more) is in
+        let fits : space.held + length more < space.limit = leb-false space.limit (space.held + length more) is in
         inl (record { within = omega (arith, fits, count, results); after = locals; here = refl; given = more; those = those; is = ap stopped (full ∙ is); so = record { given' = like; made = so.made } })
 
 -- ---- items

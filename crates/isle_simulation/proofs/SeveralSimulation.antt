@@ -31,7 +31,7 @@ use Rattle.isle_core.specs.ConstraintType.{IsConstraintOf}
 use Rattle.isle_core.specs.Cut.{cut_after, room_after_one, cut_run}
 use Rattle.isle_core.specs.HasType.{HaveTypes}
 use Rattle.isle_core.specs.Meaning.{Meaning}
-use Rattle.isle_core.specs.Space.{Space, room}
+use Rattle.isle_core.specs.Space.{Space, space_of}
 use Rattle.isle_core.specs.NamesApart.{ValuesConstants}
 use Rattle.isle_core.specs.Nameless.{nameless, nameless_made, nameless_ran}
 use Rattle.isle_core.specs.Occurrences.{occurrences, after_control}
@@ -61,7 +61,7 @@ use Rattle.isle_simulation.specs.Operands.{is_bound}
 use Rattle.isle_simulation.specs.Patterns.{pattern_of}
 use Rattle.isle_simulation.specs.RustNames.{HasRustNames}
 use Rattle.isle_simulation.specs.Statements.{list_local}
-use Rattle.isle_simulation.specs.TermFunction.{is_return, ends_in_return, mark_of, tail_body, log_lines}
+use Rattle.isle_simulation.specs.TermFunction.{is_return, ends_in_return, mark_of, tail_body}
 use Rattle.isle_simulation.proofs.ArmsRun.{FitsBy, IsForm, ArmFits, arm_fits, some_fits}
 use Rattle.isle_simulation.proofs.BindsRun.{LetsRun, lets_run}
 use Rattle.isle_simulation.proofs.ClosedItems.{IsClosed, none_closed, ready_items, over_items, binds_closed, within_closed, loop_closed, none_of_it, completed_new}
@@ -73,7 +73,6 @@ use Rattle.isle_simulation.proofs.EachArm.{ReadsOver, match_reads, fits_where_me
 use Rattle.isle_simulation.proofs.ItemsWithin.{choosing_same}
 use Rattle.isle_simulation.proofs.KnownAlong.{KnowsOnly, kept_only, new_unanswered}
 use Rattle.isle_simulation.proofs.LocalsAgree.{Stands, Agree, none_agree, bind_agrees, operand_reads, option_reads, written_reads}
-use Rattle.isle_simulation.proofs.LoggedLaws.{logged_runs}
 use Rattle.isle_simulation.proofs.Made.{over_value, over_option}
 use Rattle.isle_simulation.proofs.NamelessLaws.{AreSameCalls, run_same}
 use Rattle.isle_simulation.proofs.OneBind.{done, Keeps}
@@ -82,7 +81,7 @@ use Rattle.isle_simulation.proofs.PathValues.{Grounds, constraint_tests, IsConst
 use Rattle.isle_simulation.proofs.Ready.{IsReady, IsOptionReady, IsReadyIn, IsLoopReady, IsReadyBind, AreReadyBinds, IsReadyFrom, IsReadyControl, AreReadyArms}
 use Rattle.isle_simulation.proofs.ResultsAt.{AreResultsAt, value_of_one}
 use Rattle.isle_simulation.proofs.ResultsGiven.{IsSoFar, GivesSo, AnyLocals, gives_then, gives_scope, gives_by, gives_any, gives_same, step_then, step_alone, result_gives, list_gives}
-use Rattle.isle_simulation.proofs.Written.{written_operand, written_read, written_test, written_pattern, written_arm, match_read, told_each, written_list, stop_before, block_body, control_stmt, written_body, logged_function}
+use Rattle.isle_simulation.proofs.Written.{written_operand, written_read, written_test, written_pattern, written_arm, match_read, told_each, written_list, stop_before, block_body, control_stmt, written_body}
 use Rattle.isle_core.specs.Readable.{IsInPlace}
 
 -- ---- bindings go on
@@ -182,7 +181,7 @@ item_stands env t p tys vs rs g of same typed there = record {
 
 -- ---- blocks
 
-module _ (s : Setting) (u : Around) (space : Space) (g : Grounds s u) (several : gives_several s ≡ true) (limited : u.limit ≡ Some (room space)) where
+module _ (s : Setting) (u : Around) (space : Space) (g : Grounds s u) (several : gives_several s ≡ true) (at_entry : u.held ≡ Some space.held) where
   abbrev room_left : ℕ
   room_left = room_after_one space
 
@@ -192,7 +191,7 @@ module _ (s : Setting) (u : Around) (space : Space) (g : Grounds s u) (several :
 
   -- what a step does, and its stop
   abbrev step_flow : List ℕ → Control → Env → State → Flow
-  step_flow bound c locals st = run_body u (Then (control_stmt s bound c) (stop_before false (gives_several s) c Done)) locals st
+  step_flow bound c locals st = run_body u (Then (control_stmt space.limit s bound c) (stop_before (bare_manner space.limit) (gives_several s) c Done)) locals st
 
   -- an item is chosen of a list that nothing bound holds an item of
   item_agrees : (bound : List ℕ) (result : BindingId) (known : Known) (locals : Env) (place : ℕ) (x : IsNewItem s bound result) (tys : List TypeId) (vss : List (List Value)) (vs rs : List Value) → IsClosed s bound → is_bound bound x.source ≡ true → Agree s u bound known locals
@@ -221,50 +220,50 @@ module _ (s : Setting) (u : Around) (space : Space) (g : Grounds s u) (several :
   step_gives : (bound : List ℕ) (binds : List BindingId) (c : Control) (more : Block) (locals : Env) (known : Known) (given those : _) (so : Given) (w : Went) → bind_all s.env u.meaning u.args (paths_in s) binds known so.calls ≡ w → DoesGo w → LetsRun s u bound binds known given those locals w
       → ((later : Known) (all behind : List Made) (after : Env) → AreSameCalls s.env behind all → Keeps (occurrences s.env (paths_in s) binds) known later → Agree s u (bound_by bound binds) later after
       → GivesSo s.env room_left (λ e. e ≡ after) (step_flow (bound_by bound binds) c after (done given behind)) (several_control s.env u.meaning u.args (paths_in s) c later (record { results = so.results; calls = all }))
-      × ((h : Given) (given' : List Value) (those' : List Made) → length h.results ≤ room_left → IsSoFar s.env h given' those' → GivesSo s.env room_left AnyLocals (run_body u (block_body s (bound_by bound binds) more Done) after (done given' those')) (block_given more later h)))
-      → GivesSo s.env room_left AnyLocals (run_body u (block_body s bound (Step binds c more) Done) locals (done given those)) (block_given (Step binds c more) known so)
+      × ((h : Given) (given' : List Value) (those' : List Made) → length h.results ≤ room_left → IsSoFar s.env h given' those' → GivesSo s.env room_left AnyLocals (run_body u (block_body space.limit s (bound_by bound binds) more Done) after (done given' those')) (block_given more later h)))
+      → GivesSo s.env room_left AnyLocals (run_body u (block_body space.limit s bound (Step binds c more) Done) locals (done given those)) (block_given (Step binds c more) known so)
   step_gives bound binds c more locals known given those so (went.Ends o) e go is rest = absurd go
   step_gives bound binds c more locals known given those so (went.Goes later all) e go is rest =
       let inner = bound_by bound binds in
       let k = rest later all is.behind is.after is.same is.keeps is.agree in
-      let stmt = control_stmt s inner c in
-      let others = block_body s inner more Done in
+      let stmt = control_stmt space.limit s inner c in
+      let others = block_body space.limit s inner more Done in
       let here : Given = record { results = so.results; calls = all } in
       let h = several_control s.env u.meaning u.args (paths_in s) c later here in
-      subst (λ x. GivesSo s.env room_left AnyLocals (run_body u (block_body s bound (Step binds c more) Done) locals (done given those)) (behind_calls x so (λ now l. block_given more now (several_control s.env u.meaning u.args (paths_in s) c now l)))) (sym e)
-      (gives_by s.env room_left AnyLocals (run_body u (block_body s bound (Step binds c more) Done) locals (done given those)) (then_run (step_flow inner c is.after (done given is.behind)) (run_body u others)) (block_given more later h)
-      (is.runs (Then stmt (stop_before false (gives_several s) c others)) ∙ step_then u (gives_several s) c stmt others is.after (done given is.behind))
+      subst (λ x. GivesSo s.env room_left AnyLocals (run_body u (block_body space.limit s bound (Step binds c more) Done) locals (done given those)) (behind_calls x so (λ now l. block_given more now (several_control s.env u.meaning u.args (paths_in s) c now l)))) (sym e)
+      (gives_by s.env room_left AnyLocals (run_body u (block_body space.limit s bound (Step binds c more) Done) locals (done given those)) (then_run (step_flow inner c is.after (done given is.behind)) (run_body u others)) (block_given more later h)
+      (is.runs (Then stmt (stop_before (bare_manner space.limit) (gives_several s) c others)) ∙ step_then u (bare_manner space.limit) (gives_several s) c stmt others is.after (done given is.behind))
       (gives_then s.env room_left (λ e. e ≡ is.after) AnyLocals (step_flow inner c is.after (done given is.behind)) (run_body u others) h (block_given more later h) k.0
       (λ after given' those' same le l. subst (λ x. GivesSo s.env room_left AnyLocals (run_body u others x (done given' those')) (block_given more later h)) (sym same) (k.1 h given' those' le l))
       (block_appends more s.env u.meaning u.args (paths_in s) later h)))
 
   -- two values that are compared, and the body after that
   equal_gives : (a b : Operand) (bound : List ℕ) (body : Block) (locals : Env) (known : Known) (so : Given) (given those : _) (r q : Value) (x : Bool) → value_of u locals a ≡ a_value r → value_of u locals b ≡ a_value q → same_in_run r q ≡ x
-      → length so.results ≤ room_left → IsSoFar s.env so given those → GivesSo s.env room_left AnyLocals (run_body u (block_body s bound body Done) locals (done given those)) (block_given body known so)
-      → GivesSo s.env room_left (λ e. e ≡ locals) (run_stmt u (IfEq a b (block_body s bound body Done)) locals (done given those)) (cond x (block_given body known so) so)
+      → length so.results ≤ room_left → IsSoFar s.env so given those → GivesSo s.env room_left AnyLocals (run_body u (block_body space.limit s bound body Done) locals (done given those)) (block_given body known so)
+      → GivesSo s.env room_left (λ e. e ≡ locals) (run_stmt u (IfEq a b (block_body space.limit s bound body Done)) locals (done given those)) (cond x (block_given body known so) so)
   equal_gives a b bound body locals known so given those r q true e f same le l runs =
-      gives_by s.env room_left (λ e. e ≡ locals) _ (after_scope locals (run_body u (block_body s bound body Done) locals (done given those))) (block_given body known so) (rw (e, f, same) refl)
-      (gives_scope s.env room_left AnyLocals locals (run_body u (block_body s bound body Done) locals (done given those)) (block_given body known so) runs)
+      gives_by s.env room_left (λ e. e ≡ locals) _ (after_scope locals (run_body u (block_body space.limit s bound body Done) locals (done given those))) (block_given body known so) (rw (e, f, same) refl)
+      (gives_scope s.env room_left AnyLocals locals (run_body u (block_body space.limit s bound body Done) locals (done given those)) (block_given body known so) runs)
   equal_gives a b bound body locals known so given those r q false e f same le l runs =
       gives_by s.env room_left (λ e. e ≡ locals) _ (Goes locals (done given those)) so (rw (e, f, same) refl) (gives_same s.env room_left locals so given those le l)
 
   -- an arm that tests for a constant
   constant_gives : (bound : List ℕ) (source : BindingId) (ty : TypeId) (c : Constraint) (places : List (Option BindingId)) (body : Block) (locals : Env) (known : Known) (so : Given) (given those : _) → length so.results ≤ room_left → IsSoFar s.env so given those → Agree s u bound known locals
-      → IsReady s bound source ty → IsConstraintOf s.env c ty → IsConstant c → GivesSo s.env room_left AnyLocals (run_body u (block_body s (bound_within bound places) body Done) locals (done given those)) (block_given body known so)
-      → GivesSo s.env room_left (λ e. e ≡ locals) (run_stmt u (IfEq (written_operand s bound source) (written_test s.env c) (block_body s (bound_within bound places) body Done)) locals (done given those))
+      → IsReady s bound source ty → IsConstraintOf s.env c ty → IsConstant c → GivesSo s.env room_left AnyLocals (run_body u (block_body space.limit s (bound_within bound places) body Done) locals (done given those)) (block_given body known so)
+      → GivesSo s.env room_left (λ e. e ≡ locals) (run_stmt u (IfEq (written_operand s bound source) (written_test s.env c) (block_body space.limit s (bound_within bound places) body Done)) locals (done given those))
       (several_control s.env u.meaning u.args (paths_in s) (block.Match source (Arm c places body NoArm)) known so)
   constant_gives bound source ty c places body locals known so given those le l a ready is constant runs =
       let v = operand_reads s u bound known locals source ty g a ready in
       let w = constraint_tests s.env u c ty g.names g.constants is constant in
-      let f = run_stmt u (IfEq (written_operand s bound source) (written_test s.env c) (block_body s (bound_within bound places) body Done)) locals (done given those) in
+      let f = run_stmt u (IfEq (written_operand s bound source) (written_test s.env c) (block_body space.limit s (bound_within bound places) body Done)) locals (done given those) in
       subst (λ h. GivesSo s.env room_left (λ e. e ≡ locals) f (cond (meets s.env u.meaning c h) (block_given body known so) so)) (sym v.block)
       (equal_gives (written_operand s bound source) (written_test s.env c) (bound_within bound places) body locals known so given those v.r w.w (meets s.env u.meaning c (a_value v.v)) v.run (w.place locals) (w.met v.r v.v v.same v.typed) le l runs)
 
   -- an arm that tests by a pattern
   pattern_gives : (bound : List ℕ) (source : BindingId) (c : Constraint) (places : List (Option BindingId)) (body : Block) (locals : Env) (known : Known) (so : Given) (given those : _) (q : Read) (h : Held) → length so.results ≤ room_left → IsSoFar s.env so given those
       → value_at s.env u.meaning u.args known (at (paths_in s) source) ≡ h → ArmFits s u bound known locals c places (read_value u locals q) h
-      → ((inner : Env) → Agree s u (bound_within bound places) known inner → GivesSo s.env room_left AnyLocals (run_body u (block_body s (bound_within bound places) body Done) inner (done given those)) (block_given body known so))
-      → GivesSo s.env room_left (λ e. e ≡ locals) (run_stmt u (IfLet (written_pattern (pattern_of s.env c places)) q (block_body s (bound_within bound places) body Done)) locals (done given those))
+      → ((inner : Env) → Agree s u (bound_within bound places) known inner → GivesSo s.env room_left AnyLocals (run_body u (block_body space.limit s (bound_within bound places) body Done) inner (done given those)) (block_given body known so))
+      → GivesSo s.env room_left (λ e. e ≡ locals) (run_stmt u (IfLet (written_pattern (pattern_of s.env c places)) q (block_body space.limit s (bound_within bound places) body Done)) locals (done given those))
       (several_control s.env u.meaning u.args (paths_in s) (block.Match source (Arm c places body NoArm)) known so)
   pattern_gives bound source c places body locals known so given those q h le l held fits runs =
       subst (λ x. GivesSo s.env room_left (λ e. e ≡ locals) (run_stmt u (IfLet (written_pattern (pattern_of s.env c places)) q inside) locals (done given those)) (cond (meets s.env u.meaning c x) (block_given body known so) so)) (sym held)
@@ -272,7 +271,7 @@ module _ (s : Setting) (u : Around) (space : Space) (g : Grounds s u) (several :
       (by fits.pat (meets s.env u.meaning c h) fits.fits))
     where
       inside : Body
-      inside = block_body s (bound_within bound places) body Done
+      inside = block_body space.limit s (bound_within bound places) body Done
 
       next : Option Env → Flow
       next o = fitted o (λ more. after_scope locals (run_body u inside (locals ++ more) (done given those))) (Goes locals (done given those))
@@ -286,8 +285,8 @@ module _ (s : Setting) (u : Around) (space : Space) (g : Grounds s u) (several :
   -- so of a variant or a struct
   form_gives : (bound : List ℕ) (source : BindingId) (ty : TypeId) (c : Constraint) (places : List (Option BindingId)) (body : Block) (locals : Env) (known : Known) (so : Given) (given those : _) → length so.results ≤ room_left → IsSoFar s.env so given those → Agree s u bound known locals
       → IsReady s bound source ty → IsConstraintOf s.env c ty → ArePlacesOf s source c places → IsForm c
-      → ((inner : Env) → Agree s u (bound_within bound places) known inner → GivesSo s.env room_left AnyLocals (run_body u (block_body s (bound_within bound places) body Done) inner (done given those)) (block_given body known so))
-      → GivesSo s.env room_left (λ e. e ≡ locals) (run_stmt u (IfLet (written_pattern (pattern_of s.env c places)) (written_read s bound true source) (block_body s (bound_within bound places) body Done)) locals (done given those))
+      → ((inner : Env) → Agree s u (bound_within bound places) known inner → GivesSo s.env room_left AnyLocals (run_body u (block_body space.limit s (bound_within bound places) body Done) inner (done given those)) (block_given body known so))
+      → GivesSo s.env room_left (λ e. e ≡ locals) (run_stmt u (IfLet (written_pattern (pattern_of s.env c places)) (written_read s bound true source) (block_body space.limit s (bound_within bound places) body Done)) locals (done given those))
       (several_control s.env u.meaning u.args (paths_in s) (block.Match source (Arm c places body NoArm)) known so)
   form_gives bound source ty c places body locals known so given those le l a ready is parts form runs =
       let v = written_reads s u bound known locals true source ty g a ready in
@@ -297,8 +296,8 @@ module _ (s : Setting) (u : Around) (space : Space) (g : Grounds s u) (several :
   -- and of an option
   some_gives : (bound : List ℕ) (source : BindingId) (tys : List TypeId) (places : List (Option BindingId)) (body : Block) (locals : Env) (known : Known) (so : Given) (given those : _) → length so.results ≤ room_left → IsSoFar s.env so given those → Agree s u bound known locals
       → IsOptionReady s bound source tys → ArePlacesOf s source constraint.Some places
-      → ((inner : Env) → Agree s u (bound_within bound places) known inner → GivesSo s.env room_left AnyLocals (run_body u (block_body s (bound_within bound places) body Done) inner (done given those)) (block_given body known so))
-      → GivesSo s.env room_left (λ e. e ≡ locals) (run_stmt u (IfLet (written_pattern (pattern_of s.env constraint.Some places)) (read.Plain (written_operand s bound source)) (block_body s (bound_within bound places) body Done)) locals (done given those))
+      → ((inner : Env) → Agree s u (bound_within bound places) known inner → GivesSo s.env room_left AnyLocals (run_body u (block_body space.limit s (bound_within bound places) body Done) inner (done given those)) (block_given body known so))
+      → GivesSo s.env room_left (λ e. e ≡ locals) (run_stmt u (IfLet (written_pattern (pattern_of s.env constraint.Some places)) (read.Plain (written_operand s bound source)) (block_body space.limit s (bound_within bound places) body Done)) locals (done given those))
       (several_control s.env u.meaning u.args (paths_in s) (block.Match source (Arm constraint.Some places body NoArm)) known so)
   some_gives bound source tys places body locals known so given those le l a ready parts runs =
       let o = option_reads s u bound known locals source tys a ready.bound' ready.path in
@@ -308,8 +307,8 @@ module _ (s : Setting) (u : Around) (space : Space) (g : Grounds s u) (several :
   -- a loop, whose body gives so at each item
   loop_gives : (bound : List ℕ) (result : BindingId) (body : Block) (locals : Env) (known : Known) (so : Given) (given those : _) (k : IsLoopReady s bound result) (x : IsNewItem s bound result) → IsClosed s bound → length so.results ≤ room_left → IsSoFar s.env so given those → Agree s u bound known locals
       → ((place : ℕ) (inner : Env) (so' : Given) (given' those' : _) → length so'.results ≤ room_left → IsSoFar s.env so' given' those' → Agree s u (bound ++ result.0 ∷ []) (choosing known (at (paths_in s) x.source) place) inner
-      → GivesSo s.env room_left AnyLocals (run_body u (block_body s (bound ++ result.0 ∷ []) body Done) inner (done given' those')) (block_given body (choosing known (at (paths_in s) x.source) place) so'))
-      → GivesSo s.env room_left (λ e. e ≡ locals) (run_stmt u (control_stmt s bound (block.Loop result body)) locals (done given those)) (several_control s.env u.meaning u.args (paths_in s) (block.Loop result body) known so)
+      → GivesSo s.env room_left AnyLocals (run_body u (block_body space.limit s (bound ++ result.0 ∷ []) body Done) inner (done given' those')) (block_given body (choosing known (at (paths_in s) x.source) place) so'))
+      → GivesSo s.env room_left (λ e. e ≡ locals) (run_stmt u (control_stmt space.limit s bound (block.Loop result body)) locals (done given those)) (several_control s.env u.meaning u.args (paths_in s) (block.Loop result body) known so)
   loop_gives bound result body locals known so given those k x closed le l a turns =
       let same : k.source ≡ x.source = same_source (same_Some (binding.Iterator k.source) (binding.Iterator x.source) (sym k.is ∙ x.is)) in
       let of : IsListOf s.env s.term list k.tys = subst (λ (b : BindingId). IsListOf s.env s.term (at (paths_in s) b) k.tys) same k.list in
@@ -319,9 +318,9 @@ module _ (s : Setting) (u : Around) (space : Space) (g : Grounds s u) (several :
       let count : length h.rss ≡ length h.vss = sym (length-map h.rss (map nameless)) ∙ ap length h.same ∙ length-map h.vss (map nameless) in
       let given_so : several_control s.env u.meaning u.args (paths_in s) (block.Loop result body) known so ≡ on_turns list (map item_of h.vss) 0 known so (block_given body) =
       ap (λ p. on_items (list_of p) (value_at s.env u.meaning u.args known (list_of p)) known so (block_given body)) x.path ∙ ap (λ y. on_items list y known so (block_given body)) h.block in
-      let flow : run_stmt u (control_stmt s bound (block.Loop result body)) locals (done given those) ≡ run_items go locals (map item_of h.rss) (done given those) =
+      let flow : run_stmt u (control_stmt space.limit s bound (block.Loop result body)) locals (done given those) ≡ run_items go locals (map item_of h.rss) (done given those) =
       ap (λ o. run_stmt u (Loop (written_list (list_local o)) result.0 inside) locals (done given those)) x.is ∙ ap (λ y. on_list y (λ is. run_items go locals is (done given those))) h.run in
-      subst (GivesSo s.env room_left (λ e. e ≡ locals) (run_stmt u (control_stmt s bound (block.Loop result body)) locals (done given those))) (sym given_so)
+      subst (GivesSo s.env room_left (λ e. e ≡ locals) (run_stmt u (control_stmt space.limit s bound (block.Loop result body)) locals (done given those))) (sym given_so)
       (gives_by s.env room_left (λ e. e ≡ locals) _ (run_items go locals (map item_of h.rss) (done given those)) (on_turns list (map item_of h.vss) 0 known so (block_given body)) flow
       (list_gives s.env room_left list known locals go (block_given body) (λ now l'. block_appends body s.env u.meaning u.args (paths_in s) now l') h.rss h.vss so given those count
       (λ j rs vs so' given' those' e f le' l'.
@@ -332,20 +331,20 @@ module _ (s : Setting) (u : Around) (space : Space) (g : Grounds s u) (several :
       list = at (paths_in s) x.source
 
       inside : Body
-      inside = block_body s (bound ++ result.0 ∷ []) body Done
+      inside = block_body space.limit s (bound ++ result.0 ∷ []) body Done
 
       same_source : {b c : BindingId} → binding.Iterator b ≡ binding.Iterator c → b ≡ c
       same_source e = cc
 
   -- one of several arms, and those after it
   arm_gives : (bound : List ℕ) (places : List (Option BindingId)) (body : Block) (pat : TPat) (x : Bool) (h : Held) (locals : Env) (known : Known) (so : Given) (given those : _) (others : Flow) (rest : Given) → FitsBy s u bound known locals places pat h x
-      → ((inner : Env) → Agree s u (bound_within bound places) known inner → GivesSo s.env room_left AnyLocals (run_body u (block_body s (bound_within bound places) body Done) inner (done given those)) (block_given body known so))
+      → ((inner : Env) → Agree s u (bound_within bound places) known inner → GivesSo s.env room_left AnyLocals (run_body u (block_body space.limit s (bound_within bound places) body Done) inner (done given those)) (block_given body known so))
       → GivesSo s.env room_left (λ e. e ≡ locals) others rest
-      → GivesSo s.env room_left (λ e. e ≡ locals) (fitted (fit u pat h) (λ more. after_scope locals (run_body u (block_body s (bound_within bound places) body Done) (locals ++ more) (done given those))) others) (cond x (block_given body known so) rest)
+      → GivesSo s.env room_left (λ e. e ≡ locals) (fitted (fit u pat h) (λ more. after_scope locals (run_body u (block_body space.limit s (bound_within bound places) body Done) (locals ++ more) (done given those))) others) (cond x (block_given body known so) rest)
   arm_gives bound places body pat false h locals known so given those others rest k runs next =
-      gives_by s.env room_left (λ e. e ≡ locals) _ others rest (ap (λ o. fitted o (λ more. after_scope locals (run_body u (block_body s (bound_within bound places) body Done) (locals ++ more) (done given those))) others) k) next
+      gives_by s.env room_left (λ e. e ≡ locals) _ others rest (ap (λ o. fitted o (λ more. after_scope locals (run_body u (block_body space.limit s (bound_within bound places) body Done) (locals ++ more) (done given those))) others) k) next
   arm_gives bound places body pat true h locals known so given those others rest k runs next =
-      let inside = block_body s (bound_within bound places) body Done in
+      let inside = block_body space.limit s (bound_within bound places) body Done in
       gives_by s.env room_left (λ e. e ≡ locals) _ (after_scope locals (run_body u inside (locals ++ k.0) (done given those))) (block_given body known so) (ap (λ o. fitted o (λ more. after_scope locals (run_body u inside (locals ++ more) (done given those))) others) k.1)
       (gives_scope s.env room_left AnyLocals locals (run_body u inside (locals ++ k.0) (done given those)) (block_given body known so) (runs (locals ++ k.0) k.2))
 
@@ -354,14 +353,14 @@ module _ (s : Setting) (u : Around) (space : Space) (g : Grounds s u) (several :
   within_agrees bound places known locals e a = subst (λ ps. Agree s u (bound_within bound ps) known locals) (sym e) a
 
   -- what a step does that gives no result
-  only_stmt : (bound : List ℕ) (c : Control) (locals : Env) (given those : _) (h : Given) → is_return c ≡ false → GivesSo s.env room_left (λ e. e ≡ locals) (run_stmt u (control_stmt s bound c) locals (done given those)) h
+  only_stmt : (bound : List ℕ) (c : Control) (locals : Env) (given those : _) (h : Given) → is_return c ≡ false → GivesSo s.env room_left (λ e. e ≡ locals) (run_stmt u (control_stmt space.limit s bound c) locals (done given those)) h
       → GivesSo s.env room_left (λ e. e ≡ locals) (step_flow bound c locals (done given those)) h
   only_stmt bound c locals given those h e x =
-      gives_by s.env room_left (λ y. y ≡ locals) (step_flow bound c locals (done given those)) (run_stmt u (control_stmt s bound c) locals (done given those)) h (step_alone u (gives_several s) c (control_stmt s bound c) locals (done given those) e) x
+      gives_by s.env room_left (λ y. y ≡ locals) (step_flow bound c locals (done given those)) (run_stmt u (control_stmt space.limit s bound c) locals (done given those)) h (step_alone u (bare_manner space.limit) (gives_several s) c (control_stmt space.limit s bound c) locals (done given those) e) x
 
   mutual
     block_gives : (b : Block) (bound made : List ℕ) (locals : Env) (known : Known) (so : Given) (given those : _) → KnowsOnly made known → length so.results ≤ room_left → IsSoFar s.env so given those → IsReadyFrom s bound made b → HasNewItemsFrom s bound b → IsClosed s bound → Agree s u bound known locals
-        → GivesSo s.env room_left AnyLocals (run_body u (block_body s bound b Done) locals (done given those)) (block_given b known so)
+        → GivesSo s.env room_left AnyLocals (run_body u (block_body space.limit s bound b Done) locals (done given those)) (block_given b known so)
     block_gives Stop bound made locals known so given those only le l k n closed a = gives_any s.env room_left (λ e. e ≡ locals) (Goes locals (done given those)) so (gives_same s.env room_left locals so given those le l)
     block_gives (Step binds c more) bound made locals known so given those only le l k n closed a =
         let ps = paths_in s in
@@ -437,12 +436,12 @@ module _ (s : Setting) (u : Around) (space : Space) (g : Grounds s u) (several :
     control_gives (block.Return pos result) bound made locals known so given those only le l k n closed a =
         let v = written_reads s u bound known locals false result s.term.ret_ty g a k in
         subst (λ h. GivesSo s.env room_left (λ e. e ≡ locals) (step_flow bound (block.Return pos result) locals (done given those)) (give_held h so)) (sym v.block)
-        (result_gives s.env u space (kind_of s.term.kind) (gives_several s) pos result (written_read s bound false result) v.r v.v locals so given those several several limited le l v.run v.same)
+        (result_gives s.env u space (kind_of s.term.kind) (gives_several s) pos result (written_read s bound false result) v.r v.v locals so given those several several at_entry le l v.run v.same)
 
     -- several arms over what is read
     arms_give : (arms : Arms) (bound made : List ℕ) (source : BindingId) (over : Source) (h : Held) (locals : Env) (known : Known) (so : Given) (given those : _) → KnowsOnly made known → length so.results ≤ room_left → IsSoFar s.env so given those → IsReadyIn s bound source over
         → ReadsOver s.env over h (value_at s.env u.meaning u.args known (at (paths_in s) source)) → AreReadyArms s bound made source over arms → ArmsNewItems s bound arms → IsClosed s bound → Agree s u bound known locals
-        → GivesSo s.env room_left (λ e. e ≡ locals) (run_arms u (told_each bare_manner s bound arms) h locals (done given those)) (several_arms s.env u.meaning u.args (paths_in s) arms (value_at s.env u.meaning u.args known (at (paths_in s) source)) known so)
+        → GivesSo s.env room_left (λ e. e ≡ locals) (run_arms u (told_each (bare_manner space.limit) s bound arms) h locals (done given those)) (several_arms s.env u.meaning u.args (paths_in s) arms (value_at s.env u.meaning u.args known (at (paths_in s) source)) known so)
     arms_give NoArm bound made source over h locals known so given those only le l ready x k n closed a = gives_same s.env room_left locals so given those le l
     arms_give (Arm c places body arms) bound made source over h locals known so given those only le l ready x k n closed a =
         arm_gives bound places body (written_arm s.env c places) (meets s.env u.meaning c (value_at s.env u.meaning u.args known (at (paths_in s) source))) h locals known so given those _ _
@@ -477,25 +476,25 @@ ran_several env space return_kind.Plain name place y f h e x = cc
 ran_several env space return_kind.Option name place y f h e x = cc
 
 -- the statements of a lawful block give what the block gives, in whatever function they stand
-several_flow : (files : Files) (env : Environment) (t : Term) (bs : List Binding) (b : Block) → is_several (kind_of t.kind) ≡ true → HasRustNames env → HasPureExtractors env bs → HasPureConstructors env → IsLawfulBlock (setting env t bs) b → HasNewItems (setting env t bs) b
-    → (p : Program) (args : List Value) (m : Meaning) (space : Space) → HaveTypes env args t.arg_tys → AnswersBindings env m bs → ValuesConstants env m → (f : Function)
-    → AreSameRuns env (ended (kind_of t.kind) (run_body (around p m args (Some (room space)) f) (written_body files env t bs b) [] nothing_done)) (Some (cut_run space (several_outcome env m args (paths_of bs) b)))
-several_flow files env t bs b several names pure pure_made h n p args m space k answers values f =
+several_flow : (options : CodegenOptions) (files : Files) (env : Environment) (t : Term) (bs : List Binding) (b : Block) → is_several (kind_of t.kind) ≡ true → HasRustNames env → HasPureExtractors env bs → HasPureConstructors env → IsLawfulBlock (setting env t bs) b → HasNewItems (setting env t bs) b
+    → (p : Program) (args : List Value) (m : Meaning) (held : ℕ) → HaveTypes env args t.arg_tys → AnswersBindings env m bs → ValuesConstants env m → (f : Function)
+    → AreSameRuns env (ended (kind_of t.kind) (run_body (around p m args (Some held) f) (written_body options files env t bs b) [] nothing_done)) (Some (cut_run (space_of options held) (several_outcome env m args (paths_of bs) b)))
+several_flow options files env t bs b several names pure pure_made h n p args m held k answers values f =
     let s = setting env t bs in
-    let u = around p m args (Some (room space)) f in
+    let u = around p m args (Some held) f in
     let grounds : Grounds s u = record { asks = refl; typed = k; answers = answers; constants = values; names = names; pure = pure; pure_made = pure_made } in
     let c = completed s [] b in
-    let r = block_gives s u space grounds several refl c [] [] [] nothing_known nothing_given [] [] (λ j apart. refl) (omega arith) (record { given' = refl; made = refl }) (completed_ready s b h)
+    let r = block_gives s u (space_of options held) grounds several refl c [] [] [] nothing_known nothing_given [] [] (λ j apart. refl) (omega arith) (record { given' = refl; made = refl }) (completed_ready s b h)
     (completed_new b s [] [] (adds_none s []) n) (none_closed s) (none_agree s u nothing_known) in
-    ran_several env space (kind_of t.kind) (sym_text env t.name) (place_in files t.decl_pos) (ends_in_return b) (λ end. run_body u (block_body s [] c end) [] nothing_done) (several_run env m args (paths_of bs) c nothing_known nothing_given) several r
-    ∙ ap (λ x. Some (nameless_ran (cut_run space x))) (several_same s m args b [] nothing_known nothing_given)
+    ran_several env (space_of options held) (kind_of t.kind) (sym_text env t.name) (place_in files t.decl_pos) (ends_in_return b) (λ end. run_body u (block_body options.max_returns s [] c end) [] nothing_done) (several_run env m args (paths_of bs) c nothing_known nothing_given) several r
+    ∙ ap (λ x. Some (nameless_ran (cut_run (space_of options held) x))) (several_same s m args b [] nothing_known nothing_given)
 
--- so the function of the term, with its log lines
+-- so a function of its kind whose statements run as these
 pub written_several : (options : CodegenOptions) (files : Files) (env : Environment) (t : Term) (bs : List Binding) (b : Block) → is_several (kind_of t.kind) ≡ true → HasRustNames env → HasPureExtractors env bs → HasPureConstructors env → IsLawfulBlock (setting env t bs) b → HasNewItems (setting env t bs) b
-    → RunsAsSeveral env t bs b (logged_function options files env t bs b)
-written_several options files env t bs b several names pure pure_made h n p args m space e k answers values =
-    let f = logged_function options files env t bs b in
-    let w = around p m args (Some (room space)) f in
-    ap (λ g. option_map (λ (q : Ran). nameless_ran (impure_ran env q)) (function_run p m space args g)) e
-    ∙ ap (λ x. option_map (λ (q : Ran). nameless_ran (impure_ran env q)) (ended (kind_of t.kind) x)) (logged_runs (written_body files env t bs b) (log_lines options files (setting env t bs) b) w [] nothing_done)
-    ∙ several_flow files env t bs b several names pure pure_made h n p args m space k answers values f
+    → (f : Function) → f.kind ≡ kind_of t.kind → ((w : Around) → run_body w f.body [] nothing_done ≡ run_body w (written_body options files env t bs b) [] nothing_done) → RunsAsSeveral options env t bs b f
+written_several options files env t bs b several names pure pure_made h n f of alike p args m held e k answers values =
+    let w = around p m args (Some held) f in
+    ap (λ g. option_map (λ (q : Ran). nameless_ran (impure_ran env q)) (function_run p m held args g)) e
+    ∙ ap (λ x. option_map (λ (q : Ran). nameless_ran (impure_ran env q)) (ended x (run_body w f.body [] nothing_done))) of
+    ∙ ap (λ x. option_map (λ (q : Ran). nameless_ran (impure_ran env q)) (ended (kind_of t.kind) x)) (alike w)
+    ∙ several_flow options files env t bs b several names pure pure_made h n p args m held k answers values f

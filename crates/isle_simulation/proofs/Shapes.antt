@@ -109,12 +109,12 @@ result_shape s bound return_kind.Plain e pos b r after more h k = (subst (λ x. 
 result_shape s bound return_kind.Option e pos b r after more h k = (subst (λ x. IsResultOf s bound x b (expr.Some r)) (sym e) h, k)
 result_shape s bound return_kind.Iterator e pos b r after more h k = (subst (λ x. IsGivenOf s bound x b r) (sym e) h, k)
 
-stop_bare : (several : Bool) (c : Control) (after : Body) → bare (stop_before false several c after) ≡ bare after
-stop_bare true (block.Return place result) after = refl
-stop_bare true (block.Match source arms) after = refl
-stop_bare true (block.Equal a b body) after = refl
-stop_bare true (block.Loop result body) after = refl
-stop_bare false c after = refl
+stop_bare : (limit : ℕ) (several : Bool) (c : Control) (after : Body) → bare (stop_before (bare_manner limit) several c after) ≡ bare after
+stop_bare limit true (block.Return place result) after = refl
+stop_bare limit true (block.Match source arms) after = refl
+stop_bare limit true (block.Equal a b body) after = refl
+stop_bare limit true (block.Loop result body) after = refl
+stop_bare limit false c after = refl
 
 written_loop : (o : Option ℕ) (list : ℕ) → o ≡ Some list → o ≡ Some (written_list o)
 written_loop o list e = rw e refl
@@ -129,58 +129,59 @@ lets_bare : (s : Setting) (bound : List ℕ) (binds : List BindingId) (more : Bo
 lets_bare s bound [] more = refl
 lets_bare s bound (x ∷ binds) more = local_bare (binds_list s x) x.0 (bound_expr s bound x (slice_get s.bindings x.0)) (bare (lets s (bound ++ x.0 ∷ []) binds more)) ∙ lets_bare s (bound ++ x.0 ∷ []) binds more
 
-mutual
-  block_shape : (b : Block) (s : Setting) (bound more made : List ℕ) (end : Body) → Adds s bound more → IsReadyFrom s more made (completed s more b) → bare end ≡ Done
-      → AreSteps s bound (bare (block_body s more (completed s more b) end)) b
-  block_shape Stop s bound more made end a k e = subst (λ body. AreSteps s bound body Stop) (sym e) tt
-  block_shape (Step binds c rest) s bound more made end a k e =
-      let bs = step_binds s more binds c in
-      let inner = bound_by more bs in
-      let after = adds_step s binds c bound more a in
-      let body = block_body s inner (completed s inner rest) end in
-      subst (λ x. AreSteps s bound x (Step binds c rest)) (sym (lets_bare s more bs (Then (control_stmt s inner (completed_control s inner c)) (stop_before false (gives_several s) (completed_control s inner c) body)) ∙ ap (bare_before (control_stmt s inner (completed_control s inner c))) (stop_bare (gives_several s) (completed_control s inner c) body)))
-      (control_shape c rest s bound binds (bound_by bound binds) inner _ (bare body) refl after k.2 (block_shape rest s (bound_by bound binds) inner _ end after k.3 e))
+module _ (limit : ℕ) where
+  mutual
+    block_shape : (b : Block) (s : Setting) (bound more made : List ℕ) (end : Body) → Adds s bound more → IsReadyFrom s more made (completed s more b) → bare end ≡ Done
+        → AreSteps s bound (bare (block_body limit s more (completed s more b) end)) b
+    block_shape Stop s bound more made end a k e = subst (λ body. AreSteps s bound body Stop) (sym e) tt
+    block_shape (Step binds c rest) s bound more made end a k e =
+        let bs = step_binds s more binds c in
+        let inner = bound_by more bs in
+        let after = adds_step s binds c bound more a in
+        let body = block_body limit s inner (completed s inner rest) end in
+        subst (λ x. AreSteps s bound x (Step binds c rest)) (sym (lets_bare s more bs (Then (control_stmt limit s inner (completed_control s inner c)) (stop_before (bare_manner limit) (gives_several s) (completed_control s inner c) body)) ∙ ap (bare_before (control_stmt limit s inner (completed_control s inner c))) (stop_bare limit (gives_several s) (completed_control s inner c) body)))
+        (control_shape c rest s bound binds (bound_by bound binds) inner _ (bare body) refl after k.2 (block_shape rest s (bound_by bound binds) inner _ end after k.3 e))
 
-  control_shape : (c : Control) (rest : Block) (s : Setting) (outer : List ℕ) (binds : List BindingId) (bound more made : List ℕ) (after : Body) → bound_by outer binds ≡ bound → Adds s bound more
-      → IsReadyControl s more made (completed_control s more c) → AreSteps s bound after rest
-      → AreSteps s outer (bare_before (control_stmt s more (completed_control s more c)) after) (Step binds c rest)
-  control_shape (block.Match source (Arm (constraint.ConstBool val) places body NoArm)) rest s outer binds bound more made after e a k h =
-      let v = over_value s more source (constraint.ConstBool val) k.1.0 (λ e. cc) k.1.1 k.1.2.0 in
-      rw e ((operand_shape s bound more source v.ty a v.ready, (test_there s.env (constraint.ConstBool val) tt, block_shape body s (bound_within bound places) (bound_within more places) made Done (adds_within s places bound more a) k.1.2.2 refl)), h)
-  control_shape (block.Match source (Arm (constraint.ConstInt val of) places body NoArm)) rest s outer binds bound more made after e a k h =
-      let v = over_value s more source (constraint.ConstInt val of) k.1.0 (λ e. cc) k.1.1 k.1.2.0 in
-      rw e ((operand_shape s bound more source v.ty a v.ready, (test_there s.env (constraint.ConstInt val of) tt, block_shape body s (bound_within bound places) (bound_within more places) made Done (adds_within s places bound more a) k.1.2.2 refl)), h)
-  control_shape (block.Match source (Arm (constraint.ConstPrim val) places body NoArm)) rest s outer binds bound more made after e a k h =
-      let v = over_value s more source (constraint.ConstPrim val) k.1.0 (λ e. cc) k.1.1 k.1.2.0 in
-      rw e ((operand_shape s bound more source v.ty a v.ready, (test_there s.env (constraint.ConstPrim val) tt, block_shape body s (bound_within bound places) (bound_within more places) made Done (adds_within s places bound more a) k.1.2.2 refl)), h)
-  control_shape (block.Match source (Arm (constraint.Variant of variant) places body NoArm)) rest s outer binds bound more made after e a k h =
-      let v = over_value s more source (constraint.Variant of variant) k.1.0 (λ e. cc) k.1.1 k.1.2.0 in
-      let p = arm_pattern s source v.ty (constraint.Variant of variant) places v.is k.1.2.1 tt in
-      rw e ((arm_tested s bound source (constraint.Variant of variant) places p _ (read_shape s bound more true source v.ty a v.ready), (pattern_there (pattern_of s.env (constraint.Variant of variant) places) _ p.is, block_shape body s (bound_within bound places) (bound_within more places) made Done (adds_within s places bound more a) k.1.2.2 refl)), h)
-  control_shape (block.Match source (Arm (constraint.Struct of) places body NoArm)) rest s outer binds bound more made after e a k h =
-      let v = over_value s more source (constraint.Struct of) k.1.0 (λ e. cc) k.1.1 k.1.2.0 in
-      let p = arm_pattern s source v.ty (constraint.Struct of) places v.is k.1.2.1 tt in
-      rw e ((arm_tested s bound source (constraint.Struct of) places p _ (read_shape s bound more true source v.ty a v.ready), (pattern_there (pattern_of s.env (constraint.Struct of) places) _ p.is, block_shape body s (bound_within bound places) (bound_within more places) made Done (adds_within s places bound more a) k.1.2.2 refl)), h)
-  control_shape (block.Match source (Arm constraint.Some places body NoArm)) rest s outer binds bound more made after e a k h =
-      let v = over_option s more source k.1.0 k.1.1 k.1.2.0 in
-      let p = some_made places k.1.2.1.0 in
-      rw e ((some_tested s bound source (some_pattern places) p.0 _ p.1 (option_shape s bound more source v.0 a v.1), (pattern_there (some_pattern places) _ p.1, block_shape body s (bound_within bound places) (bound_within more places) made Done (adds_within s places bound more a) k.1.2.2 refl)), h)
-  control_shape (block.Match source (Arm c places body (Arm d others inside arms))) rest s outer binds bound more made after e a k h =
-      rw e ((match_shape s bound more source k.1.0 c a k.1.1 k.1.2.0, each_shape (Arm c places body (Arm d others inside arms)) s bound more made source k.1.0 a k.1.2), h)
-  control_shape (block.Match source NoArm) rest s outer binds bound more made after e a k h = absurd k.0
-  control_shape (block.Equal x y body) rest s outer binds bound more made after e a k h =
-      rw e ((operand_shape s bound more x k.0.0 a k.0.1, operand_shape s bound more y k.0.0 a k.0.2, block_shape body s bound more made Done a k.1 refl), h)
-  control_shape (block.Loop result body) rest s outer binds bound more made after e a k h =
-      rw e ((written_loop (looped_local s result) k.0.source.0 (ap list_local k.0.is), refl, block_shape body s (bound ++ result.0 ∷ []) (more ++ result.0 ∷ []) made Done (adds_both s bound more result a) k.1 refl), h)
-  control_shape (block.Return pos result) rest s outer binds bound more made after e a k h =
-      result_steps s outer binds bound _ (block.Return pos result) rest e (result_shape s bound (kind_of s.term.kind) refl pos result (written_read s more false result) after rest (read_shape s bound more false result s.term.ret_ty a k) h)
+    control_shape : (c : Control) (rest : Block) (s : Setting) (outer : List ℕ) (binds : List BindingId) (bound more made : List ℕ) (after : Body) → bound_by outer binds ≡ bound → Adds s bound more
+        → IsReadyControl s more made (completed_control s more c) → AreSteps s bound after rest
+        → AreSteps s outer (bare_before (control_stmt limit s more (completed_control s more c)) after) (Step binds c rest)
+    control_shape (block.Match source (Arm (constraint.ConstBool val) places body NoArm)) rest s outer binds bound more made after e a k h =
+        let v = over_value s more source (constraint.ConstBool val) k.1.0 (λ e. cc) k.1.1 k.1.2.0 in
+        rw e ((operand_shape s bound more source v.ty a v.ready, (test_there s.env (constraint.ConstBool val) tt, block_shape body s (bound_within bound places) (bound_within more places) made Done (adds_within s places bound more a) k.1.2.2 refl)), h)
+    control_shape (block.Match source (Arm (constraint.ConstInt val of) places body NoArm)) rest s outer binds bound more made after e a k h =
+        let v = over_value s more source (constraint.ConstInt val of) k.1.0 (λ e. cc) k.1.1 k.1.2.0 in
+        rw e ((operand_shape s bound more source v.ty a v.ready, (test_there s.env (constraint.ConstInt val of) tt, block_shape body s (bound_within bound places) (bound_within more places) made Done (adds_within s places bound more a) k.1.2.2 refl)), h)
+    control_shape (block.Match source (Arm (constraint.ConstPrim val) places body NoArm)) rest s outer binds bound more made after e a k h =
+        let v = over_value s more source (constraint.ConstPrim val) k.1.0 (λ e. cc) k.1.1 k.1.2.0 in
+        rw e ((operand_shape s bound more source v.ty a v.ready, (test_there s.env (constraint.ConstPrim val) tt, block_shape body s (bound_within bound places) (bound_within more places) made Done (adds_within s places bound more a) k.1.2.2 refl)), h)
+    control_shape (block.Match source (Arm (constraint.Variant of variant) places body NoArm)) rest s outer binds bound more made after e a k h =
+        let v = over_value s more source (constraint.Variant of variant) k.1.0 (λ e. cc) k.1.1 k.1.2.0 in
+        let p = arm_pattern s source v.ty (constraint.Variant of variant) places v.is k.1.2.1 tt in
+        rw e ((arm_tested s bound source (constraint.Variant of variant) places p _ (read_shape s bound more true source v.ty a v.ready), (pattern_there (pattern_of s.env (constraint.Variant of variant) places) _ p.is, block_shape body s (bound_within bound places) (bound_within more places) made Done (adds_within s places bound more a) k.1.2.2 refl)), h)
+    control_shape (block.Match source (Arm (constraint.Struct of) places body NoArm)) rest s outer binds bound more made after e a k h =
+        let v = over_value s more source (constraint.Struct of) k.1.0 (λ e. cc) k.1.1 k.1.2.0 in
+        let p = arm_pattern s source v.ty (constraint.Struct of) places v.is k.1.2.1 tt in
+        rw e ((arm_tested s bound source (constraint.Struct of) places p _ (read_shape s bound more true source v.ty a v.ready), (pattern_there (pattern_of s.env (constraint.Struct of) places) _ p.is, block_shape body s (bound_within bound places) (bound_within more places) made Done (adds_within s places bound more a) k.1.2.2 refl)), h)
+    control_shape (block.Match source (Arm constraint.Some places body NoArm)) rest s outer binds bound more made after e a k h =
+        let v = over_option s more source k.1.0 k.1.1 k.1.2.0 in
+        let p = some_made places k.1.2.1.0 in
+        rw e ((some_tested s bound source (some_pattern places) p.0 _ p.1 (option_shape s bound more source v.0 a v.1), (pattern_there (some_pattern places) _ p.1, block_shape body s (bound_within bound places) (bound_within more places) made Done (adds_within s places bound more a) k.1.2.2 refl)), h)
+    control_shape (block.Match source (Arm c places body (Arm d others inside arms))) rest s outer binds bound more made after e a k h =
+        rw e ((match_shape s bound more source k.1.0 c a k.1.1 k.1.2.0, each_shape (Arm c places body (Arm d others inside arms)) s bound more made source k.1.0 a k.1.2), h)
+    control_shape (block.Match source NoArm) rest s outer binds bound more made after e a k h = absurd k.0
+    control_shape (block.Equal x y body) rest s outer binds bound more made after e a k h =
+        rw e ((operand_shape s bound more x k.0.0 a k.0.1, operand_shape s bound more y k.0.0 a k.0.2, block_shape body s bound more made Done a k.1 refl), h)
+    control_shape (block.Loop result body) rest s outer binds bound more made after e a k h =
+        rw e ((written_loop (looped_local s result) k.0.source.0 (ap list_local k.0.is), refl, block_shape body s (bound ++ result.0 ∷ []) (more ++ result.0 ∷ []) made Done (adds_both s bound more result a) k.1 refl), h)
+    control_shape (block.Return pos result) rest s outer binds bound more made after e a k h =
+        result_steps s outer binds bound _ (block.Return pos result) rest e (result_shape s bound (kind_of s.term.kind) refl pos result (written_read s more false result) after rest (read_shape s bound more false result s.term.ret_ty a k) h)
 
-  -- each of several arms
-  each_shape : (arms : Arms) (s : Setting) (bound more made : List ℕ) (source : BindingId) (over : Source) → Adds s bound more → AreReadyArms s more made source over (completed_arms s more arms)
-      → DoArms s bound (bare_arms (told_each bare_manner s more (completed_arms s more arms))) arms
-  each_shape NoArm s bound more made source over a k = tt
-  each_shape (Arm c places body arms) s bound more made source over a k =
-      (arm_there s source over c places k.0 k.1, block_shape body s (bound_within bound places) (bound_within more places) made Done (adds_within s places bound more a) k.2 refl, each_shape arms s bound more made source over a k.3)
+    -- each of several arms
+    each_shape : (arms : Arms) (s : Setting) (bound more made : List ℕ) (source : BindingId) (over : Source) → Adds s bound more → AreReadyArms s more made source over (completed_arms s more arms)
+        → DoArms s bound (bare_arms (told_each (bare_manner limit) s more (completed_arms s more arms))) arms
+    each_shape NoArm s bound more made source over a k = tt
+    each_shape (Arm c places body arms) s bound more made source over a k =
+        (arm_there s source over c places k.0 k.1, block_shape body s (bound_within bound places) (bound_within more places) made Done (adds_within s places bound more a) k.2 refl, each_shape arms s bound more made source over a k.3)
 
 -- what stands after the steps has no step
 mark_bare : (mark : Option (Option (List ℕ × List ℕ))) → bare (tail_body mark) ≡ Done
@@ -194,5 +195,5 @@ tail_bare mark false = mark_bare mark
 -- the statements of a term's function are its block's steps
 pub written_shape : (options : CodegenOptions) (files : Files) (env : Environment) (t : Term) (bs : List Binding) (b : Block) → IsLawfulBlock (setting env t bs) b → HasShape (setting env t bs) (logged_function options files env t bs b).body b
 written_shape options files env t bs b h =
-    subst (λ (body : Body). AreSteps (setting env t bs) [] body b) (sym (logged_bare (written_body files env t bs b) (log_lines options files (setting env t bs) b)))
-    (block_shape b (setting env t bs) [] [] [] _ (adds_none (setting env t bs) []) (completed_ready (setting env t bs) b h) (tail_bare (mark_of (kind_of t.kind) (sym_text env t.name) (place_in files t.decl_pos)) (ends_in_return b)))
+    subst (λ (body : Body). AreSteps (setting env t bs) [] body b) (sym (logged_bare (written_body options files env t bs b) (log_lines options files (setting env t bs) b)))
+    (block_shape options.max_returns b (setting env t bs) [] [] [] _ (adds_none (setting env t bs) []) (completed_ready (setting env t bs) b h) (tail_bare (mark_of (kind_of t.kind) (sym_text env t.name) (place_in files t.decl_pos)) (ends_in_return b)))

@@ -18,7 +18,6 @@ use Rattle.isle_core.specs.ConstraintType.{IsConstraintOf}
 use Rattle.isle_core.specs.Value.{Value, Made, Ran, Gives, GivesSome, GivesNone, IsUnreachable}
 use Rattle.isle_core.specs.SameInRun.{same_in_run}
 use Rattle.isle_core.specs.Meaning.{Meaning}
-use Rattle.isle_core.specs.Space.{room}
 use Rattle.isle_core.specs.Nameless.{nameless, nameless_made, nameless_end, nameless_ran}
 use Rattle.isle_core.specs.Outcome.{Result, Value', Failure, Unmatched, Prescription}
 use Rattle.isle_core.specs.Path.{at, paths_of}
@@ -47,8 +46,7 @@ use Rattle.isle_tree.specs.Run.{Around, Env, value_of, read_value, fit, fitted, 
 use Rattle.isle_simulation.specs.Completed.{completed}
 use Rattle.isle_simulation.specs.Manner.{bare_manner}
 use Rattle.isle_simulation.specs.Patterns.{pattern_of}
-use Rattle.isle_simulation.specs.TermFunction.{ends_in_return, mark_of, tail_body, log_lines}
-use Rattle.isle_simulation.proofs.LoggedLaws.{logged_runs}
+use Rattle.isle_simulation.specs.TermFunction.{ends_in_return, mark_of, tail_body}
 use Rattle.isle_simulation.specs.Ends.{end_of as ending}
 use Rattle.isle_simulation.specs.Emitted.{HasPureExtractors, HasPureConstructors, impure_ran, AreSameRuns, RunsAsBlock, ran_with, AnswersBindings, ran_of}
 use Rattle.isle_simulation.specs.RustNames.{HasRustNames}
@@ -64,7 +62,7 @@ use Rattle.isle_simulation.proofs.Made.{over_value, over_option}
 use Rattle.isle_simulation.proofs.NamelessLaws.{AreSameCalls, run_same}
 use Rattle.isle_simulation.proofs.PathValues.{Grounds, constraint_tests, IsConstant}
 use Rattle.isle_simulation.proofs.Ready.{IsReady, IsOptionReady, IsReadyIn, IsReadyFrom, IsReadyControl, AreReadyArms}
-use Rattle.isle_simulation.proofs.Written.{written_operand, written_read, written_test, written_pattern, written_arm, match_read, told_each, block_body, control_stmt, end_of, result_stmt, stop_before, written_body, logged_function}
+use Rattle.isle_simulation.proofs.Written.{written_operand, written_read, written_test, written_pattern, written_arm, match_read, told_each, block_body, control_stmt, end_of, result_stmt, stop_before, written_body}
 
 -- ---- how statements go
 
@@ -105,9 +103,9 @@ scope_does env kind u locals f (went.Goes later calls) r = record { those = r.th
 scope_does env kind u locals f (went.Ends o) r = let e = r Done in record { end = e.end; those = e.those; is = ap (after_scope locals) e.is; same = e.same; calls = e.calls }
 
 -- no stop stands where one result is given
-no_stop : (several : Bool) → several ≡ false → (c : Control) (after : Body) → stop_before false several c after ≡ after
-no_stop false e c after = refl
-no_stop true e c after = cc
+no_stop : (limit : ℕ) (several : Bool) → several ≡ false → (c : Control) (after : Body) → stop_before (bare_manner limit) several c after ≡ after
+no_stop limit false e c after = refl
+no_stop limit true e c after = cc
 
 return_does : (env : Environment) (u : Around) (kind : ReturnKind) → is_several kind ≡ false → (q : Read) (r v : Value) (locals : Env) (calls those : List Made) → read_value u locals q ≡ a_value r → nameless r ≡ nameless v → AreSameCalls env those calls
     → EndsSo [] env kind (run_stmt u (result_stmt kind q) locals (done [] those)) (record { result = Value' v; calls = calls })
@@ -127,15 +125,15 @@ skip : (env : Environment) (kind : ReturnKind) (locals : Env) (known : Known) (m
 skip env kind locals known made more f w calls those only same e is =
     subst (Does env kind locals known (made ++ more) f) (sym is) (record { runs = record { those = those; is = e; same = same }; goes = on_left made more known known (same_later known made only) })
 
-module _ (s : Setting) (u : Around) (g : Grounds s u) (few : gives_several s ≡ false) where
+module _ (limit : ℕ) (s : Setting) (u : Around) (g : Grounds s u) (few : gives_several s ≡ false) where
   -- the statements of a block go as the block, whatever follows them
   record Runs (bound made : List ℕ) (b : Block) (locals : Env) (known : Known) (calls those : List Made) : Type 0 where
-    runs : RunsSo s.env (kind_of s.term.kind) u (λ end. run_body u (block_body s bound b end) locals (done [] those)) (block_run s.env u.meaning u.args (paths_in s) b known calls)
+    runs : RunsSo s.env (kind_of s.term.kind) u (λ end. run_body u (block_body limit s bound b end) locals (done [] those)) (block_run s.env u.meaning u.args (paths_in s) b known calls)
     goes : WentOn known (after_block (gives_several s) s.env (paths_in s) made b) (block_run s.env u.meaning u.args (paths_in s) b known calls)
 
   -- a statement, and the steps after it
   record RunsAfter (bound made : List ℕ) (known : Known) (f : Flow) (w : Went) (more : Block) : Type 0 where
-    runs : RunsSo s.env (kind_of s.term.kind) u (λ end. then_run f (run_body u (block_body s bound more end))) (then_go w (block_run s.env u.meaning u.args (paths_in s) more))
+    runs : RunsSo s.env (kind_of s.term.kind) u (λ end. then_run f (run_body u (block_body limit s bound more end))) (then_go w (block_run s.env u.meaning u.args (paths_in s) more))
     goes : WentOn known (after_block (gives_several s) s.env (paths_in s) made more) (then_go w (block_run s.env u.meaning u.args (paths_in s) more))
 
   runs_after : (bound made : List ℕ) (known : Known) (f : Flow) (w : Went) (more : Block) (locals : Env) → Does s.env (kind_of s.term.kind) locals known made f w
@@ -143,36 +141,36 @@ module _ (s : Setting) (u : Around) (g : Grounds s u) (few : gives_several s ≡
   runs_after bound made known f (went.Goes last all) more locals is h =
       let r = h last all is.runs.those is.runs.same is.goes in
       record {
-        runs = runs_by s.env (kind_of s.term.kind) u (λ end. then_run f (run_body u (block_body s bound more end))) (λ end. run_body u (block_body s bound more end) locals (done [] is.runs.those)) (block_run s.env u.meaning u.args (paths_in s) more last all)
-            (λ end. ap (λ x. then_run x (run_body u (block_body s bound more end))) is.runs.is) r.runs;
+        runs = runs_by s.env (kind_of s.term.kind) u (λ end. then_run f (run_body u (block_body limit s bound more end))) (λ end. run_body u (block_body limit s bound more end) locals (done [] is.runs.those)) (block_run s.env u.meaning u.args (paths_in s) more last all)
+            (λ end. ap (λ x. then_run x (run_body u (block_body limit s bound more end))) is.runs.is) r.runs;
         goes = goes_twice known last (after_block (gives_several s) s.env (paths_in s) made more) (block_run s.env u.meaning u.args (paths_in s) more last all) is.goes.grows r.goes;
       }
-  runs_after bound made known f (went.Ends o) more locals is h = record { runs = λ end. ends_on [] s.env (kind_of s.term.kind) f o (run_body u (block_body s bound more end)) is.runs; goes = tt }
+  runs_after bound made known f (went.Ends o) more locals is h = record { runs = λ end. ends_on [] s.env (kind_of s.term.kind) f o (run_body u (block_body limit s bound more end)) is.runs; goes = tt }
 
   -- a step, after its lets
   step_runs : (bound made : List ℕ) (binds : List BindingId) (c : Control) (more : Block) (locals : Env) (known : Known) (calls those : List Made) (w : Went) → bind_all s.env u.meaning u.args (paths_in s) binds known calls ≡ w → AreUnanswered known (occurrences s.env (paths_in s) binds)
       → LetsRun s u bound binds known [] those locals w
       → ((later : Known) (all behind : List Made) (after : Env) → AreSameCalls s.env behind all → Keeps (occurrences s.env (paths_in s) binds) known later → Agree s u (bound_by bound binds) later after
-      → Does s.env (kind_of s.term.kind) after later (after_control (gives_several s) s.env (paths_in s) (made ++ occurrences s.env (paths_in s) binds) c) (run_stmt u (control_stmt s (bound_by bound binds) c) after (done [] behind)) (control_run s.env u.meaning u.args (paths_in s) c later all)
+      → Does s.env (kind_of s.term.kind) after later (after_control (gives_several s) s.env (paths_in s) (made ++ occurrences s.env (paths_in s) binds) c) (run_stmt u (control_stmt limit s (bound_by bound binds) c) after (done [] behind)) (control_run s.env u.meaning u.args (paths_in s) c later all)
       × ((last : Known) (all' behind' : List Made) → AreSameCalls s.env behind' all' → IsLater later (after_control (gives_several s) s.env (paths_in s) (made ++ occurrences s.env (paths_in s) binds) c) last → Runs (bound_by bound binds) (after_control (gives_several s) s.env (paths_in s) (made ++ occurrences s.env (paths_in s) binds) c) more after last all' behind'))
       → Runs bound made (Step binds c more) locals known calls those
   step_runs bound made binds c more locals known calls those (went.Ends o) e new is rest = record {
-    runs = subst (λ x. RunsSo s.env (kind_of s.term.kind) u (λ end. run_body u (block_body s bound (Step binds c more) end) locals (done [] those)) (then_go (then_go x (control_run s.env u.meaning u.args (paths_in s) c)) (block_run s.env u.meaning u.args (paths_in s) more))) (sym e)
-        (λ end. is (Then (control_stmt s (bound_by bound binds) c) (stop_before false (gives_several s) c (block_body s (bound_by bound binds) more end))));
+    runs = subst (λ x. RunsSo s.env (kind_of s.term.kind) u (λ end. run_body u (block_body limit s bound (Step binds c more) end) locals (done [] those)) (then_go (then_go x (control_run s.env u.meaning u.args (paths_in s) c)) (block_run s.env u.meaning u.args (paths_in s) more))) (sym e)
+        (λ end. is (Then (control_stmt limit s (bound_by bound binds) c) (stop_before (bare_manner limit) (gives_several s) c (block_body limit s (bound_by bound binds) more end))));
     goes = subst (λ x. WentOn known (after_block (gives_several s) s.env (paths_in s) made (Step binds c more)) (then_go (then_go x (control_run s.env u.meaning u.args (paths_in s) c)) (block_run s.env u.meaning u.args (paths_in s) more))) (sym e) tt;
   }
   step_runs bound made binds c more locals known calls those (went.Goes later all) e new is rest =
       let ps = paths_in s in
       let ks = occurrences s.env ps binds in
       let k = rest later all is.behind is.after is.same is.keeps is.agree in
-      let f = run_stmt u (control_stmt s (bound_by bound binds) c) is.after (done [] is.behind) in
+      let f = run_stmt u (control_stmt limit s (bound_by bound binds) c) is.after (done [] is.behind) in
       let w = control_run s.env u.meaning u.args ps c later all in
       let r = runs_after (bound_by bound binds) (after_control (gives_several s) s.env ps (made ++ ks) c) later f w more is.after k.0 k.1 in
       record {
-        runs = subst (λ x. RunsSo s.env (kind_of s.term.kind) u (λ end. run_body u (block_body s bound (Step binds c more) end) locals (done [] those)) (then_go (then_go x (control_run s.env u.meaning u.args ps c)) (block_run s.env u.meaning u.args ps more))) (sym e)
-            (runs_by s.env (kind_of s.term.kind) u (λ end. run_body u (block_body s bound (Step binds c more) end) locals (done [] those)) (λ end. then_run f (run_body u (block_body s (bound_by bound binds) more end))) (then_go w (block_run s.env u.meaning u.args ps more))
-            (λ end. is.runs (Then (control_stmt s (bound_by bound binds) c) (stop_before false (gives_several s) c (block_body s (bound_by bound binds) more end)))
-            ∙ ap (λ x. then_run f (run_body u x)) (no_stop (gives_several s) few c (block_body s (bound_by bound binds) more end))) r.runs);
+        runs = subst (λ x. RunsSo s.env (kind_of s.term.kind) u (λ end. run_body u (block_body limit s bound (Step binds c more) end) locals (done [] those)) (then_go (then_go x (control_run s.env u.meaning u.args ps c)) (block_run s.env u.meaning u.args ps more))) (sym e)
+            (runs_by s.env (kind_of s.term.kind) u (λ end. run_body u (block_body limit s bound (Step binds c more) end) locals (done [] those)) (λ end. then_run f (run_body u (block_body limit s (bound_by bound binds) more end))) (then_go w (block_run s.env u.meaning u.args ps more))
+            (λ end. is.runs (Then (control_stmt limit s (bound_by bound binds) c) (stop_before (bare_manner limit) (gives_several s) c (block_body limit s (bound_by bound binds) more end)))
+            ∙ ap (λ x. then_run f (run_body u x)) (no_stop limit (gives_several s) few c (block_body limit s (bound_by bound binds) more end))) r.runs);
         goes = subst (λ x. WentOn known (after_block (gives_several s) s.env ps made (Step binds c more)) (then_go (then_go x (control_run s.env u.meaning u.args ps c)) (block_run s.env u.meaning u.args ps more))) (sym e)
             (goes_twice known later (after_block (gives_several s) s.env ps made (Step binds c more)) (then_go w (block_run s.env u.meaning u.args ps more)) (kept_grows ks known later new is.keeps) r.goes);
       }
@@ -181,10 +179,10 @@ module _ (s : Setting) (u : Around) (g : Grounds s u) (few : gives_several s ≡
   equal_does : (a b : Operand) (bound made more : List ℕ) (body : Block) (locals : Env) (known : Known) (calls those : List Made) (r q : Value) (x : Bool) → value_of u locals a ≡ a_value r → value_of u locals b ≡ a_value q → same_in_run r q ≡ x
       → KnowsOnly made known → AreSameCalls s.env those calls → Runs bound made body locals known calls those
       → WentOn known (made ++ more) (block_run s.env u.meaning u.args (paths_in s) body known calls)
-      → Does s.env (kind_of s.term.kind) locals known (made ++ more) (run_stmt u (IfEq a b (block_body s bound body Done)) locals (done [] those)) (cond x (block_run s.env u.meaning u.args (paths_in s) body known calls) (went.Goes known calls))
+      → Does s.env (kind_of s.term.kind) locals known (made ++ more) (run_stmt u (IfEq a b (block_body limit s bound body Done)) locals (done [] those)) (cond x (block_run s.env u.meaning u.args (paths_in s) body known calls) (went.Goes known calls))
   equal_does a b bound made more body locals known calls those r q true e f same only made' runs goes = record {
-    runs = does_by s.env (kind_of s.term.kind) locals _ (after_scope locals (run_body u (block_body s bound body Done) locals (done [] those))) (block_run s.env u.meaning u.args (paths_in s) body known calls) (rw (e, f, same) refl)
-        (scope_does s.env (kind_of s.term.kind) u locals (λ end. run_body u (block_body s bound body end) locals (done [] those)) (block_run s.env u.meaning u.args (paths_in s) body known calls) runs.runs);
+    runs = does_by s.env (kind_of s.term.kind) locals _ (after_scope locals (run_body u (block_body limit s bound body Done) locals (done [] those))) (block_run s.env u.meaning u.args (paths_in s) body known calls) (rw (e, f, same) refl)
+        (scope_does s.env (kind_of s.term.kind) u locals (λ end. run_body u (block_body limit s bound body end) locals (done [] those)) (block_run s.env u.meaning u.args (paths_in s) body known calls) runs.runs);
     goes = goes;
   }
   equal_does a b bound made more body locals known calls those r q false e f same only made' runs goes = skip s.env (kind_of s.term.kind) locals known made more _ (went.Goes known calls) calls those only made' (rw (e, f, same) refl) refl
@@ -195,20 +193,20 @@ module _ (s : Setting) (u : Around) (g : Grounds s u) (few : gives_several s ≡
   -- an arm that tests for a constant
   constant_does : (bound made : List ℕ) (source : BindingId) (ty : TypeId) (c : Constraint) (places : List (Option BindingId)) (body : Block) (locals : Env) (known : Known) (calls those : List Made) → KnowsOnly made known → AreSameCalls s.env those calls → Agree s u bound known locals
       → IsReady s bound source ty → IsConstraintOf s.env c ty → IsConstant c → Runs (bound_within bound places) made body locals known calls those
-      → Does s.env (kind_of s.term.kind) locals known (after_control (gives_several s) s.env (paths_in s) made (block.Match source (Arm c places body NoArm))) (run_stmt u (IfEq (written_operand s bound source) (written_test s.env c) (block_body s (bound_within bound places) body Done)) locals (done [] those))
+      → Does s.env (kind_of s.term.kind) locals known (after_control (gives_several s) s.env (paths_in s) made (block.Match source (Arm c places body NoArm))) (run_stmt u (IfEq (written_operand s bound source) (written_test s.env c) (block_body limit s (bound_within bound places) body Done)) locals (done [] those))
       (control_run s.env u.meaning u.args (paths_in s) (block.Match source (Arm c places body NoArm)) known calls)
   constant_does bound made source ty c places body locals known calls those only same a ready is constant runs =
       let v = operand_reads s u bound known locals source ty g a ready in
       let w = constraint_tests s.env u c ty g.names g.constants is constant in
       let after = after_block (gives_several s) s.env (paths_in s) made body in
-      subst (λ h. Does s.env (kind_of s.term.kind) locals known (made ++ (after ++ [])) (run_stmt u (IfEq (written_operand s bound source) (written_test s.env c) (block_body s (bound_within bound places) body Done)) locals (done [] those)) (cond (meets s.env u.meaning c h) (block_run s.env u.meaning u.args (paths_in s) body known calls) (went.Goes known calls))) (sym v.block)
+      subst (λ h. Does s.env (kind_of s.term.kind) locals known (made ++ (after ++ [])) (run_stmt u (IfEq (written_operand s bound source) (written_test s.env c) (block_body limit s (bound_within bound places) body Done)) locals (done [] those)) (cond (meets s.env u.meaning c h) (block_run s.env u.meaning u.args (paths_in s) body known calls) (went.Goes known calls))) (sym v.block)
       (equal_does (written_operand s bound source) (written_test s.env c) (bound_within bound places) made (after ++ []) body locals known calls those v.r w.w (meets s.env u.meaning c (a_value v.v)) v.run (w.place locals) (w.met v.r v.v v.same v.typed) only same runs
       (arm_goes made body known (block_run s.env u.meaning u.args (paths_in s) body known calls) runs.goes))
 
   -- an arm that tests by a pattern
   pattern_does : (bound made : List ℕ) (source : BindingId) (c : Constraint) (places : List (Option BindingId)) (body : Block) (locals : Env) (known : Known) (calls those : List Made) (q : Read) (h : Held) → KnowsOnly made known → AreSameCalls s.env those calls
       → value_at s.env u.meaning u.args known (at (paths_in s) source) ≡ h → ArmFits s u bound known locals c places (read_value u locals q) h → ((inner : Env) → Agree s u (bound_within bound places) known inner → Runs (bound_within bound places) made body inner known calls those)
-      → Does s.env (kind_of s.term.kind) locals known (after_control (gives_several s) s.env (paths_in s) made (block.Match source (Arm c places body NoArm))) (run_stmt u (IfLet (written_pattern (pattern_of s.env c places)) q (block_body s (bound_within bound places) body Done)) locals (done [] those))
+      → Does s.env (kind_of s.term.kind) locals known (after_control (gives_several s) s.env (paths_in s) made (block.Match source (Arm c places body NoArm))) (run_stmt u (IfLet (written_pattern (pattern_of s.env c places)) q (block_body limit s (bound_within bound places) body Done)) locals (done [] those))
       (control_run s.env u.meaning u.args (paths_in s) (block.Match source (Arm c places body NoArm)) known calls)
   pattern_does bound made source c places body locals known calls those q h only same held fits runs =
       subst (λ x. Does s.env (kind_of s.term.kind) locals known (made ++ (after ++ [])) (run_stmt u (IfLet (written_pattern (pattern_of s.env c places)) q inside) locals (done [] those)) (cond (meets s.env u.meaning c x) w (went.Goes known calls))) (sym held)
@@ -219,7 +217,7 @@ module _ (s : Setting) (u : Around) (g : Grounds s u) (few : gives_several s ≡
       after = after_block (gives_several s) s.env (paths_in s) made body
 
       inside : Body
-      inside = block_body s (bound_within bound places) body Done
+      inside = block_body limit s (bound_within bound places) body Done
 
       w : Went
       w = block_run s.env u.meaning u.args (paths_in s) body known calls
@@ -230,14 +228,14 @@ module _ (s : Setting) (u : Around) (g : Grounds s u) (few : gives_several s ≡
           let r = runs (locals ++ k.0) k.2 in
           record {
             runs = does_by s.env (kind_of s.term.kind) locals _ (after_scope locals (run_body u inside (locals ++ k.0) (done [] those))) w (ap (λ o. fitted o (λ more. after_scope locals (run_body u inside (locals ++ more) (done [] those))) (Goes locals (done [] those))) k.1)
-                (scope_does s.env (kind_of s.term.kind) u locals (λ end. run_body u (block_body s (bound_within bound places) body end) (locals ++ k.0) (done [] those)) w r.runs);
+                (scope_does s.env (kind_of s.term.kind) u locals (λ end. run_body u (block_body limit s (bound_within bound places) body end) (locals ++ k.0) (done [] those)) w r.runs);
             goes = arm_goes made body known w r.goes;
           }
 
   -- so of a variant or a struct
   form_does : (bound made : List ℕ) (source : BindingId) (ty : TypeId) (c : Constraint) (places : List (Option BindingId)) (body : Block) (locals : Env) (known : Known) (calls those : List Made) → KnowsOnly made known → AreSameCalls s.env those calls → Agree s u bound known locals
       → IsReady s bound source ty → IsConstraintOf s.env c ty → ArePlacesOf s source c places → IsForm c → ((inner : Env) → Agree s u (bound_within bound places) known inner → Runs (bound_within bound places) made body inner known calls those)
-      → Does s.env (kind_of s.term.kind) locals known (after_control (gives_several s) s.env (paths_in s) made (block.Match source (Arm c places body NoArm))) (run_stmt u (IfLet (written_pattern (pattern_of s.env c places)) (written_read s bound true source) (block_body s (bound_within bound places) body Done)) locals (done [] those))
+      → Does s.env (kind_of s.term.kind) locals known (after_control (gives_several s) s.env (paths_in s) made (block.Match source (Arm c places body NoArm))) (run_stmt u (IfLet (written_pattern (pattern_of s.env c places)) (written_read s bound true source) (block_body limit s (bound_within bound places) body Done)) locals (done [] those))
       (control_run s.env u.meaning u.args (paths_in s) (block.Match source (Arm c places body NoArm)) known calls)
   form_does bound made source ty c places body locals known calls those only same a ready is parts form runs =
       let v = written_reads s u bound known locals true source ty g a ready in
@@ -247,7 +245,7 @@ module _ (s : Setting) (u : Around) (g : Grounds s u) (few : gives_several s ≡
   -- and of an option
   some_does : (bound made : List ℕ) (source : BindingId) (tys : List TypeId) (places : List (Option BindingId)) (body : Block) (locals : Env) (known : Known) (calls those : List Made) → KnowsOnly made known → AreSameCalls s.env those calls → Agree s u bound known locals
       → IsOptionReady s bound source tys → ArePlacesOf s source constraint.Some places → ((inner : Env) → Agree s u (bound_within bound places) known inner → Runs (bound_within bound places) made body inner known calls those)
-      → Does s.env (kind_of s.term.kind) locals known (after_control (gives_several s) s.env (paths_in s) made (block.Match source (Arm constraint.Some places body NoArm))) (run_stmt u (IfLet (written_pattern (pattern_of s.env constraint.Some places)) (read.Plain (written_operand s bound source)) (block_body s (bound_within bound places) body Done)) locals (done [] those))
+      → Does s.env (kind_of s.term.kind) locals known (after_control (gives_several s) s.env (paths_in s) made (block.Match source (Arm constraint.Some places body NoArm))) (run_stmt u (IfLet (written_pattern (pattern_of s.env constraint.Some places)) (read.Plain (written_operand s bound source)) (block_body limit s (bound_within bound places) body Done)) locals (done [] those))
       (control_run s.env u.meaning u.args (paths_in s) (block.Match source (Arm constraint.Some places body NoArm)) known calls)
   some_does bound made source tys places body locals known calls those only same a ready parts runs =
       let o = option_reads s u bound known locals source tys a ready.bound' ready.path in
@@ -258,19 +256,19 @@ module _ (s : Setting) (u : Around) (g : Grounds s u) (few : gives_several s ≡
   arm_does : (bound made : List ℕ) (places : List (Option BindingId)) (body : Block) (pat : TPat) (x : Bool) (h : Held) (locals : Env) (known : Known) (calls those : List Made) (rest : List ℕ) (others : Flow) (w : Went) → FitsBy s u bound known locals places pat h x
       → ((inner : Env) → Agree s u (bound_within bound places) known inner → Runs (bound_within bound places) made body inner known calls those) → Does s.env (kind_of s.term.kind) locals known (made ++ rest) others w
       → Does s.env (kind_of s.term.kind) locals known (made ++ (after_block (gives_several s) s.env (paths_in s) made body ++ rest))
-      (fitted (fit u pat h) (λ more. after_scope locals (run_body u (block_body s (bound_within bound places) body Done) (locals ++ more) (done [] those))) others) (cond x (block_run s.env u.meaning u.args (paths_in s) body known calls) w)
+      (fitted (fit u pat h) (λ more. after_scope locals (run_body u (block_body limit s (bound_within bound places) body Done) (locals ++ more) (done [] those))) others) (cond x (block_run s.env u.meaning u.args (paths_in s) body known calls) w)
   arm_does bound made places body pat false h locals known calls those rest others w k runs next = record {
-    runs = does_by s.env (kind_of s.term.kind) locals _ others w (ap (λ o. fitted o (λ more. after_scope locals (run_body u (block_body s (bound_within bound places) body Done) (locals ++ more) (done [] those))) others) k) next.runs;
+    runs = does_by s.env (kind_of s.term.kind) locals _ others w (ap (λ o. fitted o (λ more. after_scope locals (run_body u (block_body limit s (bound_within bound places) body Done) (locals ++ more) (done [] those))) others) k) next.runs;
     goes = on_between made (after_block (gives_several s) s.env (paths_in s) made body) rest known w next.goes;
   }
   arm_does bound made places body pat true h locals known calls those rest others w k runs next =
-      let inside = block_body s (bound_within bound places) body Done in
+      let inside = block_body limit s (bound_within bound places) body Done in
       let went_so = block_run s.env u.meaning u.args (paths_in s) body known calls in
       let after = after_block (gives_several s) s.env (paths_in s) made body in
       let r = runs (locals ++ k.0) k.2 in
       record {
         runs = does_by s.env (kind_of s.term.kind) locals _ (after_scope locals (run_body u inside (locals ++ k.0) (done [] those))) went_so (ap (λ o. fitted o (λ more. after_scope locals (run_body u inside (locals ++ more) (done [] those))) others) k.1)
-            (scope_does s.env (kind_of s.term.kind) u locals (λ end. run_body u (block_body s (bound_within bound places) body end) (locals ++ k.0) (done [] those)) went_so r.runs);
+            (scope_does s.env (kind_of s.term.kind) u locals (λ end. run_body u (block_body limit s (bound_within bound places) body end) (locals ++ k.0) (done [] those)) went_so r.runs);
         goes = on_right made (after ++ rest) known went_so (on_first after rest known went_so r.goes);
       }
 
@@ -292,7 +290,7 @@ module _ (s : Setting) (u : Around) (g : Grounds s u) (few : gives_several s ≡
         ))
 
     control_runs : (c : Control) (bound made : List ℕ) (locals : Env) (known : Known) (calls those : List Made) → KnowsOnly made known → AreSameCalls s.env those calls → IsReadyControl s bound made c → Agree s u bound known locals
-        → Does s.env (kind_of s.term.kind) locals known (after_control (gives_several s) s.env (paths_in s) made c) (run_stmt u (control_stmt s bound c) locals (done [] those)) (control_run s.env u.meaning u.args (paths_in s) c known calls)
+        → Does s.env (kind_of s.term.kind) locals known (after_control (gives_several s) s.env (paths_in s) made c) (run_stmt u (control_stmt limit s bound c) locals (done [] those)) (control_run s.env u.meaning u.args (paths_in s) c known calls)
     control_runs (block.Match source (Arm (constraint.ConstBool val) places body NoArm)) bound made locals known calls those only same k a =
         let x = over_value s bound source (constraint.ConstBool val) k.1.0 (λ e. cc) k.1.1 k.1.2.0 in
         constant_does bound made source x.ty (constraint.ConstBool val) places body locals known calls those only same a x.ready x.is tt
@@ -327,7 +325,7 @@ module _ (s : Setting) (u : Around) (g : Grounds s u) (few : gives_several s ≡
         let w = operand_reads s u bound known locals y k.0.0 g a k.0.2 in
         let r = block_runs body bound made locals known calls those only same k.1 a in
         let after = after_block (gives_several s) s.env (paths_in s) made body in
-        let f = run_stmt u (IfEq (written_operand s bound x) (written_operand s bound y) (block_body s bound body Done)) locals (done [] those) in
+        let f = run_stmt u (IfEq (written_operand s bound x) (written_operand s bound y) (block_body limit s bound body Done)) locals (done [] those) in
         let inner = block_run s.env u.meaning u.args (paths_in s) body known calls in
         subst (λ h. Does s.env (kind_of s.term.kind) locals known (made ++ after) f (cond (equal_held h (value_at s.env u.meaning u.args known (at (paths_in s) y))) inner (went.Goes known calls))) (sym v.block)
         (subst (λ h. Does s.env (kind_of s.term.kind) locals known (made ++ after) f (cond (equal_held (a_value v.v) h) inner (went.Goes known calls))) (sym w.block)
@@ -345,7 +343,7 @@ module _ (s : Setting) (u : Around) (g : Grounds s u) (few : gives_several s ≡
     -- several arms over what is read
     arms_run_so : (arms : Arms) (bound made : List ℕ) (source : BindingId) (over : Source) (h : Held) (locals : Env) (known : Known) (calls those : List Made) → KnowsOnly made known → AreSameCalls s.env those calls → IsReadyIn s bound source over
         → ReadsOver s.env over h (value_at s.env u.meaning u.args known (at (paths_in s) source)) → AreReadyArms s bound made source over arms → Agree s u bound known locals
-        → Does s.env (kind_of s.term.kind) locals known (made ++ after_arms (gives_several s) s.env (paths_in s) made arms) (run_arms u (told_each bare_manner s bound arms) h locals (done [] those))
+        → Does s.env (kind_of s.term.kind) locals known (made ++ after_arms (gives_several s) s.env (paths_in s) made arms) (run_arms u (told_each (bare_manner limit) s bound arms) h locals (done [] those))
         (arms_run s.env u.meaning u.args (paths_in s) arms (value_at s.env u.meaning u.args known (at (paths_in s) source)) known calls)
     arms_run_so NoArm bound made source over h locals known calls those only same ready x k a = skip s.env (kind_of s.term.kind) locals known made [] _ (went.Goes known calls) calls those only same refl refl
     arms_run_so (Arm c places body arms) bound made source over h locals known calls those only same ready x k a =
@@ -404,30 +402,30 @@ ends_as return_kind.Option once Failure = refl
 ends_as return_kind.Option once Unmatched = refl
 ends_as return_kind.Iterator once r = absurd once
 
--- the statements of a lawful block run as the block, in whatever function they stand and however its results are limited
-pub written_flow : (files : Files) (env : Environment) (t : Term) (bs : List Binding) (b : Block) → AnswersOnce (kind_of t.kind) → HasRustNames env → HasPureExtractors env bs → HasPureConstructors env → IsLawfulBlock (setting env t bs) b
-    → (p : Program) (args : List Value) (m : Meaning) → HaveTypes env args t.arg_tys → AnswersBindings env m bs → ValuesConstants env m → (limit : Option ℕ) (f : Function)
-    → AreSameRuns env (ended (kind_of t.kind) (run_body (around p m args limit f) (written_body files env t bs b) [] nothing_done)) (ran_of t (block_outcome env m args (paths_of bs) b (kind_of t.kind)))
-written_flow files env t bs b once names pure pure_made h p args m k answers values limit g =
+-- the statements of a lawful block run as the block, in whatever function they stand and whatever its list of results holds at entry
+pub written_flow : (options : CodegenOptions) (files : Files) (env : Environment) (t : Term) (bs : List Binding) (b : Block) → AnswersOnce (kind_of t.kind) → HasRustNames env → HasPureExtractors env bs → HasPureConstructors env → IsLawfulBlock (setting env t bs) b
+    → (p : Program) (args : List Value) (m : Meaning) → HaveTypes env args t.arg_tys → AnswersBindings env m bs → ValuesConstants env m → (held : Option ℕ) (f : Function)
+    → AreSameRuns env (ended (kind_of t.kind) (run_body (around p m args held f) (written_body options files env t bs b) [] nothing_done)) (ran_of t (block_outcome env m args (paths_of bs) b (kind_of t.kind)))
+written_flow options files env t bs b once names pure pure_made h p args m k answers values held g =
     let kind = kind_of t.kind in
     let name = sym_text env t.name in
     let place = place_in files t.decl_pos in
     let s = setting env t bs in
-    let u = around p m args limit g in
+    let u = around p m args held g in
     let grounds : Grounds s u = record { asks = refl; typed = k; answers = answers; constants = values; names = names; pure = pure; pure_made = pure_made } in
     let c = completed s [] b in
-    let f : Body → Flow = λ end. run_body u (block_body s [] c end) [] (done [] []) in
-    let r = block_runs s u grounds (few_of (kind_of t.kind) once) c [] [] [] nothing_known [] [] (λ j apart. refl) refl (completed_ready s b h) (none_agree s u nothing_known) in
+    let f : Body → Flow = λ end. run_body u (block_body options.max_returns s [] c end) [] (done [] []) in
+    let r = block_runs options.max_returns s u grounds (few_of (kind_of t.kind) once) c [] [] [] nothing_known [] [] (λ j apart. refl) refl (completed_ready s b h) (none_agree s u nothing_known) in
     let outcome = block_outcome env m args (paths_of bs) b kind in
     tail_runs env u kind once (ends_in_return b) name place f (block_run env m args (paths_of bs) b nothing_known []) (λ x. returns b env m args bs nothing_known [] x) (subst (RunsSo env kind u f) (completed_runs s m args [] b nothing_known []) r.runs)
     ∙ ap (λ x. option_map nameless_ran (option_map (ran_with outcome.calls) x)) (sym (ends_as kind once outcome.result))
 
--- so the function of a term, with its log lines
+-- so a function of its kind whose statements run as these
 pub written_runs : (options : CodegenOptions) (files : Files) (env : Environment) (t : Term) (bs : List Binding) (b : Block) → AnswersOnce (kind_of t.kind) → HasRustNames env → HasPureExtractors env bs → HasPureConstructors env → IsLawfulBlock (setting env t bs) b
-    → RunsAsBlock env t bs b (logged_function options files env t bs b)
-written_runs options files env t bs b once names pure pure_made h p args m space e k answers values =
-    let f = logged_function options files env t bs b in
-    let w = around p m args (Some (room space)) f in
-    ap (λ g. option_map (λ (q : Ran). nameless_ran (impure_ran env q)) (function_run p m space args g)) e
-    ∙ ap (λ x. option_map (λ (q : Ran). nameless_ran (impure_ran env q)) (ended (kind_of t.kind) x)) (logged_runs (written_body files env t bs b) (log_lines options files (setting env t bs) b) w [] nothing_done)
-    ∙ written_flow files env t bs b once names pure pure_made h p args m k answers values (Some (room space)) f
+    → (f : Function) → f.kind ≡ kind_of t.kind → ((w : Around) → run_body w f.body [] nothing_done ≡ run_body w (written_body options files env t bs b) [] nothing_done) → RunsAsBlock env t bs b f
+written_runs options files env t bs b once names pure pure_made h f of alike p args m held e k answers values =
+    let w = around p m args (Some held) f in
+    ap (λ g. option_map (λ (q : Ran). nameless_ran (impure_ran env q)) (function_run p m held args g)) e
+    ∙ ap (λ x. option_map (λ (q : Ran). nameless_ran (impure_ran env q)) (ended x (run_body w f.body [] nothing_done))) of
+    ∙ ap (λ x. option_map (λ (q : Ran). nameless_ran (impure_ran env q)) (ended (kind_of t.kind) x)) (alike w)
+    ∙ written_flow options files env t bs b once names pure pure_made h p args m k answers values (Some held) f

@@ -1,5 +1,5 @@
 -- The statements that a lawful block gives are those of its steps.
-use Rattle.std.proofs.Common.{◌≡◌, ℕ, List, [], ◌∷◌, ◌++◌, Bool, true, false, Option, Some, None, refl, sym, subst}
+use Rattle.std.proofs.Common.{◌≡◌, ℕ, List, [], ◌∷◌, ◌++◌, Bool, true, false, Option, Some, None, refl, sym, subst, ◌∙◌}
 use Rattle.std.specs.Prelude.{option_map, slice_get}
 use Rattle.isle_core.specs.declared.BindingId.{BindingId}
 use Rattle.isle_core.specs.declared.files.Files.{Files}
@@ -16,6 +16,7 @@ use Rattle.isle_core.specs.Block.{Block, Control, Arms}
 use Rattle.isle_core.specs.BlockLawful.{IsLawfulBlock}
 use Rattle.isle_core.specs.Calling.{kind_of}
 use Rattle.isle_core.specs.Setting.{Setting, gives_several}
+use Rattle.isle_core.proofs.OptionLaws.{some_same}
 use Rattle.isle_tree.specs.declared.tree.Operand.{Operand}
 use Rattle.isle_tree.specs.declared.tree.Read.{Read}
 use Rattle.isle_tree.specs.declared.tree.TExpr.{TExpr}
@@ -23,17 +24,18 @@ use Rattle.isle_tree.specs.declared.tree.TPat.{TPat}
 use Rattle.isle_tree.specs.Program as tree
 use Rattle.isle_tree.specs.Program.{Stmt, IfEq, IfLet, Match, Loop, Return, Body, Done, Then, Function}
 use Rattle.isle_simulation.specs.Completed.{step_binds, completed, completed_control, completed_arms}
-use Rattle.isle_simulation.specs.Manner.{Manner, arm_manner}
+use Rattle.isle_simulation.specs.Manner.{Manner, has_closure, closed_if, arm_manner}
+use Rattle.isle_simulation.proofs.CompletedArms.{arm_of, arm_by}
 use Rattle.isle_simulation.specs.Operands.{tested, operand_of}
 use Rattle.isle_simulation.specs.Patterns.{pattern_of, arm_pattern}
 use Rattle.isle_simulation.specs.ReadOf.{IsReadBy}
 use Rattle.isle_simulation.specs.Statements.{read_in, computed, bound_expr, binds_list, local_stmt, let_of, lets, stmt_before, if_eq, if_let, return_of, stop_before, looped_local, loop_of, plain_read, arm_stmt, match_read, match_of, arm_before, told_body, told_control, told_each}
-use Rattle.isle_simulation.specs.StatementsOf.{IsLetOf, HasLets, no_let, one_let, HasStop, stops, goes_on, answers_once, HasLine, silent, told, no_result, as_they_are, AreStatements, ended, step, IsStatement, test, taken, matched, equal, loop, returned, returned_some, extended, IsArm, arm, AreArms, no_arm, one_arm, IsFunctionOf}
+use Rattle.isle_simulation.specs.StatementsOf.{IsLetOf, HasLets, no_let, one_let, HasStop, stops, goes_on, answers_once, HasLine, silent, told, no_result, StandsInArm, as_they_are, in_a_closure, AreStatements, ended, step, IsStatement, test, taken, matched, equal, loop, returned, returned_some, extended, IsArm, arm, AreArms, no_arm, one_arm, IsFunctionOf}
 use Rattle.isle_simulation.specs.Telling.{Telling, told_before}
 use Rattle.isle_simulation.specs.TermFunction.{function_with, root_body, tail_in, term_function}
 use Rattle.isle_simulation.proofs.ComputedExprs.{computed_is}
 use Rattle.isle_simulation.proofs.LocalsAre.{HasLocals, ControlHasLocals, ArmsHaveLocals, lawful_has_locals}
-use Rattle.isle_simulation.proofs.OperandsAre.{some_same, none_some, operand_is, read_is, plain_is, by_is}
+use Rattle.isle_simulation.proofs.OperandsAre.{none_some, operand_is, read_is, plain_is, by_is}
 
 -- ---- parts that are there
 
@@ -106,13 +108,13 @@ line_is (Some line) s inner (block.Loop result body) rest all e = (all, e, no_re
 line_is (Some line) s inner (block.Return pos result) (Some others) all e = (others, refl, subst (HasLine (Some line) (block.Return pos result) others) (some_same _ all e) (told line pos result others))
 line_is (Some line) s inner (block.Return pos result) None all e = absurd (none_some all e)
 
-stop_is : (inside several : Bool) (s : Setting) (inner : List ℕ) (c : Control) (rest : Option Body) (all : Body) → stop_before inside several (completed_control s inner c) rest ≡ Some all → (others : Body) × (rest ≡ Some others) × HasStop inside several c others all
-stop_is inside false s inner c rest all e = (all, e, answers_once c all)
-stop_is inside true s inner (block.Match source arms) rest all e = (all, e, goes_on true (block.Match source arms) all refl)
-stop_is inside true s inner (block.Equal a b body) rest all e = (all, e, goes_on true (block.Equal a b body) all refl)
-stop_is inside true s inner (block.Loop result body) rest all e = (all, e, goes_on true (block.Loop result body) all refl)
-stop_is inside true s inner (block.Return pos result) (Some others) all e = (others, refl, subst (HasStop inside true (block.Return pos result) others) (some_same _ all e) (stops pos result others))
-stop_is inside true s inner (block.Return pos result) None all e = absurd (none_some all e)
+stop_is : (manner : Manner) (several : Bool) (s : Setting) (inner : List ℕ) (c : Control) (rest : Option Body) (all : Body) → stop_before manner several (completed_control s inner c) rest ≡ Some all → (others : Body) × (rest ≡ Some others) × HasStop manner several c others all
+stop_is manner false s inner c rest all e = (all, e, answers_once c all)
+stop_is manner true s inner (block.Match source arms) rest all e = (all, e, goes_on true (block.Match source arms) all refl)
+stop_is manner true s inner (block.Equal a b body) rest all e = (all, e, goes_on true (block.Equal a b body) all refl)
+stop_is manner true s inner (block.Loop result body) rest all e = (all, e, goes_on true (block.Loop result body) all refl)
+stop_is manner true s inner (block.Return pos result) (Some others) all e = (others, refl, subst (HasStop manner true (block.Return pos result) others) (some_same _ all e) (stops pos result others))
+stop_is manner true s inner (block.Return pos result) None all e = absurd (none_some all e)
 
 result_is : (s : Setting) (manner : Manner) (bound : List ℕ) (pos : _) (b : BindingId) (st : Stmt) → return_of (kind_of s.term.kind) (read_in s bound false b) ≡ Some st → IsStatement s manner bound (block.Return pos b) st
 result_is s manner bound pos b st e = one (kind_of s.term.kind) refl (read_in s bound false b) refl e
@@ -124,6 +126,21 @@ result_is s manner bound pos b st e = one (kind_of s.term.kind) refl (read_in s 
     one return_kind.Plain k None is e = absurd (none_some st e)
     one return_kind.Option k None is e = absurd (none_some st e)
     one return_kind.Iterator k None is e = absurd (none_some st e)
+
+mapped_some : {A : Type 0} (f : A → A) (o : Option A) (y : A) → option_map f o ≡ Some y → (x : A) × (o ≡ Some x) × (f x ≡ y)
+mapped_some f (Some x) y e = (x, refl, some_same (f x) y e)
+mapped_some f None y e = absurd (none_some y e)
+
+in_closure : (manner : Manner) (b : Block) (own : Bool) (made : Body) → has_closure manner b ≡ own → StandsInArm manner b made (closed_if own manner.inside made)
+in_closure manner b true made e = in_a_closure made e
+in_closure manner b false made e = as_they_are made e
+
+-- it is the arm's, if the statements of the body are its statements in each manner
+arm_is : (s : Setting) (manner : Manner) (bound : List ℕ) (b : Block) (inside : Body) → ((m : Manner) (made : Body) → told_body m s bound (completed s bound b) (Some Done) ≡ Some made → AreStatements s m bound b Done made)
+    → arm_of manner s bound b ≡ Some inside → IsArm s manner bound b inside
+arm_is s manner bound b inside are e =
+    let made = mapped_some (closed_if (has_closure manner b) manner.inside) (told_body (arm_manner manner b) s bound (completed s bound b) (Some Done)) inside (sym (arm_by manner s bound b) ∙ e) in
+    arm manner bound b made.0 inside (are (arm_manner manner b) made.0 made.1) (subst (StandsInArm manner b made.0) made.2 (in_closure manner b (has_closure manner b) made.0 refl))
 
 tested_is : (s : Setting) (manner : Manner) (bound : List ℕ) (source : BindingId) (c : Constraint) (places : List (Option BindingId)) (body : Block) (o : Option Body) (st : Stmt)
     → ((inside : Body) → o ≡ Some inside → IsArm s manner (bound_within bound places) body inside) → if_eq (operand_of s.env s.bindings bound source) (tested s.env c) o ≡ Some st
@@ -159,12 +176,12 @@ mutual
       let bs = step_binds s bound binds c in
       let inner = bound_by bound bs in
       let after = told_body manner s inner (completed s inner more) (Some end) in
-      let stopped = stop_before manner.inside (gives_several s) (completed_control s inner c) after in
+      let stopped = stop_before manner (gives_several s) (completed_control s inner c) after in
       let stated = stmt_before (told_control manner s inner (completed_control s inner c)) stopped in
       let ls = lets_are s bs bound (told_before manner.telling (completed_control s inner c) stated) all e in
       let line = line_is manner.telling s inner c stated ls.others ls.there in
       let parts = stmt_parts (told_control manner s inner (completed_control s inner c)) stopped line.0 line.1 in
-      let stop = stop_is manner.inside (gives_several s) s inner c after parts.2.0 parts.2.1 in
+      let stop = stop_is manner (gives_several s) s inner c after parts.2.0 parts.2.1 in
       step manner bound binds c more bs parts.0 end stop.0 parts.2.0 ls.others all h.0
       (control_is c s manner inner parts.0 h.1 parts.1)
       (block_is more s manner inner end stop.0 h.2 stop.1)
@@ -175,10 +192,10 @@ mutual
   control_is : (c : Control) (s : Setting) (manner : Manner) (bound : List ℕ) (st : Stmt) → ControlHasLocals s bound c → told_control manner s bound (completed_control s bound c) ≡ Some st → IsStatement s manner bound c st
   control_is (block.Match source block.NoArm) s manner bound st h e = absurd (none_some st e)
   control_is (block.Match source (block.Arm c places body block.NoArm)) s manner bound st h e =
-      one_arm_is s manner bound source c places body (told_body (arm_manner manner s body) s (bound_within bound places) (completed s (bound_within bound places) body) (Some Done)) st (λ inside same. arm manner (bound_within bound places) body inside inside (block_is body s (arm_manner manner s body) (bound_within bound places) Done inside h.0 same) (as_they_are inside)) e
+      one_arm_is s manner bound source c places body (arm_of manner s (bound_within bound places) body) st (λ inside same. arm_is s manner (bound_within bound places) body inside (λ m made e. block_is body s m (bound_within bound places) Done made h.0 e) same) e
   control_is (block.Match source (block.Arm c places body (block.Arm d others inside more))) s manner bound st h e =
       let w = bound_within bound places in
-      let arms = arm_before (arm_pattern s.env c places) (told_body (arm_manner manner s body) s w (completed s w body) (Some Done)) (told_each manner s bound (completed_arms s bound (block.Arm d others inside more))) in
+      let arms = arm_before (arm_pattern s.env c places) (arm_of manner s w body) (told_each manner s bound (completed_arms s bound (block.Arm d others inside more))) in
       let parts = match_parts (match_read s bound source c) arms st e in
       subst (IsStatement s manner bound (block.Match source (block.Arm c places body (block.Arm d others inside more)))) (sym parts.2.2)
       (matched manner bound source c d places others body inside more parts.0 parts.2.0 (by_is s bound source c parts.0 parts.1) (arms_are (block.Arm c places body (block.Arm d others inside more)) s manner bound parts.2.0 h parts.2.1))
@@ -196,9 +213,9 @@ mutual
   arms_are block.NoArm s manner bound all h e = subst (AreArms s manner bound block.NoArm) (some_same tree.NoArm all e) (no_arm manner bound)
   arms_are (block.Arm c places body arms) s manner bound all h e =
       let w = bound_within bound places in
-      let parts = arm_parts (arm_pattern s.env c places) (told_body (arm_manner manner s body) s w (completed s w body) (Some Done)) (told_each manner s bound (completed_arms s bound arms)) all e in
+      let parts = arm_parts (arm_pattern s.env c places) (arm_of manner s w body) (told_each manner s bound (completed_arms s bound arms)) all e in
       subst (AreArms s manner bound (block.Arm c places body arms)) (sym parts.2.2.2)
-      (one_arm manner bound c places body arms parts.0 parts.2.0 parts.2.2.0 parts.1 (arm manner w body parts.2.0 parts.2.0 (block_is body s (arm_manner manner s body) w Done parts.2.0 h.0 parts.2.1) (as_they_are parts.2.0)) (arms_are arms s manner bound parts.2.2.0 h.1 parts.2.2.1))
+      (one_arm manner bound c places body arms parts.0 parts.2.0 parts.2.2.0 parts.1 (arm_is s manner w body parts.2.0 (λ m made e. block_is body s m w Done made h.0 e) parts.2.1) (arms_are arms s manner bound parts.2.2.0 h.1 parts.2.2.1))
 
 -- the function that a lawful block gives is that of its term with this block
 pub function_is : (options : CodegenOptions) (files : Files) (s : Setting) (b : Block) (f : Function) → IsLawfulBlock s b → term_function options files s b ≡ Some f → IsFunctionOf options files s b f

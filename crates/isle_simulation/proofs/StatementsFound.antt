@@ -18,13 +18,14 @@ use Rattle.isle_tree.specs.declared.tree.TPat.{TPat}
 use Rattle.isle_tree.specs.Program as tree
 use Rattle.isle_tree.specs.Program.{Stmt, Body, Done, Function}
 use Rattle.isle_simulation.specs.Completed.{completed, completed_control, completed_arms}
-use Rattle.isle_simulation.specs.Manner.{Manner, arm_manner}
+use Rattle.isle_simulation.specs.Manner.{Manner, has_closure, closed_if}
+use Rattle.isle_simulation.proofs.CompletedArms.{arm_of, arm_by}
 use Rattle.isle_simulation.specs.OperandOf.{IsOperandOf}
 use Rattle.isle_simulation.specs.Operands.{tested, operand_of}
 use Rattle.isle_simulation.specs.Patterns.{pattern_of}
 use Rattle.isle_simulation.specs.ReadOf.{IsReadBy}
 use Rattle.isle_simulation.specs.Statements.{read_in, computed, bound_expr, binds_list, let_of, lets, stmt_before, if_eq, if_let, return_of, stop_before, loop_of, plain_read, arm_stmt, match_of, arm_before, told_body, told_control, told_each}
-use Rattle.isle_simulation.specs.StatementsOf.{IsLetOf, HasLets, no_let, one_let, HasStop, stops, goes_on, answers_once, HasLine, silent, told, no_result, StandsInArm, as_they_are, AreStatements, ended, step, IsStatement, test, taken, matched, equal, loop, returned, returned_some, extended, IsArm, arm, AreArms, no_arm, one_arm, IsFunctionOf}
+use Rattle.isle_simulation.specs.StatementsOf.{IsLetOf, HasLets, no_let, one_let, HasStop, stops, goes_on, answers_once, HasLine, silent, told, no_result, StandsInArm, as_they_are, in_a_closure, AreStatements, ended, step, IsStatement, test, taken, matched, equal, loop, returned, returned_some, extended, IsArm, arm, AreArms, no_arm, one_arm, IsFunctionOf}
 use Rattle.isle_simulation.specs.Telling.{Telling, told_before}
 use Rattle.isle_simulation.specs.TermFunction.{function_with, term_function}
 use Rattle.isle_simulation.proofs.ComputedExprs.{computed_found}
@@ -52,14 +53,14 @@ line_found s inner (no_result line (block.Equal a b body) others e) = refl
 line_found s inner (no_result line (block.Loop result body) others e) = refl
 line_found s inner (no_result line (block.Return pos result) others e) = absurd cc
 
-stop_found : (s : Setting) (inner : List ℕ) (inside : Bool) {several : Bool} {c : Control} {others all : Body} → HasStop inside several c others all → stop_before inside several (completed_control s inner c) (Some others) ≡ Some all
-stop_found s inner inside (stops pos result others) = refl
-stop_found s inner inside (answers_once c others) = refl
-stop_found s inner inside (goes_on false c others e) = refl
-stop_found s inner inside (goes_on true (block.Match source arms) others e) = refl
-stop_found s inner inside (goes_on true (block.Equal a b body) others e) = refl
-stop_found s inner inside (goes_on true (block.Loop result body) others e) = refl
-stop_found s inner inside (goes_on true (block.Return pos result) others e) = absurd cc
+stop_found : (s : Setting) (inner : List ℕ) (manner : Manner) {several : Bool} {c : Control} {others all : Body} → HasStop manner several c others all → stop_before manner several (completed_control s inner c) (Some others) ≡ Some all
+stop_found s inner manner (stops pos result others) = refl
+stop_found s inner manner (answers_once c others) = refl
+stop_found s inner manner (goes_on false c others e) = refl
+stop_found s inner manner (goes_on true (block.Match source arms) others e) = refl
+stop_found s inner manner (goes_on true (block.Equal a b body) others e) = refl
+stop_found s inner manner (goes_on true (block.Loop result body) others e) = refl
+stop_found s inner manner (goes_on true (block.Return pos result) others e) = absurd cc
 
 -- a test of the one arm, by its constraint
 test_found : (s : Setting) (bound : List ℕ) (source : BindingId) (c : Constraint) (places : List (Option BindingId)) (a b : Operand) (inside : Body) → IsOperandOf s bound source a → tested s.env c ≡ Some b → arm_stmt s bound source c places (Some inside) ≡ Some (tree.IfEq a b inside)
@@ -95,8 +96,9 @@ taken_found s bound source c places pat r inside e h = of c e h
 result_found : (s : Setting) (bound : List ℕ) (k : _) (result : BindingId) (r : Read) (st : Stmt) → kind_of s.term.kind ≡ k → return_of k (Some r) ≡ Some st → read_in s bound false result ≡ Some r → return_of (kind_of s.term.kind) (read_in s bound false result) ≡ Some st
 result_found s bound k result r st e is h = ap (λ x. return_of x (read_in s bound false result)) e ∙ ap (return_of k) h ∙ is
 
-inside_found : {manner : Manner} {s : Setting} {b : Block} {made inside : Body} → StandsInArm manner s b made inside → made ≡ inside
-inside_found (as_they_are made) = refl
+inside_found : (manner : Manner) (b : Block) {made inside : Body} → StandsInArm manner b made inside → closed_if (has_closure manner b) manner.inside made ≡ inside
+inside_found manner b (as_they_are made e) = ap (λ x. closed_if x manner.inside made) e
+inside_found manner b (in_a_closure made e) = ap (λ x. closed_if x manner.inside made) e
 
 -- ---- blocks
 
@@ -106,9 +108,9 @@ mutual
   block_found s (step manner bound binds c more bs st end rest stopped lined all locals does after stop line ls) =
       let inner = bound_by bound bs in
       ap (λ xs. lets s bound xs (told_before manner.telling (completed_control s (bound_by bound xs) c) (stmt_before (told_control manner s (bound_by bound xs) (completed_control s (bound_by bound xs) c))
-      (stop_before manner.inside (gives_several s) (completed_control s (bound_by bound xs) c) (told_body manner s (bound_by bound xs) (completed s (bound_by bound xs) more) (Some end)))))) (step_found s bound binds c bs locals)
-      ∙ ap (λ o. lets s bound bs (told_before manner.telling (completed_control s inner c) (stmt_before (told_control manner s inner (completed_control s inner c)) (stop_before manner.inside (gives_several s) (completed_control s inner c) o)))) (block_found s after)
-      ∙ ap (λ o. lets s bound bs (told_before manner.telling (completed_control s inner c) (stmt_before (told_control manner s inner (completed_control s inner c)) o))) (stop_found s inner manner.inside stop)
+      (stop_before manner (gives_several s) (completed_control s (bound_by bound xs) c) (told_body manner s (bound_by bound xs) (completed s (bound_by bound xs) more) (Some end)))))) (step_found s bound binds c bs locals)
+      ∙ ap (λ o. lets s bound bs (told_before manner.telling (completed_control s inner c) (stmt_before (told_control manner s inner (completed_control s inner c)) (stop_before manner (gives_several s) (completed_control s inner c) o)))) (block_found s after)
+      ∙ ap (λ o. lets s bound bs (told_before manner.telling (completed_control s inner c) (stmt_before (told_control manner s inner (completed_control s inner c)) o))) (stop_found s inner manner stop)
       ∙ ap (λ o. lets s bound bs (told_before manner.telling (completed_control s inner c) (stmt_before o (Some stopped)))) (control_found s does)
       ∙ ap (lets s bound bs) (line_found s inner line)
       ∙ lets_found s ls
@@ -129,14 +131,16 @@ mutual
   control_found s (returned_some manner bound pos result r e h) = result_found s bound _ result r _ e refl (read_found s bound false result r h)
   control_found s (extended manner bound pos result r e h) = result_found s bound _ result r _ e refl (read_found s bound false result r h)
 
-  arm_found : (s : Setting) {manner : Manner} {bound : List ℕ} {b : Block} {inside : Body} → IsArm s manner bound b inside → told_body (arm_manner manner s b) s bound (completed s bound b) (Some Done) ≡ Some inside
-  arm_found s (arm manner bound body made inside h k) = block_found s h ∙ ap Some (inside_found k)
+  arm_found : (s : Setting) {manner : Manner} {bound : List ℕ} {b : Block} {inside : Body} → IsArm s manner bound b inside → arm_of manner s bound b ≡ Some inside
+  arm_found s (arm manner bound body made inside h k) =
+      arm_by manner s bound body
+      ∙ ap (option_map (closed_if (has_closure manner body) manner.inside)) (block_found s h) ∙ ap Some (inside_found manner body k)
 
   arms_found : (s : Setting) {manner : Manner} {bound : List ℕ} {xs : Arms} {all : tree.Arms} → AreArms s manner bound xs all → told_each manner s bound (completed_arms s bound xs) ≡ Some all
   arms_found s (no_arm manner bound) = refl
   arms_found s (one_arm manner bound c places body more pat inside arms e h k) =
       let w = bound_within bound places in
-      ap (λ o. arm_before o (told_body (arm_manner manner s body) s w (completed s w body) (Some Done)) (told_each manner s bound (completed_arms s bound more))) e
+      ap (λ o. arm_before o (arm_of manner s w body) (told_each manner s bound (completed_arms s bound more))) e
       ∙ ap (λ o. arm_before (Some pat) o (told_each manner s bound (completed_arms s bound more))) (arm_found s h)
       ∙ ap (arm_before (Some pat) (Some inside)) (arms_found s k)
 

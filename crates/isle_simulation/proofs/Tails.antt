@@ -1,5 +1,5 @@
 -- The function of a term is as the term is declared.
-use Rattle.std.proofs.Common.{◌≡◌, ℕ, List, [], Bool, true, false, cond, Option, Some, None, refl, sym, subst}
+use Rattle.std.proofs.Common.{◌≡◌, ℕ, List, [], Bool, true, false, cond, Option, Some, None, refl, sym, subst, ◌∙◌}
 use Rattle.std.specs.List.{AllByRecursion}
 use Rattle.std.specs.Prelude.{slice_get}
 use Rattle.isle_core.specs.declared.options.CodegenOptions.{CodegenOptions}
@@ -23,12 +23,14 @@ use Rattle.isle_tree.specs.Walk.{of_stmt}
 use Rattle.isle_simulation.specs.Completed.{completed}
 use Rattle.isle_simulation.specs.Manner.{bare_manner}
 use Rattle.isle_simulation.specs.OfTerm.{own_marks, marks, IsOfTerm}
-use Rattle.isle_simulation.specs.TermFunction.{ends_in_return, mark_in, tail_body, tail_in, log_lines}
+use Rattle.isle_simulation.specs.TermFunction.{ends_in_return, mark_in, tail_body, tail_in, function_with, log_lines}
 use Rattle.isle_simulation.proofs.CompletedReady.{completed_ready}
 use Rattle.isle_simulation.proofs.MadeStatements.{EachMade, Anything, any_tested, block_holds}
 use Rattle.isle_simulation.proofs.Written.{arm_stmt, bound_expr, result_stmt, written_body, written_read, logged_function}
 use Rattle.isle_simulation.proofs.LocalStmts.{local_by}
 use Rattle.isle_simulation.specs.Statements.{binds_list, local_stmt}
+use Rattle.isle_simulation.proofs.Closed.{Closes}
+use Rattle.isle_simulation.proofs.ClosedLaws.{IsOpen, closed_of}
 use Rattle.isle_simulation.proofs.LoggedLaws.{IsOwn, logged_of}
 
 local_marks : (P : Option (List ℕ × List ℕ) → Type 0) (often : Bool) (n : ℕ) (e : TExpr) → AllByRecursion P (of_stmt own_marks (local_stmt often n e))
@@ -52,7 +54,8 @@ marks_made : (P : Option (List ℕ × List ℕ) → Type 0) (s : Setting) → Ea
 marks_made P s = record {
   bound = λ locals b h. local_marks P (binds_list s b) b.0 (bound_expr s locals b (slice_get s.bindings b.0));
   result = λ locals result h. result_marks P (kind_of s.term.kind) (written_read s locals false result);
-  stop = λ inside. tt;
+  stop = λ inside limit. tt;
+  split = λ inside within. tt;
   log = λ line. tt;
   equal = λ locals a b ty inside h k. tt;
   arm = λ locals source over c places inside h is k w. arm_marks P s locals source c places inside;
@@ -68,9 +71,13 @@ tail_marks (Some mark) false = (refl, tt)
 marks_own : IsOwn own_marks
 marks_own = record { if_eq = λ a b x y. refl; if_let = λ pat r x y. refl; arms = λ r x y. refl; loop = λ list item x y. refl; split = λ within x y. refl; log = λ term place. refl }
 
+marks_open : IsOpen own_marks
+marks_open = record { if_eq = λ a b x y. refl; if_let = λ pat r x y. refl; arms = λ r x y. refl; loop = λ list item x y. refl; split = λ b inside. refl; stop = λ inside limit. refl }
+
 -- the function of a term has its name, its types and its kind, and says where it is declared
-pub written_of_term : (options : CodegenOptions) (files : Files) (env : Environment) (t : Term) (bs : List Binding) (b : Block) → IsLawfulBlock (setting env t bs) b → IsOfTerm files env t (logged_function options files env t bs b)
-written_of_term options files env t bs b h =
+pub written_of_term : (options : CodegenOptions) (files : Files) (env : Environment) (t : Term) (bs : List Binding) (b : Block) → IsLawfulBlock (setting env t bs) b
+    → (written : Body) → Closes (kind_of t.kind) false (logged_function options files env t bs b).body written → IsOfTerm files env t (function_with env t written)
+written_of_term options files env t bs b h written closes =
     let s = setting env t bs in
     let d = completed s [] b in
     let end = tail_in files env t b in
@@ -81,6 +88,6 @@ written_of_term options files env t bs b h =
       result = refl;
       kind = refl;
       tails =
-          subst (AllByRecursion So) (sym (logged_of own_marks marks_own (written_body files env t bs b) (log_lines options files s b)))
-          (block_holds own_marks So s Anything (marks_made So s) bare_manner d [] [] end (completed_ready s b h) (any_tested d) (tail_marks (mark_in files env t) (ends_in_return b)));
+          subst (AllByRecursion So) (sym (closed_of (kind_of t.kind) own_marks marks_open closes ∙ logged_of own_marks marks_own (written_body options files env t bs b) (log_lines options files s b)))
+          (block_holds own_marks So s Anything (marks_made So s) (bare_manner options.max_returns) d [] [] end (completed_ready s b h) (any_tested d) (tail_marks (mark_in files env t) (ends_in_return b)));
     }

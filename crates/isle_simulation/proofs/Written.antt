@@ -43,7 +43,7 @@ use Rattle.isle_simulation.specs.Operands.{in_place, tested, operand_of}
 use Rattle.isle_simulation.specs.Patterns.{pattern_of}
 use Rattle.isle_simulation.specs.References.{is_declared, result_type, is_reference_in, read_as}
 use Rattle.isle_simulation.specs.Statements.{made_of, local_stmt, binds_list, looped_local}
-use Rattle.isle_simulation.specs.Manner.{Manner, bare_manner, manner_of, arm_manner}
+use Rattle.isle_simulation.specs.Manner.{Manner, bare_manner, manner_of, has_closure, closed_if, arm_manner}
 use Rattle.isle_simulation.specs.Telling.{Telling, line_before}
 use Rattle.isle_simulation.specs.TermFunction.{tail_in, function_with, log_lines}
 use Rattle.isle_simulation.proofs.Logged.{logged}
@@ -122,12 +122,12 @@ result_stmt return_kind.Plain r = Return (expr.Read r)
 result_stmt return_kind.Option r = Return (expr.Some r)
 result_stmt return_kind.Iterator r = Extend r
 
-abbrev pub stop_before : (inside several : Bool) → Control → Body → Body
-stop_before inside true (block.Return place result) after = Then (Overflow inside) after
-stop_before inside true (block.Match source arms) after = after
-stop_before inside true (block.Equal a b body) after = after
-stop_before inside true (block.Loop result body) after = after
-stop_before inside false c after = after
+abbrev pub stop_before : Manner → (several : Bool) → Control → Body → Body
+stop_before manner true (block.Return place result) after = Then (Overflow manner.inside manner.limit) after
+stop_before manner true (block.Match source arms) after = after
+stop_before manner true (block.Equal a b body) after = after
+stop_before manner true (block.Loop result body) after = after
+stop_before manner false c after = after
 
 abbrev pub written_list : Option ℕ → ℕ
 written_list (Some list) = list
@@ -162,14 +162,14 @@ told_before (Some line) (block.Equal a b body) after = after
 told_before (Some line) (block.Loop result body) after = after
 told_before (Some line) (block.Return place result) after = line_before (line place) after
 
-abbrev pub arm_body : Manner → Setting → Block → Body → Body
-arm_body manner s b made = made
+abbrev pub arm_body : Manner → Block → Body → Body
+arm_body manner b made = closed_if (has_closure manner b) manner.inside made
 
 abbrev mutual
   pub told_body : Manner → Setting → List ℕ → Block → Body → Body
   told_body manner s bound block.Stop end = end
   told_body manner s bound (block.Step binds c more) end =
-      lets s bound binds (told_before manner.telling c (Then (told_control manner s (bound_by bound binds) c) (stop_before manner.inside (gives_several s) c (told_body manner s (bound_by bound binds) more end))))
+      lets s bound binds (told_before manner.telling c (Then (told_control manner s (bound_by bound binds) c) (stop_before manner (gives_several s) c (told_body manner s (bound_by bound binds) more end))))
 
   pub told_control : Manner → Setting → List ℕ → Control → Stmt
   told_control manner s bound (block.Match source arms) = told_arms manner s bound source arms
@@ -179,30 +179,39 @@ abbrev mutual
 
   pub told_arms : Manner → Setting → List ℕ → BindingId → Arms → Stmt
   told_arms manner s bound source block.NoArm = Tail None
-  told_arms manner s bound source (block.Arm c places body block.NoArm) = arm_stmt s bound source c places (arm_body manner s body (told_body (arm_manner manner s body) s (bound_within bound places) body Done))
+  told_arms manner s bound source (block.Arm c places body block.NoArm) = arm_stmt s bound source c places (arm_body manner body (told_body (arm_manner manner body) s (bound_within bound places) body Done))
   told_arms manner s bound source (block.Arm c places body (block.Arm d others inside arms)) =
       Match (match_read s bound source c)
-      (tree.Arm (written_arm s.env c places) (arm_body manner s body (told_body (arm_manner manner s body) s (bound_within bound places) body Done)) (told_each manner s bound (block.Arm d others inside arms)))
+      (tree.Arm (written_arm s.env c places) (arm_body manner body (told_body (arm_manner manner body) s (bound_within bound places) body Done)) (told_each manner s bound (block.Arm d others inside arms)))
 
   pub told_each : Manner → Setting → List ℕ → Arms → tree.Arms
   told_each manner s bound block.NoArm = tree.NoArm
   told_each manner s bound (block.Arm c places body arms) =
-      tree.Arm (written_arm s.env c places) (arm_body manner s body (told_body (arm_manner manner s body) s (bound_within bound places) body Done)) (told_each manner s bound arms)
+      tree.Arm (written_arm s.env c places) (arm_body manner body (told_body (arm_manner manner body) s (bound_within bound places) body Done)) (told_each manner s bound arms)
 
-abbrev pub block_body : Setting → List ℕ → Block → Body → Body
-block_body = told_body bare_manner
+abbrev pub block_body : (limit : ℕ) → Setting → List ℕ → Block → Body → Body
+block_body limit = told_body (bare_manner limit)
 
-abbrev pub control_stmt : Setting → List ℕ → Control → Stmt
-control_stmt = told_control bare_manner
+abbrev pub control_stmt : (limit : ℕ) → Setting → List ℕ → Control → Stmt
+control_stmt limit = told_control (bare_manner limit)
 
 -- ---- functions
 
-abbrev pub written_body : Files → Environment → Term → List Binding → Block → Body
-written_body files env t bs b = block_body (setting env t bs) [] (completed (setting env t bs) [] b) (tail_in files env t b)
+abbrev pub written_body : CodegenOptions → Files → Environment → Term → List Binding → Block → Body
+written_body options files env t bs b = block_body options.max_returns (setting env t bs) [] (completed (setting env t bs) [] b) (tail_in files env t b)
+
+-- as statements are written without closures
+abbrev pub open_manner : Manner → Manner
+open_manner manner = record manner { above = None; inside = false }
+
+-- the function without closures
+abbrev pub open_function : (options : CodegenOptions) → Files → Environment → Term → List Binding → Block → Function
+open_function options files env t bs b =
+    function_with env t (told_body (open_manner (manner_of options files (setting env t bs))) (setting env t bs) [] (completed (setting env t bs) [] b) (tail_in files env t b))
 
 -- its statements with its log lines before its results
 abbrev pub logged_function : (options : CodegenOptions) → Files → Environment → Term → List Binding → Block → Function
-logged_function options files env t bs b = function_with env t (logged (log_lines options files (setting env t bs) b) (written_body files env t bs b))
+logged_function options files env t bs b = function_with env t (logged (log_lines options files (setting env t bs) b) (written_body options files env t bs b))
 
 abbrev pub function_of : (options : CodegenOptions) → Files → Environment → Term → List Binding → Block → Function
 function_of options files env t bs b =

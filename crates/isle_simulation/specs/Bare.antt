@@ -16,7 +16,7 @@ abbrev mutual
   pub bare_before : Stmt → Body → Body
   bare_before (Let local e) after = after
   bare_before (LetList local call) after = after
-  bare_before (Overflow inside) after = after
+  bare_before (Overflow inside limit) after = after
   bare_before (Log term place) after = after
   bare_before (Tail mark) after = after
   bare_before (Split body inside) after = body_before (bare body) after

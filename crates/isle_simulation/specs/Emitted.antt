@@ -2,10 +2,11 @@
 use Rattle.std.specs.Prelude.{◌≡◌, ℕ, List, [], ◌∷◌, false, IsTrue, IsSome, Option, Some, option_map, slice_get}
 use Rattle.std.specs.List.{AllByRecursion, list_all}
 use Rattle.isle_printer.specs.Token.{is_word_byte}
+use Rattle.isle_core.specs.declared.options.CodegenOptions.{CodegenOptions}
 use Rattle.isle_core.specs.declared.types.Term.{Term}
 use Rattle.isle_core.specs.Value.{Value, Made, End, Ran}
 use Rattle.isle_core.specs.Meaning.{Meaning}
-use Rattle.isle_core.specs.Space.{Space}
+use Rattle.isle_core.specs.Space.{space_of}
 use Rattle.isle_core.specs.HasType.{HaveTypes}
 use Rattle.isle_core.specs.declared.rule_sets.Binding.{Binding}
 use Rattle.isle_core.specs.declared.rule_sets.Binding.TheVariants as binding
@@ -84,21 +85,21 @@ AreSameRuns env r q = option_map (λ (x : Ran). nameless_ran (impure_ran env x))
 -- in every program in which the function of a term that answers at most once is this, its run on well-typed arguments is the block's, but for calls
 -- of pure terms, under every meaning that answers its calls and gives constants values of their types
 abbrev pub RunsAsBlock : Environment → Term → List Binding → Block → Function → Type 0
-RunsAsBlock env t bs b f = (p : Program) (args : List Value) (m : Meaning) (space : Space)
+RunsAsBlock env t bs b f = (p : Program) (args : List Value) (m : Meaning) (held : ℕ)
     → function_of (sym_text env t.name) p.fns ≡ Some f → HaveTypes env args t.arg_tys → AnswersBindings env m bs → ValuesConstants env m
-    → AreSameRuns env (run p (sym_text env t.name) args m space) (ran_of t (block_outcome env m args (paths_of bs) b (kind_of t.kind)))
+    → AreSameRuns env (run p (sym_text env t.name) args m held) (ran_of t (block_outcome env m args (paths_of bs) b (kind_of t.kind)))
 
 -- so of a term that answers several times: the function appends the first results of the block, as many as there is room for and at least one, and
 -- makes the calls up to the last of them, or all if the room isn't used up
-abbrev pub RunsAsSeveral : Environment → Term → List Binding → Block → Function → Type 0
-RunsAsSeveral env t bs b f = (p : Program) (args : List Value) (m : Meaning) (space : Space)
+abbrev pub RunsAsSeveral : CodegenOptions → Environment → Term → List Binding → Block → Function → Type 0
+RunsAsSeveral options env t bs b f = (p : Program) (args : List Value) (m : Meaning) (held : ℕ)
     → function_of (sym_text env t.name) p.fns ≡ Some f → HaveTypes env args t.arg_tys → AnswersBindings env m bs → ValuesConstants env m
-    → AreSameRuns env (run p (sym_text env t.name) args m space) (Some (cut_run space (several_outcome env m args (paths_of bs) b)))
+    → AreSameRuns env (run p (sym_text env t.name) args m held) (Some (cut_run (space_of options held) (several_outcome env m args (paths_of bs) b)))
 
 -- what a function gives in its surroundings: its end, and all calls that it makes
 abbrev pub body_run : Around → Function → Option Ran
 body_run w f = ended f.kind (run_body w f.body [] nothing_done)
 
--- two functions run alike: everywhere they have the same end, and make the same calls
+-- two functions run alike: everywhere, whatever their lists of results hold at entry, they have the same end, and make the same calls
 abbrev pub RunAlike : Function → Function → Type 0
 RunAlike f g = (w : Around) → body_run w f ≡ body_run w g

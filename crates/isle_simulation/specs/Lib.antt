@@ -5,6 +5,7 @@ pub mod Operands
 pub mod Patterns
 pub mod Completed
 pub mod Telling
+pub mod BlockWeight
 pub mod Manner
 pub mod Statements
 pub mod LogLines

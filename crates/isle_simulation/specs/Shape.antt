@@ -142,7 +142,7 @@ abbrev mutual
   DoesControl s bound (Extend read) c = IsExtendOf s bound read c
   DoesControl s bound (Let local e) c = ⊥
   DoesControl s bound (LetList local call) c = ⊥
-  DoesControl s bound (Overflow inside) c = ⊥
+  DoesControl s bound (Overflow inside limit) c = ⊥
   DoesControl s bound (Log term place) c = ⊥
   DoesControl s bound (Split inside within) c = ⊥
   DoesControl s bound (Tail mark) c = ⊥

@@ -222,12 +222,12 @@ return_of return_kind.Iterator (Some r) = Some (Extend r)
 return_of kind None = None
 
 -- after one of several results the closure around, or else the function, stops where its list is full
-abbrev pub stop_before : (inside several : Bool) → Control → Option Body → Option Body
-stop_before inside true (block.Return pos result) after = stmt_before (Some (Overflow inside)) after
-stop_before inside true (block.Match source arms) after = after
-stop_before inside true (block.Equal a b body) after = after
-stop_before inside true (block.Loop result body) after = after
-stop_before inside false c after = after
+abbrev pub stop_before : Manner → (several : Bool) → Control → Option Body → Option Body
+stop_before manner true (block.Return pos result) after = stmt_before (Some (Overflow manner.inside manner.limit)) after
+stop_before manner true (block.Match source arms) after = after
+stop_before manner true (block.Equal a b body) after = after
+stop_before manner true (block.Loop result body) after = after
+stop_before manner false c after = after
 
 -- the local of the list whose item a binding is
 abbrev pub list_local : Option Binding → Option ℕ
@@ -297,7 +297,7 @@ abbrev mutual
   pub told_body : Manner → Setting → List ℕ → Block → Option Body → Option Body
   told_body manner s bound block.Stop end = end
   told_body manner s bound (block.Step binds c more) end =
-      lets s bound binds (told_before manner.telling c (stmt_before (told_control manner s (bound_by bound binds) c) (stop_before manner.inside (gives_several s) c (told_body manner s (bound_by bound binds) more end))))
+      lets s bound binds (told_before manner.telling c (stmt_before (told_control manner s (bound_by bound binds) c) (stop_before manner (gives_several s) c (told_body manner s (bound_by bound binds) more end))))
 
   pub told_control : Manner → Setting → List ℕ → Control → Option Stmt
   told_control manner s bound (block.Match source arms) = told_arms manner s bound source arms
@@ -309,25 +309,25 @@ abbrev mutual
   pub told_arms : Manner → Setting → List ℕ → BindingId → Arms → Option Stmt
   told_arms manner s bound source block.NoArm = None
   told_arms manner s bound source (block.Arm c places body block.NoArm) =
-      arm_stmt s bound source c places (arm_body manner s body (told_body (arm_manner manner s body) s (bound_within bound places) body (Some Done)))
+      arm_stmt s bound source c places (arm_body manner body (told_body (arm_manner manner body) s (bound_within bound places) body (Some Done)))
   told_arms manner s bound source (block.Arm c places body (block.Arm d others inside arms)) =
       match_of (match_read s bound source c)
-      (arm_before (arm_pattern s.env c places) (arm_body manner s body (told_body (arm_manner manner s body) s (bound_within bound places) body (Some Done)))
+      (arm_before (arm_pattern s.env c places) (arm_body manner body (told_body (arm_manner manner body) s (bound_within bound places) body (Some Done)))
       (told_each manner s bound (block.Arm d others inside arms)))
 
   -- each of several arms
   pub told_each : Manner → Setting → List ℕ → Arms → Option tree.Arms
   told_each manner s bound block.NoArm = Some tree.NoArm
   told_each manner s bound (block.Arm c places body arms) =
-      arm_before (arm_pattern s.env c places) (arm_body manner s body (told_body (arm_manner manner s body) s (bound_within bound places) body (Some Done)))
+      arm_before (arm_pattern s.env c places) (arm_body manner body (told_body (arm_manner manner body) s (bound_within bound places) body (Some Done)))
       (told_each manner s bound arms)
 
--- the statements without log lines
-abbrev pub block_body : Setting → List ℕ → Block → Option Body → Option Body
-block_body = told_body bare_manner
+-- the statements without log lines and closures
+abbrev pub block_body : (limit : ℕ) → Setting → List ℕ → Block → Option Body → Option Body
+block_body limit = told_body (bare_manner limit)
 
-abbrev pub control_stmt : Setting → List ℕ → Control → Option Stmt
-control_stmt = told_control bare_manner
+abbrev pub control_stmt : (limit : ℕ) → Setting → List ℕ → Control → Option Stmt
+control_stmt limit = told_control (bare_manner limit)
 
-abbrev pub arms_stmt : Setting → List ℕ → BindingId → Arms → Option Stmt
-arms_stmt = told_arms bare_manner
+abbrev pub arms_stmt : (limit : ℕ) → Setting → List ℕ → BindingId → Arms → Option Stmt
+arms_stmt limit = told_arms (bare_manner limit)

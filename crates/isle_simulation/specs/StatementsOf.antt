@@ -19,11 +19,11 @@ use Rattle.isle_tree.specs.declared.tree.TExpr.{TExpr}
 use Rattle.isle_tree.specs.declared.tree.TExpr.TheVariants as expr
 use Rattle.isle_tree.specs.declared.tree.TPat.{TPat}
 use Rattle.isle_tree.specs.Program as tree
-use Rattle.isle_tree.specs.Program.{Stmt, IfEq, IfLet, Match, Loop, Return, Extend, Overflow, Body, Done, Then, Function}
+use Rattle.isle_tree.specs.Program.{Stmt, IfEq, IfLet, Match, Loop, Return, Extend, Overflow, Split, Body, Done, Then, Function}
 use Rattle.isle_simulation.specs.ComputedBy.{IsComputed}
 use Rattle.isle_simulation.specs.LocalsOf.{AreBoundIn}
 use Rattle.isle_simulation.specs.LogLines.{LogLine}
-use Rattle.isle_simulation.specs.Manner.{Manner, manner_of, arm_manner}
+use Rattle.isle_simulation.specs.Manner.{Manner, manner_of, has_closure, arm_manner}
 use Rattle.isle_simulation.specs.OperandOf.{IsOperandOf}
 use Rattle.isle_simulation.specs.Operands.{tested}
 use Rattle.isle_simulation.specs.Patterns.{pattern_of, arm_pattern}
@@ -47,10 +47,10 @@ pub data HasLets (s : Setting) : (bound : List ℕ) → List BindingId → (othe
       → IsLetOf s bound b st → HasLets s (bound ++ b.0 ∷ []) bs others all → HasLets s bound (b ∷ bs) others (Then st all)
 
 -- after a Return of a term that answers several times the function, or the closure around, stops where its list is full; after no other step
-pub data HasStop (inside : Bool) : (several : Bool) → Control → (others all : Body) → Type 0 where
-  stops : (pos : Pos) (result : BindingId) (others : Body) → HasStop inside true (block.Return pos result) others (Then (Overflow inside) others)
-  goes_on : (several : Bool) (c : Control) (others : Body) → is_return c ≡ false → HasStop inside several c others others
-  answers_once : (c : Control) (others : Body) → HasStop inside false c others others
+pub data HasStop (manner : Manner) : (several : Bool) → Control → (others all : Body) → Type 0 where
+  stops : (pos : Pos) (result : BindingId) (others : Body) → HasStop manner true (block.Return pos result) others (Then (Overflow manner.inside manner.limit) others)
+  goes_on : (several : Bool) (c : Control) (others : Body) → is_return c ≡ false → HasStop manner several c others others
+  answers_once : (c : Control) (others : Body) → HasStop manner false c others others
 
 -- if results are told, a log line stands before a Return, and before no other step
 pub data HasLine : Telling → Control → (others all : Body) → Type 0 where
@@ -58,9 +58,10 @@ pub data HasLine : Telling → Control → (others all : Body) → Type 0 where
   told : (line : Pos → LogLine) (pos : Pos) (result : BindingId) (others : Body) → HasLine (Some line) (block.Return pos result) others (line_before (line pos) others)
   no_result : (line : Pos → LogLine) (c : Control) (others : Body) → is_return c ≡ false → HasLine (Some line) c others others
 
--- the statements stand in an arm of this body: as they are
-pub data StandsInArm (manner : Manner) (s : Setting) (b : Block) : (made inside : Body) → Type 0 where
-  as_they_are : (made : Body) → StandsInArm manner s b made made
+-- the statements stand in an arm of this body: as they are, or in a closure of their own exactly if the body is heavy enough
+pub data StandsInArm (manner : Manner) (b : Block) : (made inside : Body) → Type 0 where
+  as_they_are : (made : Body) → has_closure manner b ≡ false → StandsInArm manner b made made
+  in_a_closure : (made : Body) → has_closure manner b ≡ true → StandsInArm manner b made (Then (Split made manner.inside) Done)
 
 mutual
   -- the statements are the steps of the block in order, and then those at the end: for each step what it binds, the line of its result,
@@ -69,7 +70,7 @@ mutual
     ended : (manner : Manner) (bound : List ℕ) (end : Body) → AreStatements s manner bound block.Stop end end
     step : (manner : Manner) (bound : List ℕ) (binds : List BindingId) (c : Control) (more : Block) (bs : List BindingId) (st : Stmt) (end rest stopped lined all : Body)
         → AreBoundIn s bound binds c bs → IsStatement s manner (bound_by bound bs) c st → AreStatements s manner (bound_by bound bs) more end rest
-        → HasStop manner.inside (gives_several s) c rest stopped → HasLine manner.telling c (Then st stopped) lined → HasLets s bound bs lined all
+        → HasStop manner (gives_several s) c rest stopped → HasLine manner.telling c (Then st stopped) lined → HasLets s bound bs lined all
         → AreStatements s manner bound (block.Step binds c more) end all
 
   -- the statement does what the step does
@@ -101,7 +102,7 @@ mutual
   -- the statements in an arm of this body
   pub data IsArm (s : Setting) : (manner : Manner) (bound : List ℕ) → Block → (inside : Body) → Type 0 where
     arm : (manner : Manner) (bound : List ℕ) (body : Block) (made inside : Body)
-        → AreStatements s (arm_manner manner s body) bound body Done made → StandsInArm manner s body made inside → IsArm s manner bound body inside
+        → AreStatements s (arm_manner manner body) bound body Done made → StandsInArm manner body made inside → IsArm s manner bound body inside
 
   -- the arms of a match, in order
   pub data AreArms (s : Setting) : (manner : Manner) (bound : List ℕ) → Arms → tree.Arms → Type 0 where

@@ -1,5 +1,5 @@
 -- Where log lines stand.
-use Rattle.std.specs.Prelude.{Option, Some, None, Bool, if◌then◌else◌, option_map}
+use Rattle.std.specs.Prelude.{Option, Some, None, if◌then◌else◌, option_map}
 use Rattle.isle_core.specs.declared.options.CodegenOptions.{CodegenOptions}
 use Rattle.isle_core.specs.declared.files.Files.{Files}
 use Rattle.isle_core.specs.declared.position.Pos.{Pos}

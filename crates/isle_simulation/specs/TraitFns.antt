@@ -1,5 +1,5 @@
 -- The functions of the trait.
-use Rattle.std.specs.Prelude.{List, [], ◌∷◌, Bool, Option, Some, None, map, option_map}
+use Rattle.std.specs.Prelude.{List, [], ◌∷◌, Option, map, option_map}
 use Rattle.std.specs.List.{AllByRecursion, IsDistinct, cons_option}
 use Rattle.std.specs.Str.{bytes_eq}
 use Rattle.isle_base.specs.declared.ids.Sym.{Sym}

@@ -31,7 +31,7 @@ use Rattle.isle_tree.specs.declared.tree.TBind.{TBind}
 use Rattle.isle_tree.specs.declared.tree.TPat.{TPat}
 use Rattle.isle_tree.specs.declared.tree.TPat.TheVariants as pattern
 use Rattle.isle_tree.specs.Program.{Stmt, Let, LetList, IfEq, IfLet, Match, Loop, Return, Extend, Overflow, Log, Split, Tail, Body, Done, Then, Arms, NoArm, Arm, Function, Program}
-use Rattle.isle_target.specs.StatementSpelling.{local_token, truth_token, operand_tokens, clone_part, read_tokens, borrow_part, callee_head, args_tokens, call_tokens, field_read_tokens, field_reads_tokens, made_tokens, as_ref_part, expr_tokens, ref_part, bind_tokens, binds_tokens, braced_tokens, pattern_tokens, close, list_tokens, default_part, list_end, let_list_tokens, loop_head, overflow_tokens, if_eq_head, if_let_head, match_head, arm_head, log_tokens, tail_tokens, stmt_tokens, body_tokens, arms_tokens}
+use Rattle.isle_target.specs.StatementSpelling.{local_token, truth_token, operand_tokens, clone_part, read_tokens, borrow_part, callee_head, args_tokens, call_tokens, field_read_tokens, field_reads_tokens, made_tokens, as_ref_part, expr_tokens, ref_part, bind_tokens, binds_tokens, braced_tokens, pattern_tokens, close, list_tokens, default_part, list_end, let_list_tokens, loop_head, stop_tokens, split_head, split_end, if_eq_head, if_let_head, match_head, arm_head, log_tokens, tail_tokens, stmt_tokens, body_tokens, arms_tokens}
 use Rattle.isle_target.specs.Spelling.{typed_tokens, param_tokens, params_tokens, result_tokens, result_part, function_tokens, functions_tokens, allow_part, comma, joined_tokens, returns_param, joined_end, joined_types, item_tokens, results_tokens, list_type, trait_fn_tokens, trait_fns_tokens, trait_tokens, visible, named_tokens, places_tokens, fields_tokens, variant_tokens, variants_tokens, struct_end, type_body_tokens, derive_tokens, type_tokens, types_tokens, program_tokens}
 
 -- none of the tokens is a comment
@@ -150,9 +150,17 @@ loop_read : (list item : ℕ) → AreRead (loop_head list item)
 unfolding loop_head
 loop_read list item = refl
 
-stop_read : (inside : Bool) → AreRead (overflow_tokens inside)
+stop_read : (inside : Bool) → AreRead (stop_tokens inside)
 stop_read true = refl
 stop_read false = refl
+
+split_end_read : (inside : Bool) → AreRead (split_end inside)
+unfolding split_end
+split_end_read inside = stop_read inside
+
+split_read : (body : List Token) (inside : Bool) → AreRead body → AreRead (split_head ++ (body ++ split_end inside))
+unfolding split_head
+split_read body inside h = both_read body (split_end inside) h (split_end_read inside)
 
 tail_read : (texts : Option (List ℕ × List ℕ)) → AreRead (tail_tokens texts)
 tail_read None = refl
@@ -168,9 +176,9 @@ mutual
   stmt_read (Loop l i inside) = both_read (loop_head l i) (body_tokens inside ++ close) (loop_read l i) (both_read (body_tokens inside) close (body_read inside) refl)
   stmt_read (Return e) = both_read (expr_tokens e) (Mark (codes ";") ∷ []) (expr_read e) refl
   stmt_read (Extend r) = both_read (read_tokens r) _ (read_read r) refl
-  stmt_read (Overflow inside) = stop_read inside
+  stmt_read (Overflow inside limit) = stop_read inside
   stmt_read (Log t p) = log_read t p
-  stmt_read (Split b inside) = refl
+  stmt_read (Split b inside) = split_read (body_tokens b) inside (body_read b)
   stmt_read (Tail texts) = tail_read texts
 
   body_read : (b : Body) → AreRead (body_tokens b)

@@ -1,5 +1,5 @@
 -- Statements are read as what they were spelled from.
-use Rattle.std.proofs.Common.{◌≡◌, ℕ, zero, suc, ◌+◌, ◌<◌, ◌≤◌, List, [], ◌∷◌, ◌++◌, length, length-append, true, false, Some, None, refl, append_assoc, arith}
+use Rattle.std.proofs.Common.{◌≡◌, ℕ, zero, suc, ◌+◌, ◌<◌, ◌≤◌, List, [], ◌∷◌, ◌++◌, length, length-append, Bool, true, false, Some, None, refl, append_assoc, arith}
 use Rattle.std.specs.Prelude.{codes}
 use Rattle.std.specs.List.{AllByRecursion}
 use Rattle.isle_printer.specs.Token.{Token, Word, Mark}
@@ -13,9 +13,9 @@ use Rattle.isle_tree.specs.declared.tree.Read.TheVariants as read
 use Rattle.isle_tree.specs.declared.tree.TPat.{TPat}
 use Rattle.isle_tree.specs.Program.{Stmt, Let, LetList, IfEq, IfLet, Match, Loop, Return, Extend, Overflow, Log, Split, Tail, Body, Done, Then, Arms, NoArm, Arm}
 use Rattle.isle_tree.specs.WellFormed.{IsRead, HasSeveral, IsStmt, IsBody, AreArms}
-use Rattle.isle_target.specs.StatementSpelling.{operand_tokens, clone_part, read_tokens, constructor_word, args_tokens, expr_tokens, pattern_tokens, list_end, let_list_tokens, loop_head, if_eq_head, if_let_head, no_rule, log_format, log_tokens, close, match_head, arm_head, stmt_tokens, body_tokens, arms_tokens}
+use Rattle.isle_target.specs.StatementSpelling.{operand_tokens, clone_part, read_tokens, constructor_word, args_tokens, expr_tokens, pattern_tokens, list_end, let_list_tokens, loop_head, stop_tokens, split_head, split_end, if_eq_head, if_let_head, no_rule, log_format, log_tokens, close, match_head, arm_head, stmt_tokens, body_tokens, arms_tokens}
 use Rattle.isle_target.specs.Tokens.{phrase, rest}
-use Rattle.isle_target.specs.StatementReading.{read_filled, several_arms, read_arms, read_stmt, begins, read_body}
+use Rattle.isle_target.specs.StatementReading.{read_filled, read_stop, several_arms, read_arms, read_stmt, begins, read_body}
 use Rattle.isle_target.proofs.Words.{operand_again, operand_no_mark, operand_no_let, operand_no_mut}
 use Rattle.isle_target.proofs.ReadsAgain.{first_apart, operand_apart, read_again}
 use Rattle.isle_target.proofs.ExprsAgain.{Closes, args_again, expr_again}
@@ -60,7 +60,7 @@ list_again n k (callee.Internal term) rs ts h =
 
 -- a statement begins as one, and has a token
 stmt_begins : (s : Stmt) (ts : List Token) → IsStmt s → begins (stmt_tokens s ++ ts) ≡ true
-unfolding loop_head log_tokens
+unfolding loop_head split_head log_tokens
 stmt_begins (Let n e) ts h = refl
 stmt_begins (LetList n call) ts h = refl
 stmt_begins (IfEq a b inside) ts h = refl
@@ -69,14 +69,14 @@ stmt_begins (Match r arms) ts h = refl
 stmt_begins (Loop list item inside) ts h = refl
 stmt_begins (Return e) ts h = refl
 stmt_begins (Extend r) ts h = refl
-stmt_begins (Overflow within) ts h = refl
+stmt_begins (Overflow within limit) ts h = refl
 stmt_begins (Log term place) ts h = refl
 stmt_begins (Tail None) ts h = refl
 stmt_begins (Tail (Some texts)) ts h = refl
-stmt_begins (Split inside within) ts h = absurd h
+stmt_begins (Split inside within) ts h = refl
 
 stmt_some : (s : Stmt) → IsStmt s → 0 < length (stmt_tokens s)
-unfolding loop_head log_tokens
+unfolding loop_head split_head log_tokens
 stmt_some (Let n e) h = omega arith
 stmt_some (LetList n call) h = omega arith
 stmt_some (IfEq a b inside) h = omega arith
@@ -85,11 +85,16 @@ stmt_some (Match r arms) h = omega arith
 stmt_some (Loop list item inside) h = omega arith
 stmt_some (Return e) h = omega arith
 stmt_some (Extend r) h = omega arith
-stmt_some (Overflow within) h = omega arith
+stmt_some (Overflow within limit) h = omega arith
 stmt_some (Log term place) h = omega arith
 stmt_some (Tail None) h = omega arith
 stmt_some (Tail (Some texts)) h = omega arith
-stmt_some (Split inside within) h = absurd h
+stmt_some (Split inside within) h = omega arith
+
+-- a stop is read again, whether it says true or nothing
+stop_again : (make : Bool → Stmt) (within : Bool) (ts : List Token) → read_stop make (stop_tokens within ++ ts) ≡ Some (make within, ts)
+stop_again make true ts = refl
+stop_again make false ts = refl
 
 -- two arms or more are a match
 several_again : (r : Read) (arms : Arms) (ts : List Token) → HasSeveral arms → several_arms r arms ts ≡ Some (Match r arms, ts)
@@ -103,7 +108,7 @@ length-arm pat inside arms =
     omega (arith, length-append (arm_head pat) (body_tokens inside ++ (close ++ arms_tokens arms)), length-append (pattern_tokens pat) (Mark (codes "=>") ∷ Mark (codes "{") ∷ []), length-append (body_tokens inside) (close ++ arms_tokens arms))
 
 mutual
-  unfolding read_body read_arms no_rule log_format loop_head log_tokens
+  unfolding read_body read_arms no_rule log_format loop_head split_head split_end log_tokens
 
   -- a statement is read again
   pub stmt_again : (s : Stmt) (n : ℕ) (ts : List Token) → IsStmt s → length (stmt_tokens s) ≤ n → read_stmt (read_body n) (stmt_tokens s ++ ts) ≡ Some (s, ts)
@@ -114,7 +119,7 @@ mutual
       let second = Mark (codes "==") ∷ (operand_tokens b ++ Mark (codes "{") ∷ after) in
       let flat : (if_eq_head a b ++ (body_tokens inside ++ close)) ++ ts ≡ Word (codes "if") ∷ (operand_tokens a ++ second) = simp append_assoc in
       let fuel : length (body_tokens inside) < n = omega (arith, le, length-append (if_eq_head a b) (body_tokens inside ++ close), length-append (body_tokens inside) close) in
-      rw (flat, operand_no_let a second h.0, operand_apart (codes "returns") (codes ".") a second refl, operand_again a second h.0, operand_again b (Mark (codes "{") ∷ after) h.1, body_again inside n (close ++ ts) h.2 refl fuel) refl
+      rw (flat, operand_no_let a second h.0, operand_no_mark (codes "(") a second refl, operand_apart (codes "returns") (codes ".") a second refl, operand_again a second h.0, operand_again b (Mark (codes "{") ∷ after) h.1, body_again inside n (close ++ ts) h.2 refl fuel) refl
   stmt_again (IfLet pat r inside) n ts h le =
       let after = body_tokens inside ++ (close ++ ts) in
       let source = read_tokens r ++ Mark (codes "{") ∷ after in
@@ -135,12 +140,13 @@ mutual
   stmt_again (Extend r) n ts h le =
       let ended = Mark (codes ")") ∷ Mark (codes ")") ∷ Mark (codes ";") ∷ ts in
       rw (append_assoc (read_tokens r) (Mark (codes ")") ∷ Mark (codes ")") ∷ Mark (codes ";") ∷ []) ts, read_again r ended h refl) refl
-  stmt_again (Overflow true) n ts h le = refl
-  stmt_again (Overflow false) n ts h le = refl
+  stmt_again (Overflow within limit) n ts h le = rw (numeral_again 10 limit (omega arith) (omega arith)) (stop_again (λ b. Overflow b limit) within ts)
   stmt_again (Log term place) n ts h le = refl
   stmt_again (Tail None) n ts h le = refl
   stmt_again (Tail (Some texts)) n ts h le = refl
-  stmt_again (Split inside within) n ts h le = absurd h
+  stmt_again (Split inside within) n ts h le =
+      let fuel : length (body_tokens inside) < n = omega (arith, le, length-append split_head (body_tokens inside ++ split_end within), length-append (body_tokens inside) (split_end within)) in
+      rw (append_assoc (body_tokens inside) (split_end within) ts, body_again inside n (split_end within ++ ts) h refl fuel) (stop_again (Split inside) within ts)
 
   -- statements are read again, up to what begins none
   pub body_again : (b : Body) (n : ℕ) (ts : List Token) → IsBody b → begins ts ≡ false → length (body_tokens b) < n → read_body n (body_tokens b ++ ts) ≡ Some (b, ts)

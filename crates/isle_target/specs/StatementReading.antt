@@ -4,13 +4,14 @@ use Rattle.std.specs.List.{list_any}
 use Rattle.isle_core.specs.declared.values.Callee.{Callee}
 use Rattle.isle_core.specs.declared.values.Callee.TheVariants as callee
 use Rattle.isle_printer.specs.Bytes.{same_bytes}
+use Rattle.isle_printer.specs.Number.{numeral_of}
 use Rattle.isle_printer.specs.Token.{Token, Word, Mark, Quoted}
 use Rattle.isle_target.specs.Tokens.{◌>>=◌, Reads, phrase, at, rest, after, any_word, any_quoted}
-use Rattle.isle_target.specs.OperandReading.{numbered, read_operand, read_read}
+use Rattle.isle_target.specs.OperandReading.{numbered, or_else, read_operand, read_read}
 use Rattle.isle_target.specs.PatternReading.{read_pattern}
 use Rattle.isle_tree.specs.declared.tree.Read.{Read}
-use Rattle.isle_tree.specs.Program.{Stmt, Let, LetList, IfEq, IfLet, Match, Loop, Return, Extend, Overflow, Log, Tail, Body, Done, Then, Arms, NoArm, Arm}
-use Rattle.isle_target.specs.StatementSpelling.{local_token, returns_word, any_list, default_part, list_end, into_part, while_part, next_part, extend_head, full_part, stop_part, match_end, no_rule, unreachable_head, log_head}
+use Rattle.isle_tree.specs.Program.{Stmt, Let, LetList, IfEq, IfLet, Match, Loop, Return, Extend, Overflow, Log, Split, Tail, Body, Done, Then, Arms, NoArm, Arm}
+use Rattle.isle_target.specs.StatementSpelling.{local_token, returns_word, any_list, default_part, list_end, into_part, while_part, next_part, extend_head, stop_tokens, full_part, closure_head, closure_end, match_end, no_rule, unreachable_head, log_head}
 use Rattle.isle_target.specs.ExprReading.{read_args, called_name, called_term_fn, read_expr}
 
 -- ---- lists and loops
@@ -83,17 +84,23 @@ read_extend ts = do
   ts2 ← phrase (Mark (codes ")") ∷ Mark (codes ")") ∷ Mark (codes ";") ∷ []) r.1
   Some (Extend r.0, ts2)
 
--- what a return gives out of a closure, and what closes it
-abbrev pub read_stop : Bool → List Token → Reads Stmt
-read_stop inside ts = do
-  ts1 ← phrase (stop_part inside) ts
-  Some (Overflow inside, ts1)
+-- a return of nothing, or one of true
+abbrev pub read_this_stop : (Bool → Stmt) → Bool → List Token → Reads Stmt
+read_this_stop make within ts = do
+  ts1 ← phrase (stop_tokens within) ts
+  Some (make within, ts1)
+
+-- either of them
+abbrev pub read_stop : (Bool → Stmt) → List Token → Reads Stmt
+read_stop make ts = or_else (read_this_stop make true ts) (read_this_stop make false ts)
 
 -- a stop at a full list, from after if returns. on
 abbrev pub read_overflow : List Token → Reads Stmt
 read_overflow ts = do
   ts1 ← phrase full_part ts
-  if at (Word (codes "true")) ts1 then read_stop true ts1 else read_stop false ts1
+  w ← any_word ts1
+  limit ← numeral_of 10 w.0
+  read_stop (λ within. Overflow within limit) w.1
 
 -- ---- statements, from after their first word on, given how to read a body
 
@@ -136,7 +143,15 @@ read_if_let body ts = do
   ts2 ← after (Mark (codes "{")) r.1
   read_inside body (IfLet pat.0 r.0) ts2
 
--- if without a let: a stop where returns. stands after it, and else a test
+-- a closure that is called at once, from after if on
+abbrev pub read_split : (List Token → Reads Body) → List Token → Reads Stmt
+read_split body ts = do
+  ts1 ← phrase closure_head ts
+  inside ← body ts1
+  ts2 ← phrase closure_end inside.1
+  read_stop (Split inside.0) ts2
+
+-- if without a let and without a closure: a stop where returns. stands after it, and else a test
 abbrev pub read_if_full : Option (List Token) → (List Token → Reads Body) → List Token → Reads Stmt
 read_if_full None body ts = read_if_eq body ts
 read_if_full (Some behind) body ts = read_overflow behind
@@ -145,7 +160,8 @@ read_if_full (Some behind) body ts = read_overflow behind
 abbrev pub read_if : (List Token → Reads Body) → List Token → Reads Stmt
 read_if body ts =
     if at (Word (codes "let")) ts then read_if_let body (rest ts)
-    else read_if_full (phrase (Word (codes "returns") ∷ Mark (codes ".") ∷ []) ts) body ts
+    else (if at (Mark (codes "(")) ts then read_split body ts
+    else read_if_full (phrase (Word (codes "returns") ∷ Mark (codes ".") ∷ []) ts) body ts)
 
 -- the arm for all else, and what closes a match
 abbrev pub read_match_end : List Token → Reads Arms

@@ -1,4 +1,4 @@
--- The tokens of what stands for a value, of patterns and of statements. A form that is not built has none.
+-- The tokens of what stands for a value, of patterns and of statements.
 use Rattle.std.specs.Prelude.{ℕ, List, [], ◌∷◌, ◌++◌, Bool, true, false, Option, Some, None, codes}
 use Rattle.isle_core.specs.Int.{wrapped}
 use Rattle.isle_core.specs.declared.values.Callee.{Callee}
@@ -18,10 +18,6 @@ use Rattle.isle_tree.specs.declared.tree.TPat.TheVariants as pattern
 use Rattle.isle_spelling.specs.Literal.{literal_tokens}
 use Rattle.isle_spelling.specs.Raw.{raw_word}
 use Rattle.isle_tree.specs.Program.{Stmt, Let, LetList, IfEq, IfLet, Match, Loop, Return, Extend, Overflow, Log, Split, Tail, Body, Done, Then, Arms, NoArm, Arm}
-
--- what is spelled of a form that is not built
-abbrev pub not_built : List Token
-not_built = []
 
 -- ---- what stands for a value
 
@@ -224,19 +220,35 @@ extend_head = Word (codes "returns") ∷ Mark (codes ".") ∷ Word (codes "exten
 abbrev pub extend_tokens : Read → List Token
 extend_tokens r = extend_head ++ (read_tokens r ++ Mark (codes ")") ∷ Mark (codes ")") ∷ Mark (codes ";") ∷ [])
 
--- len() >= MAX_ISLE_RETURNS { return
+-- { return; }, or { return true; } inside a closure
+abbrev pub stop_tokens : Bool → List Token
+stop_tokens true = Mark (codes "{") ∷ Word (codes "return") ∷ Word (codes "true") ∷ Mark (codes ";") ∷ Mark (codes "}") ∷ []
+stop_tokens false = Mark (codes "{") ∷ Word (codes "return") ∷ Mark (codes ";") ∷ Mark (codes "}") ∷ []
+
+-- len() >=
 abbrev pub full_part : List Token
-full_part =
-    Word (codes "len") ∷ Mark (codes "(") ∷ Mark (codes ")") ∷ Mark (codes ">=") ∷ Word (codes "MAX_ISLE_RETURNS") ∷ Mark (codes "{") ∷ Word (codes "return") ∷ []
+full_part = Word (codes "len") ∷ Mark (codes "(") ∷ Mark (codes ")") ∷ Mark (codes ">=") ∷ []
 
--- what a return gives out of a closure, and what closes it
-abbrev pub stop_part : Bool → List Token
-stop_part true = Word (codes "true") ∷ Mark (codes ";") ∷ Mark (codes "}") ∷ []
-stop_part false = Mark (codes ";") ∷ Mark (codes "}") ∷ []
+-- if returns.len() >= 100 { return; }
+abbrev pub overflow_tokens : Bool → ℕ → List Token
+overflow_tokens within limit =
+    Word (codes "if") ∷ Word (codes "returns") ∷ Mark (codes ".") ∷ (full_part ++ Word (numeral 10 limit) ∷ stop_tokens within)
 
--- if returns.len() >= MAX_ISLE_RETURNS { return; }
-abbrev pub overflow_tokens : Bool → List Token
-overflow_tokens within = Word (codes "if") ∷ Word (codes "returns") ∷ Mark (codes ".") ∷ (full_part ++ stop_part within)
+-- (|| -> bool {
+abbrev pub closure_head : List Token
+closure_head = Mark (codes "(") ∷ Mark (codes "||") ∷ Mark (codes "->") ∷ Word (codes "bool") ∷ Mark (codes "{") ∷ []
+
+-- false })()
+abbrev pub closure_end : List Token
+closure_end = Word (codes "false") ∷ Mark (codes "}") ∷ Mark (codes ")") ∷ Mark (codes "(") ∷ Mark (codes ")") ∷ []
+
+-- if (|| -> bool {
+unfoldable pub split_head : List Token
+split_head = Word (codes "if") ∷ closure_head
+
+-- false })() { return; }
+unfoldable pub split_end : Bool → List Token
+split_end within = closure_end ++ stop_tokens within
 
 -- return EXPR;
 abbrev pub return_tokens : TExpr → List Token
@@ -302,9 +314,9 @@ abbrev mutual
   stmt_tokens (Loop list item inside) = loop_head list item ++ (body_tokens inside ++ close)
   stmt_tokens (Return e) = return_tokens e
   stmt_tokens (Extend r) = extend_tokens r
-  stmt_tokens (Overflow within) = overflow_tokens within
+  stmt_tokens (Overflow within limit) = overflow_tokens within limit
   stmt_tokens (Log term place) = log_tokens term place
-  stmt_tokens (Split inside within) = not_built
+  stmt_tokens (Split inside within) = split_head ++ (body_tokens inside ++ split_end within)
   stmt_tokens (Tail texts) = tail_tokens texts
 
   pub body_tokens : Body → List Token

@@ -1,4 +1,4 @@
--- How many tests stand in statements: each `if`, each `if let` and each `match` is one, whatever stands inside it.
+-- How many tests stand in statements: each `if`, each `if let` and each `match` is one, whatever stands inside it. A stop and a closure are none.
 use Rattle.std.specs.Prelude.{ℕ, ◌+◌, ◌-◌, ◌^◌, List, [], ◌∷◌, length, min}
 use Rattle.isle_tree.specs.Program.{Stmt, Let, LetList, IfEq, IfLet, Match, Loop, Return, Extend, Overflow, Log, Split, Tail, Body, Arms, Function, Program}
 use Rattle.isle_tree.specs.Walk.{of_stmt, of_body, of_arms}
@@ -14,7 +14,7 @@ own_tests (Match read arms) = Match read arms ∷ []
 own_tests (Loop list item inside) = []
 own_tests (Return e) = []
 own_tests (Extend read) = []
-own_tests (Overflow within) = []
+own_tests (Overflow within limit) = []
 own_tests (Log term place) = []
 own_tests (Split inside within) = []
 own_tests (Tail texts) = []

@@ -1,4 +1,4 @@
-//! The text of what is computed. A form that isn't built has none.
+//! The text of what is computed.
 
 ghost use Rattle.std.specs.Prelude.{◌≡◌, ◌++◌, OnOk};
 ghost use Rattle.isle_target.specs.StatementSpelling.{as_ref_part, expr_tokens};

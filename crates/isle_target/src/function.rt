@@ -12,7 +12,7 @@ ghost use Rattle.isle_target.specs.Spelling.{result_tokens, result_part, functio
 
 use crate::call::print_constructor;
 use crate::operand::print_borrow;
-use crate::statement::print_body;
+use crate::statement::{print_body, print_close};
 use isle_core::ReturnKind;
 use isle_printer::Printer;
 use isle_tree::{Function, Ty};
@@ -147,6 +147,6 @@ pub fn print_function(out: &mut Printer, f: &Function) -> Result<(), AllocError>
     print_params(out, f.params.as_slice())?;
     print_gives(out, f.kind, f.result.as_str())?;
     print_body(out, f.body.as_slice())?;
-    out.mark("}")?;
+    print_close(out)?;
     out.line()
 }

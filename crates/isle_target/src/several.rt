@@ -1,9 +1,9 @@
-//! The text of statements on several answers: lists, loops over them, and results that are appended.
+//! The text of statements on several answers: lists, loops over them, results that are appended, stops and closures.
 
 ghost use Rattle.std.specs.Prelude.{◌≡◌, ◌++◌, OnOk};
 ghost use Rattle.isle_target.specs.StatementSpelling.{let_mut_head, list_tokens, default_part, list_end};
 ghost use Rattle.isle_target.specs.StatementSpelling.{let_list_tokens, loop_head, extend_tokens};
-ghost use Rattle.isle_target.specs.StatementSpelling.{overflow_tokens};
+ghost use Rattle.isle_target.specs.StatementSpelling.{stop_tokens, overflow_tokens, split_head, split_end};
 ghost use Rattle.isle_tree.specs.WellFormed.{IsRead, IsCallee, IsCall};
 
 use crate::call::{print_args, print_callee};
@@ -90,15 +90,47 @@ pub fn print_extend(out: &mut Printer, read: &Read) -> Result<(), AllocError>
     out.piece("));")
 }
 
-/// Prints `if returns.len() >= MAX_ISLE_RETURNS { return; }`, or a `return true;` in it. What is printed after an error
-/// is left open.
+// Prints `{ return; }`, or a `return true;` in it.
 #[tactic(auto, unfolding(isle_printer::specs::Token::step, isle_printer::specs::Token::begun))]
-pub fn print_overflow(out: &mut Printer, inside: bool) -> Result<(), AllocError>
-    ensures { OnOk result (out.new ≡ out.old ++ overflow_tokens inside) }
+fn print_stop(out: &mut Printer, inside: bool) -> Result<(), AllocError>
+    ensures { OnOk result (out.new ≡ out.old ++ stop_tokens inside) }
 {
     if inside {
-        out.piece("if returns.len() >= MAX_ISLE_RETURNS { return true; }")
+        out.piece(" { return true; }")
     } else {
-        out.piece("if returns.len() >= MAX_ISLE_RETURNS { return; }")
+        out.piece(" { return; }")
     }
+}
+
+/// Prints `if returns.len() >= LIMIT { return; }`, or a `return true;` in it. What is printed after an error is left
+/// open.
+#[tactic(auto, unfolding(isle_printer::specs::Token::step, isle_printer::specs::Token::begun))]
+pub fn print_overflow(out: &mut Printer, inside: bool, limit: usize) -> Result<(), AllocError>
+    ensures { OnOk result (out.new ≡ out.old ++ overflow_tokens inside limit) }
+{
+    out.piece("if returns.len() >= ")?;
+    out.numbered("", limit)?;
+    print_stop(out, inside)
+}
+
+/// Prints what a closure begins with. What is printed after an error is left open.
+#[tactic(auto, unfolding(crate::specs::StatementSpelling::split_head, isle_printer::specs::Token::step, isle_printer::specs::Token::begun))]
+pub fn print_split_head(out: &mut Printer) -> Result<(), AllocError>
+    ensures { OnOk result (out.new ≡ out.old ++ split_head) }
+{
+    out.piece("if (|| -> bool {")
+}
+
+/// Prints what a closure gives after its last statement, on a line of its own, and on another what closes and calls it
+/// and the stop after it. What is printed after an error is left open.
+#[tactic(auto, unfolding(crate::specs::StatementSpelling::split_end, isle_printer::specs::Token::step, isle_printer::specs::Token::begun))]
+pub fn print_split_end(out: &mut Printer, inside: bool) -> Result<(), AllocError>
+    ensures { OnOk result (out.new ≡ out.old ++ split_end inside) }
+{
+    out.line()?;
+    out.word("false")?;
+    out.dedent();
+    out.line()?;
+    out.piece("})()")?;
+    print_stop(out, inside)
 }

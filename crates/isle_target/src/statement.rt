@@ -1,4 +1,4 @@
-//! The text of statements. A form that isn't built has none.
+//! The text of statements.
 
 ghost use Rattle.std.specs.Prelude.{◌≡◌, ◌++◌, [], ◌∷◌, OnOk, codes};
 ghost use Rattle.isle_printer.specs.Token.{Mark, Quoted};
@@ -12,7 +12,10 @@ ghost use Rattle.isle_target.specs.StatementSpelling.{tail_tokens, stmt_tokens, 
 use crate::expr::print_expr;
 use crate::operand::{print_operand, print_read};
 use crate::pattern::print_pattern;
-use crate::several::{print_extend, print_let_list, print_loop_head, print_overflow};
+use crate::several::{
+    print_extend, print_let_list, print_loop_head, print_overflow, print_split_end,
+    print_split_head,
+};
 use isle_core::Text;
 use isle_printer::Printer;
 use isle_tree::{Operand, Read, Stmt, TExpr, TPat};
@@ -94,6 +97,15 @@ fn print_arm_head(out: &mut Printer, pat: &TPat) -> Result<(), AllocError>
     out.piece(" => {")
 }
 
+/// Prints what closes a block, on a line one level less far in. What is printed after an error is left open.
+pub fn print_close(out: &mut Printer) -> Result<(), AllocError>
+    ensures { OnOk result (out.new ≡ out.old ++ close) }
+{
+    out.dedent();
+    out.line()?;
+    out.mark("}")
+}
+
 // Prints the arm for all else on a line, and what closes a match on another.
 #[tactic(auto, unfolding(isle_printer::specs::Token::step, isle_printer::specs::Token::begun))]
 fn print_match_end(out: &mut Printer) -> Result<(), AllocError>
@@ -101,9 +113,7 @@ fn print_match_end(out: &mut Printer) -> Result<(), AllocError>
 {
     out.line()?;
     out.piece("_ => {}")?;
-    out.dedent();
-    out.line()?;
-    out.mark("}")
+    print_close(out)
 }
 
 // Prints what is said if no rule matches, up to the term.
@@ -177,7 +187,7 @@ fn print_arm(out: &mut Printer, pat: &TPat, inside: &[Stmt]) -> Result<(), Alloc
     out.line()?;
     print_arm_head(out, pat)?;
     print_body(out, inside)?;
-    out.mark("}")
+    print_close(out)
 }
 
 // Prints a statement.
@@ -192,12 +202,12 @@ fn print_stmt(out: &mut Printer, s: &Stmt) -> Result<(), AllocError>
         Stmt::IfEq(a, b, inside) => {
             print_if_eq(out, a, b)?;
             print_body(out, inside.as_slice())?;
-            out.mark("}")
+            print_close(out)
         }
         Stmt::IfLet(pat, read, inside) => {
             print_if_let(out, pat, read)?;
             print_body(out, inside.as_slice())?;
-            out.mark("}")
+            print_close(out)
         }
         Stmt::Match(read, given) => {
             print_match(out, read)?;
@@ -217,17 +227,24 @@ fn print_stmt(out: &mut Printer, s: &Stmt) -> Result<(), AllocError>
         } => {
             print_loop_head(out, *list, *item)?;
             print_body(out, inside.as_slice())?;
-            out.mark("}")
+            print_close(out)
         }
         Stmt::Extend(read) => print_extend(out, read),
-        Stmt::Overflow { inside } => print_overflow(out, *inside),
+        Stmt::Overflow { inside, limit } => print_overflow(out, *inside, *limit),
         Stmt::Log { term, place } => print_log(out, term.as_str(), place.as_str()),
-        Stmt::Split { .. } => Ok(()),
+        Stmt::Split {
+            body: split,
+            inside,
+        } => {
+            print_split_head(out)?;
+            print_body(out, split.as_slice())?;
+            print_split_end(out, *inside)
+        }
     }
 }
 
-/// Prints statements, each on a line, and begins the line of what closes them. What is printed after an error is left
-/// open.
+/// Prints statements, each on a line one level further in; later lines begin as far in, up to `print_close`. What is
+/// printed after an error is left open.
 #[cycle(statements)]
 pub fn print_body(out: &mut Printer, stmts: &[Stmt]) -> Result<(), AllocError>
     requires { IsBody (body stmts.now) }
@@ -238,6 +255,5 @@ pub fn print_body(out: &mut Printer, stmts: &[Stmt]) -> Result<(), AllocError>
         out.line()?;
         print_stmt(out, s)?;
     }
-    out.dedent();
-    out.line()
+    Ok(())
 }

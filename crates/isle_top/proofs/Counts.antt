@@ -12,9 +12,9 @@ use Rattle.isle_run.specs.Conforming.{Conforms}
 use Rattle.isle_top.specs.SampleLine.{counts_text, AreCounts}
 
 -- options of which none is given
-pub none_given : (o : CodegenOptions) → o.exclude_global_allow_pragmas ≡ false → o.prefixes ≡ [] → o.emit_logging ≡ false → o.split_match_arms ≡ false → o.match_arm_split_threshold ≡ None → o ≡ no_options
-none_given o allow prefixes logging split threshold =
-    λ i. record { exclude_global_allow_pragmas = allow i; prefixes = prefixes i; emit_logging = logging i; split_match_arms = split i; match_arm_split_threshold = threshold i }
+pub none_given : (o : CodegenOptions) → o.exclude_global_allow_pragmas ≡ false → o.prefixes ≡ [] → o.emit_logging ≡ false → o.split_match_arms ≡ false → o.match_arm_split_threshold ≡ None → o.max_returns ≡ 100 → o ≡ no_options
+none_given o allow prefixes logging split threshold limit =
+    λ i. record { exclude_global_allow_pragmas = allow i; prefixes = prefixes i; emit_logging = logging i; split_match_arms = split i; match_arm_split_threshold = threshold i; max_returns = limit i }
 
 -- the lines of these counts are those of the source
 pub counts_are : (source : FileTexts) (env : Environment) (o : CodegenOptions) (p : Program) (counts : TreeCounts) (rules : ℕ) (lines : List ℕ) → IsChecked source env → o ≡ no_options → Conforms o source env p

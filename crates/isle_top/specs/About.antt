@@ -15,7 +15,9 @@ help_text =
     codes "  isle --help\n      Writes this text.\n      isle --help\n" ++ (
     codes "  isle --version\n      Writes the program's name and version.\n      isle --version\n\n" ++ (
     codes "OPTION is --no-allow, which leaves the pragmas out; --log, which puts a log line before each result; --prefix P=NAME, which prints\n" ++ (
-    codes "NAME in place of P where the name of a file begins with it; or --split or --threshold N, which change nothing yet.\nNo words mean: isle compile first.isle\n")))))))))))
+    codes "NAME in place of P where the name of a file begins with it; --max-returns N, the length at which the list of a term that answers\n" ++ (
+    codes "several times is full, 100 if none is given; or --split, which puts the statements of such a term's match arms into closures that\n" ++ (
+    codes "weigh more than the N of --threshold N, 256 if none is given: one for each step.\nNo words mean: isle compile first.isle\n")))))))))))))
 
 -- the program's name and version
 unfoldable pub version_text : List ℕ

@@ -40,7 +40,9 @@ pub fn help() -> &'static str
 \x20     isle --version\n\
 \n\
 OPTION is --no-allow, which leaves the pragmas out; --log, which puts a log line before each result; --prefix P=NAME, which prints\n\
-NAME in place of P where the name of a file begins with it; or --split or --threshold N, which change nothing yet.\n\
+NAME in place of P where the name of a file begins with it; --max-returns N, the length at which the list of a term that answers\n\
+several times is full, 100 if none is given; or --split, which puts the statements of such a term's match arms into closures that\n\
+weigh more than the N of --threshold N, 256 if none is given: one for each step.\n\
 No words mean: isle compile first.isle\n"
 }
 

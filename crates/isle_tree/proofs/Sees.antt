@@ -40,8 +40,8 @@ stmt-return e = ap stmt (sym (code.rolls-Return e)) ∙ fold-roll-Stmt Stmt stmt
 pub stmt-extend : (r : Read) → stmt (code.Extend r) ≡ Extend r
 stmt-extend r = ap stmt (sym (code.rolls-Extend r)) ∙ fold-roll-Stmt Stmt stmt_step _
 
-pub stmt-overflow : (b : Bool) → stmt (code.Overflow b) ≡ Overflow b
-stmt-overflow b = ap stmt (sym (code.rolls-Overflow b)) ∙ fold-roll-Stmt Stmt stmt_step _
+pub stmt-overflow : (b : Bool) (n : ℕ) → stmt (code.Overflow b n) ≡ Overflow b n
+stmt-overflow b n = ap stmt (sym (code.rolls-Overflow b n)) ∙ fold-roll-Stmt Stmt stmt_step _
 
 pub stmt-log : (t p : List ℕ) → stmt (code.Log t p) ≡ Log t p
 stmt-log t p = ap stmt (sym (code.rolls-Log t p)) ∙ fold-roll-Stmt Stmt stmt_step _

@@ -21,7 +21,7 @@ mutual
     Loop : (list item : ℕ) → Body → Stmt
     Return : TExpr → Stmt
     Extend : Read → Stmt
-    Overflow : (inside : Bool) → Stmt
+    Overflow : (inside : Bool) → (limit : ℕ) → Stmt
     Log : (term place : List ℕ) → Stmt
     Split : Body → (inside : Bool) → Stmt
     Tail : Option (List ℕ × List ℕ) → Stmt

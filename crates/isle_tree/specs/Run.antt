@@ -1,9 +1,8 @@
 -- What the function of a term does, by cases on the forms of statements.
-use Rattle.std.specs.Prelude.{ℕ, nat_le, List, [], ◌∷◌, ◌++◌, ◌==◌, ◌&&◌, length, Bool, true, false, Option, Some, None, slice_get, fold, if◌then◌else◌}
+use Rattle.std.specs.Prelude.{ℕ, nat_le, ◌+◌, List, [], ◌∷◌, ◌++◌, ◌==◌, ◌&&◌, length, Bool, true, false, Option, Some, None, slice_get, fold, if◌then◌else◌}
 use Rattle.isle_core.specs.Value.{Value, Truth, Int, Opaque, Variant, Struct, FieldValues, NoField, Field, Made, End, Gives, GivesSome, GivesNone, IsUnreachable, GivesList, Ran}
 use Rattle.isle_core.specs.SameInRun.{same_in_run}
 use Rattle.isle_core.specs.Meaning.{Meaning}
-use Rattle.isle_core.specs.Space.{Space, room}
 use Rattle.isle_core.specs.Having.{const_of}
 use Rattle.isle_core.specs.Answered.{Item, AValue, ATuple, Held, Absent, One, Optional, Listed, a_value, an_option, answer_held}
 use Rattle.isle_core.specs.ValueAt.{held, value_before}
@@ -23,15 +22,15 @@ use Rattle.isle_tree.specs.declared.tree.TExpr.TheVariants as expr
 use Rattle.isle_tree.specs.Caller.{Called, Answered, Ended, Unanswered, Caller, by_meaning}
 use Rattle.isle_tree.specs.Program.{Stmt, Let, LetList, IfEq, IfLet, Match, Loop, Return, Extend, Overflow, Log, Split, Tail, Body, Done, Then, Arms, NoArm, Arm, Function, Program}
 
--- what a function runs in: who answers its calls, what constants stand for, the program, the function itself, its arguments, and how many
--- results there is room for, if that is limited
+-- what a function runs in: who answers its calls, what constants stand for, the program, the function itself, its arguments, and how long its
+-- list of results is at entry; without that number the list is never full
 pub record Around : Type 0 where
   pub caller : Caller
   pub meaning : Meaning
   pub program : Program
   pub function : Function
   pub args : List Value
-  pub limit : Option ℕ
+  pub held : Option ℕ
 
 -- what was done so far: the calls made, and the results given
 pub record State : Type 0 where
@@ -310,22 +309,29 @@ abbrev pub run_items : (Item → State → Flow) → Env → List Item → State
 run_items go env [] s = Goes env s
 run_items go env (i ∷ is) s = then_run (go i s) (λ inner t. run_items go env is t)
 
--- no room is left for results
-abbrev pub is_full : Option ℕ → List Value → Bool
-is_full None given = false
-is_full (Some room) given = nat_le room (length given)
+-- the list of results, which had so many at entry and was given these, has reached the limit
+abbrev pub is_full : Option ℕ → (limit : ℕ) → List Value → Bool
+is_full None limit given = false
+is_full (Some held) limit given = nat_le limit (held + length given)
 
--- if no room is left, the closure around is left, or else the function ends with its results
+-- if the list is full, the closure around is left, or else the function ends with its results
 abbrev pub stops : (inside : Bool) → State → Flow
 stops true s = Leaves s
 stops false s = Ends (GivesList s.given) s
+
+-- after a closure what was bound in it is gone; if it was left, the closure around it is left too, or else the function ends
+abbrev pub after_closure : (inside : Bool) → Env → Flow → Flow
+after_closure inside env (Goes inner s) = Goes env s
+after_closure inside env (Ends end s) = Ends end s
+after_closure inside env (Leaves s) = stops inside s
+after_closure inside env Stuck = Stuck
 
 -- a tail gives nothing, or is not to be reached
 abbrev pub tail_end : Option (List ℕ × List ℕ) → End
 tail_end None = GivesNone
 tail_end (Some texts) = IsUnreachable
 
--- a statement, and statements in order; a match runs the first arm whose pattern fits; a log line means nothing; closures are not built
+-- a statement, and statements in order; a match runs the first arm whose pattern fits; a log line means nothing
 abbrev mutual
   pub run_stmt : Around → Stmt → Env → State → Flow
   run_stmt w (Let n e) env s = run_let w n e env s
@@ -338,9 +344,9 @@ abbrev mutual
   run_stmt w (Loop list item inside) env s = on_list (look env list) (λ is. run_items (λ i t. run_body w inside (bind env item (One i)) t) env is s)
   run_stmt w (Return e) env s = run_return w e env s
   run_stmt w (Extend r) env s = on_value (read_value w env r) (λ v. Goes env (one_given s v))
-  run_stmt w (Overflow inside) env s = if is_full w.limit s.given then stops inside s else Goes env s
+  run_stmt w (Overflow inside limit) env s = if is_full w.held limit s.given then stops inside s else Goes env s
   run_stmt w (Log term place) env s = Goes env s
-  run_stmt w (Split inner inside) env s = Stuck
+  run_stmt w (Split inner inside) env s = after_closure inside env (run_body w inner env s)
   run_stmt w (Tail texts) env s = Ends (tail_end texts) s
 
   pub run_body : Around → Body → Env → State → Flow
@@ -373,19 +379,19 @@ abbrev pub function_of : List ℕ → List Function → Option Function
 function_of term [] = None
 function_of term (f ∷ fs) = if same_bytes term f.term then Some f else function_of term fs
 
--- what a function of a program runs in, if its results are limited so
-abbrev pub around : Program → Meaning → List Value → Option ℕ → Function → Around
-around p m args limit f = record { caller = by_meaning m; meaning = m; program = p; function = f; args = args; limit = limit }
+-- what a function of a program runs in, if its list of results has this length at entry
+abbrev pub around : Program → Meaning → List Value → (held : Option ℕ) → Function → Around
+around p m args held f = record { caller = by_meaning m; meaning = m; program = p; function = f; args = args; held = held }
 
--- the run of a function, its results limited so
-abbrev pub limited_run : Program → Meaning → List Value → Option ℕ → Function → Option Ran
-limited_run p m args limit f = ended f.kind (run_body (around p m args limit f) f.body [] nothing_done)
+-- the run of a function whose list of results has this length at entry
+abbrev pub held_run : Program → Meaning → List Value → (held : Option ℕ) → Function → Option Ran
+held_run p m args held f = ended f.kind (run_body (around p m args held f) f.body [] nothing_done)
 
 -- the run of a function in its program, if there is one
-abbrev pub function_run : Program → Meaning → Space → List Value → Option Function → Option Ran
-function_run p m space args None = None
-function_run p m space args (Some f) = limited_run p m args (Some (room space)) f
+abbrev pub function_run : Program → Meaning → (held : ℕ) → List Value → Option Function → Option Ran
+function_run p m held args None = None
+function_run p m held args (Some f) = held_run p m args (Some held) f
 
 -- the run of the function of a term in a program, if there is one
-abbrev pub run : Program → List ℕ → List Value → Meaning → Space → Option Ran
-run p term args m space = function_run p m space args (function_of term p.fns)
+abbrev pub run : Program → List ℕ → List Value → Meaning → (held : ℕ) → Option Ran
+run p term args m held = function_run p m held args (function_of term p.fns)

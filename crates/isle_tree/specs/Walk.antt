@@ -13,7 +13,7 @@ abbrev mutual
   of_stmt each (Loop list item inside) = each (Loop list item inside) ++ of_body each inside
   of_stmt each (Return e) = each (Return e)
   of_stmt each (Extend read) = each (Extend read)
-  of_stmt each (Overflow within) = each (Overflow within)
+  of_stmt each (Overflow within limit) = each (Overflow within limit)
   of_stmt each (Log term place) = each (Log term place)
   of_stmt each (Split inside within) = each (Split inside within) ++ of_body each inside
   of_stmt each (Tail texts) = each (Tail texts)

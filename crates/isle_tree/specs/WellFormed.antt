@@ -1,4 +1,4 @@
--- What a program keeps to that has a spelling. What is not built is not well formed.
+-- What a program keeps to that has a spelling.
 use Rattle.std.specs.Prelude.{◌≡◌, ℕ, ◌<◌, ◌==◌, nat_lt, List, [], ◌∷◌, ◌++◌, length, map, fold, find, Bool, true, false, if◌then◌else◌, IsTrue, IsSome, Option, Some, None}
 use Rattle.std.specs.Int.{w128}
 use Rattle.std.specs.Int.RustNames.{FitsSigned}
@@ -102,7 +102,7 @@ HasSeveral NoArm = ⊥
 HasSeveral (Arm pat body NoArm) = ⊥
 HasSeveral (Arm pat body (Arm other inside arms)) = Unit {0}
 
--- a statement, and statements in order; a match has two arms or more; closures are not built
+-- a statement, and statements in order; a match has two arms or more
 abbrev mutual
   pub IsStmt : Stmt → Type 0
   IsStmt (Let n e) = IsExpr e
@@ -114,9 +114,9 @@ abbrev mutual
   IsStmt (Match read arms) = IsRead read × HasSeveral arms × AreArms arms
   IsStmt (Loop list each inside) = IsBody inside
   IsStmt (Extend read) = IsRead read
-  IsStmt (Overflow within) = Unit {0}
+  IsStmt (Overflow within limit) = Unit {0}
   IsStmt (Log term place) = Unit {0}
-  IsStmt (Split inside within) = ⊥
+  IsStmt (Split inside within) = IsBody inside
 
   pub IsBody : Body → Type 0
   IsBody Done = Unit {0}
@@ -329,14 +329,14 @@ bound_after fns params (Match read arms) bound = bound
 bound_after fns params (Loop list each inside) bound = bound
 bound_after fns params (Return e) bound = bound
 bound_after fns params (Extend read) bound = bound
-bound_after fns params (Overflow within) bound = bound
+bound_after fns params (Overflow within limit) bound = bound
 bound_after fns params (Log term place) bound = bound
 bound_after fns params (Split inside within) bound = bound
 bound_after fns params (Tail texts) bound = bound
 
 -- each operand of a statement, and of statements in order, is in scope and holds what is asked of it, in a function of the kind with this
 -- number of parameters: a call of one with several answers stands in a list alone, a loop goes over a list, and each arm's pattern may be read
--- over what its match reads; closures are not built
+-- over what its match reads
 abbrev mutual
   pub IsStmtScoped : Callables → ReturnKind → ℕ → Locals → Stmt → Type 0
   IsStmtScoped fns kind params bound (Let n e) = IsSome (expr_holds fns params bound e)
@@ -351,9 +351,9 @@ abbrev mutual
   IsStmtScoped fns kind params bound (Loop list each inside) =
       IsSome (each_holds (local_holds bound list)) × IsBodyScoped fns kind params (after_let (each_holds (local_holds bound list)) each bound) inside
   IsStmtScoped fns kind params bound (Extend read) = IsTrue (is_value (read_holds params bound read))
-  IsStmtScoped fns kind params bound (Overflow within) = Unit {0}
+  IsStmtScoped fns kind params bound (Overflow within limit) = Unit {0}
   IsStmtScoped fns kind params bound (Log term place) = Unit {0}
-  IsStmtScoped fns kind params bound (Split inside within) = ⊥
+  IsStmtScoped fns kind params bound (Split inside within) = IsBodyScoped fns kind params bound inside
 
   pub IsBodyScoped : Callables → ReturnKind → ℕ → Locals → Body → Type 0
   IsBodyScoped fns kind params bound Done = Unit {0}
@@ -393,8 +393,8 @@ GivesSeveral kind.Plain = ⊥
 GivesSeveral kind.Option = ⊥
 GivesSeveral kind.Iterator = Unit {0}
 
--- a statement inside a function, or inside a closure of one, and statements in order: no tail is among them; results are appended, and
--- statements stop at a full list, only where the function gives several, and the stop says true exactly inside a closure; closures are not built
+-- a statement inside a function, or inside a closure of one, and statements in order: no tail is among them; results are appended,
+-- statements stop at a full list, and closures stand only where the function gives several, and what stops says true exactly inside a closure
 abbrev mutual
   pub FitsStmt : ReturnKind → (closed : Bool) → Stmt → Type 0
   FitsStmt kind closed (Let n e) = FitsLet kind e
@@ -406,9 +406,9 @@ abbrev mutual
   FitsStmt kind closed (Match read arms) = FitsArms kind closed arms
   FitsStmt kind closed (Loop list each inside) = FitsBody kind closed inside
   FitsStmt kind closed (Extend read) = GivesSeveral kind
-  FitsStmt kind closed (Overflow within) = GivesSeveral kind × (within ≡ closed)
+  FitsStmt kind closed (Overflow within limit) = GivesSeveral kind × (within ≡ closed)
   FitsStmt kind closed (Log term place) = Unit {0}
-  FitsStmt kind closed (Split inside within) = ⊥
+  FitsStmt kind closed (Split inside within) = GivesSeveral kind × (within ≡ closed) × FitsBody kind true inside
 
   pub FitsBody : ReturnKind → (closed : Bool) → Body → Type 0
   FitsBody kind closed Done = Unit {0}
@@ -438,7 +438,7 @@ FitsLast kind (IfLet pat read inside) = ⊥
 FitsLast kind (Match read arms) = ⊥
 FitsLast kind (Loop list each inside) = ⊥
 FitsLast kind (Extend read) = ⊥
-FitsLast kind (Overflow within) = ⊥
+FitsLast kind (Overflow within limit) = ⊥
 FitsLast kind (Log term place) = ⊥
 FitsLast kind (Split inside within) = ⊥
 

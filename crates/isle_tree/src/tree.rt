@@ -250,15 +250,16 @@ pub enum Stmt {
     },
     Return(TExpr),
     Extend(Read),
-    /// Stop if the list of results is full.
+    /// Stop if the list of results has reached this length: a closure around it if inside one, or else the function.
     Overflow {
         inside: bool,
+        limit: usize,
     },
     Log {
         term: Text,
         place: Text,
     },
-    /// The body in a closure of its own.
+    /// The body in a closure of its own; if that stops, so does a closure around it if inside one, or else the function.
     Split {
         body: List<Stmt>,
         inside: bool,
@@ -286,7 +287,10 @@ impl Drop for Stmt {
             } => {}
             Stmt::Return(_part0) => {}
             Stmt::Extend(_part0) => {}
-            Stmt::Overflow { inside: _inside } => {}
+            Stmt::Overflow {
+                inside: _inside,
+                limit: _limit,
+            } => {}
             Stmt::Log {
                 term: _term,
                 place: _place,

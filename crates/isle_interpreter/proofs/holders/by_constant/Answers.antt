@@ -1,4 +1,4 @@
-use Rattle.std.proofs.Common.{rules, ◌≡◌, ◌-◌, ◌+◌, arith, ℕ, List, map, drop, ap, ◌∙◌}
+use Rattle.std.proofs.Common.{rules, ◌≡◌, ◌-◌, ◌+◌, ℕ, List, map, drop, ap, ◌∙◌}
 use Rattle.isle_core.specs.ValueViews.{const}
 use Rattle.isle_interpreter.specs.Clashes.{const_in, at_constant}
 use Rattle.isle_interpreter.proofs.HeldSteps.{constants_more}

@@ -1,6 +1,6 @@
 use Rattle.isle_interpreter.proofs.HeldSteps.{variant_pushed, struct_pushed}
 use Rattle.isle_interpreter.specs.Clashes.{name_key}
-use Rattle.std.proofs.Common.{rules, ◌++◌, ap, ◌∙◌}
+use Rattle.std.proofs.Common.{◌++◌, ap, ◌∙◌}
 use Rattle.isle_interpreter.proofs.keys.+keys.Goals as goal
 
 pub push_value-returns-in_ok-push_name-in-Variant-2 : goal.push_value-returns-in_ok-push_name-in-Variant-2

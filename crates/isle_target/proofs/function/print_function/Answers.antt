@@ -15,5 +15,5 @@ returns c =
     (c.in_ok-print_params.ensures ∙ ap (λ t. c.print_head.new.out ++ params_tokens 0 t) c.as_slice.ensures)
     (c.in_ok-print_gives.ensures ∙ ap (λ t. c.print_params.new.out ++ result_part f.kind t) c.as_str-2.ensures)
     (c.in_ok-print_body.ensures ∙ ap (λ t. c.print_gives.new.out ++ body_tokens (body t)) c.as_slice-2.ensures)
-    c.in_ok-mark.ensures
+    c.in_ok-print_close.ensures
     c.line-2.ensures

@@ -17,6 +17,6 @@ returns c =
     let many : length rules ≡ length env.rules = sym (length-map rules rule) ∙ ap (λ xs. length (map rule xs)) c.as_slice-2.ensures in
     IfOk-weaker c.counts_text.result (λ lines. string_bytes lines ≡ counts_text c.tree_counts.result (length rules)) (λ lines. AreCounts c.args.source.now (string_bytes lines))
     (λ lines shown. counts_are c.args.source.now env c.new-options.result p c.tree_counts.result (length rules) (string_bytes lines) c.requires.checked
-    (none_given c.new-options.result c.new-options.ensures.allow c.new-options.ensures.prefixes c.new-options.ensures.logging c.new-options.ensures.split c.new-options.ensures.threshold)
+    (none_given c.new-options.result c.new-options.ensures.allow c.new-options.ensures.prefixes c.new-options.ensures.logging c.new-options.ensures.split c.new-options.ensures.threshold c.new-options.ensures.limit)
     (record { well_formed = c.in_ok-program.ensures.well_formed; frame = c.in_ok-program.ensures.frame; functions = c.in_ok-program.ensures.functions })
     c.tree_counts.ensures many shown) c.counts_text.ensures

@@ -65,32 +65,20 @@ arm_stmt-arm_test-requires t c =
     let seen : arm c.args.arm.now ≡ (x.constraint, c.as_slice-places.result.now, block x.body) = arm-parts c.args.arm.now ∙ ap (λ ps. (x.constraint, ps, block x.body)) (sym c.as_slice-places.ensures) in
     (subst (IsBuiltArm (setting_in c.args.self.now) c.args.bound.now c.args.source) seen c.requires).0
 
-pub arm_stmt-enter-requires : goal.arm_stmt-enter-requires
-arm_stmt-enter-requires t c =
-    let x = out-MatchArm c.args.arm.now in
-    let seen : arm c.args.arm.now ≡ (x.constraint, c.as_slice-places.result.now, block x.body) = arm-parts c.args.arm.now ∙ ap (λ ps. (x.constraint, ps, block x.body)) (sym c.as_slice-places.ensures) in
-    (subst (IsBuiltArm (setting_in c.args.self.now) c.args.bound.now c.args.source) seen c.requires).1
-
 pub arm_stmt-returns-clause-stmt : goal.arm_stmt-returns-clause-stmt
 arm_stmt-returns-clause-stmt t c =
     let e = c.args.self.now in
     let x = out-MatchArm c.args.arm.now in
     let i = body_onto (map stmt c.in_ok-inside.inside.items) (Some Done) in
     let seen : arm c.args.arm.now ≡ (x.constraint, c.as_slice-places.result.now, block x.body) = arm-parts c.args.arm.now ∙ ap (λ ps. (x.constraint, ps, block x.body)) (sym c.as_slice-places.ensures) in
-    arm_made (manner_in e) (setting_in e) c.args.bound.now c.enter.new.bound c.args.source i (Some (stmt c.test_within.result)) c.args.arm.now (x.constraint, c.as_slice-places.result.now, block x.body)
-    seen c.in_ok-enter.ensures.more (c.test_within.ensures ∙ c.in_ok-test.ensures i) (c.in_ok-inside.ensures.stmts (Some Done))
+    arm_made (manner_in e) (setting_in e) c.args.bound.now c.args.source i (Some (stmt c.test_within.result)) c.args.arm.now (x.constraint, c.as_slice-places.result.now, block x.body)
+    seen (c.test_within.ensures ∙ c.in_ok-test.ensures i) c.in_ok-inside.ensures.stmts
 
 pub push_case-arm_pattern-requires : goal.push_case-arm_pattern-requires
 push_case-arm_pattern-requires t c =
     let x = out-MatchArm c.args.arm.now in
     let seen : arm c.args.arm.now ≡ (x.constraint, c.as_slice-places.result.now, block x.body) = arm-parts c.args.arm.now ∙ ap (λ ps. (x.constraint, ps, block x.body)) (sym c.as_slice-places.ensures) in
     (subst (IsBuiltCase (setting_in c.args.self.now) c.args.bound.now) seen c.requires).0
-
-pub push_case-enter-requires : goal.push_case-enter-requires
-push_case-enter-requires t c =
-    let x = out-MatchArm c.args.arm.now in
-    let seen : arm c.args.arm.now ≡ (x.constraint, c.as_slice-places.result.now, block x.body) = arm-parts c.args.arm.now ∙ ap (λ ps. (x.constraint, ps, block x.body)) (sym c.as_slice-places.ensures) in
-    (subst (IsBuiltCase (setting_in c.args.self.now) c.args.bound.now) seen c.requires).1
 
 pub push_case-returns-clause-case : goal.push_case-returns-clause-case
 push_case-returns-clause-case t c =
@@ -99,8 +87,8 @@ push_case-returns-clause-case t c =
     let seen : arm c.args.arm.now ≡ (x.constraint, c.as_slice-places.result.now, block x.body) = arm-parts c.args.arm.now ∙ ap (λ ps. (x.constraint, ps, block x.body)) (sym c.as_slice-places.ensures) in
     let is_pushed : c.push.new.self.items ≡ c.args.out.now.items ++ (c.in_ok-pat.pat, c.in_ok-inside.inside.items) ∷ [] =
     c.in_ok-push.ensures.items ∙ ap (λ ys. c.args.out.now.items ++ (c.in_ok-pat.pat, ys) ∷ []) c.new.ensures in
-    case_pushed (manner_in e) (setting_in e) c.args.bound.now c.enter.new.bound (arm c.args.arm.now) (x.constraint, c.as_slice-places.result.now, block x.body) c.in_ok-pat.pat c.in_ok-inside.inside.items c.args.out.now.items c.push.new.self.items
-    seen c.in_ok-enter.ensures.more c.in_ok-pat.ensures c.in_ok-inside.ensures.stmts is_pushed
+    case_pushed (manner_in e) (setting_in e) c.args.bound.now (arm c.args.arm.now) (x.constraint, c.as_slice-places.result.now, block x.body) c.in_ok-pat.pat c.in_ok-inside.inside.items c.args.out.now.items c.push.new.self.items
+    seen c.in_ok-pat.ensures c.in_ok-inside.ensures.stmts is_pushed
 
 pub arms_stmt-bounds-arms-0 : goal.arms_stmt-bounds-arms-0
 arms_stmt-bounds-arms-0 t c = some_built (setting_in c.args.self.now) c.args.bound.now c.args.source c.args.arms.now c.requires

@@ -1,4 +1,4 @@
-use Rattle.std.proofs.Common.{Some, ap, ◌∙◌}
+use Rattle.std.proofs.Common.{[], Some, ap, ◌∙◌}
 use Rattle.isle_core.specs.BlockViews.{block}
 use Rattle.isle_simulation.specs.TermFunction.{tail_in}
 use Rattle.isle_emission.specs.MadeBodies.{made_body}
@@ -13,3 +13,4 @@ returns c =
     c.in_ok-push_tail.ensures
     ∙ c.in_ok-stmts.ensures.stmts end
     ∙ ap (λ ls. made_body (manner_in c.args.self.now) s ls b end) c.new-bound.ensures
+    ∙ ap (λ x. made_body (record (manner_in c.args.self.now) { inside = x }) s [] b end) c.requires.outside

@@ -1,7 +1,0 @@
-use Rattle.std.proofs.Common.{◌≡◌, drop}
-use Rattle.isle_answers.specs.Views.{forms_seen}
-use Rattle.isle_run_inputs.specs.Returns.{max_returns_at}
-use Rattle.isle_run_inputs.proofs.returns.max_returns_at.Given as goal
-
-abbrev pub invariant-loop-form : goal.invariant-loop-form
-invariant-loop-form l = max_returns_at (forms_seen (drop l.form-index l.fn.forms)) ≡ max_returns_at (forms_seen l.fn.forms)
