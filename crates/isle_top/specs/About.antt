@@ -14,10 +14,10 @@ help_text =
     codes "  isle sample N\n      Compiles a sample of N terms, 1 to 10000, and writes how many functions, rules and matches it has.\n      isle sample 8\n" ++ (
     codes "  isle --help\n      Writes this text.\n      isle --help\n" ++ (
     codes "  isle --version\n      Writes the program's name and version.\n      isle --version\n\n" ++ (
-    codes "OPTION is --no-allow, which leaves the pragmas out; --log, which puts a log line before each result; --prefix P=NAME, which prints\n" ++ (
-    codes "NAME in place of P where the name of a file begins with it; --max-returns N, the length at which the list of a term that answers\n" ++ (
-    codes "several times is full, 100 if none is given; or --split, which puts the statements of such a term's match arms into closures that\n" ++ (
-    codes "weigh more than the N of --threshold N, 256 if none is given: one for each step.\nNo words mean: isle compile first.isle\n")))))))))))))
+    codes "OPTION is --no-allow, which leaves the pragmas out; --log, which puts a log line before each result; --prefix\n" ++ (
+    codes "P=NAME, which prints NAME in place of P where the name of a file begins with it; --max-returns N, the length at\n" ++ (
+    codes "which the list of a term that answers several times is full, 100 if none is given; or --split, which puts each\n" ++ (
+    codes "match arm of such a term that has more steps than the N of --threshold N, 256 if none is given, into a closure.\nNo words mean: isle compile first.isle\n")))))))))))))
 
 -- the program's name and version
 unfoldable pub version_text : List ℕ

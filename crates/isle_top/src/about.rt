@@ -39,10 +39,10 @@ pub fn help() -> &'static str
 \x20     Writes the program's name and version.\n\
 \x20     isle --version\n\
 \n\
-OPTION is --no-allow, which leaves the pragmas out; --log, which puts a log line before each result; --prefix P=NAME, which prints\n\
-NAME in place of P where the name of a file begins with it; --max-returns N, the length at which the list of a term that answers\n\
-several times is full, 100 if none is given; or --split, which puts the statements of such a term's match arms into closures that\n\
-weigh more than the N of --threshold N, 256 if none is given: one for each step.\n\
+OPTION is --no-allow, which leaves the pragmas out; --log, which puts a log line before each result; --prefix\n\
+P=NAME, which prints NAME in place of P where the name of a file begins with it; --max-returns N, the length at\n\
+which the list of a term that answers several times is full, 100 if none is given; or --split, which puts each\n\
+match arm of such a term that has more steps than the N of --threshold N, 256 if none is given, into a closure.\n\
 No words mean: isle compile first.isle\n"
 }
 
