@@ -1,72 +1,72 @@
-use isle_core::{Boxed, List, Pos, Text};
+use isle_core::{Boxed, List, Name, Pos};
 
 /// A definition, in the grammar's shape. Parts that repeat stand in the text's order.
 #[derive(Debug)]
-pub enum Def {
+pub enum Def<'t> {
     TypeDecl {
-        name: Text,
+        name: Name<'t>,
         is_extern: bool,
         is_nodebug: bool,
-        body: AstBody,
+        body: AstBody<'t>,
         pos: Pos,
     },
     Decl {
-        term: Text,
+        term: Name<'t>,
         pure: bool,
         multi: bool,
         partial: bool,
         recursive: bool,
-        args: List<Text>,
-        ret: Text,
+        args: List<Name<'t>>,
+        ret: Name<'t>,
         pos: Pos,
     },
     ExternConstructor {
-        term: Text,
-        func: Text,
+        term: Name<'t>,
+        func: Name<'t>,
         pos: Pos,
     },
     ExternExtractor {
-        term: Text,
-        func: Text,
+        term: Name<'t>,
+        func: Name<'t>,
         infallible: bool,
         pos: Pos,
     },
     /// The name stands without its `$`.
     ExternConst {
-        name: Text,
-        ty: Text,
+        name: Name<'t>,
+        ty: Name<'t>,
         pos: Pos,
     },
     Extractor {
-        term: Text,
-        params: List<Text>,
-        template: AstPattern,
+        term: Name<'t>,
+        params: List<Name<'t>>,
+        template: AstPattern<'t>,
         pos: Pos,
     },
     Converter {
-        from: Text,
-        to: Text,
-        term: Text,
+        from: Name<'t>,
+        to: Name<'t>,
+        term: Name<'t>,
         pos: Pos,
     },
     Rule {
-        name: Option<Text>,
+        name: Option<Name<'t>>,
         prio: i64,
-        term: Text,
-        args: List<AstPattern>,
-        iflets: List<AstIfLet>,
-        rhs: AstExpr,
+        term: Name<'t>,
+        args: List<AstPattern<'t>>,
+        iflets: List<AstIfLet<'t>>,
+        rhs: AstExpr<'t>,
         pos: Pos,
     },
     /// A list that is read and passed over.
     Passed {
-        head: Text,
-        items: List<AstAny>,
+        head: Name<'t>,
+        items: List<AstAny<'t>>,
         pos: Pos,
     },
 }
 
-impl Drop for Def {
+impl<'t> Drop for Def<'t> {
     // Gives up what the variant holds, in one call wherever a value is dropped.
     fn drop(self) {
         match self {
@@ -135,13 +135,13 @@ impl Drop for Def {
 
 /// What a type is declared as.
 #[derive(Debug)]
-pub enum AstBody {
-    Primitive(Text),
-    Enum(List<AstVariant>),
-    Struct(AstFields),
+pub enum AstBody<'t> {
+    Primitive(Name<'t>),
+    Enum(List<AstVariant<'t>>),
+    Struct(AstFields<'t>),
 }
 
-impl Drop for AstBody {
+impl<'t> Drop for AstBody<'t> {
     // Gives up what the variant holds, in one call wherever a value is dropped.
     fn drop(self) {
         match self {
@@ -154,20 +154,20 @@ impl Drop for AstBody {
 
 /// A variant of an enum.
 #[derive(Debug, Drop)]
-pub struct AstVariant {
-    pub name: Text,
-    pub fields: AstFields,
+pub struct AstVariant<'t> {
+    pub name: Name<'t>,
+    pub fields: AstFields<'t>,
 }
 
 /// The fields of a variant or a struct: names with types, or types.
 #[derive(Debug)]
-pub enum AstFields {
+pub enum AstFields<'t> {
     Unit,
-    Named(List<(Text, Text)>),
-    Tuple(List<Text>),
+    Named(List<(Name<'t>, Name<'t>)>),
+    Tuple(List<Name<'t>>),
 }
 
-impl Drop for AstFields {
+impl<'t> Drop for AstFields<'t> {
     // Gives up what the variant holds, in one call wherever a value is dropped.
     fn drop(self) {
         match self {
@@ -180,19 +180,19 @@ impl Drop for AstFields {
 
 /// A pattern.
 #[derive(Debug)]
-pub enum AstPattern {
+pub enum AstPattern<'t> {
     Int(i128),
     Bool(bool),
     /// The name stands without its `$`.
-    Const(Text),
+    Const(Name<'t>),
     Wildcard,
-    Var(Text),
-    Bind(Text, Boxed<AstPattern>),
-    And(List<AstPattern>),
-    Term(Text, List<AstPattern>),
+    Var(Name<'t>),
+    Bind(Name<'t>, Boxed<AstPattern<'t>>),
+    And(List<AstPattern<'t>>),
+    Term(Name<'t>, List<AstPattern<'t>>),
 }
 
-impl Drop for AstPattern {
+impl<'t> Drop for AstPattern<'t> {
     // Gives up what the variant holds, in one call wherever a value is dropped.
     fn drop(self) {
         match self {
@@ -211,26 +211,26 @@ impl Drop for AstPattern {
 /// An expression.
 #[cycle(expr)]
 #[derive(Debug)]
-pub enum AstExpr {
+pub enum AstExpr<'t> {
     Int(i128),
     Bool(bool),
     /// The name stands without its `$`.
-    Const(Text),
-    Var(Text),
-    Let(List<AstLet>, Boxed<AstExpr>),
-    Term(Text, List<AstExpr>),
+    Const(Name<'t>),
+    Var(Name<'t>),
+    Let(List<AstLet<'t>>, Boxed<AstExpr<'t>>),
+    Term(Name<'t>, List<AstExpr<'t>>),
 }
 
 /// A variable of a `let`, with its type and its value.
 #[cycle(expr)]
 #[derive(Debug)]
-pub struct AstLet {
-    pub var: Text,
-    pub ty: Text,
-    pub val: AstExpr,
+pub struct AstLet<'t> {
+    pub var: Name<'t>,
+    pub ty: Name<'t>,
+    pub val: AstExpr<'t>,
 }
 
-impl Drop for AstExpr {
+impl<'t> Drop for AstExpr<'t> {
     #[cycle(dropping)]
     fn drop(self) {
         match self {
@@ -244,7 +244,7 @@ impl Drop for AstExpr {
     }
 }
 
-impl Drop for AstLet {
+impl<'t> Drop for AstLet<'t> {
     #[cycle(dropping)]
     fn drop(self) {
         let AstLet {
@@ -257,22 +257,22 @@ impl Drop for AstLet {
 
 /// A condition of a rule. An `(if E)` has the pattern `Wildcard`.
 #[derive(Debug, Drop)]
-pub struct AstIfLet {
-    pub lhs: AstPattern,
-    pub rhs: AstExpr,
+pub struct AstIfLet<'t> {
+    pub lhs: AstPattern<'t>,
+    pub rhs: AstExpr<'t>,
 }
 
 /// What may stand in a list that is passed over.
 #[derive(Debug)]
-pub enum AstAny {
-    Word(Text),
+pub enum AstAny<'t> {
+    Word(Name<'t>),
     At,
     Less,
     Greater,
-    List(List<AstAny>),
+    List(List<AstAny<'t>>),
 }
 
-impl Drop for AstAny {
+impl<'t> Drop for AstAny<'t> {
     // Gives up what the variant holds, in one call wherever a value is dropped.
     fn drop(self) {
         match self {

@@ -14,7 +14,7 @@ use Rattle.isle_core.proofs.Contained.{head_contained, contained_cases, none_con
 use Rattle.isle_checks.specs.Bears.{Constraints, IsOther, HasOther, Agree, IsAmong, AreAmong}
 use Rattle.isle_checks.specs.Makes.{Overlap, Shadow}
 use Rattle.isle_checks.specs.RuleChecks.{Overlaps, EquatesNone, Shadows}
-use Rattle.isle_checks.proofs.ApartLaws.{other_among, agree_at, among_at}
+use Rattle.isle_checks.proofs.BearLaws.{other_among, agree_at, among_at}
 use Rattle.isle_checks.proofs.FlatTests.{IsReady, somewhere, same_binding, bears, tested_by}
 
 -- the other constraint

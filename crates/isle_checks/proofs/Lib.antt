@@ -2,9 +2,10 @@ pub mod MakerLaws
 pub mod FoundLaws
 pub mod FindLaws
 pub mod PlacedLaws
-pub mod SideLaws
-pub mod ApartLaws
+pub mod BearLaws
+pub mod ListLaws
 pub mod WithinLaws
+pub mod MaskLaws
 pub mod FirstLaws
 pub mod FlatTests
 pub mod CheckLaws

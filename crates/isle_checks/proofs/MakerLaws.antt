@@ -7,7 +7,7 @@ use Rattle.isle_core.proofs.Contained.{contained_cases, none_contained}
 use Rattle.isle_checks.specs.declared.placed.Check.{Check}
 use Rattle.isle_checks.specs.declared.placed.Placed.{Placed}
 use Rattle.isle_checks.specs.Makes.{Makes}
-use Rattle.isle_checks.specs.Sides.{Rises}
+use Rattle.isle_checks.specs.Lists.{Rises}
 use Rattle.isle_checks.specs.Firsts.{IsFirstMaker}
 
 -- what holds of each item holds of one

@@ -7,7 +7,7 @@ use Rattle.isle_core.specs.declared.rule_sets.FlatRule.{FlatRule}
 use Rattle.isle_core.proofs.Contained.{head_contained, contained_cases, none_contained}
 use Rattle.isle_core.proofs.OptionLaws.{some_same}
 use Rattle.isle_checks.specs.declared.placed.Placed.{Placed}
-use Rattle.isle_checks.specs.Sides.{Rises}
+use Rattle.isle_checks.specs.Lists.{Rises}
 use Rattle.isle_checks.specs.Firsts.{ArePlaced}
 
 -- one is the only one

@@ -1,5 +1,5 @@
 -- Which constraints a rule of a rule set bears on which bindings.
-use Rattle.std.specs.Prelude.{◌≡◌, ◌⊎◌, List, [], ◌∷◌, Option, Some, None}
+use Rattle.std.specs.Prelude.{◌≡◌, ◌⊎◌, List, [], ◌∷◌}
 use Rattle.isle_core.specs.declared.BindingId.{BindingId}
 use Rattle.isle_core.specs.declared.rule_sets.Constraint.{Constraint}
 
@@ -30,13 +30,3 @@ IsAmong (x ∷ xs) y = (x ≡ y) ⊎ IsAmong xs y
 abbrev pub AreAmong : (some all : Constraints) → Type 0
 AreAmong [] all = Unit {0}
 AreAmong (x ∷ xs) all = IsAmong all x × AreAmong xs all
-
--- the one constraint on a binding, if it is the only one there
-pub record IsSole (xs : Constraints) (b : BindingId) (c : Constraint) : Type 0 where
-  pub found : IsAmong xs (b, c)
-  pub alone : HasOther xs b c → ⊥
-
--- so of one that may be there
-abbrev pub MaySole : Constraints → BindingId → Option Constraint → Type 0
-MaySole xs b None = Unit {0}
-MaySole xs b (Some c) = IsSole xs b c

@@ -4,7 +4,7 @@ use Rattle.isle_core.specs.declared.rule_sets.FlatRule.{FlatRule}
 use Rattle.isle_checks.specs.declared.placed.Check.{Check}
 use Rattle.isle_checks.specs.declared.placed.Placed.{Placed}
 use Rattle.isle_checks.specs.Makes.{Makes, MakesAt}
-use Rattle.isle_checks.specs.Sides.{Rises}
+use Rattle.isle_checks.specs.Lists.{Rises}
 
 -- of each rule the place of a rule that makes an error of it, if one was found
 abbrev pub Found : Type 0

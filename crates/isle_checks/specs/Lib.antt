@@ -2,7 +2,9 @@ pub mod Bears
 pub mod Makes
 pub mod Joined
 pub mod Classes
-pub mod Sides
+pub mod Lists
+pub mod Splitter
+pub mod Masks
 pub mod Firsts
 pub mod RuleChecks
 pub mod CheckList

@@ -1,7 +1,7 @@
 //! Which constraints a rule bears on which bindings.
 
 ghost use Rattle.std.specs.Prelude.{◌≡◌, ◌↔◌, IsTrue, IfSome};
-ghost use Rattle.isle_checks.specs.Bears.{IsOther, HasOther, Agree, IsAmong, AreAmong, MaySole};
+ghost use Rattle.isle_checks.specs.Bears.{IsOther, HasOther, Agree, IsAmong, AreAmong};
 
 use isle_core::{BindingId, Constraint};
 
@@ -71,8 +71,8 @@ pub fn are_among(some: &[(BindingId, Constraint)], all: &[(BindingId, Constraint
     true
 }
 
-// The first constraint on a binding.
-fn first_on(constraints: &[(BindingId, Constraint)], binding: BindingId) -> Option<Constraint>
+/// Returns the first constraint on a binding.
+pub fn first_on(constraints: &[(BindingId, Constraint)], binding: BindingId) -> Option<Constraint>
     ensures { IfSome result (λ c. IsAmong constraints.now (binding, c)) }
 {
     for x in constraints {
@@ -81,15 +81,4 @@ fn first_on(constraints: &[(BindingId, Constraint)], binding: BindingId) -> Opti
         }
     }
     None
-}
-
-/// Returns the constraint on a binding, if it is the only one there.
-pub fn sole(constraints: &[(BindingId, Constraint)], binding: BindingId) -> Option<Constraint>
-    ensures { MaySole constraints.now binding result }
-{
-    let first = first_on(constraints, binding)?;
-    if has_other(constraints, binding, first) {
-        return None;
-    }
-    Some(first)
 }

@@ -1,12 +1,12 @@
 //! The first rule that makes an error of each rule.
 
-ghost use Rattle.std.specs.Prelude.{◌≡◌, ◌≤◌, ◌<◌, length, min, replicate, None, IfOk, OnOk};
-ghost use Rattle.isle_checks.specs.Sides.{Rises};
-ghost use Rattle.isle_checks.specs.Firsts.{earlier, AreFirstMakers, AreFirstsOfTerm, ArePlaced, AreBelow};
-ghost use Rattle.isle_checks.specs.Firsts.{Finds, IsFirstMaker, NotesFirst};
+ghost use Rattle.std.specs.Prelude.{◌≡◌, length, replicate, None, IfOk, OnOk};
+ghost use Rattle.isle_checks.specs.Lists.{Rises};
+ghost use Rattle.isle_checks.specs.Firsts.{AreFirstMakers, AreFirstsOfTerm, ArePlaced, AreBelow, Finds};
 
+use crate::masks::note_masks;
 use crate::placed::{Check, Placed};
-use crate::splitter::{Parts, choose};
+use crate::within::within;
 use isle_core::FlatRule;
 use std::alloc::{AllocError, Global};
 
@@ -21,63 +21,8 @@ fn placed(alloc: Global, rules: &[FlatRule]) -> Result<Vec<Placed<'_>>, AllocErr
     Ok(group)
 }
 
-// The place of the first rule that makes an error of a rule.
-fn first_maker<'a>(check: Check, makers: &[Placed<'a>], other: &Placed<'a>) -> Option<usize>
-    requires { Rises makers.now }
-    ensures { IsFirstMaker check makers.now other.now result }
-{
-    for maker in makers {
-        if check.makes(maker, other) {
-            return Some(maker.place);
-        }
-    }
-    None
-}
-
-// The earlier of two places.
-fn earlier(found: Option<usize>, place: usize) -> usize
-    ensures { result ≡ earlier found place }
-{
-    match found {
-        Some(before) => before.min(place),
-        None => place,
-    }
-}
-
-// Notes the first of these that makes an error of a rule.
-fn note_first<'a>(
-    check: Check,
-    makers: &[Placed<'a>],
-    other: &Placed<'a>,
-    found: &mut Vec<Option<usize>>,
-)
-    requires rise { Rises makers.now }
-    requires below { other.now.place < length found.old.items }
-    ensures { NotesFirst check makers.now other.now found.old.items found.new.items }
-{
-    if let Some(place) = first_maker(check, makers, other) {
-        found[other.place] = Some(earlier(found[other.place], place));
-    }
-}
-
-// Compares each rule with these.
-fn compare<'a>(
-    check: Check,
-    makers: &[Placed<'a>],
-    others: &[Placed<'a>],
-    found: &mut Vec<Option<usize>>,
-)
-    requires rise { Rises makers.now }
-    requires below { AreBelow (length found.old.items) others.now }
-    ensures { Finds check makers.now others.now found.old.items found.new.items }
-{
-    for other in others {
-        note_first(check, makers, other, found);
-    }
-}
-
-// Compares the rules of a group with each other; those that are told apart are not compared.
-fn within<'a>(
+// Notes for each rule of a group the first one of it that makes an error of it.
+fn note<'a>(
     alloc: Global,
     check: Check,
     group: &[Placed<'a>],
@@ -87,21 +32,10 @@ fn within<'a>(
     requires below { AreBelow (length found.old.items) group.now }
     ensures { OnOk result (Finds check group.now group.now found.old.items found.new.items) }
 {
-    let Some(splitter) = choose(alloc, check, group)? else {
-        compare(check, group, group, found);
-        return Ok(());
-    };
-    let parts = Parts::new(alloc, &splitter, group)?;
-    if !parts.are_smaller(group.len()) {
-        compare(check, group, group, found);
-        return Ok(());
+    match check {
+        Check::Overlaps => within(alloc, group, found),
+        Check::Shadows => note_masks(alloc, group, found),
     }
-    within(alloc, check, parts.less.as_slice(), found)?;
-    within(alloc, check, parts.same.as_slice(), found)?;
-    within(alloc, check, parts.more.as_slice(), found)?;
-    compare(check, parts.rest.as_slice(), group, found);
-    compare(check, group, parts.rest.as_slice(), found);
-    Ok(())
 }
 
 // As many places, of which none is found.
@@ -121,7 +55,7 @@ fn firsts(alloc: Global, check: Check, rules: &[FlatRule]) -> Result<Vec<Option<
 {
     let group = placed(alloc, rules)?;
     let mut found = none_found(alloc, rules.len())?;
-    within(alloc, check, group.as_slice(), &mut found)?;
+    note(alloc, check, group.as_slice(), &mut found)?;
     Ok(found)
 }
 

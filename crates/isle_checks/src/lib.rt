@@ -6,12 +6,16 @@ mod bears;
 mod classes;
 mod errors;
 mod firsts;
+mod lists;
+mod masks;
 mod names;
+mod notes;
 pub mod overlap;
 mod placed;
 pub mod recursion;
 mod splitter;
 mod unreachable;
 mod uses;
+mod within;
 
 pub use overlap::CheckError;

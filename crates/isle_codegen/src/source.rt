@@ -18,7 +18,7 @@ use std::alloc::Global;
 /// Parses the files' texts, and returns their definitions, one text after the other. There are as many names as texts.
 /// `Errors` comes exactly where a text goes wrong, and reports the place of the first that does (`specs/Errors.antt`);
 /// beside it only want of memory.
-pub fn parse_files(alloc: Global, files: &Files) -> Result<Vec<Def>, CompileError>
+pub fn parse_files<'t>(alloc: Global, files: &'t Files) -> Result<Vec<Def<'t>>, CompileError>
     requires { length files.now.file_texts ≡ length files.now.file_names }
     ensures ok { IfOk result (λ read. Source 0 files.now.file_texts (defs read.items)) }
     ensures once { IfOk result (λ read.
@@ -36,7 +36,7 @@ pub fn parse_files(alloc: Global, files: &Files) -> Result<Vec<Def>, CompileErro
 
 /// Parses the texts, and returns their definitions, one text after the other (`specs/Source.antt`). `At` comes exactly
 /// where one goes wrong, and reports the place of the first that does; beside it only want of memory.
-pub fn parse_all(alloc: Global, texts: &[Text]) -> Result<Vec<Def>, ParseFail>
+pub fn parse_all<'t>(alloc: Global, texts: &'t [Text]) -> Result<Vec<Def<'t>>, ParseFail>
     ensures ok { IfOk result (λ read. Source 0 texts.now (defs read.items)) }
     ensures once { IfOk result (λ read.
         (others : ListOf PureDef) → Source 0 texts.now others → others ≡ defs read.items) }

@@ -23,7 +23,7 @@ pub use external_sig::{extractor_kind, kind_of};
 pub use fields::{field_count, numbered};
 pub use files::Files;
 pub use isle_base::{
-    BindingId, Boxed, FieldId, List, RuleId, Sym, TermId, Text, TupleIndex, TypeId, VarId,
+    BindingId, Boxed, FieldId, List, Name, RuleId, Sym, TermId, Text, TupleIndex, TypeId, VarId,
     VariantId,
 };
 pub use isle_outside::{

@@ -9,3 +9,6 @@ pub mod DeclaredNames
 pub mod FuncNumbers
 pub mod ExtractorNumbers
 pub mod TermNames
+pub mod SlotLaws
+pub mod WindowLaws
+pub mod DistinctTables

@@ -1,16 +1,13 @@
 -- The first place of each name, after one more is added.
 use Rattle.std.proofs.Common.{◌≡◌, ℕ, suc, ◌+◌, Bool, true, false, cond, List, [], ◌∷◌, ◌++◌, length, Option, Some, None, refl, sym, ap, ◌∙◌, arith, subst}
 use Rattle.std.specs.Prelude.{option_map, is_some}
-use Rattle.std.specs.Str.{bytes_eq}
-use Rattle.std.specs.BTreeMap.{BTreeMap, UpdatesBy}
-use Rattle.std.specs.Cmp.Lexicographic.{slice_cmp}
-use Rattle.std.specs.Ordering.{nat_cmp}
 use Rattle.std.proofs.lemmas.List.{map-append, length-map}
-use Rattle.std.proofs.lemmas.Map.Text.{btree_map_updates_str}
 use denote.Ref.{Bor}
 use Rattle.isle_declarations.specs.Symbols.{index_of, added}
-use Rattle.isle_declarations.specs.LookedUp.{texts, at_name, FindsFirst}
-use Rattle.isle_declarations.proofs.SymbolLaws.{index_of_more, index_of_new, none_of}
+use Rattle.isle_declarations.specs.LookedUp.{texts}
+use Rattle.isle_declarations.specs.Slots.{Overflow, PutsName, found_place, Places, AreDistinct, IsTable}
+use Rattle.isle_declarations.proofs.SymbolLaws.{index_of_new}
+use Rattle.isle_declarations.proofs.DistinctTables.{distinct_more}
 
 -- a place, or else this one if it is the name's
 abbrev pub or_at : Option ℕ → Bool → ℕ → Option ℕ
@@ -27,37 +24,42 @@ after_first true here o rest end h = refl
 after_first false here (Some n) rest end h = ap (option_map (λ (n : ℕ). n + 1)) h
 after_first false here None rest end h = ap (option_map (λ (n : ℕ). n + 1)) h ∙ or_later here end
 
-at_end : (names : List (List ℕ)) (new name : List ℕ) → index_of (names ++ new ∷ []) name ≡ or_at (index_of names name) (bytes_eq new name) (length names)
-at_end [] new name = refl
-at_end (first ∷ names) new name = after_first (bytes_eq first name) (bytes_eq new name) (index_of names name) (index_of (names ++ new ∷ []) name) (length names) (at_end names new name)
+-- ---- the names of code with one more
 
--- one that is not is placed at the end
-pub places_added : (names : List (List ℕ)) (old new : BTreeMap (Bor (List ℕ)) ℕ) (key : Bor (List ℕ)) (place : ℕ) → FindsFirst names old → at_name old key.now ≡ None → place ≡ length names
-    → UpdatesBy (λ (x y : Bor (List ℕ)). slice_cmp nat_cmp x.now y.now) (λ (k : Bor (List ℕ)). slice_cmp nat_cmp key.now k.now) old new (Some place)
-    → FindsFirst (names ++ key.now ∷ []) new
-places_added names old new key place were absent is updates = record {
-  finds = λ name.
-      btree_map_updates_str key.now old new (Some place) updates name
-      ∙ rw (is, were.finds name) (sym (index_of_more names key.now name (sym (were.finds key.now) ∙ absent)));
-}
+-- their texts
+more_texts : (names more : List (Bor (List ℕ))) (key : Bor (List ℕ)) → more ≡ names ++ key ∷ [] → texts more ≡ texts names ++ key.now ∷ []
+more_texts names more key pushed = ap texts pushed ∙ map-append (λ (n : Bor (List ℕ)). n.now) names (key ∷ [])
 
--- ---- the same of code's names
+-- one that is not found is new
+pub new_name : (names seen : List (Bor (List ℕ))) (name : List ℕ) (slots : List ℕ) (overflow : Overflow) (found : Option ℕ)
+    → seen ≡ names → Places (texts names) slots overflow → found ≡ found_place slots overflow (texts seen) name → found ≡ None
+    → index_of (texts names) name ≡ None
+new_name names seen name slots overflow found same were is none =
+    sym (were.finds name) ∙ ap (λ ns. found_place slots overflow (texts ns) name) (sym same) ∙ sym is ∙ none
 
-pub placed : (names more : List (Bor (List ℕ))) (old new : BTreeMap (Bor (List ℕ)) ℕ) (key : Bor (List ℕ)) (place : ℕ) → more ≡ names ++ key ∷ [] → FindsFirst (texts names) old → is_some (at_name old key.now) ≡ false → place ≡ length names
-    → UpdatesBy (λ (x y : Bor (List ℕ)). slice_cmp nat_cmp x.now y.now) (λ (k : Bor (List ℕ)). slice_cmp nat_cmp key.now k.now) old new (Some place)
-    → FindsFirst (texts more) new
-placed names more old new key place added were absent is updates =
-    subst (λ ns. FindsFirst ns new) (sym (ap texts added ∙ map-append (λ (n : Bor (List ℕ)). n.now) names (key ∷ [])))
-    (places_added (texts names) old new key place were (none_of (at_name old key.now) absent) (is ∙ sym (length-map names (λ (n : Bor (List ℕ)). n.now))) updates)
+-- they are a table if it is put there
+pub tabled : (names more : List (Bor (List ℕ))) (key : Bor (List ℕ)) (place : ℕ) (slots slots' : List ℕ) (overflow overflow' : Overflow)
+    → more ≡ names ++ key ∷ [] → AreDistinct (texts names) → Places (texts names) slots overflow
+    → index_of (texts names) key.now ≡ None → place ≡ length names
+    → PutsName place key.now slots overflow slots' overflow'
+    → IsTable (texts more) slots' overflow'
+tabled names more key place slots slots' overflow overflow' pushed distinct were absent is put =
+    subst (λ ns. IsTable ns slots' overflow') (sym (more_texts names more key pushed))
+    (record {
+      distinct = distinct_more (texts names) key.now distinct absent;
+      placed = put (texts names) (length-map names (λ (n : Bor (List ℕ)). n.now) ∙ sym is) absent were;
+    })
 
 -- its place is the last
-pub placed_last : (names more : List (Bor (List ℕ))) (old : BTreeMap (Bor (List ℕ)) ℕ) (key : Bor (List ℕ)) (place : ℕ) → more ≡ names ++ key ∷ [] → FindsFirst (texts names) old → is_some (at_name old key.now) ≡ false → place ≡ length names
+pub placed_last : (names more : List (Bor (List ℕ))) (key : Bor (List ℕ)) (place : ℕ) → more ≡ names ++ key ∷ []
+    → index_of (texts names) key.now ≡ None → place ≡ length names
     → index_of (texts more) key.now ≡ Some place
-placed_last names more old key place added were absent is =
-    ap (λ ns. index_of ns key.now) (ap texts added ∙ map-append (λ (n : Bor (List ℕ)). n.now) names (key ∷ []))
-    ∙ index_of_new (texts names) key.now (sym (were.finds key.now) ∙ none_of (at_name old key.now) absent) ∙ ap Some (length-map names (λ (n : Bor (List ℕ)). n.now) ∙ sym is)
+placed_last names more key place pushed absent is =
+    ap (λ ns. index_of ns key.now) (more_texts names more key pushed)
+    ∙ index_of_new (texts names) key.now absent ∙ ap Some (length-map names (λ (n : Bor (List ℕ)). n.now) ∙ sym is)
 
 -- and the names are those with one more
-pub placed_added : (names more : List (Bor (List ℕ))) (old : BTreeMap (Bor (List ℕ)) ℕ) (key : Bor (List ℕ)) → more ≡ names ++ key ∷ [] → FindsFirst (texts names) old → is_some (at_name old key.now) ≡ false → texts more ≡ added (texts names) key.now
-placed_added names more old key is were absent =
-    ap texts is ∙ map-append (λ (n : Bor (List ℕ)). n.now) names (key ∷ []) ∙ sym (ap (λ b. cond b (texts names) (texts names ++ key.now ∷ [])) (ap is_some (sym (were.finds key.now)) ∙ absent))
+pub placed_added : (names more : List (Bor (List ℕ))) (key : Bor (List ℕ)) → more ≡ names ++ key ∷ []
+    → index_of (texts names) key.now ≡ None → texts more ≡ added (texts names) key.now
+placed_added names more key pushed absent =
+    more_texts names more key pushed ∙ sym (ap (λ b. cond b (texts names) (texts names ++ key.now ∷ [])) (ap is_some absent))

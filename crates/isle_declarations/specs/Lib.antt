@@ -11,3 +11,5 @@ pub mod Numbered
 pub mod Collected
 pub mod Tables
 pub mod TermViews
+pub mod Hashing
+pub mod Slots

@@ -5,52 +5,52 @@ ghost use Rattle.isle_declarations.specs.Collected.{item_signatures, item_extern
 
 use crate::symbols::Symbols;
 use isle_ast::{AstExpr, AstIfLet, AstPattern};
-use isle_core::{Pos, Text};
+use isle_core::{Name, Pos};
 use std::alloc::AllocError;
 
 /// A declaration, and the number of its name.
 #[derive(Clone, Copy)]
-pub struct Signature<'d> {
+pub struct Signature<'b, 'd> {
     pub number: usize,
-    pub term: &'d Text,
+    pub term: &'b Name<'d>,
     pub pure: bool,
     pub multi: bool,
     pub partial: bool,
     pub recursive: bool,
-    pub args: &'d [Text],
-    pub ret: &'d Text,
+    pub args: &'b [Name<'d>],
+    pub ret: &'b Name<'d>,
     pub pos: Pos,
 }
 
 /// An external constructor: its term and its function, with their numbers.
 #[derive(Clone, Copy)]
-pub struct Extern<'d> {
+pub struct Extern<'b, 'd> {
     pub number: usize,
-    pub term: &'d Text,
+    pub term: &'b Name<'d>,
     pub func_number: usize,
-    pub func: &'d Text,
+    pub func: &'b Name<'d>,
 }
 
 /// How an extractor takes values apart: by a function, with its number, which may always answer, or by a template.
 #[derive(Clone, Copy)]
-pub enum Extracting<'d> {
+pub enum Extracting<'b, 'd> {
     Function {
         func_number: usize,
-        func: &'d Text,
+        func: &'b Name<'d>,
         infallible: bool,
     },
     Template {
-        params: &'d [Text],
-        template: &'d AstPattern,
+        params: &'b [Name<'d>],
+        template: &'b AstPattern<'d>,
     },
 }
 
 /// An extractor of either kind, and the number of its term.
 #[derive(Clone, Copy)]
-pub struct ExtractorDef<'d> {
+pub struct ExtractorDef<'b, 'd> {
     pub number: usize,
-    pub term: &'d Text,
-    pub by: Extracting<'d>,
+    pub term: &'b Name<'d>,
+    pub by: Extracting<'b, 'd>,
     pub pos: Pos,
 }
 
@@ -63,44 +63,44 @@ pub enum KnownExtractor {
 
 /// A rule, and the number of its term's name.
 #[derive(Clone, Copy)]
-pub struct RuleDef<'d> {
-    pub name: Option<&'d Text>,
+pub struct RuleDef<'b, 'd> {
+    pub name: Option<&'b Name<'d>>,
     pub prio: i64,
     pub number: usize,
-    pub term: &'d Text,
-    pub args: &'d [AstPattern],
-    pub iflets: &'d [AstIfLet],
-    pub rhs: &'d AstExpr,
+    pub term: &'b Name<'d>,
+    pub args: &'b [AstPattern<'d>],
+    pub iflets: &'b [AstIfLet<'d>],
+    pub rhs: &'b AstExpr<'d>,
     pub pos: Pos,
 }
 
 /// What a definition is.
 #[derive(Clone, Copy)]
-pub enum Item<'d> {
-    Declared(Signature<'d>),
-    External(Extern<'d>),
-    Extractor(ExtractorDef<'d>),
-    Rule(RuleDef<'d>),
+pub enum Item<'b, 'd> {
+    Declared(Signature<'b, 'd>),
+    External(Extern<'b, 'd>),
+    Extractor(ExtractorDef<'b, 'd>),
+    Rule(RuleDef<'b, 'd>),
     Other,
 }
 
 /// Definitions by their kinds, in order, and the names that stand in them.
 #[derive(Drop)]
-pub struct Definitions<'d> {
-    pub symbols: Symbols<'d>,
-    pub signatures: Vec<Signature<'d>>,
-    pub externs: Vec<Extern<'d>>,
-    pub extractors: Vec<ExtractorDef<'d>>,
-    pub rules: Vec<RuleDef<'d>>,
+pub struct Definitions<'b, 'd> {
+    pub symbols: Symbols<'b>,
+    pub signatures: Vec<Signature<'b, 'd>>,
+    pub externs: Vec<Extern<'b, 'd>>,
+    pub extractors: Vec<ExtractorDef<'b, 'd>>,
+    pub rules: Vec<RuleDef<'b, 'd>>,
 }
 
 /// Keeps one item more. The only error is want of memory.
-pub fn keep<'d>(
-    signatures: &mut Vec<Signature<'d>>,
-    externs: &mut Vec<Extern<'d>>,
-    extractors: &mut Vec<ExtractorDef<'d>>,
-    rules: &mut Vec<RuleDef<'d>>,
-    item: Item<'d>,
+pub fn keep<'b, 'd>(
+    signatures: &mut Vec<Signature<'b, 'd>>,
+    externs: &mut Vec<Extern<'b, 'd>>,
+    extractors: &mut Vec<ExtractorDef<'b, 'd>>,
+    rules: &mut Vec<RuleDef<'b, 'd>>,
+    item: Item<'b, 'd>,
 ) -> Result<(), AllocError>
     ensures signatures { OnOk result
         (signatures.new.items ≡ signatures.old.items ++ item_signatures item.entry) }

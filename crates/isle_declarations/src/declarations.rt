@@ -23,18 +23,19 @@ use std::marker::Model;
 /// The declarations, external constructors, extractors, and rules of definitions, with the numbers of their names.
 /// Contracts see the definitions.
 #[derive(Drop)]
-pub struct Declarations<'d> {
-    defs: &'d [Def],
-    given: Definitions<'d>,
+pub struct Declarations<'b, 'd> {
+    defs: &'b [Def<'d>],
+    given: Definitions<'b, 'd>,
     declared: FirstPlaces,
     external: FirstPlaces,
     extracting: FirstPlaces,
     ruled: FirstPlaces,
 }
 
-impl<'d> Model for Declarations<'d> {
+impl<'b, 'd> Model for Declarations<'b, 'd> {
     ghost use Rattle.std.specs.Prelude.{List};
     ghost use Rattle.std.specs.Coded.{codes};
+    ghost use denote.Signature.{static_lft};
     ghost use Rattle.isle_ast.specs.contracts.tree.Def as d;
     ghost use Rattle.isle_ast.specs.declared.tree.Def.{Def};
     ghost use Rattle.isle_ast.specs.Views.{defs as seen};
@@ -42,7 +43,7 @@ impl<'d> Model for Declarations<'d> {
 
     ghost Value = { List Def };
 
-    ghost coded = { Prim.hlevel (codes, d.the_row.coded) };
+    ghost coded = { Prim.hlevel (codes, (d.the_row static_lft).coded) };
 
     ghost view = { λ k. k.defs.now };
 
@@ -67,13 +68,13 @@ fn known_by(by: Extracting) -> KnownExtractor
     }
 }
 
-impl<'d> Declarations<'d> {
+impl<'b, 'd> Declarations<'b, 'd> {
     /// Gathers what is declared in definitions, whose types make these terms. The only error is want of memory.
     pub fn gather(
         alloc: Global,
-        defs: &'d [Def],
-        made: &'d [List<Text>],
-    ) -> Result<Declarations<'d>, AllocError>
+        defs: &'b [Def<'d>],
+        made: &'b [List<Text>],
+    ) -> Result<Declarations<'b, 'd>, AllocError>
         requires { made.now ≡ map made_of (seen defs.now) }
         ensures { IfOk result (λ found. found ≡ defs.now) }
     {
@@ -93,7 +94,7 @@ impl<'d> Declarations<'d> {
     }
 
     /// Returns the definitions.
-    pub fn defs(&self) -> &'d [Def]
+    pub fn defs(&self) -> &'b [Def<'d>]
         ensures { result.now ≡ self.now }
     {
         self.defs
@@ -114,14 +115,14 @@ impl<'d> Declarations<'d> {
     }
 
     /// Returns the number of a name, if it is a symbol.
-    pub fn number(&self, name: &Text) -> Option<usize>
+    pub fn number(&self, name: &str) -> Option<usize>
         ensures { result ≡ index_of (symbols (seen self.now)) name.now }
     {
-        self.given.symbols.find(name.as_str())
+        self.given.symbols.find(name)
     }
 
     /// Returns the symbol of a name; of one that is none, the first.
-    pub fn sym(&self, name: &Text) -> Sym
+    pub fn sym(&self, name: &str) -> Sym
         ensures { result ≡ sym_of (symbols (seen self.now)) name.now }
     {
         match self.number(name) {
@@ -131,28 +132,28 @@ impl<'d> Declarations<'d> {
     }
 
     /// Returns the declarations, in order.
-    pub fn signatures(&self) -> &[Signature<'d>]
+    pub fn signatures(&self) -> &[Signature<'b, 'd>]
         ensures { AreSignatures (seen self.now) result.now }
     {
         self.given.signatures.as_slice()
     }
 
     /// Returns the external constructors, in order.
-    pub fn externs(&self) -> &[Extern<'d>]
+    pub fn externs(&self) -> &[Extern<'b, 'd>]
         ensures { AreExterns (seen self.now) result.now }
     {
         self.given.externs.as_slice()
     }
 
     /// Returns the extractors, in order.
-    pub fn extractors(&self) -> &[ExtractorDef<'d>]
+    pub fn extractors(&self) -> &[ExtractorDef<'b, 'd>]
         ensures { AreExtractors (seen self.now) result.now }
     {
         self.given.extractors.as_slice()
     }
 
     /// Returns the rules, in order.
-    pub fn rules(&self) -> &[RuleDef<'d>]
+    pub fn rules(&self) -> &[RuleDef<'b, 'd>]
         ensures { AreRules (seen self.now) result.now }
     {
         self.given.rules.as_slice()

@@ -14,7 +14,7 @@ use std::alloc::AllocError;
 /// The names in an expression, a call's own before those of its arguments. The only error is want of memory.
 #[cycle(names)]
 #[tactic(auto, using(isle_ast::proofs::Sees::expr_sees))]
-pub fn intern_expr<'d>(names: &mut Symbols<'d>, e: &'d AstExpr) -> Result<(), AllocError>
+pub fn intern_expr<'b, 'd>(names: &mut Symbols<'b>, e: &'b AstExpr<'d>) -> Result<(), AllocError>
     ensures { OnOk result (names.new ≡ fold added names.old (expr_names (expr e.now))) }
 {
     match e {
@@ -35,7 +35,7 @@ pub fn intern_expr<'d>(names: &mut Symbols<'d>, e: &'d AstExpr) -> Result<(), Al
 
 // The names in expressions, in order.
 #[cycle(names)]
-fn intern_exprs<'d>(names: &mut Symbols<'d>, es: &'d [AstExpr]) -> Result<(), AllocError>
+fn intern_exprs<'b, 'd>(names: &mut Symbols<'b>, es: &'b [AstExpr<'d>]) -> Result<(), AllocError>
     ensures { OnOk result
         (names.new ≡ fold added names.old (exprs_names (exprs_of (map expr es.now)))) }
 {
@@ -47,7 +47,7 @@ fn intern_exprs<'d>(names: &mut Symbols<'d>, es: &'d [AstExpr]) -> Result<(), Al
 
 // The names in variables of a `let`: of each its own, its type's, and those in its value.
 #[cycle(names)]
-fn intern_lets<'d>(names: &mut Symbols<'d>, lets: &'d [AstLet]) -> Result<(), AllocError>
+fn intern_lets<'b, 'd>(names: &mut Symbols<'b>, lets: &'b [AstLet<'d>]) -> Result<(), AllocError>
     ensures { OnOk result
         (names.new ≡ fold added names.old (lets_names (lets_of (map binding lets.now)))) }
 {

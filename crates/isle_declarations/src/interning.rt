@@ -14,34 +14,34 @@ use crate::collected::{
 use crate::pattern_interning::intern_pattern;
 use crate::rule_interning::intern_rule;
 use crate::symbols::Symbols;
-use crate::text_interning::{intern, intern_lists, intern_texts};
+use crate::text_interning::{intern, intern_lists, intern_names};
 use crate::type_interning::intern_body;
 use isle_ast::{AstBody, AstPattern, Def};
-use isle_core::{List, Text};
+use isle_core::{List, Name, Text};
 use std::alloc::{AllocError, Global};
 
 // The names in a declaration, and its name's number.
-fn intern_decl<'d>(
-    names: &mut Symbols<'d>,
-    term: &'d Text,
-    args: &'d [Text],
-    ret: &'d Text,
+fn intern_decl<'b, 'd>(
+    names: &mut Symbols<'b>,
+    term: &'b Name<'d>,
+    args: &'b [Name<'d>],
+    ret: &'b Name<'d>,
 ) -> Result<usize, AllocError>
     ensures names { OnOk result
         (names.new ≡ fold added names.old (term.now ∷ args.now ++ ret.now ∷ [])) }
     ensures number { IfOk result (λ number. index_of names.new term.now ≡ Some number) }
 {
     let number = names.intern(term.as_str())?;
-    intern_texts(names, args)?;
+    intern_names(names, args)?;
     intern(names, ret)?;
     Ok(number)
 }
 
 // The names in an external constructor or extractor, and their numbers.
-fn intern_extern<'d>(
-    names: &mut Symbols<'d>,
-    term: &'d Text,
-    func: &'d Text,
+fn intern_extern<'b, 'd>(
+    names: &mut Symbols<'b>,
+    term: &'b Name<'d>,
+    func: &'b Name<'d>,
 ) -> Result<(usize, usize), AllocError>
     ensures names { OnOk result (names.new ≡ fold added names.old (term.now ∷ func.now ∷ [])) }
     ensures numbers { IfOk result (λ numbers.
@@ -54,10 +54,10 @@ fn intern_extern<'d>(
 }
 
 // The names in a type.
-fn intern_type<'d>(
-    names: &mut Symbols<'d>,
-    name: &'d Text,
-    body: &'d AstBody,
+fn intern_type<'b, 'd>(
+    names: &mut Symbols<'b>,
+    name: &'b Name<'d>,
+    body: &'b AstBody<'d>,
 ) -> Result<(), AllocError>
     ensures { OnOk result (names.new ≡ fold added names.old (name.now ∷ body_names body.now)) }
 {
@@ -66,10 +66,10 @@ fn intern_type<'d>(
 }
 
 // Two names.
-fn intern_two<'d>(
-    names: &mut Symbols<'d>,
-    first: &'d Text,
-    second: &'d Text,
+fn intern_two<'b, 'd>(
+    names: &mut Symbols<'b>,
+    first: &'b Name<'d>,
+    second: &'b Name<'d>,
 ) -> Result<(), AllocError>
     ensures { OnOk result (names.new ≡ fold added names.old (first.now ∷ second.now ∷ [])) }
 {
@@ -78,11 +78,11 @@ fn intern_two<'d>(
 }
 
 // The names in an extractor with a template, and its term's number.
-fn intern_template<'d>(
-    names: &mut Symbols<'d>,
-    term: &'d Text,
-    params: &'d [Text],
-    template: &'d AstPattern,
+fn intern_template<'b, 'd>(
+    names: &mut Symbols<'b>,
+    term: &'b Name<'d>,
+    params: &'b [Name<'d>],
+    template: &'b AstPattern<'d>,
 ) -> Result<usize, AllocError>
     ensures names { OnOk result
         (names.new ≡ fold added names.old
@@ -90,17 +90,17 @@ fn intern_template<'d>(
     ensures number { IfOk result (λ number. index_of names.new term.now ≡ Some number) }
 {
     let number = names.intern(term.as_str())?;
-    intern_texts(names, params)?;
+    intern_names(names, params)?;
     intern_pattern(names, template)?;
     Ok(number)
 }
 
 // The names in a converter.
-fn intern_converter<'d>(
-    names: &mut Symbols<'d>,
-    from: &'d Text,
-    to: &'d Text,
-    term: &'d Text,
+fn intern_converter<'b, 'd>(
+    names: &mut Symbols<'b>,
+    from: &'b Name<'d>,
+    to: &'b Name<'d>,
+    term: &'b Name<'d>,
 ) -> Result<(), AllocError>
     ensures { OnOk result (names.new ≡ fold added names.old (from.now ∷ to.now ∷ term.now ∷ [])) }
 {
@@ -109,7 +109,7 @@ fn intern_converter<'d>(
 }
 
 // The names in a definition that is no declaration, external constructor, extractor or rule.
-fn intern_uncollected<'d>(names: &mut Symbols<'d>, given: &'d Def) -> Result<(), AllocError>
+fn intern_uncollected<'b, 'd>(names: &mut Symbols<'b>, given: &'b Def<'d>) -> Result<(), AllocError>
     ensures { OnOk result
         (is_collected (def given.now) ≡ false
         → names.new ≡ fold added names.old (def_names (def given.now))) }
@@ -129,7 +129,10 @@ fn intern_uncollected<'d>(names: &mut Symbols<'d>, given: &'d Def) -> Result<(),
 
 // An extractor, and the names in it from left to right, or those in a definition that is not collected.
 #[tactic(auto, using(crate::proofs::Gathered::numbered_one))]
-fn intern_extractor<'d>(names: &mut Symbols<'d>, given: &'d Def) -> Result<Item<'d>, AllocError>
+fn intern_extractor<'b, 'd>(
+    names: &mut Symbols<'b>,
+    given: &'b Def<'d>,
+) -> Result<Item<'b, 'd>, AllocError>
     ensures names { OnOk result
         (signature_of (def given.now) ≡ None → extern_of (def given.now) ≡ None
         → rule_of (def given.now) ≡ None
@@ -181,7 +184,10 @@ fn intern_extractor<'d>(names: &mut Symbols<'d>, given: &'d Def) -> Result<Item<
 
 // A definition that is no declaration, by its kind, and the names in it from left to right.
 #[tactic(auto, using(crate::proofs::Gathered::numbered_one))]
-fn intern_undeclared<'d>(names: &mut Symbols<'d>, given: &'d Def) -> Result<Item<'d>, AllocError>
+fn intern_undeclared<'b, 'd>(
+    names: &mut Symbols<'b>,
+    given: &'b Def<'d>,
+) -> Result<Item<'b, 'd>, AllocError>
     ensures names { OnOk result
         (signature_of (def given.now) ≡ None
         → names.new ≡ fold added names.old (def_names (def given.now))) }
@@ -225,7 +231,10 @@ fn intern_undeclared<'d>(names: &mut Symbols<'d>, given: &'d Def) -> Result<Item
 
 // A definition by its kind, and the names in it from left to right.
 #[tactic(auto, using(crate::proofs::Gathered::numbered_one))]
-fn intern_def<'d>(names: &mut Symbols<'d>, given: &'d Def) -> Result<Item<'d>, AllocError>
+fn intern_def<'b, 'd>(
+    names: &mut Symbols<'b>,
+    given: &'b Def<'d>,
+) -> Result<Item<'b, 'd>, AllocError>
     ensures names { OnOk result (names.new ≡ fold added names.old (def_names (def given.now))) }
     ensures item { IfOk result (λ item. IsItem names.new (def given.now) item) }
 {
@@ -258,7 +267,7 @@ fn intern_def<'d>(names: &mut Symbols<'d>, given: &'d Def) -> Result<Item<'d>, A
 }
 
 // The definitions by their kinds, and the names that stand in them.
-fn found_in<'d>(alloc: Global, defs: &'d [Def]) -> Result<Definitions<'d>, AllocError>
+fn found_in<'b, 'd>(alloc: Global, defs: &'b [Def<'d>]) -> Result<Definitions<'b, 'd>, AllocError>
     ensures { IfOk result (λ given. AreFound (seen defs.now) given) }
 {
     let mut symbols = Symbols::new(alloc);
@@ -287,11 +296,11 @@ fn found_in<'d>(alloc: Global, defs: &'d [Def]) -> Result<Definitions<'d>, Alloc
 
 /// Returns the definitions by their kinds, and their symbols; the terms that the types of each make are given. The only
 /// error is want of memory.
-pub fn definitions<'d>(
+pub fn definitions<'b, 'd>(
     alloc: Global,
-    defs: &'d [Def],
-    made: &'d [List<Text>],
-) -> Result<Definitions<'d>, AllocError>
+    defs: &'b [Def<'d>],
+    made: &'b [List<Text>],
+) -> Result<Definitions<'b, 'd>, AllocError>
     requires { made.now ≡ map made_of (seen defs.now) }
     ensures { IfOk result (λ given. AreCollected (seen defs.now) given) }
 {

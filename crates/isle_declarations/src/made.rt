@@ -8,11 +8,11 @@ ghost use Rattle.isle_ast.specs.declared.tree.AstVariant.{AstVariant as Variant}
 
 use crate::declared_types::type_of;
 use isle_ast::{AstBody, AstVariant, Def};
-use isle_core::{List, Text};
+use isle_core::{List, Name, Text};
 use std::alloc::{AllocError, Global};
 
 // The name of the term that makes a variant.
-fn variant_term(alloc: Global, name: &Text, variant: &Text) -> Result<Text, AllocError>
+fn variant_term(alloc: Global, name: &Name, variant: &Name) -> Result<Text, AllocError>
     ensures { IfOk result (λ term. term ≡ variant_term name.now variant.now) }
 {
     let mut term = String::from_str(alloc, name.as_str())?;
@@ -24,7 +24,7 @@ fn variant_term(alloc: Global, name: &Text, variant: &Text) -> Result<Text, Allo
 // The terms that make the variants of an enum.
 fn variant_terms(
     alloc: Global,
-    name: &Text,
+    name: &Name,
     variants: &[AstVariant],
 ) -> Result<Vec<Text>, AllocError>
     ensures { IfOk result (λ terms.
@@ -38,7 +38,7 @@ fn variant_terms(
 }
 
 // The terms that a type makes.
-fn made_by(alloc: Global, name: &Text, body: &AstBody) -> Result<Vec<Text>, AllocError>
+fn made_by(alloc: Global, name: &Name, body: &AstBody) -> Result<Vec<Text>, AllocError>
     ensures { IfOk result (λ terms. terms.items ≡ made_by name.now body.now) }
 {
     match body {
@@ -49,7 +49,7 @@ fn made_by(alloc: Global, name: &Text, body: &AstBody) -> Result<Vec<Text>, Allo
 }
 
 // The terms that the type of a definition makes.
-fn made_of(alloc: Global, given: &Def) -> Result<Vec<Text>, AllocError>
+fn made_of<'b, 'd>(alloc: Global, given: &'b Def<'d>) -> Result<Vec<Text>, AllocError>
     ensures { IfOk result (λ terms. terms.items ≡ made_of (def given.now)) }
 {
     match type_of(given) {
@@ -59,7 +59,7 @@ fn made_of(alloc: Global, given: &Def) -> Result<Vec<Text>, AllocError>
 }
 
 /// Returns the terms that the types make, those of each definition apart.
-pub fn made_each(alloc: Global, defs: &[Def]) -> Result<Vec<List<Text>>, AllocError>
+pub fn made_each<'b, 'd>(alloc: Global, defs: &'b [Def<'d>]) -> Result<Vec<List<Text>>, AllocError>
     ensures { IfOk result (λ made. made.items ≡ map made_of (seen defs.now)) }
 {
     let mut made = Vec::with_capacity(alloc, defs.len())?;

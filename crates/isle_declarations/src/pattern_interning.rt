@@ -13,7 +13,10 @@ use std::alloc::AllocError;
 /// The names in a pattern, its own before those of its parts. The only error is want of memory.
 #[cycle(patterns)]
 #[tactic(auto, using(isle_ast::proofs::Sees::pattern_sees))]
-pub fn intern_pattern<'d>(names: &mut Symbols<'d>, p: &'d AstPattern) -> Result<(), AllocError>
+pub fn intern_pattern<'b, 'd>(
+    names: &mut Symbols<'b>,
+    p: &'b AstPattern<'d>,
+) -> Result<(), AllocError>
     ensures { OnOk result (names.new ≡ fold added names.old (pattern_names (pattern p.now))) }
 {
     match p {
@@ -36,9 +39,9 @@ pub fn intern_pattern<'d>(names: &mut Symbols<'d>, p: &'d AstPattern) -> Result<
 
 /// The names in patterns, in order. The only error is want of memory.
 #[cycle(patterns)]
-pub fn intern_patterns<'d>(
-    names: &mut Symbols<'d>,
-    patterns: &'d [AstPattern],
+pub fn intern_patterns<'b, 'd>(
+    names: &mut Symbols<'b>,
+    patterns: &'b [AstPattern<'d>],
 ) -> Result<(), AllocError>
     ensures { OnOk result
         (names.new ≡ fold added names.old

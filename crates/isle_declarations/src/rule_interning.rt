@@ -10,11 +10,14 @@ use crate::pattern_interning::{intern_pattern, intern_patterns};
 use crate::symbols::Symbols;
 use crate::text_interning::intern;
 use isle_ast::{AstExpr, AstIfLet, AstPattern};
-use isle_core::Text;
+use isle_core::Name;
 use std::alloc::AllocError;
 
 // A rule's own name.
-fn intern_name<'d>(names: &mut Symbols<'d>, name: &'d Option<Text>) -> Result<(), AllocError>
+fn intern_name<'b, 'd>(
+    names: &mut Symbols<'b>,
+    name: &'b Option<Name<'d>>,
+) -> Result<(), AllocError>
     ensures { OnOk result (names.new ≡ fold added names.old (option_to_list name.now)) }
 {
     match name {
@@ -24,7 +27,10 @@ fn intern_name<'d>(names: &mut Symbols<'d>, name: &'d Option<Text>) -> Result<()
 }
 
 // The names in conditions, in order.
-fn intern_iflets<'d>(names: &mut Symbols<'d>, iflets: &'d [AstIfLet]) -> Result<(), AllocError>
+fn intern_iflets<'b, 'd>(
+    names: &mut Symbols<'b>,
+    iflets: &'b [AstIfLet<'d>],
+) -> Result<(), AllocError>
     ensures { OnOk result
         (names.new ≡ fold added names.old (flat_map iflet_names (map iflet iflets.now))) }
 {
@@ -36,13 +42,13 @@ fn intern_iflets<'d>(names: &mut Symbols<'d>, iflets: &'d [AstIfLet]) -> Result<
 }
 
 /// The names in a rule, and the number of its term's. The only error is want of memory.
-pub fn intern_rule<'d>(
-    names: &mut Symbols<'d>,
-    name: &'d Option<Text>,
-    term: &'d Text,
-    args: &'d [AstPattern],
-    iflets: &'d [AstIfLet],
-    rhs: &'d AstExpr,
+pub fn intern_rule<'b, 'd>(
+    names: &mut Symbols<'b>,
+    name: &'b Option<Name<'d>>,
+    term: &'b Name<'d>,
+    args: &'b [AstPattern<'d>],
+    iflets: &'b [AstIfLet<'d>],
+    rhs: &'b AstExpr<'d>,
 ) -> Result<usize, AllocError>
     ensures names { OnOk result
         (names.new ≡ fold added names.old

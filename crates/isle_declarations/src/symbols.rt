@@ -4,27 +4,29 @@ ghost use Rattle.std.specs.Prelude.{◌≡◌, Some, [], IfOk, OnOk, OnErr, leng
 ghost use Rattle.isle_declarations.specs.LookedUp.{texts};
 ghost use Rattle.isle_declarations.specs.Symbols.{index_of, added};
 
+use crate::hashing::hash_of;
+use crate::slots::Slots;
 use isle_core::Text;
 use std::alloc::{AllocError, Global};
-use std::collections::BTreeMap;
 use std::marker::Model;
 
 /// The names of definitions by their first places, each once. Contracts see them as their list.
 #[derive(Drop)]
 pub struct Symbols<'d> {
     names: Vec<&'d str>,
-    places: BTreeMap<&'d str, usize>,
+    slots: Slots<'d>,
 }
 
 impl<'d> Model for Symbols<'d> {
     ghost use Rattle.std.specs.Prelude.{List, ℕ};
-    ghost use Rattle.isle_declarations.specs.LookedUp.{texts, FindsFirst};
+    ghost use Rattle.isle_declarations.specs.LookedUp.{texts};
+    ghost use Rattle.isle_declarations.specs.Slots.{IsTable};
 
     ghost Value = { List (List ℕ) };
 
     ghost view = { λ s. texts s.names.items };
 
-    ghost invariant = { λ s. FindsFirst (texts s.names.items) s.places };
+    ghost invariant = { λ s. IsTable (texts s.names.items) s.slots.places.items s.slots.overflow };
 }
 
 impl<'d> Symbols<'d> {
@@ -34,7 +36,7 @@ impl<'d> Symbols<'d> {
     {
         Symbols {
             names: Vec::new(alloc),
-            places: BTreeMap::new(alloc),
+            slots: Slots::new(alloc),
         }
     }
 
@@ -51,13 +53,15 @@ impl<'d> Symbols<'d> {
         ensures names { OnOk result (self.new ≡ added self.old name.now) }
         ensures err { OnErr result (self.new ≡ self.old) }
     {
-        if let Some(place) = self.places.get(name) {
-            return Ok(*place);
+        let hash = hash_of(name);
+        if let Some(place) = self.slots.find(self.names.as_slice(), name, hash) {
+            return Ok(place);
         }
         let place = self.names.len();
+        self.slots.make_room(self.names.as_slice())?;
         self.names.push(name)?;
-        match self.places.insert(name, place) {
-            Ok(_) => return Ok(place),
+        match self.slots.add(place, name, hash) {
+            Ok(()) => return Ok(place),
             Err(_) => {
                 self.names.pop();
                 return Err(AllocError);
@@ -69,7 +73,7 @@ impl<'d> Symbols<'d> {
     pub fn find(&self, name: &str) -> Option<usize>
         ensures { result ≡ index_of self.now name.now }
     {
-        self.places.get(name).copied()
+        self.slots.find(self.names.as_slice(), name, hash_of(name))
     }
 
     /// Copies of the names, in order.

@@ -1,6 +1,6 @@
 //! The terms of definitions: those that are declared, and those that types make.
 
-ghost use Rattle.std.specs.Prelude.{◌≡◌, ◌++◌, List, IfOk, OnOk, map};
+ghost use Rattle.std.specs.Prelude.{◌≡◌, ◌++◌, [], List, IfOk, OnOk, map};
 ghost use Rattle.isle_ast.specs.Tree.{Def as PureDef};
 ghost use Rattle.isle_ast.specs.Views.{def, defs as seen};
 ghost use Rattle.isle_declarations.specs.DeclaredTypes.{variant_term, made_by, made_of, field_types};
@@ -15,7 +15,7 @@ ghost use Rattle.isle_ast.specs.declared.tree.AstVariant.{AstVariant as Variant}
 use crate::declarations::Declarations;
 use crate::first_places::{FirstPlaces, first_places, place_in};
 use isle_ast::{AstBody, AstFields, AstVariant, Def};
-use isle_core::{List, Pos, Text};
+use isle_core::{List, Name, Pos, Text};
 use std::alloc::{AllocError, Global};
 
 /// What gives a term: a declaration, the variant of that number, or a struct.
@@ -28,51 +28,58 @@ pub enum Origin {
 
 /// The names of the types of a term's arguments: by themselves, or each after the name of a field.
 #[derive(Clone, Copy)]
-pub enum ArgTypes<'d> {
-    Plain(&'d [Text]),
-    Named(&'d [(Text, Text)]),
+pub enum ArgTypes<'b, 'd> {
+    Plain(&'b [Name<'d>]),
+    Named(&'b [(Name<'d>, Name<'d>)]),
 }
 
 /// A term, and what gives it.
 #[derive(Clone, Copy)]
-pub struct TermDef<'d> {
-    pub term: &'d Text,
+pub struct TermDef<'b, 'd> {
+    pub term: &'b str,
     pub pure: bool,
     pub multi: bool,
     pub partial: bool,
     pub recursive: bool,
-    pub args: ArgTypes<'d>,
-    pub ret: &'d Text,
+    pub args: ArgTypes<'b, 'd>,
+    pub ret: &'b Name<'d>,
     pub pos: Pos,
     pub origin: Origin,
 }
 
 /// Terms in order, and the first place of each name, by its number.
 #[derive(Drop)]
-pub struct Terms<'d> {
-    pub terms: Vec<TermDef<'d>>,
+pub struct Terms<'b, 'd> {
+    pub terms: Vec<TermDef<'b, 'd>>,
     pub places: FirstPlaces,
 }
 
+// No names.
+fn no_names<'b, 'd>() -> &'b [Name<'d>]
+    ensures { result.now ≡ [] }
+{
+    &[]
+}
+
 // The types of fields.
-fn field_types<'d>(fields: &'d AstFields) -> ArgTypes<'d>
+fn field_types<'b, 'd>(fields: &'b AstFields<'d>) -> ArgTypes<'b, 'd>
     ensures { arg_types result ≡ field_types fields.now }
 {
     match fields {
-        AstFields::Unit => ArgTypes::Plain(&[]),
+        AstFields::Unit => ArgTypes::Plain(no_names()),
         AstFields::Named(fields) => ArgTypes::Named(fields.as_slice()),
         AstFields::Tuple(types) => ArgTypes::Plain(types.as_slice()),
     }
 }
 
 // The term of this name that a variant or a struct makes.
-fn made_term<'d>(
-    term: &'d Text,
-    ty: &'d Text,
-    fields: &'d AstFields,
+fn made_term<'b, 'd>(
+    term: &'b str,
+    ty: &'b Name<'d>,
+    fields: &'b AstFields<'d>,
     origin: Origin,
     pos: Pos,
-) -> TermDef<'d>
+) -> TermDef<'b, 'd>
     ensures { term_def result ≡ made_signature term.now ty.now fields.now origin pos }
 {
     TermDef {
@@ -89,12 +96,12 @@ fn made_term<'d>(
 }
 
 // The terms that variants make, whose names are given.
-fn push_variants<'d>(
-    terms: &mut Vec<TermDef<'d>>,
-    ty: &'d Text,
+fn push_variants<'b, 'd>(
+    terms: &mut Vec<TermDef<'b, 'd>>,
+    ty: &'b Name<'d>,
     pos: Pos,
-    variants: &'d [AstVariant],
-    names: &'d [Text],
+    variants: &'b [AstVariant<'d>],
+    names: &'b [Text],
 ) -> Result<(), AllocError>
     requires { names.now ≡ map (λ (v : Variant). variant_term ty.now v.name) variants.now }
     ensures { OnOk result
@@ -102,19 +109,19 @@ fn push_variants<'d>(
         ≡ map term_def terms.old.items ++ variant_signatures ty.now pos 0 variants.now) }
 {
     for (index, variant) in variants.iter().enumerate() {
-        let term = &names[index];
+        let term = names[index].as_str();
         terms.push(made_term(term, ty, &variant.fields, Origin::Variant(index), pos))?;
     }
     Ok(())
 }
 
 // The terms that a type makes, whose names are given.
-fn push_made<'d>(
-    terms: &mut Vec<TermDef<'d>>,
-    ty: &'d Text,
-    body: &'d AstBody,
+fn push_made<'b, 'd>(
+    terms: &mut Vec<TermDef<'b, 'd>>,
+    ty: &'b Name<'d>,
+    body: &'b AstBody<'d>,
     pos: Pos,
-    names: &'d [Text],
+    names: &'b [Text],
 ) -> Result<(), AllocError>
     requires { names.now ≡ made_by ty.now body.now }
     ensures { OnOk result
@@ -125,17 +132,17 @@ fn push_made<'d>(
         AstBody::Primitive(_) => Ok(()),
         AstBody::Enum(variants) => push_variants(terms, ty, pos, variants.as_slice(), names),
         AstBody::Struct(fields) => {
-            terms.push(made_term(ty, ty, fields, Origin::Struct, pos))?;
+            terms.push(made_term(ty.as_str(), ty, fields, Origin::Struct, pos))?;
             Ok(())
         }
     }
 }
 
 // The terms that a definition gives, if the names of those that its type makes are given.
-fn push_terms<'d>(
-    terms: &mut Vec<TermDef<'d>>,
-    given: &'d Def,
-    names: &'d [Text],
+fn push_terms<'b, 'd>(
+    terms: &mut Vec<TermDef<'b, 'd>>,
+    given: &'b Def<'d>,
+    names: &'b [Text],
 ) -> Result<(), AllocError>
     requires { names.now ≡ made_of (def given.now) }
     ensures { OnOk result
@@ -159,7 +166,7 @@ fn push_terms<'d>(
             pos,
         } => {
             terms.push(TermDef {
-                term,
+                term: term.as_str(),
                 pure: *pure,
                 multi: *multi,
                 partial: *partial,
@@ -182,11 +189,11 @@ fn push_terms<'d>(
 }
 
 // The terms of definitions, if the names of those that types make are given.
-fn gathered<'d>(
+fn gathered<'b, 'd>(
     alloc: Global,
-    defs: &'d [Def],
-    made: &'d [List<Text>],
-) -> Result<Vec<TermDef<'d>>, AllocError>
+    defs: &'b [Def<'d>],
+    made: &'b [List<Text>],
+) -> Result<Vec<TermDef<'b, 'd>>, AllocError>
     requires { made.now ≡ map made_of (seen defs.now) }
     ensures { IfOk result (λ found. map term_def found.items ≡ all_terms (seen defs.now)) }
 {
@@ -230,11 +237,11 @@ fn places_of(
 }
 
 /// Gathers the terms of definitions, whose types make these. The only error is want of memory.
-pub fn terms_of<'d>(
+pub fn terms_of<'b, 'd>(
     alloc: Global,
-    declarations: &Declarations<'d>,
-    made: &'d [List<Text>],
-) -> Result<Terms<'d>, AllocError>
+    declarations: &Declarations<'b, 'd>,
+    made: &'b [List<Text>],
+) -> Result<Terms<'b, 'd>, AllocError>
     requires { made.now ≡ map made_of (seen declarations.now) }
     ensures { IfOk result (λ found. AreTerms (seen declarations.now) found) }
 {
@@ -243,7 +250,7 @@ pub fn terms_of<'d>(
     Ok(Terms { terms, places })
 }
 
-impl<'d> Terms<'d> {
+impl<'b, 'd> Terms<'b, 'd> {
     /// Returns the place of the first term of the name of this number.
     pub fn place(&self, number: usize) -> Option<usize>
         ensures { (defs : List PureDef) → AreTerms defs self.now

@@ -1,4 +1,4 @@
-ghost use Rattle.std.specs.Prelude.{◌≡◌, IfOk, length, map, option_map};
+ghost use Rattle.std.specs.Prelude.{◌≡◌, length, map, option_map};
 ghost use Rattle.isle_lexer.specs.Word.{kind};
 ghost use Rattle.isle_reading.specs.Combinators.{next_word, many};
 ghost use Rattle.isle_reading.specs.Views.{left, Reads};
@@ -12,63 +12,58 @@ ghost use Rattle.isle_expressions.specs.ReadingViews.{expr_head_seen, binding_se
 
 use crate::words::constant_of;
 use isle_ast::{AstExpr, AstLet};
-use isle_core::{Boxed, List, Text};
+use isle_core::{Boxed, List, Name};
 use isle_lexer::{Kind, is_let, is_name, kind_of};
 use isle_reading::{Expected, Fail, Tokens};
-use std::alloc::{AllocError, Global};
+use std::alloc::Global;
 
 /// What an expression's list is, by its first word.
 #[derive(Drop)]
-enum ExprHead {
+enum ExprHead<'t> {
     Let,
-    Call(Text),
+    Call(Name<'t>),
 }
 
 // The constant that a word is, which begins with `$`.
 #[tactic(auto, using(isle_ast::proofs::Sees::expr_sees))]
-fn constant_expr(alloc: Global, word: &str) -> Result<Option<AstExpr>, AllocError>
-    ensures { IfOk result (λ read.
-        option_map expr read
-        ≡ option_map (λ name. tree.Constant name) (constant_of (kind word.now))) }
+fn constant_expr<'t>(word: &'t str) -> Option<AstExpr<'t>>
+    ensures { option_map expr result
+        ≡ option_map (λ name. tree.Constant name) (constant_of (kind word.now)) }
 {
     match constant_of(word) {
-        Some(name) => Ok(Some(AstExpr::Const(Text::copied(alloc, name)?))),
-        None => Ok(None),
+        Some(name) => Some(AstExpr::Const(Name::new(name))),
+        None => None,
     }
 }
 
 // The expression that a word is.
 #[tactic(auto, using(isle_ast::proofs::Sees::expr_sees))]
-fn expr_of(alloc: Global, word: &str) -> Result<Option<AstExpr>, AllocError>
-    ensures { IfOk result (λ read. option_map expr read ≡ expr_of word.now (kind word.now)) }
+fn expr_of<'t>(word: &'t str) -> Option<AstExpr<'t>>
+    ensures { option_map expr result ≡ expr_of word.now (kind word.now) }
 {
     match kind_of(word) {
-        Kind::Number(value) => Ok(Some(AstExpr::Int(value))),
-        Kind::Truth(truth) => Ok(Some(AstExpr::Bool(truth))),
-        Kind::Dollar => constant_expr(alloc, word),
-        Kind::Underscore | Kind::Plain => Ok(Some(AstExpr::Var(Text::copied(alloc, word)?))),
-        Kind::Malformed => Ok(None),
+        Kind::Number(value) => Some(AstExpr::Int(value)),
+        Kind::Truth(truth) => Some(AstExpr::Bool(truth)),
+        Kind::Dollar => constant_expr(word),
+        Kind::Underscore | Kind::Plain => Some(AstExpr::Var(Name::new(word))),
+        Kind::Malformed => None,
     }
 }
 
 // An expression of one word that is next.
 #[tactic(auto, using(isle_reading::proofs::Steps::next))]
-fn next_leaf(tokens: &Tokens<'_>, alloc: Global) -> Result<Option<AstExpr>, AllocError>
-    ensures { IfOk result (λ next.
-        option_map expr next ≡ next_word (λ w. expr_of w (kind w)) (left tokens.now)) }
+fn next_leaf<'t>(tokens: &Tokens<'_, 't>) -> Option<AstExpr<'t>>
+    ensures { option_map expr result ≡ next_word (λ w. expr_of w (kind w)) (left tokens.now) }
 {
-    match tokens.word() {
-        Some(word) => expr_of(alloc, word),
-        None => Ok(None),
-    }
+    expr_of(tokens.word()?)
 }
 
 // An expression of one word.
 #[tactic(auto, using(isle_reading::proofs::Steps::words), unfolding(isle_grammar::specs::Reading::read_leaf))]
-fn leaf(tokens: &mut Tokens<'_>, alloc: Global) -> Result<AstExpr, Fail>
+fn leaf<'t>(tokens: &mut Tokens<'_, 't>) -> Result<AstExpr<'t>, Fail>
     ensures { Reads expr result read_leaf (left tokens.old) (left tokens.new) }
 {
-    match next_leaf(tokens, alloc)? {
+    match next_leaf(tokens) {
         Some(expr) => {
             tokens.skip();
             Ok(expr)
@@ -78,36 +73,32 @@ fn leaf(tokens: &mut Tokens<'_>, alloc: Global) -> Result<AstExpr, Fail>
 }
 
 // What an expression's list is that begins with the word.
-fn expr_head_of(alloc: Global, word: &str) -> Result<Option<ExprHead>, AllocError>
-    ensures { IfOk result (λ read. option_map expr_head_seen read ≡ expr_head word.now) }
+fn expr_head_of<'t>(word: &'t str) -> Option<ExprHead<'t>>
+    ensures { option_map expr_head_seen result ≡ expr_head word.now }
 {
     if is_let(word) {
-        return Ok(Some(ExprHead::Let));
+        return Some(ExprHead::Let);
     }
     if is_name(word) {
-        return Ok(Some(ExprHead::Call(Text::copied(alloc, word)?)));
+        return Some(ExprHead::Call(Name::new(word)));
     }
-    Ok(None)
+    None
 }
 
 // What an expression's list is, by the word that is next.
 #[tactic(auto, using(isle_reading::proofs::Steps::next))]
-fn next_expr_head(tokens: &Tokens<'_>, alloc: Global) -> Result<Option<ExprHead>, AllocError>
-    ensures { IfOk result (λ next.
-        option_map expr_head_seen next ≡ next_word expr_head (left tokens.now)) }
+fn next_expr_head<'t>(tokens: &Tokens<'_, 't>) -> Option<ExprHead<'t>>
+    ensures { option_map expr_head_seen result ≡ next_word expr_head (left tokens.now) }
 {
-    match tokens.word() {
-        Some(word) => expr_head_of(alloc, word),
-        None => Ok(None),
-    }
+    expr_head_of(tokens.word()?)
 }
 
 // What an expression's list is.
 #[tactic(auto, using(isle_reading::proofs::Steps::words), unfolding(isle_grammar::specs::Reading::read_expr_head))]
-fn read_head(tokens: &mut Tokens<'_>, alloc: Global) -> Result<ExprHead, Fail>
+fn read_head<'t>(tokens: &mut Tokens<'_, 't>) -> Result<ExprHead<'t>, Fail>
     ensures { Reads expr_head_seen result read_expr_head (left tokens.old) (left tokens.new) }
 {
-    match next_expr_head(tokens, alloc)? {
+    match next_expr_head(tokens) {
         Some(head) => {
             tokens.skip();
             Ok(head)
@@ -119,16 +110,16 @@ fn read_head(tokens: &mut Tokens<'_>, alloc: Global) -> Result<ExprHead, Fail>
 /// Reads an expression inside which `depth` more may be open, its lists of at most `most` tokens.
 #[cycle(expressions)]
 #[tactic(auto, using(crate::proofs::ExpressionSteps::expr_steps))]
-pub fn expression(
-    tokens: &mut Tokens<'_>,
+pub fn expression<'t>(
+    tokens: &mut Tokens<'_, 't>,
     alloc: Global,
     most: usize,
     depth: usize,
-) -> Result<AstExpr, Fail>
+) -> Result<AstExpr<'t>, Fail>
     ensures { Reads expr result (read_expr most depth) (left tokens.old) (left tokens.new) }
 {
     match tokens.opens() {
-        None => leaf(tokens, alloc),
+        None => leaf(tokens),
         Some(_) => {
             if depth == 0 {
                 return Err(tokens.miss(Expected::Shallower));
@@ -141,11 +132,16 @@ pub fn expression(
 // An expression's list, inside whose parenthesis `depth` more may be open.
 #[cycle(expressions)]
 #[tactic(auto, using(isle_reading::proofs::Steps::chain, isle_ast::proofs::Sees::expr_sees), unfolding(isle_grammar::specs::Reading::read_form_list))]
-fn list(tokens: &mut Tokens<'_>, alloc: Global, most: usize, depth: usize) -> Result<AstExpr, Fail>
+fn list<'t>(
+    tokens: &mut Tokens<'_, 't>,
+    alloc: Global,
+    most: usize,
+    depth: usize,
+) -> Result<AstExpr<'t>, Fail>
     ensures { Reads expr result (read_form_list most depth) (left tokens.old) (left tokens.new) }
 {
     tokens.open()?;
-    let head = read_head(tokens, alloc)?;
+    let head = read_head(tokens)?;
     match head {
         ExprHead::Let => let_in(tokens, alloc, most, depth),
         ExprHead::Call(name) => {
@@ -158,12 +154,12 @@ fn list(tokens: &mut Tokens<'_>, alloc: Global, most: usize, depth: usize) -> Re
 // Expressions up to a closing parenthesis, which is taken, of at most `most` tokens.
 #[cycle(expressions)]
 #[tactic(auto, using(crate::proofs::ExpressionSteps::lists))]
-fn arguments(
-    tokens: &mut Tokens<'_>,
+fn arguments<'t>(
+    tokens: &mut Tokens<'_, 't>,
     alloc: Global,
     most: usize,
     depth: usize,
-) -> Result<Vec<AstExpr>, Fail>
+) -> Result<Vec<AstExpr<'t>>, Fail>
     ensures { Reads (λ args. map expr args.items) result (many most (read_expr most depth))
         (left tokens.old) (left tokens.new) }
 {
@@ -183,12 +179,12 @@ fn arguments(
 // What stands after `( let`.
 #[cycle(expressions)]
 #[tactic(auto, using(isle_reading::proofs::Steps::chain, isle_ast::proofs::Sees::expr_sees), unfolding(isle_grammar::specs::Reading::read_let))]
-fn let_in(
-    tokens: &mut Tokens<'_>,
+fn let_in<'t>(
+    tokens: &mut Tokens<'_, 't>,
     alloc: Global,
     most: usize,
     depth: usize,
-) -> Result<AstExpr, Fail>
+) -> Result<AstExpr<'t>, Fail>
     ensures { Reads expr result (read_let most depth) (left tokens.old) (left tokens.new) }
 {
     let lets = bindings(tokens, alloc, most, depth)?;
@@ -198,7 +194,7 @@ fn let_in(
 }
 
 // The failure if a parenthesis is wanted, and none more may be open.
-fn too_deep(tokens: &mut Tokens<'_>) -> Fail
+fn too_deep(tokens: &mut Tokens<'_, '_>) -> Fail
     ensures { result ≡ At (length (left tokens.old)) }
 {
     match tokens.opens() {
@@ -210,12 +206,12 @@ fn too_deep(tokens: &mut Tokens<'_>) -> Fail
 // The variables of a `let`, with the parentheses round them.
 #[cycle(expressions)]
 #[tactic(auto, using(crate::proofs::ExpressionSteps::binding_steps))]
-fn bindings(
-    tokens: &mut Tokens<'_>,
+fn bindings<'t>(
+    tokens: &mut Tokens<'_, 't>,
     alloc: Global,
     most: usize,
     depth: usize,
-) -> Result<Vec<AstLet>, Fail>
+) -> Result<Vec<AstLet<'t>>, Fail>
     ensures { Reads (λ lets. map binding_seen lets.items) result (read_bindings most depth)
         (left tokens.old) (left tokens.new) }
 {
@@ -229,12 +225,12 @@ fn bindings(
 // The variables of a `let` up to the closing parenthesis, which is taken, of at most `most` tokens.
 #[cycle(expressions)]
 #[tactic(auto, using(crate::proofs::ExpressionSteps::binding_lists))]
-fn binding_list(
-    tokens: &mut Tokens<'_>,
+fn binding_list<'t>(
+    tokens: &mut Tokens<'_, 't>,
     alloc: Global,
     most: usize,
     depth: usize,
-) -> Result<Vec<AstLet>, Fail>
+) -> Result<Vec<AstLet<'t>>, Fail>
     ensures { Reads (λ lets. map binding_seen lets.items) result
         (many most (read_binding most depth)) (left tokens.old) (left tokens.new) }
 {
@@ -254,12 +250,12 @@ fn binding_list(
 // A variable of a `let`, with its type and its value.
 #[cycle(expressions)]
 #[tactic(auto, using(crate::proofs::ExpressionSteps::binding_steps))]
-fn binding(
-    tokens: &mut Tokens<'_>,
+fn binding<'t>(
+    tokens: &mut Tokens<'_, 't>,
     alloc: Global,
     most: usize,
     depth: usize,
-) -> Result<AstLet, Fail>
+) -> Result<AstLet<'t>, Fail>
     ensures { Reads binding_seen result (read_binding most depth) (left tokens.old)
         (left tokens.new) }
 {
@@ -267,8 +263,8 @@ fn binding(
         return Err(too_deep(tokens));
     }
     tokens.open()?;
-    let var = tokens.name(alloc)?;
-    let ty = tokens.name_as(alloc, Expected::Type)?;
+    let var = tokens.name_as(Expected::Name)?;
+    let ty = tokens.name_as(Expected::Type)?;
     let val = expression(tokens, alloc, most, depth - 1)?;
     tokens.close()?;
     Ok(AstLet { var, ty, val })

@@ -23,17 +23,17 @@ enum IfHead {
 
 /// What a form after a rule's head may be.
 #[derive(Drop)]
-enum Form {
-    Right(AstExpr),
-    Condition(AstIfLet),
-    Either(AstExpr, AstIfLet),
+enum Form<'t> {
+    Right(AstExpr<'t>),
+    Condition(AstIfLet<'t>),
+    Either(AstExpr<'t>, AstIfLet<'t>),
 }
 
 /// What a form after a rule's head is, by what follows it.
 #[derive(Drop)]
-enum Step {
-    Last(AstExpr),
-    More(AstIfLet),
+enum Step<'t> {
+    Last(AstExpr<'t>),
+    More(AstIfLet<'t>),
 }
 
 // What a condition is that begins with the word.
@@ -49,7 +49,7 @@ fn if_head_of(word: &str) -> Option<IfHead>
 
 // What a condition is, by the word that is next.
 #[tactic(auto, using(isle_reading::proofs::Steps::next))]
-fn next_if_head(tokens: &Tokens<'_>) -> Option<IfHead>
+fn next_if_head(tokens: &Tokens<'_, '_>) -> Option<IfHead>
     ensures { option_map if_head_seen result ≡ next_word if_head (left tokens.now) }
 {
     if_head_of(tokens.word()?)
@@ -57,7 +57,7 @@ fn next_if_head(tokens: &Tokens<'_>) -> Option<IfHead>
 
 // What a condition is.
 #[tactic(auto, using(isle_reading::proofs::Steps::words), unfolding(isle_grammar::specs::Reading::read_if_head))]
-fn read_head(tokens: &mut Tokens<'_>) -> Result<IfHead, Fail>
+fn read_head(tokens: &mut Tokens<'_, '_>) -> Result<IfHead, Fail>
     ensures { Reads if_head_seen result read_if_head (left tokens.old) (left tokens.new) }
 {
     match next_if_head(tokens) {
@@ -71,13 +71,13 @@ fn read_head(tokens: &mut Tokens<'_>) -> Result<IfHead, Fail>
 
 // What stands after the first word of a condition.
 #[tactic(auto, using(isle_reading::proofs::Steps::chain, isle_ast::proofs::Sees::pattern_sees))]
-fn if_behind(
-    tokens: &mut Tokens<'_>,
+fn if_behind<'t>(
+    tokens: &mut Tokens<'_, 't>,
     alloc: Global,
     most: usize,
     depth: usize,
     head: IfHead,
-) -> Result<AstIfLet, Fail>
+) -> Result<AstIfLet<'t>, Fail>
     ensures { Reads iflet result (if_behind most depth (if_head_seen head)) (left tokens.old)
         (left tokens.new) }
 {
@@ -101,12 +101,12 @@ fn if_behind(
 
 // A condition, inside whose parenthesis `depth` more may be open.
 #[tactic(auto, using(isle_reading::proofs::Steps::chain), unfolding(isle_grammar::specs::Reading::read_iflet))]
-fn condition(
-    tokens: &mut Tokens<'_>,
+fn condition<'t>(
+    tokens: &mut Tokens<'_, 't>,
     alloc: Global,
     most: usize,
     depth: usize,
-) -> Result<AstIfLet, Fail>
+) -> Result<AstIfLet<'t>, Fail>
     ensures { Reads iflet result (read_iflet most depth) (left tokens.old) (left tokens.new) }
 {
     tokens.open()?;
@@ -115,7 +115,11 @@ fn condition(
 }
 
 // A rule's right side.
-fn right_side(tokens: &mut Tokens<'_>, alloc: Global, most: usize) -> Result<AstExpr, Fail>
+fn right_side<'t>(
+    tokens: &mut Tokens<'_, 't>,
+    alloc: Global,
+    most: usize,
+) -> Result<AstExpr<'t>, Fail>
     ensures { Reads expr result (read_expr most (most_open - 1)) (left tokens.old)
         (left tokens.new) }
 {
@@ -123,7 +127,11 @@ fn right_side(tokens: &mut Tokens<'_>, alloc: Global, most: usize) -> Result<Ast
 }
 
 // A condition of a rule.
-fn rule_condition(tokens: &mut Tokens<'_>, alloc: Global, most: usize) -> Result<AstIfLet, Fail>
+fn rule_condition<'t>(
+    tokens: &mut Tokens<'_, 't>,
+    alloc: Global,
+    most: usize,
+) -> Result<AstIfLet<'t>, Fail>
     ensures { Reads iflet result (read_iflet most (most_open - 2)) (left tokens.old)
         (left tokens.new) }
 {
@@ -132,7 +140,7 @@ fn rule_condition(tokens: &mut Tokens<'_>, alloc: Global, most: usize) -> Result
 
 // A form that is a rule's right side, a condition, or may be either: both are read over the same tokens.
 #[tactic(auto, using(crate::proofs::FormSteps::forms))]
-fn rule_form(tokens: &mut Tokens<'_>, alloc: Global, most: usize) -> Result<Form, Fail>
+fn rule_form<'t>(tokens: &mut Tokens<'_, 't>, alloc: Global, most: usize) -> Result<Form<'t>, Fail>
     requires { length (left tokens.old) ≤ most }
     ensures { Reads form_seen result (read_form most) (left tokens.old) (left tokens.new) }
 {
@@ -163,8 +171,8 @@ fn rule_form(tokens: &mut Tokens<'_>, alloc: Global, most: usize) -> Result<Form
 
 // What a form is: a rule's right side, whose parenthesis is taken, or a condition.
 #[tactic(auto, using(crate::proofs::TailSteps::step_steps))]
-fn settled(tokens: &mut Tokens<'_>, form: Form) -> Result<Step, Fail>
-    ensures { Reads step_seen result (settled (form_seen form)) (left tokens.old)
+fn settled<'t>(tokens: &mut Tokens<'_, 't>, form: Form<'t>) -> Result<Step<'t>, Fail>
+    ensures { Reads step_seen result (settled (form_seen form.entry)) (left tokens.old)
         (left tokens.new) }
 {
     match form {
@@ -190,7 +198,7 @@ fn settled(tokens: &mut Tokens<'_>, form: Form) -> Result<Step, Fail>
 
 // A condition, or a rule's right side and the parenthesis after it.
 #[tactic(auto, using(isle_reading::proofs::Steps::chain), unfolding(isle_grammar::specs::Reading::read_step))]
-fn next_step(tokens: &mut Tokens<'_>, alloc: Global, most: usize) -> Result<Step, Fail>
+fn next_step<'t>(tokens: &mut Tokens<'_, 't>, alloc: Global, most: usize) -> Result<Step<'t>, Fail>
     requires { length (left tokens.old) ≤ most }
     ensures { Reads step_seen result (read_step most) (left tokens.old) (left tokens.new) }
 {
@@ -201,11 +209,11 @@ fn next_step(tokens: &mut Tokens<'_>, alloc: Global, most: usize) -> Result<Step
 /// Reads a rule's conditions and its right side up to the closing parenthesis, which is taken, of at most `most`
 /// tokens.
 #[tactic(auto, using(crate::proofs::TailSteps::tails))]
-pub fn tail(
-    tokens: &mut Tokens<'_>,
+pub fn tail<'t>(
+    tokens: &mut Tokens<'_, 't>,
     alloc: Global,
     most: usize,
-) -> Result<(Vec<AstIfLet>, AstExpr), Fail>
+) -> Result<(Vec<AstIfLet<'t>>, AstExpr<'t>), Fail>
     requires { length (left tokens.old) ≤ most }
     ensures { Reads (λ x. (map iflet x.0.items, expr x.1)) result (read_tail most most)
         (left tokens.old) (left tokens.new) }

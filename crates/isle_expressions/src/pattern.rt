@@ -1,4 +1,4 @@
-ghost use Rattle.std.specs.Prelude.{◌≡◌, ◌-◌, IfOk, map, option_map};
+ghost use Rattle.std.specs.Prelude.{◌≡◌, ◌-◌, map, option_map};
 ghost use Rattle.isle_lexer.specs.Word.{kind};
 ghost use Rattle.isle_reading.specs.Combinators.{next_word, many};
 ghost use Rattle.isle_reading.specs.Nesting.{most_open};
@@ -12,71 +12,65 @@ ghost use Rattle.isle_expressions.specs.ReadingViews.{first_seen, pattern_head_s
 
 use crate::words::constant_of;
 use isle_ast::AstPattern;
-use isle_core::{Boxed, List, Text};
+use isle_core::{Boxed, List, Name};
 use isle_lexer::{Kind, is_name, kind_of};
 use isle_reading::{Expected, Fail, Tokens, most_inside};
-use std::alloc::{AllocError, Global};
+use std::alloc::Global;
 
 /// What a pattern's first word is.
 #[derive(Drop)]
-enum First {
+enum First<'t> {
     /// A pattern after which no `@` may stand.
-    Leaf(AstPattern),
-    Symbol(Text),
+    Leaf(AstPattern<'t>),
+    Symbol(Name<'t>),
 }
 
 /// What a pattern's list is, by its first word.
 #[derive(Drop)]
-enum PatternHead {
+enum PatternHead<'t> {
     And,
-    Term(Text),
+    Term(Name<'t>),
 }
 
 // The constant that a word is, which begins with `$`.
 #[tactic(auto, using(isle_ast::proofs::Sees::pattern_sees))]
-fn constant_pattern(alloc: Global, word: &str) -> Result<Option<First>, AllocError>
-    ensures { IfOk result (λ read.
-        option_map first_seen read ≡ constant_first (constant_of (kind word.now))) }
+fn constant_pattern<'t>(word: &'t str) -> Option<First<'t>>
+    ensures { option_map first_seen result ≡ constant_first (constant_of (kind word.now)) }
 {
     match constant_of(word) {
-        Some(name) => Ok(Some(First::Leaf(AstPattern::Const(Text::copied(alloc, name)?)))),
-        None => Ok(None),
+        Some(name) => Some(First::Leaf(AstPattern::Const(Name::new(name)))),
+        None => None,
     }
 }
 
 // What a word is that begins a pattern.
 #[tactic(auto, using(isle_ast::proofs::Sees::pattern_sees))]
-fn first_of(alloc: Global, word: &str) -> Result<Option<First>, AllocError>
-    ensures { IfOk result (λ read. option_map first_seen read ≡ first_of word.now (kind word.now)) }
+fn first_of<'t>(word: &'t str) -> Option<First<'t>>
+    ensures { option_map first_seen result ≡ first_of word.now (kind word.now) }
 {
     match kind_of(word) {
-        Kind::Number(value) => Ok(Some(First::Leaf(AstPattern::Int(value)))),
-        Kind::Dollar => constant_pattern(alloc, word),
-        Kind::Truth(_) | Kind::Underscore | Kind::Plain => {
-            Ok(Some(First::Symbol(Text::copied(alloc, word)?)))
-        }
-        Kind::Malformed => Ok(None),
+        Kind::Number(value) => Some(First::Leaf(AstPattern::Int(value))),
+        Kind::Dollar => constant_pattern(word),
+        Kind::Truth(_) | Kind::Underscore | Kind::Plain => Some(First::Symbol(Name::new(word))),
+        Kind::Malformed => None,
     }
 }
 
 // What begins a pattern and is next.
 #[tactic(auto, using(isle_reading::proofs::Steps::next))]
-fn next_first(tokens: &Tokens<'_>, alloc: Global) -> Result<Option<First>, AllocError>
-    ensures { IfOk result (λ next.
-        option_map first_seen next ≡ next_word (λ w. first_of w (kind w)) (left tokens.now)) }
+fn next_first<'t>(tokens: &Tokens<'_, 't>) -> Option<First<'t>>
+    ensures { option_map first_seen result
+        ≡ next_word (λ w. first_of w (kind w)) (left tokens.now) }
 {
-    match tokens.word() {
-        Some(word) => first_of(alloc, word),
-        None => Ok(None),
-    }
+    first_of(tokens.word()?)
 }
 
 // A pattern's first word.
 #[tactic(auto, using(isle_reading::proofs::Steps::words), unfolding(isle_grammar::specs::Reading::read_first))]
-fn first_word(tokens: &mut Tokens<'_>, alloc: Global) -> Result<First, Fail>
+fn first_word<'t>(tokens: &mut Tokens<'_, 't>) -> Result<First<'t>, Fail>
     ensures { Reads first_seen result read_first (left tokens.old) (left tokens.new) }
 {
-    match next_first(tokens, alloc)? {
+    match next_first(tokens) {
         Some(first) => {
             tokens.skip();
             Ok(first)
@@ -87,8 +81,8 @@ fn first_word(tokens: &mut Tokens<'_>, alloc: Global) -> Result<First, Fail>
 
 // The pattern that a symbol is by itself.
 #[tactic(auto, using(isle_ast::proofs::Sees::pattern_sees))]
-fn symbol_of(name: Text) -> AstPattern
-    ensures { pattern result ≡ symbol_of name (kind name) }
+fn symbol_of<'t>(name: Name<'t>) -> AstPattern<'t>
+    ensures { pattern result ≡ symbol_of name.entry (kind name.entry) }
 {
     match kind_of(name.as_str()) {
         Kind::Truth(truth) => AstPattern::Bool(truth),
@@ -98,36 +92,32 @@ fn symbol_of(name: Text) -> AstPattern
 }
 
 // What a pattern's list is that begins with the word.
-fn pattern_head_of(alloc: Global, word: &str) -> Result<Option<PatternHead>, AllocError>
-    ensures { IfOk result (λ read. option_map pattern_head_seen read ≡ pattern_head word.now) }
+fn pattern_head_of<'t>(word: &'t str) -> Option<PatternHead<'t>>
+    ensures { option_map pattern_head_seen result ≡ pattern_head word.now }
 {
     if word == "and" {
-        return Ok(Some(PatternHead::And));
+        return Some(PatternHead::And);
     }
     if is_name(word) {
-        return Ok(Some(PatternHead::Term(Text::copied(alloc, word)?)));
+        return Some(PatternHead::Term(Name::new(word)));
     }
-    Ok(None)
+    None
 }
 
 // What a pattern's list is, by the word that is next.
 #[tactic(auto, using(isle_reading::proofs::Steps::next))]
-fn next_pattern_head(tokens: &Tokens<'_>, alloc: Global) -> Result<Option<PatternHead>, AllocError>
-    ensures { IfOk result (λ next.
-        option_map pattern_head_seen next ≡ next_word pattern_head (left tokens.now)) }
+fn next_pattern_head<'t>(tokens: &Tokens<'_, 't>) -> Option<PatternHead<'t>>
+    ensures { option_map pattern_head_seen result ≡ next_word pattern_head (left tokens.now) }
 {
-    match tokens.word() {
-        Some(word) => pattern_head_of(alloc, word),
-        None => Ok(None),
-    }
+    pattern_head_of(tokens.word()?)
 }
 
 // What a pattern's list is.
 #[tactic(auto, using(isle_reading::proofs::Steps::words), unfolding(isle_grammar::specs::Reading::read_pattern_head))]
-fn read_head(tokens: &mut Tokens<'_>, alloc: Global) -> Result<PatternHead, Fail>
+fn read_head<'t>(tokens: &mut Tokens<'_, 't>) -> Result<PatternHead<'t>, Fail>
     ensures { Reads pattern_head_seen result read_pattern_head (left tokens.old) (left tokens.new) }
 {
-    match next_pattern_head(tokens, alloc)? {
+    match next_pattern_head(tokens) {
         Some(head) => {
             tokens.skip();
             Ok(head)
@@ -138,9 +128,9 @@ fn read_head(tokens: &mut Tokens<'_>, alloc: Global) -> Result<PatternHead, Fail
 
 // The pattern of a list.
 #[tactic(auto, using(isle_ast::proofs::Sees::pattern_sees))]
-fn listed(head: PatternHead, args: Vec<AstPattern>) -> AstPattern
+fn listed<'t>(head: PatternHead<'t>, args: Vec<AstPattern<'t>>) -> AstPattern<'t>
     ensures { pattern result
-        ≡ listed (pattern_head_seen head) (patterns_of (map pattern args.items)) }
+        ≡ listed (pattern_head_seen head.entry) (patterns_of (map pattern args.entry.items)) }
 {
     match head {
         PatternHead::And => AstPattern::And(List::new(args)),
@@ -151,12 +141,12 @@ fn listed(head: PatternHead, args: Vec<AstPattern>) -> AstPattern
 /// Reads a pattern inside which `depth` more may be open, its lists of at most `most` tokens.
 #[cycle(patterns)]
 #[tactic(auto, using(crate::proofs::PatternSteps::pattern_steps))]
-pub fn pattern(
-    tokens: &mut Tokens<'_>,
+pub fn pattern<'t>(
+    tokens: &mut Tokens<'_, 't>,
     alloc: Global,
     most: usize,
     depth: usize,
-) -> Result<AstPattern, Fail>
+) -> Result<AstPattern<'t>, Fail>
     ensures { Reads pattern result (read_pattern most depth) (left tokens.old) (left tokens.new) }
 {
     match tokens.opens() {
@@ -173,15 +163,15 @@ pub fn pattern(
 // A pattern that begins with a word.
 #[cycle(patterns)]
 #[tactic(auto, using(isle_reading::proofs::Steps::chain), unfolding(isle_grammar::specs::Reading::read_worded))]
-fn worded(
-    tokens: &mut Tokens<'_>,
+fn worded<'t>(
+    tokens: &mut Tokens<'_, 't>,
     alloc: Global,
     most: usize,
     depth: usize,
-) -> Result<AstPattern, Fail>
+) -> Result<AstPattern<'t>, Fail>
     ensures { Reads pattern result (read_worded most depth) (left tokens.old) (left tokens.new) }
 {
-    let first = first_word(tokens, alloc)?;
+    let first = first_word(tokens)?;
     match first {
         First::Leaf(leaf) => Ok(leaf),
         First::Symbol(name) => symbol(tokens, alloc, most, depth, name),
@@ -191,14 +181,14 @@ fn worded(
 // A pattern after the symbol that it begins with.
 #[cycle(patterns)]
 #[tactic(auto, using(crate::proofs::PatternSteps::symbol_steps, isle_ast::proofs::Sees::pattern_sees))]
-fn symbol(
-    tokens: &mut Tokens<'_>,
+fn symbol<'t>(
+    tokens: &mut Tokens<'_, 't>,
     alloc: Global,
     most: usize,
     depth: usize,
-    name: Text,
-) -> Result<AstPattern, Fail>
-    ensures { Reads pattern result (read_symbol most depth name) (left tokens.old)
+    name: Name<'t>,
+) -> Result<AstPattern<'t>, Fail>
+    ensures { Reads pattern result (read_symbol most depth name.entry) (left tokens.old)
         (left tokens.new) }
 {
     if tokens.len() == 0 {
@@ -220,17 +210,17 @@ fn symbol(
 // A pattern's list, inside whose parenthesis `depth` more may be open.
 #[cycle(patterns)]
 #[tactic(auto, using(isle_reading::proofs::Steps::chain), unfolding(isle_grammar::specs::Reading::read_listed))]
-fn list(
-    tokens: &mut Tokens<'_>,
+fn list<'t>(
+    tokens: &mut Tokens<'_, 't>,
     alloc: Global,
     most: usize,
     depth: usize,
-) -> Result<AstPattern, Fail>
+) -> Result<AstPattern<'t>, Fail>
     ensures { Reads pattern result (read_listed most (read_pattern most depth)) (left tokens.old)
         (left tokens.new) }
 {
     tokens.open()?;
-    let head = read_head(tokens, alloc)?;
+    let head = read_head(tokens)?;
     let args = patterns(tokens, alloc, most, depth)?;
     Ok(listed(head, args))
 }
@@ -238,12 +228,12 @@ fn list(
 // Patterns up to a closing parenthesis, which is taken, of at most `most` tokens.
 #[cycle(patterns)]
 #[tactic(auto, using(crate::proofs::PatternSteps::lists))]
-fn patterns(
-    tokens: &mut Tokens<'_>,
+fn patterns<'t>(
+    tokens: &mut Tokens<'_, 't>,
     alloc: Global,
     most: usize,
     depth: usize,
-) -> Result<Vec<AstPattern>, Fail>
+) -> Result<Vec<AstPattern<'t>>, Fail>
     ensures { Reads (λ args. map pattern args.items) result (many most (read_pattern most depth))
         (left tokens.old) (left tokens.new) }
 {
@@ -270,7 +260,11 @@ pub fn inside_list() -> usize
 
 /// Reads a pattern inside a definition's parenthesis, its lists of at most `most` tokens.
 #[tactic(auto, unfolding(isle_grammar::specs::Reading::read_template))]
-pub fn template(tokens: &mut Tokens<'_>, alloc: Global, most: usize) -> Result<AstPattern, Fail>
+pub fn template<'t>(
+    tokens: &mut Tokens<'_, 't>,
+    alloc: Global,
+    most: usize,
+) -> Result<AstPattern<'t>, Fail>
     ensures { Reads pattern result (read_template most) (left tokens.old) (left tokens.new) }
 {
     pattern(tokens, alloc, most, most_inside())
@@ -278,11 +272,11 @@ pub fn template(tokens: &mut Tokens<'_>, alloc: Global, most: usize) -> Result<A
 
 /// Reads the patterns of a rule's head up to the closing parenthesis, which is taken, of at most `most` tokens.
 #[tactic(auto, unfolding(isle_grammar::specs::Reading::read_argument))]
-pub fn arguments(
-    tokens: &mut Tokens<'_>,
+pub fn arguments<'t>(
+    tokens: &mut Tokens<'_, 't>,
     alloc: Global,
     most: usize,
-) -> Result<Vec<AstPattern>, Fail>
+) -> Result<Vec<AstPattern<'t>>, Fail>
     ensures { Reads (λ args. map pattern args.items) result (many most (read_argument most))
         (left tokens.old) (left tokens.new) }
 {

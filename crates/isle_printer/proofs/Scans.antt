@@ -8,7 +8,7 @@ use Rattle.std.proofs.lemmas.Bool.{or_parts, and_parts}
 use Rattle.std.proofs.lemmas.Bool.Decides.{nat_tests}
 use Rattle.isle_printer.specs.declared.printer.Last.{Last}
 use Rattle.isle_printer.specs.declared.printer.Last.TheVariants as last
-use Rattle.isle_printer.specs.Token.{Token, Word, Mark, State, Between, InWord, AfterMark, is_word_byte, joins, goes_on, begun, step, scan, finished, tokens_of, is_word, is_mark, is_mark_byte}
+use Rattle.isle_printer.specs.Token.{Token, Word, Mark, State, is_blank, Between, InWord, AfterMark, is_word_byte, joins, goes_on, begun, step, scan, finished, tokens_of, is_word, is_mark, is_mark_byte}
 use Rattle.isle_printer.specs.Glue.{Settles, Ends, EndsAtWord, meets, is_open, noted}
 
 -- a text goes on from where the text before it ended
@@ -72,13 +72,24 @@ pub scan-line : (s : List ℕ) → Ends (scan s).state 10 → scan (s ++ 10 ∷ 
 unfolding begun
 scan-line s e = scan-next s 10 [] e
 
--- four blanks if nothing was begun
-pub scan-pad : (s : List ℕ) → (scan s).state ≡ Between → scan (s ++ 32 ∷ 32 ∷ 32 ∷ 32 ∷ []) ≡ scan s
+-- a blank is no part of a word
+blank_no_word : (b : ℕ) → is_blank b ≡ true → is_word_byte b ≡ false
+blank_no_word b h = grind (arith, nat_tests)
+
+-- blanks begin nothing
+blanks_between : (ts : List Token) (bs : List ℕ) → list_all is_blank bs ≡ true → fold step (record { tokens = ts; state = Between }) bs ≡ record { tokens = ts; state = Between }
 unfolding step begun
-scan-pad s h = scan-append s (32 ∷ 32 ∷ 32 ∷ 32 ∷ []) ∙ four (scan s).tokens (scan s).state h
+blanks_between ts [] h = refl
+blanks_between ts (b ∷ bs) h =
+    let parts = and_parts (is_blank b) _ h in
+    rw (blank_no_word b parts.0) (rw parts.0 (blanks_between ts bs parts.1))
+
+-- blanks if nothing was begun
+pub scan_blanks : (s bs : List ℕ) → list_all is_blank bs ≡ true → (scan s).state ≡ Between → scan (s ++ bs) ≡ scan s
+scan_blanks s bs h k = scan-append s bs ∙ over (scan s).tokens (scan s).state k
   where
-    four : (ts : List Token) (st : State) → st ≡ Between → fold step (record { tokens = ts; state = st }) (32 ∷ 32 ∷ 32 ∷ 32 ∷ []) ≡ record { tokens = ts; state = st }
-    four ts st h = rw h refl
+    over : (ts : List Token) (st : State) → st ≡ Between → fold step (record { tokens = ts; state = st }) bs ≡ record { tokens = ts; state = st }
+    over ts st k = rw k (blanks_between ts bs h)
 
 -- ---- a word
 

@@ -183,15 +183,33 @@ fn end_line(text: &mut String, last: &mut Last) -> Result<(), AllocError>
 // How many levels a line is set in at most, so that a text nested deep grows with its tokens alone.
 const MOST_LEVELS: usize = 32;
 
-// Four blanks for each level, up to the most.
+const ONE_LEVEL: &str = "    ";
+
+const FOUR_LEVELS: &str = "                ";
+
+const SIXTEEN_LEVELS: &str = "                                                                ";
+
+// Some blanks, so many times.
+fn push_blanks(text: &mut String, blanks: &str, times: usize) -> Result<(), AllocError>
+    requires between { (scan (string_bytes text.old)).state ≡ Between }
+    requires blanks { IsTrue (list_all is_blank blanks.now) }
+    ensures { scan (string_bytes text.new) ≡ scan (string_bytes text.old) }
+{
+    for _ in 0..times {
+        text.push_str(blanks)?;
+    }
+    Ok(())
+}
+
+// Four blanks for each level, up to the most: those of sixteen levels, and of four, at once.
 fn pad(text: &mut String, depth: usize) -> Result<(), AllocError>
     requires { (scan (string_bytes text.old)).state ≡ Between }
     ensures { scan (string_bytes text.new) ≡ scan (string_bytes text.old) }
 {
-    for _ in 0..depth.min(MOST_LEVELS) {
-        text.push_str("    ")?;
-    }
-    Ok(())
+    let levels = depth.min(MOST_LEVELS);
+    push_blanks(text, SIXTEEN_LEVELS, levels / 16)?;
+    push_blanks(text, FOUR_LEVELS, levels % 16 / 4)?;
+    push_blanks(text, ONE_LEVEL, levels % 4)
 }
 
 impl Printer {

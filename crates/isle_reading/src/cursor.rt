@@ -81,15 +81,15 @@ pub enum Expected {
 
 /// The tokens of a text, and how many of them were read; also what was expected last where reading stopped.
 #[derive(Clone, Copy, Debug)]
-pub struct Tokens<'t> {
-    all: &'t [Token<'t>],
+pub struct Tokens<'k, 't> {
+    all: &'k [Token<'t>],
     next: usize,
     expected: Expected,
 }
 
-impl<'t> Tokens<'t> {
+impl<'k, 't> Tokens<'k, 't> {
     /// Begins before the first token.
-    pub fn new(all: &'t [Token<'t>]) -> Tokens<'t>
+    pub fn new(all: &'k [Token<'t>]) -> Tokens<'k, 't>
         ensures { left result ≡ tokens_seen all.now }
     {
         Tokens {

@@ -20,14 +20,14 @@ use isle_terms::{Locals, Variables, new_count};
 use std::alloc::{AllocError, Global};
 
 /// Elaborates an expression over the variables of patterns, from this number on; returns the next number after it.
-pub fn expr_over<'d>(
+pub fn expr_over<'b, 'd>(
     alloc: Global,
     known: &Known,
-    vars: &Variables<'d>,
-    judged: &mut Judging<'_, 'd>,
+    vars: &Variables<'b>,
+    judged: &mut Judging<'_, 'b, 'd>,
     next: usize,
     expected: Option<TypeId>,
-    e: &'d AstExpr,
+    e: &'b AstExpr<'d>,
 ) -> Result<(Option<Expr>, usize), AllocError>
     ensures { IfOk result (λ found.
         IsExprOver (whole known.now) expected (expr e.now) vars.now next judged.old.rows
@@ -39,11 +39,11 @@ pub fn expr_over<'d>(
 }
 
 // The type of an expression over the variables of patterns, where none is expected.
-fn type_over<'d>(
+fn type_over<'b, 'd>(
     alloc: Global,
     known: &Known,
-    vars: &Variables<'d>,
-    e: &'d AstExpr,
+    vars: &Variables<'b>,
+    e: &'b AstExpr<'d>,
 ) -> Result<Option<TypeId>, AllocError>
     ensures { IfOk result (λ ty.
         ty ≡ own_type (whole known.now) (of_patterns vars.now) (expr e.now)) }
@@ -63,12 +63,12 @@ fn condition_of(lhs: Option<Pattern>, rhs: Option<Expr>) -> Option<IfLet>
 }
 
 // A condition: its expression, over the variables before it, and then its pattern.
-fn condition_at<'d>(
+fn condition_at<'b, 'd>(
     alloc: Global,
     known: &Known,
-    vars: &mut Variables<'d>,
-    judged: &mut Judging<'_, 'd>,
-    given: &'d AstIfLet,
+    vars: &mut Variables<'b>,
+    judged: &mut Judging<'_, 'b, 'd>,
+    given: &'b AstIfLet<'d>,
 ) -> Result<Option<IfLet>, AllocError>
     ensures { IfOk result (λ found.
         IsConditionAt (whole known.now) (iflet given.now) vars.old vars.new judged.old.rows
@@ -86,12 +86,12 @@ fn condition_at<'d>(
 }
 
 /// Elaborates conditions in order, each over the variables before it: gives their trees, if all have one.
-pub fn conditions_at<'d>(
+pub fn conditions_at<'b, 'd>(
     alloc: Global,
     known: &Known,
-    vars: &mut Variables<'d>,
-    judged: &mut Judging<'_, 'd>,
-    given: &'d [AstIfLet],
+    vars: &mut Variables<'b>,
+    judged: &mut Judging<'_, 'b, 'd>,
+    given: &'b [AstIfLet<'d>],
 ) -> Result<Option<Vec<IfLet>>, AllocError>
     ensures { IfOk result (λ found.
         AreConditionsAt (whole known.now) (map iflet given.now) vars.old vars.new judged.old.rows

@@ -18,7 +18,7 @@ ghost use Rattle.isle_sema.specs.ElaboratedAt.{IsBindingAt, AreBindingsAt};
 use crate::judging::Judging;
 use crate::known::{Called, Known, argument_types, result_type, within};
 use isle_ast::{AstExpr, AstLet};
-use isle_core::{Boxed, Expr, LetBinding, List, Text, TypeEnv, TypeId, VarId};
+use isle_core::{Boxed, Expr, LetBinding, List, Name, TypeEnv, TypeId, VarId};
 use isle_terms::{Locals, Thing, type_named, typed_integer};
 use std::alloc::{AllocError, Global};
 
@@ -33,7 +33,7 @@ fn integer_at(types: &TypeEnv, expected: Option<TypeId>, n: i128) -> Option<Expr
 
 // A constant of this type, if it is declared.
 #[tactic(auto, using(isle_core::proofs::SeesRules::sees))]
-fn constant_at(known: &Known, found: Option<TypeId>, name: &Text) -> Option<Expr>
+fn constant_at(known: &Known, found: Option<TypeId>, name: &Name) -> Option<Expr>
     ensures { option_map elaborated result ≡ constant_tree (whole known.now).types found name.now }
 {
     let ty = found?;
@@ -86,13 +86,13 @@ fn variable_of(found: Option<(Option<TypeId>, usize)>) -> Option<Expr>
 }
 
 // A variable where this type is expected.
-fn variable_at<'d>(
+fn variable_at<'b, 'd>(
     alloc: Global,
     known: &Known,
     vars: &Locals,
-    judged: &mut Judging<'_, 'd>,
+    judged: &mut Judging<'_, 'b, 'd>,
     expected: Option<TypeId>,
-    name: &'d Text,
+    name: &'b Name<'d>,
 ) -> Result<Option<Expr>, AllocError>
     ensures { IfOk result (λ found.
         IsExprAt (whole known.now) expected (tree.Name name.now) vars.now vars.now judged.old.rows
@@ -111,13 +111,13 @@ fn variable_at<'d>(
 }
 
 // A constant where this type is expected.
-fn named_at<'d>(
+fn named_at<'b, 'd>(
     alloc: Global,
     known: &Known,
     vars: &Locals,
-    judged: &mut Judging<'_, 'd>,
+    judged: &mut Judging<'_, 'b, 'd>,
     expected: Option<TypeId>,
-    name: &'d Text,
+    name: &'b Name<'d>,
 ) -> Result<Option<Expr>, AllocError>
     ensures { IfOk result (λ found.
         IsExprAt (whole known.now) expected (tree.Constant name.now) vars.now vars.now
@@ -184,13 +184,13 @@ fn binding_of(number: usize, ty: Option<TypeId>, found: Option<Expr>) -> Option<
 /// (`specs/ExprPass.antt`).
 #[cycle(exprs)]
 #[tactic(auto, using(isle_ast::proofs::Sees::expr_sees, isle_core::proofs::SeesRules::sees))]
-pub fn expr_at<'d>(
+pub fn expr_at<'b, 'd>(
     alloc: Global,
     known: &Known,
-    vars: &mut Locals<'_, 'd>,
-    judged: &mut Judging<'_, 'd>,
+    vars: &mut Locals<'_, 'b, 'd>,
+    judged: &mut Judging<'_, 'b, 'd>,
     expected: Option<TypeId>,
-    e: &'d AstExpr,
+    e: &'b AstExpr<'d>,
 ) -> Result<Option<Expr>, AllocError>
     ensures { IfOk result (λ found.
         IsExprAt (whole known.now) expected (expr e.now) vars.old vars.new judged.old.rows
@@ -228,14 +228,14 @@ pub fn expr_at<'d>(
 
 // A call where this type is expected.
 #[cycle(exprs)]
-fn call_at<'d>(
+fn call_at<'b, 'd>(
     alloc: Global,
     known: &Known,
-    vars: &mut Locals<'_, 'd>,
-    judged: &mut Judging<'_, 'd>,
+    vars: &mut Locals<'_, 'b, 'd>,
+    judged: &mut Judging<'_, 'b, 'd>,
     expected: Option<TypeId>,
-    name: &'d Text,
-    args: &'d [AstExpr],
+    name: &'b Name<'d>,
+    args: &'b [AstExpr<'d>],
 ) -> Result<Option<Expr>, AllocError>
     ensures { IfOk result (λ found.
         IsExprAt (whole known.now) expected (tree.Call name.now (exprs_of (map expr args.now)))
@@ -257,13 +257,13 @@ fn call_at<'d>(
 
 // Expressions where these types are expected, beyond them none: their trees, if all have one.
 #[cycle(exprs)]
-fn exprs_at<'d>(
+fn exprs_at<'b, 'd>(
     alloc: Global,
     known: &Known,
-    vars: &mut Locals<'_, 'd>,
-    judged: &mut Judging<'_, 'd>,
+    vars: &mut Locals<'_, 'b, 'd>,
+    judged: &mut Judging<'_, 'b, 'd>,
     types: &[TypeId],
-    es: &'d [AstExpr],
+    es: &'b [AstExpr<'d>],
 ) -> Result<Option<Vec<Expr>>, AllocError>
     ensures { IfOk result (λ found.
         AreExprsAt (whole known.now) types.now (exprs_of (map expr es.now)) vars.old vars.new
@@ -282,12 +282,12 @@ fn exprs_at<'d>(
 
 // The variables of a `let`, each with its value: their trees, if all have one.
 #[cycle(exprs)]
-fn lets_at<'d>(
+fn lets_at<'b, 'd>(
     alloc: Global,
     known: &Known,
-    vars: &mut Locals<'_, 'd>,
-    judged: &mut Judging<'_, 'd>,
-    lets: &'d [AstLet],
+    vars: &mut Locals<'_, 'b, 'd>,
+    judged: &mut Judging<'_, 'b, 'd>,
+    lets: &'b [AstLet<'d>],
 ) -> Result<Option<Vec<LetBinding>>, AllocError>
     ensures { IfOk result (λ found.
         AreBindingsAt (whole known.now) (lets_of (map binding lets.now)) vars.old vars.new
@@ -306,12 +306,12 @@ fn lets_at<'d>(
 
 // A variable of a `let` with its value.
 #[cycle(exprs)]
-fn binding_at<'d>(
+fn binding_at<'b, 'd>(
     alloc: Global,
     known: &Known,
-    vars: &mut Locals<'_, 'd>,
-    judged: &mut Judging<'_, 'd>,
-    l: &'d AstLet,
+    vars: &mut Locals<'_, 'b, 'd>,
+    judged: &mut Judging<'_, 'b, 'd>,
+    l: &'b AstLet<'d>,
 ) -> Result<Option<LetBinding>, AllocError>
     ensures { IfOk result (λ found.
         IsBindingAt (whole known.now) l.now.var l.now.ty (expr l.now.val) vars.old vars.new

@@ -15,7 +15,7 @@ ghost use Rattle.isle_sema.specs.ElaboratedAt.{pattern_trees, copies, IsPatternA
 use crate::judging::Judging;
 use crate::known::{Called, Known, argument_types, result_type, within};
 use isle_ast::AstPattern;
-use isle_core::{Boxed, List, Pattern, Text, TypeEnv, TypeId, VarId};
+use isle_core::{Boxed, List, Name, Pattern, TypeEnv, TypeId, VarId};
 use isle_terms::{Thing, Variables, is_blank, typed_integer};
 use std::alloc::{AllocError, Global};
 
@@ -30,7 +30,7 @@ fn integer_at(types: &TypeEnv, expected: Option<TypeId>, n: i128) -> Option<Patt
 
 // A variable, if it is bound at a type that is known.
 #[tactic(auto, using(isle_core::proofs::SeesRules::sees))]
-fn variable_at(vars: &Variables, name: &Text) -> Option<Pattern>
+fn variable_at(vars: &Variables, name: &Name) -> Option<Pattern>
     ensures { option_map elaborated result ≡ variable_tree vars.now name.now }
 {
     let (ty, var) = vars.typed(name)?;
@@ -80,7 +80,7 @@ fn copies(alloc: Global, expected: Option<TypeId>, count: usize) -> Result<Vec<T
 
 // A constant of this type, if it is declared.
 #[tactic(auto, using(isle_core::proofs::SeesRules::sees))]
-fn constant_at(known: &Known, found: Option<TypeId>, name: &Text) -> Option<Pattern>
+fn constant_at(known: &Known, found: Option<TypeId>, name: &Name) -> Option<Pattern>
     ensures { option_map elaborated result ≡ constant_tree (whole known.now).types found name.now }
 {
     let ty = found?;
@@ -125,13 +125,13 @@ fn converted(
 /// A pattern where this type is expected: its tree, if its types are known.
 #[cycle(patterns)]
 #[tactic(auto, using(isle_ast::proofs::Sees::pattern_sees, isle_core::proofs::SeesRules::sees))]
-pub fn pattern_at<'d>(
+pub fn pattern_at<'b, 'd>(
     alloc: Global,
     known: &Known,
-    vars: &mut Variables<'d>,
-    judged: &mut Judging<'_, 'd>,
+    vars: &mut Variables<'b>,
+    judged: &mut Judging<'_, 'b, 'd>,
     expected: Option<TypeId>,
-    p: &'d AstPattern,
+    p: &'b AstPattern<'d>,
 ) -> Result<Option<Pattern>, AllocError>
     ensures { IfOk result (λ found.
         IsPatternAt (whole known.now) expected (pattern p.now) vars.old vars.new judged.old.rows
@@ -174,14 +174,14 @@ pub fn pattern_at<'d>(
 
 // `@` where this type is expected: the variable is met before the pattern is.
 #[cycle(patterns)]
-fn bind_at<'d>(
+fn bind_at<'b, 'd>(
     alloc: Global,
     known: &Known,
-    vars: &mut Variables<'d>,
-    judged: &mut Judging<'_, 'd>,
+    vars: &mut Variables<'b>,
+    judged: &mut Judging<'_, 'b, 'd>,
     expected: Option<TypeId>,
-    name: &'d Text,
-    inner: &'d AstPattern,
+    name: &'b Name<'d>,
+    inner: &'b AstPattern<'d>,
 ) -> Result<Option<Pattern>, AllocError>
     ensures { IfOk result (λ found.
         IsPatternAt (whole known.now) expected (tree.Bind name.now (pattern inner.now)) vars.old
@@ -199,13 +199,13 @@ fn bind_at<'d>(
 
 // Patterns that all match one value, where this type is expected.
 #[cycle(patterns)]
-fn and_at<'d>(
+fn and_at<'b, 'd>(
     alloc: Global,
     known: &Known,
-    vars: &mut Variables<'d>,
-    judged: &mut Judging<'_, 'd>,
+    vars: &mut Variables<'b>,
+    judged: &mut Judging<'_, 'b, 'd>,
     expected: Option<TypeId>,
-    parts: &'d [AstPattern],
+    parts: &'b [AstPattern<'d>],
 ) -> Result<Option<Pattern>, AllocError>
     ensures { IfOk result (λ found.
         IsPatternAt (whole known.now) expected (tree.And (patterns_of (map pattern parts.now)))
@@ -218,14 +218,14 @@ fn and_at<'d>(
 
 // A term on patterns where this type is expected.
 #[cycle(patterns)]
-fn term_at<'d>(
+fn term_at<'b, 'd>(
     alloc: Global,
     known: &Known,
-    vars: &mut Variables<'d>,
-    judged: &mut Judging<'_, 'd>,
+    vars: &mut Variables<'b>,
+    judged: &mut Judging<'_, 'b, 'd>,
     expected: Option<TypeId>,
-    name: &'d Text,
-    parts: &'d [AstPattern],
+    name: &'b Name<'d>,
+    parts: &'b [AstPattern<'d>],
 ) -> Result<Option<Pattern>, AllocError>
     ensures { IfOk result (λ found.
         IsPatternAt (whole known.now) expected
@@ -248,13 +248,13 @@ fn term_at<'d>(
 
 /// Patterns where these types are expected, beyond them none: their trees, if all have one.
 #[cycle(patterns)]
-pub fn patterns_at<'d>(
+pub fn patterns_at<'b, 'd>(
     alloc: Global,
     known: &Known,
-    vars: &mut Variables<'d>,
-    judged: &mut Judging<'_, 'd>,
+    vars: &mut Variables<'b>,
+    judged: &mut Judging<'_, 'b, 'd>,
     types: &[TypeId],
-    patterns: &'d [AstPattern],
+    patterns: &'b [AstPattern<'d>],
 ) -> Result<Option<Vec<Pattern>>, AllocError>
     ensures { IfOk result (λ found.
         ArePatternsAt (whole known.now) types.now (patterns_of (map pattern patterns.now)) vars.old

@@ -83,7 +83,7 @@ fn written_from(
 }
 
 // An elaborated rule, unless it has too many nodes.
-fn found_rule<'d>(elaborated: Option<Rule>) -> Result<Rule, Breach<'d>>
+fn found_rule<'b, 'd>(elaborated: Option<Rule>) -> Result<Rule, Breach<'b, 'd>>
     ensures { result ≡ found_rule elaborated }
 {
     match elaborated {
@@ -96,14 +96,14 @@ fn found_rule<'d>(elaborated: Option<Rule>) -> Result<Rule, Breach<'d>>
 }
 
 // The rule of that number, of this term, with its templates replaced; or the row that it breaks.
-fn rule_of<'d>(
+fn rule_of<'b, 'd>(
     alloc: Global,
     known: &Known,
     extractors: &Extractors,
     own: &Called,
     number: usize,
-    given: &RuleDef<'d>,
-) -> Result<Result<Rule, Breach<'d>>, AllocError>
+    given: &RuleDef<'b, 'd>,
+) -> Result<Result<Rule, Breach<'b, 'd>>, AllocError>
     requires own { IsHead (whole known.now) given.now.term.now own.now }
     requires types { type_fault (seen_defs known.now) ≡ None }
     requires terms { term_fault (whole known.now) ≡ None }
@@ -136,13 +136,13 @@ fn rule_of<'d>(
 }
 
 // The same of a rule whose term is declared.
-fn rule_at<'d>(
+fn rule_at<'b, 'd>(
     alloc: Global,
     known: &Known,
     extractors: &Extractors,
     number: usize,
-    given: &RuleDef<'d>,
-) -> Result<Result<Rule, Breach<'d>>, AllocError>
+    given: &RuleDef<'b, 'd>,
+) -> Result<Result<Rule, Breach<'b, 'd>>, AllocError>
     requires number { index_of (whole known.now).types.syms given.now.term.now
         ≡ Some given.now.number }
     requires declared { is_some (termed (whole known.now) given.now.term.now) ≡ true }
@@ -164,12 +164,12 @@ fn rule_at<'d>(
 
 /// Returns the rules, numbered in order; or else the first that breaks a row, with the lowest such row. The only error
 /// is want of memory.
-pub fn rules_at<'d>(
+pub fn rules_at<'b, 'd>(
     alloc: Global,
-    known: &Known<'_, 'd>,
+    known: &Known<'_, 'b, 'd>,
     extractors: &Extractors,
-    given: &[RuleDef<'d>],
-) -> Result<Result<Vec<Rule>, Fault<'d>>, AllocError>
+    given: &[RuleDef<'b, 'd>],
+) -> Result<Result<Vec<Rule>, Fault<'b, 'd>>, AllocError>
     requires rules { AreRules (seen_defs known.now) given.now }
     requires declared { AreHeadsDeclared (whole known.now) }
     requires types { type_fault (seen_defs known.now) ≡ None }

@@ -14,10 +14,10 @@ use isle_terms::{Locals, type_named};
 use std::alloc::AllocError;
 
 // Binds the variables of a `let` at the types that are written.
-fn bind_each<'d>(
+fn bind_each<'b, 'd>(
     known: &Known,
-    vars: &mut Locals<'_, 'd>,
-    lets: &'d [AstLet],
+    vars: &mut Locals<'_, 'b, 'd>,
+    lets: &'b [AstLet<'d>],
 ) -> Result<(), AllocError>
     ensures { OnOk result
         (locals_of vars.new
@@ -33,10 +33,10 @@ fn bind_each<'d>(
 /// The variables of its `let`s are left in scope. The only error is want of memory.
 #[cycle(types)]
 #[tactic(auto, using(isle_ast::proofs::Sees::expr_sees))]
-pub fn own_type<'d>(
+pub fn own_type<'b, 'd>(
     known: &Known,
-    vars: &mut Locals<'_, 'd>,
-    e: &'d AstExpr,
+    vars: &mut Locals<'_, 'b, 'd>,
+    e: &'b AstExpr<'d>,
 ) -> Result<Option<TypeId>, AllocError>
     ensures { IfOk result (λ ty.
         ty ≡ own_type (whole known.now) (locals_of vars.old) (expr e.now)) }

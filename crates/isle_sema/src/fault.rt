@@ -3,7 +3,7 @@
 ghost use Rattle.std.specs.Prelude.{IfOk};
 ghost use Rattle.isle_types.specs.Gathered.{TellsFault};
 
-use isle_core::{Error, OutOfMemory, Pos, Text, TypeEnv};
+use isle_core::{Error, Name, OutOfMemory, Pos, Text, TypeEnv};
 use isle_terms::{Culprit, push_culprit};
 use isle_types::{Row, push_name, told, type_error};
 use std::alloc::Global;
@@ -11,14 +11,14 @@ use std::alloc::Global;
 /// The row that a template or a rule breaks, its place, the name of its term, and the part that breaks it, if one
 /// does.
 #[derive(Clone, Copy)]
-pub struct Fault<'d> {
+pub struct Fault<'b, 'd> {
     pub row: Row,
     pub pos: Pos,
-    pub term: &'d Text,
-    pub culprit: Option<Culprit<'d>>,
+    pub term: &'b Name<'d>,
+    pub culprit: Option<Culprit<'b, 'd>>,
 }
 
-impl<'d> Fault<'d> {
+impl<'b, 'd> Fault<'b, 'd> {
     /// Returns the error that reports it, with the names of these types.
     pub fn error(&self, alloc: Global, types: &TypeEnv) -> Result<Error, OutOfMemory>
         ensures { IfOk result (λ error. TellsFault (self.now.row, self.now.pos) error) }
@@ -26,12 +26,12 @@ impl<'d> Fault<'d> {
         let msg = match &self.culprit {
             Some(culprit) => {
                 let mut words = String::from_str(alloc, "'")?;
-                push_name(&mut words, self.term)?;
+                push_name(&mut words, self.term.as_str())?;
                 words.push_str("': ")?;
                 push_culprit(alloc, &mut words, types, self.term, culprit)?;
                 Text::new(words)
             }
-            None => told(alloc, "'", self.term, whole(self.row))?,
+            None => told(alloc, "'", self.term.as_str(), whole(self.row))?,
         };
         Ok(type_error(self.row, self.pos, msg))
     }

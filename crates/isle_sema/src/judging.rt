@@ -13,16 +13,16 @@ ghost use Rattle.isle_sema.specs.PatternPass.{taken_by};
 ghost use Rattle.isle_sema.specs.ExprPass.{called_by};
 
 use crate::known::Called;
-use isle_core::{Text, TypeEnv, TypeId};
+use isle_core::{Name, TypeEnv, TypeId};
 use isle_templates::marked;
 use isle_terms::{Counts, Firsts, Judged, Thing, takes_integers, takes_truths};
 
 /// Which rows the parts that were met so far break, and the first part that breaks each: nothing is said of the latter,
 /// which is for the words of a fault.
 #[derive(Clone, Copy)]
-pub struct Judging<'m, 'd> {
+pub struct Judging<'m, 'b, 'd> {
     pub rows: Judged<'m>,
-    pub firsts: Firsts<'d>,
+    pub firsts: Firsts<'b, 'd>,
 }
 
 // Whether a type differs from the one that is expected, if there is one.
@@ -37,9 +37,9 @@ fn is_other_type(bound: Option<Option<TypeId>>, expected: Option<TypeId>) -> boo
 
 // The rows look at the definitions at integers, truths and terms alone: elsewhere it is all one what definitions there
 // are.
-impl<'m, 'd> Judging<'m, 'd> {
+impl<'m, 'b, 'd> Judging<'m, 'b, 'd> {
     /// Begins with no part, over these marks of terms that are `multi` where a pattern uses them.
-    pub fn new(multis: &'m [bool]) -> Judging<'m, 'd>
+    pub fn new(multis: &'m [bool]) -> Judging<'m, 'b, 'd>
         ensures { result.rows ≡ unjudged multis.entry }
     {
         Judging {
@@ -76,7 +76,7 @@ impl<'m, 'd> Judging<'m, 'd> {
     }
 
     /// Judges a variable of a `let` by its type, which has this name, if it is declared.
-    pub fn bound(&mut self, ty: Option<TypeId>, name: &'d Text)
+    pub fn bound(&mut self, ty: Option<TypeId>, name: &'b Name<'d>)
         ensures { self.new.rows ≡ judge (whole_of []) self.old.rows (BoundAt ty) }
     {
         self.rows.mistyped = ty.is_none() | self.rows.mistyped;
@@ -105,7 +105,12 @@ impl<'m, 'd> Judging<'m, 'd> {
     }
 
     /// Judges a variable in a pattern by the type that it was bound at before, if it was.
-    pub fn met(&mut self, expected: Option<TypeId>, bound: Option<Option<TypeId>>, name: &'d Text)
+    pub fn met(
+        &mut self,
+        expected: Option<TypeId>,
+        bound: Option<Option<TypeId>>,
+        name: &'b Name<'d>,
+    )
         ensures { self.new.rows ≡ judge (whole_of []) self.old.rows (MetAt expected bound) }
     {
         self.rows.met_otherwise = is_other_type(bound, expected) | self.rows.met_otherwise;
@@ -120,7 +125,12 @@ impl<'m, 'd> Judging<'m, 'd> {
     }
 
     /// Judges a variable in an expression by the type that it was bound at, if it was.
-    pub fn used(&mut self, expected: Option<TypeId>, bound: Option<Option<TypeId>>, name: &'d Text)
+    pub fn used(
+        &mut self,
+        expected: Option<TypeId>,
+        bound: Option<Option<TypeId>>,
+        name: &'b Name<'d>,
+    )
         ensures { self.new.rows ≡ judge (whole_of []) self.old.rows (UsedAt expected bound) }
     {
         self.rows.unknown = bound.is_none() | self.rows.unknown;
@@ -140,7 +150,7 @@ impl<'m, 'd> Judging<'m, 'd> {
         expected: Option<TypeId>,
         callee: &Option<Called>,
         count: usize,
-        thing: Thing<'d>,
+        thing: Thing<'b, 'd>,
     )
         ensures { (w : Whole) (s : Option Signature) → MayBeCalled w s callee.now
             → self.new.rows ≡ judge w self.old.rows (CalledAt expected s count) }
@@ -170,7 +180,7 @@ impl<'m, 'd> Judging<'m, 'd> {
         expected: Option<TypeId>,
         callee: &Option<Called>,
         count: usize,
-        thing: Thing<'d>,
+        thing: Thing<'b, 'd>,
     )
         ensures { (w : Whole) (s : Option Signature) → MayBeCalled w s callee.now
             → self.new.rows ≡ judge w self.old.rows (TakenAt expected s count) }
@@ -229,7 +239,7 @@ impl<'m, 'd> Judging<'m, 'd> {
         in_pattern: bool,
         expected: Option<TypeId>,
         found: Option<TypeId>,
-        name: &'d Text,
+        name: &'b Name<'d>,
     )
         ensures { self.new.rows
             ≡ judge (whole_of []) self.old.rows (ConstantAt in_pattern expected found) }

@@ -9,7 +9,7 @@ ghost use Rattle.isle_terms.specs.Converters.{conversion, within};
 ghost use Rattle.isle_terms.specs.Whole.{whole};
 ghost use Rattle.isle_sema.specs.Known.{MayBeCalled};
 
-use isle_core::{Sym, Term, TermId, Text, TypeEnv, TypeId};
+use isle_core::{Name, Sym, Term, TermId, TypeEnv, TypeId};
 use isle_declarations::{Declarations, KnownExtractor, Origin, Terms};
 use isle_terms::Converters;
 use isle_types::Before;
@@ -34,25 +34,26 @@ pub struct Called<'s> {
 
 /// Definitions whose types, constants and terms have no fault, with what they declare. Contracts see the definitions.
 #[derive(Drop)]
-pub struct Known<'s, 'd> {
-    pub declarations: &'s Declarations<'d>,
-    pub before: &'s Before<'d>,
+pub struct Known<'s, 'b, 'd> {
+    pub declarations: &'s Declarations<'b, 'd>,
+    pub before: &'s Before<'b>,
     pub types: &'s TypeEnv,
-    pub terms: &'s Terms<'d>,
+    pub terms: &'s Terms<'b, 'd>,
     pub typed: &'s [Term],
     pub converters: &'s Converters,
 }
 
-impl<'s, 'd> Model for Known<'s, 'd> {
+impl<'s, 'b, 'd> Model for Known<'s, 'b, 'd> {
     ghost use Rattle.std.specs.Prelude.{List};
     ghost use Rattle.std.specs.Coded.{codes};
+    ghost use denote.Signature.{static_lft};
     ghost use Rattle.isle_ast.specs.contracts.tree.Def as d;
     ghost use Rattle.isle_ast.specs.declared.tree.Def.{Def};
     ghost use Rattle.isle_sema.specs.KnownOf.{AreKnown};
 
     ghost Value = { List Def };
 
-    ghost coded = { Prim.hlevel (codes, d.the_row.coded) };
+    ghost coded = { Prim.hlevel (codes, (d.the_row static_lft).coded) };
 
     ghost view = { λ k. k.declarations.now };
 
@@ -71,7 +72,7 @@ pub fn argument_types<'s>(callee: &Option<Called<'s>>) -> &'s [TypeId]
     }
 }
 
-impl<'s, 'd> Known<'s, 'd> {
+impl<'s, 'b, 'd> Known<'s, 'b, 'd> {
     /// Returns the types and constants.
     pub fn types(&self) -> &'s TypeEnv
         ensures { result.now ≡ (whole self.now).types }
@@ -80,7 +81,7 @@ impl<'s, 'd> Known<'s, 'd> {
     }
 
     /// Returns the type of a constant, if it is declared.
-    pub fn constant(&self, name: &Text) -> Option<TypeId>
+    pub fn constant(&self, name: &Name) -> Option<TypeId>
         ensures { result ≡ constant_type (whole self.now) name.now }
     {
         let place = self.before.constants.find(name.as_str())?;
@@ -89,10 +90,10 @@ impl<'s, 'd> Known<'s, 'd> {
     }
 
     /// Returns the symbol of a name.
-    pub fn sym(&self, name: &Text) -> Sym
+    pub fn sym(&self, name: &Name) -> Sym
         ensures { result ≡ sym_of (whole self.now).types.syms name.now }
     {
-        self.declarations.sym(name)
+        self.declarations.sym(name.as_str())
     }
 
     /// Returns the term of the name of this number.
@@ -127,10 +128,10 @@ impl<'s, 'd> Known<'s, 'd> {
     }
 
     /// Returns the term of a name.
-    pub fn called(&self, name: &Text) -> Option<Called<'s>>
+    pub fn called(&self, name: &Name) -> Option<Called<'s>>
         ensures { MayBeCalled (whole self.now) (termed (whole self.now) name.now) result }
     {
-        match self.declarations.number(name) {
+        match self.declarations.number(name.as_str()) {
             Some(number) => self.at(number),
             None => None,
         }

@@ -18,23 +18,23 @@ use std::alloc::{AllocError, Global};
 /// The patterns, the conditions and the right side of a rule, if they have trees, and what the rows say of the parts
 /// of the patterns and conditions, and of those of the right side.
 #[derive(Drop)]
-pub struct Sides<'m, 'd> {
+pub struct Sides<'m, 'b, 'd> {
     pub args: Option<Vec<Pattern>>,
     pub iflets: Option<Vec<IfLet>>,
     pub rhs: Option<Expr>,
-    pub left: Judging<'m, 'd>,
-    pub right: Judging<'m, 'd>,
+    pub left: Judging<'m, 'b, 'd>,
+    pub right: Judging<'m, 'b, 'd>,
 }
 
 /// Elaborates both sides of a rule of this term, and its conditions, over these marks of terms that are `multi` if a
 /// pattern uses them.
-pub fn sides_of<'m, 'd>(
+pub fn sides_of<'m, 'b, 'd>(
     alloc: Global,
     known: &Known,
     multis: &'m [bool],
     own: &Called,
-    given: &RuleDef<'d>,
-) -> Result<Sides<'m, 'd>, AllocError>
+    given: &RuleDef<'b, 'd>,
+) -> Result<Sides<'m, 'b, 'd>, AllocError>
     requires { IsHead (whole known.now) given.now.term.now own.now }
     ensures { IfOk result (λ sides.
         AreSides (whole known.now) (seen given.now) multis.entry sides) }

@@ -25,7 +25,7 @@ use crate::known::{Called, Known, argument_types, result_type};
 use crate::rows::template_row;
 use crate::template_uses::{reaches_itself, used_templates};
 use isle_ast::AstPattern;
-use isle_core::{List, Pattern, Text};
+use isle_core::{List, Name, Pattern};
 use isle_declarations::{Extracting, ExtractorDef, TermDef};
 use isle_templates::{Templates, copied_at, multi_extractors, whole_templates};
 use isle_terms::{Breach, Variables, misses_variable, template_culprit};
@@ -33,11 +33,11 @@ use isle_walks::closed_walks;
 use std::alloc::{AllocError, Global};
 
 // The variables of a template: its parameters, each at the type of its argument.
-fn parameters<'d>(
+fn parameters<'b, 'd>(
     alloc: Global,
     callee: &Option<Called>,
-    params: &'d [Text],
-) -> Result<Variables<'d>, AllocError>
+    params: &'b [Name<'d>],
+) -> Result<Variables<'b>, AllocError>
     ensures { (w : Whole) (s : Option Signature) → MayBeCalled w s callee.now
         → IfOk result (λ vars. vars ≡ params_met no_variables params.now (arg_types w s)) }
 {
@@ -50,12 +50,12 @@ fn parameters<'d>(
 }
 
 // The tree of an extractor's template, if it has one; or the row that it breaks.
-fn template_of<'d>(
+fn template_of<'b, 'd>(
     alloc: Global,
     known: &Known,
     closed: &[bool],
-    given: &ExtractorDef<'d>,
-) -> Result<Result<Option<Pattern>, Breach<'d>>, AllocError>
+    given: &ExtractorDef<'b, 'd>,
+) -> Result<Result<Option<Pattern>, Breach<'b, 'd>>, AllocError>
     requires number { index_of (whole known.now).types.syms given.now.term.now
         ≡ Some given.now.number }
     requires closed { AreClosedTold (template_uses (whole known.now)) closed.now }
@@ -82,12 +82,12 @@ fn template_of<'d>(
 }
 
 // Those of extractors, in order; or the first that breaks a row.
-fn templates_of<'d>(
+fn templates_of<'b, 'd>(
     alloc: Global,
-    known: &Known<'_, 'd>,
+    known: &Known<'_, 'b, 'd>,
     closed: &[bool],
-    given: &[ExtractorDef<'d>],
-) -> Result<Result<Vec<Option<Pattern>>, Fault<'d>>, AllocError>
+    given: &[ExtractorDef<'b, 'd>],
+) -> Result<Result<Vec<Option<Pattern>>, Fault<'b, 'd>>, AllocError>
     requires extractors { AreExtractors (seen_defs known.now) given.now }
     requires closed { AreClosedTold (template_uses (whole known.now)) closed.now }
     ensures { IfOk result (λ found.
@@ -195,10 +195,10 @@ fn extractors_of(
 
 /// Looks for extractors that break a row of the typing table: reports the first that does, by the lowest row that it
 /// breaks (`specs/Fault.antt`); or else returns what stands for all terms. The only error is want of memory.
-pub fn check_templates<'d>(
+pub fn check_templates<'b, 'd>(
     alloc: Global,
-    known: &Known<'_, 'd>,
-) -> Result<Result<Extractors, Fault<'d>>, AllocError>
+    known: &Known<'_, 'b, 'd>,
+) -> Result<Result<Extractors, Fault<'b, 'd>>, AllocError>
     ensures { IfOk result (λ found. AreTemplatesChecked (whole known.now) found) }
 {
     let graph = used_templates(alloc, known)?;

@@ -26,15 +26,15 @@ use std::alloc::{AllocError, Global};
 
 // The rules of definitions over their terms, with their templates replaced, or what is wrong with a template or else
 // with a rule.
-fn rules_of<'d>(
+fn rules_of<'b, 'd>(
     alloc: Global,
-    declarations: &Declarations<'d>,
-    before: &Before<'d>,
+    declarations: &Declarations<'b, 'd>,
+    before: &Before<'b>,
     types: &TypeEnv,
-    terms: &Terms<'d>,
+    terms: &Terms<'b, 'd>,
     typed: &[Term],
     converters: &Converters,
-) -> Result<Result<Vec<Rule>, Fault<'d>>, AllocError>
+) -> Result<Result<Vec<Rule>, Fault<'b, 'd>>, AllocError>
     requires { AreKnown declarations.now before.now types.now terms.now typed.now converters.now }
     ensures { IfOk result (λ rules. AreRulesAt (whole declarations.now) rules) }
 {
@@ -55,12 +55,12 @@ fn rules_of<'d>(
 
 /// Returns the terms, rules and converters of definitions, whose types make these: `Typing` comes if a declaration,
 /// what names its term, a converter or a head is wrong, or else an extractor, or else a rule.
-pub fn term_env<'d>(
+pub fn term_env<'b, 'd>(
     alloc: Global,
-    declarations: &Declarations<'d>,
-    before: &Before<'d>,
+    declarations: &Declarations<'b, 'd>,
+    before: &Before<'b>,
     types: &TypeEnv,
-    made: &'d [List<Text>],
+    made: &'b [List<Text>],
 ) -> Result<TermEnv, EnvError>
     requires sound { type_fault (seen declarations.now) ≡ None }
     requires before { IsBefore (seen declarations.now) before.now }

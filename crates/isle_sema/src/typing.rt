@@ -46,10 +46,10 @@ impl From<OutOfMemory> for EnvError {
 }
 
 // The types and constants of definitions that declare this.
-fn built_types<'k, 'd>(
+fn built_types<'k, 'b, 'd>(
     alloc: Global,
-    declarations: &'k Declarations<'d>,
-    before: &'k Before<'d>,
+    declarations: &'k Declarations<'b, 'd>,
+    before: &'k Before<'b>,
 ) -> Result<TypeEnv, EnvError>
     requires sound { type_fault (seen declarations.now) ≡ None }
     requires before { IsBefore (seen declarations.now) before.now }
@@ -60,11 +60,11 @@ fn built_types<'k, 'd>(
 }
 
 // The environment of definitions that declare this.
-fn built_env<'d>(
+fn built_env<'b, 'd>(
     alloc: Global,
-    declarations: &Declarations<'d>,
-    before: &Before<'d>,
-    made: &'d [List<Text>],
+    declarations: &Declarations<'b, 'd>,
+    before: &Before<'b>,
+    made: &'b [List<Text>],
 ) -> Result<(TypeEnv, TermEnv), EnvError>
     requires sound { type_fault (seen declarations.now) ≡ None }
     requires before { IsBefore (seen declarations.now) before.now }
@@ -79,11 +79,11 @@ fn built_env<'d>(
 }
 
 // What definitions declare, whose types make these terms, if no type and no constant is wrong.
-fn gathered<'d>(
+fn gathered<'b, 'd>(
     alloc: Global,
-    defs: &'d [Def],
-    made: &'d [List<Text>],
-) -> Result<(Declarations<'d>, Before<'d>), EnvError>
+    defs: &'b [Def<'d>],
+    made: &'b [List<Text>],
+) -> Result<(Declarations<'b, 'd>, Before<'b>), EnvError>
     requires { made.now ≡ map made_of (seen defs.now) }
     ensures declarations { IfOk result (λ found. found.0 ≡ defs.now) }
     ensures sound { IfOk result (λ found. type_fault (seen found.0) ≡ None) }

@@ -8,7 +8,7 @@ ghost use Rattle.isle_grammar.specs.Reading.{read_body_head, body_behind, read_b
 ghost use Rattle.isle_syntax.specs.ReadingViews.{body_head_seen};
 
 use isle_ast::{AstBody, AstFields, AstVariant};
-use isle_core::{List, Text};
+use isle_core::{List, Name};
 use isle_reading::{Expected, Fail, Tokens};
 use std::alloc::Global;
 
@@ -34,7 +34,7 @@ fn body_head_of(word: &str) -> Option<BodyHead>
 
 // What a body is, by the word that is next.
 #[tactic(auto, using(isle_reading::proofs::Steps::next))]
-fn next_body_head(tokens: &Tokens<'_>) -> Option<BodyHead>
+fn next_body_head(tokens: &Tokens<'_, '_>) -> Option<BodyHead>
     ensures { option_map body_head_seen result ≡ next_word body_head (left tokens.now) }
 {
     body_head_of(tokens.word()?)
@@ -42,7 +42,7 @@ fn next_body_head(tokens: &Tokens<'_>) -> Option<BodyHead>
 
 // What a body is.
 #[tactic(auto, using(isle_reading::proofs::Steps::words), unfolding(isle_grammar::specs::Reading::read_body_head))]
-fn read_head(tokens: &mut Tokens<'_>) -> Result<BodyHead, Fail>
+fn read_head(tokens: &mut Tokens<'_, '_>) -> Result<BodyHead, Fail>
     ensures { Reads body_head_seen result read_body_head (left tokens.old) (left tokens.new) }
 {
     match next_body_head(tokens) {
@@ -56,19 +56,23 @@ fn read_head(tokens: &mut Tokens<'_>) -> Result<BodyHead, Fail>
 
 // A field with its type.
 #[tactic(auto, using(isle_reading::proofs::Steps::chain), unfolding(isle_grammar::specs::Reading::read_field))]
-fn field(tokens: &mut Tokens<'_>, alloc: Global) -> Result<(Text, Text), Fail>
+fn field<'t>(tokens: &mut Tokens<'_, 't>) -> Result<(Name<'t>, Name<'t>), Fail>
     ensures { Reads (λ field. field) result read_field (left tokens.old) (left tokens.new) }
 {
     tokens.open()?;
-    let name = tokens.name(alloc)?;
-    let ty = tokens.name_as(alloc, Expected::Type)?;
+    let name = tokens.name_as(Expected::Name)?;
+    let ty = tokens.name_as(Expected::Type)?;
     tokens.close()?;
     Ok((name, ty))
 }
 
 // Fields up to a closing parenthesis, which is taken, of at most `most` tokens.
 #[tactic(auto, using(isle_reading::proofs::ListSteps::lists))]
-fn fields(tokens: &mut Tokens<'_>, alloc: Global, most: usize) -> Result<Vec<(Text, Text)>, Fail>
+fn fields<'t>(
+    tokens: &mut Tokens<'_, 't>,
+    alloc: Global,
+    most: usize,
+) -> Result<Vec<(Name<'t>, Name<'t>)>, Fail>
     ensures { Reads (λ fields. fields.items) result (many most read_field) (left tokens.old)
         (left tokens.new) }
 {
@@ -79,7 +83,7 @@ fn fields(tokens: &mut Tokens<'_>, alloc: Global, most: usize) -> Result<Vec<(Te
                 tokens.skip();
                 return Ok(fields);
             }
-            None => fields.push(field(tokens, alloc)?)?,
+            None => fields.push(field(tokens)?)?,
         }
     }
     Err(tokens.miss(Expected::Field))
@@ -87,12 +91,12 @@ fn fields(tokens: &mut Tokens<'_>, alloc: Global, most: usize) -> Result<Vec<(Te
 
 /// Reads names up to a closing parenthesis, which is taken, of at most `most` tokens.
 #[tactic(auto, using(isle_reading::proofs::ListSteps::lists))]
-pub fn names(
-    tokens: &mut Tokens<'_>,
+pub fn names<'t>(
+    tokens: &mut Tokens<'_, 't>,
     alloc: Global,
     most: usize,
     expected: Expected,
-) -> Result<Vec<Text>, Fail>
+) -> Result<Vec<Name<'t>>, Fail>
     ensures { Reads (λ names. names.items) result (many most read_name) (left tokens.old)
         (left tokens.new) }
 {
@@ -103,7 +107,7 @@ pub fn names(
                 tokens.skip();
                 return Ok(names);
             }
-            None => names.push(tokens.name_as(alloc, expected)?)?,
+            None => names.push(tokens.name_as(expected)?)?,
         }
     }
     Err(tokens.miss(expected))
@@ -111,7 +115,7 @@ pub fn names(
 
 // The fields of a struct or a variant, up to the closing parenthesis, which is taken.
 #[tactic(auto, using(crate::proofs::TypeSteps::shapes))]
-fn shape(tokens: &mut Tokens<'_>, alloc: Global, most: usize) -> Result<AstFields, Fail>
+fn shape<'t>(tokens: &mut Tokens<'_, 't>, alloc: Global, most: usize) -> Result<AstFields<'t>, Fail>
     ensures { Reads (λ shape. shape) result (read_shape most) (left tokens.old) (left tokens.new) }
 {
     if most == 0 {
@@ -137,26 +141,34 @@ fn shape(tokens: &mut Tokens<'_>, alloc: Global, most: usize) -> Result<AstField
 
 // A variant with fields.
 #[tactic(auto, using(isle_reading::proofs::Steps::chain), unfolding(isle_grammar::specs::Reading::read_shaped))]
-fn shaped(tokens: &mut Tokens<'_>, alloc: Global, most: usize) -> Result<AstVariant, Fail>
+fn shaped<'t>(
+    tokens: &mut Tokens<'_, 't>,
+    alloc: Global,
+    most: usize,
+) -> Result<AstVariant<'t>, Fail>
     ensures { Reads (λ variant. variant) result (read_shaped most) (left tokens.old)
         (left tokens.new) }
 {
     tokens.open()?;
-    let name = tokens.name(alloc)?;
+    let name = tokens.name_as(Expected::Name)?;
     let fields = shape(tokens, alloc, most)?;
     Ok(AstVariant { name, fields })
 }
 
 // A variant.
 #[tactic(auto, using(crate::proofs::TypeSteps::variant_steps))]
-fn variant(tokens: &mut Tokens<'_>, alloc: Global, most: usize) -> Result<AstVariant, Fail>
+fn variant<'t>(
+    tokens: &mut Tokens<'_, 't>,
+    alloc: Global,
+    most: usize,
+) -> Result<AstVariant<'t>, Fail>
     ensures { Reads (λ variant. variant) result (read_variant most) (left tokens.old)
         (left tokens.new) }
 {
     match tokens.opens() {
         Some(_) => shaped(tokens, alloc, most),
         None => {
-            let name = tokens.name_as(alloc, Expected::Variant)?;
+            let name = tokens.name_as(Expected::Variant)?;
             Ok(AstVariant {
                 name,
                 fields: AstFields::Unit,
@@ -167,7 +179,11 @@ fn variant(tokens: &mut Tokens<'_>, alloc: Global, most: usize) -> Result<AstVar
 
 // Variants up to a closing parenthesis, which is taken, of at most `most` tokens.
 #[tactic(auto, using(isle_reading::proofs::ListSteps::lists))]
-fn variants(tokens: &mut Tokens<'_>, alloc: Global, most: usize) -> Result<Vec<AstVariant>, Fail>
+fn variants<'t>(
+    tokens: &mut Tokens<'_, 't>,
+    alloc: Global,
+    most: usize,
+) -> Result<Vec<AstVariant<'t>>, Fail>
     ensures { Reads (λ variants. variants.items) result (many most (read_variant most))
         (left tokens.old) (left tokens.new) }
 {
@@ -186,18 +202,18 @@ fn variants(tokens: &mut Tokens<'_>, alloc: Global, most: usize) -> Result<Vec<A
 
 // What stands after the first word of a body.
 #[tactic(auto, using(isle_reading::proofs::Steps::chain))]
-fn body_behind(
-    tokens: &mut Tokens<'_>,
+fn body_behind<'t>(
+    tokens: &mut Tokens<'_, 't>,
     alloc: Global,
     most: usize,
     head: BodyHead,
-) -> Result<AstBody, Fail>
+) -> Result<AstBody<'t>, Fail>
     ensures { Reads (λ body. body) result (body_behind most (body_head_seen head)) (left tokens.old)
         (left tokens.new) }
 {
     match head {
         BodyHead::Primitive => {
-            let name = tokens.name_as(alloc, Expected::Type)?;
+            let name = tokens.name_as(Expected::Type)?;
             tokens.close()?;
             Ok(AstBody::Primitive(name))
         }
@@ -208,7 +224,11 @@ fn body_behind(
 
 /// Reads what a type is declared as, its lists of at most `most` tokens.
 #[tactic(auto, using(isle_reading::proofs::Steps::chain), unfolding(isle_grammar::specs::Reading::read_body))]
-pub fn body(tokens: &mut Tokens<'_>, alloc: Global, most: usize) -> Result<AstBody, Fail>
+pub fn body<'t>(
+    tokens: &mut Tokens<'_, 't>,
+    alloc: Global,
+    most: usize,
+) -> Result<AstBody<'t>, Fail>
     ensures { Reads (λ body. body) result (read_body most) (left tokens.old) (left tokens.new) }
 {
     tokens.open()?;

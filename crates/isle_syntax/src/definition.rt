@@ -1,4 +1,4 @@
-ghost use Rattle.std.specs.Prelude.{◌≡◌, ◌≤◌, length, map, IfOk, option_map};
+ghost use Rattle.std.specs.Prelude.{◌≡◌, ◌≤◌, length, map, option_map};
 ghost use Rattle.isle_reading.specs.Combinators.{next_word, all};
 ghost use Rattle.isle_reading.specs.Views.{left, Reads};
 ghost use Rattle.isle_ast.specs.Views.{def, defs, pattern};
@@ -12,14 +12,14 @@ use crate::externs::external;
 use crate::flags::{Flags, read_flags, read_marks};
 use crate::passed::passed_items;
 use isle_ast::{AstPattern, Def};
-use isle_core::{List, Pos, Text};
+use isle_core::{List, Name, Pos};
 use isle_expressions::{arguments, decl_name, prio, rule_name, tail, template};
 use isle_reading::{Expected, Fail, Tokens};
-use std::alloc::{AllocError, Global};
+use std::alloc::Global;
 
 /// What a definition is, by the word that it begins with.
 #[derive(Drop)]
-enum Head {
+enum Head<'t> {
     Type,
     Decl,
     Rule,
@@ -27,45 +27,41 @@ enum Head {
     Extractor,
     Convert,
     /// A list that is passed over, with that word.
-    Passed(Text),
+    Passed(Name<'t>),
 }
 
 // What a definition is that begins with the word.
-fn head_of(alloc: Global, word: &str) -> Result<Option<Head>, AllocError>
-    ensures { IfOk result (λ read. option_map head_seen read ≡ head_of word.now) }
+fn head_of<'t>(word: &'t str) -> Option<Head<'t>>
+    ensures { option_map head_seen result ≡ head_of word.now }
 {
     match word {
-        "type" => Ok(Some(Head::Type)),
-        "decl" => Ok(Some(Head::Decl)),
-        "rule" => Ok(Some(Head::Rule)),
-        "extern" => Ok(Some(Head::Extern)),
-        "extractor" => Ok(Some(Head::Extractor)),
-        "convert" => Ok(Some(Head::Convert)),
+        "type" => Some(Head::Type),
+        "decl" => Some(Head::Decl),
+        "rule" => Some(Head::Rule),
+        "extern" => Some(Head::Extern),
+        "extractor" => Some(Head::Extractor),
+        "convert" => Some(Head::Convert),
         "spec" | "model" | "form" | "instantiate" | "attr" | "state" => {
-            Ok(Some(Head::Passed(Text::copied(alloc, word)?)))
+            Some(Head::Passed(Name::new(word)))
         }
-        _ => Ok(None),
+        _ => None,
     }
 }
 
 // What a definition is, by the word that is next.
 #[tactic(auto, using(isle_reading::proofs::Steps::next))]
-fn next_head(tokens: &Tokens<'_>, alloc: Global) -> Result<Option<Head>, AllocError>
-    ensures { IfOk result (λ next.
-        option_map head_seen next ≡ next_word head_of (left tokens.now)) }
+fn next_head<'t>(tokens: &Tokens<'_, 't>) -> Option<Head<'t>>
+    ensures { option_map head_seen result ≡ next_word head_of (left tokens.now) }
 {
-    match tokens.word() {
-        Some(word) => head_of(alloc, word),
-        None => Ok(None),
-    }
+    head_of(tokens.word()?)
 }
 
 // What a definition is.
 #[tactic(auto, using(isle_reading::proofs::Steps::words), unfolding(isle_grammar::specs::Reading::read_head))]
-fn read_head(tokens: &mut Tokens<'_>, alloc: Global) -> Result<Head, Fail>
+fn read_head<'t>(tokens: &mut Tokens<'_, 't>) -> Result<Head<'t>, Fail>
     ensures { Reads head_seen result read_head (left tokens.old) (left tokens.new) }
 {
-    match next_head(tokens, alloc)? {
+    match next_head(tokens) {
         Some(head) => {
             tokens.skip();
             Ok(head)
@@ -76,11 +72,16 @@ fn read_head(tokens: &mut Tokens<'_>, alloc: Global) -> Result<Head, Fail>
 
 // What stands after `( type`, for the definition at that place.
 #[tactic(auto, using(isle_reading::proofs::Steps::chain), unfolding(isle_grammar::specs::Reading::read_type))]
-fn type_decl(tokens: &mut Tokens<'_>, alloc: Global, most: usize, pos: Pos) -> Result<Def, Fail>
+fn type_decl<'t>(
+    tokens: &mut Tokens<'_, 't>,
+    alloc: Global,
+    most: usize,
+    pos: Pos,
+) -> Result<Def<'t>, Fail>
     ensures { Reads def result (read_type most pos.file pos.offset) (left tokens.old)
         (left tokens.new) }
 {
-    let name = tokens.name_as(alloc, Expected::Type)?;
+    let name = tokens.name_as(Expected::Type)?;
     let marks = read_marks(tokens)?;
     let body = body(tokens, alloc, most)?;
     tokens.close()?;
@@ -95,20 +96,20 @@ fn type_decl(tokens: &mut Tokens<'_>, alloc: Global, most: usize, pos: Pos) -> R
 
 // What stands after the flags of `( decl`, for the definition at that place.
 #[tactic(auto, using(isle_reading::proofs::Steps::chain), unfolding(isle_grammar::specs::Reading::read_declared))]
-fn declared(
-    tokens: &mut Tokens<'_>,
+fn declared<'t>(
+    tokens: &mut Tokens<'_, 't>,
     alloc: Global,
     most: usize,
     pos: Pos,
     flags: Flags,
-) -> Result<Def, Fail>
+) -> Result<Def<'t>, Fail>
     ensures { Reads def result (read_declared most pos.file pos.offset (flags_seen flags))
         (left tokens.old) (left tokens.new) }
 {
-    let term = decl_name(tokens, alloc)?;
+    let term = decl_name(tokens)?;
     tokens.open()?;
     let args = names(tokens, alloc, most, Expected::Type)?;
-    let ret = tokens.name_as(alloc, Expected::Type)?;
+    let ret = tokens.name_as(Expected::Type)?;
     tokens.close()?;
     Ok(Def::Decl {
         term,
@@ -124,7 +125,12 @@ fn declared(
 
 // What stands after `( decl`, for the definition at that place.
 #[tactic(auto, using(isle_reading::proofs::Steps::chain), unfolding(isle_grammar::specs::Reading::read_decl))]
-fn decl(tokens: &mut Tokens<'_>, alloc: Global, most: usize, pos: Pos) -> Result<Def, Fail>
+fn decl<'t>(
+    tokens: &mut Tokens<'_, 't>,
+    alloc: Global,
+    most: usize,
+    pos: Pos,
+) -> Result<Def<'t>, Fail>
     ensures { Reads def result (read_decl most pos.file pos.offset) (left tokens.old)
         (left tokens.new) }
 {
@@ -134,12 +140,17 @@ fn decl(tokens: &mut Tokens<'_>, alloc: Global, most: usize, pos: Pos) -> Result
 
 // What stands after `( extractor`, for the definition at that place.
 #[tactic(auto, using(isle_reading::proofs::Steps::chain), unfolding(isle_grammar::specs::Reading::read_extractor))]
-fn extractor(tokens: &mut Tokens<'_>, alloc: Global, most: usize, pos: Pos) -> Result<Def, Fail>
+fn extractor<'t>(
+    tokens: &mut Tokens<'_, 't>,
+    alloc: Global,
+    most: usize,
+    pos: Pos,
+) -> Result<Def<'t>, Fail>
     ensures { Reads def result (read_extractor most pos.file pos.offset) (left tokens.old)
         (left tokens.new) }
 {
     tokens.open()?;
-    let term = tokens.name(alloc)?;
+    let term = tokens.name_as(Expected::Name)?;
     let params = names(tokens, alloc, most, Expected::Name)?;
     let template = template(tokens, alloc, most)?;
     tokens.close()?;
@@ -153,13 +164,13 @@ fn extractor(tokens: &mut Tokens<'_>, alloc: Global, most: usize, pos: Pos) -> R
 
 // What stands after `( convert`, for the definition at that place.
 #[tactic(auto, using(isle_reading::proofs::Steps::chain), unfolding(isle_grammar::specs::Reading::read_convert))]
-fn convert(tokens: &mut Tokens<'_>, alloc: Global, pos: Pos) -> Result<Def, Fail>
+fn convert<'t>(tokens: &mut Tokens<'_, 't>, pos: Pos) -> Result<Def<'t>, Fail>
     ensures { Reads def result (read_convert pos.file pos.offset) (left tokens.old)
         (left tokens.new) }
 {
-    let from = tokens.name_as(alloc, Expected::Type)?;
-    let to = tokens.name_as(alloc, Expected::Type)?;
-    let term = tokens.name(alloc)?;
+    let from = tokens.name_as(Expected::Type)?;
+    let to = tokens.name_as(Expected::Type)?;
+    let term = tokens.name_as(Expected::Name)?;
     tokens.close()?;
     Ok(Def::Converter {
         from,
@@ -171,28 +182,33 @@ fn convert(tokens: &mut Tokens<'_>, alloc: Global, pos: Pos) -> Result<Def, Fail
 
 // A rule's head: a term, and the patterns of its arguments.
 #[tactic(auto, using(isle_reading::proofs::Steps::chain), unfolding(isle_grammar::specs::Reading::read_parts))]
-fn parts(
-    tokens: &mut Tokens<'_>,
+fn parts<'t>(
+    tokens: &mut Tokens<'_, 't>,
     alloc: Global,
     most: usize,
-) -> Result<(Text, Vec<AstPattern>), Fail>
+) -> Result<(Name<'t>, Vec<AstPattern<'t>>), Fail>
     ensures { Reads (λ parts. (parts.0, map pattern parts.1.items)) result (read_parts most)
         (left tokens.old) (left tokens.new) }
 {
     tokens.open()?;
-    let term = tokens.name(alloc)?;
+    let term = tokens.name_as(Expected::Name)?;
     let args = arguments(tokens, alloc, most)?;
     Ok((term, args))
 }
 
 // What stands after `( rule`, for the definition at that place.
 #[tactic(auto, using(isle_reading::proofs::Steps::chain), unfolding(isle_grammar::specs::Reading::read_rule))]
-fn rule(tokens: &mut Tokens<'_>, alloc: Global, most: usize, pos: Pos) -> Result<Def, Fail>
+fn rule<'t>(
+    tokens: &mut Tokens<'_, 't>,
+    alloc: Global,
+    most: usize,
+    pos: Pos,
+) -> Result<Def<'t>, Fail>
     requires { length (left tokens.old) ≤ most }
     ensures { Reads def result (read_rule most pos.file pos.offset) (left tokens.old)
         (left tokens.new) }
 {
-    let name = rule_name(tokens, alloc)?;
+    let name = rule_name(tokens)?;
     let prio = prio(tokens)?;
     let (term, args) = parts(tokens, alloc, most)?;
     let (iflets, rhs) = tail(tokens, alloc, most)?;
@@ -209,14 +225,14 @@ fn rule(tokens: &mut Tokens<'_>, alloc: Global, most: usize, pos: Pos) -> Result
 
 // What stands after the first word of a list that is passed over, at that place.
 #[tactic(auto, using(isle_reading::proofs::Steps::chain), unfolding(isle_grammar::specs::Reading::read_passed))]
-fn passed(
-    tokens: &mut Tokens<'_>,
+fn passed<'t>(
+    tokens: &mut Tokens<'_, 't>,
     alloc: Global,
     most: usize,
     pos: Pos,
-    head: Text,
-) -> Result<Def, Fail>
-    ensures { Reads def result (read_passed most pos.file pos.offset head) (left tokens.old)
+    head: Name<'t>,
+) -> Result<Def<'t>, Fail>
+    ensures { Reads def result (read_passed most pos.file pos.offset head.entry) (left tokens.old)
         (left tokens.new) }
 {
     let items = passed_items(tokens, alloc, most)?;
@@ -228,52 +244,52 @@ fn passed(
 }
 
 // What stands after the head of the definition at that place.
-fn behind(
-    tokens: &mut Tokens<'_>,
+fn behind<'t>(
+    tokens: &mut Tokens<'_, 't>,
     alloc: Global,
     most: usize,
     pos: Pos,
-    head: Head,
-) -> Result<Def, Fail>
+    head: Head<'t>,
+) -> Result<Def<'t>, Fail>
     requires { length (left tokens.old) ≤ most }
-    ensures { Reads def result (read_behind most pos.file pos.offset (head_seen head))
+    ensures { Reads def result (read_behind most pos.file pos.offset (head_seen head.entry))
         (left tokens.old) (left tokens.new) }
 {
     match head {
         Head::Type => type_decl(tokens, alloc, most, pos),
         Head::Decl => decl(tokens, alloc, most, pos),
         Head::Rule => rule(tokens, alloc, most, pos),
-        Head::Extern => external(tokens, alloc, pos),
+        Head::Extern => external(tokens, pos),
         Head::Extractor => extractor(tokens, alloc, most, pos),
-        Head::Convert => convert(tokens, alloc, pos),
+        Head::Convert => convert(tokens, pos),
         Head::Passed(word) => passed(tokens, alloc, most, pos, word),
     }
 }
 
 /// Reads a definition of the file of that number, its lists of at most `most` tokens.
 #[tactic(auto, using(isle_reading::proofs::Steps::chain), unfolding(isle_grammar::specs::Reading::read_def))]
-pub fn definition(
-    tokens: &mut Tokens<'_>,
+pub fn definition<'t>(
+    tokens: &mut Tokens<'_, 't>,
     alloc: Global,
     most: usize,
     file: usize,
-) -> Result<Def, Fail>
+) -> Result<Def<'t>, Fail>
     requires { length (left tokens.old) ≤ most }
     ensures { Reads def result (read_def most file) (left tokens.old) (left tokens.new) }
 {
     let offset = tokens.open_as(Expected::Definition)?;
-    let head = read_head(tokens, alloc)?;
+    let head = read_head(tokens)?;
     behind(tokens, alloc, most, Pos { file, offset }, head)
 }
 
 /// Reads the definitions of a file of at most `most` tokens, up to its end.
 #[tactic(auto, using(isle_reading::proofs::ListSteps::alls))]
-pub fn file_of(
-    tokens: &mut Tokens<'_>,
+pub fn file_of<'t>(
+    tokens: &mut Tokens<'_, 't>,
     alloc: Global,
     most: usize,
     file: usize,
-) -> Result<Vec<Def>, Fail>
+) -> Result<Vec<Def<'t>>, Fail>
     requires { length (left tokens.old) ≤ most }
     ensures { Reads (λ read. defs read.items) result (read_file most file) (left tokens.old)
         (left tokens.new) }

@@ -8,10 +8,9 @@ ghost use Rattle.isle_grammar.specs.Reading.{read_const, extern_behind, read_ext
 ghost use Rattle.isle_syntax.specs.ReadingViews.{extern_head_seen};
 
 use isle_ast::Def;
-use isle_core::{Pos, Text};
+use isle_core::{Name, Pos};
 use isle_expressions::constant;
 use isle_reading::{Expected, Fail, Tokens};
-use std::alloc::Global;
 
 /// What an `extern` is, by its second word.
 #[derive(Clone, Copy)]
@@ -35,7 +34,7 @@ fn extern_head_of(word: &str) -> Option<ExternHead>
 
 // What an `extern` is, by the word that is next.
 #[tactic(auto, using(isle_reading::proofs::Steps::next))]
-fn next_extern_head(tokens: &Tokens<'_>) -> Option<ExternHead>
+fn next_extern_head(tokens: &Tokens<'_, '_>) -> Option<ExternHead>
     ensures { option_map extern_head_seen result ≡ next_word extern_head (left tokens.now) }
 {
     extern_head_of(tokens.word()?)
@@ -43,7 +42,7 @@ fn next_extern_head(tokens: &Tokens<'_>) -> Option<ExternHead>
 
 // What an `extern` is.
 #[tactic(auto, using(isle_reading::proofs::Steps::words), unfolding(isle_grammar::specs::Reading::read_extern_head))]
-fn read_head(tokens: &mut Tokens<'_>) -> Result<ExternHead, Fail>
+fn read_head(tokens: &mut Tokens<'_, '_>) -> Result<ExternHead, Fail>
     ensures { Reads extern_head_seen result read_extern_head (left tokens.old) (left tokens.new) }
 {
     match next_extern_head(tokens) {
@@ -57,20 +56,25 @@ fn read_head(tokens: &mut Tokens<'_>) -> Result<ExternHead, Fail>
 
 // What stands after `( extern constructor`.
 #[tactic(auto, using(isle_reading::proofs::Steps::chain), unfolding(isle_grammar::specs::Reading::read_constructor))]
-fn constructor(tokens: &mut Tokens<'_>, alloc: Global, pos: Pos) -> Result<Def, Fail>
+fn constructor<'t>(tokens: &mut Tokens<'_, 't>, pos: Pos) -> Result<Def<'t>, Fail>
     ensures { Reads def result (read_constructor pos.file pos.offset) (left tokens.old)
         (left tokens.new) }
 {
-    let term = tokens.name(alloc)?;
-    let func = tokens.name(alloc)?;
+    let term = tokens.name_as(Expected::Name)?;
+    let func = tokens.name_as(Expected::Name)?;
     tokens.close()?;
     Ok(Def::ExternConstructor { term, func, pos })
 }
 
 // The end of an external extractor that may fail.
 #[tactic(auto, using(isle_reading::proofs::Steps::chain), unfolding(isle_grammar::specs::Reading::read_fallible))]
-fn fallible(tokens: &mut Tokens<'_>, pos: Pos, term: Text, func: Text) -> Result<Def, Fail>
-    ensures { Reads def result (read_fallible pos.file pos.offset term func) (left tokens.old)
+fn fallible<'t>(
+    tokens: &mut Tokens<'_, 't>,
+    pos: Pos,
+    term: Name<'t>,
+    func: Name<'t>,
+) -> Result<Def<'t>, Fail>
+    ensures { Reads def result (read_fallible pos.file pos.offset term.entry func.entry) (left tokens.old)
         (left tokens.new) }
 {
     tokens.close()?;
@@ -84,11 +88,11 @@ fn fallible(tokens: &mut Tokens<'_>, pos: Pos, term: Text, func: Text) -> Result
 
 // The end of an external extractor that may not fail, after its term.
 #[tactic(auto, using(isle_reading::proofs::Steps::chain), unfolding(isle_grammar::specs::Reading::read_infallible))]
-fn infallible(tokens: &mut Tokens<'_>, alloc: Global, pos: Pos, term: Text) -> Result<Def, Fail>
-    ensures { Reads def result (read_infallible pos.file pos.offset term) (left tokens.old)
+fn infallible<'t>(tokens: &mut Tokens<'_, 't>, pos: Pos, term: Name<'t>) -> Result<Def<'t>, Fail>
+    ensures { Reads def result (read_infallible pos.file pos.offset term.entry) (left tokens.old)
         (left tokens.new) }
 {
-    let func = tokens.name(alloc)?;
+    let func = tokens.name_as(Expected::Name)?;
     tokens.close()?;
     Ok(Def::ExternExtractor {
         term,
@@ -100,15 +104,14 @@ fn infallible(tokens: &mut Tokens<'_>, alloc: Global, pos: Pos, term: Text) -> R
 
 // What stands after two names, of which the first may be the word `infallible`.
 #[tactic(auto, using(crate::proofs::DefinitionSteps::two_names))]
-fn extractor_behind(
-    tokens: &mut Tokens<'_>,
-    alloc: Global,
+fn extractor_behind<'t>(
+    tokens: &mut Tokens<'_, 't>,
     pos: Pos,
-    term: Text,
-    func: Text,
-) -> Result<Def, Fail>
+    term: Name<'t>,
+    func: Name<'t>,
+) -> Result<Def<'t>, Fail>
     ensures { Reads def result
-        (extractor_behind pos.file pos.offset (bytes_eq term (codes "infallible")) term func)
+        (extractor_behind pos.file pos.offset (bytes_eq term.entry (codes "infallible")) term.entry func.entry)
         (left tokens.old) (left tokens.new) }
 {
     if term.as_str() != "infallible" {
@@ -119,56 +122,55 @@ fn extractor_behind(
     }
     match tokens.closes() {
         Some(_) => fallible(tokens, pos, term, func),
-        None => infallible(tokens, alloc, pos, func),
+        None => infallible(tokens, pos, func),
     }
 }
 
 // What stands after `( extern extractor`.
 #[tactic(auto, using(isle_reading::proofs::Steps::chain), unfolding(isle_grammar::specs::Reading::read_extractor_function))]
-fn extractor(tokens: &mut Tokens<'_>, alloc: Global, pos: Pos) -> Result<Def, Fail>
+fn extractor<'t>(tokens: &mut Tokens<'_, 't>, pos: Pos) -> Result<Def<'t>, Fail>
     ensures { Reads def result (read_extractor_function pos.file pos.offset) (left tokens.old)
         (left tokens.new) }
 {
-    let term = tokens.name(alloc)?;
-    let func = tokens.name(alloc)?;
-    extractor_behind(tokens, alloc, pos, term, func)
+    let term = tokens.name_as(Expected::Name)?;
+    let func = tokens.name_as(Expected::Name)?;
+    extractor_behind(tokens, pos, term, func)
 }
 
 // What stands after `( extern const`.
 #[tactic(auto, using(isle_reading::proofs::Steps::chain), unfolding(isle_grammar::specs::Reading::read_const))]
-fn const_of(tokens: &mut Tokens<'_>, alloc: Global, pos: Pos) -> Result<Def, Fail>
+fn const_of<'t>(tokens: &mut Tokens<'_, 't>, pos: Pos) -> Result<Def<'t>, Fail>
     ensures { Reads def result (read_const pos.file pos.offset) (left tokens.old)
         (left tokens.new) }
 {
-    let name = constant(tokens, alloc)?;
-    let ty = tokens.name_as(alloc, Expected::Type)?;
+    let name = constant(tokens)?;
+    let ty = tokens.name_as(Expected::Type)?;
     tokens.close()?;
     Ok(Def::ExternConst { name, ty, pos })
 }
 
 // What stands after the second word of an `extern`.
-fn extern_behind(
-    tokens: &mut Tokens<'_>,
-    alloc: Global,
+fn extern_behind<'t>(
+    tokens: &mut Tokens<'_, 't>,
     pos: Pos,
     head: ExternHead,
-) -> Result<Def, Fail>
+) -> Result<Def<'t>, Fail>
     ensures { Reads def result (extern_behind pos.file pos.offset (extern_head_seen head))
         (left tokens.old) (left tokens.new) }
 {
     match head {
-        ExternHead::Constructor => constructor(tokens, alloc, pos),
-        ExternHead::Extractor => extractor(tokens, alloc, pos),
-        ExternHead::Const => const_of(tokens, alloc, pos),
+        ExternHead::Constructor => constructor(tokens, pos),
+        ExternHead::Extractor => extractor(tokens, pos),
+        ExternHead::Const => const_of(tokens, pos),
     }
 }
 
 /// Reads what stands after `( extern`, for the definition at that place.
 #[tactic(auto, using(isle_reading::proofs::Steps::chain), unfolding(isle_grammar::specs::Reading::read_extern))]
-pub fn external(tokens: &mut Tokens<'_>, alloc: Global, pos: Pos) -> Result<Def, Fail>
+pub fn external<'t>(tokens: &mut Tokens<'_, 't>, pos: Pos) -> Result<Def<'t>, Fail>
     ensures { Reads def result (read_extern pos.file pos.offset) (left tokens.old)
         (left tokens.new) }
 {
     let head = read_head(tokens)?;
-    extern_behind(tokens, alloc, pos, head)
+    extern_behind(tokens, pos, head)
 }

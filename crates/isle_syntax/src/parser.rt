@@ -40,12 +40,12 @@ pub enum ParseFail {
 
 // The definitions that tokens of the file of that number spell, which a cursor stands in front of. `At` comes exactly
 // if they spell none, or nest too deep, and says how many tokens are left where they go wrong.
-fn definitions(
-    cursor: &mut Tokens<'_>,
+fn definitions<'t>(
+    cursor: &mut Tokens<'_, 't>,
     alloc: Global,
     file: usize,
-    tokens: &[Token<'_>],
-) -> Result<Vec<Def>, Fail>
+    tokens: &[Token<'t>],
+) -> Result<Vec<Def<'t>>, Fail>
     requires { left cursor.old ≡ tokens_seen tokens.now }
     ensures spelt { IfOk result (λ read.
         FileS file (tokens_seen tokens.now) (defs read.items)
@@ -76,12 +76,12 @@ fn fail_at(
 }
 
 // The definitions that tokens of a text of that length spell. `At` comes exactly if they spell none.
-fn of_tokens(
+fn of_tokens<'t>(
     alloc: Global,
     file: usize,
-    tokens: &[Token<'_>],
+    tokens: &[Token<'t>],
     end: usize,
-) -> Result<Vec<Def>, ParseFail>
+) -> Result<Vec<Def<'t>>, ParseFail>
     ensures ok { IfOk result (λ read.
         SpellsTokens file (tokens_seen tokens.now) (defs read.items)) }
     ensures only { IfOk result (λ read.
@@ -102,7 +102,7 @@ fn of_tokens(
 
 /// Returns the definitions that the reader's text spells, in order (`specs/Grammar.antt`). `At` comes exactly if
 /// none are spelt, and gives the place where the text goes wrong.
-pub fn parse(alloc: Global, lexer: Lexer<'_>) -> Result<Vec<Def>, ParseFail>
+pub fn parse<'t>(alloc: Global, lexer: Lexer<'t>) -> Result<Vec<Def<'t>>, ParseFail>
     requires untaken { IsUntaken lexer }
     ensures ok { IfOk result (λ read.
         Spells (lexer_file lexer.entry) (lexer_text lexer.entry) (defs read.items)) }
@@ -140,7 +140,7 @@ fn unclosed_at(file: usize, offset: usize) -> ParseFail
 
 /// Returns the definitions that the text of the file of that number spells, read in one pass for its tokens. `At` as of
 /// `parse`, and before all else where a comment never ends.
-pub fn parse_text(alloc: Global, file: usize, text: &str) -> Result<Vec<Def>, ParseFail>
+pub fn parse_text<'t>(alloc: Global, file: usize, text: &'t str) -> Result<Vec<Def<'t>>, ParseFail>
     ensures ok { IfOk result (λ read. Spells file text.now (defs read.items)) }
     ensures only { IfOk result (λ read.
         (others : List PureDef) → Spells file text.now others → others ≡ defs read.items) }

@@ -1,4 +1,4 @@
-ghost use Rattle.std.specs.Prelude.{◌≡◌, ◌-◌, IfOk, map, option_map};
+ghost use Rattle.std.specs.Prelude.{◌≡◌, ◌-◌, map, option_map};
 ghost use Rattle.isle_reading.specs.Combinators.{many};
 ghost use Rattle.isle_reading.specs.Views.{left, Reads};
 ghost use Rattle.isle_ast.specs.Views.{any};
@@ -8,42 +8,39 @@ ghost use Rattle.isle_lexer.specs.TokenViews.{token_seen};
 ghost use Rattle.isle_reading.specs.Nesting.{most_open};
 
 use isle_ast::AstAny;
-use isle_core::{List, Text};
+use isle_core::{List, Name};
 use isle_lexer::Token;
 use isle_reading::{Expected, Fail, Tokens, most_inside};
-use std::alloc::{AllocError, Global};
+use std::alloc::Global;
 
 // The thing that a token is, which is no parenthesis.
 #[tactic(auto, using(isle_ast::proofs::Sees::any_sees))]
-fn any_of(alloc: Global, token: Token<'_>) -> Result<Option<AstAny>, AllocError>
-    ensures { IfOk result (λ read. option_map any read ≡ any_of (token_seen token.entry)) }
+fn any_of<'t>(token: Token<'t>) -> Option<AstAny<'t>>
+    ensures { option_map any result ≡ any_of (token_seen token.entry) }
 {
     match token {
-        Token::Open(_) | Token::Close(_) => Ok(None),
-        Token::At(_) => Ok(Some(AstAny::At)),
-        Token::Less(_) => Ok(Some(AstAny::Less)),
-        Token::Greater(_) => Ok(Some(AstAny::Greater)),
-        Token::Word(_, word) => Ok(Some(AstAny::Word(Text::copied(alloc, word)?))),
+        Token::Open(_) | Token::Close(_) => None,
+        Token::At(_) => Some(AstAny::At),
+        Token::Less(_) => Some(AstAny::Less),
+        Token::Greater(_) => Some(AstAny::Greater),
+        Token::Word(_, word) => Some(AstAny::Word(Name::new(word))),
     }
 }
 
 // The thing that is next.
 #[tactic(auto, using(crate::proofs::PassedSteps::nexts))]
-fn next_any(tokens: &Tokens<'_>, alloc: Global) -> Result<Option<AstAny>, AllocError>
-    ensures { IfOk result (λ next. option_map any next ≡ next_any (left tokens.now)) }
+fn next_any<'t>(tokens: &Tokens<'_, 't>) -> Option<AstAny<'t>>
+    ensures { option_map any result ≡ next_any (left tokens.now) }
 {
-    match tokens.token() {
-        Some(token) => any_of(alloc, token),
-        None => Ok(None),
-    }
+    any_of(tokens.token()?)
 }
 
 // A thing of one token.
 #[tactic(auto, using(crate::proofs::PassedSteps::things))]
-fn thing(tokens: &mut Tokens<'_>, alloc: Global) -> Result<AstAny, Fail>
+fn thing<'t>(tokens: &mut Tokens<'_, 't>) -> Result<AstAny<'t>, Fail>
     ensures { Reads any result read_token (left tokens.old) (left tokens.new) }
 {
-    match next_any(tokens, alloc)? {
+    match next_any(tokens) {
         Some(thing) => {
             tokens.skip();
             Ok(thing)
@@ -55,11 +52,16 @@ fn thing(tokens: &mut Tokens<'_>, alloc: Global) -> Result<AstAny, Fail>
 // A thing inside which `depth` more parentheses may be open, its lists of at most `most` tokens.
 #[cycle(passed)]
 #[tactic(auto, using(crate::proofs::PassedSteps::any_steps, isle_ast::proofs::Sees::any_sees))]
-fn any(tokens: &mut Tokens<'_>, alloc: Global, most: usize, depth: usize) -> Result<AstAny, Fail>
+fn any<'t>(
+    tokens: &mut Tokens<'_, 't>,
+    alloc: Global,
+    most: usize,
+    depth: usize,
+) -> Result<AstAny<'t>, Fail>
     ensures { Reads any result (read_any most depth) (left tokens.old) (left tokens.new) }
 {
     match tokens.opens() {
-        None => thing(tokens, alloc),
+        None => thing(tokens),
         Some(_) => {
             if depth == 0 {
                 return Err(tokens.miss(Expected::Shallower));
@@ -74,12 +76,12 @@ fn any(tokens: &mut Tokens<'_>, alloc: Global, most: usize, depth: usize) -> Res
 // Things up to a closing parenthesis, which is taken, of at most `most` tokens.
 #[cycle(passed)]
 #[tactic(auto, using(crate::proofs::PassedSteps::lists))]
-fn anys(
-    tokens: &mut Tokens<'_>,
+fn anys<'t>(
+    tokens: &mut Tokens<'_, 't>,
     alloc: Global,
     most: usize,
     depth: usize,
-) -> Result<Vec<AstAny>, Fail>
+) -> Result<Vec<AstAny<'t>>, Fail>
     ensures { Reads (λ items. map any items.items) result (many most (read_any most depth))
         (left tokens.old) (left tokens.new) }
 {
@@ -97,11 +99,11 @@ fn anys(
 }
 
 /// Reads what stands in a list that is passed over, up to its closing parenthesis, which is taken.
-pub fn passed_items(
-    tokens: &mut Tokens<'_>,
+pub fn passed_items<'t>(
+    tokens: &mut Tokens<'_, 't>,
     alloc: Global,
     most: usize,
-) -> Result<Vec<AstAny>, Fail>
+) -> Result<Vec<AstAny<'t>>, Fail>
     ensures { Reads (λ items. map any items.items) result
         (many most (read_any most (most_open - 1))) (left tokens.old) (left tokens.new) }
 {

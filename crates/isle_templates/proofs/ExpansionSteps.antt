@@ -1,11 +1,8 @@
 -- Steps in which code puts templates in place of terms.
-use denote.Ref.{Bor}
-use Rattle.std.proofs.Common.{◌≡◌, ⊎_elim, ℕ, zero, suc, ◌+◌, ◌<◌, ◌≤◌, Bool, true, false, cond, eqb, List, [], ◌∷◌, ◌++◌, length, map, take, get_or, Option, Some, None, refl, sym, ap, ◌∙◌, subst, arith}
-use Rattle.std.specs.Prelude.{Contains, slice_get, option_map}
-use Rattle.std.specs.Slice.{IsItemAt}
+use Rattle.std.proofs.Common.{◌≡◌, ⊎_elim, ℕ, zero, suc, ◌+◌, ◌<◌, ◌≤◌, Bool, true, false, cond, eqb, List, [], ◌∷◌, ◌++◌, length, map, take, get_or, Option, Some, refl, sym, ap, ◌∙◌, subst, arith}
+use Rattle.std.specs.Prelude.{Contains, slice_get}
 use Rattle.std.proofs.lemmas.Bool.{eq-eqb}
 use Rattle.std.proofs.lemmas.List.{map_more, map-append, length-map, length-take-le, take_all}
-use Rattle.std.proofs.lemmas.Option.{slice_get_read, slice_get_past}
 use Rattle.isle_base.specs.declared.ids.TypeId.{TypeId}
 use Rattle.isle_base.specs.declared.ids.TermId.{TermId}
 use Rattle.isle_core.proofs.Contained.{contained_cases, none_contained}
@@ -16,15 +13,13 @@ use Rattle.isle_core.specs.Pattern.{Pattern, Patterns, NoPattern, APattern}
 use Rattle.isle_core.specs.RuleViews.{pattern as elaborated, patterns_of}
 use Rattle.isle_templates.specs.declared.counted.Parts.{Parts}
 use Rattle.isle_core.proofs.SeesRules.{pattern-term, pattern-and}
-use Rattle.isle_templates.specs.declared.template.Template.{Template}
-use Rattle.isle_templates.specs.declared.template.Template.TheVariants.{Large, Whole}
-use Rattle.isle_templates.specs.declared.template.Whole.{Whole as WholeTemplate}
+use Rattle.isle_templates.specs.declared.template.Kept.{Kept}
 use Rattle.isle_templates.specs.Arguments.{needed_one, needed, weighed, AreArguments}
 use Rattle.isle_templates.specs.Counted.{AreParts}
 use Rattle.isle_templates.specs.NodeCount.{pattern_nodes, patterns_nodes}
 use Rattle.isle_templates.specs.Occurrences.{times_in}
 use Rattle.isle_templates.specs.Renumbered.{pattern_variables}
-use Rattle.isle_templates.specs.Standing.{Stands, StandFor}
+use Rattle.isle_templates.specs.Standing.{IsKept}
 use Rattle.isle_templates.specs.Substituted.{substituted, expanded, all_expanded, template_of, opened}
 use Rattle.isle_templates.proofs.SubstitutedNodes.{one_node, substituted_nodes, substituted_alike, extras_weighed}
 
@@ -32,11 +27,6 @@ use Rattle.isle_templates.proofs.SubstitutedNodes.{one_node, substituted_nodes, 
 pub parts_each : (templates : List (Option Pattern)) (ps : List Pattern) → all_expanded templates (patterns_of ps) ≡ map (expanded templates) ps
 parts_each templates [] = refl
 parts_each templates (p ∷ ps) = ap (λ qs. expanded templates p ∷ qs) (parts_each templates ps)
-
--- what is found at a place
-pub got : {X : Type 0} (xs : List X) (i : ℕ) (o : Option (Bor X)) → IsItemAt xs i o → option_map (λ (x : Bor X). x.now) o ≡ slice_get xs i
-got xs i None h = sym (slice_get_past xs i h.3)
-got xs i (Some x) h = sym (slice_get_read xs (length xs) i x.now refl h.3.0 h.1)
 
 -- ---- the parts of a pattern
 
@@ -162,14 +152,10 @@ pub and_seen : (whole : List (Option Pattern)) (p : CodePattern) (ty : TypeId) (
 and_seen whole p ty parts xs is same =
     ap (λ qs. pattern.And ty (patterns_of qs)) (ap (λ ys. map (expanded whole) (map elaborated ys)) same ∙ sym (parts_each whole (map elaborated parts))) ∙ sym (ap (λ q. expanded whole q) (ap elaborated is ∙ pattern-and ty parts))
 
-pub stands_at : (whole : List (Option Pattern)) (templates : List Template) (term : TermId) (i : ℕ) (o : Option (Bor Template)) → StandFor whole templates → i ≡ term.0 → IsItemAt templates i o → Stands (template_of whole term) (option_map (λ (t : Bor Template). t.now) o)
-stands_at whole templates term i o stands at found = subst (Stands (template_of whole term)) (ap (slice_get templates) (sym at) ∙ sym (got templates i o found)) (stands.at term)
+-- a template that is too large
+pub large_opened : (inner : List (Option Pattern)) (t : Pattern) (k : Kept) (args : List Pattern) → IsKept inner t k → 4096 < k.nodes → 4096 < pattern_nodes (substituted args t)
+large_opened inner t k args kept lt = let sum = substituted_nodes args t in let is = kept.nodes in omega arith
 
--- a term with a template that is too large
-pub large_opened : (o : Option Pattern) (ty : TypeId) (term : TermId) (args : List Pattern) → Stands o (Some Large) → 4096 < pattern_nodes (opened o ty term args)
-large_opened None ty term args h = absurd h
-large_opened (Some template) ty term args h = let sum = substituted_nodes args template in omega arith
-
-pub whole_opened : (o : Option Pattern) (w : WholeTemplate) (ty : TypeId) (term : TermId) (args : List Pattern) → Stands o (Some (Whole w)) → substituted args (elaborated w.pattern) ≡ opened o ty term args
-whole_opened None w ty term args h = absurd h
-whole_opened (Some template) w ty term args h = ap (substituted args) h
+-- the nodes of one that is not are exact
+pub few_kept : (inner : List (Option Pattern)) (t : Pattern) (k : Kept) → IsKept inner t k → k.nodes ≤ 4096 → k.nodes ≡ pattern_nodes (substituted [] t)
+few_kept inner t k kept le = let is = kept.nodes in omega arith

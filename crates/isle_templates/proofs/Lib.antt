@@ -18,6 +18,10 @@ pub mod OrderHolds
 pub mod RenumberedRule
 pub mod ElaboratedTypes
 pub mod SubstitutionSteps
+pub mod PutInLaws
+pub mod KnownSteps
+pub mod FillingSteps
+pub mod KeptSteps
 pub mod SeesLets
 pub mod FirstPlaces
 pub mod OrderSteps

@@ -13,6 +13,7 @@ pub mod Counted
 pub mod Arguments
 pub mod Standing
 pub mod Written
+pub mod PutIn
 pub mod Whole
 pub mod ElaboratedRule
 pub mod CountedConditions

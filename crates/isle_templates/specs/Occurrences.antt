@@ -9,6 +9,10 @@ abbrev pub times_in : List ℕ → ℕ → ℕ
 times_in [] x = 0
 times_in (y ∷ ys) x = if y == x then suc (times_in ys x) else times_in ys x
 
--- the map has for each number how often it stands among these, and nothing if that is never
+-- how often a number stands by a map, which has nothing for one that never does
+abbrev pub times_kept : BTreeMap ℕ ℕ → ℕ → ℕ
+times_kept times x = unwrap_or (get nat_cmp times x) 0
+
+-- the map has for each number how often it stands among these
 pub record CountsTimes (all : List ℕ) (times : BTreeMap ℕ ℕ) : Type 0 where
-  pub counts : (x : ℕ) → unwrap_or (get nat_cmp times x) 0 ≡ times_in all x
+  pub counts : (x : ℕ) → times_kept times x ≡ times_in all x

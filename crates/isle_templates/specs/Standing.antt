@@ -1,24 +1,52 @@
--- What code keeps for templates with no other template in them.
-use Rattle.std.specs.Prelude.{◌≡◌, ◌<◌, List, [], Option, Some, None, slice_get}
+-- What code keeps of templates.
+use Rattle.std.specs.Prelude.{◌≡◌, ◌≤◌, ◌⊎◌, ℕ, suc, List, [], Option, Some, None, slice_get, min, nat_le, if◌then◌else◌}
 use Rattle.isle_base.specs.declared.ids.TermId.{TermId}
 use Rattle.isle_core.specs.Pattern.{Pattern}
 use Rattle.isle_core.specs.RuleViews.{pattern as elaborated}
+use Rattle.isle_templates.specs.declared.template.Kept.{Kept}
 use Rattle.isle_templates.specs.declared.template.Template.{Template}
-use Rattle.isle_templates.specs.declared.template.Template.TheVariants.{Absent, Large, Whole}
+use Rattle.isle_templates.specs.declared.template.Template.TheVariants.{Absent, Present}
 use Rattle.isle_templates.specs.NodeCount.{pattern_nodes}
-use Rattle.isle_templates.specs.Substituted.{substituted, template_of}
+use Rattle.isle_templates.specs.Occurrences.{times_in, times_kept}
+use Rattle.isle_templates.specs.Renumbered.{pattern_variables}
+use Rattle.isle_templates.specs.Substituted.{substituted, expanded, template_of}
 
--- what is kept for a term that may have a template: the template, or that even with parameters of one node it has more nodes than a rule may have
-abbrev pub Stands : Option Pattern → Option Template → Type 0
-Stands None None = Unit {0}
-Stands None (Some Absent) = Unit {0}
-Stands None (Some Large) = ⊥
-Stands None (Some (Whole w)) = ⊥
-Stands (Some t) None = ⊥
-Stands (Some t) (Some Absent) = ⊥
-Stands (Some t) (Some Large) = 4096 < pattern_nodes (substituted [] t)
-Stands (Some t) (Some (Whole w)) = elaborated w.pattern ≡ t
+-- a template if its rank is below this
+abbrev pub if_below : ℕ → Option Template → Option Kept
+if_below below None = None
+if_below below (Some Absent) = None
+if_below below (Some (Present k)) = if nat_le (suc k.rank) below then Some k else None
 
--- so for each term
-pub record StandFor (whole : List (Option Pattern)) (templates : List Template) : Type 0 where
-  pub at : (term : TermId) → Stands (template_of whole term) (slice_get templates term.0)
+-- what is kept of a term's template, if its rank is below this
+abbrev pub kept_of : List Template → (below : ℕ) → TermId → Option Kept
+kept_of table below term = if_below below (slice_get table term.0)
+
+-- what is kept of a template with no other in it: one that gives it, once these stand for those that it uses; how many nodes it has with parameters of one node, up to 4,097; and how often each parameter stands in it, if it is small enough
+pub record IsKept (inner : List (Option Pattern)) (t : Pattern) (k : Kept) : Type 0 where
+  pub whole : t ≡ expanded inner (elaborated k.pattern)
+  pub nodes : k.nodes ≡ min (pattern_nodes (substituted [] t)) 4097
+  pub times : k.nodes ≤ 4096 → (x : ℕ) → times_kept k.times x ≡ times_in (pattern_variables t) x
+
+-- what is kept for a term that may have a template, where these stand for those of ranks below each number
+abbrev pub Stands : (ℕ → List (Option Pattern)) → Option Pattern → Option Kept → Type 0
+Stands inner None None = Unit {0}
+Stands inner None (Some k) = ⊥
+Stands inner (Some t) None = ⊥
+Stands inner (Some t) (Some k) = IsKept (inner k.uses) t k
+
+-- these templates with no other in them are those that are kept with ranks below this
+pub record StandFor (whole : List (Option Pattern)) (table : List Template) (below : ℕ) : Type 0 where
+  pub inner : ℕ → List (Option Pattern)
+  pub last : (term : TermId) → template_of (inner below) term ≡ template_of whole term
+  pub at : (n : ℕ) → n ≤ below → (term : TermId) → Stands inner (template_of (inner n) term) (kept_of table n term)
+
+-- what is kept of a template with no other in it, by these that stand for those that it uses, or with no others to put in
+abbrev pub IsKeptAt : List (Option Pattern) → (rank : ℕ) → Pattern → Kept → Type 0
+IsKeptAt inner rank t k = (k.rank ≡ rank) × (((k.uses ≡ rank) × IsKept inner t k) ⊎ ((k.uses ≡ 0) × ((none : List (Option Pattern)) → ((term : TermId) → template_of none term ≡ None) → IsKept none t k)))
+
+-- what is made for a term whose template is written so, where these stand for those that it uses
+abbrev pub IsMade : List (Option Pattern) → (rank : ℕ) → Option Pattern → Template → Type 0
+IsMade inner rank None Absent = Unit {0}
+IsMade inner rank None (Present k) = ⊥
+IsMade inner rank (Some w) Absent = ⊥
+IsMade inner rank (Some w) (Present k) = IsKeptAt inner rank (expanded inner w) k

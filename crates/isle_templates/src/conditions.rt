@@ -12,7 +12,7 @@ ghost use Rattle.isle_templates.specs.Standing.{StandFor};
 use crate::counted::{Conditions, Counted, MOST_NODES};
 use crate::expansion::expanded;
 use crate::expr_nodes::expr_nodes;
-use crate::template::Template;
+use crate::known::Known;
 use isle_core::{Expr, IfLet};
 use std::alloc::{AllocError, Global};
 
@@ -57,17 +57,17 @@ pub fn iflets_expanded(
     alloc: Global,
     iflets: Vec<IfLet>,
     base: usize,
-    templates: &[Template],
+    known: Known<'_>,
 ) -> Result<Option<Conditions>, AllocError>
     requires { base ≤ 4096 }
     ensures { IfOk result (λ found.
-        (whole : List (Option Tree)) → StandFor whole templates.now
+        (whole : List (Option Tree)) → StandFor whole known.entry.table.now known.entry.below
         → AreConditionsCounted base (map (condition_expanded whole) (map elaborated iflets.items))
         found) }
 {
     let mut found = Conditions::new(alloc, iflets.len(), base)?;
     for IfLet { lhs, rhs } in iflets {
-        let lhs = expanded(alloc, &lhs, templates)?;
+        let lhs = expanded(alloc, &lhs, known)?;
         if !found.push(lhs, rhs)? {
             return Ok(None);
         }

@@ -7,13 +7,14 @@ ghost use Rattle.isle_core.specs.Pattern.{Pattern as Tree};
 ghost use Rattle.isle_core.specs.RuleViews.{pattern as elaborated, patterns_of};
 ghost use Rattle.isle_templates.specs.Arguments.{needed_one};
 ghost use Rattle.isle_templates.specs.Counted.{IsCounted, AreCounted};
-ghost use Rattle.isle_templates.specs.Standing.{StandFor};
+ghost use Rattle.isle_templates.specs.Standing.{IsKept, StandFor};
 ghost use Rattle.isle_templates.specs.Substituted.{expanded, opened, substituted, template_of};
 
-use crate::counted::{Counted, Parts};
+use crate::counted::{Counted, MOST_NODES, Parts};
 use crate::counting::{and_of, bound, leaf, term_of};
-use crate::substitution::substituted;
-use crate::template::{Template, Whole};
+use crate::filling::filled;
+use crate::known::{Known, kept_of, lower};
+use crate::template::Kept;
 use isle_core::{Pattern, TermId, TypeId};
 use std::alloc::{AllocError, Global};
 
@@ -21,18 +22,14 @@ use std::alloc::{AllocError, Global};
 /// error is want of memory.
 #[cycle(expanding)]
 #[tactic(auto, using(isle_core::proofs::SeesRules::sees, crate::proofs::ExpansionSteps::parts_each))]
-pub fn expanded(
-    alloc: Global,
-    p: &Pattern,
-    templates: &[Template],
-) -> Result<Option<Counted>, AllocError>
+pub fn expanded(alloc: Global, p: &Pattern, known: Known<'_>) -> Result<Option<Counted>, AllocError>
     ensures { IfOk result (λ found.
-        (whole : List (Option Tree)) → StandFor whole templates.now
+        (whole : List (Option Tree)) → StandFor whole known.entry.table.now known.entry.below
         → IsCounted (expanded whole (elaborated p.now)) found) }
 {
     match p {
         Pattern::BindPattern(ty, variable, inner) => {
-            let inner = expanded(alloc, inner.get(), templates)?;
+            let inner = expanded(alloc, inner.get(), known)?;
             bound(alloc, *ty, *variable, inner)
         }
         Pattern::Var(ty, variable) => Ok(leaf(Pattern::Var(*ty, *variable))),
@@ -40,11 +37,11 @@ pub fn expanded(
         Pattern::ConstInt(ty, n) => Ok(leaf(Pattern::ConstInt(*ty, *n))),
         Pattern::ConstPrim(ty, name) => Ok(leaf(Pattern::ConstPrim(*ty, *name))),
         Pattern::Term(ty, term, parts) => {
-            term_expanded(alloc, parts.as_slice(), *ty, *term, templates)
+            term_expanded(alloc, parts.as_slice(), *ty, *term, known)
         }
         Pattern::Wildcard(ty) => Ok(leaf(Pattern::Wildcard(*ty))),
         Pattern::And(ty, parts) => {
-            let parts = all_expanded(alloc, parts.as_slice(), 1, templates)?;
+            let parts = all_expanded(alloc, parts.as_slice(), 1, known)?;
             Ok(and_of(*ty, parts))
         }
     }
@@ -57,18 +54,16 @@ fn term_expanded(
     parts: &[Pattern],
     ty: TypeId,
     term: TermId,
-    templates: &[Template],
+    known: Known<'_>,
 ) -> Result<Option<Counted>, AllocError>
     ensures { IfOk result (λ found.
-        (whole : List (Option Tree)) → StandFor whole templates.now
+        (whole : List (Option Tree)) → StandFor whole known.entry.table.now known.entry.below
         → IsCounted (opened (template_of whole term) ty term
         (map (expanded whole) (map elaborated parts.now))) found) }
 {
-    match templates.get(term.index()) {
-        None => term_on(alloc, parts, ty, term, templates),
-        Some(Template::Absent) => term_on(alloc, parts, ty, term, templates),
-        Some(Template::Large) => Ok(None),
-        Some(Template::Whole(template)) => opened(alloc, parts, template, templates),
+    match kept_of(known, term) {
+        None => term_on(alloc, parts, ty, term, known),
+        Some(kept) => opened(alloc, parts, kept, known),
     }
 }
 
@@ -79,14 +74,14 @@ fn term_on(
     parts: &[Pattern],
     ty: TypeId,
     term: TermId,
-    templates: &[Template],
+    known: Known<'_>,
 ) -> Result<Option<Counted>, AllocError>
     ensures { IfOk result (λ found.
-        (whole : List (Option Tree)) → StandFor whole templates.now
+        (whole : List (Option Tree)) → StandFor whole known.entry.table.now known.entry.below
         → IsCounted (pattern.Term ty term
         (patterns_of (map (expanded whole) (map elaborated parts.now)))) found) }
 {
-    let parts = all_expanded(alloc, parts, 1, templates)?;
+    let parts = all_expanded(alloc, parts, 1, known)?;
     Ok(term_of(ty, term, parts))
 }
 
@@ -97,16 +92,16 @@ pub fn all_expanded(
     alloc: Global,
     parts: &[Pattern],
     base: usize,
-    templates: &[Template],
+    known: Known<'_>,
 ) -> Result<Option<Parts>, AllocError>
     requires { base ≤ 4096 }
     ensures { IfOk result (λ found.
-        (whole : List (Option Tree)) → StandFor whole templates.now
+        (whole : List (Option Tree)) → StandFor whole known.entry.table.now known.entry.below
         → AreCounted base (map (expanded whole) (map elaborated parts.now)) found) }
 {
     let mut found = Parts::new(alloc, parts.len(), base)?;
     for p in parts {
-        let part = expanded(alloc, p, templates)?;
+        let part = expanded(alloc, p, known)?;
         if !found.push(part)? {
             return Ok(None);
         }
@@ -121,16 +116,16 @@ fn argument(
     alloc: Global,
     p: &Pattern,
     times: usize,
-    templates: &[Template],
+    known: Known<'_>,
 ) -> Result<Option<Counted>, AllocError>
     ensures { IfOk result (λ found.
-        (whole : List (Option Tree)) → StandFor whole templates.now
+        (whole : List (Option Tree)) → StandFor whole known.entry.table.now known.entry.below
         → IsCounted (needed_one times (expanded whole (elaborated p.now))) found) }
 {
     if times == 0 {
         return Ok(leaf(Pattern::Wildcard(TypeId(0))));
     }
-    expanded(alloc, p, templates)
+    expanded(alloc, p, known)
 }
 
 // A template with patterns in place of its parameters.
@@ -138,23 +133,28 @@ fn argument(
 fn opened(
     alloc: Global,
     args: &[Pattern],
-    template: &Whole,
-    templates: &[Template],
+    kept: &Kept,
+    known: Known<'_>,
 ) -> Result<Option<Counted>, AllocError>
     ensures { IfOk result (λ found.
-        (whole : List (Option Tree)) → StandFor whole templates.now
-        → IsCounted (substituted (map (expanded whole) (map elaborated args.now))
-        (elaborated template.now.pattern)) found) }
+        (whole inner : List (Option Tree)) (template : Tree)
+        → StandFor whole known.entry.table.now known.entry.below
+        → StandFor inner known.entry.table.now kept.now.uses → IsKept inner template kept.now
+        → IsCounted (substituted (map (expanded whole) (map elaborated args.now)) template) found) }
 {
-    let mut found = Parts::new(alloc, args.len(), template.nodes)?;
+    if kept.nodes > MOST_NODES {
+        return Ok(None);
+    }
+    let mut found = Parts::new(alloc, args.len(), kept.nodes)?;
     for (parameter, arg) in args.iter().enumerate() {
-        let times = template.parameters.times(parameter);
-        let part = argument(alloc, arg, times, templates)?;
+        let times = kept.times(parameter);
+        let part = argument(alloc, arg, times, known)?;
         if !found.push_argument(times, part)? {
             return Ok(None);
         }
     }
-    let pattern = substituted(alloc, &template.pattern, found.patterns.as_slice())?;
+    let parts = found.patterns.as_slice();
+    let pattern = filled(alloc, &kept.pattern, parts, lower(known, kept.uses))?;
     Ok(Some(Counted {
         pattern,
         nodes: found.nodes,

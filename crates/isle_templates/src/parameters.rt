@@ -2,7 +2,7 @@
 
 ghost use Rattle.std.specs.Prelude.{◌≡◌, [], ◌∷◌, ◌++◌, IfOk, OnOk, map};
 ghost use Rattle.isle_core.specs.RuleViews.{pattern as elaborated, patterns_of};
-ghost use Rattle.isle_templates.specs.Occurrences.{times_in};
+ghost use Rattle.isle_templates.specs.Occurrences.{times_in, CountsTimes};
 ghost use Rattle.isle_templates.specs.Renumbered.{pattern_variables, patterns_variables};
 
 use isle_core::Pattern;
@@ -49,8 +49,15 @@ impl Parameters {
         Ok(parameters)
     }
 
+    /// Returns how often each parameter stands there.
+    pub fn into_times(self) -> BTreeMap<usize, usize>
+        ensures { CountsTimes self result }
+    {
+        self.times
+    }
+
     /// Returns how often a parameter stands there.
-    pub fn times(&self, parameter: usize) -> usize
+    fn times(&self, parameter: usize) -> usize
         ensures { result ≡ times_in self.now parameter }
     {
         self.times.get(&parameter).copied().unwrap_or(0)

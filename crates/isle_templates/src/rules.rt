@@ -11,31 +11,27 @@ use crate::conditions::iflets_expanded;
 use crate::counted::MOST_NODES;
 use crate::expansion::all_expanded;
 use crate::expr_nodes::expr_nodes;
+use crate::known::Known;
 use crate::renumbering::renumbered;
-use crate::template::Template;
 use crate::templates::Templates;
 use isle_core::{List, Rule};
 use std::alloc::{AllocError, Global};
 
 // A rule with templates in place of terms.
-fn rule_expanded(
-    alloc: Global,
-    templates: &[Template],
-    given: Rule,
-) -> Result<Option<Rule>, AllocError>
+fn rule_expanded(alloc: Global, known: Known<'_>, given: Rule) -> Result<Option<Rule>, AllocError>
     ensures { IfOk result (λ found.
-        (whole : List (Option Tree)) → StandFor whole templates.now
+        (whole : List (Option Tree)) → StandFor whole known.entry.table.now known.entry.below
         → IsRuleExpanded whole (rule given) found) }
 {
     let nodes = expr_nodes(&given.rhs);
     if nodes > MOST_NODES {
         return Ok(None);
     }
-    let Some(args) = all_expanded(alloc, given.args.as_slice(), nodes, templates)? else {
+    let Some(args) = all_expanded(alloc, given.args.as_slice(), nodes, known)? else {
         return Ok(None);
     };
     let iflets = given.iflets.into_vec();
-    let Some(conditions) = iflets_expanded(alloc, iflets, args.nodes, templates)? else {
+    let Some(conditions) = iflets_expanded(alloc, iflets, args.nodes, known)? else {
         return Ok(None);
     };
     Ok(Some(Rule {
@@ -61,7 +57,7 @@ pub fn elaborated(
         (written : List (Option Tree)) → AreWhole written templates.now
         → IsElaborated written (rule given) found) }
 {
-    match rule_expanded(alloc, templates.as_slice(), given)? {
+    match rule_expanded(alloc, templates.known(), given)? {
         None => Ok(None),
         Some(whole) => Ok(Some(renumbered(alloc, &whole)?)),
     }

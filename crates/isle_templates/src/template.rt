@@ -1,24 +1,27 @@
-//! Templates with no other template in them.
+//! What is kept of a template.
 
-ghost use Rattle.std.specs.Prelude.{◌≡◌, ◌≤◌, []};
-ghost use Rattle.isle_core.specs.RuleViews.{pattern as elaborated};
-ghost use Rattle.isle_templates.specs.NodeCount.{pattern_nodes};
-ghost use Rattle.isle_templates.specs.Renumbered.{pattern_variables};
-ghost use Rattle.isle_templates.specs.Substituted.{substituted};
+ghost use Rattle.std.specs.Prelude.{◌≡◌, ◌≤◌};
+ghost use Rattle.isle_templates.specs.Occurrences.{times_kept};
 
-use crate::parameters::Parameters;
 use isle_core::Pattern;
+use std::collections::BTreeMap;
 
-/// A template with no other template in it. There are few enough nodes to use it, at least with small patterns.
+/// A template, with what is told of it once no other is in it.
 #[derive(Drop)]
-pub struct Whole {
+pub struct Kept {
+    /// The template as it is written, or with those that it uses put in.
     pub pattern: Pattern,
-    /// How many nodes there are where a pattern of one node stands for each parameter.
+    /// Templates that use it have higher ranks.
+    pub rank: usize,
+    /// The templates that the pattern uses have lower ranks than this.
+    pub uses: usize,
+    /// How many levels of templates are put in where the pattern is used.
+    pub levels: usize,
+    /// How many nodes there are where a pattern of one node stands for each parameter, or 4,097 if there are more.
     pub nodes: usize,
-    pub parameters: Parameters,
-    pub ghost counted: { nodes ≡ pattern_nodes (substituted [] (elaborated pattern)) },
-    pub ghost small: { nodes ≤ 4096 },
-    pub ghost gathered: { parameters ≡ pattern_variables (elaborated pattern) },
+    /// How often each parameter stands there, if there are few enough nodes.
+    pub times: BTreeMap<usize, usize>,
+    pub ghost lower: { uses ≤ rank },
 }
 
 /// What stands for a term.
@@ -26,7 +29,14 @@ pub struct Whole {
 pub enum Template {
     /// The term itself.
     Absent,
-    /// Too large a template to use.
-    Large,
-    Whole(Whole),
+    Present(Kept),
+}
+
+impl Kept {
+    /// Returns how often a parameter stands there.
+    pub fn times(&self, parameter: usize) -> usize
+        ensures { result ≡ times_kept self.now.times parameter }
+    {
+        self.times.get(&parameter).copied().unwrap_or(0)
+    }
 }

@@ -10,7 +10,7 @@ ghost use Rattle.isle_terms.specs.Converters.{Conversion as PureConversion, conv
 ghost use Rattle.isle_terms.specs.ConverterViews.{seen, AreFound, IsNumberOf, IsJoined, IsKnown};
 
 use crate::named_types::type_named;
-use isle_core::{TermId, Text, TypeId};
+use isle_core::{Name, TermId, TypeId};
 use isle_declarations::{Declarations, Signature, Terms};
 use isle_types::Before;
 use std::alloc::{AllocError, Global};
@@ -18,10 +18,10 @@ use std::collections::BTreeMap;
 
 // A converter: the names of the types that it stands between, and of its term.
 #[derive(Clone, Copy)]
-pub struct Conversion<'d> {
-    pub from: &'d Text,
-    pub to: &'d Text,
-    pub term: &'d Text,
+pub struct Conversion<'b, 'd> {
+    pub from: &'b Name<'d>,
+    pub to: &'b Name<'d>,
+    pub term: &'b Name<'d>,
 }
 
 // What is known of a converter: its types, and its term by the number of its name and by its own.
@@ -99,7 +99,7 @@ impl Converters {
         if self.between(from, to).is_some() {
             return None;
         }
-        let number = declarations.number(given.term)?;
+        let number = declarations.number(given.term.as_str())?;
         let place = declarations.declaration(number)?;
         let signature = declarations.signatures().get(place)?;
         if !fits(given, signature) {

@@ -4,7 +4,7 @@ use crate::first_parts::Firsts;
 use crate::new_variables::misses_variable;
 use crate::part::{Counts, Part, Thing};
 use isle_ast::AstPattern;
-use isle_core::Text;
+use isle_core::Name;
 use isle_types::Row;
 use std::alloc::{AllocError, Global};
 
@@ -46,20 +46,20 @@ pub enum Flaw {
 
 /// A part that breaks a row, and what is wrong with it.
 #[derive(Clone, Copy)]
-pub struct Culprit<'d> {
+pub struct Culprit<'b, 'd> {
     pub flaw: Flaw,
-    pub part: Part<'d>,
+    pub part: Part<'b, 'd>,
 }
 
 /// A row that is broken, and the part that breaks it, if it is not the whole extractor or rule.
 #[derive(Clone, Copy)]
-pub struct Breach<'d> {
+pub struct Breach<'b, 'd> {
     pub row: Row,
-    pub culprit: Option<Culprit<'d>>,
+    pub culprit: Option<Culprit<'b, 'd>>,
 }
 
 // The first part that breaks a row.
-fn first<'d>(firsts: &Firsts<'d>, row: Row) -> Option<Culprit<'d>> {
+fn first<'b, 'd>(firsts: &Firsts<'b, 'd>, row: Row) -> Option<Culprit<'b, 'd>> {
     let (flaw, first) = match row {
         Row::TemplateMisfit => match firsts.unbound {
             Some(_) => (Flaw::NoParameter, firsts.unbound),
@@ -90,13 +90,13 @@ fn first<'d>(firsts: &Firsts<'d>, row: Row) -> Option<Culprit<'d>> {
 }
 
 /// Returns the part of a template with these parameters that breaks a row. The only error is want of memory.
-pub fn template_culprit<'d>(
+pub fn template_culprit<'b, 'd>(
     alloc: Global,
     row: Row,
-    firsts: &Firsts<'d>,
-    params: &'d [Text],
-    template: &AstPattern,
-) -> Result<Option<Culprit<'d>>, AllocError> {
+    firsts: &Firsts<'b, 'd>,
+    params: &'b [Name<'d>],
+    template: &'b AstPattern<'d>,
+) -> Result<Option<Culprit<'b, 'd>>, AllocError> {
     let found = first(firsts, row);
     if found.is_some() || row != Row::TemplateMisfit {
         return Ok(found);
@@ -120,14 +120,14 @@ pub fn template_culprit<'d>(
 /// Returns the part that breaks a row in a rule of a term of this name, on so many patterns, of which it wants so many:
 /// the head, or the first one in the patterns and the conditions, or else on the right side. What conditions call may
 /// be partial.
-pub fn rule_culprit<'d>(
+pub fn rule_culprit<'b, 'd>(
     row: Row,
     wanted: usize,
-    term: &'d Text,
+    term: &'b Name<'d>,
     count: usize,
-    left: &Firsts<'d>,
-    right: &Firsts<'d>,
-) -> Option<Culprit<'d>> {
+    left: &Firsts<'b, 'd>,
+    right: &Firsts<'b, 'd>,
+) -> Option<Culprit<'b, 'd>> {
     if count != wanted {
         let counts = Counts {
             given: count,

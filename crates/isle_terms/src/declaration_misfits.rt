@@ -17,7 +17,7 @@ use crate::converters::{Conversion, Converters};
 use crate::misfit::Misfit;
 use crate::named_types::{missing_type, type_named};
 use crate::names::Names;
-use isle_core::Text;
+use isle_core::Name;
 use isle_declarations::repeats;
 use isle_types::Before;
 use std::alloc::{AllocError, Global};
@@ -27,7 +27,11 @@ const MOST_ARGUMENTS: usize = 256;
 
 /// Returns what is wrong with a declaration that has so many before it, as another declaration or a type gives its
 /// term.
-pub fn repeated<'d>(names: &Names<'_, 'd>, count: usize, term: &'d Text) -> Option<Misfit<'d>>
+pub fn repeated<'b, 'd>(
+    names: &Names<'_, 'b, 'd>,
+    count: usize,
+    term: &'b Name<'d>,
+) -> Option<Misfit<'b, 'd>>
     requires { AreNames names.now }
     ensures { option_map misfit_row result
         ≡ repeated_row (seen names.now.declarations.now)
@@ -43,13 +47,13 @@ pub fn repeated<'d>(names: &Names<'_, 'd>, count: usize, term: &'d Text) -> Opti
 }
 
 /// Returns what is wrong with a declaration in itself; it may be both `multi` and `partial`.
-pub fn misdeclared<'d>(
+pub fn misdeclared<'b, 'd>(
     before: &Before,
-    term: &'d Text,
+    term: &'b Name<'d>,
     is_both: bool,
-    args: &'d [Text],
-    ret: &'d Text,
-) -> Option<Misfit<'d>>
+    args: &'b [Name<'d>],
+    ret: &'b Name<'d>,
+) -> Option<Misfit<'b, 'd>>
     ensures { (all : List PureDef) → IsBefore all before.now
         → option_map misfit_row result ≡ misdeclared_row all is_both args.now ret.now }
 {
@@ -70,11 +74,11 @@ pub fn misdeclared<'d>(
 }
 
 /// Returns what is wrong with an external constructor that has so many before it.
-pub fn external_misfit<'d>(
-    names: &Names<'_, 'd>,
+pub fn external_misfit<'b, 'd>(
+    names: &Names<'_, 'b, 'd>,
     count: usize,
-    term: &'d Text,
-) -> Option<Misfit<'d>>
+    term: &'b Name<'d>,
+) -> Option<Misfit<'b, 'd>>
     ensures { (bs : List PureDef) (func : List ℕ) (pos : Place)
         → take count (extern_terms (externs (seen names.now.declarations.now)))
         ≡ extern_terms (externs bs)
@@ -92,12 +96,12 @@ pub fn external_misfit<'d>(
 }
 
 /// Returns what is wrong with an external extractor that has so many extractors before it.
-pub fn function_misfit<'d>(
-    names: &Names<'_, 'd>,
+pub fn function_misfit<'b, 'd>(
+    names: &Names<'_, 'b, 'd>,
     count: usize,
-    term: &'d Text,
+    term: &'b Name<'d>,
     infallible: bool,
-) -> Option<Misfit<'d>>
+) -> Option<Misfit<'b, 'd>>
     ensures { (bs : List PureDef) (func : List ℕ) (pos : Place)
         → take count (extractor_terms (extractors (seen names.now.declarations.now)))
         ≡ extractor_terms (extractors bs)
@@ -118,13 +122,13 @@ pub fn function_misfit<'d>(
 }
 
 /// Returns what is wrong with an extractor by a template of these parameters that has so many extractors before it.
-pub fn template_misfit<'d>(
+pub fn template_misfit<'b, 'd>(
     alloc: Global,
-    names: &Names<'_, 'd>,
+    names: &Names<'_, 'b, 'd>,
     count: usize,
-    term: &'d Text,
-    params: &'d [Text],
-) -> Result<Option<Misfit<'d>>, AllocError>
+    term: &'b Name<'d>,
+    params: &'b [Name<'d>],
+) -> Result<Option<Misfit<'b, 'd>>, AllocError>
     ensures { IfOk result (λ found.
         (bs : List PureDef) (template : Pattern) (pos : Place)
         → take count (extractor_terms (extractors (seen names.now.declarations.now)))
@@ -149,7 +153,11 @@ pub fn template_misfit<'d>(
 }
 
 // How a converter is wrong that does not fit after these.
-fn converter_unfit<'d>(before: &Before, found: &Converters, given: Conversion<'d>) -> Misfit<'d>
+fn converter_unfit<'b, 'd>(
+    before: &Before,
+    found: &Converters,
+    given: Conversion<'b, 'd>,
+) -> Misfit<'b, 'd>
     ensures { misfit_row result ≡ row.ConverterMisfit }
 {
     let Some(from) = type_named(before, given.from) else {
@@ -165,11 +173,11 @@ fn converter_unfit<'d>(before: &Before, found: &Converters, given: Conversion<'d
 }
 
 /// Returns what is wrong with a converter that follows these; or else it is met.
-pub fn converter_misfit<'d>(
-    names: &Names<'_, 'd>,
+pub fn converter_misfit<'b, 'd>(
+    names: &Names<'_, 'b, 'd>,
     found: &mut Converters,
-    given: Conversion<'d>,
-) -> Result<Option<Misfit<'d>>, AllocError>
+    given: Conversion<'b, 'd>,
+) -> Result<Option<Misfit<'b, 'd>>, AllocError>
     requires { AreNames names.now }
     ensures { IfOk result (λ misfit.
         (bs : List PureDef) (pos : Place) → AreMet (seen names.now.declarations.now) bs found.old
@@ -190,7 +198,7 @@ pub fn converter_misfit<'d>(
 }
 
 /// Returns what is wrong with the head of a rule.
-pub fn head_misfit<'d>(names: &Names<'_, 'd>, term: &'d Text) -> Option<Misfit<'d>>
+pub fn head_misfit<'b, 'd>(names: &Names<'_, 'b, 'd>, term: &'b Name<'d>) -> Option<Misfit<'b, 'd>>
     ensures { (bs : List PureDef) (name : Option (List ℕ)) (prio : ℤ) (args : List Pattern)
         (iflets : List IfLet) (rhs : Expr) (pos : Place)
         → option_map misfit_row result

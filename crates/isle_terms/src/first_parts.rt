@@ -6,27 +6,27 @@ use isle_core::TypeId;
 
 /// For each row that a part of a rule or of a template may break, the first part that does, in the order of the pass.
 #[derive(Clone, Copy)]
-pub struct Firsts<'d> {
-    pub untaken: Option<Part<'d>>,
-    pub mistaken: Option<Part<'d>>,
-    pub misplaced: Option<Part<'d>>,
-    pub undeclared: Option<Part<'d>>,
-    pub met_otherwise: Option<Part<'d>>,
-    pub multi_taken: Option<Part<'d>>,
-    pub unknown: Option<Part<'d>>,
-    pub mistyped: Option<Part<'d>>,
-    pub partial: Option<Part<'d>>,
-    pub impure: Option<Part<'d>>,
-    pub multi: Option<Part<'d>>,
-    pub unbound: Option<Part<'d>>,
+pub struct Firsts<'b, 'd> {
+    pub untaken: Option<Part<'b, 'd>>,
+    pub mistaken: Option<Part<'b, 'd>>,
+    pub misplaced: Option<Part<'b, 'd>>,
+    pub undeclared: Option<Part<'b, 'd>>,
+    pub met_otherwise: Option<Part<'b, 'd>>,
+    pub multi_taken: Option<Part<'b, 'd>>,
+    pub unknown: Option<Part<'b, 'd>>,
+    pub mistyped: Option<Part<'b, 'd>>,
+    pub partial: Option<Part<'b, 'd>>,
+    pub impure: Option<Part<'b, 'd>>,
+    pub multi: Option<Part<'b, 'd>>,
+    pub unbound: Option<Part<'b, 'd>>,
 }
 
-impl<'d> Firsts<'d> {
+impl<'b, 'd> Firsts<'b, 'd> {
     /// Keeps a part for each row that is broken now that it is judged, and has no first part yet.
     pub fn note(
         &mut self,
         rows: &Judged,
-        thing: Thing<'d>,
+        thing: Thing<'b, 'd>,
         expected: Option<TypeId>,
         found: Option<TypeId>,
         counts: Option<Counts>,

@@ -4,7 +4,7 @@ ghost use Rattle.std.specs.Prelude.{◌≡◌, ◌++◌, [], ◌∷◌, suc, len
 ghost use Rattle.isle_terms.specs.Locals.{local_named, bound_local, locals_of};
 
 use crate::variables::{Variables, is_blank};
-use isle_core::{Text, TypeId};
+use isle_core::{Name, TypeId};
 use isle_declarations::Symbols;
 use isle_scope::Scope;
 use std::alloc::{AllocError, Global};
@@ -12,8 +12,8 @@ use std::marker::Model;
 
 /// A variable of a `let`: its type, if it is declared, and its number.
 #[derive(Drop)]
-pub struct LetVariable<'d> {
-    pub name: &'d Text,
+pub struct LetVariable<'b, 'd> {
+    pub name: &'b Name<'d>,
     pub ty: Option<TypeId>,
     pub number: usize,
 }
@@ -21,15 +21,15 @@ pub struct LetVariable<'d> {
 /// The variables of patterns and of `let`s; what is bound last counts. Names of `let`s are numbered where they are met
 /// first, and the scope has those numbers.
 #[derive(Drop)]
-pub struct Locals<'v, 'd> {
-    patterns: &'v Variables<'d>,
-    names: Symbols<'d>,
+pub struct Locals<'v, 'b, 'd> {
+    patterns: &'v Variables<'b>,
+    names: Symbols<'b>,
     scope: Scope,
-    lets: Vec<LetVariable<'d>>,
+    lets: Vec<LetVariable<'b, 'd>>,
     next: usize,
 }
 
-impl<'v, 'd> Model for Locals<'v, 'd> {
+impl<'v, 'b, 'd> Model for Locals<'v, 'b, 'd> {
     ghost use Rattle.std.specs.Prelude.{map};
     ghost use Rattle.isle_declarations.specs.Numbered.{AreNumbered};
     ghost use Rattle.isle_terms.specs.Locals.{Bound};
@@ -45,9 +45,9 @@ impl<'v, 'd> Model for Locals<'v, 'd> {
     ghost invariant = { λ v. AreNumbered v.names (map name_of v.lets.items) v.scope };
 }
 
-impl<'v, 'd> Locals<'v, 'd> {
+impl<'v, 'b, 'd> Locals<'v, 'b, 'd> {
     /// Begins with the variables of patterns, and with this number.
-    pub fn new(alloc: Global, patterns: &'v Variables<'d>, next: usize) -> Locals<'v, 'd>
+    pub fn new(alloc: Global, patterns: &'v Variables<'b>, next: usize) -> Locals<'v, 'b, 'd>
         ensures { result ≡ record { patterns = patterns.now; lets = []; next = next } }
     {
         Locals {
@@ -60,7 +60,7 @@ impl<'v, 'd> Locals<'v, 'd> {
     }
 
     // The variable of a `let` of this name, if it is in scope.
-    fn of_let(&self, name: &Text) -> Option<(Option<TypeId>, usize)>
+    fn of_let(&self, name: &Name) -> Option<(Option<TypeId>, usize)>
         ensures { result ≡ option_map (λ l. (l.ty, l.number)) (local_named self.now.lets name.now) }
     {
         let place = self.scope.place(self.names.find(name.as_str())?)?;
@@ -69,7 +69,7 @@ impl<'v, 'd> Locals<'v, 'd> {
     }
 
     /// Returns the type that a variable was bound at and its number, if it is in scope.
-    pub fn find(&self, name: &Text) -> Option<(Option<TypeId>, usize)>
+    pub fn find(&self, name: &Name) -> Option<(Option<TypeId>, usize)>
         ensures { result
             ≡ option_map (λ l. (l.ty, l.number)) (local_named (locals_of self.now) name.now) }
     {
@@ -116,7 +116,7 @@ impl<'v, 'd> Locals<'v, 'd> {
     /// Binds a variable of a `let`; `_` names none.
     pub fn bind(
         &mut self,
-        name: &'d Text,
+        name: &'b Name<'d>,
         ty: Option<TypeId>,
         number: usize,
     ) -> Result<(), AllocError>

@@ -4,33 +4,33 @@ ghost use Rattle.std.specs.Prelude.{◌≡◌};
 ghost use Rattle.isle_terms.specs.Misfits.{misfit_row};
 
 use crate::converters::Conversion;
-use isle_core::{OutOfMemory, Text};
+use isle_core::{Name, OutOfMemory, Text};
 use isle_types::{Row, push_name, told};
 use std::alloc::Global;
 
 /// What is wrong with a definition, with the names concerned.
 #[derive(Clone, Copy)]
-pub enum Misfit<'d> {
-    DeclaredTwice(&'d Text),
-    Made(&'d Text),
-    TypeMissing(&'d Text),
-    ManyArguments(&'d Text),
-    MultiAndPartial(&'d Text),
-    Undeclared(&'d Text),
-    SecondConstructor(&'d Text),
-    SecondExtractor(&'d Text),
-    InfallibleMulti(&'d Text),
+pub enum Misfit<'b, 'd> {
+    DeclaredTwice(&'b Name<'d>),
+    Made(&'b Name<'d>),
+    TypeMissing(&'b Name<'d>),
+    ManyArguments(&'b Name<'d>),
+    MultiAndPartial(&'b Name<'d>),
+    Undeclared(&'b Name<'d>),
+    SecondConstructor(&'b Name<'d>),
+    SecondExtractor(&'b Name<'d>),
+    InfallibleMulti(&'b Name<'d>),
     /// A term, how many parameters its extractor has, and how many arguments it has itself.
-    ParameterCount(&'d Text, usize, usize),
-    ParameterTwice(&'d Text),
-    ConverterTypeMissing(&'d Text),
-    SecondConverter(Conversion<'d>),
-    ConverterUnfit(Conversion<'d>),
-    HeadUndeclared(&'d Text),
-    HeadExternal(&'d Text),
+    ParameterCount(&'b Name<'d>, usize, usize),
+    ParameterTwice(&'b Name<'d>),
+    ConverterTypeMissing(&'b Name<'d>),
+    SecondConverter(Conversion<'b, 'd>),
+    ConverterUnfit(Conversion<'b, 'd>),
+    HeadUndeclared(&'b Name<'d>),
+    HeadExternal(&'b Name<'d>),
 }
 
-impl<'d> Misfit<'d> {
+impl<'b, 'd> Misfit<'b, 'd> {
     /// Returns the row of the typing table that it is of.
     pub fn row(&self) -> Row
         ensures { result ≡ misfit_row self.now }
@@ -61,37 +61,87 @@ impl<'d> Misfit<'d> {
             Misfit::ParameterCount(term, params, args) => counts(alloc, term, *params, *args),
             Misfit::SecondConverter(given) => second(alloc, given),
             Misfit::ConverterUnfit(given) => unfit(alloc, given),
-            Misfit::DeclaredTwice(term) => told(alloc, "term '", term, "' is declared twice"),
-            Misfit::Made(term) => told(alloc, "term '", term, "' is made by a type"),
-            Misfit::TypeMissing(ty) => told(alloc, "type '", ty, "' is not declared"),
-            Misfit::ManyArguments(term) => told(alloc, "'", term, "' has more than 256 arguments"),
-            Misfit::MultiAndPartial(term) => told(alloc, "'", term, "' is multi and partial"),
-            Misfit::Undeclared(term) => told(alloc, "term '", term, "' is not declared"),
+            Misfit::DeclaredTwice(term) => told(
+                alloc,
+                "term '",
+                term.as_str(),
+                "' is declared twice",
+            ),
+            Misfit::Made(term) => told(alloc, "term '", term.as_str(), "' is made by a type"),
+            Misfit::TypeMissing(ty) => told(alloc, "type '", ty.as_str(), "' is not declared"),
+            Misfit::ManyArguments(term) => told(
+                alloc,
+                "'",
+                term.as_str(),
+                "' has more than 256 arguments",
+            ),
+            Misfit::MultiAndPartial(term) => told(
+                alloc,
+                "'",
+                term.as_str(),
+                "' is multi and partial",
+            ),
+            Misfit::Undeclared(term) => told(alloc, "term '", term.as_str(), "' is not declared"),
             Misfit::SecondConstructor(term) => {
-                told(alloc, "term '", term, "' has two external constructors")
+                told(
+                    alloc,
+                    "term '",
+                    term.as_str(),
+                    "' has two external constructors",
+                )
             }
-            Misfit::SecondExtractor(term) => told(alloc, "term '", term, "' has two extractors"),
+            Misfit::SecondExtractor(term) => told(
+                alloc,
+                "term '",
+                term.as_str(),
+                "' has two extractors",
+            ),
             Misfit::InfallibleMulti(term) => {
-                told(alloc, "'", term, "' is multi, and its extractor infallible")
+                told(
+                    alloc,
+                    "'",
+                    term.as_str(),
+                    "' is multi, and its extractor infallible",
+                )
             }
-            Misfit::ParameterTwice(term) => told(alloc, "'", term, "' has one parameter twice"),
-            Misfit::ConverterTypeMissing(ty) => told(alloc, "type '", ty, "' is not declared"),
-            Misfit::HeadUndeclared(term) => told(alloc, "term '", term, "' is not declared"),
+            Misfit::ParameterTwice(term) => told(
+                alloc,
+                "'",
+                term.as_str(),
+                "' has one parameter twice",
+            ),
+            Misfit::ConverterTypeMissing(ty) => told(
+                alloc,
+                "type '",
+                ty.as_str(),
+                "' is not declared",
+            ),
+            Misfit::HeadUndeclared(term) => told(
+                alloc,
+                "term '",
+                term.as_str(),
+                "' is not declared",
+            ),
             Misfit::HeadExternal(term) => {
-                told(alloc, "'", term, "' has a rule and an external constructor")
+                told(
+                    alloc,
+                    "'",
+                    term.as_str(),
+                    "' has a rule and an external constructor",
+                )
             }
         }
     }
 }
 
 // That an extractor has that many parameters, and its term that many arguments.
-fn counts(alloc: Global, term: &Text, params: usize, args: usize) -> Result<Text, OutOfMemory> {
+fn counts(alloc: Global, term: &Name, params: usize, args: usize) -> Result<Text, OutOfMemory> {
     let many_params = plural(params);
     let many_args = plural(args);
     let behind = format!(in alloc;
         "' has {params} parameter{many_params}, its term has {args} argument{many_args}"
     )?;
-    told(alloc, "'", term, behind.as_str())
+    told(alloc, "'", term.as_str(), behind.as_str())
 }
 
 // How a noun ends of which there are so many.
@@ -110,7 +160,7 @@ fn second(alloc: Global, given: &Conversion) -> Result<Text, OutOfMemory> {
 fn unfit(alloc: Global, given: &Conversion) -> Result<Text, OutOfMemory> {
     let mut words = converter(alloc, given)?;
     words.push_str("term '")?;
-    push_name(&mut words, given.term)?;
+    push_name(&mut words, given.term.as_str())?;
     words.push_str("' does not take the one alone and give the other")?;
     Ok(Text::new(words))
 }
@@ -118,9 +168,9 @@ fn unfit(alloc: Global, given: &Conversion) -> Result<Text, OutOfMemory> {
 // Between which types a converter stands.
 fn converter(alloc: Global, given: &Conversion) -> Result<String, OutOfMemory> {
     let mut words = String::from_str(alloc, "converter from '")?;
-    push_name(&mut words, given.from)?;
+    push_name(&mut words, given.from.as_str())?;
     words.push_str("' to '")?;
-    push_name(&mut words, given.to)?;
+    push_name(&mut words, given.to.as_str())?;
     words.push_str("': ")?;
     Ok(words)
 }

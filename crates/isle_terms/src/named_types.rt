@@ -8,13 +8,13 @@ ghost use Rattle.isle_types.specs.Gathered.{IsBefore};
 ghost use Rattle.isle_terms.specs.TypeNames.{type_named};
 ghost use Rattle.isle_terms.specs.TermPass.{types_named};
 
-use isle_core::{Text, TypeId};
+use isle_core::{Name, TypeId};
 use isle_declarations::ArgTypes;
 use isle_types::Before;
 use std::alloc::{AllocError, Global};
 
 /// Returns the type of a name, if it is declared.
-pub fn type_named(before: &Before, name: &Text) -> Option<TypeId>
+pub fn type_named(before: &Before, name: &Name) -> Option<TypeId>
     ensures { (defs : List Def) → IsBefore defs before.now → result ≡ type_named defs name.now }
 {
     match before.types.find(name.as_str()) {
@@ -24,7 +24,7 @@ pub fn type_named(before: &Before, name: &Text) -> Option<TypeId>
 }
 
 /// Tells whether each of the names is that of a type.
-pub fn are_types(before: &Before, names: &[Text]) -> bool
+pub fn are_types(before: &Before, names: &[Name]) -> bool
     ensures { (defs : List Def) → IsBefore defs before.now
         → result ≡ list_all (λ (n : List ℕ). is_some (type_named defs n)) names.now }
 {
@@ -37,7 +37,7 @@ pub fn are_types(before: &Before, names: &[Text]) -> bool
 }
 
 /// Returns the first of the names that is not that of a type.
-pub fn missing_type<'d>(before: &Before, names: &'d [Text]) -> Option<&'d Text>
+pub fn missing_type<'b, 'd>(before: &Before, names: &'b [Name<'d>]) -> Option<&'b Name<'d>>
     ensures { (defs : List Def) → IsBefore defs before.now
         → is_some result ≡ not (list_all (λ (n : List ℕ). is_some (type_named defs n)) names.now) }
 {
@@ -53,7 +53,7 @@ pub fn missing_type<'d>(before: &Before, names: &'d [Text]) -> Option<&'d Text>
 fn plain_types(
     alloc: Global,
     before: &Before,
-    names: &[Text],
+    names: &[Name],
 ) -> Result<Option<Vec<TypeId>>, AllocError>
     ensures { (defs : List Def) → IsBefore defs before.now
         → IfOk result
@@ -73,7 +73,7 @@ fn plain_types(
 fn field_types(
     alloc: Global,
     before: &Before,
-    fields: &[(Text, Text)],
+    fields: &[(Name, Name)],
 ) -> Result<Option<Vec<TypeId>>, AllocError>
     ensures { (defs : List Def) → IsBefore defs before.now
         → IfOk result

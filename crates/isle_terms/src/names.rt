@@ -7,16 +7,16 @@ ghost use Rattle.isle_declarations.specs.Signatures.{signatures, externs, extrac
 ghost use Rattle.isle_declarations.specs.Symbols.{index_of, symbols};
 ghost use Rattle.isle_terms.specs.Misfits.{IsDeclared};
 
-use isle_core::Text;
+use isle_core::Name;
 use isle_declarations::{Declarations, Signature, Terms};
 use isle_types::Before;
 
 /// What the definitions declare, with their types and terms.
 #[derive(Clone, Copy)]
-pub struct Names<'k, 'd> {
-    pub declarations: &'k Declarations<'d>,
-    pub before: &'k Before<'d>,
-    pub terms: &'k Terms<'d>,
+pub struct Names<'k, 'b, 'd> {
+    pub declarations: &'k Declarations<'b, 'd>,
+    pub before: &'k Before<'b>,
+    pub terms: &'k Terms<'b, 'd>,
 }
 
 // Whether the place is one of the first of so many.
@@ -30,23 +30,23 @@ fn is_before(place: Option<usize>, count: usize) -> bool
     }
 }
 
-impl<'k, 'd> Names<'k, 'd> {
+impl<'k, 'b, 'd> Names<'k, 'b, 'd> {
     /// Returns the declaration of a term, if it is declared.
-    pub fn declared(&self, term: &Text) -> Option<&'k Signature<'d>>
+    pub fn declared(&self, term: &Name) -> Option<&'k Signature<'b, 'd>>
         ensures { IsDeclared (seen self.now.declarations.now) term.now result }
     {
-        let number = self.declarations.number(term)?;
+        let number = self.declarations.number(term.as_str())?;
         let place = self.declarations.declaration(number)?;
         self.declarations.signatures().get(place)
     }
 
     /// Tells whether one of the first so many declarations is of the term.
-    pub fn is_declared_before(&self, term: &Text, count: usize) -> bool
+    pub fn is_declared_before(&self, term: &Name, count: usize) -> bool
         ensures { result
             ≡ is_some (index_of
             (take count (terms_of (signatures (seen self.now.declarations.now)))) term.now) }
     {
-        match self.declarations.number(term) {
+        match self.declarations.number(term.as_str()) {
             Some(number) => is_before(self.declarations.declaration(number), count),
             None => false,
         }

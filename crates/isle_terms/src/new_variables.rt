@@ -8,12 +8,16 @@ ghost use Rattle.isle_terms.specs.NewVariables.{variable_of, variables_in, all_v
 
 use crate::variables::{Variables, is_blank};
 use isle_ast::AstPattern;
-use isle_core::Text;
+use isle_core::Name;
 use isle_declarations::Symbols;
 use std::alloc::{AllocError, Global};
 
 // A variable that is not bound yet joins those that are new.
-fn join<'d>(vars: &Variables, new: &mut Symbols<'d>, name: &'d Text) -> Result<(), AllocError>
+fn join<'b, 'd>(
+    vars: &Variables,
+    new: &mut Symbols<'b>,
+    name: &'b Name<'d>,
+) -> Result<(), AllocError>
     ensures { OnOk result (new.new ≡ joined vars.now new.old name.now) }
 {
     if vars.find(name).is_some() {
@@ -26,7 +30,11 @@ fn join<'d>(vars: &Variables, new: &mut Symbols<'d>, name: &'d Text) -> Result<(
 }
 
 // So does the one that `@` names.
-fn join_named<'d>(vars: &Variables, new: &mut Symbols<'d>, name: &'d Text) -> Result<(), AllocError>
+fn join_named<'b, 'd>(
+    vars: &Variables,
+    new: &mut Symbols<'b>,
+    name: &'b Name<'d>,
+) -> Result<(), AllocError>
     ensures { OnOk result (new.new ≡ fold (joined vars.now) new.old (variable_of name.now)) }
 {
     if is_blank(name) {
@@ -38,10 +46,10 @@ fn join_named<'d>(vars: &Variables, new: &mut Symbols<'d>, name: &'d Text) -> Re
 // So do those of a pattern.
 #[cycle(patterns)]
 #[tactic(auto, using(isle_ast::proofs::Sees::pattern_sees))]
-fn join_pattern<'d>(
+fn join_pattern<'b, 'd>(
     vars: &Variables,
-    new: &mut Symbols<'d>,
-    p: &'d AstPattern,
+    new: &mut Symbols<'b>,
+    p: &'b AstPattern<'d>,
 ) -> Result<(), AllocError>
     ensures { OnOk result
         (new.new ≡ fold (joined vars.now) new.old (variables_in (pattern p.now))) }
@@ -63,10 +71,10 @@ fn join_pattern<'d>(
 
 // So do those of patterns.
 #[cycle(patterns)]
-fn join_patterns<'d>(
+fn join_patterns<'b, 'd>(
     vars: &Variables,
-    new: &mut Symbols<'d>,
-    patterns: &'d [AstPattern],
+    new: &mut Symbols<'b>,
+    patterns: &'b [AstPattern<'d>],
 ) -> Result<(), AllocError>
     ensures { OnOk result
         (new.new ≡ fold (joined vars.now) new.old
@@ -79,7 +87,7 @@ fn join_patterns<'d>(
 }
 
 // Whether one of these names is not among those.
-fn misses_one(names: &Symbols, wanted: &[Text]) -> bool
+fn misses_one(names: &Symbols, wanted: &[Name]) -> bool
     ensures { result
         ≡ list_any (λ (name : List _). not (is_some (index_of names.now name))) wanted.now }
 {
@@ -92,7 +100,11 @@ fn misses_one(names: &Symbols, wanted: &[Text]) -> bool
 }
 
 /// Tells whether one of these variables does not stand in a pattern. The only error is want of memory.
-pub fn misses_variable(alloc: Global, wanted: &[Text], p: &AstPattern) -> Result<bool, AllocError>
+pub fn misses_variable<'b, 'd>(
+    alloc: Global,
+    wanted: &[Name],
+    p: &'b AstPattern<'d>,
+) -> Result<bool, AllocError>
     ensures { IfOk result (λ misses.
         misses ≡ list_any
         (λ (name : List _). not (is_some (index_of (variables_in (pattern p.now)) name)))
@@ -105,7 +117,11 @@ pub fn misses_variable(alloc: Global, wanted: &[Text], p: &AstPattern) -> Result
 }
 
 /// Returns how many variables a pattern binds first after these. The only error is want of memory.
-pub fn new_count(alloc: Global, vars: &Variables, p: &AstPattern) -> Result<usize, AllocError>
+pub fn new_count<'b, 'd>(
+    alloc: Global,
+    vars: &Variables,
+    p: &'b AstPattern<'d>,
+) -> Result<usize, AllocError>
     ensures { IfOk result (λ count. count ≡ new_count vars.now (pattern p.now)) }
 {
     let mut new = Symbols::new(alloc);

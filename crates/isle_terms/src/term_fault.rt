@@ -23,13 +23,13 @@ use isle_types::{Before, place_of, type_error};
 use std::alloc::{AllocError, Global};
 
 // What is wrong with a definition that has so many before it; or else it is met.
-fn misfit_of<'d>(
+fn misfit_of<'b, 'd>(
     alloc: Global,
-    names: &Names<'_, 'd>,
+    names: &Names<'_, 'b, 'd>,
     counts: Counts,
     found: &mut Converters,
-    given: &'d Def,
-) -> Result<Option<Misfit<'d>>, AllocError>
+    given: &'b Def<'d>,
+) -> Result<Option<Misfit<'b, 'd>>, AllocError>
     requires { AreNames names.now }
     ensures { IfOk result (λ misfit.
         (bs : List PureDef) → ArePlaced (seen names.now.declarations.now) bs counts
@@ -68,10 +68,10 @@ fn misfit_of<'d>(
 }
 
 // The first thing that is wrong with definitions, with the place of its definition; or else their converters.
-fn first_misfit<'d>(
+fn first_misfit<'b, 'd>(
     alloc: Global,
-    names: &Names<'_, 'd>,
-) -> Result<Result<Converters, (Misfit<'d>, Pos)>, AllocError>
+    names: &Names<'_, 'b, 'd>,
+) -> Result<Result<Converters, (Misfit<'b, 'd>, Pos)>, AllocError>
     requires { AreNames names.now }
     ensures { IfOk result (λ found. IsScanned (seen names.now.declarations.now) found) }
 {
@@ -89,11 +89,11 @@ fn first_misfit<'d>(
 /// Looks for declarations, external constructors, extractors, converters and heads that break a row of the typing
 /// table: gives the error of the first definition that does, by the lowest row that it breaks (`specs/TermFault.antt`);
 /// or else the converters. The only other error is want of memory.
-pub fn check_terms<'k, 'd>(
+pub fn check_terms<'k, 'b, 'd>(
     alloc: Global,
-    declarations: &'k Declarations<'d>,
-    before: &'k Before<'d>,
-    terms: &'k Terms<'d>,
+    declarations: &'k Declarations<'b, 'd>,
+    before: &'k Before<'b>,
+    terms: &'k Terms<'b, 'd>,
 ) -> Result<Result<Converters, Error>, OutOfMemory>
     requires before { IsBefore (seen declarations.now) before.now }
     requires terms { AreTerms (seen declarations.now) terms.now }

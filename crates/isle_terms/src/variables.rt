@@ -3,13 +3,13 @@
 ghost use Rattle.std.specs.Prelude.{◌≡◌, IfOk, OnOk, option_map};
 ghost use Rattle.isle_terms.specs.Scope.{is_blank, no_variables, found_in, bound_at, met, behind, variable};
 
-use isle_core::{Text, TypeId, VarId};
+use isle_core::{Name, TypeId, VarId};
 use isle_declarations::Symbols;
 use std::alloc::{AllocError, Global};
 use std::marker::Model;
 
 /// Tells whether a name names no variable: it is `_`.
-pub fn is_blank(name: &Text) -> bool
+pub fn is_blank(name: &Name) -> bool
     ensures { result ≡ is_blank name.now }
 {
     name.as_str() == "_"
@@ -18,13 +18,13 @@ pub fn is_blank(name: &Text) -> bool
 /// Variables, each once, with the types that they are bound at, if those are known, and their numbers, and the next
 /// number that is free. Contracts see them in order.
 #[derive(Drop)]
-pub struct Variables<'d> {
-    names: Symbols<'d>,
+pub struct Variables<'b> {
+    names: Symbols<'b>,
     bound: Vec<(Option<TypeId>, usize)>,
     next: usize,
 }
 
-impl<'d> Model for Variables<'d> {
+impl<'b> Model for Variables<'b> {
     ghost use Rattle.std.specs.Prelude.{◌≡◌, length};
     ghost use Rattle.isle_terms.specs.LocalViews.{entries, coded_scope};
     ghost use Rattle.isle_terms.specs.Scope.{Scope};
@@ -38,9 +38,9 @@ impl<'d> Model for Variables<'d> {
     ghost invariant = { λ v. length v.names ≡ length v.bound.items };
 }
 
-impl<'d> Variables<'d> {
+impl<'b> Variables<'b> {
     /// Begins with no variables.
-    pub fn new(alloc: Global) -> Variables<'d>
+    pub fn new(alloc: Global) -> Variables<'b>
         ensures { result ≡ no_variables }
     {
         Variables {
@@ -58,7 +58,7 @@ impl<'d> Variables<'d> {
     }
 
     /// Returns the type that a variable is bound at and its number, if it is bound.
-    pub fn find(&self, name: &Text) -> Option<(Option<TypeId>, usize)>
+    pub fn find(&self, name: &Name) -> Option<(Option<TypeId>, usize)>
         ensures { result
             ≡ option_map (λ l. (l.ty, l.number)) (found_in self.now.variables name.now) }
     {
@@ -68,7 +68,7 @@ impl<'d> Variables<'d> {
     }
 
     /// Returns the type and the number of a variable, if it is bound at a type that is known.
-    pub fn typed(&self, name: &Text) -> Option<(TypeId, VarId)>
+    pub fn typed(&self, name: &Name) -> Option<(TypeId, VarId)>
         ensures { result ≡ variable self.now name.now }
     {
         match self.find(name)? {
@@ -79,9 +79,9 @@ impl<'d> Variables<'d> {
 
     /// Meets a variable of a pattern, which is bound at this type if it is met first, with the next number; returns
     /// the type that it was bound at before, if it was. Errors are want of memory or of numbers.
-    pub fn meet(
+    pub fn meet<'d>(
         &mut self,
-        name: &'d Text,
+        name: &'b Name<'d>,
         expected: Option<TypeId>,
     ) -> Result<Option<Option<TypeId>>, AllocError>
         ensures bound { IfOk result (λ bound. bound ≡ bound_at self.old name.now) }

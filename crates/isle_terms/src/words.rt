@@ -2,7 +2,7 @@
 
 use crate::culprit::{Culprit, Flaw};
 use crate::part::{Part, Thing};
-use isle_core::{BuiltinType, OutOfMemory, Text, TypeDef, TypeEnv, TypeId};
+use isle_core::{BuiltinType, Name, OutOfMemory, TypeDef, TypeEnv, TypeId};
 use isle_types::{push_name, told};
 use std::alloc::Global;
 
@@ -26,7 +26,7 @@ fn push_type(words: &mut String, types: &TypeEnv, ty: Option<TypeId>) -> Result<
         | Some(TypeDef::Enum { name, .. })
         | Some(TypeDef::Struct { name, .. }) => {
             if let Some(name) = types.syms.as_slice().get(name.index()) {
-                push_name(words, name)?;
+                push_name(words, name.as_str())?;
             }
         }
         None => {}
@@ -63,17 +63,17 @@ fn push_thing(
             return push_type(words, types, part.expected);
         }
     };
-    words.push_str(told(alloc, before, name, "'")?.as_str())?;
+    words.push_str(told(alloc, before, name.as_str(), "'")?.as_str())?;
     Ok(())
 }
 
 // Adds that a variable or a term is not there, and what may be meant: a term without its parentheses, or conditions
 // after which no right side stands.
-fn push_unknown(words: &mut String, thing: Thing<'_>) -> Result<(), OutOfMemory> {
+fn push_unknown(words: &mut String, thing: Thing) -> Result<(), OutOfMemory> {
     match thing {
         Thing::Variable(name) => {
             words.push_str(" is not bound; a term of this name is called as (")?;
-            push_name(words, name)?;
+            push_name(words, name.as_str())?;
             words.push_str(" ..)")?;
         }
         Thing::Term(name) if matches!(name.as_str(), "if" | "if-let") => {
@@ -139,7 +139,7 @@ pub fn push_culprit(
     alloc: Global,
     words: &mut String,
     types: &TypeEnv,
-    term: &Text,
+    term: &Name,
     culprit: &Culprit,
 ) -> Result<(), OutOfMemory> {
     let part = &culprit.part;
@@ -167,21 +167,22 @@ pub fn push_culprit(
         Flaw::Unknown => push_use(alloc, words, part, "", " has no constructor")?,
         Flaw::InCondition => words.push_str(", which is not pure")?,
         Flaw::Partial => {
-            words.push_str(told(alloc, " is partial, and '", term, "' is not")?.as_str())?;
+            words.push_str(told(alloc, " is partial, and '", term.as_str(), "' is not")?.as_str())?;
         }
         Flaw::Impure => {
-            words.push_str(told(alloc, " is not pure, and '", term, "' is")?.as_str())?;
+            words.push_str(told(alloc, " is not pure, and '", term.as_str(), "' is")?.as_str())?;
         }
         Flaw::Multi => {
-            words.push_str(told(alloc, " is multi, and '", term, "' is not")?.as_str())?;
+            words.push_str(told(alloc, " is multi, and '", term.as_str(), "' is not")?.as_str())?;
         }
         Flaw::MultiTaken => {
             words.push_str(told(
                 alloc,
                 " is multi in a pattern, and '",
-                term,
+                term.as_str(),
                 "' is not",
-            )?.as_str())?;
+            )?
+            .as_str())?;
         }
     }
     Ok(())

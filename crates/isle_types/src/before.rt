@@ -7,21 +7,21 @@ ghost use Rattle.isle_types.specs.Builtins.{builtin_names, type_id};
 ghost use Rattle.isle_types.specs.Gathered.{IsBefore};
 
 use crate::bodies::meets;
-use isle_core::{Text, TypeId};
+use isle_core::{Name, Text, TypeId};
 use isle_declarations::Symbols;
 use std::alloc::{AllocError, Global};
 
 /// The names of types and constants, and the terms that types make.
 #[derive(Drop)]
-pub struct Before<'d> {
-    pub types: Symbols<'d>,
-    pub made: Symbols<'d>,
-    pub constants: Symbols<'d>,
+pub struct Before<'b> {
+    pub types: Symbols<'b>,
+    pub made: Symbols<'b>,
+    pub constants: Symbols<'b>,
 }
 
-impl<'d> Before<'d> {
+impl<'b> Before<'b> {
     /// Begins before the first definition.
-    pub fn new(alloc: Global) -> Result<Before<'d>, AllocError>
+    pub fn new(alloc: Global) -> Result<Before<'b>, AllocError>
         ensures { IfOk result (λ before. IsBefore [] before) }
     {
         Ok(Before {
@@ -32,7 +32,7 @@ impl<'d> Before<'d> {
     }
 
     /// Returns the type of a name, by its number; if there is none, the first.
-    pub fn type_id(&self, name: &Text) -> TypeId
+    pub fn type_id(&self, name: &Name) -> TypeId
         ensures { result ≡ type_id (number_or (index_of self.now.types name.now)) }
     {
         match self.types.find(name.as_str()) {
@@ -43,7 +43,7 @@ impl<'d> Before<'d> {
 }
 
 // The names of the builtin types, by their numbers.
-fn builtin_types<'d>(alloc: Global) -> Result<Symbols<'d>, AllocError>
+fn builtin_types<'b>(alloc: Global) -> Result<Symbols<'b>, AllocError>
     ensures { IfOk result (λ names. names ≡ builtin_names) }
 {
     let mut names = Symbols::new(alloc);
@@ -64,17 +64,17 @@ fn builtin_types<'d>(alloc: Global) -> Result<Symbols<'d>, AllocError>
 }
 
 /// Returns the first of the names that was met before; those before it, or else all, are met now.
-pub fn repeated_term<'d>(
-    before: &mut Symbols<'d>,
-    names: &'d [Text],
-) -> Result<Option<&'d Text>, AllocError>
+pub fn repeated_term<'b>(
+    before: &mut Symbols<'b>,
+    names: &'b [Text],
+) -> Result<Option<&'b str>, AllocError>
     ensures found { IfOk result (λ found. is_some found ≡ repeats_after before.old names.now) }
     ensures names { IfOk result (λ found.
         is_some found ≡ false → before.new ≡ before.old ++ names.now) }
 {
     for name in names {
-        if meets(before, name)? {
-            return Ok(Some(name));
+        if meets(before, name.as_str())? {
+            return Ok(Some(name.as_str()));
         }
     }
     Ok(None)

@@ -14,7 +14,7 @@ ghost use Rattle.isle_types.specs.Gathered.{AreKnown};
 
 use crate::known_types::KnownTypes;
 use isle_ast::{AstBody, AstFields, AstVariant};
-use isle_core::Text;
+use isle_core::Name;
 use isle_declarations::Symbols;
 use std::alloc::{AllocError, Global};
 
@@ -22,27 +22,27 @@ use std::alloc::{AllocError, Global};
 const MOST_FIELDS: usize = 256;
 
 /// Tells whether a name was met before; it is met now.
-pub fn meets<'d>(before: &mut Symbols<'d>, name: &'d Text) -> Result<bool, AllocError>
+pub fn meets<'b>(before: &mut Symbols<'b>, name: &'b str) -> Result<bool, AllocError>
     ensures found { IfOk result (λ found. found ≡ is_some (index_of before.old name.now)) }
     ensures names { OnOk result (before.new ≡ added before.old name.now) }
 {
-    if before.find(name.as_str()).is_some() {
+    if before.find(name).is_some() {
         return Ok(true);
     }
-    before.intern(name.as_str())?;
+    before.intern(name)?;
     Ok(false)
 }
 
 // The first variant of an earlier one's name.
-fn variant_again<'d>(
+fn variant_again<'b, 'd>(
     alloc: Global,
-    variants: &'d [AstVariant],
-) -> Result<Option<&'d Text>, AllocError>
+    variants: &'b [AstVariant<'d>],
+) -> Result<Option<&'b Name<'d>>, AllocError>
     ensures { IfOk result (λ found. is_some found ≡ repeats (variant_names variants.now)) }
 {
     let mut before = Symbols::new(alloc);
     for variant in variants {
-        if meets(&mut before, &variant.name)? {
+        if meets(&mut before, variant.name.as_str())? {
             return Ok(Some(&variant.name));
         }
     }
@@ -50,16 +50,16 @@ fn variant_again<'d>(
 }
 
 // The first field of an earlier one's name.
-fn named_again<'d>(
+fn named_again<'b, 'd>(
     alloc: Global,
-    fields: &'d [(Text, Text)],
-) -> Result<Option<&'d Text>, AllocError>
+    fields: &'b [(Name<'d>, Name<'d>)],
+) -> Result<Option<&'b Name<'d>>, AllocError>
     ensures { IfOk result (λ found.
         is_some found ≡ repeats (map (λ (f : List ℕ × List ℕ). f.0) fields.now)) }
 {
     let mut before = Symbols::new(alloc);
     for field in fields {
-        if meets(&mut before, &field.0)? {
+        if meets(&mut before, field.0.as_str())? {
             return Ok(Some(&field.0));
         }
     }
@@ -67,7 +67,10 @@ fn named_again<'d>(
 }
 
 // The same of the fields of a variant or a struct.
-fn field_again<'d>(alloc: Global, fields: &'d AstFields) -> Result<Option<&'d Text>, AllocError>
+fn field_again<'b, 'd>(
+    alloc: Global,
+    fields: &'b AstFields<'d>,
+) -> Result<Option<&'b Name<'d>>, AllocError>
     ensures { IfOk result (λ found. is_some found ≡ fields_repeat fields.now) }
 {
     match fields {
@@ -78,10 +81,10 @@ fn field_again<'d>(alloc: Global, fields: &'d AstFields) -> Result<Option<&'d Te
 }
 
 // The same of the variants' fields.
-fn field_of_variant_again<'d>(
+fn field_of_variant_again<'b, 'd>(
     alloc: Global,
-    variants: &'d [AstVariant],
-) -> Result<Option<&'d Text>, AllocError>
+    variants: &'b [AstVariant<'d>],
+) -> Result<Option<&'b Name<'d>>, AllocError>
     ensures { IfOk result (λ found.
         is_some found ≡ list_any (λ (v : Variant). fields_repeat v.fields) variants.now) }
 {
@@ -95,10 +98,10 @@ fn field_of_variant_again<'d>(
 }
 
 /// Returns a variant of an enum with an earlier one's name.
-pub fn repeated_variant<'d>(
+pub fn repeated_variant<'b, 'd>(
     alloc: Global,
-    body: &'d AstBody,
-) -> Result<Option<&'d Text>, AllocError>
+    body: &'b AstBody<'d>,
+) -> Result<Option<&'b Name<'d>>, AllocError>
     ensures { IfOk result (λ found. is_some found ≡ variants_repeat body.now) }
 {
     match body {
@@ -109,7 +112,10 @@ pub fn repeated_variant<'d>(
 }
 
 /// Returns a field of a type with the name of an earlier one in its variant or struct.
-pub fn repeated_field<'d>(alloc: Global, body: &'d AstBody) -> Result<Option<&'d Text>, AllocError>
+pub fn repeated_field<'b, 'd>(
+    alloc: Global,
+    body: &'b AstBody<'d>,
+) -> Result<Option<&'b Name<'d>>, AllocError>
     ensures { IfOk result (λ found. is_some found ≡ any_fields fields_repeat body.now) }
 {
     match body {
@@ -120,7 +126,10 @@ pub fn repeated_field<'d>(alloc: Global, body: &'d AstBody) -> Result<Option<&'d
 }
 
 // The first of the fields' types that is not declared.
-fn named_missing<'d>(known: &KnownTypes, fields: &'d [(Text, Text)]) -> Option<&'d Text>
+fn named_missing<'b, 'd>(
+    known: &KnownTypes,
+    fields: &'b [(Name<'d>, Name<'d>)],
+) -> Option<&'b Name<'d>>
     ensures { (defs : List PureDef) → AreKnown defs known.now
         → is_some result
         ≡ list_any (λ (name : List ℕ). not (is_type defs name))
@@ -135,7 +144,7 @@ fn named_missing<'d>(known: &KnownTypes, fields: &'d [(Text, Text)]) -> Option<&
 }
 
 // The first of these types that is not declared.
-fn type_missing<'d>(known: &KnownTypes, types: &'d [Text]) -> Option<&'d Text>
+fn type_missing<'b, 'd>(known: &KnownTypes, types: &'b [Name<'d>]) -> Option<&'b Name<'d>>
     ensures { (defs : List PureDef) → AreKnown defs known.now
         → is_some result ≡ list_any (λ (name : List ℕ). not (is_type defs name)) types.now }
 {
@@ -148,7 +157,7 @@ fn type_missing<'d>(known: &KnownTypes, types: &'d [Text]) -> Option<&'d Text>
 }
 
 // The first of the types of a variant's or a struct's fields that is not declared.
-fn field_type_missing<'d>(known: &KnownTypes, fields: &'d AstFields) -> Option<&'d Text>
+fn field_type_missing<'b, 'd>(known: &KnownTypes, fields: &'b AstFields<'d>) -> Option<&'b Name<'d>>
     ensures { (defs : List PureDef) → AreKnown defs known.now
         → is_some result
         ≡ list_any (λ (name : List ℕ). not (is_type defs name)) (field_types fields.now) }
@@ -161,7 +170,10 @@ fn field_type_missing<'d>(known: &KnownTypes, fields: &'d AstFields) -> Option<&
 }
 
 // The same of the variants' fields.
-fn variant_type_missing<'d>(known: &KnownTypes, variants: &'d [AstVariant]) -> Option<&'d Text>
+fn variant_type_missing<'b, 'd>(
+    known: &KnownTypes,
+    variants: &'b [AstVariant<'d>],
+) -> Option<&'b Name<'d>>
     ensures { (defs : List PureDef) → AreKnown defs known.now
         → is_some result
         ≡ list_any (λ (v : Variant). list_any (λ (name : List ℕ). not (is_type defs name))
@@ -177,7 +189,7 @@ fn variant_type_missing<'d>(known: &KnownTypes, variants: &'d [AstVariant]) -> O
 }
 
 /// Returns a field's type that is not declared.
-pub fn missing_type<'d>(known: &KnownTypes, body: &'d AstBody) -> Option<&'d Text>
+pub fn missing_type<'b, 'd>(known: &KnownTypes, body: &'b AstBody<'d>) -> Option<&'b Name<'d>>
     ensures { (defs : List PureDef) → AreKnown defs known.now
         → is_some result
         ≡ any_fields
@@ -203,7 +215,7 @@ fn are_many(fields: &AstFields) -> bool
 }
 
 // The first variant with too many fields.
-fn variant_of_many<'d>(variants: &'d [AstVariant]) -> Option<&'d Text>
+fn variant_of_many<'b, 'd>(variants: &'b [AstVariant<'d>]) -> Option<&'b Name<'d>>
     ensures { is_some result ≡ list_any (λ (v : Variant). are_many v.fields) variants.now }
 {
     for variant in variants {
@@ -215,7 +227,7 @@ fn variant_of_many<'d>(variants: &'d [AstVariant]) -> Option<&'d Text>
 }
 
 /// Returns a variant or a struct with too many fields; the struct's name is given.
-pub fn type_of_many<'d>(name: &'d Text, body: &'d AstBody) -> Option<&'d Text>
+pub fn type_of_many<'b, 'd>(name: &'b Name<'d>, body: &'b AstBody<'d>) -> Option<&'b Name<'d>>
     ensures { is_some result ≡ any_fields are_many body.now }
 {
     match body {

@@ -16,17 +16,17 @@ use crate::known_types::KnownTypes;
 use crate::misfit::Misfit;
 use crate::row::Row;
 use isle_ast::{AstBody, Def};
-use isle_core::{Error, List, OutOfMemory, Pos, Span, Text};
+use isle_core::{Error, List, Name, OutOfMemory, Pos, Span, Text};
 use isle_declarations::{constant_of, made_each, type_of};
 use std::alloc::{AllocError, Global};
 
 // What is wrong with what a type is declared as.
-fn body_misfit<'d>(
+fn body_misfit<'b, 'd>(
     alloc: Global,
     known: &KnownTypes,
-    name: &'d Text,
-    body: &'d AstBody,
-) -> Result<Option<Misfit<'d>>, AllocError>
+    name: &'b Name<'d>,
+    body: &'b AstBody<'d>,
+) -> Result<Option<Misfit<'b, 'd>>, AllocError>
     ensures { IfOk result (λ found.
         (all : List PureDef) → AreKnown all known.now
         → option_map misfit_row found ≡ body_row all body.now) }
@@ -47,21 +47,21 @@ fn body_misfit<'d>(
 }
 
 // What is wrong with a type that makes these terms; it is met.
-fn type_misfit<'d>(
+fn type_misfit<'b, 'd>(
     alloc: Global,
     known: &KnownTypes,
-    before: &mut Before<'d>,
-    name: &'d Text,
-    body: &'d AstBody,
-    made: &'d [Text],
-) -> Result<Option<Misfit<'d>>, AllocError>
+    before: &mut Before<'b>,
+    name: &'b Name<'d>,
+    body: &'b AstBody<'d>,
+    made: &'b [Text],
+) -> Result<Option<Misfit<'b, 'd>>, AllocError>
     requires { made.now ≡ made_by name.now body.now }
     ensures { IfOk result (λ found.
         (all bs : List PureDef) (is_extern is_nodebug : Bool) (pos : Place) → AreKnown all known.now
         → IsBefore bs before.old
         → IsJudged all bs (TypeDecl name.now is_extern is_nodebug body.now pos) found before.new) }
 {
-    if meets(&mut before.types, name)? {
+    if meets(&mut before.types, name.as_str())? {
         return Ok(Some(Misfit::TypeTwice(name)));
     }
     if let Some(misfit) = body_misfit(alloc, known, name, body)? {
@@ -74,17 +74,17 @@ fn type_misfit<'d>(
 }
 
 // What is wrong with a constant; it is met.
-fn constant_misfit<'d>(
+fn constant_misfit<'b, 'd>(
     known: &KnownTypes,
-    before: &mut Before<'d>,
-    name: &'d Text,
-    ty: &'d Text,
-) -> Result<Option<Misfit<'d>>, AllocError>
+    before: &mut Before<'b>,
+    name: &'b Name<'d>,
+    ty: &'b Name<'d>,
+) -> Result<Option<Misfit<'b, 'd>>, AllocError>
     ensures { IfOk result (λ found.
         (all bs : List PureDef) (pos : Place) → AreKnown all known.now → IsBefore bs before.old
         → IsJudged all bs (ExternConst name.now ty.now pos) found before.new) }
 {
-    if meets(&mut before.constants, name)? {
+    if meets(&mut before.constants, name.as_str())? {
         return Ok(Some(Misfit::ConstantTwice(name)));
     }
     if known.is_scalar(ty) {
@@ -95,13 +95,13 @@ fn constant_misfit<'d>(
 }
 
 // What is wrong with a definition whose type makes these terms; it is met.
-fn misfit_of<'d>(
+fn misfit_of<'b, 'd>(
     alloc: Global,
     known: &KnownTypes,
-    before: &mut Before<'d>,
-    given: &'d Def,
-    made: &'d [Text],
-) -> Result<Option<Misfit<'d>>, AllocError>
+    before: &mut Before<'b>,
+    given: &'b Def<'d>,
+    made: &'b [Text],
+) -> Result<Option<Misfit<'b, 'd>>, AllocError>
     requires { made.now ≡ made_of (def given.now) }
     ensures { IfOk result (λ found.
         (all bs : List PureDef) → AreKnown all known.now → IsBefore bs before.old
@@ -146,11 +146,11 @@ pub fn type_error(row: Row, pos: Pos, msg: Text) -> Error
 
 // The first thing that is wrong with definitions whose types make these terms, with the place of its definition; or
 // else what they declare.
-fn first_misfit<'d>(
+fn first_misfit<'b, 'd>(
     alloc: Global,
-    defs: &'d [Def],
-    made: &'d [List<Text>],
-) -> Result<Result<Before<'d>, (Misfit<'d>, Pos)>, AllocError>
+    defs: &'b [Def<'d>],
+    made: &'b [List<Text>],
+) -> Result<Result<Before<'b>, (Misfit<'b, 'd>, Pos)>, AllocError>
     requires { made.now ≡ map made_of (seen defs.now) }
     ensures { IfOk result (λ found. IsScanned (seen defs.now) found) }
 {
@@ -170,11 +170,11 @@ fn first_misfit<'d>(
 /// Looks for types and constants that break a row of the typing table, among definitions whose types make these terms:
 /// gives the error of the first definition that does, by the lowest row that it breaks (`specs/Fault.antt`); or else
 /// what the definitions declare. The only other error is want of memory.
-pub fn check_types<'d>(
+pub fn check_types<'b, 'd>(
     alloc: Global,
-    defs: &'d [Def],
-    made: &'d [List<Text>],
-) -> Result<Result<Before<'d>, Error>, OutOfMemory>
+    defs: &'b [Def<'d>],
+    made: &'b [List<Text>],
+) -> Result<Result<Before<'b>, Error>, OutOfMemory>
     requires { made.now ≡ map made_of (seen defs.now) }
     ensures { IfOk result (λ found. AreChecked (seen defs.now) found) }
 {

@@ -8,15 +8,15 @@ ghost use Rattle.isle_types.specs.Gathered.{AreKnown};
 
 use crate::builtins::type_named;
 use isle_ast::{AstBody, Def};
-use isle_core::Text;
+use isle_core::Name;
 use isle_declarations::type_of;
 use std::alloc::{AllocError, Global};
 use std::collections::BTreeMap;
 
 /// The types that definitions declare, by their names, and whether the first of a name is primitive.
 #[derive(Drop)]
-pub struct KnownTypes<'d> {
-    primitive: BTreeMap<&'d str, bool>,
+pub struct KnownTypes<'b> {
+    primitive: BTreeMap<&'b str, bool>,
 }
 
 // Whether a type stands for one of Rust's.
@@ -30,9 +30,9 @@ fn is_primitive(body: &AstBody) -> bool
     }
 }
 
-impl<'d> KnownTypes<'d> {
+impl<'b> KnownTypes<'b> {
     /// Gathers the types of definitions. The only error is want of memory.
-    pub fn gather(alloc: Global, defs: &'d [Def]) -> Result<KnownTypes<'d>, AllocError>
+    pub fn gather<'d>(alloc: Global, defs: &'b [Def<'d>]) -> Result<KnownTypes<'b>, AllocError>
         ensures { IfOk result (λ known. AreKnown (seen defs.now) known) }
     {
         let mut known = KnownTypes {
@@ -45,7 +45,7 @@ impl<'d> KnownTypes<'d> {
     }
 
     // Adds the type that a definition declares, if it is the first of its name.
-    fn declare(&mut self, given: &'d Def) -> Result<(), AllocError>
+    fn declare<'d>(&mut self, given: &'b Def<'d>) -> Result<(), AllocError>
         ensures { OnOk result
             ((before : List PureDef) → AreKnown before self.old
             → AreKnown (before ++ def given.now ∷ []) self.new) }
@@ -60,14 +60,14 @@ impl<'d> KnownTypes<'d> {
     }
 
     /// Tells whether a name is that of a type.
-    pub fn is_type(&self, name: &Text) -> bool
+    pub fn is_type(&self, name: &Name) -> bool
         ensures { (defs : List PureDef) → AreKnown defs self.now → result ≡ is_type defs name.now }
     {
         type_named(name.as_str()).is_some() || self.primitive.contains_key(name.as_str())
     }
 
     /// Tells whether it is that of a builtin or a primitive type.
-    pub fn is_scalar(&self, name: &Text) -> bool
+    pub fn is_scalar(&self, name: &Name) -> bool
         ensures { (defs : List PureDef) → AreKnown defs self.now
             → result ≡ is_scalar defs name.now }
     {

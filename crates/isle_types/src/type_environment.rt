@@ -11,21 +11,22 @@ ghost use Rattle.isle_types.specs.Gathered.{IsBefore, AreNames};
 use crate::before::Before;
 use isle_ast::{AstBody, AstFields, AstVariant, Def};
 use isle_core::{
-    BuiltinType, Field, Fields, IntType, List, Pos, Sym, Text, TypeDef, TypeEnv, TypeId, Variant,
+    BuiltinType, Field, Fields, IntType, List, Name, Pos, Sym, Text, TypeDef, TypeEnv, TypeId,
+    Variant,
 };
 use isle_declarations::{Declarations, constant_of};
 use std::alloc::{AllocError, Global};
 
 /// What names mean in definitions whose types and constants have no fault.
 #[derive(Clone, Copy)]
-struct Names<'k, 'd> {
-    declarations: &'k Declarations<'d>,
-    before: &'k Before<'d>,
+struct Names<'k, 'b, 'd> {
+    declarations: &'k Declarations<'b, 'd>,
+    before: &'k Before<'b>,
 }
 
-impl<'k, 'd> Names<'k, 'd> {
+impl<'k, 'b, 'd> Names<'k, 'b, 'd> {
     // The type of a name.
-    fn type_id(&self, name: &Text) -> TypeId
+    fn type_id(&self, name: &Name) -> TypeId
         requires { AreNames self.now }
         ensures { result ≡ type_in (seen self.now.declarations.now) name.now }
     {
@@ -37,7 +38,7 @@ impl<'k, 'd> Names<'k, 'd> {
 fn named_fields(
     alloc: Global,
     names: &Names,
-    given: &[(Text, Text)],
+    given: &[(Name, Name)],
 ) -> Result<Vec<Field>, AllocError>
     requires { AreNames names.now }
     ensures { IfOk result (λ fields.
@@ -46,7 +47,7 @@ fn named_fields(
     let mut fields = Vec::with_capacity(alloc, given.len())?;
     for field in given {
         fields.push(Field {
-            name: names.declarations.sym(&field.0),
+            name: names.declarations.sym(field.0.as_str()),
             ty: names.type_id(&field.1),
         })?;
     }
@@ -54,7 +55,7 @@ fn named_fields(
 }
 
 // The types of fields without names.
-fn tuple_types(alloc: Global, names: &Names, given: &[Text]) -> Result<Vec<TypeId>, AllocError>
+fn tuple_types(alloc: Global, names: &Names, given: &[Name]) -> Result<Vec<TypeId>, AllocError>
     requires { AreNames names.now }
     ensures { IfOk result (λ types.
         types.items ≡ map (type_in (seen names.now.declarations.now)) given.now) }
@@ -99,7 +100,7 @@ fn variants_of(
     for variant in given {
         let fields = fields_of(alloc, names, &variant.fields)?;
         variants.push(Variant {
-            name: names.declarations.sym(&variant.name),
+            name: names.declarations.sym(variant.name.as_str()),
             fields,
         })?;
     }
@@ -110,7 +111,7 @@ fn variants_of(
 fn type_def(
     alloc: Global,
     names: &Names,
-    name: &Text,
+    name: &Name,
     is_extern: bool,
     is_nodebug: bool,
     body: &AstBody,
@@ -121,11 +122,11 @@ fn type_def(
         found ≡ def_in (seen names.now.declarations.now) name.now is_extern is_nodebug body.now
         pos) }
 {
-    let name = names.declarations.sym(name);
+    let name = names.declarations.sym(name.as_str());
     match body {
         AstBody::Primitive(rust) => Ok(TypeDef::Primitive {
             name,
-            rust: names.declarations.sym(rust),
+            rust: names.declarations.sym(rust.as_str()),
             pos,
         }),
         AstBody::Enum(variants) => {
@@ -221,22 +222,22 @@ fn type_defs(alloc: Global, names: &Names, defs: &[Def]) -> Result<Vec<TypeDef>,
 }
 
 // The constant that a definition declares, with its type.
-fn constant_in(names: &Names, given: &Def) -> Option<(Sym, TypeId)>
+fn constant_in<'b, 'd>(names: &Names, given: &'b Def<'d>) -> Option<(Sym, TypeId)>
     requires { AreNames names.now }
     ensures { result
         ≡ option_map (constant_in (seen names.now.declarations.now)) (constant_of (def given.now)) }
 {
     match constant_of(given) {
-        Some((name, ty)) => Some((names.declarations.sym(name), names.type_id(ty))),
+        Some((name, ty)) => Some((names.declarations.sym(name.as_str()), names.type_id(ty))),
         None => None,
     }
 }
 
 // The constants, with their types.
-fn constants_of(
+fn constants_of<'b, 'd>(
     alloc: Global,
     names: &Names,
-    defs: &[Def],
+    defs: &'b [Def<'d>],
 ) -> Result<Vec<(Sym, TypeId)>, AllocError>
     requires { AreNames names.now }
     ensures { IfOk result (λ found.
@@ -252,10 +253,10 @@ fn constants_of(
 
 /// Returns the symbols, types and constants of definitions that declare this (`specs/TypeEnvironment.antt`). The only
 /// error is want of memory.
-pub fn type_env<'k, 'd>(
+pub fn type_env<'k, 'b, 'd>(
     alloc: Global,
-    declarations: &'k Declarations<'d>,
-    before: &'k Before<'d>,
+    declarations: &'k Declarations<'b, 'd>,
+    before: &'k Before<'b>,
 ) -> Result<TypeEnv, AllocError>
     requires { IsBefore (seen declarations.now) before.now }
     ensures { IfOk result (λ env. env ≡ type_env_of (seen declarations.now)) }

@@ -4,7 +4,7 @@ use isle_core::{OutOfMemory, Text};
 use std::alloc::Global;
 
 /// Puts words around a name.
-pub fn told(alloc: Global, before: &str, name: &Text, behind: &str) -> Result<Text, OutOfMemory> {
+pub fn told(alloc: Global, before: &str, name: &str, behind: &str) -> Result<Text, OutOfMemory> {
     let mut words = String::from_str(alloc, before)?;
     push_name(&mut words, name)?;
     words.push_str(behind)?;
@@ -12,8 +12,8 @@ pub fn told(alloc: Global, before: &str, name: &Text, behind: &str) -> Result<Te
 }
 
 /// Adds a name, each character below a blank as `?`.
-pub fn push_name(words: &mut String, name: &Text) -> Result<(), OutOfMemory> {
-    for letter in name.as_str().chars() {
+pub fn push_name(words: &mut String, name: &str) -> Result<(), OutOfMemory> {
+    for letter in name.chars() {
         words.push(if letter < ' ' { '?' } else { letter })?;
     }
     Ok(())

@@ -6,5 +6,5 @@ use Rattle.isle_declarations.proofs.interning.intern_decl.Goals as goal
 pub returns-clause-number : goal.returns-clause-number
 returns-clause-number c =
     let at : index_of c.intern.new.self c.args.term.now ≡ Some c.in_ok-number.number = search rules in
-    let after : index_of c.intern_texts.new.names c.args.term.now ≡ Some c.in_ok-number.number = stays_numbered c.args.args.now c.intern.new.self c.intern_texts.new.names c.args.term.now c.in_ok-number.number c.in_ok-intern_texts.ensures at in
-    stays_numbered (c.args.ret.now ∷ []) c.intern_texts.new.names c.intern-2.new.names c.args.term.now c.in_ok-number.number (search rules) after
+    let after : index_of c.intern_names.new.names c.args.term.now ≡ Some c.in_ok-number.number = stays_numbered c.args.args.now c.intern.new.self c.intern_names.new.names c.args.term.now c.in_ok-number.number c.in_ok-intern_names.ensures at in
+    stays_numbered (c.args.ret.now ∷ []) c.intern_names.new.names c.intern-2.new.names c.args.term.now c.in_ok-number.number (search rules) after

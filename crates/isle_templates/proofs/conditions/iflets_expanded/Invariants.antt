@@ -9,5 +9,5 @@ use Rattle.isle_templates.proofs.conditions.iflets_expanded.Given as goal
 abbrev pub invariant-loop-lhs : goal.invariant-loop-lhs
 invariant-loop-lhs l = record {
   all : l.yielded ++ l.lhs-iterator.rest.items ≡ l.fn.iflets.items;
-  conditions : (whole : List (Option Pattern)) → StandFor whole l.templates → AreConditions l.base (map (condition_expanded whole) (map iflet l.yielded)) l.found;
+  conditions : (whole : List (Option Pattern)) → StandFor whole l.known.table.now l.known.below → AreConditions l.base (map (condition_expanded whole) (map iflet l.yielded)) l.found;
 }

@@ -1,6 +1,0 @@
-use Rattle.std.proofs.Common.{◌≡◌, string_bytes}
-use Rattle.isle_printer.specs.Token.{scan}
-use Rattle.isle_printer.proofs.printer.pad.Given as goal
-
-abbrev pub invariant-loop : goal.invariant-loop
-invariant-loop l = scan (string_bytes l.text) ≡ scan (string_bytes l.fn.text)
