@@ -23,7 +23,7 @@ pub enum AnswerHead {
 
 // What an answer's list is, by the word that is next.
 #[tactic(auto, using(isle_reading::proofs::Steps::next))]
-fn next_head(tokens: &Tokens<'_, '_>, alloc: Global) -> Result<Option<AnswerHead>, AllocError>
+fn next_head(tokens: &Tokens<'_>, alloc: Global) -> Result<Option<AnswerHead>, AllocError>
     ensures { IfOk result (λ next.
         option_map answer_head_seen next ≡ next_word answer_head_of (left tokens.now)) }
 {
@@ -43,7 +43,7 @@ fn next_head(tokens: &Tokens<'_, '_>, alloc: Global) -> Result<Option<AnswerHead
 
 // What an answer's list is, by its first word.
 #[tactic(auto, using(isle_reading::proofs::Steps::words), unfolding(crate::specs::Reading::read_answer_head))]
-fn answer_head(tokens: &mut Tokens<'_, '_>, alloc: Global) -> Result<AnswerHead, Fail>
+fn answer_head(tokens: &mut Tokens<'_>, alloc: Global) -> Result<AnswerHead, Fail>
     ensures { Reads answer_head_seen result read_answer_head (left tokens.old) (left tokens.new) }
 {
     match next_head(tokens, alloc)? {
@@ -58,7 +58,7 @@ fn answer_head(tokens: &mut Tokens<'_, '_>, alloc: Global) -> Result<AnswerHead,
 // What stands after the first word of an answer's list.
 #[tactic(auto, using(isle_reading::proofs::Steps::chain), unfolding(crate::specs::Reading::read_answer_after))]
 fn answer_after(
-    tokens: &mut Tokens<'_, '_>,
+    tokens: &mut Tokens<'_>,
     alloc: Global,
     most: usize,
     depth: usize,
@@ -90,7 +90,7 @@ fn answer_after(
 // An answer's list.
 #[tactic(auto, using(isle_reading::proofs::Steps::chain), unfolding(crate::specs::Reading::read_answer_list))]
 fn answer_list(
-    tokens: &mut Tokens<'_, '_>,
+    tokens: &mut Tokens<'_>,
     alloc: Global,
     most: usize,
     depth: usize,
@@ -106,7 +106,7 @@ fn answer_list(
 /// Reads an answer whose parentheses nest at most `depth` deep, its lists of at most `most` tokens.
 #[tactic(auto, using(crate::proofs::Choices::answer_choice))]
 pub fn answer(
-    tokens: &mut Tokens<'_, '_>,
+    tokens: &mut Tokens<'_>,
     alloc: Global,
     most: usize,
     depth: usize,

@@ -21,7 +21,7 @@ enum PartHead {
 
 // What the list is, by the word that is next.
 #[tactic(auto, using(isle_reading::proofs::Steps::next))]
-fn next_head(tokens: &Tokens<'_, '_>) -> Option<PartHead>
+fn next_head(tokens: &Tokens<'_>) -> Option<PartHead>
     ensures { option_map part_head_seen result ≡ next_word part_head_of (left tokens.now) }
 {
     match tokens.word()? {
@@ -33,7 +33,7 @@ fn next_head(tokens: &Tokens<'_, '_>) -> Option<PartHead>
 
 // What the list is, by its first word.
 #[tactic(auto, using(isle_reading::proofs::Steps::words), unfolding(crate::specs::Reading::read_part_head))]
-fn part_head(tokens: &mut Tokens<'_, '_>) -> Result<PartHead, Fail>
+fn part_head(tokens: &mut Tokens<'_>) -> Result<PartHead, Fail>
     ensures { Reads part_head_seen result read_part_head (left tokens.old) (left tokens.new) }
 {
     match next_head(tokens) {
@@ -48,7 +48,7 @@ fn part_head(tokens: &mut Tokens<'_, '_>) -> Result<PartHead, Fail>
 // The arguments and the answer of a case, whose closing parenthesis is taken.
 #[tactic(auto, using(isle_reading::proofs::Steps::chain), unfolding(crate::specs::Reading::read_case))]
 fn case(
-    tokens: &mut Tokens<'_, '_>,
+    tokens: &mut Tokens<'_>,
     alloc: Global,
     most: usize,
     depth: usize,
@@ -64,7 +64,7 @@ fn case(
 // The answer of the rest, whose closing parenthesis is taken, and the one after it.
 #[tactic(auto, using(isle_reading::proofs::Steps::chain), unfolding(crate::specs::Reading::read_rest))]
 fn rest(
-    tokens: &mut Tokens<'_, '_>,
+    tokens: &mut Tokens<'_>,
     alloc: Global,
     most: usize,
     depth: usize,
@@ -80,7 +80,7 @@ fn rest(
 /// Reads cases, the rest, and the closing parenthesis after it, of at most `most` tokens.
 #[tactic(auto, using(crate::proofs::CaseSteps::cases_steps))]
 pub fn cases(
-    tokens: &mut Tokens<'_, '_>,
+    tokens: &mut Tokens<'_>,
     alloc: Global,
     most: usize,
     depth: usize,

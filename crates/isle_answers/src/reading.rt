@@ -29,7 +29,7 @@ enum FormHead {
 
 // What the form is that is next, where `held` may still stand or may not.
 #[tactic(auto, using(isle_reading::proofs::Steps::next))]
-fn next_head(tokens: &Tokens<'_, '_>, held: bool) -> Option<FormHead>
+fn next_head(tokens: &Tokens<'_>, held: bool) -> Option<FormHead>
     ensures { option_map form_head_seen result ≡ next_word (form_head_of held) (left tokens.now) }
 {
     match tokens.word()? {
@@ -43,7 +43,7 @@ fn next_head(tokens: &Tokens<'_, '_>, held: bool) -> Option<FormHead>
 
 // What a form is.
 #[tactic(auto, using(isle_reading::proofs::Steps::words), unfolding(crate::specs::Reading::read_form_head))]
-fn head(tokens: &mut Tokens<'_, '_>, held: bool) -> Result<FormHead, Fail>
+fn head(tokens: &mut Tokens<'_>, held: bool) -> Result<FormHead, Fail>
     ensures { Reads form_head_seen result (read_form_head held) (left tokens.old)
         (left tokens.new) }
 {
@@ -58,7 +58,7 @@ fn head(tokens: &mut Tokens<'_, '_>, held: bool) -> Result<FormHead, Fail>
 
 // A count that is next.
 #[tactic(auto, using(isle_reading::proofs::Steps::next))]
-fn next_count(tokens: &Tokens<'_, '_>) -> Option<usize>
+fn next_count(tokens: &Tokens<'_>) -> Option<usize>
     ensures { result ≡ next_word count_of (left tokens.now) }
 {
     count_of(tokens.word()?)
@@ -66,7 +66,7 @@ fn next_count(tokens: &Tokens<'_, '_>) -> Option<usize>
 
 // A count.
 #[tactic(auto, using(isle_reading::proofs::Steps::words), unfolding(crate::specs::Reading::read_count))]
-fn count(tokens: &mut Tokens<'_, '_>) -> Result<usize, Fail>
+fn count(tokens: &mut Tokens<'_>) -> Result<usize, Fail>
     ensures { Reads (λ count. count) result read_count (left tokens.old) (left tokens.new) }
 {
     match next_count(tokens) {
@@ -80,7 +80,7 @@ fn count(tokens: &mut Tokens<'_, '_>) -> Result<usize, Fail>
 
 // The count of `held` at that place, and the closing parenthesis after it.
 #[tactic(auto, using(isle_reading::proofs::Steps::chain), unfolding(crate::specs::Reading::read_held))]
-fn held_form(tokens: &mut Tokens<'_, '_>, at: usize) -> Result<Form, Fail>
+fn held_form(tokens: &mut Tokens<'_>, at: usize) -> Result<Form, Fail>
     ensures { Reads form_seen result (read_held at) (left tokens.old) (left tokens.new) }
 {
     let count = count(tokens)?;
@@ -90,7 +90,7 @@ fn held_form(tokens: &mut Tokens<'_, '_>, at: usize) -> Result<Form, Fail>
 
 // What is called, by the word that is next.
 #[tactic(auto, using(isle_reading::proofs::Steps::next))]
-fn next_callee(tokens: &Tokens<'_, '_>, alloc: Global) -> Result<Option<Callee>, AllocError>
+fn next_callee(tokens: &Tokens<'_>, alloc: Global) -> Result<Option<Callee>, AllocError>
     ensures { IfOk result (λ next. next ≡ next_word callee_of (left tokens.now)) }
 {
     match tokens.word() {
@@ -101,7 +101,7 @@ fn next_callee(tokens: &Tokens<'_, '_>, alloc: Global) -> Result<Option<Callee>,
 
 // What is called.
 #[tactic(auto, using(isle_reading::proofs::Steps::words), unfolding(crate::specs::Reading::read_callee))]
-fn callee(tokens: &mut Tokens<'_, '_>, alloc: Global) -> Result<Callee, Fail>
+fn callee(tokens: &mut Tokens<'_>, alloc: Global) -> Result<Callee, Fail>
     ensures { Reads (λ callee. callee) result read_callee (left tokens.old) (left tokens.new) }
 {
     match next_callee(tokens, alloc)? {
@@ -116,7 +116,7 @@ fn callee(tokens: &mut Tokens<'_, '_>, alloc: Global) -> Result<Callee, Fail>
 // What stands after the word of the constant at that place.
 #[tactic(auto, using(isle_reading::proofs::Steps::chain), unfolding(crate::specs::Reading::read_const))]
 fn constant(
-    tokens: &mut Tokens<'_, '_>,
+    tokens: &mut Tokens<'_>,
     alloc: Global,
     most: usize,
     depth: usize,
@@ -134,7 +134,7 @@ fn constant(
 // What is called, the cases and the rest of `answers` at that place.
 #[tactic(auto, using(isle_reading::proofs::Steps::chain), unfolding(crate::specs::Reading::read_answers))]
 fn answered(
-    tokens: &mut Tokens<'_, '_>,
+    tokens: &mut Tokens<'_>,
     alloc: Global,
     most: usize,
     depth: usize,
@@ -156,7 +156,7 @@ fn answered(
 // What is called, the turns and the rest of `turns` at that place.
 #[tactic(auto, using(isle_reading::proofs::Steps::chain), unfolding(crate::specs::Reading::read_turned))]
 fn turned(
-    tokens: &mut Tokens<'_, '_>,
+    tokens: &mut Tokens<'_>,
     alloc: Global,
     most: usize,
     depth: usize,
@@ -177,7 +177,7 @@ fn turned(
 
 // What stands after the first word of the form at that place.
 fn form_after(
-    tokens: &mut Tokens<'_, '_>,
+    tokens: &mut Tokens<'_>,
     alloc: Global,
     most: usize,
     depth: usize,
@@ -197,7 +197,7 @@ fn form_after(
 
 // A form, where `held` may still stand or may not.
 #[tactic(auto, using(isle_reading::proofs::Steps::chain), unfolding(crate::specs::Reading::read_form))]
-fn form(tokens: &mut Tokens<'_, '_>, alloc: Global, most: usize, held: bool) -> Result<Form, Fail>
+fn form(tokens: &mut Tokens<'_>, alloc: Global, most: usize, held: bool) -> Result<Form, Fail>
     ensures { Reads form_seen result (read_form most (most_open - 1) held) (left tokens.old)
         (left tokens.new) }
 {
@@ -218,7 +218,7 @@ fn held_after(held: bool, form: &Form) -> bool
 
 /// Reads the forms of a file of at most `most` tokens, up to its end.
 #[tactic(auto, using(isle_reading::proofs::ListSteps::alls), unfolding(crate::specs::Reading::read_forms))]
-pub fn all_forms(tokens: &mut Tokens<'_, '_>, alloc: Global, most: usize) -> Result<Vec<Form>, Fail>
+pub fn all_forms(tokens: &mut Tokens<'_>, alloc: Global, most: usize) -> Result<Vec<Form>, Fail>
     ensures { Reads (λ read. forms_seen read.items) result (read_forms most) (left tokens.old)
         (left tokens.new) }
 {

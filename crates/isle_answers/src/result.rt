@@ -36,7 +36,7 @@ pub fn result_head_of(alloc: Global, word: &str) -> Result<Option<ResultHead>, A
 
 // What a result's list is, by the word that is next.
 #[tactic(auto, using(isle_reading::proofs::Steps::next))]
-fn next_head(tokens: &Tokens<'_, '_>, alloc: Global) -> Result<Option<ResultHead>, AllocError>
+fn next_head(tokens: &Tokens<'_>, alloc: Global) -> Result<Option<ResultHead>, AllocError>
     ensures { IfOk result (λ next.
         option_map result_head_seen next ≡ next_word result_head_of (left tokens.now)) }
 {
@@ -48,7 +48,7 @@ fn next_head(tokens: &Tokens<'_, '_>, alloc: Global) -> Result<Option<ResultHead
 
 // What a result's list is, by its first word.
 #[tactic(auto, using(isle_reading::proofs::Steps::words), unfolding(crate::specs::Reading::read_result_head))]
-fn result_head(tokens: &mut Tokens<'_, '_>, alloc: Global) -> Result<ResultHead, Fail>
+fn result_head(tokens: &mut Tokens<'_>, alloc: Global) -> Result<ResultHead, Fail>
     ensures { Reads result_head_seen result read_result_head (left tokens.old) (left tokens.new) }
 {
     match next_head(tokens, alloc)? {
@@ -62,7 +62,7 @@ fn result_head(tokens: &mut Tokens<'_, '_>, alloc: Global) -> Result<ResultHead,
 
 /// Reads a result of one word.
 #[tactic(auto, using(isle_reading::proofs::Steps::chain), unfolding(crate::specs::Reading::read_simple_result))]
-pub fn simple_result(tokens: &mut Tokens<'_, '_>) -> Result<ResultForm, Fail>
+pub fn simple_result(tokens: &mut Tokens<'_>) -> Result<ResultForm, Fail>
     ensures { Reads result_seen result read_simple_result (left tokens.old) (left tokens.new) }
 {
     Ok(ResultForm::One(simple(tokens)?))
@@ -71,7 +71,7 @@ pub fn simple_result(tokens: &mut Tokens<'_, '_>) -> Result<ResultForm, Fail>
 /// Reads what stands after the first word of a result's list.
 #[tactic(auto, using(isle_reading::proofs::Steps::chain, isle_values::proofs::Sees::sees), unfolding(crate::specs::Reading::read_result_after))]
 pub fn result_after(
-    tokens: &mut Tokens<'_, '_>,
+    tokens: &mut Tokens<'_>,
     alloc: Global,
     most: usize,
     depth: usize,
@@ -90,7 +90,7 @@ pub fn result_after(
 // A result's list.
 #[tactic(auto, using(isle_reading::proofs::Steps::chain), unfolding(crate::specs::Reading::read_result_list))]
 fn result_list(
-    tokens: &mut Tokens<'_, '_>,
+    tokens: &mut Tokens<'_>,
     alloc: Global,
     most: usize,
     depth: usize,
@@ -106,7 +106,7 @@ fn result_list(
 /// Reads a result whose parentheses nest at most `depth` deep, its lists of at most `most` tokens.
 #[tactic(auto, using(crate::proofs::Choices::result_choice))]
 pub fn result(
-    tokens: &mut Tokens<'_, '_>,
+    tokens: &mut Tokens<'_>,
     alloc: Global,
     most: usize,
     depth: usize,
@@ -128,7 +128,7 @@ pub fn result(
 /// Reads results up to a closing parenthesis, which is taken, of at most `most` tokens.
 #[tactic(auto, using(isle_reading::proofs::ListSteps::lists))]
 pub fn results(
-    tokens: &mut Tokens<'_, '_>,
+    tokens: &mut Tokens<'_>,
     alloc: Global,
     most: usize,
     depth: usize,

@@ -1,6 +1,6 @@
 ghost use Rattle.std.specs.Prelude.{◌≡◌, ℕ, List, Err, IfOk};
-ghost use Rattle.isle_lexer.specs.TokenViews.{tokens_seen};
 ghost use Rattle.isle_reading.specs.Places.{IsFaultAt};
+ghost use Rattle.isle_reading.specs.Views.{left};
 ghost use Rattle.isle_answers.specs.Form.{Form as PureForm};
 ghost use Rattle.isle_answers.specs.Places.{AreForms, IsFault};
 ghost use Rattle.isle_answers.specs.Spelling.{SpellsTokens, SpellsForms};
@@ -10,8 +10,7 @@ ghost use Rattle.isle_answers.specs.declared.texts.AnswersFail.TheVariants.{At};
 use crate::form::Form;
 use crate::reading::all_forms;
 use isle_core::List;
-use isle_lexer::{LexFail, Token, tokens};
-use isle_reading::{Fail, Tokens, place_of};
+use isle_reading::{Fail, Tokens};
 use std::alloc::Global;
 
 /// Why a text gives no forms.
@@ -24,16 +23,15 @@ pub enum AnswersFail {
 }
 
 // The forms that these tokens of a text of that length spell.
-fn of_tokens(alloc: Global, tokens: &[Token<'_>], end: usize) -> Result<Vec<Form>, AnswersFail>
-    ensures spelt { IfOk result (λ read.
-        SpellsTokens (tokens_seen tokens.now) (forms_seen read.items)) }
+fn of_tokens(alloc: Global, tokens: &Tokens<'_>, end: usize) -> Result<Vec<Form>, AnswersFail>
+    ensures spelt { IfOk result (λ read. SpellsTokens (left tokens.now) (forms_seen read.items)) }
     ensures fault { (at : ℕ) → result ≡ Err (At at)
-        → IsFaultAt AreForms (tokens_seen tokens.now) end at }
+        → IsFaultAt AreForms (left tokens.now) end at }
 {
-    let mut cursor = Tokens::new(tokens);
+    let mut cursor = *tokens;
     match all_forms(&mut cursor, alloc, tokens.len()) {
         Ok(read) => Ok(read),
-        Err(Fail::At(left)) => Err(AnswersFail::At(place_of(tokens, left, end))),
+        Err(Fail::At(count)) => Err(AnswersFail::At(tokens.at_left(count).place(end))),
         Err(Fail::Memory) => Err(AnswersFail::Memory),
     }
 }
@@ -46,9 +44,8 @@ pub fn forms(alloc: Global, text: &str) -> Result<List<Form>, AnswersFail>
         (others : List PureForm) → SpellsForms text.now others → others ≡ forms_seen read) }
     ensures fault { (at : ℕ) → result ≡ Err (At at) → IsFault text.now at }
 {
-    match tokens(alloc, text) {
-        Ok(tokens) => Ok(List::new(of_tokens(alloc, tokens.as_slice(), text.len())?)),
-        Err(LexFail::Unclosed(at)) => Err(AnswersFail::At(at)),
-        Err(LexFail::Memory) => Err(AnswersFail::Memory),
+    match Tokens::new(text) {
+        Ok(tokens) => Ok(List::new(of_tokens(alloc, &tokens, text.len())?)),
+        Err(at) => Err(AnswersFail::At(at)),
     }
 }

@@ -134,7 +134,7 @@ fn ended(alloc: Global, turns: &mut Vec<AnswerForm>) -> Result<Option<AnswerForm
 /// Reads turns, the rest, and the closing parenthesis after it, of at most `most` tokens.
 #[tactic(auto, using(crate::proofs::TurnSteps::turns_steps))]
 pub fn turns(
-    tokens: &mut Tokens<'_, '_>,
+    tokens: &mut Tokens<'_>,
     alloc: Global,
     most: usize,
     depth: usize,

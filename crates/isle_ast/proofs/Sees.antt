@@ -9,11 +9,8 @@ use Rattle.isle_ast.specs.declared.tree.AstLet.{AstLet}
 use Rattle.isle_ast.specs.declared.tree.AstExpr.TheVariants as code_expr
 use Rattle.isle_ast.specs.declared.tree.AstExpr.TheFolds.{fold-roll-AstExpr, fold-AstLet, fold_out-AstLet}
 use Rattle.isle_ast.specs.Tree as tree
-use Rattle.isle_ast.specs.declared.tree.AstAny.{AstAny}
-use Rattle.isle_ast.specs.declared.tree.AstAny.TheVariants as code_any
-use Rattle.isle_ast.specs.declared.tree.AstAny.TheFolds.{fold-roll-AstAny}
-use Rattle.isle_ast.specs.Tree.{Pattern, Expr, Any}
-use Rattle.isle_ast.specs.Views.{SeenBinding, patterns_of, pattern_step, pattern, exprs_of, lets_of, expr_step, bound_step, expr, any, any_step, anys_of}
+use Rattle.isle_ast.specs.Tree.{Pattern, Expr}
+use Rattle.isle_ast.specs.Views.{SeenBinding, patterns_of, pattern_step, pattern, exprs_of, lets_of, expr_step, bound_step, expr}
 
 pub pattern-int : (n : ℤ) → pattern (code_pattern.Int n) ≡ tree.Int n
 pattern-int n = ap pattern (sym (code_pattern.rolls-Int n)) ∙ fold-roll-AstPattern Pattern pattern_step _
@@ -63,20 +60,3 @@ let-parts l = fold_out-AstLet Expr SeenBinding expr_step bound_step l
 pub ruleset pattern_sees = (pattern-int, pattern-truth, pattern-const, pattern-wildcard, pattern-var, pattern-bind, pattern-and, pattern-term)
 
 pub ruleset expr_sees = (expr-number, expr-fact, expr-constant, expr-name, expr-let, expr-call)
-
-pub any-word : (w : List ℕ) → any (code_any.Word w) ≡ tree.Word w
-any-word w = ap any (sym (code_any.rolls-Word w)) ∙ fold-roll-AstAny Any any_step _
-
-pub any-at : any code_any.At ≡ tree.At
-any-at = ap any (sym code_any.rolls-At) ∙ fold-roll-AstAny Any any_step _
-
-pub any-less : any code_any.Less ≡ tree.Less
-any-less = ap any (sym code_any.rolls-Less) ∙ fold-roll-AstAny Any any_step _
-
-pub any-greater : any code_any.Greater ≡ tree.Greater
-any-greater = ap any (sym code_any.rolls-Greater) ∙ fold-roll-AstAny Any any_step _
-
-pub any-list : (items : List AstAny) → any (code_any.List items) ≡ tree.Nested (anys_of (map any items))
-any-list items = ap any (sym (code_any.rolls-List items)) ∙ fold-roll-AstAny Any any_step _
-
-pub ruleset any_sees = (any-word, any-at, any-less, any-greater, any-list)

@@ -14,7 +14,7 @@ place_of (ExternConst name ty pos) = pos
 place_of (Extractor term params template pos) = pos
 place_of (Converter from to term pos) = pos
 place_of (Rule name prio term args iflets rhs pos) = pos
-place_of (Passed head items pos) = pos
+place_of (Passed head pos) = pos
 
 -- the place lies in the text of the file of this number
 pub record IsWithin (file : ℕ) (text : List ℕ) (pos : Pos) : Type 0 where

@@ -40,20 +40,6 @@ mutual
     NoLet : Lets
     ALet : (var ty : List ℕ) → Expr → Lets → Lets
 
--- what may stand in a list that is passed over
-mutual
-  pub data Any : Type 0 where
-    Word : List ℕ → Any
-    At : Any
-    Less : Any
-    Greater : Any
-    Nested : Anys → Any
-
-  -- such things in order
-  pub data Anys : Type 0 where
-    NoAny : Anys
-    AnAny : Any → Anys → Anys
-
 -- a condition of a rule
 pub record IfLet : Type 0 where
   pub lhs : Pattern
@@ -69,4 +55,4 @@ pub data Def : Type 0 where
   Extractor : (term : List ℕ) (params : List (List ℕ)) → Pattern → Pos → Def
   Converter : (from to term : List ℕ) → Pos → Def
   Rule : (name : Option (List ℕ)) (prio : ℤ) (term : List ℕ) (args : List Pattern) (iflets : List IfLet) → Expr → Pos → Def
-  Passed : (head : List ℕ) (items : List Any) → Pos → Def
+  Passed : (head : List ℕ) → Pos → Def

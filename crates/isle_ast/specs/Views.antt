@@ -8,15 +8,11 @@ use Rattle.isle_ast.specs.declared.tree.AstExpr.{AstExpr}
 use Rattle.isle_ast.specs.declared.tree.AstExpr.TheOpen.{AstExpr-F, AstLet-F}
 use Rattle.isle_ast.specs.declared.tree.AstExpr.TheOpen as code_expr
 use Rattle.isle_ast.specs.declared.tree.AstExpr.TheFolds.{fold-AstExpr}
-use Rattle.isle_ast.specs.declared.tree.AstAny.{AstAny}
-use Rattle.isle_ast.specs.declared.tree.AstAny.TheOpen.{AstAny-F}
-use Rattle.isle_ast.specs.declared.tree.AstAny.TheOpen as code_any
-use Rattle.isle_ast.specs.declared.tree.AstAny.TheFolds.{fold-AstAny}
 use Rattle.isle_ast.specs.declared.tree.AstIfLet.{AstIfLet}
 use Rattle.isle_ast.specs.declared.tree.Def.{Def as CodeDef}
 use Rattle.isle_ast.specs.declared.tree.Def.TheVariants as code_def
 use Rattle.isle_ast.specs.Tree as tree
-use Rattle.isle_ast.specs.Tree.{Pattern, Patterns, NoPattern, APattern, Expr, Exprs, NoExpr, AnExpr, Lets, NoLet, ALet, Any, Anys, NoAny, AnAny, IfLet, Def}
+use Rattle.isle_ast.specs.Tree.{Pattern, Patterns, NoPattern, APattern, Expr, Exprs, NoExpr, AnExpr, Lets, NoLet, ALet, IfLet, Def}
 
 -- patterns of a list
 abbrev pub patterns_of : List Pattern → Patterns
@@ -69,23 +65,6 @@ bound_step l = (l.var, l.ty, l.val)
 abbrev pub expr : AstExpr → Expr
 expr = fold-AstExpr Expr SeenBinding expr_step bound_step
 
--- things of a list
-abbrev pub anys_of : List Any → Anys
-anys_of [] = NoAny
-anys_of (a ∷ more) = AnAny a (anys_of more)
-
--- one thing, if those inside it are seen already
-abbrev pub any_step : AstAny-F Any → Any
-any_step (code_any.Word w) = tree.Word w
-any_step code_any.At = tree.At
-any_step code_any.Less = tree.Less
-any_step code_any.Greater = tree.Greater
-any_step (code_any.List items) = tree.Nested (anys_of items)
-
--- a thing that is passed over
-abbrev pub any : AstAny → Any
-any = fold-AstAny Any any_step
-
 -- a condition
 abbrev pub iflet : AstIfLet → IfLet
 iflet c = record { lhs = pattern c.lhs; rhs = expr c.rhs }
@@ -100,7 +79,7 @@ def (code_def.ExternConst name ty pos) = tree.ExternConst name ty pos
 def (code_def.Extractor term params template pos) = tree.Extractor term params (pattern template) pos
 def (code_def.Converter from to term pos) = tree.Converter from to term pos
 def (code_def.Rule name prio term args iflets rhs pos) = tree.Rule name prio term (map pattern args) (map iflet iflets) (expr rhs) pos
-def (code_def.Passed head items pos) = tree.Passed head (map any items) pos
+def (code_def.Passed head pos) = tree.Passed head pos
 
 -- definitions in order
 abbrev pub defs : List CodeDef → List Def

@@ -3,6 +3,4 @@
 
 mod tree;
 
-pub use tree::{
-    AstAny, AstBody, AstExpr, AstFields, AstIfLet, AstLet, AstPattern, AstVariant, Def,
-};
+pub use tree::{AstBody, AstExpr, AstFields, AstIfLet, AstLet, AstPattern, AstVariant, Def};

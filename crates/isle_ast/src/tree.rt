@@ -58,10 +58,9 @@ pub enum Def<'t> {
         rhs: AstExpr<'t>,
         pos: Pos,
     },
-    /// A list that is read and passed over.
+    /// A list that is passed over, by its first word.
     Passed {
         head: Name<'t>,
-        items: List<AstAny<'t>>,
         pos: Pos,
     },
 }
@@ -126,7 +125,6 @@ impl<'t> Drop for Def<'t> {
             } => {}
             Def::Passed {
                 head: _head,
-                items: _items,
                 pos: _pos,
             } => {}
         }
@@ -260,27 +258,4 @@ impl<'t> Drop for AstLet<'t> {
 pub struct AstIfLet<'t> {
     pub lhs: AstPattern<'t>,
     pub rhs: AstExpr<'t>,
-}
-
-/// What may stand in a list that is passed over.
-#[derive(Debug)]
-pub enum AstAny<'t> {
-    Word(Name<'t>),
-    At,
-    Less,
-    Greater,
-    List(List<AstAny<'t>>),
-}
-
-impl<'t> Drop for AstAny<'t> {
-    // Gives up what the variant holds, in one call wherever a value is dropped.
-    fn drop(self) {
-        match self {
-            AstAny::Word(_part0) => {}
-            AstAny::At => {}
-            AstAny::Less => {}
-            AstAny::Greater => {}
-            AstAny::List(_part0) => {}
-        }
-    }
 }

@@ -6,7 +6,7 @@ use Rattle.std.specs.Cmp.{IsTotalOrder}
 use Rattle.std.specs.Global.{Vec}
 use Rattle.std.specs.List.{slice_get}
 use Rattle.std.specs.Map.{lookup, values_of}
-use Rattle.std.specs.Option.{option_map_or}
+use Rattle.std.specs.Option.{option_map_or, unwrap_or}
 use Rattle.std.specs.Ordering.{is_eq, ordering_reverse}
 use Rattle.std.specs.declared.cmp.Ordering.TheVariants.{Less, Equal, Greater}
 use Rattle.std.proofs.lemmas.List.{take_more}
@@ -63,12 +63,15 @@ added old new k b list is u = (ap items_of u.1 ∙ is, λ q. by q (is_eq (key_cm
     by q true e = inr (ap items_of (u.0 q ∙ ap (λ t. cond t (Some list) (get key_cmp old q)) e) ∙ is ∙ ap (λ xs. xs ++ b ∷ []) (same_under old k q (tied (key_cmp k q) e)))
     by q false e = inl (ap items_of (u.2 q e))
 
--- a list with one rule more, where there was one, and where there was none
-pub pushed_there : (old : BTreeMap Key (Vec Placed)) (k : Key) (b : Placed) (list new : Vec Placed) → get key_cmp old k ≡ Some list → new.items ≡ list.items ++ b ∷ [] → new.items ≡ under_key old k ++ b ∷ []
-pushed_there old k b list new there more = more ∙ ap (λ xs. xs ++ b ∷ []) (sym (ap items_of there))
+-- a list that was there, or else an empty one, has the rules that were there
+there_or_none : (found : Option (Vec Placed)) (empty : Vec Placed) → empty.items ≡ [] → (unwrap_or found empty).items ≡ items_of found
+there_or_none None empty none = none
+there_or_none (Some list) empty none = refl
 
-pub first_there : (old : BTreeMap Key (Vec Placed)) (k : Key) (b : Placed) (new : Vec Placed) → get key_cmp old k ≡ None → new.items ≡ b ∷ [] → new.items ≡ under_key old k ++ b ∷ []
-first_there old k b new none one = one ∙ ap (λ xs. xs ++ b ∷ []) (sym (ap items_of none))
+-- a list with one rule more
+pub pushed_there : (old : BTreeMap Key (Vec Placed)) (k : Key) (b : Placed) (found : Option (Vec Placed)) (empty list new : Vec Placed) → found ≡ get key_cmp old k → empty.items ≡ [] → list ≡ unwrap_or found empty → new.items ≡ list.items ++ b ∷ [] → new.items ≡ under_key old k ++ b ∷ []
+pushed_there old k b found empty list new same none is more =
+    more ∙ ap (λ xs. xs ++ b ∷ []) (ap (λ (l : Vec Placed). l.items) is ∙ there_or_none found empty none ∙ ap items_of same)
 
 -- rules before one that stands at a place lie below it
 pub before_place : (group : List Placed) (i : ℕ) (b : Placed) → Rises group → i < length group → b ≡ get_or group i b → (a : Placed) → Contains (take i group) a → a.place < b.place

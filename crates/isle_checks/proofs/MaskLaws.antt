@@ -1,11 +1,12 @@
 -- Which rules shadow others.
-use Rattle.std.proofs.Common.{◌≡◌, ◌⊎◌, inl, inr, ⊎_elim, ℕ, zero, suc, ◌+◌, ◌<◌, List, [], ◌∷◌, ◌++◌, length, get_or, take, drop, refl, sym, ap, ◌∙◌, subst, arith, Option, Some, None}
-use Rattle.std.specs.Prelude.{IfSome, Contains}
+use Rattle.std.proofs.Common.{◌≡◌, ◌⊎◌, inl, inr, ⊎_elim, ℕ, ℤ, zero, suc, ◌+◌, ◌<◌, List, [], ◌∷◌, ◌++◌, length, get_or, take, drop, refl, sym, ap, ◌∙◌, subst, arith, Option, Some, None}
+use Rattle.std.specs.Prelude.{◌<ℤ◌, IfSome, Contains}
+use Rattle.std.specs.Int.Signed.{<ℤ_irrefl}
 use Rattle.std.proofs.lemmas.List.{take_more, drop_more}
 use Rattle.std.proofs.lemmas.List.Elements.{Contains-append_left, Contains-append_right, Contains-append_cases}
 use Rattle.isle_core.specs.declared.BindingId.{BindingId}
 use Rattle.isle_core.specs.declared.rule_sets.Constraint.{Constraint}
-use Rattle.isle_core.proofs.Contained.{none_contained}
+use Rattle.isle_core.proofs.Contained.{contained_cases, none_contained}
 use Rattle.isle_checks.specs.declared.lists.Key.{Key}
 use Rattle.isle_checks.specs.declared.lists.Key.TheVariants as key
 use Rattle.isle_checks.specs.declared.placed.Check.TheVariants as check
@@ -14,11 +15,29 @@ use Rattle.isle_checks.specs.Bears.{Constraints, IsAmong, AreAmong}
 use Rattle.isle_checks.specs.Firsts.{Found, Finds}
 use Rattle.isle_checks.specs.Lists.{Rises, Listing, MayHave, AreLists}
 use Rattle.isle_checks.specs.Makes.{Makes}
+use Rattle.isle_checks.specs.Priorities.{HavePriority, HaveOnePriority}
 use Rattle.isle_checks.specs.Masks.{ArePlain, Bears, BearsKey, MayJoin, under_each, candidates}
 use Rattle.isle_checks.proofs.BearLaws.{among_at}
 use Rattle.isle_checks.proofs.FindLaws.{find_makers, find_enlarged, nobody_found}
 use Rattle.isle_checks.proofs.ListLaws.{before_place}
 use Rattle.isle_checks.proofs.PlacedLaws.{only_one, rises_push}
+
+-- ---- rules of one priority
+
+priority_of : (prio : ℤ) (xs : List Placed) → HavePriority prio xs → (a : Placed) → Contains xs a → a.rule.now.prio ≡ prio
+priority_of prio [] h a c = absurd (none_contained a c)
+priority_of prio (x ∷ xs) h a c = ⊎_elim (λ (e : x ≡ a). subst (λ (y : Placed). y.rule.now.prio ≡ prio) e h.0) (λ d. priority_of prio xs h.1 a d) (contained_cases x xs a c)
+
+same_priority : (group : List Placed) → HaveOnePriority group → (a b : Placed) → Contains group a → Contains group b → a.rule.now.prio ≡ b.rule.now.prio
+same_priority [] h a b c d = absurd (none_contained a c)
+same_priority (x ∷ xs) h a b c d = priority_of x.rule.now.prio (x ∷ xs) h a c ∙ sym (priority_of x.rule.now.prio (x ∷ xs) h b d)
+
+not_higher : (p q : ℤ) → p ≡ q → q <ℤ p → ⊥
+not_higher p q e lt = <ℤ_irrefl (subst (λ r. q <ℤ r) e lt)
+
+-- rules of one priority don't shadow each other
+pub one_priority_found : (group : List Placed) (found : Found) → HaveOnePriority group → Finds check.Shadows group group found found
+one_priority_found group found h = record { long = refl; sound = λ j i has. inl has; kept = λ j i has. record { k = i; le = omega arith; has = has }; complete = λ a b c d m. absurd (not_higher a.rule.now.prio b.rule.now.prio (same_priority group h a b c d) m.higher) }
 
 -- ---- rules without equalities
 
@@ -48,9 +67,9 @@ among_there (x ∷ xs) zero d lt = inl refl
 among_there (x ∷ xs) (suc i) d lt = inr (among_there xs i d (omega (arith, lt)))
 
 -- the rarer of the best so far and the next one
-pub rarer_among : (xs : Constraints) (i : ℕ) (d : BindingId × Constraint) (best : Option Key) (next : Key) → i < length xs → IfSome best (Bears xs) → (best ≡ Some next) ⊎ (next ≡ key.Constraint (get_or xs i d).0 (get_or xs i d).1) → Bears xs next
-rarer_among xs i d best next lt h (inl e) = subst (λ o. IfSome o (Bears xs)) e h
-rarer_among xs i d best next lt h (inr e) = subst (Bears xs) (sym e) (among_there xs i d lt)
+pub rarer_among : (xs : Constraints) (i : ℕ) (d : BindingId × Constraint) (best : Option (Key × ℕ)) (next : Key × ℕ) (n : ℕ) → i < length xs → IfSome best (λ (c : Key × ℕ). Bears xs c.0) → (best ≡ Some next) ⊎ (next ≡ (key.Constraint (get_or xs i d).0 (get_or xs i d).1, n)) → Bears xs next.0
+rarer_among xs i d best next n lt h (inl e) = subst (λ (o : Option (Key × ℕ)). IfSome o (λ (c : Key × ℕ). Bears xs c.0)) e h
+rarer_among xs i d best next n lt h (inr e) = subst (Bears xs) (sym (ap (λ (c : Key × ℕ). c.0) e)) (among_there xs i d lt)
 
 -- ---- candidates
 

@@ -10,7 +10,6 @@ use Rattle.isle_core.specs.Terms.{with_rules}
 use Rattle.isle_rulesets.specs.Grouping.{AreRuleSets}
 use Rattle.isle_checks.specs.Recursions.{told_before, AreUnmarked, recursion_error, IsRecursionList}
 use Rattle.isle_checks.specs.RuleErrors.{AreUnmarkedTerms, IsRecursionOf}
-use Rattle.isle_checks.specs.RuleWalks.{IsUnmarkedTerm}
 use Rattle.isle_checks.proofs.RuleUses.{HaveHeads}
 use Rattle.isle_checks.proofs.RuleWalkLaws.{same_unmarked}
 

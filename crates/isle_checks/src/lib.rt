@@ -12,6 +12,7 @@ mod names;
 mod notes;
 pub mod overlap;
 mod placed;
+mod priorities;
 pub mod recursion;
 mod splitter;
 mod unreachable;

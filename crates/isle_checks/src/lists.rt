@@ -32,15 +32,8 @@ fn push_under<'a>(
 ) -> Result<(), AllocError>
     ensures { OnOk result (AddsUnder key placed.entry under.old under.new) }
 {
-    match under.get_mut(&key) {
-        Some(list) => {
-            list.push(placed)?;
-        }
-        None => {
-            let list = vec![in alloc; placed]?;
-            under.insert(key, list)?;
-        }
-    }
+    let list = under.entry(key)?.or_insert(Vec::new(alloc));
+    list.push(placed)?;
     Ok(())
 }
 

@@ -12,6 +12,7 @@ ghost use Rattle.isle_checks.specs.Firsts.{AreBelow, Finds};
 use crate::lists::{Key, Lists};
 use crate::notes::note_first;
 use crate::placed::{Check, Placed};
+use crate::priorities::have_one_priority;
 use isle_core::{BindingId, Constraint};
 use std::alloc::{AllocError, Global};
 use std::collections::BTreeMap;
@@ -43,9 +44,10 @@ fn counts(alloc: Global, group: &[Placed<'_>]) -> Result<BTreeMap<Key, usize>, A
     let mut counts = BTreeMap::new(alloc);
     for placed in group {
         for (binding, constraint) in placed.rule.constraints.as_slice() {
-            let key = Key::Constraint(*binding, *constraint);
-            let before = count(&counts, &key);
-            counts.insert(key, before.saturating_add(1))?;
+            let count = counts
+                .entry(Key::Constraint(*binding, *constraint))?
+                .or_insert(0usize);
+            *count = count.saturating_add(1);
         }
     }
     Ok(counts)
@@ -56,28 +58,33 @@ fn count(counts: &BTreeMap<Key, usize>, key: &Key) -> usize {
     counts.get(key).copied().unwrap_or(0)
 }
 
-// The rarer of two constraints.
-fn rarer(counts: &BTreeMap<Key, usize>, best: Option<Key>, key: Key) -> Key
-    ensures { (best ≡ SomeOf result) ⊎ (result ≡ key) }
+// The rarer of two constraints that have been counted.
+fn rarer(best: Option<(Key, usize)>, next: (Key, usize)) -> (Key, usize)
+    ensures { (best ≡ SomeOf result) ⊎ (result ≡ next) }
 {
     let Some(before) = best else {
-        return key;
+        return next;
     };
-    if count(counts, &before) <= count(counts, &key) {
+    if before.1 <= next.1 {
         return before;
     }
-    key
+    next
 }
 
-// The rarest of some constraints, if there is one.
+// The rarest of some constraints, if there is one. Of one that stands alone no count is asked.
 fn rarest(counts: &BTreeMap<Key, usize>, constraints: &[(BindingId, Constraint)]) -> Option<Key>
     ensures { IfSome result (Bears constraints.now) }
 {
+    if let [x] = constraints {
+        return Some(Key::Constraint(x.0, x.1));
+    }
     let mut best = None;
     for x in constraints {
-        best = Some(rarer(counts, best, Key::Constraint(x.0, x.1)));
+        let key = Key::Constraint(x.0, x.1);
+        best = Some(rarer(best, (key, count(counts, &key))));
     }
-    best
+    let found = best?;
+    Some(found.0)
 }
 
 // Lists the rules of a group under the rarest constraint of each.
@@ -150,8 +157,9 @@ fn note_each<'a>(lists: &Lists<'a>, group: &[Placed<'a>], found: &mut Vec<Option
     }
 }
 
-/// Notes for each rule of a group the first one of it that shadows it. Only those are compared of which one
-/// bears the rarest constraint of the other. The only error is want of memory.
+/// Notes for each rule of a group the first one of it that shadows it: none, where all have one priority, and
+/// else only those are compared of which one bears the rarest constraint of the other. The only error is want
+/// of memory.
 pub fn note_masks<'a>(
     alloc: Global,
     group: &[Placed<'a>],
@@ -162,6 +170,9 @@ pub fn note_masks<'a>(
     ensures { OnOk result
         (Finds found_by.Shadows group.now group.now found.old.items found.new.items) }
 {
+    if have_one_priority(group) {
+        return Ok(());
+    }
     let plain = plain(alloc, group)?;
     let lists = lists(alloc, plain.as_slice())?;
     note_each(&lists, plain.as_slice(), found);

@@ -7,6 +7,7 @@ ghost use Rattle.isle_checks.specs.Splitter.{HasKey};
 use crate::bears::first_on;
 use crate::lists::{Key, Lists};
 use crate::placed::Placed;
+use crate::priorities::have_one_priority;
 use isle_core::{BindingId, Constraint, FlatRule};
 use std::alloc::{AllocError, Global};
 use std::collections::BTreeMap;
@@ -45,19 +46,6 @@ impl Splitter {
     }
 }
 
-// Whether all rules of a group have one priority.
-fn have_one_priority(group: &[Placed<'_>]) -> bool {
-    let Some(first) = group.first() else {
-        return true;
-    };
-    for placed in group {
-        if placed.rule.prio != first.rule.prio {
-            return false;
-        }
-    }
-    true
-}
-
 /// How many constraints stand on a binding, the first of these, and whether another one differs.
 #[derive(Clone, Copy)]
 struct Tally {
@@ -66,19 +54,20 @@ struct Tally {
     differ: bool,
 }
 
+// No constraint yet, before this one is added.
+fn tally_before(first: Constraint) -> Tally {
+    Tally {
+        count: 0,
+        first,
+        differ: false,
+    }
+}
+
 // One constraint more on a binding.
-fn tally_with(before: Option<&Tally>, constraint: Constraint) -> Tally {
-    match before {
-        None => Tally {
-            count: 1,
-            first: constraint,
-            differ: false,
-        },
-        Some(tally) => Tally {
-            count: tally.count.saturating_add(1),
-            first: tally.first,
-            differ: tally.differ || tally.first != constraint,
-        },
+fn add(tally: &mut Tally, constraint: Constraint) {
+    tally.count = tally.count.saturating_add(1);
+    if tally.first != constraint {
+        tally.differ = true;
     }
 }
 
@@ -87,8 +76,10 @@ fn tallies(alloc: Global, group: &[Placed<'_>]) -> Result<BTreeMap<BindingId, Ta
     let mut tallies = BTreeMap::new(alloc);
     for placed in group {
         for (binding, constraint) in placed.rule.constraints.as_slice() {
-            let tally = tally_with(tallies.get(binding), *constraint);
-            tallies.insert(*binding, tally)?;
+            let tally = tallies
+                .entry(*binding)?
+                .or_insert(tally_before(*constraint));
+            add(tally, *constraint);
         }
     }
     Ok(tallies)

@@ -50,7 +50,7 @@ all_among (tree.Extractor term params template pos ∷ defs) names =
 all_among (tree.Converter from to term pos ∷ defs) names =
     let d = tree.Converter from to term pos in
     among_after names d defs (all_among defs (fold added names (def_names d)))
-all_among (tree.Passed head items pos ∷ defs) names = all_among defs names
+all_among (tree.Passed head pos ∷ defs) names = all_among defs names
 
 -- what is among names stays so while names are added
 among_more : (more names : List (List ℕ)) (sigs : List Signature) → AreAmong names sigs → AreAmong (fold added names more) sigs

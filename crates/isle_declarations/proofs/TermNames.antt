@@ -60,7 +60,7 @@ terms_among syms (tree.ExternConst name ty pos ∷ defs) h k = terms_among syms 
 terms_among syms (tree.Extractor term params template pos ∷ defs) h k = terms_among syms defs h k
 terms_among syms (tree.Converter from to term pos ∷ defs) h k = terms_among syms defs h k
 terms_among syms (tree.Rule name prio term args iflets rhs pos ∷ defs) h k = terms_among syms defs h k
-terms_among syms (tree.Passed head items pos ∷ defs) h k = terms_among syms defs h k
+terms_among syms (tree.Passed head pos ∷ defs) h k = terms_among syms defs h k
 
 -- the name of each term is a symbol
 pub are_terms_among : (defs : List Def) → AreAmong (symbols defs) (terms defs)

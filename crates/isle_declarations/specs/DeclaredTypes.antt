@@ -27,7 +27,7 @@ type_of (ExternConst name ty pos) = None
 type_of (Extractor term params template pos) = None
 type_of (Converter from to term pos) = None
 type_of (Rule name prio term args iflets rhs pos) = None
-type_of (Passed head items pos) = None
+type_of (Passed head pos) = None
 
 -- the constant that it declares
 abbrev pub constant_of : Def → Option Constant
@@ -39,7 +39,7 @@ constant_of (ExternExtractor term func infallible pos) = None
 constant_of (Extractor term params template pos) = None
 constant_of (Converter from to term pos) = None
 constant_of (Rule name prio term args iflets rhs pos) = None
-constant_of (Passed head items pos) = None
+constant_of (Passed head pos) = None
 
 -- the types, in order
 abbrev pub types : List Def → List DeclaredType

@@ -79,4 +79,4 @@ def_names (ExternConst name ty pos) = name ∷ ty ∷ []
 def_names (Extractor term params template pos) = term ∷ params ++ pattern_names template
 def_names (Converter from to term pos) = from ∷ to ∷ term ∷ []
 def_names (Rule name prio term args iflets rhs pos) = rule_names name term args iflets rhs
-def_names (Passed head items pos) = []
+def_names (Passed head pos) = []

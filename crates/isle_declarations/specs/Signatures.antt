@@ -62,7 +62,7 @@ signature_of (ExternConst name ty pos) = None
 signature_of (Extractor term params template pos) = None
 signature_of (Converter from to term pos) = None
 signature_of (Rule name prio term args iflets rhs pos) = None
-signature_of (Passed head items pos) = None
+signature_of (Passed head pos) = None
 
 -- the external constructor that a definition is
 abbrev pub extern_of : Def → Option Extern
@@ -74,7 +74,7 @@ extern_of (ExternConst name ty pos) = None
 extern_of (Extractor term params template pos) = None
 extern_of (Converter from to term pos) = None
 extern_of (Rule name prio term args iflets rhs pos) = None
-extern_of (Passed head items pos) = None
+extern_of (Passed head pos) = None
 
 -- the extractor that a definition is
 abbrev pub extractor_of : Def → Option ExtractorDef
@@ -86,7 +86,7 @@ extractor_of (ExternConstructor term func pos) = None
 extractor_of (ExternConst name ty pos) = None
 extractor_of (Converter from to term pos) = None
 extractor_of (Rule name prio term args iflets rhs pos) = None
-extractor_of (Passed head items pos) = None
+extractor_of (Passed head pos) = None
 
 -- the rule that a definition is
 abbrev pub rule_of : Def → Option RuleDef
@@ -98,7 +98,7 @@ rule_of (ExternExtractor term func infallible pos) = None
 rule_of (ExternConst name ty pos) = None
 rule_of (Extractor term params template pos) = None
 rule_of (Converter from to term pos) = None
-rule_of (Passed head items pos) = None
+rule_of (Passed head pos) = None
 
 -- whether a definition is a declaration, an external constructor, an extractor, or a rule
 abbrev pub is_collected : Def → Bool
@@ -110,7 +110,7 @@ is_collected (ExternExtractor term func infallible pos) = true
 is_collected (ExternConst name ty pos) = false
 is_collected (Extractor term params template pos) = true
 is_collected (Converter from to term pos) = false
-is_collected (Passed head items pos) = false
+is_collected (Passed head pos) = false
 
 -- the declarations, in order
 abbrev pub signatures : List Def → List Signature

@@ -36,7 +36,7 @@ terms_by (ExternConst name ty pos) = []
 terms_by (Extractor term params template pos) = []
 terms_by (Converter from to term pos) = []
 terms_by (Rule name prio term args iflets rhs pos) = []
-terms_by (Passed head items pos) = []
+terms_by (Passed head pos) = []
 
 -- the terms, by their numbers
 abbrev pub terms : List Def → List Signature

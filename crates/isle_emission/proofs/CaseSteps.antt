@@ -3,6 +3,7 @@ use Rattle.std.proofs.Common.{◌≡◌, ℕ, ◌+◌, ◌<◌, List, [], ◌∷
 use Rattle.std.proofs.lemmas.List.{drop_more}
 use Rattle.isle_core.specs.declared.BindingId.{BindingId}
 use Rattle.isle_core.specs.declared.blocks.MatchArm.{MatchArm as CodeArm}
+use Rattle.isle_core.specs.declared.rule_sets.Constraint.{Constraint}
 use Rattle.isle_core.specs.ArmPlaces.{bound_within}
 use Rattle.isle_core.specs.BlockViews.{SeenArm, arms_of, arm}
 use Rattle.isle_core.specs.Setting.{Setting}
@@ -10,7 +11,7 @@ use Rattle.isle_tree.specs.declared.tree.Read.{Read}
 use Rattle.isle_tree.specs.declared.tree.Stmt.{Stmt as CodeStmt}
 use Rattle.isle_tree.specs.declared.tree.Stmt.TheVariants as code
 use Rattle.isle_tree.specs.declared.tree.TPat.{TPat}
-use Rattle.isle_tree.specs.Program.{Arms, NoArm, Done}
+use Rattle.isle_tree.specs.Program.{Arms, NoArm, Body, Done}
 use Rattle.isle_tree.specs.Views.{stmt, body, arms}
 use Rattle.isle_tree.proofs.Sees.{stmt-match}
 use Rattle.isle_simulation.specs.Manner.{Manner}
@@ -18,7 +19,7 @@ use Rattle.isle_simulation.specs.Patterns.{arm_pattern}
 use Rattle.isle_simulation.specs.Statements.{match_read, match_of, arm_before}
 use Rattle.isle_emission.specs.BodyOnto.{body_onto}
 use Rattle.isle_emission.specs.Built.{HasRead, AreBuilt, AreCasesBuilt, IsBuiltCase}
-use Rattle.isle_emission.specs.Cases.{Case, cases_onto, PushesCase}
+use Rattle.isle_emission.specs.Cases.{Case, cases_onto, PushesArm, PushesCase}
 use Rattle.isle_emission.specs.MadeBodies.{made_in_arm, made_arms, made_each}
 use Rattle.isle_simulation.proofs.CompletedArms.{arm_by}
 use Rattle.isle_emission.proofs.Onto.{onto_done}
@@ -38,14 +39,21 @@ onto_case [] x others = refl
 onto_case (y ∷ xs) x others = ap (arm_before (Some y.0) (Some (body y.1))) (onto_case xs x others)
 
 -- an arm is pushed
-pub case_pushed : (manner : Manner) (s : Setting) (bound : List ℕ) (x seen : SeenArm) (pat : TPat) (ss : List CodeStmt) (old new : List Case)
-    → x ≡ seen → Some pat ≡ arm_pattern s.env seen.0 seen.1 → body_onto (map stmt ss) (Some Done) ≡ made_in_arm manner s (bound_within bound seen.1) seen.2 → new ≡ old ++ (pat, ss) ∷ [] → PushesCase manner s bound x old new
-case_pushed manner s bound x seen pat ss old new seen_x is_pat made is_pushed = λ others.
+pub arm_pushed : (s : Setting) (x seen : SeenArm) (pat : TPat) (ss : List CodeStmt) (old new : List Case)
+    → x ≡ seen → Some pat ≡ arm_pattern s.env seen.0 seen.1 → new ≡ old ++ (pat, ss) ∷ [] → PushesArm s x (body_onto (map stmt ss) (Some Done)) old new
+arm_pushed s x seen pat ss old new seen_x is_pat is_pushed = λ others.
     ap (λ ys. cases_onto ys others) is_pushed
     ∙ onto_case old (pat, ss) others
     ∙ ap (λ p. cases_onto old (arm_before p (Some (body ss)) others)) is_pat
-    ∙ ap (λ i. cases_onto old (arm_before (arm_pattern s.env seen.0 seen.1) i others)) (sym (onto_done (map stmt ss)) ∙ made)
-    ∙ ap (λ (k : SeenArm). cases_onto old (arm_before (arm_pattern s.env k.0 k.1) (made_in_arm manner s (bound_within bound k.1) k.2) others)) (sym seen_x)
+    ∙ ap (λ i. cases_onto old (arm_before (arm_pattern s.env seen.0 seen.1) i others)) (sym (onto_done (map stmt ss)))
+    ∙ ap (λ (k : SeenArm). cases_onto old (arm_before (arm_pattern s.env k.0 k.1) (body_onto (map stmt ss) (Some Done)) others)) (sym seen_x)
+
+-- with the statements of its block
+pub case_pushed : (manner : Manner) (s : Setting) (bound : List ℕ) (x seen : SeenArm) (i : Option Body) (old new : List Case)
+    → x ≡ seen → i ≡ made_in_arm manner s (bound_within bound seen.1) seen.2 → PushesArm s x i old new → PushesCase manner s bound x old new
+case_pushed manner s bound x seen i old new seen_x is p = λ others.
+    p others
+    ∙ ap (λ y. cases_onto old (arm_before (arm_pattern s.env x.0 x.1) y others)) (is ∙ ap (λ (k : SeenArm). made_in_arm manner s (bound_within bound k.1) k.2) (sym seen_x))
 
 -- ---- the loop
 
@@ -83,8 +91,18 @@ read_built s bound source (y ∷ []) x h several item = absurd (several refl)
 read_built s bound source (y ∷ z ∷ xs) x h several item = subst (λ w. HasRead s bound source (arm w).0) (sym item) h.0
 
 -- the match of several arms is the statement of the arms
-pub match_made : (manner : Manner) (s : Setting) (bound : List ℕ) (source : BindingId) (xs : List CodeArm) (x : CodeArm) → AreBuilt s bound source (arms_of (map arm xs)) → (length xs ≡ 1 → ⊥) → x ≡ get_or xs 0 x
-    → match_of (match_read s bound source (arm x).0) (made_each manner s bound (arms_of (map arm xs))) ≡ made_arms manner s bound source (arms_of (map arm xs))
-match_made manner s bound source [] x h several item = absurd h
-match_made manner s bound source (y ∷ []) x h several item = absurd (several refl)
-match_made manner s bound source (y ∷ z ∷ xs) x h several item = ap (λ w. match_of (match_read s bound source (arm w).0) (made_each manner s bound (arms_of (map arm (y ∷ z ∷ xs))))) item
+pub match_made : (manner : Manner) (s : Setting) (bound now : List ℕ) (source : BindingId) (xs : List CodeArm) (x : CodeArm) (seen : Constraint) (cases : List Case)
+    → AreBuilt s bound source (arms_of (map arm xs)) → (length xs ≡ 1 → ⊥) → x ≡ get_or xs 0 x → (arm x).0 ≡ seen → now ≡ bound
+    → cases_onto cases (Some NoArm) ≡ made_each manner s bound (arms_of (map arm xs))
+    → match_of (match_read s now source seen) (cases_onto cases (Some NoArm)) ≡ made_arms manner s bound source (arms_of (map arm xs))
+match_made manner s bound now source xs x seen cases h several item is at_now all =
+    ap (λ ls. match_of (match_read s ls source seen) (cases_onto cases (Some NoArm))) at_now
+    ∙ ap (λ c. match_of (match_read s bound source c) (cases_onto cases (Some NoArm))) (sym is)
+    ∙ ap (match_of (match_read s bound source (arm x).0)) all
+    ∙ of_arms xs h several item
+  where
+    of_arms : (ys : List CodeArm) → AreBuilt s bound source (arms_of (map arm ys)) → (length ys ≡ 1 → ⊥) → x ≡ get_or ys 0 x
+        → match_of (match_read s bound source (arm x).0) (made_each manner s bound (arms_of (map arm ys))) ≡ made_arms manner s bound source (arms_of (map arm ys))
+    of_arms [] h several item = absurd h
+    of_arms (y ∷ []) h several item = absurd (several refl)
+    of_arms (y ∷ z ∷ ys) h several item = ap (λ w. match_of (match_read s bound source (arm w).0) (made_each manner s bound (arms_of (map arm (y ∷ z ∷ ys))))) item

@@ -8,12 +8,20 @@ use Rattle.isle_simulation.specs.LogLines.{LogLine}
 use Rattle.isle_simulation.specs.Manner.{closed_if}
 use Rattle.isle_simulation.specs.Telling.{line_before}
 use Rattle.isle_tree.specs.Views.{stmt, body_of}
-use Rattle.isle_emission.specs.BodyOnto.{body_onto}
+use Rattle.isle_emission.specs.BodyOnto.{body_onto, PushesStmt}
 use Rattle.isle_simulation.specs.Statements.{stmt_before}
 
 pub onto_pushed : (xs : List CodeStmt) (x : CodeStmt) (end : Option Body) → body_onto (map stmt (xs ++ x ∷ [])) end ≡ body_onto (map stmt xs) (stmt_before (Some (stmt x)) end)
 onto_pushed [] x end = refl
 onto_pushed (y ∷ xs) x end = ap (stmt_before (Some (stmt y))) (onto_pushed xs x end)
+
+-- one that was to be made is pushed
+pub made_pushed : (old new : List CodeStmt) (x : CodeStmt) (o : Option Stmt) → Some (stmt x) ≡ o → new ≡ old ++ x ∷ [] → PushesStmt old new o
+made_pushed old new x o is pushed = λ end. ap (λ ys. body_onto (map stmt ys) end) pushed ∙ onto_pushed old x end ∙ ap (λ y. body_onto (map stmt old) (stmt_before y end)) is
+
+-- under another name
+pub pushed_so : (old new : List CodeStmt) (x y : Option Stmt) → x ≡ y → PushesStmt old new x → PushesStmt old new y
+pushed_so old new x y is p = λ end. p end ∙ ap (λ o. body_onto (map stmt old) (stmt_before o end)) is
 
 -- a log line is pushed
 pub onto_line : (old new : List CodeStmt) (term place : List ℕ) (l : LogLine) (end : Option Body) → new ≡ old ++ code.Log term place ∷ [] → (term, place) ≡ l

@@ -23,13 +23,13 @@ use Rattle.isle_simulation.specs.Completed.{step_binds, completed_control}
 use Rattle.isle_simulation.specs.Operands.{operand_of}
 use Rattle.isle_simulation.specs.Manner.{Manner, within, has_closure, closed_if}
 use Rattle.isle_simulation.specs.Telling.{Telling, told_before}
-use Rattle.isle_simulation.specs.Statements.{stmt_before, stop_before, lets, if_eq, if_let, loop_of, arm_stmt}
-use Rattle.isle_emission.specs.BodyOnto.{body_onto, AreMadeAs, ArePushedAs}
+use Rattle.isle_simulation.specs.Statements.{stmt_before, stop_before, lets, if_eq, if_let, loop_of, looped_local, arm_stmt}
+use Rattle.isle_emission.specs.BodyOnto.{body_onto, AreMadeAs, ArePushedAs, PushesStmt}
 use Rattle.isle_emission.specs.Built.{IsBuilt, IsBuiltStep, IsBuiltArm, AreBuilt}
 use Rattle.isle_emission.specs.MadeBodies.{made_body, made_in_arm, made_control, made_arms, binds_of, PushesStep}
 use Rattle.isle_emission.specs.PushedLets.{PushesLets}
 use Rattle.isle_simulation.proofs.CompletedArms.{arm_by}
-use Rattle.isle_emission.proofs.Onto.{onto_pushed, onto_done}
+use Rattle.isle_emission.proofs.Onto.{onto_done}
 
 -- ---- steps
 
@@ -72,22 +72,21 @@ so_bound manner s out bound mid seen made more end at_mid is =
     ∙ ap (λ y. body_onto (map stmt out) (lets s bound binds (told_before manner.telling seen.1 (stmt_before (made_control manner s within seen.1) y)))) (sym (stop_same manner (gives_several s) s within seen.1 (made_body manner s within more end)))
     ∙ ap (λ y. body_onto (map stmt out) (lets s bound binds y)) (sym (told_same manner.telling s within seen.1 _))
 
-pub step_made : (manner : Manner) (s : Setting) (x : CodeStep) (seen : SeenStep) (bound mid new : List ℕ) (out lets_out told_out pushed after : List CodeStmt) (made : CodeStmt)
-    → step x ≡ seen → PushesLets s (step_binds s bound seen.0 seen.1) bound mid out lets_out → Some (stmt made) ≡ made_control manner s mid seen.1
-    → new ≡ mid → ArePushedAs lets_out told_out (λ end. told_before manner.telling seen.1 end) → pushed ≡ told_out ++ made ∷ []
-    → ArePushedAs pushed after (λ end. stop_before manner (gives_several s) seen.1 end)
+pub step_made : (manner : Manner) (s : Setting) (x : CodeStep) (seen : SeenStep) (bound mid new : List ℕ) (out lets_out told_out pushed after : List CodeStmt)
+    → step x ≡ seen → PushesLets s (step_binds s bound seen.0 seen.1) bound mid out lets_out → ArePushedAs lets_out told_out (λ end. told_before manner.telling seen.1 end)
+    → PushesStmt told_out pushed (made_control manner s mid seen.1) → new ≡ mid → ArePushedAs pushed after (λ end. stop_before manner (gives_several s) seen.1 end)
     → PushesStep manner s x bound new out after
-step_made manner s x seen bound mid new out lets_out told_out pushed after made seen_x p seen_s at_new told is_pushed stopped = record {
+step_made manner s x seen bound mid new out lets_out told_out pushed after seen_x p told made at_new stopped = record {
   stmts = λ xs end.
       let more = block_of (map step xs) in
+      let does = made_control manner s mid seen.1 in
       let stop = stop_before manner (gives_several s) seen.1 (made_body manner s mid more end) in
       ap (λ ls. body_onto (map stmt after) (made_body manner s ls more end)) at_new
       ∙ stopped (made_body manner s mid more end)
-      ∙ ap (λ ys. body_onto (map stmt ys) stop) is_pushed
-      ∙ onto_pushed told_out made stop
-      ∙ told (stmt_before (Some (stmt made)) stop)
-      ∙ p.lets (told_before manner.telling seen.1 (stmt_before (Some (stmt made)) stop))
-      ∙ so_bound manner s out bound mid seen (Some (stmt made)) more end p.bound seen_s
+      ∙ made stop
+      ∙ told (stmt_before does stop)
+      ∙ p.lets (told_before manner.telling seen.1 (stmt_before does stop))
+      ∙ so_bound manner s out bound mid seen does more end p.bound refl
       ∙ first_step manner s x xs seen bound out end seen_x;
   bound = at_new ∙ p.bound ∙ ap (λ (k : SeenStep). bound_by bound (step_binds s bound k.0 k.1)) (sym seen_x);
   grows = (p.grows.0, at_new ∙ p.grows.1);
@@ -122,17 +121,18 @@ inside_let p r ss = ap Some (stmt-if_let p r ss) ∙ ap (if_let (Some p) (Some r
 pub inside_loop : (list item : ℕ) (ss : List CodeStmt) → Some (stmt (code.Loop list item ss)) ≡ loop_of (Some list) item (body_onto (map stmt ss) (Some Done))
 inside_loop list item ss = ap Some (stmt-loop list item ss) ∙ ap (loop_of (Some list) item) (sym (onto_done (map stmt ss)))
 
--- a test of two operands that are there
-pub equal_made : (manner : Manner) (s : Setting) (bound new : List ℕ) (a b : BindingId) (body : Block) (x y : Operand) (ss : List CodeStmt) (r : Option Stmt)
-    → r ≡ if_eq (Some x) (Some y) (body_onto (map stmt ss) (Some Done)) → Some x ≡ operand_of s.env s.bindings new a → Some y ≡ operand_of s.env s.bindings new b → new ≡ bound
-    → AreMadeAs ss (made_body manner s bound body) → r ≡ made_control manner s bound (block.Equal a b body)
-equal_made manner s bound new a b body x y ss r is is_x is_y same made =
-    let i = body_onto (map stmt ss) (Some Done) in
-    is
-    ∙ ap (λ o. if_eq o (Some y) i) is_x
-    ∙ ap (λ o. if_eq (operand_of s.env s.bindings new a) o i) is_y
-    ∙ ap (λ ls. if_eq (operand_of s.env s.bindings ls a) (operand_of s.env s.bindings ls b) i) same
+-- a test of two operands, within which a block stands
+pub equal_made : (manner : Manner) (s : Setting) (bound now : List ℕ) (a b : BindingId) (body : Block) (ss : List CodeStmt) → now ≡ bound → AreMadeAs ss (made_body manner s bound body)
+    → if_eq (operand_of s.env s.bindings now a) (operand_of s.env s.bindings now b) (body_onto (map stmt ss) (Some Done)) ≡ made_control manner s bound (block.Equal a b body)
+equal_made manner s bound now a b body ss same made =
+    ap (λ ls. if_eq (operand_of s.env s.bindings ls a) (operand_of s.env s.bindings ls b) (body_onto (map stmt ss) (Some Done))) same
     ∙ ap (if_eq (operand_of s.env s.bindings bound a) (operand_of s.env s.bindings bound b)) (made (Some Done))
+
+-- a loop, within which a block stands
+pub loop_made : (manner : Manner) (s : Setting) (bound now : List ℕ) (item : BindingId) (body : Block) (ss : List CodeStmt) → now ≡ bound ++ item.0 ∷ [] → AreMadeAs ss (made_body manner s now body)
+    → loop_of (looped_local s item) item.0 (body_onto (map stmt ss) (Some Done)) ≡ made_control manner s bound (block.Loop item body)
+loop_made manner s bound now item body ss at_now made =
+    ap (loop_of (looped_local s item) item.0) (made (Some Done) ∙ ap (λ ls. made_body manner s ls body (Some Done)) at_now)
 
 -- there is an arm
 pub some_built : (s : Setting) (bound : List ℕ) (source : BindingId) (xs : List CodeArm) → AreBuilt s bound source (arms_of (map arm xs)) → 0 < length xs
@@ -153,11 +153,12 @@ one_arm manner s bound source (y ∷ []) x one item = ap (λ z. made_arms manner
 one_arm manner s bound source (y ∷ z ∷ xs) x one item = absurd (omega (arith, one))
 
 -- the statement of an arm
-pub arm_made : (manner : Manner) (s : Setting) (bound : List ℕ) (source : BindingId) (i : Option Body) (r : Option Stmt) (x : CodeArm) (seen : SeenArm)
-    → arm x ≡ seen → r ≡ arm_stmt s bound source seen.0 seen.1 i → i ≡ made_in_arm manner s (bound_within bound seen.1) seen.2
-    → r ≡ made_arms manner s bound source (arms_of (map arm (x ∷ [])))
-arm_made manner s bound source i r x seen seen_x is is_i =
-    is
+pub arm_made : (manner : Manner) (s : Setting) (bound now : List ℕ) (source : BindingId) (i : Option Body) (x : CodeArm) (seen : SeenArm)
+    → arm x ≡ seen → now ≡ bound → i ≡ made_in_arm manner s (bound_within bound seen.1) seen.2
+    → arm_stmt s now source (arm x).0 (arm x).1 i ≡ made_arms manner s bound source (arms_of (map arm (x ∷ [])))
+arm_made manner s bound now source i x seen seen_x at_now is_i =
+    ap (λ ls. arm_stmt s ls source (arm x).0 (arm x).1 i) at_now
+    ∙ ap (λ (k : SeenArm). arm_stmt s bound source k.0 k.1 i) seen_x
     ∙ ap (arm_stmt s bound source seen.0 seen.1) (is_i ∙ sym (arm_by manner s (bound_within bound seen.1) seen.2))
     ∙ ap (λ k. made_arms manner s bound source (arms_of (k ∷ []))) (sym seen_x)
 

@@ -17,3 +17,7 @@ AreMadeAs stmts body = (end : Option Body) → body_onto (map stmt stmts) end �
 -- what was pushed is before each end the body that is made of the end
 abbrev pub ArePushedAs : (old new : List CodeStmt) → (Option Body → Option Body) → Type 0
 ArePushedAs old new body = (end : Option Body) → body_onto (map stmt new) end ≡ body_onto (map stmt old) (body end)
+
+-- so of one statement
+abbrev pub PushesStmt : (old new : List CodeStmt) → Option Stmt → Type 0
+PushesStmt old new made = ArePushedAs old new (stmt_before made)

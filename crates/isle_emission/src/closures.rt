@@ -18,6 +18,7 @@ use std::alloc::{AllocError, Global};
 const THRESHOLD: usize = 256;
 
 /// Makes a closure of these statements if they have one, which stops the closure around it if inside one.
+#[inline(never)]
 pub fn closed_if(
     alloc: Global,
     own: bool,

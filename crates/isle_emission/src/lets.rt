@@ -201,6 +201,7 @@ impl Emitter<'_> {
     }
 
     /// Binds each of a step's bind order, and then what the step reads, after what is there.
+    #[inline(never)]
     pub fn push_lets(
         &self,
         bound: &mut Scope,

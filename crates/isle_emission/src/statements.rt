@@ -1,4 +1,5 @@
-//! The statements of a block.
+//! The statements of a block, made from the inside out. What holds a statement, a test or a pattern stands outside the
+//! cycle of `block_stmts` and is not inlined into it, so that a block within a block costs little stack.
 
 ghost use Rattle.std.specs.Prelude.{◌≡◌, ◌++◌, ◌∷◌, [], List as ListOf, ℕ, false, Some as Is};
 ghost use Rattle.std.specs.Prelude.{IsSome, map, IfOk, OnOk};
@@ -8,11 +9,11 @@ ghost use Rattle.isle_core.specs.BlockViews as BlockViews;
 ghost use Rattle.isle_core.specs.Calling as Calling;
 ghost use Rattle.isle_tree.specs.Program.{Done, NoArm};
 ghost use Rattle.isle_tree.specs.Views.{stmt};
-ghost use Rattle.isle_emission.specs.BodyOnto.{body_onto, AreMadeAs};
+ghost use Rattle.isle_emission.specs.BodyOnto.{body_onto, AreMadeAs, PushesStmt};
 ghost use Rattle.isle_emission.specs.Built.{HasOperand, IsBuilt, IsBuiltControl, IsBuiltArm, AreBuilt, IsBuiltStep};
-ghost use Rattle.isle_emission.specs.Built.{IsBuiltCase};
-ghost use Rattle.isle_emission.specs.Cases.{cases_onto, PushesCase};
-ghost use Rattle.isle_emission.specs.Emitter.{setting_in, manner_in};
+ghost use Rattle.isle_emission.specs.Built.{IsBuiltCase, IsTested, HasPattern, HasRead};
+ghost use Rattle.isle_emission.specs.Cases.{cases_onto, PushesCase, PushesArm};
+ghost use Rattle.isle_emission.specs.Emitter.{setting_in, manner_in, operand_in};
 ghost use Rattle.isle_emission.specs.MadeBodies.{body_for, arm_body_for, control_for, arm_for, arms_for, PushesStep};
 ghost use Rattle.isle_emission.specs.Views.{steps_block, match_arms};
 ghost use Rattle.isle_simulation.specs.Statements as Statements;
@@ -20,7 +21,9 @@ ghost use Rattle.isle_simulation.specs.Statements as Statements;
 use crate::closures::closed_if;
 use crate::emitter::Emitter;
 use crate::tests::{Test, test_within};
-use isle_core::{BindingId, Block, ControlFlow, EvalStep, List, MatchArm, OutOfMemory, ReturnKind};
+use isle_core::{
+    BindingId, Block, Constraint, ControlFlow, EvalStep, List, MatchArm, OutOfMemory, ReturnKind,
+};
 use isle_operands::{kind_of, looped_local};
 use isle_scope::Scope;
 use isle_tree::{Read, Stmt, TExpr, TPat};
@@ -94,6 +97,108 @@ impl Emitter<'_> {
         Ok(return_of(kind_of(&self.typed.context.term.kind), read))
     }
 
+    // Adds the return of a binding.
+    #[inline(never)]
+    fn push_return(
+        &self,
+        bound: &Scope,
+        returned: BindingId,
+        out: &mut Vec<Stmt>,
+    ) -> Result<(), AllocError>
+        requires { HasOperand (setting_in self.now) bound.now returned }
+        ensures { OnOk result (PushesStmt out.old.items out.new.items (Statements.return_of
+            (Calling.kind_of (setting_in self.now).term.kind)
+            (Statements.read_in (setting_in self.now) bound.now false returned))) }
+    {
+        let made = self.return_stmt(bound, returned)?;
+        out.push(made)?;
+        Ok(())
+    }
+
+    // Adds the test of two bindings, within which these statements stand.
+    #[inline(never)]
+    fn push_equal_test(
+        &self,
+        bound: &Scope,
+        of: (BindingId, BindingId),
+        inside: Vec<Stmt>,
+        out: &mut Vec<Stmt>,
+    ) -> Result<(), AllocError>
+        requires first { HasOperand (setting_in self.now) bound.now of.0 }
+        requires second { HasOperand (setting_in self.now) bound.now of.1 }
+        ensures { OnOk result (PushesStmt out.old.items out.new.items (Statements.if_eq
+            (operand_in self.now bound.now of.0) (operand_in self.now bound.now of.1)
+            (body_onto (map stmt inside.items) (Is Done)))) }
+    {
+        let first = self.operand(bound, of.0)?;
+        let second = self.operand(bound, of.1)?;
+        let made = test_within(Test::Equal(first, second), inside);
+        out.push(made)?;
+        Ok(())
+    }
+
+    // Adds the test of a binding against an arm's constraint, within which these statements stand.
+    #[inline(never)]
+    fn push_arm_test(
+        &self,
+        bound: &Scope,
+        source: BindingId,
+        arm: &MatchArm,
+        inside: Vec<Stmt>,
+        out: &mut Vec<Stmt>,
+    ) -> Result<(), AllocError>
+        requires { IsTested (setting_in self.now) bound.now source
+            (BlockViews.arm arm.now).0 (BlockViews.arm arm.now).1 }
+        ensures { OnOk result (PushesStmt out.old.items out.new.items (Statements.arm_stmt
+            (setting_in self.now) bound.now source
+            (BlockViews.arm arm.now).0 (BlockViews.arm arm.now).1
+            (body_onto (map stmt inside.items) (Is Done)))) }
+    {
+        let places = arm.bindings.as_slice();
+        let test = self.arm_test(bound, source, arm.constraint, places)?;
+        let made = test_within(test, inside);
+        out.push(made)?;
+        Ok(())
+    }
+
+    // Adds one of several arms, within which these statements stand.
+    #[inline(never)]
+    fn push_arm_case(
+        &self,
+        arm: &MatchArm,
+        inside: Vec<Stmt>,
+        out: &mut Vec<(TPat, List<Stmt>)>,
+    ) -> Result<(), AllocError>
+        requires { HasPattern (setting_in self.now)
+            (BlockViews.arm arm.now).0 (BlockViews.arm arm.now).1 }
+        ensures { OnOk result (PushesArm (setting_in self.now) (BlockViews.arm arm.now)
+            (body_onto (map stmt inside.items) (Is Done)) out.old.items out.new.items) }
+    {
+        let pat = self.arm_pattern(arm.constraint, arm.bindings.as_slice())?;
+        out.push((pat, List::new(inside)))?;
+        Ok(())
+    }
+
+    // Adds the match of these arms over a binding, the first of them of this constraint.
+    #[inline(never)]
+    fn push_match(
+        &self,
+        bound: &Scope,
+        of: (BindingId, Constraint),
+        cases: Vec<(TPat, List<Stmt>)>,
+        out: &mut Vec<Stmt>,
+    ) -> Result<(), AllocError>
+        requires { HasRead (setting_in self.now) bound.now of.0 of.1 }
+        ensures { OnOk result (PushesStmt out.old.items out.new.items (Statements.match_of
+            (Statements.match_read (setting_in self.now) bound.now of.0 of.1)
+            (cases_onto cases.items (Is NoArm)))) }
+    {
+        let read = self.match_read(bound, of.0, of.1)?;
+        let made = match_over(read, cases);
+        out.push(made)?;
+        Ok(())
+    }
+
     // Returns the local of the list whose item a binding is, as is required.
     fn list_of(&self, item: BindingId) -> usize
         requires { IsSome (Statements.looped_local (setting_in self.now) item) }
@@ -103,6 +208,24 @@ impl Emitter<'_> {
             Some(list) => list,
             None => unreachable!(),
         }
+    }
+
+    // Adds the loop over the list of an item, within which these statements stand.
+    #[inline(never)]
+    fn push_loop_over(
+        &self,
+        item: BindingId,
+        inside: Vec<Stmt>,
+        out: &mut Vec<Stmt>,
+    ) -> Result<(), AllocError>
+        requires { IsSome (Statements.looped_local (setting_in self.now) item) }
+        ensures { OnOk result (PushesStmt out.old.items out.new.items (Statements.loop_of
+            (Statements.looped_local (setting_in self.now) item) item.0
+            (body_onto (map stmt inside.items) (Is Done)))) }
+    {
+        let made = loop_within(self.list_of(item), item.index(), inside);
+        out.push(made)?;
+        Ok(())
     }
 
     /// Makes the statements of a block. What is bound is the same after them.
@@ -135,9 +258,8 @@ impl Emitter<'_> {
     {
         let binds = step.bind_order.as_slice();
         self.push_lets(bound, binds, &step.check, out)?;
-        let made = self.control_stmt(bound, &step.check)?;
         self.push_told(&step.check, out)?;
-        out.push(made)?;
+        self.push_control(bound, &step.check, out)?;
         self.push_stop(&step.check, out)?;
         Ok(())
     }
@@ -158,42 +280,49 @@ impl Emitter<'_> {
         Ok(out)
     }
 
-    // Makes the statement of what a step does.
+    // Adds the statement of what a step does.
     #[cycle(statements)]
     #[tactic(auto, using(isle_core::proofs::SeesBlocks::sees_blocks))]
-    fn control_stmt(&self, bound: &mut Scope, control: &ControlFlow) -> Result<Stmt, OutOfMemory>
+    fn push_control(
+        &self,
+        bound: &mut Scope,
+        control: &ControlFlow,
+        out: &mut Vec<Stmt>,
+    ) -> Result<(), OutOfMemory>
         requires { IsBuiltControl (setting_in self.now) bound.old (BlockViews.control control.now) }
-        ensures stmt { IfOk result (λ s. Is (stmt s) ≡
-            control_for self.now bound.old (BlockViews.control control.now)) }
+        ensures stmt { OnOk result (PushesStmt out.old.items out.new.items
+            (control_for self.now bound.old (BlockViews.control control.now))) }
         ensures bound { OnOk result (bound.new ≡ bound.old) }
     {
         match control {
-            ControlFlow::Match { source, arms } => self.arms_stmt(bound, *source, arms.as_slice()),
-            ControlFlow::Equal { a, b, body } => self.equal_stmt(bound, *a, *b, body),
-            ControlFlow::Loop { result, body } => self.loop_stmt(bound, *result, body),
-            ControlFlow::Return { result, .. } => Ok(self.return_stmt(bound, *result)?),
+            ControlFlow::Match { source, arms } => {
+                self.push_arms(bound, *source, arms.as_slice(), out)
+            }
+            ControlFlow::Equal { a, b, body } => self.push_equal(bound, *a, *b, body, out),
+            ControlFlow::Loop { result, body } => self.push_loop(bound, *result, body, out),
+            ControlFlow::Return { result, .. } => Ok(self.push_return(bound, *result, out)?),
         }
     }
 
-    // Makes the test of two bindings, within which a block stands.
+    // Adds the test of two bindings, within which a block stands.
     #[cycle(statements)]
-    fn equal_stmt(
+    fn push_equal(
         &self,
         bound: &mut Scope,
         a: BindingId,
         b: BindingId,
         body: &Block,
-    ) -> Result<Stmt, OutOfMemory>
+        out: &mut Vec<Stmt>,
+    ) -> Result<(), OutOfMemory>
         requires { IsBuiltControl (setting_in self.now) bound.old
             (Equal a b (BlockViews.block body.now)) }
-        ensures stmt { IfOk result (λ s. Is (stmt s) ≡
-            control_for self.now bound.old (Equal a b (BlockViews.block body.now))) }
+        ensures stmt { OnOk result (PushesStmt out.old.items out.new.items
+            (control_for self.now bound.old (Equal a b (BlockViews.block body.now)))) }
         ensures bound { OnOk result (bound.new ≡ bound.old) }
     {
         let inside = self.block_stmts(bound, body)?;
-        let first = self.operand(bound, a)?;
-        let second = self.operand(bound, b)?;
-        Ok(test_within(Test::Equal(first, second), inside))
+        self.push_equal_test(bound, (a, b), inside, out)?;
+        Ok(())
     }
 
     // Binds what the places before a block bind; that the block is built is said again of what is bound then.
@@ -213,25 +342,27 @@ impl Emitter<'_> {
         bind_places(bound, places)
     }
 
-    // Makes the loop over a list, within which a block stands and its item is bound.
+    // Adds the loop over a list, within which a block stands and its item is bound.
     #[cycle(statements)]
-    fn loop_stmt(
+    fn push_loop(
         &self,
         bound: &mut Scope,
         item: BindingId,
         body: &Block,
-    ) -> Result<Stmt, OutOfMemory>
+        out: &mut Vec<Stmt>,
+    ) -> Result<(), OutOfMemory>
         requires { IsBuiltControl (setting_in self.now) bound.old
             (Loop item (BlockViews.block body.now)) }
-        ensures stmt { IfOk result (λ s. Is (stmt s) ≡
-            control_for self.now bound.old (Loop item (BlockViews.block body.now))) }
+        ensures stmt { OnOk result (PushesStmt out.old.items out.new.items
+            (control_for self.now bound.old (Loop item (BlockViews.block body.now)))) }
         ensures bound { OnOk result (bound.new ≡ bound.old) }
     {
         let outer = bound.len();
         self.enter(bound, &[Some(item)], body)?;
         let inside = self.block_stmts(bound, body)?;
         bound.truncate(outer);
-        Ok(loop_within(self.list_of(item), item.index(), inside))
+        self.push_loop_over(item, inside, out)?;
+        Ok(())
     }
 
     // Makes the statements of an arm's body, in a closure of their own if they have one; its places are bound in it.
@@ -258,22 +389,24 @@ impl Emitter<'_> {
         Ok(closed_if(self.alloc, own, self.inside, stmts)?)
     }
 
-    // Makes the test of a binding against an arm's constraint, within which its block stands and its places are bound.
+    // Adds the test of a binding against an arm's constraint, within which its block stands and its places are bound.
     #[cycle(statements)]
-    fn arm_stmt(
+    fn push_arm(
         &self,
         bound: &mut Scope,
         source: BindingId,
         arm: &MatchArm,
-    ) -> Result<Stmt, OutOfMemory>
+        out: &mut Vec<Stmt>,
+    ) -> Result<(), OutOfMemory>
         requires { IsBuiltArm (setting_in self.now) bound.old source (BlockViews.arm arm.now) }
-        ensures stmt { IfOk result (λ s. Is (stmt s) ≡ arm_for self.now bound.old source arm.now) }
+        ensures stmt { OnOk result (PushesStmt out.old.items out.new.items
+            (arm_for self.now bound.old source arm.now)) }
         ensures bound { OnOk result (bound.new ≡ bound.old) }
     {
         let places = arm.bindings.as_slice();
-        let test = self.arm_test(bound, source, arm.constraint, places)?;
         let inside = self.arm_stmts(bound, &arm.body, places)?;
-        Ok(test_within(test, inside))
+        self.push_arm_test(bound, source, arm, inside, out)?;
+        Ok(())
     }
 
     // Adds one of several arms, within which its block stands and its places are bound.
@@ -290,33 +423,33 @@ impl Emitter<'_> {
         ensures bound { OnOk result (bound.new ≡ bound.old) }
     {
         let places = arm.bindings.as_slice();
-        let pat = self.arm_pattern(arm.constraint, places)?;
         let inside = self.arm_stmts(bound, &arm.body, places)?;
-        out.push((pat, List::new(inside)))?;
+        self.push_arm_case(arm, inside, out)?;
         Ok(())
     }
 
-    // Makes the test of a binding against the one arm's constraint, or the match of several arms.
+    // Adds the test of a binding against the one arm's constraint, or the match of several arms.
     #[cycle(statements)]
-    fn arms_stmt(
+    fn push_arms(
         &self,
         bound: &mut Scope,
         source: BindingId,
         arms: &[MatchArm],
-    ) -> Result<Stmt, OutOfMemory>
+        out: &mut Vec<Stmt>,
+    ) -> Result<(), OutOfMemory>
         requires { AreBuilt (setting_in self.now) bound.old source (match_arms arms.now) }
-        ensures stmt { IfOk result (λ s. Is (stmt s) ≡
-            arms_for self.now bound.old source (match_arms arms.now)) }
+        ensures stmt { OnOk result (PushesStmt out.old.items out.new.items
+            (arms_for self.now bound.old source (match_arms arms.now))) }
         ensures bound { OnOk result (bound.new ≡ bound.old) }
     {
         if arms.len() == 1 {
-            return self.arm_stmt(bound, source, &arms[0]);
+            return self.push_arm(bound, source, &arms[0], out);
         }
         let mut cases = Vec::new(self.alloc);
         for arm in arms {
             self.push_case(bound, arm, &mut cases)?;
         }
-        let read = self.match_read(bound, source, arms[0].constraint)?;
-        Ok(match_over(read, cases))
+        self.push_match(bound, (source, arms[0].constraint), cases, out)?;
+        Ok(())
     }
 }

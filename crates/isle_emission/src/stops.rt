@@ -37,6 +37,7 @@ impl Emitter<'_> {
 
     /// Adds the stop after a step: after a Return of a term that answers several times. The only error is want of
     /// memory.
+    #[inline(never)]
     #[tactic(auto, using(isle_core::proofs::SeesBlocks::sees_blocks))]
     pub fn push_stop(&self, control: &ControlFlow, out: &mut Vec<Stmt>) -> Result<(), AllocError>
         ensures { OnOk result (ArePushedAs out.old.items out.new.items

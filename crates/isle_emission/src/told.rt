@@ -35,6 +35,7 @@ impl Emitter<'_> {
 
     /// Adds what is told before a step: before a Return its line, where lines are asked for. The only error is want of
     /// memory.
+    #[inline(never)]
     #[tactic(auto, using(isle_core::proofs::SeesBlocks::sees_blocks))]
     pub fn push_told(&self, control: &ControlFlow, out: &mut Vec<Stmt>) -> Result<(), OutOfMemory>
         ensures { OnOk result (ArePushedAs out.old.items out.new.items

@@ -52,7 +52,7 @@ fn expr_of<'t>(word: &'t str) -> Option<AstExpr<'t>>
 
 // An expression of one word that is next.
 #[tactic(auto, using(isle_reading::proofs::Steps::next))]
-fn next_leaf<'t>(tokens: &Tokens<'_, 't>) -> Option<AstExpr<'t>>
+fn next_leaf<'t>(tokens: &Tokens<'t>) -> Option<AstExpr<'t>>
     ensures { option_map expr result ≡ next_word (λ w. expr_of w (kind w)) (left tokens.now) }
 {
     expr_of(tokens.word()?)
@@ -60,7 +60,7 @@ fn next_leaf<'t>(tokens: &Tokens<'_, 't>) -> Option<AstExpr<'t>>
 
 // An expression of one word.
 #[tactic(auto, using(isle_reading::proofs::Steps::words), unfolding(isle_grammar::specs::Reading::read_leaf))]
-fn leaf<'t>(tokens: &mut Tokens<'_, 't>) -> Result<AstExpr<'t>, Fail>
+fn leaf<'t>(tokens: &mut Tokens<'t>) -> Result<AstExpr<'t>, Fail>
     ensures { Reads expr result read_leaf (left tokens.old) (left tokens.new) }
 {
     match next_leaf(tokens) {
@@ -87,7 +87,7 @@ fn expr_head_of<'t>(word: &'t str) -> Option<ExprHead<'t>>
 
 // What an expression's list is, by the word that is next.
 #[tactic(auto, using(isle_reading::proofs::Steps::next))]
-fn next_expr_head<'t>(tokens: &Tokens<'_, 't>) -> Option<ExprHead<'t>>
+fn next_expr_head<'t>(tokens: &Tokens<'t>) -> Option<ExprHead<'t>>
     ensures { option_map expr_head_seen result ≡ next_word expr_head (left tokens.now) }
 {
     expr_head_of(tokens.word()?)
@@ -95,7 +95,7 @@ fn next_expr_head<'t>(tokens: &Tokens<'_, 't>) -> Option<ExprHead<'t>>
 
 // What an expression's list is.
 #[tactic(auto, using(isle_reading::proofs::Steps::words), unfolding(isle_grammar::specs::Reading::read_expr_head))]
-fn read_head<'t>(tokens: &mut Tokens<'_, 't>) -> Result<ExprHead<'t>, Fail>
+fn read_head<'t>(tokens: &mut Tokens<'t>) -> Result<ExprHead<'t>, Fail>
     ensures { Reads expr_head_seen result read_expr_head (left tokens.old) (left tokens.new) }
 {
     match next_expr_head(tokens) {
@@ -111,7 +111,7 @@ fn read_head<'t>(tokens: &mut Tokens<'_, 't>) -> Result<ExprHead<'t>, Fail>
 #[cycle(expressions)]
 #[tactic(auto, using(crate::proofs::ExpressionSteps::expr_steps))]
 pub fn expression<'t>(
-    tokens: &mut Tokens<'_, 't>,
+    tokens: &mut Tokens<'t>,
     alloc: Global,
     most: usize,
     depth: usize,
@@ -133,7 +133,7 @@ pub fn expression<'t>(
 #[cycle(expressions)]
 #[tactic(auto, using(isle_reading::proofs::Steps::chain, isle_ast::proofs::Sees::expr_sees), unfolding(isle_grammar::specs::Reading::read_form_list))]
 fn list<'t>(
-    tokens: &mut Tokens<'_, 't>,
+    tokens: &mut Tokens<'t>,
     alloc: Global,
     most: usize,
     depth: usize,
@@ -155,7 +155,7 @@ fn list<'t>(
 #[cycle(expressions)]
 #[tactic(auto, using(crate::proofs::ExpressionSteps::lists))]
 fn arguments<'t>(
-    tokens: &mut Tokens<'_, 't>,
+    tokens: &mut Tokens<'t>,
     alloc: Global,
     most: usize,
     depth: usize,
@@ -180,7 +180,7 @@ fn arguments<'t>(
 #[cycle(expressions)]
 #[tactic(auto, using(isle_reading::proofs::Steps::chain, isle_ast::proofs::Sees::expr_sees), unfolding(isle_grammar::specs::Reading::read_let))]
 fn let_in<'t>(
-    tokens: &mut Tokens<'_, 't>,
+    tokens: &mut Tokens<'t>,
     alloc: Global,
     most: usize,
     depth: usize,
@@ -194,7 +194,7 @@ fn let_in<'t>(
 }
 
 // The failure if a parenthesis is wanted, and none more may be open.
-fn too_deep(tokens: &mut Tokens<'_, '_>) -> Fail
+fn too_deep(tokens: &mut Tokens<'_>) -> Fail
     ensures { result ≡ At (length (left tokens.old)) }
 {
     match tokens.opens() {
@@ -207,7 +207,7 @@ fn too_deep(tokens: &mut Tokens<'_, '_>) -> Fail
 #[cycle(expressions)]
 #[tactic(auto, using(crate::proofs::ExpressionSteps::binding_steps))]
 fn bindings<'t>(
-    tokens: &mut Tokens<'_, 't>,
+    tokens: &mut Tokens<'t>,
     alloc: Global,
     most: usize,
     depth: usize,
@@ -226,7 +226,7 @@ fn bindings<'t>(
 #[cycle(expressions)]
 #[tactic(auto, using(crate::proofs::ExpressionSteps::binding_lists))]
 fn binding_list<'t>(
-    tokens: &mut Tokens<'_, 't>,
+    tokens: &mut Tokens<'t>,
     alloc: Global,
     most: usize,
     depth: usize,
@@ -251,7 +251,7 @@ fn binding_list<'t>(
 #[cycle(expressions)]
 #[tactic(auto, using(crate::proofs::ExpressionSteps::binding_steps))]
 fn binding<'t>(
-    tokens: &mut Tokens<'_, 't>,
+    tokens: &mut Tokens<'t>,
     alloc: Global,
     most: usize,
     depth: usize,

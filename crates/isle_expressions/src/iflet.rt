@@ -49,7 +49,7 @@ fn if_head_of(word: &str) -> Option<IfHead>
 
 // What a condition is, by the word that is next.
 #[tactic(auto, using(isle_reading::proofs::Steps::next))]
-fn next_if_head(tokens: &Tokens<'_, '_>) -> Option<IfHead>
+fn next_if_head(tokens: &Tokens<'_>) -> Option<IfHead>
     ensures { option_map if_head_seen result ≡ next_word if_head (left tokens.now) }
 {
     if_head_of(tokens.word()?)
@@ -57,7 +57,7 @@ fn next_if_head(tokens: &Tokens<'_, '_>) -> Option<IfHead>
 
 // What a condition is.
 #[tactic(auto, using(isle_reading::proofs::Steps::words), unfolding(isle_grammar::specs::Reading::read_if_head))]
-fn read_head(tokens: &mut Tokens<'_, '_>) -> Result<IfHead, Fail>
+fn read_head(tokens: &mut Tokens<'_>) -> Result<IfHead, Fail>
     ensures { Reads if_head_seen result read_if_head (left tokens.old) (left tokens.new) }
 {
     match next_if_head(tokens) {
@@ -72,7 +72,7 @@ fn read_head(tokens: &mut Tokens<'_, '_>) -> Result<IfHead, Fail>
 // What stands after the first word of a condition.
 #[tactic(auto, using(isle_reading::proofs::Steps::chain, isle_ast::proofs::Sees::pattern_sees))]
 fn if_behind<'t>(
-    tokens: &mut Tokens<'_, 't>,
+    tokens: &mut Tokens<'t>,
     alloc: Global,
     most: usize,
     depth: usize,
@@ -102,7 +102,7 @@ fn if_behind<'t>(
 // A condition, inside whose parenthesis `depth` more may be open.
 #[tactic(auto, using(isle_reading::proofs::Steps::chain), unfolding(isle_grammar::specs::Reading::read_iflet))]
 fn condition<'t>(
-    tokens: &mut Tokens<'_, 't>,
+    tokens: &mut Tokens<'t>,
     alloc: Global,
     most: usize,
     depth: usize,
@@ -115,11 +115,7 @@ fn condition<'t>(
 }
 
 // A rule's right side.
-fn right_side<'t>(
-    tokens: &mut Tokens<'_, 't>,
-    alloc: Global,
-    most: usize,
-) -> Result<AstExpr<'t>, Fail>
+fn right_side<'t>(tokens: &mut Tokens<'t>, alloc: Global, most: usize) -> Result<AstExpr<'t>, Fail>
     ensures { Reads expr result (read_expr most (most_open - 1)) (left tokens.old)
         (left tokens.new) }
 {
@@ -128,7 +124,7 @@ fn right_side<'t>(
 
 // A condition of a rule.
 fn rule_condition<'t>(
-    tokens: &mut Tokens<'_, 't>,
+    tokens: &mut Tokens<'t>,
     alloc: Global,
     most: usize,
 ) -> Result<AstIfLet<'t>, Fail>
@@ -140,7 +136,7 @@ fn rule_condition<'t>(
 
 // A form that is a rule's right side, a condition, or may be either: both are read over the same tokens.
 #[tactic(auto, using(crate::proofs::FormSteps::forms))]
-fn rule_form<'t>(tokens: &mut Tokens<'_, 't>, alloc: Global, most: usize) -> Result<Form<'t>, Fail>
+fn rule_form<'t>(tokens: &mut Tokens<'t>, alloc: Global, most: usize) -> Result<Form<'t>, Fail>
     requires { length (left tokens.old) ≤ most }
     ensures { Reads form_seen result (read_form most) (left tokens.old) (left tokens.new) }
 {
@@ -171,7 +167,7 @@ fn rule_form<'t>(tokens: &mut Tokens<'_, 't>, alloc: Global, most: usize) -> Res
 
 // What a form is: a rule's right side, whose parenthesis is taken, or a condition.
 #[tactic(auto, using(crate::proofs::TailSteps::step_steps))]
-fn settled<'t>(tokens: &mut Tokens<'_, 't>, form: Form<'t>) -> Result<Step<'t>, Fail>
+fn settled<'t>(tokens: &mut Tokens<'t>, form: Form<'t>) -> Result<Step<'t>, Fail>
     ensures { Reads step_seen result (settled (form_seen form.entry)) (left tokens.old)
         (left tokens.new) }
 {
@@ -198,7 +194,7 @@ fn settled<'t>(tokens: &mut Tokens<'_, 't>, form: Form<'t>) -> Result<Step<'t>, 
 
 // A condition, or a rule's right side and the parenthesis after it.
 #[tactic(auto, using(isle_reading::proofs::Steps::chain), unfolding(isle_grammar::specs::Reading::read_step))]
-fn next_step<'t>(tokens: &mut Tokens<'_, 't>, alloc: Global, most: usize) -> Result<Step<'t>, Fail>
+fn next_step<'t>(tokens: &mut Tokens<'t>, alloc: Global, most: usize) -> Result<Step<'t>, Fail>
     requires { length (left tokens.old) ≤ most }
     ensures { Reads step_seen result (read_step most) (left tokens.old) (left tokens.new) }
 {
@@ -210,7 +206,7 @@ fn next_step<'t>(tokens: &mut Tokens<'_, 't>, alloc: Global, most: usize) -> Res
 /// tokens.
 #[tactic(auto, using(crate::proofs::TailSteps::tails))]
 pub fn tail<'t>(
-    tokens: &mut Tokens<'_, 't>,
+    tokens: &mut Tokens<'t>,
     alloc: Global,
     most: usize,
 ) -> Result<(Vec<AstIfLet<'t>>, AstExpr<'t>), Fail>

@@ -58,7 +58,7 @@ fn first_of<'t>(word: &'t str) -> Option<First<'t>>
 
 // What begins a pattern and is next.
 #[tactic(auto, using(isle_reading::proofs::Steps::next))]
-fn next_first<'t>(tokens: &Tokens<'_, 't>) -> Option<First<'t>>
+fn next_first<'t>(tokens: &Tokens<'t>) -> Option<First<'t>>
     ensures { option_map first_seen result
         ≡ next_word (λ w. first_of w (kind w)) (left tokens.now) }
 {
@@ -67,7 +67,7 @@ fn next_first<'t>(tokens: &Tokens<'_, 't>) -> Option<First<'t>>
 
 // A pattern's first word.
 #[tactic(auto, using(isle_reading::proofs::Steps::words), unfolding(isle_grammar::specs::Reading::read_first))]
-fn first_word<'t>(tokens: &mut Tokens<'_, 't>) -> Result<First<'t>, Fail>
+fn first_word<'t>(tokens: &mut Tokens<'t>) -> Result<First<'t>, Fail>
     ensures { Reads first_seen result read_first (left tokens.old) (left tokens.new) }
 {
     match next_first(tokens) {
@@ -106,7 +106,7 @@ fn pattern_head_of<'t>(word: &'t str) -> Option<PatternHead<'t>>
 
 // What a pattern's list is, by the word that is next.
 #[tactic(auto, using(isle_reading::proofs::Steps::next))]
-fn next_pattern_head<'t>(tokens: &Tokens<'_, 't>) -> Option<PatternHead<'t>>
+fn next_pattern_head<'t>(tokens: &Tokens<'t>) -> Option<PatternHead<'t>>
     ensures { option_map pattern_head_seen result ≡ next_word pattern_head (left tokens.now) }
 {
     pattern_head_of(tokens.word()?)
@@ -114,7 +114,7 @@ fn next_pattern_head<'t>(tokens: &Tokens<'_, 't>) -> Option<PatternHead<'t>>
 
 // What a pattern's list is.
 #[tactic(auto, using(isle_reading::proofs::Steps::words), unfolding(isle_grammar::specs::Reading::read_pattern_head))]
-fn read_head<'t>(tokens: &mut Tokens<'_, 't>) -> Result<PatternHead<'t>, Fail>
+fn read_head<'t>(tokens: &mut Tokens<'t>) -> Result<PatternHead<'t>, Fail>
     ensures { Reads pattern_head_seen result read_pattern_head (left tokens.old) (left tokens.new) }
 {
     match next_pattern_head(tokens) {
@@ -142,7 +142,7 @@ fn listed<'t>(head: PatternHead<'t>, args: Vec<AstPattern<'t>>) -> AstPattern<'t
 #[cycle(patterns)]
 #[tactic(auto, using(crate::proofs::PatternSteps::pattern_steps))]
 pub fn pattern<'t>(
-    tokens: &mut Tokens<'_, 't>,
+    tokens: &mut Tokens<'t>,
     alloc: Global,
     most: usize,
     depth: usize,
@@ -164,7 +164,7 @@ pub fn pattern<'t>(
 #[cycle(patterns)]
 #[tactic(auto, using(isle_reading::proofs::Steps::chain), unfolding(isle_grammar::specs::Reading::read_worded))]
 fn worded<'t>(
-    tokens: &mut Tokens<'_, 't>,
+    tokens: &mut Tokens<'t>,
     alloc: Global,
     most: usize,
     depth: usize,
@@ -182,7 +182,7 @@ fn worded<'t>(
 #[cycle(patterns)]
 #[tactic(auto, using(crate::proofs::PatternSteps::symbol_steps, isle_ast::proofs::Sees::pattern_sees))]
 fn symbol<'t>(
-    tokens: &mut Tokens<'_, 't>,
+    tokens: &mut Tokens<'t>,
     alloc: Global,
     most: usize,
     depth: usize,
@@ -211,7 +211,7 @@ fn symbol<'t>(
 #[cycle(patterns)]
 #[tactic(auto, using(isle_reading::proofs::Steps::chain), unfolding(isle_grammar::specs::Reading::read_listed))]
 fn list<'t>(
-    tokens: &mut Tokens<'_, 't>,
+    tokens: &mut Tokens<'t>,
     alloc: Global,
     most: usize,
     depth: usize,
@@ -229,7 +229,7 @@ fn list<'t>(
 #[cycle(patterns)]
 #[tactic(auto, using(crate::proofs::PatternSteps::lists))]
 fn patterns<'t>(
-    tokens: &mut Tokens<'_, 't>,
+    tokens: &mut Tokens<'t>,
     alloc: Global,
     most: usize,
     depth: usize,
@@ -261,7 +261,7 @@ pub fn inside_list() -> usize
 /// Reads a pattern inside a definition's parenthesis, its lists of at most `most` tokens.
 #[tactic(auto, unfolding(isle_grammar::specs::Reading::read_template))]
 pub fn template<'t>(
-    tokens: &mut Tokens<'_, 't>,
+    tokens: &mut Tokens<'t>,
     alloc: Global,
     most: usize,
 ) -> Result<AstPattern<'t>, Fail>
@@ -273,7 +273,7 @@ pub fn template<'t>(
 /// Reads the patterns of a rule's head up to the closing parenthesis, which is taken, of at most `most` tokens.
 #[tactic(auto, unfolding(isle_grammar::specs::Reading::read_argument))]
 pub fn arguments<'t>(
-    tokens: &mut Tokens<'_, 't>,
+    tokens: &mut Tokens<'t>,
     alloc: Global,
     most: usize,
 ) -> Result<Vec<AstPattern<'t>>, Fail>

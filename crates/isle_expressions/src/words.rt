@@ -11,7 +11,7 @@ use isle_reading::{Expected, Fail, Tokens};
 
 /// Reads the name of a rule, or none.
 #[tactic(auto, using(crate::proofs::WordSteps::rule_names), unfolding(isle_grammar::specs::Reading::read_rule_name))]
-pub fn rule_name<'t>(tokens: &mut Tokens<'_, 't>) -> Result<Option<Name<'t>>, Fail>
+pub fn rule_name<'t>(tokens: &mut Tokens<'t>) -> Result<Option<Name<'t>>, Fail>
     ensures { Reads (λ name. name) result read_rule_name (left tokens.old) (left tokens.new) }
 {
     if tokens.len() == 0 {
@@ -38,7 +38,7 @@ fn prio_of(word: &str) -> Option<i64>
 
 // A priority that is next.
 #[tactic(auto, using(isle_reading::proofs::Steps::next))]
-fn next_prio(tokens: &Tokens<'_, '_>) -> Option<i64>
+fn next_prio(tokens: &Tokens<'_>) -> Option<i64>
     ensures { result ≡ next_word (λ w. prio_of (kind w)) (left tokens.now) }
 {
     prio_of(tokens.word()?)
@@ -46,7 +46,7 @@ fn next_prio(tokens: &Tokens<'_, '_>) -> Option<i64>
 
 /// Reads a priority, or 0.
 #[tactic(auto, using(isle_reading::proofs::Steps::optionals), unfolding(isle_grammar::specs::Reading::read_prio))]
-pub fn prio(tokens: &mut Tokens<'_, '_>) -> Result<i64, Fail>
+pub fn prio(tokens: &mut Tokens<'_>) -> Result<i64, Fail>
     ensures { Reads (λ prio. prio) result read_prio (left tokens.old) (left tokens.new) }
 {
     if tokens.len() == 0 {
@@ -63,7 +63,7 @@ pub fn prio(tokens: &mut Tokens<'_, '_>) -> Result<i64, Fail>
 
 // A name that is next and no flag.
 #[tactic(auto, using(isle_reading::proofs::Steps::next))]
-fn next_decl_name<'t>(tokens: &Tokens<'_, 't>) -> Option<&'t str>
+fn next_decl_name<'t>(tokens: &Tokens<'t>) -> Option<&'t str>
     ensures { option_map (λ word. word.now) result ≡ next_word decl_name_of (left tokens.now) }
 {
     let word = tokens.word()?;
@@ -75,7 +75,7 @@ fn next_decl_name<'t>(tokens: &Tokens<'_, 't>) -> Option<&'t str>
 
 /// Reads a name that is no flag.
 #[tactic(auto, using(isle_reading::proofs::Steps::words), unfolding(isle_grammar::specs::Reading::read_decl_name))]
-pub fn decl_name<'t>(tokens: &mut Tokens<'_, 't>) -> Result<Name<'t>, Fail>
+pub fn decl_name<'t>(tokens: &mut Tokens<'t>) -> Result<Name<'t>, Fail>
     ensures { Reads (λ name. name) result read_decl_name (left tokens.old) (left tokens.new) }
 {
     match next_decl_name(tokens) {
@@ -96,7 +96,7 @@ pub fn constant_of(word: &str) -> Option<&str>
 
 // The name of a constant that is next.
 #[tactic(auto, using(isle_reading::proofs::Steps::next))]
-fn next_constant<'t>(tokens: &Tokens<'_, 't>) -> Option<&'t str>
+fn next_constant<'t>(tokens: &Tokens<'t>) -> Option<&'t str>
     ensures { option_map (λ name. name.now) result
         ≡ next_word (λ w. constant_of (kind w)) (left tokens.now) }
 {
@@ -105,7 +105,7 @@ fn next_constant<'t>(tokens: &Tokens<'_, 't>) -> Option<&'t str>
 
 /// Reads a `$` and the name of a constant.
 #[tactic(auto, using(isle_reading::proofs::Steps::words), unfolding(isle_grammar::specs::Reading::read_constant))]
-pub fn constant<'t>(tokens: &mut Tokens<'_, 't>) -> Result<Name<'t>, Fail>
+pub fn constant<'t>(tokens: &mut Tokens<'t>) -> Result<Name<'t>, Fail>
     ensures { Reads (λ name. name) result read_constant (left tokens.old) (left tokens.new) }
 {
     match next_constant(tokens) {

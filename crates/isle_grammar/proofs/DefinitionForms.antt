@@ -13,7 +13,7 @@ use Rattle.isle_reading.proofs.TokenLaws.{OpenS, CloseS, WordS, Gives, NoWord, l
 use Rattle.isle_reading.proofs.ListLaws.{law_many}
 use Rattle.isle_reading.proofs.NameLaws.{law_name, name_heads}
 use Rattle.isle_reading.proofs.States.{Inside, inside_open, inside_close, inside_word, InPassed, passed_behind}
-use Rattle.isle_ast.specs.Tree.{Pattern, Expr, Any, IfLet, Def}
+use Rattle.isle_ast.specs.Tree.{Pattern, Expr, IfLet, Def}
 use Rattle.isle_ast.specs.Tree as tree
 use Rattle.isle_ast.specs.declared.tree.AstBody.{AstBody}
 use Rattle.isle_grammar.specs.Grammar.{PatternS, TailS, BodyS, AnyS, RuleNameS, PrioS, unwritten, written, Flags, no_flags, with_flag, Marks, no_marks, with_mark}
@@ -222,8 +222,8 @@ law_rule n file at =
 -- ---- lists that are passed over
 
 abbrev pub PassedForm : ℕ → ℕ → List ℕ → Def → List Lexeme → List Lexeme → Type 0
-PassedForm file at head = Then (Many AnyS) (λ items. Nothing (tree.Passed head items (record { file = file; offset = at })))
+PassedForm file at head = Then (Many AnyS) (λ items. Nothing (tree.Passed head (record { file = file; offset = at })))
 
 pub law_passed : (n file at : ℕ) (head : List ℕ) → Law (InPassed 1) (λ d. Inside []) Anything n (PassedForm file at head) (read_passed n file at head)
 unfolding read_passed
-law_passed n file at head = law_next _ _ (law_anys n) (λ items. law_ret (tree.Passed head items (record { file = file; offset = at })) passed_behind)
+law_passed n file at head = law_next _ _ (law_anys n) (λ items. law_ret (tree.Passed head (record { file = file; offset = at })) passed_behind)

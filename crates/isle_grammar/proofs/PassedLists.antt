@@ -10,9 +10,8 @@ use Rattle.isle_reading.proofs.Law.{Law, Heads, Nothing, Then, Either, law_map, 
 use Rattle.isle_reading.proofs.TokenLaws.{OpenS, Token_then, Given, law_given, law_ret, law_ask, law_open, law_peek, law_barred}
 use Rattle.isle_reading.proofs.ListLaws.{law_many}
 use Rattle.isle_reading.proofs.States.{InPassed, passed_open, passed_close, passed_token, passed_over_more}
-use Rattle.isle_ast.specs.Tree.{Any, Anys, AnAny}
-use Rattle.isle_ast.specs.Tree as tree
-use Rattle.isle_ast.specs.Views.{anys_of}
+use Rattle.isle_grammar.specs.PassedOver.{Any, Anys, AnAny, anys_of}
+use Rattle.isle_grammar.specs.PassedOver as passed_over
 use Rattle.isle_grammar.specs.Grammar.{any_of, AnyS, token, nested, AnysS, no_any, an_any}
 use Rattle.isle_grammar.specs.Reading.{read_token, read_any}
 
@@ -40,12 +39,12 @@ no_close (Word at w) h = refl
 law_token : (n k : ℕ) → suc k ≤ most_open → Law (InPassed (suc k)) (λ a. InPassed (suc k)) Anything n TokenS read_token
 unfolding read_token
 law_token n k l = law_ask (λ t. InPassed (suc k)) (λ t. Given (any_of t)) (λ t. is_some (any_of t)) (λ t. given (any_of t)) (λ t is. passed_token k l t (no_open t is) (no_close t is))
-    (λ t is. law_states {n = n} n (omega arith) (λ q p a e. p) (λ a q e. e) (law_given {E = λ a. InPassed (suc k)} (any_of t) is)) (Less 0 ∷ [], tree.Less, λ tail c. (Less 0, tail, refl, refl, (refl, refl)))
+    (λ t is. law_states {n = n} n (omega arith) (λ q p a e. p) (λ a q e. e) (law_given {E = λ a. InPassed (suc k)} (any_of t) is)) (Less 0 ∷ [], passed_over.Less, λ tail c. (Less 0, tail, refl, refl, (refl, refl)))
 
 -- ---- ( any* )
 
 abbrev NestedS : Any → List Lexeme → List Lexeme → Type 0
-NestedS = Then OpenS (λ o. Then (Many AnyS) (λ items. Nothing (tree.Nested (anys_of items))))
+NestedS = Then OpenS (λ o. Then (Many AnyS) (λ items. Nothing (passed_over.Nested (anys_of items))))
 
 anys_to : (items : List Any) (ts rest : List Lexeme) → Many AnyS items ts rest → AnysS (anys_of items) ts rest
 anys_to _ _ _ (none at ts) = no_any at ts
@@ -57,12 +56,12 @@ anys_from _ _ _ (an_any a others ts mid rest s m) = let x = anys_from others mid
 
 any_to : (a : Any) (ts rest : List Lexeme) → Either NestedS TokenS a ts rest → AnyS a ts rest
 any_to a ts rest (inl (o, us, eo, (items, mid, m, (p, q)))) =
-    subst (λ z. AnyS z ts rest) (sym p) (subst (λ z. AnyS (tree.Nested (anys_of items)) z rest) (sym eo) (nested o (anys_of items) us rest (anys_to items us rest (subst (Many AnyS items us) q m))))
+    subst (λ z. AnyS z ts rest) (sym p) (subst (λ z. AnyS (passed_over.Nested (anys_of items)) z rest) (sym eo) (nested o (anys_of items) us rest (anys_to items us rest (subst (Many AnyS items us) q m))))
 any_to a ts rest (inr (t, us, e, is, (h, q))) = subst (λ z. AnyS a z rest) (sym (e ∙ ap (λ z. t ∷ z) q)) (token t a rest h)
 
 any_from : (a : Any) (ts rest : List Lexeme) → AnyS a ts rest → Either NestedS TokenS a ts rest
 any_from _ _ _ (token t a ts h) = inr (t, ts, refl, ap is_some h, (h, refl))
-any_from _ _ _ (nested at items ts rest m) = let x = anys_from items ts rest m in inl (at, ts, refl, (x.0, rest, x.2, (ap (λ z. tree.Nested z) (sym x.1), refl)))
+any_from _ _ _ (nested at items ts rest m) = let x = anys_from items ts rest m in inl (at, ts, refl, (x.0, rest, x.2, (ap (λ z. passed_over.Nested z) (sym x.1), refl)))
 
 pub any_heads : (a : Any) (ts rest : List Lexeme) → AnyS a ts rest → Heads is_close false ts
 any_heads _ _ _ (token t a ts h) = (t, ts, refl, no_close t (ap is_some h))
@@ -74,9 +73,9 @@ law_any n zero k e = law_map any_to any_from (law_barred is_open _ (λ a ts rest
 law_any n (suc d) k e = law_map any_to any_from (law_peek is_open _ _ (λ a ts rest s c. (Open s.0, s.1, s.2, refl)) (λ a ts rest s c. (s.0, s.1, s.2, no_open s.0 s.3)) (inner (law_any n d (suc k) (omega (arith, e)))) (law_token n k (omega (arith, e))))
   where
     inner : Law (InPassed (suc (suc k))) (λ a. InPassed (suc (suc k))) Anything n AnyS (read_any n d)
-        → Law (InPassed (suc k)) (λ a. InPassed (suc k)) Anything n NestedS (bind read_open (λ o. bind (many n (read_any n d)) (λ items. Ret (tree.Nested (anys_of items)))))
+        → Law (InPassed (suc k)) (λ a. InPassed (suc k)) Anything n NestedS (bind read_open (λ o. bind (many n (read_any n d)) (λ items. Ret (passed_over.Nested (anys_of items)))))
     inner ih = law_next _ _ (law_open (passed_open k (omega (arith, e)))) (λ o.
-        law_next _ _ (law_many {C = Anything} (InPassed (suc k)) n AnyS (read_any n d) ih (λ a ts rest s. tt) (λ at ts. tt) any_heads (passed_close (suc k) (omega (arith, e))) n (omega arith)) (λ items. law_ret (tree.Nested (anys_of items)) (λ q p. p)))
+        law_next _ _ (law_many {C = Anything} (InPassed (suc k)) n AnyS (read_any n d) ih (λ a ts rest s. tt) (λ at ts. tt) any_heads (passed_close (suc k) (omega (arith, e))) n (omega arith)) (λ items. law_ret (passed_over.Nested (anys_of items)) (λ q p. p)))
 
 most_passed : 1 + (most_open - 1) ≡ most_open
 unfolding most_open

@@ -7,7 +7,9 @@ use Rattle.isle_lexer.specs.Word as word
 use Rattle.isle_reading.specs.Names.{NameS, name_of}
 use Rattle.isle_reading.specs.Nesting.{is_passed}
 use Rattle.isle_reading.specs.Relations.{Many, WordsFrom}
-use Rattle.isle_ast.specs.Tree.{Pattern, Patterns, NoPattern, APattern, Expr, Exprs, NoExpr, AnExpr, Lets, NoLet, ALet, Any, Anys, NoAny, AnAny, IfLet, Def}
+use Rattle.isle_grammar.specs.PassedOver.{Any, Anys, NoAny, AnAny}
+use Rattle.isle_grammar.specs.PassedOver as passed_over
+use Rattle.isle_ast.specs.Tree.{Pattern, Patterns, NoPattern, APattern, Expr, Exprs, NoExpr, AnExpr, Lets, NoLet, ALet, IfLet, Def}
 use Rattle.isle_ast.specs.Tree as tree
 use Rattle.isle_ast.specs.declared.tree.AstBody.{AstBody}
 use Rattle.isle_ast.specs.declared.tree.AstBody.TheVariants as body
@@ -158,16 +160,16 @@ pub data BodyS : AstBody → List Lexeme → List Lexeme → Type 0 where
 abbrev pub any_of : Lexeme → Option Any
 any_of (Open at) = None
 any_of (Close at) = None
-any_of (At at) = Some tree.At
-any_of (Less at) = Some tree.Less
-any_of (Greater at) = Some tree.Greater
-any_of (Word at w) = Some (tree.Word w)
+any_of (At at) = Some passed_over.At
+any_of (Less at) = Some passed_over.Less
+any_of (Greater at) = Some passed_over.Greater
+any_of (Word at w) = Some (passed_over.Word w)
 
 mutual
   -- a word of any kind, @, <, > or ( any* )
   pub data AnyS : Any → List Lexeme → List Lexeme → Type 0 where
     token : (t : Lexeme) (a : Any) (ts : List Lexeme) → any_of t ≡ Some a → AnyS a (t ∷ ts) ts
-    nested : (at : ℕ) (items : Anys) (ts rest : List Lexeme) → AnysS items ts rest → AnyS (tree.Nested items) (Open at ∷ ts) rest
+    nested : (at : ℕ) (items : Anys) (ts rest : List Lexeme) → AnysS items ts rest → AnyS (passed_over.Nested items) (Open at ∷ ts) rest
 
   -- any*, and the parenthesis after them
   pub data AnysS : Anys → List Lexeme → List Lexeme → Type 0 where
@@ -262,7 +264,7 @@ pub data DefS (file : ℕ) : Def → List Lexeme → List Lexeme → Type 0 wher
       → DefS file (tree.Rule name prio term args iflets rhs (record { file = file; offset = at })) (Open at ∷ Word h head ∷ ts) rest
   -- ( phead any* )
   passed : (at h : ℕ) (head : List ℕ) (items : List Any) (ts rest : List Lexeme) → is_passed head ≡ true → Many AnyS items ts rest
-      → DefS file (tree.Passed head items (record { file = file; offset = at })) (Open at ∷ Word h head ∷ ts) rest
+      → DefS file (tree.Passed head (record { file = file; offset = at })) (Open at ∷ Word h head ∷ ts) rest
 
 -- a file: definitions, one after the other
 pub data FileS (file : ℕ) : List Lexeme → List Def → Type 0 where

@@ -6,9 +6,11 @@ use Rattle.isle_reading.specs.Reader.{Reader, Ret, Ask, Peek, End, Halt, bind}
 use Rattle.isle_reading.specs.Combinators.{is_open, is_close, is_at, refuse, given, read_open, read_close, read_at, read_word, read_optional, words_from, many, some, all, Both, OnlyFirst, OnlySecond, BothGot, both}
 use Rattle.isle_reading.specs.Names.{name_of, read_name}
 use Rattle.isle_reading.specs.Nesting.{most_open, is_passed}
-use Rattle.isle_ast.specs.Tree.{Pattern, Expr, Any, IfLet, Def}
+use Rattle.isle_grammar.specs.PassedOver.{Any, anys_of}
+use Rattle.isle_grammar.specs.PassedOver as passed_over
+use Rattle.isle_ast.specs.Tree.{Pattern, Expr, IfLet, Def}
 use Rattle.isle_ast.specs.Tree as tree
-use Rattle.isle_ast.specs.Views.{patterns_of, exprs_of, SeenBinding, lets_of, anys_of}
+use Rattle.isle_ast.specs.Views.{patterns_of, exprs_of, SeenBinding, lets_of}
 use Rattle.isle_ast.specs.declared.tree.AstBody.{AstBody}
 use Rattle.isle_ast.specs.declared.tree.AstBody.TheVariants as body
 use Rattle.isle_ast.specs.declared.tree.AstFields.{AstFields}
@@ -205,7 +207,7 @@ next_any (t ∷ ts) = any_of t
 -- a thing inside which d more parentheses may be open
 unfoldable pub read_any : ℕ → ℕ → Reader Any
 read_any n zero = Peek is_open Halt read_token
-read_any n (suc d) = Peek is_open (bind read_open (λ o. bind (many n (read_any n d)) (λ items. Ret (tree.Nested (anys_of items))))) read_token
+read_any n (suc d) = Peek is_open (bind read_open (λ o. bind (many n (read_any n d)) (λ items. Ret (passed_over.Nested (anys_of items))))) read_token
 
 -- ---- words of definitions
 
@@ -346,7 +348,7 @@ read_rule n file at = bind read_rule_name (λ name. bind read_prio (λ prio. bin
 
 -- after the first word of a list that is passed over
 unfoldable pub read_passed : ℕ → ℕ → ℕ → List ℕ → Reader Def
-read_passed n file at head = bind (many n (read_any n (most_open - 1))) (λ items. Ret (tree.Passed head items (record { file = file; offset = at })))
+read_passed n file at head = bind (many n (read_any n (most_open - 1))) (λ items. Ret (tree.Passed head (record { file = file; offset = at })))
 
 -- ---- definitions
 

@@ -5,8 +5,9 @@ use Rattle.std.specs.Str.{IsUtf8}
 use Rattle.std.proofs.lemmas.Str.{IsCharBoundary-start, IsCharBoundary-end, IsCharBoundary-before_ascii, IsCharBoundary-after_ascii}
 use Rattle.std.proofs.lemmas.List.{take_all}
 use Rattle.std.proofs.lemmas.Bool.Decides.{nat_tests}
-use Rattle.isle_lexer.specs.Token.{Tok, State, Between, InWord, AfterOpen, AfterSingle, InLine, InComment, Seen, Other, OpenSeen, SemicolonSeen, is_blank, is_single, is_word_byte, begun, seen_after, closed, in_comment, ends, ended, next, pending, scan, tokens_of}
+use Rattle.isle_lexer.specs.Token.{Tok, State, Between, InWord, AfterOpen, AfterSingle, InLine, InComment, Seen, Other, OpenSeen, SemicolonSeen, is_blank, is_single, is_word_byte, begun, seen_after, closed, in_comment, ends, ended, next, pending, scan, tokens_of, tokens_from, Coming}
 use Rattle.isle_lexer.specs.Cuts.{AreCuts}
+use Rattle.isle_lexer.proofs.Coming.{whole}
 use Rattle.isle_lexer.proofs.Scans.{state-more, tokens-more, scan-at}
 
 -- where what was begun begins
@@ -158,3 +159,7 @@ tokens_cut text utf8 =
     let state : Starts text (scan text).state (length text) = subst (λ t. Starts text (scan t).state (length text)) whole (starts_at text utf8 (length text) (omega arith)) in
     both_cut text (scan text).tokens (pending (scan text).state (scan text).at) so_far
     (subst (λ n. AreCuts text (pending (scan text).state n)) (sym (scan-at text)) (last_cut text (scan text).state state))
+
+-- and so is each that comes from the start on
+pub first_cut : (text : List ℕ) → IsUtf8 text → AreCuts text (tokens_from text 0)
+first_cut text utf8 = subst (λ (c : Coming). AreCuts text c.tokens) (sym (whole text)) (tokens_cut text utf8)

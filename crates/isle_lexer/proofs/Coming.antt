@@ -1,8 +1,10 @@
 -- What comes of a text, byte by byte.
 use Rattle.std.proofs.Common.{◌≡◌, ◌≢◌, ℕ, zero, suc, ◌+◌, ◌-◌, ◌<◌, ◌≤◌, List, [], ◌∷◌, ◌++◌, length, append-nil, drop, get_or, Bool, true, false, refl, sym, ap, ◌∙◌, append_assoc, arith}
-use Rattle.std.specs.Prelude.{◌==◌, if◌then◌else◌, fold, not}
+use Rattle.std.specs.Prelude.{◌==◌, if◌then◌else◌, fold, map, not}
 use Rattle.std.proofs.lemmas.Bool.{eqb-true}
 use Rattle.std.proofs.lemmas.List.{drop_more, drop_all}
+use Rattle.isle_lexer.specs.Ahead.{lexemes_from}
+use Rattle.isle_lexer.specs.Lexeme.{lexeme, lexemes}
 use Rattle.isle_lexer.specs.Token.{Tok, State, Between, InWord, AfterOpen, AfterSingle, InLine, InComment, Other, Scan, Seen, is_word_byte, begun, in_comment, ends, next, pending, ended, open_at, step, tokens_of, unclosed, Coming, finished, coming}
 
 -- tokens stand in front of a scan's
@@ -154,3 +156,7 @@ in_comment_next text at from outer seen st l e = passes text at (InComment from 
 pub whole : (text : List ℕ) → coming text Between 0 ≡ record { tokens = tokens_of text; unclosed = unclosed text }
 unfolding coming
 whole text = refl
+
+-- with their bytes
+pub all_from : (text : List ℕ) → lexemes_from text 0 ≡ lexemes text
+all_from text = ap (λ (c : Coming). map (lexeme text) c.tokens) (whole text)

@@ -1,6 +1,7 @@
 -- Where a text may be cut: a token begins and ends between characters.
 use Rattle.std.specs.Prelude.{ℕ, ◌<◌, ◌≤◌, List, length, IsCharBoundary}
 use Rattle.std.specs.List.{AllByRecursion}
+use Rattle.std.proofs.Props.{props}
 use Rattle.isle_lexer.specs.Token.{Tok, State, Between, InWord, AfterOpen, AfterSingle, InLine, InComment}
 
 -- the bytes from the first place to the second are a part of the text, and not empty
@@ -22,3 +23,7 @@ IsBegun (AfterOpen from) at = from < at
 IsBegun (AfterSingle from) at = from < at
 IsBegun InLine at = Unit {0}
 IsBegun (InComment from outer seen) at = Unit {0}
+
+-- in one way at most
+pub IsCut-prop : (text : List ℕ) (from to : ℕ) → IsProp (IsCut text from to)
+IsCut-prop text from to = Prim.hlevel props

@@ -4,6 +4,7 @@ pub mod Integer
 pub mod Word
 pub mod Cuts
 pub mod TokenViews
+pub mod Ahead
 pub mod WordViews
 pub mod SignedViews
 pub mod LexerViews

@@ -1,27 +1,12 @@
 ghost use Rattle.std.specs.Prelude.{◌≡◌, ⊤, [], ◌∷◌, IfOk, IfErr, IfSome, Some, None, length};
-ghost use Rattle.std.specs.Str.{IsUtf8};
 ghost use Rattle.std.proofs.Props.{props};
 ghost use Rattle.isle_lexer.specs.Token.{unclosed, IsClosed};
 
+use crate::counting::counted;
 use crate::finding::{Found, find};
-use crate::gathering::gathered;
-use crate::token::{Tok, Token};
+use crate::token::Tok;
 use isle_core::Pos;
-use std::alloc::{AllocError, Global};
-
-// Where a comment begins that never ends, the outermost one.
-fn unclosed(text: &[u8]) -> Option<usize>
-    ensures { result ≡ unclosed text.now }
-{
-    let mut at = 0;
-    loop {
-        match find(text, at) {
-            Found::Token(tok) => at = tok.to,
-            Found::Unclosed(from) => return Some(from),
-            Found::End => return None,
-        }
-    }
-}
+use std::alloc::AllocError;
 
 /// The tokens of a text, one by one. In each value every comment of the text ends.
 #[derive(Debug, Drop)]
@@ -49,9 +34,7 @@ impl<'a> Clone for Lexer<'a> {
 }
 
 impl<'a> Lexer<'a> {
-    ghost use Rattle.isle_lexer.specs.Lexeme.{lexemes};
     ghost use Rattle.isle_lexer.specs.Lexer.{lexer_file, lexer_text, lexer_left, IsUntaken};
-    ghost use Rattle.isle_lexer.specs.TokenViews.{tokens_seen};
 
     /// Returns the tokens of the text of the file of that number. Err gives the start of a nested comment that never
     /// ends, the outermost one's.
@@ -62,7 +45,7 @@ impl<'a> Lexer<'a> {
         ensures err { IfErr result (λ pos.
             (unclosed src.now ≡ Some pos.offset) × (pos.file ≡ file)) }
     {
-        match unclosed(src.as_bytes()) {
+        match counted(src).1 {
             Some(offset) => Err(Pos { file, offset }),
             None => Ok(Lexer {
                 file,
@@ -103,14 +86,10 @@ impl<'a> Lexer<'a> {
         self.text.len()
     }
 
-    /// Returns the tokens that are left, in order, as the grammar sees them.
-    pub fn tokens(self, alloc: Global) -> Result<Vec<Token<'a>>, AllocError>
-        requires { IsUntaken self }
-        ensures tokens { IfOk result (λ tokens.
-            tokens_seen tokens.items ≡ lexemes (lexer_text self.entry)) }
-        ensures utf8 { IsUtf8 (lexer_text self.entry) }
+    /// Returns the text.
+    pub fn text(&self) -> &'a str
+        ensures { result.now ≡ lexer_text self.now }
     {
-        let (tokens, _) = gathered(alloc, self.text)?;
-        Ok(tokens)
+        self.text
     }
 }

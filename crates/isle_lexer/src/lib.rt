@@ -3,15 +3,15 @@
 
 mod bytes;
 mod comments;
+mod counting;
 mod finding;
-mod gathering;
 mod integer;
 mod lexer;
 mod token;
 mod word;
 
-pub use gathering::{LexFail, tokens};
+pub use counting::counted;
 pub use integer::{Signed, int_of, signed_of};
 pub use lexer::Lexer;
-pub use token::{Tok, Token};
+pub use token::{Tok, Token, token_from};
 pub use word::{Kind, is_flag, is_let, is_name, kind_of};

@@ -1,6 +1,6 @@
 -- One step of a reader, by what comes next.
 use Rattle.std.proofs.Common.{◌≡◌, Bool, ℕ, zero, suc, ◌+◌, ◌-◌, ◌≤◌, ◌<◌, List, [], ◌∷◌, length, drop, cond, refl, ap, sym, ◌∙◌, subst, arith, Option, Some, None}
-use Rattle.std.specs.Prelude.{is_some, slice_get, Result, Ok, Err, IfOk, IsErrAnd}
+use Rattle.std.specs.Prelude.{is_some, Result, Ok, Err, IfOk, IsErrAnd}
 use Rattle.isle_lexer.specs.Lexeme.{Lexeme, Open, Close, At, Less, Greater, Word}
 use Rattle.isle_reading.specs.declared.cursor.Fail.{Fail}
 use Rattle.isle_reading.specs.declared.cursor.Fail.TheVariants as code
@@ -8,13 +8,6 @@ use Rattle.isle_reading.specs.Reader.{Reading, Got, Stuck, Deep, Reader, Ret, Pe
 use Rattle.isle_reading.specs.Combinators.{is_open, is_close, is_at, read_open, read_close, read_at, given, read_word, next_word, read_optional, words_from}
 use Rattle.isle_reading.specs.Views.{opens, closes, signs, stops, Refuses, Comes}
 use Rattle.isle_reading.proofs.Running.{run-bind}
-
--- the first of what is left
-pub first_left : {A : Type 0} (xs : List A) (n : ℕ) → slice_get (drop n xs) 0 ≡ slice_get xs n
-first_left [] zero = refl
-first_left [] (suc n) = refl
-first_left (x ∷ xs) zero = refl
-first_left (x ∷ xs) (suc n) = first_left xs n
 
 -- ---- one after another
 

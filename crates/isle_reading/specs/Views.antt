@@ -1,15 +1,15 @@
 -- What contracts say of the code's readers.
-use Rattle.std.specs.Prelude.{◌≡◌, ℕ, List, [], ◌∷◌, length, drop, Option, Some, None, Result, Ok, Err}
+use Rattle.std.specs.Prelude.{◌≡◌, ℕ, List, [], ◌∷◌, length, Option, Some, None, Result, Ok, Err}
 use Rattle.isle_reading.specs.declared.cursor.Fail.{Fail}
 use Rattle.isle_reading.specs.declared.cursor.Fail.TheVariants as code
 use Rattle.isle_reading.specs.declared.cursor.Tokens.{Tokens}
 use Rattle.isle_lexer.specs.Lexeme.{Lexeme, Open, Close, At, Less, Greater, Word}
-use Rattle.isle_lexer.specs.TokenViews.{tokens_seen}
+use Rattle.isle_lexer.specs.Ahead.{ahead}
 use Rattle.isle_reading.specs.Reader.{Reading, Got, Stuck, Deep, Reader, run}
 
 -- the tokens that are still to be read
 abbrev pub left : Tokens → List Lexeme
-left tokens = drop tokens.next (tokens_seen tokens.all.now)
+left tokens = ahead tokens.text.now tokens.next
 
 -- the place of an opening parenthesis that is next
 abbrev pub opens : List Lexeme → Option ℕ

@@ -1,12 +1,16 @@
-ghost use Rattle.std.specs.Prelude.{◌≡◌, ◌-◌, ◌<◌, Some, length, drop, option_map, slice_get};
+ghost use Rattle.std.specs.Prelude.{◌≡◌, ℕ, ◌-◌, ◌<◌, IfOk, Some, Err, length, drop, option_map, slice_get};
+ghost use Rattle.std.specs.Str.{IsUtf8};
+ghost use Rattle.std.proofs.Props.{props};
+ghost use Rattle.isle_lexer.specs.Ahead.{ahead, AreCutsAhead};
+ghost use Rattle.isle_lexer.specs.Cuts.{IsCut-prop};
+ghost use Rattle.isle_lexer.specs.Lexeme.{lexemes};
+ghost use Rattle.isle_lexer.specs.Token.{unclosed, IsClosed};
+ghost use Rattle.isle_lexer.specs.TokenViews.{token_seen};
 ghost use Rattle.isle_reading.specs.Combinators.{read_open, read_close, next_word, place};
 ghost use Rattle.isle_reading.specs.Nesting.{most_open};
-ghost use Rattle.isle_reading.specs.Places.{place_left};
-ghost use Rattle.isle_reading.specs.Views.{left, opens, closes, signs, Reads};
-ghost use Rattle.isle_reading.specs.declared.cursor.Fail.TheVariants.{At};
-ghost use Rattle.isle_lexer.specs.TokenViews.{token_seen, tokens_seen};
+ghost use Rattle.isle_reading.specs.Places.{first_place};
 
-use isle_lexer::Token;
+use isle_lexer::{Token, counted, token_from};
 use std::alloc::{AllocError, AllocFailed};
 
 /// How many parentheses and `@` may be open at once.
@@ -79,23 +83,39 @@ pub enum Expected {
     Other,
 }
 
-/// The tokens of a text, and how many of them were read; also what was expected last where reading stopped.
+/// The tokens of a text that are still to be read, found one by one; also what was expected last where reading stopped.
 #[derive(Clone, Copy, Debug)]
-pub struct Tokens<'k, 't> {
-    all: &'k [Token<'t>],
-    next: usize,
+pub struct Tokens<'t> {
+    text: &'t str,
+    /// The next token, and the place after it.
+    next: Option<(Token<'t>, usize)>,
+    /// How many tokens are left.
+    len: usize,
     expected: Expected,
+    pub ghost counted: { len ≡ length (ahead text.now next) },
+    pub ghost cuts: { AreCutsAhead text.now next } by { Prim.hlevel (props, IsCut-prop) },
 }
 
-impl<'k, 't> Tokens<'k, 't> {
-    /// Begins before the first token.
-    pub fn new(all: &'k [Token<'t>]) -> Tokens<'k, 't>
-        ensures { left result ≡ tokens_seen all.now }
+impl<'t> Tokens<'t> {
+    ghost use Rattle.isle_reading.specs.Views.{left, opens, closes, signs, Reads};
+    ghost use Rattle.isle_reading.specs.declared.cursor.Fail.TheVariants.{At};
+
+    /// Begins before the first token of a text. Err gives the start of a comment that never ends, the outermost one's.
+    pub fn new(text: &'t str) -> Result<Tokens<'t>, usize>
+        ensures tokens { IfOk result (λ tokens. left tokens ≡ lexemes text.now) }
+        ensures closed { IfOk result (λ tokens. IsClosed text.now) }
+        ensures unclosed { (at : ℕ) → result ≡ Err at → unclosed text.now ≡ Some at }
+        ensures utf8 { IsUtf8 text.now }
     {
-        Tokens {
-            all,
-            next: 0,
-            expected: Expected::Other,
+        let (len, unclosed) = counted(text);
+        match unclosed {
+            Some(at) => Err(at),
+            None => Ok(Tokens {
+                text,
+                next: token_from(text, 0),
+                len,
+                expected: Expected::Other,
+            }),
         }
     }
 
@@ -103,13 +123,17 @@ impl<'k, 't> Tokens<'k, 't> {
     pub fn len(&self) -> usize
         ensures { result ≡ length (left self.now) }
     {
-        self.all.len().saturating_sub(self.next)
+        self.len
     }
 
-    fn first(&self) -> Option<Token<'t>>
+    /// Returns the next token.
+    pub fn token(&self) -> Option<Token<'t>>
         ensures { option_map token_seen result ≡ slice_get (left self.now) 0 }
     {
-        self.all.get(self.next).copied()
+        match self.next {
+            Some((token, _)) => Some(token),
+            None => None,
+        }
     }
 
     /// Goes on after the next token.
@@ -117,7 +141,39 @@ impl<'k, 't> Tokens<'k, 't> {
         requires { 0 < length (left self.old) }
         ensures { left self.new ≡ drop 1 (left self.old) }
     {
-        self.next += 1;
+        if let Some((_, after)) = self.next {
+            self.len -= 1;
+            self.next = token_from(self.text, after);
+        }
+    }
+
+    /// Returns the cursor where so many tokens are left, or here if fewer are.
+    pub fn at_left(&self, count: usize) -> Tokens<'t>
+        ensures { left result ≡ drop (length (left self.now) - count) (left self.now) }
+    {
+        let mut met = *self;
+        while met.len > count {
+            met.skip();
+        }
+        met
+    }
+
+    /// Returns the place of the next token in a text of length `end`.
+    pub fn place(&self, end: usize) -> usize
+        ensures { result ≡ first_place (left self.now) end }
+    {
+        match self.next {
+            Some((token, _)) => place(token),
+            None => end,
+        }
+    }
+
+    /// Returns the place after the next token, or the length of the text.
+    pub fn token_end(&self) -> usize {
+        match self.next {
+            Some((_, after)) => after,
+            None => self.text.len(),
+        }
     }
 
     /// Returns the failure that reading stops here, and notes what may stand here.
@@ -137,7 +193,7 @@ impl<'k, 't> Tokens<'k, 't> {
     pub fn word(&self) -> Option<&'t str>
         ensures { option_map (λ word. word.now) result ≡ next_word (λ w. Some w) (left self.now) }
     {
-        match self.first() {
+        match self.token() {
             Some(Token::Word(_, word)) => Some(word),
             _ => None,
         }
@@ -147,7 +203,7 @@ impl<'k, 't> Tokens<'k, 't> {
     pub fn opens(&self) -> Option<usize>
         ensures { result ≡ opens (left self.now) }
     {
-        match self.first() {
+        match self.token() {
             Some(Token::Open(at)) => Some(at),
             _ => None,
         }
@@ -157,7 +213,7 @@ impl<'k, 't> Tokens<'k, 't> {
     pub fn closes(&self) -> Option<usize>
         ensures { result ≡ closes (left self.now) }
     {
-        match self.first() {
+        match self.token() {
             Some(Token::Close(at)) => Some(at),
             _ => None,
         }
@@ -167,17 +223,10 @@ impl<'k, 't> Tokens<'k, 't> {
     pub fn signs(&self) -> Option<usize>
         ensures { result ≡ signs (left self.now) }
     {
-        match self.first() {
+        match self.token() {
             Some(Token::At(at)) => Some(at),
             _ => None,
         }
-    }
-
-    /// Returns the next token.
-    pub fn token(&self) -> Option<Token<'t>>
-        ensures { option_map token_seen result ≡ slice_get (left self.now) 0 }
-    {
-        self.first()
     }
 
     /// Returns the place of an opening parenthesis, which is taken.
@@ -227,31 +276,5 @@ fn place(token: Token<'_>) -> usize
         | Token::Less(at)
         | Token::Greater(at)
         | Token::Word(at, _) => at,
-    }
-}
-
-/// Returns the place in a text of length `end` if so many of its tokens are left.
-pub fn place_of(tokens: &[Token<'_>], left: usize, end: usize) -> usize
-    ensures { result ≡ place_left (tokens_seen tokens.now) left end }
-{
-    match tokens.get(tokens.len().saturating_sub(left)) {
-        Some(token) => place(*token),
-        None => end,
-    }
-}
-
-// Where a token ends.
-fn end_of(token: Token<'_>) -> usize {
-    match token {
-        Token::Word(at, word) => at.saturating_add(word.len()),
-        other => place(other).saturating_add(1),
-    }
-}
-
-/// Returns the end of the first token if so many are left of a text of that length, or the text's length.
-pub fn token_end(tokens: &[Token<'_>], left: usize, end: usize) -> usize {
-    match tokens.get(tokens.len().saturating_sub(left)) {
-        Some(token) => end_of(*token),
-        None => end,
     }
 }

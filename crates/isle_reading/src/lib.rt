@@ -4,4 +4,4 @@
 mod cursor;
 mod name;
 
-pub use cursor::{Expected, Fail, Tokens, most_inside, place_of, token_end};
+pub use cursor::{Expected, Fail, Tokens, most_inside};

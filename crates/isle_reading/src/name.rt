@@ -8,7 +8,7 @@ use isle_core::{Name, Text};
 use isle_lexer::is_name;
 use std::alloc::Global;
 
-impl<'k, 't> Tokens<'k, 't> {
+impl<'t> Tokens<'t> {
     /// Returns a name that is next.
     #[tactic(auto, using(crate::proofs::Steps::next))]
     pub fn next_name(&self) -> Option<&'t str>

@@ -71,7 +71,7 @@ all_answer all before (tree.Converter from to term pos ∷ ds) h =
 all_answer all before (tree.Rule name prio term args iflets rhs pos ∷ ds) h =
     let d = tree.Rule name prio term args iflets rhs pos in
     all_answer all (before ++ d ∷ []) ds (later_none (λ (r : Row). (r, pos)) (broken_in OfTerms (record { whole = whole_of all; before = before }) d) (fault_after OfTerms (whole_of all) (before ++ d ∷ []) ds) h).1
-all_answer all before (tree.Passed head items pos ∷ ds) h = all_answer all (before ++ tree.Passed head items pos ∷ []) ds h
+all_answer all before (tree.Passed head pos ∷ ds) h = all_answer all (before ++ tree.Passed head pos ∷ []) ds h
 
 -- ---- terms
 

@@ -62,7 +62,7 @@ declared_there (tree.ExternConst n ty pos ∷ ds) name s h = declared_there ds n
 declared_there (tree.Extractor term params template pos ∷ ds) name s h = declared_there ds name s h
 declared_there (tree.Converter from to term pos ∷ ds) name s h = declared_there ds name s h
 declared_there (tree.Rule n prio term args iflets rhs pos ∷ ds) name s h = declared_there ds name s h
-declared_there (tree.Passed head items pos ∷ ds) name s h = declared_there ds name s h
+declared_there (tree.Passed head pos ∷ ds) name s h = declared_there ds name s h
 
 -- ---- a converter that is found
 

@@ -137,7 +137,7 @@ terms_name all (tree.ExternConst name ty pos ∷ ds) among u h = terms_name all 
 terms_name all (tree.Extractor term params template pos ∷ ds) among u h = terms_name all ds among u.1 h
 terms_name all (tree.Converter from to term pos ∷ ds) among u h = terms_name all ds among u.1 h
 terms_name all (tree.Rule name prio term args iflets rhs pos ∷ ds) among u h = terms_name all ds among u.1 h
-terms_name all (tree.Passed head items pos ∷ ds) among u h = terms_name all ds among u.1 h
+terms_name all (tree.Passed head pos ∷ ds) among u h = terms_name all ds among u.1 h
 
 -- ---- what is known of them
 

@@ -40,7 +40,7 @@ extractors_fault_is w before (tree.Rule name prio term args iflets rhs pos ∷ d
 extractors_fault_is w before (tree.TypeDecl name is_extern is_nodebug body pos ∷ ds) = extractors_fault_is w (before ++ tree.TypeDecl name is_extern is_nodebug body pos ∷ []) ds
 extractors_fault_is w before (tree.ExternConst name ty pos ∷ ds) = extractors_fault_is w (before ++ tree.ExternConst name ty pos ∷ []) ds
 extractors_fault_is w before (tree.Converter from to term pos ∷ ds) = extractors_fault_is w (before ++ tree.Converter from to term pos ∷ []) ds
-extractors_fault_is w before (tree.Passed head items pos ∷ ds) = extractors_fault_is w (before ++ tree.Passed head items pos ∷ []) ds
+extractors_fault_is w before (tree.Passed head pos ∷ ds) = extractors_fault_is w (before ++ tree.Passed head pos ∷ []) ds
 
 -- ---- its row
 

@@ -89,4 +89,4 @@ kept_in w before (tree.Rule name prio term args iflets rhs pos ∷ ds) h = kept_
 kept_in w before (tree.TypeDecl name is_extern is_nodebug body pos ∷ ds) h = kept_in w (before ++ tree.TypeDecl name is_extern is_nodebug body pos ∷ []) ds h
 kept_in w before (tree.ExternConst name ty pos ∷ ds) h = kept_in w (before ++ tree.ExternConst name ty pos ∷ []) ds h
 kept_in w before (tree.Converter from to term pos ∷ ds) h = kept_in w (before ++ tree.Converter from to term pos ∷ []) ds h
-kept_in w before (tree.Passed head items pos ∷ ds) h = kept_in w (before ++ tree.Passed head items pos ∷ []) ds h
+kept_in w before (tree.Passed head pos ∷ ds) h = kept_in w (before ++ tree.Passed head pos ∷ []) ds h

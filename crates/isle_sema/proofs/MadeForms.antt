@@ -176,7 +176,7 @@ all_formed all (tree.ExternConst name ty pos ∷ ds) = all_formed all ds
 all_formed all (tree.Extractor term params template pos ∷ ds) = all_formed all ds
 all_formed all (tree.Converter from to term pos ∷ ds) = all_formed all ds
 all_formed all (tree.Rule name prio term args iflets rhs pos ∷ ds) = all_formed all ds
-all_formed all (tree.Passed head items pos ∷ ds) = all_formed all ds
+all_formed all (tree.Passed head pos ∷ ds) = all_formed all ds
 
 -- ---- the type of a made term
 
@@ -272,7 +272,7 @@ constants_stand syms (tree.ExternExtractor term func infallible pos ∷ ds) h = 
 constants_stand syms (tree.Extractor term params template pos ∷ ds) h = constants_stand syms ds h.1
 constants_stand syms (tree.Converter from to term pos ∷ ds) h = constants_stand syms ds h.1
 constants_stand syms (tree.Rule name prio term args iflets rhs pos ∷ ds) h = constants_stand syms ds h.1
-constants_stand syms (tree.Passed head items pos ∷ ds) h = constants_stand syms ds h.1
+constants_stand syms (tree.Passed head pos ∷ ds) h = constants_stand syms ds h.1
 
 found_from : {A : Type 0} (x : A) (xs : List A) (found : Option A) (o : Option ℕ) (first : Bool) → found ≡ option_and_then (slice_get xs) o → cond first (Some x) found ≡ option_and_then (slice_get (x ∷ xs)) (cond first (Some 0) (option_map (λ (n : ℕ). n + 1) o))
 found_from x xs found o true h = refl

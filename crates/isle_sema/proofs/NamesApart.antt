@@ -168,7 +168,7 @@ others_of name (tree.ExternConst own ty pos ∷ ds) h k = others_of name ds h k
 others_of name (tree.Extractor term params template pos ∷ ds) h k = others_of name ds h k
 others_of name (tree.Converter from to term pos ∷ ds) h k = others_of name ds h k
 others_of name (tree.Rule own prio term args iflets rhs pos ∷ ds) h k = others_of name ds h k
-others_of name (tree.Passed head items pos ∷ ds) h k = others_of name ds h k
+others_of name (tree.Passed head pos ∷ ds) h k = others_of name ds h k
 
 -- each declared name is another than these
 abbrev AreUnmade : List (List ℕ) → List Signature → Type 0
@@ -207,7 +207,7 @@ terms_apart (tree.ExternConst name ty pos ∷ ds) h k o = terms_apart ds h k o
 terms_apart (tree.Extractor term params template pos ∷ ds) h k o = terms_apart ds h k o
 terms_apart (tree.Converter from to term pos ∷ ds) h k o = terms_apart ds h k o
 terms_apart (tree.Rule name prio term args iflets rhs pos ∷ ds) h k o = terms_apart ds h k o
-terms_apart (tree.Passed head items pos ∷ ds) h k o = terms_apart ds h k o
+terms_apart (tree.Passed head pos ∷ ds) h k o = terms_apart ds h k o
 
 -- ---- no declared term is made
 

@@ -76,7 +76,7 @@ fault_none w before (tree.ExternExtractor term func infallible pos ∷ ds) h = f
 fault_none w before (tree.ExternConst name ty pos ∷ ds) h = fault_none w (before ++ tree.ExternConst name ty pos ∷ []) ds h
 fault_none w before (tree.Extractor term params template pos ∷ ds) h = fault_none w (before ++ tree.Extractor term params template pos ∷ []) ds h
 fault_none w before (tree.Converter from to term pos ∷ ds) h = fault_none w (before ++ tree.Converter from to term pos ∷ []) ds h
-fault_none w before (tree.Passed head items pos ∷ ds) h = fault_none w (before ++ tree.Passed head items pos ∷ []) ds h
+fault_none w before (tree.Passed head pos ∷ ds) h = fault_none w (before ++ tree.Passed head pos ∷ []) ds h
 
 pub none_fault : (w : Whole) (before ds : List Def) → fault_after OfRules w before ds ≡ None → list_any (is_broken w) (rule_defs ds) ≡ false
 none_fault w before [] h = refl
@@ -93,7 +93,7 @@ none_fault w before (tree.ExternExtractor term func infallible pos ∷ ds) h = n
 none_fault w before (tree.ExternConst name ty pos ∷ ds) h = none_fault w (before ++ tree.ExternConst name ty pos ∷ []) ds h
 none_fault w before (tree.Extractor term params template pos ∷ ds) h = none_fault w (before ++ tree.Extractor term params template pos ∷ []) ds h
 none_fault w before (tree.Converter from to term pos ∷ ds) h = none_fault w (before ++ tree.Converter from to term pos ∷ []) ds h
-none_fault w before (tree.Passed head items pos ∷ ds) h = none_fault w (before ++ tree.Passed head items pos ∷ []) ds h
+none_fault w before (tree.Passed head pos ∷ ds) h = none_fault w (before ++ tree.Passed head pos ∷ []) ds h
 
 -- the fault of the stage is the first of its rules
 pub rules_fault_is : (w : Whole) (before ds : List Def) → fault_after OfRules w before ds ≡ rules_fault w (rule_defs ds)
@@ -109,7 +109,7 @@ rules_fault_is w before (tree.ExternExtractor term func infallible pos ∷ ds) =
 rules_fault_is w before (tree.ExternConst name ty pos ∷ ds) = rules_fault_is w (before ++ tree.ExternConst name ty pos ∷ []) ds
 rules_fault_is w before (tree.Extractor term params template pos ∷ ds) = rules_fault_is w (before ++ tree.Extractor term params template pos ∷ []) ds
 rules_fault_is w before (tree.Converter from to term pos ∷ ds) = rules_fault_is w (before ++ tree.Converter from to term pos ∷ []) ds
-rules_fault_is w before (tree.Passed head items pos ∷ ds) = rules_fault_is w (before ++ tree.Passed head items pos ∷ []) ds
+rules_fault_is w before (tree.Passed head pos ∷ ds) = rules_fault_is w (before ++ tree.Passed head pos ∷ []) ds
 
 -- ---- what the code knows of a rule
 

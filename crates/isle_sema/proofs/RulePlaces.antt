@@ -42,7 +42,7 @@ stands_at (tree.ExternExtractor term func infallible pos ∷ defs) r c = later (
 stands_at (tree.ExternConst name ty pos ∷ defs) r c = later (tree.ExternConst name ty pos) defs r.pos (stands_at defs r c)
 stands_at (tree.Extractor term params template pos ∷ defs) r c = later (tree.Extractor term params template pos) defs r.pos (stands_at defs r c)
 stands_at (tree.Converter from to term pos ∷ defs) r c = later (tree.Converter from to term pos) defs r.pos (stands_at defs r c)
-stands_at (tree.Passed head items pos ∷ defs) r c = later (tree.Passed head items pos) defs r.pos (stands_at defs r c)
+stands_at (tree.Passed head pos ∷ defs) r c = later (tree.Passed head pos) defs r.pos (stands_at defs r c)
 
 -- the definition of a rule
 record IsPassed (rules : List RuleDef) (x : Rule) : Type 0 where

@@ -232,8 +232,8 @@ terms_kept all before (tree.Converter from to term pos ∷ ds) h =
     let d = tree.Converter from to term pos in
     let l = later_none (λ (r : Row). (r, pos)) (broken_in OfTerms (record { whole = whole_of all; before = before }) d) (fault_after OfTerms (whole_of all) (before ++ d ∷ []) ds) h in
     behind all before d ds refl refl refl (terms_kept all (before ++ d ∷ []) ds l.1)
-terms_kept all before (tree.Passed head items pos ∷ ds) h =
-    let d = tree.Passed head items pos in
+terms_kept all before (tree.Passed head pos ∷ ds) h =
+    let d = tree.Passed head pos in
     behind all before d ds refl refl refl (terms_kept all (before ++ d ∷ []) ds h)
 
 -- ---- converters
@@ -289,8 +289,8 @@ converters_kept all before (tree.Extractor term params template pos ∷ ds) h =
     let d = tree.Extractor term params template pos in
     let l = later_none (λ (r : Row). (r, pos)) (broken_in OfTerms (record { whole = whole_of all; before = before }) d) (fault_after OfTerms (whole_of all) (before ++ d ∷ []) ds) h in
     ap (λ cs. have_misfit all cs (converters ds)) (sym (unconverted before d refl)) ∙ converters_kept all (before ++ d ∷ []) ds l.1
-converters_kept all before (tree.Passed head items pos ∷ ds) h =
-    let d = tree.Passed head items pos in
+converters_kept all before (tree.Passed head pos ∷ ds) h =
+    let d = tree.Passed head pos in
     ap (λ cs. have_misfit all cs (converters ds)) (sym (unconverted before d refl)) ∙ converters_kept all (before ++ d ∷ []) ds h
 
 -- ---- the rows

@@ -92,7 +92,7 @@ no_truth all (tree.ExternConst name ty at ∷ ds) n h = no_truth all ds n h
 no_truth all (tree.Extractor term params template at ∷ ds) n h = no_truth all ds n h
 no_truth all (tree.Converter from to term at ∷ ds) n h = no_truth all ds n h
 no_truth all (tree.Rule name prio term args iflets rhs at ∷ ds) n h = no_truth all ds n h
-no_truth all (tree.Passed head items at ∷ ds) n h = no_truth all ds n h
+no_truth all (tree.Passed head at ∷ ds) n h = no_truth all ds n h
 
 -- of the types of definitions only the first is `bool`
 truth_at : (defs : List Def) (n : ℕ) → option_map_or is_bool_def (slice_get (type_env_of defs).types n) false ≡ true → n ≡ 0

@@ -126,7 +126,7 @@ few_terms (tree.ExternConst name ty pos ∷ ds) h = few_terms ds h
 few_terms (tree.ExternExtractor term func infallible pos ∷ ds) h = few_terms ds h
 few_terms (tree.Extractor term params template pos ∷ ds) h = few_terms ds h
 few_terms (tree.Converter from to term pos ∷ ds) h = few_terms ds h
-few_terms (tree.Passed head items pos ∷ ds) h = few_terms ds h
+few_terms (tree.Passed head pos ∷ ds) h = few_terms ds h
 
 unmade_origin : (w : Whole) (s : Signature) (ret : TypeId) (from : Origin) → is_made_kind (kind_from w s ret from) ≡ false → is_made from ≡ false
 unmade_origin w s ret origin.Declared h = refl
@@ -173,7 +173,7 @@ all_stand all (tree.ExternExtractor term func infallible pos ∷ ds) h = all_sta
 all_stand all (tree.ExternConst name ty pos ∷ ds) h = all_stand all ds (rest_in all (tree.ExternConst name ty pos) ds h)
 all_stand all (tree.Extractor term params template pos ∷ ds) h = all_stand all ds (rest_in all (tree.Extractor term params template pos) ds h)
 all_stand all (tree.Converter from to term pos ∷ ds) h = all_stand all ds (rest_in all (tree.Converter from to term pos) ds h)
-all_stand all (tree.Passed head items pos ∷ ds) h = all_stand all ds (rest_in all (tree.Passed head items pos) ds h)
+all_stand all (tree.Passed head pos ∷ ds) h = all_stand all ds (rest_in all (tree.Passed head pos) ds h)
 
 -- a term stands where a definition does: a made one if its type's does
 pub typed_places : (defs : List Def) (env : Environment) (i : ℕ) (t : Term) → Typed defs env → slice_get env.terms i ≡ Some t → (d : Def) × Contains defs d × (place_of d ≡ t.decl_pos)
@@ -214,7 +214,7 @@ as_many all (tree.ExternConst name ty pos ∷ ds) = as_many all ds
 as_many all (tree.Extractor term params template pos ∷ ds) = as_many all ds
 as_many all (tree.Converter from to term pos ∷ ds) = as_many all ds
 as_many all (tree.Rule name prio term args iflets rhs pos ∷ ds) = as_many all ds
-as_many all (tree.Passed head items pos ∷ ds) = as_many all ds
+as_many all (tree.Passed head pos ∷ ds) = as_many all ds
 
 -- the type of a name is there
 type_there : (defs : List Def) (env : Environment) (name : List ℕ) (ty : TypeId) → env.types ≡ type_env_of defs → type_named defs name ≡ Some ty → IsThere env.types ty

@@ -43,7 +43,7 @@ is_extractor (ExternConst name ty pos) = false
 is_extractor (Extractor term params template pos) = true
 is_extractor (Converter from to term pos) = false
 is_extractor (Rule name prio term args iflets rhs pos) = false
-is_extractor (Passed head items pos) = false
+is_extractor (Passed head pos) = false
 
 -- a rule
 abbrev pub is_rule : Def → Bool
@@ -55,7 +55,7 @@ is_rule (ExternConst name ty pos) = false
 is_rule (Extractor term params template pos) = false
 is_rule (Converter from to term pos) = false
 is_rule (Rule name prio term args iflets rhs pos) = true
-is_rule (Passed head items pos) = false
+is_rule (Passed head pos) = false
 
 -- the stage looks at the definition
 abbrev pub looks_at : Stage → Def → Bool

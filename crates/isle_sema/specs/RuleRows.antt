@@ -39,7 +39,7 @@ sites_in w (ExternConstructor term func pos) = []
 sites_in w (ExternExtractor term func infallible pos) = []
 sites_in w (ExternConst name ty pos) = []
 sites_in w (Converter from to term pos) = []
-sites_in w (Passed head items pos) = []
+sites_in w (Passed head pos) = []
 
 -- two types, both known, that differ
 abbrev pub differ : Option TypeId → Option TypeId → Bool

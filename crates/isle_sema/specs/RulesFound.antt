@@ -4,7 +4,7 @@ use Rattle.std.specs.Global.{Vec}
 use Rattle.isle_core.specs.declared.position.Pos.{Pos}
 use Rattle.isle_core.specs.declared.rules.Rule.{Rule as CodeRule}
 use Rattle.isle_core.specs.RuleViews.{rule as elaborated_rule}
-use Rattle.isle_terms.specs.declared.culprit.Breach.{Breach}
+use Rattle.isle_terms.specs.declared.flaw.Breach.{Breach}
 use Rattle.isle_declarations.specs.Signatures.{RuleDef, rule_defs}
 use Rattle.isle_types.specs.declared.row.Row.{Row}
 use Rattle.isle_types.specs.declared.row.Row.TheVariants.{ManyNodes}

@@ -9,7 +9,7 @@ use Rattle.isle_ast.specs.Tree.{Def, ExternExtractor, Extractor}
 use Rattle.isle_declarations.specs.Signatures.{Extracting, ByFunction, ByTemplate, ExtractorDef}
 use Rattle.isle_types.specs.declared.row.Row.{Row}
 use Rattle.isle_terms.specs.Whole.{Whole}
-use Rattle.isle_terms.specs.declared.culprit.Breach.{Breach}
+use Rattle.isle_terms.specs.declared.flaw.Breach.{Breach}
 use Rattle.isle_sema.specs.declared.fault.Fault.{Fault}
 use Rattle.isle_sema.specs.declared.templates.Extractors.{Extractors}
 use Rattle.isle_templates.specs.Multi.{AreMultisTold}

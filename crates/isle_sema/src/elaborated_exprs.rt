@@ -198,7 +198,7 @@ pub fn expr_at<'b, 'd>(
 {
     match e {
         AstExpr::Int(n) => {
-            judged.integer(known.types(), expected, *n);
+            judged.integer(known.types(), expected, n);
             Ok(integer_at(known.types(), expected, *n))
         }
         AstExpr::Bool(b) => {

@@ -139,7 +139,7 @@ pub fn pattern_at<'b, 'd>(
 {
     match p {
         AstPattern::Int(n) => {
-            judged.integer(known.types(), expected, *n);
+            judged.integer(known.types(), expected, n);
             Ok(integer_at(known.types(), expected, *n))
         }
         AstPattern::Bool(b) => {

@@ -123,8 +123,8 @@ fn rule_of<'b, 'd>(
             own.args.len(),
             given.term,
             count,
-            &sides.left.firsts,
-            &sides.right.firsts,
+            &sides.left.first,
+            &sides.right.first,
         );
         return Ok(Err(Breach { row, culprit }));
     }

@@ -15,14 +15,14 @@ ghost use Rattle.isle_sema.specs.ExprPass.{called_by};
 use crate::known::Called;
 use isle_core::{Name, TypeEnv, TypeId};
 use isle_templates::marked;
-use isle_terms::{Counts, Firsts, Judged, Thing, takes_integers, takes_truths};
+use isle_terms::{Counts, FirstPart, Judged, Side, Thing, takes_integers, takes_truths};
 
-/// Which rows the parts that were met so far break, and the first part that breaks each: nothing is said of the latter,
-/// which is for the words of a fault.
+/// Which rows the parts that were met so far break, and the first part that breaks the lowest: nothing is said of the
+/// latter, which is for the words of a fault.
 #[derive(Clone, Copy)]
 pub struct Judging<'m, 'b, 'd> {
     pub rows: Judged<'m>,
-    pub firsts: Firsts<'b, 'd>,
+    pub first: FirstPart<'b, 'd>,
 }
 
 // Whether a type differs from the one that is expected, if there is one.
@@ -38,8 +38,8 @@ fn is_other_type(bound: Option<Option<TypeId>>, expected: Option<TypeId>) -> boo
 // The rows look at the definitions at integers, truths and terms alone: elsewhere it is all one what definitions there
 // are.
 impl<'m, 'b, 'd> Judging<'m, 'b, 'd> {
-    /// Begins with no part, over these marks of terms that are `multi` where a pattern uses them.
-    pub fn new(multis: &'m [bool]) -> Judging<'m, 'b, 'd>
+    /// Begins with no part, on this side, over these marks of terms that are `multi` where a pattern uses them.
+    pub fn new(multis: &'m [bool], side: Side) -> Judging<'m, 'b, 'd>
         ensures { result.rows ≡ unjudged multis.entry }
     {
         Judging {
@@ -58,20 +58,7 @@ impl<'m, 'b, 'd> Judging<'m, 'b, 'd> {
                 multi: false,
                 unbound: false,
             },
-            firsts: Firsts {
-                untaken: None,
-                mistaken: None,
-                misplaced: None,
-                undeclared: None,
-                met_otherwise: None,
-                multi_taken: None,
-                unknown: None,
-                mistyped: None,
-                partial: None,
-                impure: None,
-                multi: None,
-                unbound: None,
-            },
+            first: FirstPart::new(side),
         }
     }
 
@@ -80,17 +67,17 @@ impl<'m, 'b, 'd> Judging<'m, 'b, 'd> {
         ensures { self.new.rows ≡ judge (whole_of []) self.old.rows (BoundAt ty) }
     {
         self.rows.mistyped = ty.is_none() | self.rows.mistyped;
-        self.firsts
+        self.first
             .note(&self.rows, Thing::Type(name), None, ty, None);
     }
 
     /// Judges an integer where this type is expected.
-    pub fn integer(&mut self, types: &TypeEnv, expected: Option<TypeId>, n: i128)
+    pub fn integer(&mut self, types: &TypeEnv, expected: Option<TypeId>, n: &'b i128)
         ensures { (w : Whole) → types.now ≡ w.types
             → self.new.rows ≡ judge w self.old.rows (IntegerAt expected) }
     {
         self.rows.misplaced = !takes_integers(types, expected) | self.rows.misplaced;
-        self.firsts
+        self.first
             .note(&self.rows, Thing::Integer(n), expected, None, None);
     }
 
@@ -100,7 +87,7 @@ impl<'m, 'b, 'd> Judging<'m, 'b, 'd> {
             → self.new.rows ≡ judge w self.old.rows (TruthAt expected) }
     {
         self.rows.misplaced = !takes_truths(types, expected) | self.rows.misplaced;
-        self.firsts
+        self.first
             .note(&self.rows, Thing::Truth(b), expected, None, None);
     }
 
@@ -115,7 +102,7 @@ impl<'m, 'b, 'd> Judging<'m, 'b, 'd> {
     {
         self.rows.met_otherwise = is_other_type(bound, expected) | self.rows.met_otherwise;
         self.rows.unbound = bound.is_none() | self.rows.unbound;
-        self.firsts.note(
+        self.first.note(
             &self.rows,
             Thing::Variable(name),
             expected,
@@ -135,7 +122,7 @@ impl<'m, 'b, 'd> Judging<'m, 'b, 'd> {
     {
         self.rows.unknown = bound.is_none() | self.rows.unknown;
         self.rows.mistyped = is_other_type(bound, expected) | self.rows.mistyped;
-        self.firsts.note(
+        self.first.note(
             &self.rows,
             Thing::Variable(name),
             expected,
@@ -157,7 +144,7 @@ impl<'m, 'b, 'd> Judging<'m, 'b, 'd> {
     {
         let Some(callee) = callee else {
             self.rows.unknown = true;
-            self.firsts.note(&self.rows, thing, expected, None, None);
+            self.first.note(&self.rows, thing, expected, None, None);
             return;
         };
         self.rows.unknown = (count != callee.args.len())
@@ -171,7 +158,7 @@ impl<'m, 'b, 'd> Judging<'m, 'b, 'd> {
             given: count,
             wanted: callee.args.len(),
         };
-        self.firsts.note(&self.rows, thing, expected, Some(callee.ret), Some(counts));
+        self.first.note(&self.rows, thing, expected, Some(callee.ret), Some(counts));
     }
 
     /// Judges a term in a pattern, on so many patterns.
@@ -187,7 +174,7 @@ impl<'m, 'b, 'd> Judging<'m, 'b, 'd> {
     {
         let Some(callee) = callee else {
             self.rows.untaken = true;
-            self.firsts.note(&self.rows, thing, expected, None, None);
+            self.first.note(&self.rows, thing, expected, None, None);
             return;
         };
         self.rows.untaken = (count != callee.args.len())
@@ -200,7 +187,7 @@ impl<'m, 'b, 'd> Judging<'m, 'b, 'd> {
             given: count,
             wanted: callee.args.len(),
         };
-        self.firsts.note(&self.rows, thing, expected, Some(callee.ret), Some(counts));
+        self.first.note(&self.rows, thing, expected, Some(callee.ret), Some(counts));
     }
 
     /// Judges a converter around a pattern of this type, if there is one.
@@ -248,7 +235,7 @@ impl<'m, 'b, 'd> Judging<'m, 'b, 'd> {
         self.rows.undeclared = found.is_none() | self.rows.undeclared;
         self.rows.mistaken = (in_pattern & differs) | self.rows.mistaken;
         self.rows.mistyped = (!in_pattern & differs) | self.rows.mistyped;
-        self.firsts
+        self.first
             .note(&self.rows, Thing::Constant(name), expected, found, None);
     }
 }

@@ -12,7 +12,7 @@ use crate::judging::Judging;
 use crate::known::{Called, Known};
 use isle_core::{Expr, IfLet, Pattern};
 use isle_declarations::RuleDef;
-use isle_terms::Variables;
+use isle_terms::{Side, Variables};
 use std::alloc::{AllocError, Global};
 
 /// The patterns, the conditions and the right side of a rule, if they have trees, and what the rows say of the parts
@@ -40,10 +40,16 @@ pub fn sides_of<'m, 'b, 'd>(
         AreSides (whole known.now) (seen given.now) multis.entry sides) }
 {
     let mut vars = Variables::new(alloc);
-    let mut left = Judging::new(multis);
+    let (multi, partial, pure) = (own.multi, own.partial, own.pure);
+    let mut left = Judging::new(multis, Side::Left { multi });
     let args = patterns_at(alloc, known, &mut vars, &mut left, own.args, given.args)?;
     let iflets = conditions_at(alloc, known, &mut vars, &mut left, given.iflets)?;
-    let mut right = Judging::new(multis);
+    let side = Side::Right {
+        multi,
+        partial,
+        pure,
+    };
+    let mut right = Judging::new(multis, side);
     let found = expr_over(
         alloc,
         known,

@@ -28,7 +28,7 @@ use isle_ast::AstPattern;
 use isle_core::{List, Name, Pattern};
 use isle_declarations::{Extracting, ExtractorDef, TermDef};
 use isle_templates::{Templates, copied_at, multi_extractors, whole_templates};
-use isle_terms::{Breach, Variables, misses_variable, template_culprit};
+use isle_terms::{Breach, Side, Variables, misses_variable, template_culprit};
 use isle_walks::closed_walks;
 use std::alloc::{AllocError, Global};
 
@@ -66,13 +66,13 @@ fn template_of<'b, 'd>(
         Extracting::Template { params, template } => {
             let callee = known.at(given.number);
             let mut vars = parameters(alloc, &callee, params)?;
-            let mut judged = Judging::new(&[]);
+            let mut judged = Judging::new(&[], Side::Template);
             let expected = result_type(&callee);
             let tree = pattern_at(alloc, known, &mut vars, &mut judged, expected, template)?;
             let misses = misses_variable(alloc, params, template)?;
             match template_row(reaches_itself(&callee, closed), misses, &judged.rows) {
                 Some(row) => {
-                    let culprit = template_culprit(alloc, row, &judged.firsts, params, template)?;
+                    let culprit = template_culprit(alloc, row, &judged.first, params, template)?;
                     Ok(Err(Breach { row, culprit }))
                 }
                 None => Ok(Ok(tree)),

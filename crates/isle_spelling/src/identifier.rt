@@ -9,20 +9,6 @@ ghost use Rattle.isle_spelling.specs.Identifier.{used_words, kept_words, is_begi
 use crate::names::are_word_bytes;
 use isle_core::Text;
 
-/// The words that Rust uses.
-const USED_WORDS: [&str; 38] = [
-    "as", "async", "await", "break", "const", "continue", "crate", "dyn", "else", "enum", "extern",
-    "false", "fn", "for", "if", "impl", "in", "let", "loop", "match", "mod", "move", "mut", "pub",
-    "ref", "return", "self", "Self", "static", "struct", "super", "trait", "true", "type",
-    "unsafe", "use", "where", "while",
-];
-
-/// Those that it keeps for later, and the mark that is no name.
-const KEPT_WORDS: [&str; 14] = [
-    "abstract", "become", "box", "do", "final", "macro", "override", "priv", "try", "typeof",
-    "unsized", "virtual", "yield", "_",
-];
-
 // A letter or _.
 fn is_begin(byte: u8) -> bool
     ensures { result ≡ is_begin byte }
@@ -53,18 +39,50 @@ pub fn is_among(name: &str, words: &[&str]) -> bool
     false
 }
 
-// Whether Rust uses the word.
+// Whether Rust uses the word: it is compared with those of its length.
 fn is_used(name: &str) -> bool
     ensures { result ≡ list_any (bytes_eq name.now) used_words }
 {
-    is_among(name, &USED_WORDS)
+    match name.len() {
+        2 => is_among(name, &["as", "fn", "if", "in"]),
+        3 => is_among(
+            name,
+            &["dyn", "for", "let", "mod", "mut", "pub", "ref", "use"],
+        ),
+        4 => is_among(
+            name,
+            &[
+                "else", "enum", "impl", "loop", "move", "self", "Self", "true", "type",
+            ],
+        ),
+        5 => is_among(
+            name,
+            &[
+                "async", "await", "break", "const", "crate", "false", "match", "super", "trait",
+                "where", "while",
+            ],
+        ),
+        6 => is_among(name, &["extern", "return", "static", "struct", "unsafe"]),
+        8 => is_among(name, &["continue"]),
+        _ => false,
+    }
 }
 
-// Whether Rust keeps the word for later, or takes it for no name.
+// Whether Rust keeps the word for later, or takes it for no name: it is compared with those of its length.
 fn is_kept(name: &str) -> bool
     ensures { result ≡ list_any (bytes_eq name.now) kept_words }
 {
-    is_among(name, &KEPT_WORDS)
+    match name.len() {
+        1 => is_among(name, &["_"]),
+        2 => is_among(name, &["do"]),
+        3 => is_among(name, &["box", "try"]),
+        4 => is_among(name, &["priv"]),
+        5 => is_among(name, &["final", "macro", "yield"]),
+        6 => is_among(name, &["become", "typeof"]),
+        7 => is_among(name, &["unsized", "virtual"]),
+        8 => is_among(name, &["abstract", "override"]),
+        _ => false,
+    }
 }
 
 /// Tells whether an item may have the name.

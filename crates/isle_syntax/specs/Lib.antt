@@ -1,1 +1,2 @@
 pub mod ReadingViews
+pub mod Skipping

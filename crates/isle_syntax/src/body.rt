@@ -34,7 +34,7 @@ fn body_head_of(word: &str) -> Option<BodyHead>
 
 // What a body is, by the word that is next.
 #[tactic(auto, using(isle_reading::proofs::Steps::next))]
-fn next_body_head(tokens: &Tokens<'_, '_>) -> Option<BodyHead>
+fn next_body_head(tokens: &Tokens<'_>) -> Option<BodyHead>
     ensures { option_map body_head_seen result ≡ next_word body_head (left tokens.now) }
 {
     body_head_of(tokens.word()?)
@@ -42,7 +42,7 @@ fn next_body_head(tokens: &Tokens<'_, '_>) -> Option<BodyHead>
 
 // What a body is.
 #[tactic(auto, using(isle_reading::proofs::Steps::words), unfolding(isle_grammar::specs::Reading::read_body_head))]
-fn read_head(tokens: &mut Tokens<'_, '_>) -> Result<BodyHead, Fail>
+fn read_head(tokens: &mut Tokens<'_>) -> Result<BodyHead, Fail>
     ensures { Reads body_head_seen result read_body_head (left tokens.old) (left tokens.new) }
 {
     match next_body_head(tokens) {
@@ -56,7 +56,7 @@ fn read_head(tokens: &mut Tokens<'_, '_>) -> Result<BodyHead, Fail>
 
 // A field with its type.
 #[tactic(auto, using(isle_reading::proofs::Steps::chain), unfolding(isle_grammar::specs::Reading::read_field))]
-fn field<'t>(tokens: &mut Tokens<'_, 't>) -> Result<(Name<'t>, Name<'t>), Fail>
+fn field<'t>(tokens: &mut Tokens<'t>) -> Result<(Name<'t>, Name<'t>), Fail>
     ensures { Reads (λ field. field) result read_field (left tokens.old) (left tokens.new) }
 {
     tokens.open()?;
@@ -69,7 +69,7 @@ fn field<'t>(tokens: &mut Tokens<'_, 't>) -> Result<(Name<'t>, Name<'t>), Fail>
 // Fields up to a closing parenthesis, which is taken, of at most `most` tokens.
 #[tactic(auto, using(isle_reading::proofs::ListSteps::lists))]
 fn fields<'t>(
-    tokens: &mut Tokens<'_, 't>,
+    tokens: &mut Tokens<'t>,
     alloc: Global,
     most: usize,
 ) -> Result<Vec<(Name<'t>, Name<'t>)>, Fail>
@@ -92,7 +92,7 @@ fn fields<'t>(
 /// Reads names up to a closing parenthesis, which is taken, of at most `most` tokens.
 #[tactic(auto, using(isle_reading::proofs::ListSteps::lists))]
 pub fn names<'t>(
-    tokens: &mut Tokens<'_, 't>,
+    tokens: &mut Tokens<'t>,
     alloc: Global,
     most: usize,
     expected: Expected,
@@ -115,7 +115,7 @@ pub fn names<'t>(
 
 // The fields of a struct or a variant, up to the closing parenthesis, which is taken.
 #[tactic(auto, using(crate::proofs::TypeSteps::shapes))]
-fn shape<'t>(tokens: &mut Tokens<'_, 't>, alloc: Global, most: usize) -> Result<AstFields<'t>, Fail>
+fn shape<'t>(tokens: &mut Tokens<'t>, alloc: Global, most: usize) -> Result<AstFields<'t>, Fail>
     ensures { Reads (λ shape. shape) result (read_shape most) (left tokens.old) (left tokens.new) }
 {
     if most == 0 {
@@ -141,11 +141,7 @@ fn shape<'t>(tokens: &mut Tokens<'_, 't>, alloc: Global, most: usize) -> Result<
 
 // A variant with fields.
 #[tactic(auto, using(isle_reading::proofs::Steps::chain), unfolding(isle_grammar::specs::Reading::read_shaped))]
-fn shaped<'t>(
-    tokens: &mut Tokens<'_, 't>,
-    alloc: Global,
-    most: usize,
-) -> Result<AstVariant<'t>, Fail>
+fn shaped<'t>(tokens: &mut Tokens<'t>, alloc: Global, most: usize) -> Result<AstVariant<'t>, Fail>
     ensures { Reads (λ variant. variant) result (read_shaped most) (left tokens.old)
         (left tokens.new) }
 {
@@ -157,11 +153,7 @@ fn shaped<'t>(
 
 // A variant.
 #[tactic(auto, using(crate::proofs::TypeSteps::variant_steps))]
-fn variant<'t>(
-    tokens: &mut Tokens<'_, 't>,
-    alloc: Global,
-    most: usize,
-) -> Result<AstVariant<'t>, Fail>
+fn variant<'t>(tokens: &mut Tokens<'t>, alloc: Global, most: usize) -> Result<AstVariant<'t>, Fail>
     ensures { Reads (λ variant. variant) result (read_variant most) (left tokens.old)
         (left tokens.new) }
 {
@@ -180,7 +172,7 @@ fn variant<'t>(
 // Variants up to a closing parenthesis, which is taken, of at most `most` tokens.
 #[tactic(auto, using(isle_reading::proofs::ListSteps::lists))]
 fn variants<'t>(
-    tokens: &mut Tokens<'_, 't>,
+    tokens: &mut Tokens<'t>,
     alloc: Global,
     most: usize,
 ) -> Result<Vec<AstVariant<'t>>, Fail>
@@ -203,7 +195,7 @@ fn variants<'t>(
 // What stands after the first word of a body.
 #[tactic(auto, using(isle_reading::proofs::Steps::chain))]
 fn body_behind<'t>(
-    tokens: &mut Tokens<'_, 't>,
+    tokens: &mut Tokens<'t>,
     alloc: Global,
     most: usize,
     head: BodyHead,
@@ -224,11 +216,7 @@ fn body_behind<'t>(
 
 /// Reads what a type is declared as, its lists of at most `most` tokens.
 #[tactic(auto, using(isle_reading::proofs::Steps::chain), unfolding(isle_grammar::specs::Reading::read_body))]
-pub fn body<'t>(
-    tokens: &mut Tokens<'_, 't>,
-    alloc: Global,
-    most: usize,
-) -> Result<AstBody<'t>, Fail>
+pub fn body<'t>(tokens: &mut Tokens<'t>, alloc: Global, most: usize) -> Result<AstBody<'t>, Fail>
     ensures { Reads (λ body. body) result (read_body most) (left tokens.old) (left tokens.new) }
 {
     tokens.open()?;

@@ -10,7 +10,7 @@ ghost use Rattle.isle_syntax.specs.ReadingViews.{flags_seen, head_seen};
 use crate::body::{body, names};
 use crate::externs::external;
 use crate::flags::{Flags, read_flags, read_marks};
-use crate::passed::passed_items;
+use crate::passed::skip_passed;
 use isle_ast::{AstPattern, Def};
 use isle_core::{List, Name, Pos};
 use isle_expressions::{arguments, decl_name, prio, rule_name, tail, template};
@@ -50,7 +50,7 @@ fn head_of<'t>(word: &'t str) -> Option<Head<'t>>
 
 // What a definition is, by the word that is next.
 #[tactic(auto, using(isle_reading::proofs::Steps::next))]
-fn next_head<'t>(tokens: &Tokens<'_, 't>) -> Option<Head<'t>>
+fn next_head<'t>(tokens: &Tokens<'t>) -> Option<Head<'t>>
     ensures { option_map head_seen result ≡ next_word head_of (left tokens.now) }
 {
     head_of(tokens.word()?)
@@ -58,7 +58,7 @@ fn next_head<'t>(tokens: &Tokens<'_, 't>) -> Option<Head<'t>>
 
 // What a definition is.
 #[tactic(auto, using(isle_reading::proofs::Steps::words), unfolding(isle_grammar::specs::Reading::read_head))]
-fn read_head<'t>(tokens: &mut Tokens<'_, 't>) -> Result<Head<'t>, Fail>
+fn read_head<'t>(tokens: &mut Tokens<'t>) -> Result<Head<'t>, Fail>
     ensures { Reads head_seen result read_head (left tokens.old) (left tokens.new) }
 {
     match next_head(tokens) {
@@ -73,7 +73,7 @@ fn read_head<'t>(tokens: &mut Tokens<'_, 't>) -> Result<Head<'t>, Fail>
 // What stands after `( type`, for the definition at that place.
 #[tactic(auto, using(isle_reading::proofs::Steps::chain), unfolding(isle_grammar::specs::Reading::read_type))]
 fn type_decl<'t>(
-    tokens: &mut Tokens<'_, 't>,
+    tokens: &mut Tokens<'t>,
     alloc: Global,
     most: usize,
     pos: Pos,
@@ -97,7 +97,7 @@ fn type_decl<'t>(
 // What stands after the flags of `( decl`, for the definition at that place.
 #[tactic(auto, using(isle_reading::proofs::Steps::chain), unfolding(isle_grammar::specs::Reading::read_declared))]
 fn declared<'t>(
-    tokens: &mut Tokens<'_, 't>,
+    tokens: &mut Tokens<'t>,
     alloc: Global,
     most: usize,
     pos: Pos,
@@ -125,12 +125,7 @@ fn declared<'t>(
 
 // What stands after `( decl`, for the definition at that place.
 #[tactic(auto, using(isle_reading::proofs::Steps::chain), unfolding(isle_grammar::specs::Reading::read_decl))]
-fn decl<'t>(
-    tokens: &mut Tokens<'_, 't>,
-    alloc: Global,
-    most: usize,
-    pos: Pos,
-) -> Result<Def<'t>, Fail>
+fn decl<'t>(tokens: &mut Tokens<'t>, alloc: Global, most: usize, pos: Pos) -> Result<Def<'t>, Fail>
     ensures { Reads def result (read_decl most pos.file pos.offset) (left tokens.old)
         (left tokens.new) }
 {
@@ -141,7 +136,7 @@ fn decl<'t>(
 // What stands after `( extractor`, for the definition at that place.
 #[tactic(auto, using(isle_reading::proofs::Steps::chain), unfolding(isle_grammar::specs::Reading::read_extractor))]
 fn extractor<'t>(
-    tokens: &mut Tokens<'_, 't>,
+    tokens: &mut Tokens<'t>,
     alloc: Global,
     most: usize,
     pos: Pos,
@@ -164,7 +159,7 @@ fn extractor<'t>(
 
 // What stands after `( convert`, for the definition at that place.
 #[tactic(auto, using(isle_reading::proofs::Steps::chain), unfolding(isle_grammar::specs::Reading::read_convert))]
-fn convert<'t>(tokens: &mut Tokens<'_, 't>, pos: Pos) -> Result<Def<'t>, Fail>
+fn convert<'t>(tokens: &mut Tokens<'t>, pos: Pos) -> Result<Def<'t>, Fail>
     ensures { Reads def result (read_convert pos.file pos.offset) (left tokens.old)
         (left tokens.new) }
 {
@@ -183,7 +178,7 @@ fn convert<'t>(tokens: &mut Tokens<'_, 't>, pos: Pos) -> Result<Def<'t>, Fail>
 // A rule's head: a term, and the patterns of its arguments.
 #[tactic(auto, using(isle_reading::proofs::Steps::chain), unfolding(isle_grammar::specs::Reading::read_parts))]
 fn parts<'t>(
-    tokens: &mut Tokens<'_, 't>,
+    tokens: &mut Tokens<'t>,
     alloc: Global,
     most: usize,
 ) -> Result<(Name<'t>, Vec<AstPattern<'t>>), Fail>
@@ -198,12 +193,7 @@ fn parts<'t>(
 
 // What stands after `( rule`, for the definition at that place.
 #[tactic(auto, using(isle_reading::proofs::Steps::chain), unfolding(isle_grammar::specs::Reading::read_rule))]
-fn rule<'t>(
-    tokens: &mut Tokens<'_, 't>,
-    alloc: Global,
-    most: usize,
-    pos: Pos,
-) -> Result<Def<'t>, Fail>
+fn rule<'t>(tokens: &mut Tokens<'t>, alloc: Global, most: usize, pos: Pos) -> Result<Def<'t>, Fail>
     requires { length (left tokens.old) ≤ most }
     ensures { Reads def result (read_rule most pos.file pos.offset) (left tokens.old)
         (left tokens.new) }
@@ -223,11 +213,10 @@ fn rule<'t>(
     })
 }
 
-// What stands after the first word of a list that is passed over, at that place.
+// A list that is passed over, after its first word, at that place.
 #[tactic(auto, using(isle_reading::proofs::Steps::chain), unfolding(isle_grammar::specs::Reading::read_passed))]
 fn passed<'t>(
-    tokens: &mut Tokens<'_, 't>,
-    alloc: Global,
+    tokens: &mut Tokens<'t>,
     most: usize,
     pos: Pos,
     head: Name<'t>,
@@ -235,17 +224,13 @@ fn passed<'t>(
     ensures { Reads def result (read_passed most pos.file pos.offset head.entry) (left tokens.old)
         (left tokens.new) }
 {
-    let items = passed_items(tokens, alloc, most)?;
-    Ok(Def::Passed {
-        head,
-        items: List::new(items),
-        pos,
-    })
+    skip_passed(tokens, most)?;
+    Ok(Def::Passed { head, pos })
 }
 
 // What stands after the head of the definition at that place.
 fn behind<'t>(
-    tokens: &mut Tokens<'_, 't>,
+    tokens: &mut Tokens<'t>,
     alloc: Global,
     most: usize,
     pos: Pos,
@@ -262,14 +247,14 @@ fn behind<'t>(
         Head::Extern => external(tokens, pos),
         Head::Extractor => extractor(tokens, alloc, most, pos),
         Head::Convert => convert(tokens, pos),
-        Head::Passed(word) => passed(tokens, alloc, most, pos, word),
+        Head::Passed(word) => passed(tokens, most, pos, word),
     }
 }
 
 /// Reads a definition of the file of that number, its lists of at most `most` tokens.
 #[tactic(auto, using(isle_reading::proofs::Steps::chain), unfolding(isle_grammar::specs::Reading::read_def))]
 pub fn definition<'t>(
-    tokens: &mut Tokens<'_, 't>,
+    tokens: &mut Tokens<'t>,
     alloc: Global,
     most: usize,
     file: usize,
@@ -285,7 +270,7 @@ pub fn definition<'t>(
 /// Reads the definitions of a file of at most `most` tokens, up to its end.
 #[tactic(auto, using(isle_reading::proofs::ListSteps::alls))]
 pub fn file_of<'t>(
-    tokens: &mut Tokens<'_, 't>,
+    tokens: &mut Tokens<'t>,
     alloc: Global,
     most: usize,
     file: usize,

@@ -34,7 +34,7 @@ fn extern_head_of(word: &str) -> Option<ExternHead>
 
 // What an `extern` is, by the word that is next.
 #[tactic(auto, using(isle_reading::proofs::Steps::next))]
-fn next_extern_head(tokens: &Tokens<'_, '_>) -> Option<ExternHead>
+fn next_extern_head(tokens: &Tokens<'_>) -> Option<ExternHead>
     ensures { option_map extern_head_seen result ≡ next_word extern_head (left tokens.now) }
 {
     extern_head_of(tokens.word()?)
@@ -42,7 +42,7 @@ fn next_extern_head(tokens: &Tokens<'_, '_>) -> Option<ExternHead>
 
 // What an `extern` is.
 #[tactic(auto, using(isle_reading::proofs::Steps::words), unfolding(isle_grammar::specs::Reading::read_extern_head))]
-fn read_head(tokens: &mut Tokens<'_, '_>) -> Result<ExternHead, Fail>
+fn read_head(tokens: &mut Tokens<'_>) -> Result<ExternHead, Fail>
     ensures { Reads extern_head_seen result read_extern_head (left tokens.old) (left tokens.new) }
 {
     match next_extern_head(tokens) {
@@ -56,7 +56,7 @@ fn read_head(tokens: &mut Tokens<'_, '_>) -> Result<ExternHead, Fail>
 
 // What stands after `( extern constructor`.
 #[tactic(auto, using(isle_reading::proofs::Steps::chain), unfolding(isle_grammar::specs::Reading::read_constructor))]
-fn constructor<'t>(tokens: &mut Tokens<'_, 't>, pos: Pos) -> Result<Def<'t>, Fail>
+fn constructor<'t>(tokens: &mut Tokens<'t>, pos: Pos) -> Result<Def<'t>, Fail>
     ensures { Reads def result (read_constructor pos.file pos.offset) (left tokens.old)
         (left tokens.new) }
 {
@@ -69,7 +69,7 @@ fn constructor<'t>(tokens: &mut Tokens<'_, 't>, pos: Pos) -> Result<Def<'t>, Fai
 // The end of an external extractor that may fail.
 #[tactic(auto, using(isle_reading::proofs::Steps::chain), unfolding(isle_grammar::specs::Reading::read_fallible))]
 fn fallible<'t>(
-    tokens: &mut Tokens<'_, 't>,
+    tokens: &mut Tokens<'t>,
     pos: Pos,
     term: Name<'t>,
     func: Name<'t>,
@@ -88,7 +88,7 @@ fn fallible<'t>(
 
 // The end of an external extractor that may not fail, after its term.
 #[tactic(auto, using(isle_reading::proofs::Steps::chain), unfolding(isle_grammar::specs::Reading::read_infallible))]
-fn infallible<'t>(tokens: &mut Tokens<'_, 't>, pos: Pos, term: Name<'t>) -> Result<Def<'t>, Fail>
+fn infallible<'t>(tokens: &mut Tokens<'t>, pos: Pos, term: Name<'t>) -> Result<Def<'t>, Fail>
     ensures { Reads def result (read_infallible pos.file pos.offset term.entry) (left tokens.old)
         (left tokens.new) }
 {
@@ -105,7 +105,7 @@ fn infallible<'t>(tokens: &mut Tokens<'_, 't>, pos: Pos, term: Name<'t>) -> Resu
 // What stands after two names, of which the first may be the word `infallible`.
 #[tactic(auto, using(crate::proofs::DefinitionSteps::two_names))]
 fn extractor_behind<'t>(
-    tokens: &mut Tokens<'_, 't>,
+    tokens: &mut Tokens<'t>,
     pos: Pos,
     term: Name<'t>,
     func: Name<'t>,
@@ -128,7 +128,7 @@ fn extractor_behind<'t>(
 
 // What stands after `( extern extractor`.
 #[tactic(auto, using(isle_reading::proofs::Steps::chain), unfolding(isle_grammar::specs::Reading::read_extractor_function))]
-fn extractor<'t>(tokens: &mut Tokens<'_, 't>, pos: Pos) -> Result<Def<'t>, Fail>
+fn extractor<'t>(tokens: &mut Tokens<'t>, pos: Pos) -> Result<Def<'t>, Fail>
     ensures { Reads def result (read_extractor_function pos.file pos.offset) (left tokens.old)
         (left tokens.new) }
 {
@@ -139,7 +139,7 @@ fn extractor<'t>(tokens: &mut Tokens<'_, 't>, pos: Pos) -> Result<Def<'t>, Fail>
 
 // What stands after `( extern const`.
 #[tactic(auto, using(isle_reading::proofs::Steps::chain), unfolding(isle_grammar::specs::Reading::read_const))]
-fn const_of<'t>(tokens: &mut Tokens<'_, 't>, pos: Pos) -> Result<Def<'t>, Fail>
+fn const_of<'t>(tokens: &mut Tokens<'t>, pos: Pos) -> Result<Def<'t>, Fail>
     ensures { Reads def result (read_const pos.file pos.offset) (left tokens.old)
         (left tokens.new) }
 {
@@ -150,11 +150,7 @@ fn const_of<'t>(tokens: &mut Tokens<'_, 't>, pos: Pos) -> Result<Def<'t>, Fail>
 }
 
 // What stands after the second word of an `extern`.
-fn extern_behind<'t>(
-    tokens: &mut Tokens<'_, 't>,
-    pos: Pos,
-    head: ExternHead,
-) -> Result<Def<'t>, Fail>
+fn extern_behind<'t>(tokens: &mut Tokens<'t>, pos: Pos, head: ExternHead) -> Result<Def<'t>, Fail>
     ensures { Reads def result (extern_behind pos.file pos.offset (extern_head_seen head))
         (left tokens.old) (left tokens.new) }
 {
@@ -167,7 +163,7 @@ fn extern_behind<'t>(
 
 /// Reads what stands after `( extern`, for the definition at that place.
 #[tactic(auto, using(isle_reading::proofs::Steps::chain), unfolding(isle_grammar::specs::Reading::read_extern))]
-pub fn external<'t>(tokens: &mut Tokens<'_, 't>, pos: Pos) -> Result<Def<'t>, Fail>
+pub fn external<'t>(tokens: &mut Tokens<'t>, pos: Pos) -> Result<Def<'t>, Fail>
     ensures { Reads def result (read_extern pos.file pos.offset) (left tokens.old)
         (left tokens.new) }
 {

@@ -50,7 +50,7 @@ fn with_flag(flags: Flags, word: &str) -> Option<Flags>
 
 // The flags with that which is next.
 #[tactic(auto, using(isle_reading::proofs::Steps::next))]
-fn next_flag(tokens: &Tokens<'_, '_>, flags: Flags) -> Option<Flags>
+fn next_flag(tokens: &Tokens<'_>, flags: Flags) -> Option<Flags>
     ensures { option_map flags_seen result
         ≡ next_word (with_flag (flags_seen flags)) (left tokens.now) }
 {
@@ -59,7 +59,7 @@ fn next_flag(tokens: &Tokens<'_, '_>, flags: Flags) -> Option<Flags>
 
 /// Reads the flags of a `decl`.
 #[tactic(auto, using(isle_reading::proofs::Steps::states), unfolding(isle_grammar::specs::Reading::read_flags))]
-pub fn read_flags(tokens: &mut Tokens<'_, '_>) -> Result<Flags, Fail>
+pub fn read_flags(tokens: &mut Tokens<'_>) -> Result<Flags, Fail>
     ensures { Reads flags_seen result read_flags (left tokens.old) (left tokens.new) }
 {
     let mut flags = Flags {
@@ -102,7 +102,7 @@ fn with_mark(marks: Marks, word: &str) -> Option<Marks>
 
 // The marks with that which is next.
 #[tactic(auto, using(isle_reading::proofs::Steps::next))]
-fn next_mark(tokens: &Tokens<'_, '_>, marks: Marks) -> Option<Marks>
+fn next_mark(tokens: &Tokens<'_>, marks: Marks) -> Option<Marks>
     ensures { option_map marks_seen result
         ≡ next_word (with_mark (marks_seen marks)) (left tokens.now) }
 {
@@ -111,7 +111,7 @@ fn next_mark(tokens: &Tokens<'_, '_>, marks: Marks) -> Option<Marks>
 
 /// Reads the words after a type's name.
 #[tactic(auto, using(isle_reading::proofs::Steps::states), unfolding(isle_grammar::specs::Reading::read_marks))]
-pub fn read_marks(tokens: &mut Tokens<'_, '_>) -> Result<Marks, Fail>
+pub fn read_marks(tokens: &mut Tokens<'_>) -> Result<Marks, Fail>
     ensures { Reads marks_seen result read_marks (left tokens.old) (left tokens.new) }
 {
     let mut marks = Marks {

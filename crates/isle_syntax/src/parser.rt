@@ -1,6 +1,5 @@
 ghost use Rattle.std.specs.Prelude.{◌≡◌, ◌≤◌, ℕ, List, length, Err, IfOk};
 ghost use Rattle.isle_lexer.specs.Lexer.{lexer_file, lexer_text, IsUntaken};
-ghost use Rattle.isle_lexer.specs.TokenViews.{tokens_seen};
 ghost use Rattle.isle_reading.specs.Nesting.{depth, most_open};
 ghost use Rattle.isle_reading.specs.Places.{IsFault, IsFaultAt, place_left};
 ghost use Rattle.isle_reading.specs.Views.{left};
@@ -17,8 +16,8 @@ ghost use Rattle.isle_syntax.specs.declared.parser.ParseFail.TheVariants as fail
 use crate::definition::file_of;
 use isle_ast::Def;
 use isle_core::Pos;
-use isle_lexer::{LexFail, Lexer, Token, tokens};
-use isle_reading::{Expected, Fail, Tokens, place_of, token_end};
+use isle_lexer::Lexer;
+use isle_reading::{Expected, Fail, Tokens};
 use std::alloc::Global;
 
 /// What was met where a text goes wrong, and what may stand there: the user's help, of which no clause speaks.
@@ -41,36 +40,34 @@ pub enum ParseFail {
 // The definitions that tokens of the file of that number spell, which a cursor stands in front of. `At` comes exactly
 // if they spell none, or nest too deep, and says how many tokens are left where they go wrong.
 fn definitions<'t>(
-    cursor: &mut Tokens<'_, 't>,
+    tokens: &mut Tokens<'t>,
     alloc: Global,
     file: usize,
-    tokens: &[Token<'t>],
 ) -> Result<Vec<Def<'t>>, Fail>
-    requires { left cursor.old ≡ tokens_seen tokens.now }
     ensures spelt { IfOk result (λ read.
-        FileS file (tokens_seen tokens.now) (defs read.items)
-        × (depth (tokens_seen tokens.now) ≤ most_open)) }
-    ensures fault { (k : ℕ) → result ≡ Err (At k)
-        → IsFault (IsFile file) (tokens_seen tokens.now) k }
+        FileS file (left tokens.old) (defs read.items) × (depth (left tokens.old) ≤ most_open)) }
+    ensures fault { (k : ℕ) → result ≡ Err (At k) → IsFault (IsFile file) (left tokens.old) k }
 {
-    file_of(cursor, alloc, tokens.len(), file)
+    let most = tokens.len();
+    file_of(tokens, alloc, most, file)
 }
 
 // The failure at the place where so many tokens are left.
 fn fail_at(
     file: usize,
-    tokens: &[Token<'_>],
+    tokens: &Tokens<'_>,
     end: usize,
-    left: usize,
+    count: usize,
     expected: Expected,
 ) -> ParseFail
     ensures { (at : Pos) (m : Mismatch) → result ≡ fail.At at m
-        → (at.file ≡ file) × (at.offset ≡ place_left (tokens_seen tokens.now) left end) }
+        → (at.file ≡ file) × (at.offset ≡ place_left (left tokens.now) count end) }
 {
-    let offset = place_of(tokens, left, end);
+    let met = tokens.at_left(count);
+    let offset = met.place(end);
     let to = Pos {
         file,
-        offset: token_end(tokens, left, end),
+        offset: met.token_end(),
     };
     ParseFail::At(Pos { file, offset }, Mismatch { to, expected })
 }
@@ -79,23 +76,22 @@ fn fail_at(
 fn of_tokens<'t>(
     alloc: Global,
     file: usize,
-    tokens: &[Token<'t>],
+    tokens: &Tokens<'t>,
     end: usize,
 ) -> Result<Vec<Def<'t>>, ParseFail>
-    ensures ok { IfOk result (λ read.
-        SpellsTokens file (tokens_seen tokens.now) (defs read.items)) }
+    ensures ok { IfOk result (λ read. SpellsTokens file (left tokens.now) (defs read.items)) }
     ensures only { IfOk result (λ read.
-        (others : List PureDef) → SpellsTokens file (tokens_seen tokens.now) others
+        (others : List PureDef) → SpellsTokens file (left tokens.now) others
         → others ≡ defs read.items) }
     ensures fault { (at : Pos) (m : Mismatch) → result ≡ Err (fail.At at m)
-        → (at.file ≡ file) × IsFaultAt (IsFile file) (tokens_seen tokens.now) end at.offset }
+        → (at.file ≡ file) × IsFaultAt (IsFile file) (left tokens.now) end at.offset }
     ensures none { (at : Pos) (m : Mismatch) → result ≡ Err (fail.At at m) → (others : List PureDef)
-        → SpellsTokens file (tokens_seen tokens.now) others → ⊥ }
+        → SpellsTokens file (left tokens.now) others → ⊥ }
 {
-    let mut cursor = Tokens::new(tokens);
-    match definitions(&mut cursor, alloc, file, tokens) {
+    let mut cursor = *tokens;
+    match definitions(&mut cursor, alloc, file) {
         Ok(read) => Ok(read),
-        Err(Fail::At(left)) => Err(fail_at(file, tokens, end, left, cursor.expected())),
+        Err(Fail::At(count)) => Err(fail_at(file, tokens, end, count, cursor.expected())),
         Err(Fail::Memory) => Err(ParseFail::Memory),
     }
 }
@@ -116,12 +112,7 @@ pub fn parse<'t>(alloc: Global, lexer: Lexer<'t>) -> Result<Vec<Def<'t>>, ParseF
     ensures none { (at : Pos) (m : Mismatch) → result ≡ Err (fail.At at m) → (others : List PureDef)
         → Spells (lexer_file lexer.entry) (lexer_text lexer.entry) others → ⊥ }
 {
-    let file = lexer.file();
-    let end = lexer.text_len();
-    match lexer.tokens(alloc) {
-        Ok(tokens) => of_tokens(alloc, file, tokens.as_slice(), end),
-        Err(_) => Err(ParseFail::Memory),
-    }
+    parse_text(alloc, lexer.file(), lexer.text())
 }
 
 // The failure at the comment that never ends.
@@ -138,8 +129,8 @@ fn unclosed_at(file: usize, offset: usize) -> ParseFail
     ParseFail::At(at, Mismatch { to, expected })
 }
 
-/// Returns the definitions that the text of the file of that number spells, read in one pass for its tokens. `At` as of
-/// `parse`, and before all else where a comment never ends.
+/// Returns the definitions that the text of the file of that number spells; no token is kept. `At` as of `parse`, and
+/// before all else where a comment never ends.
 pub fn parse_text<'t>(alloc: Global, file: usize, text: &'t str) -> Result<Vec<Def<'t>>, ParseFail>
     ensures ok { IfOk result (λ read. Spells file text.now (defs read.items)) }
     ensures only { IfOk result (λ read.
@@ -149,9 +140,8 @@ pub fn parse_text<'t>(alloc: Global, file: usize, text: &'t str) -> Result<Vec<D
     ensures none { (at : Pos) (m : Mismatch) → result ≡ Err (fail.At at m) → (others : List PureDef)
         → Spells file text.now others → ⊥ }
 {
-    match tokens(alloc, text) {
-        Ok(tokens) => of_tokens(alloc, file, tokens.as_slice(), text.len()),
-        Err(LexFail::Unclosed(offset)) => Err(unclosed_at(file, offset)),
-        Err(LexFail::Memory) => Err(ParseFail::Memory),
+    match Tokens::new(text) {
+        Ok(tokens) => of_tokens(alloc, file, &tokens, text.len()),
+        Err(offset) => Err(unclosed_at(file, offset)),
     }
 }

@@ -1,111 +1,88 @@
-ghost use Rattle.std.specs.Prelude.{◌≡◌, ◌-◌, map, option_map};
+ghost use Rattle.std.specs.Prelude.{◌≡◌, ◌-◌, is_some};
 ghost use Rattle.isle_reading.specs.Combinators.{many};
-ghost use Rattle.isle_reading.specs.Views.{left, Reads};
-ghost use Rattle.isle_ast.specs.Views.{any};
+ghost use Rattle.isle_reading.specs.Views.{left};
 ghost use Rattle.isle_grammar.specs.Grammar.{any_of};
 ghost use Rattle.isle_grammar.specs.Reading.{next_any, read_token, read_any};
 ghost use Rattle.isle_lexer.specs.TokenViews.{token_seen};
 ghost use Rattle.isle_reading.specs.Nesting.{most_open};
+ghost use Rattle.isle_syntax.specs.Skipping.{Skips};
 
-use isle_ast::AstAny;
-use isle_core::{List, Name};
 use isle_lexer::Token;
 use isle_reading::{Expected, Fail, Tokens, most_inside};
-use std::alloc::Global;
 
-// The thing that a token is, which is no parenthesis.
-#[tactic(auto, using(isle_ast::proofs::Sees::any_sees))]
-fn any_of<'t>(token: Token<'t>) -> Option<AstAny<'t>>
-    ensures { option_map any result ≡ any_of (token_seen token.entry) }
+// Whether a token is a thing by itself, as all are but parentheses.
+fn is_thing(token: Token<'_>) -> bool
+    ensures { result ≡ is_some (any_of (token_seen token.entry)) }
 {
     match token {
-        Token::Open(_) | Token::Close(_) => None,
-        Token::At(_) => Some(AstAny::At),
-        Token::Less(_) => Some(AstAny::Less),
-        Token::Greater(_) => Some(AstAny::Greater),
-        Token::Word(_, word) => Some(AstAny::Word(Name::new(word))),
+        Token::Open(_) | Token::Close(_) => false,
+        Token::At(_) | Token::Less(_) | Token::Greater(_) | Token::Word(_, _) => true,
     }
 }
 
-// The thing that is next.
+// Whether a thing of one token is next.
 #[tactic(auto, using(crate::proofs::PassedSteps::nexts))]
-fn next_any<'t>(tokens: &Tokens<'_, 't>) -> Option<AstAny<'t>>
-    ensures { option_map any result ≡ next_any (left tokens.now) }
+fn has_thing(tokens: &Tokens<'_>) -> bool
+    ensures { result ≡ is_some (next_any (left tokens.now)) }
 {
-    any_of(tokens.token()?)
-}
-
-// A thing of one token.
-#[tactic(auto, using(crate::proofs::PassedSteps::things))]
-fn thing<'t>(tokens: &mut Tokens<'_, 't>) -> Result<AstAny<'t>, Fail>
-    ensures { Reads any result read_token (left tokens.old) (left tokens.new) }
-{
-    match next_any(tokens) {
-        Some(thing) => {
-            tokens.skip();
-            Ok(thing)
-        }
-        None => Err(tokens.miss(Expected::Close)),
+    match tokens.token() {
+        Some(token) => is_thing(token),
+        None => false,
     }
 }
 
-// A thing inside which `depth` more parentheses may be open, its lists of at most `most` tokens.
+// Goes on after a thing of one token.
+#[tactic(auto, using(crate::proofs::PassedSteps::things))]
+fn skip_thing(tokens: &mut Tokens<'_>) -> Result<(), Fail>
+    ensures { Skips result read_token (left tokens.old) (left tokens.new) }
+{
+    if !has_thing(tokens) {
+        return Err(tokens.miss(Expected::Close));
+    }
+    tokens.skip();
+    Ok(())
+}
+
+// Goes on after a thing inside which `depth` more parentheses may be open, its lists of at most `most` tokens.
 #[cycle(passed)]
-#[tactic(auto, using(crate::proofs::PassedSteps::any_steps, isle_ast::proofs::Sees::any_sees))]
-fn any<'t>(
-    tokens: &mut Tokens<'_, 't>,
-    alloc: Global,
-    most: usize,
-    depth: usize,
-) -> Result<AstAny<'t>, Fail>
-    ensures { Reads any result (read_any most depth) (left tokens.old) (left tokens.new) }
+#[tactic(auto, using(crate::proofs::PassedSteps::any_steps))]
+fn skip_any(tokens: &mut Tokens<'_>, most: usize, depth: usize) -> Result<(), Fail>
+    ensures { Skips result (read_any most depth) (left tokens.old) (left tokens.new) }
 {
     match tokens.opens() {
-        None => thing(tokens),
+        None => skip_thing(tokens),
         Some(_) => {
             if depth == 0 {
                 return Err(tokens.miss(Expected::Shallower));
             }
             tokens.open()?;
-            let items = anys(tokens, alloc, most, depth - 1)?;
-            Ok(AstAny::List(List::new(items)))
+            skip_anys(tokens, most, depth - 1)
         }
     }
 }
 
-// Things up to a closing parenthesis, which is taken, of at most `most` tokens.
+// Goes on after things up to a closing parenthesis, which is taken, of at most `most` tokens.
 #[cycle(passed)]
 #[tactic(auto, using(crate::proofs::PassedSteps::lists))]
-fn anys<'t>(
-    tokens: &mut Tokens<'_, 't>,
-    alloc: Global,
-    most: usize,
-    depth: usize,
-) -> Result<Vec<AstAny<'t>>, Fail>
-    ensures { Reads (λ items. map any items.items) result (many most (read_any most depth))
-        (left tokens.old) (left tokens.new) }
+fn skip_anys(tokens: &mut Tokens<'_>, most: usize, depth: usize) -> Result<(), Fail>
+    ensures { Skips result (many most (read_any most depth)) (left tokens.old) (left tokens.new) }
 {
-    let mut items = Vec::new(alloc);
     for _ in 0..most {
         match tokens.closes() {
             Some(_) => {
                 tokens.skip();
-                return Ok(items);
+                return Ok(());
             }
-            None => items.push(any(tokens, alloc, most, depth)?)?,
+            None => skip_any(tokens, most, depth)?,
         }
     }
     Err(tokens.miss(Expected::Close))
 }
 
-/// Reads what stands in a list that is passed over, up to its closing parenthesis, which is taken.
-pub fn passed_items<'t>(
-    tokens: &mut Tokens<'_, 't>,
-    alloc: Global,
-    most: usize,
-) -> Result<Vec<AstAny<'t>>, Fail>
-    ensures { Reads (λ items. map any items.items) result
-        (many most (read_any most (most_open - 1))) (left tokens.old) (left tokens.new) }
+/// Goes on after what stands in a list that is passed over, and after its closing parenthesis.
+pub fn skip_passed(tokens: &mut Tokens<'_>, most: usize) -> Result<(), Fail>
+    ensures { Skips result (many most (read_any most (most_open - 1))) (left tokens.old)
+        (left tokens.new) }
 {
-    anys(tokens, alloc, most, most_inside())
+    skip_anys(tokens, most, most_inside())
 }

@@ -17,10 +17,11 @@ use Rattle.isle_templates.specs.declared.template.Kept.{Kept}
 use Rattle.isle_templates.specs.Arguments.{needed_one, needed, weighed, AreArguments}
 use Rattle.isle_templates.specs.Counted.{AreParts}
 use Rattle.isle_templates.specs.NodeCount.{pattern_nodes, patterns_nodes}
-use Rattle.isle_templates.specs.Occurrences.{times_in}
+use Rattle.isle_templates.specs.Occurrences.{times_in, times_kept}
 use Rattle.isle_templates.specs.Renumbered.{pattern_variables}
 use Rattle.isle_templates.specs.Standing.{IsKept}
 use Rattle.isle_templates.specs.Substituted.{substituted, expanded, all_expanded, template_of, opened}
+use Rattle.isle_templates.proofs.OccurrenceLaws.{few_times}
 use Rattle.isle_templates.proofs.SubstitutedNodes.{one_node, substituted_nodes, substituted_alike, extras_weighed}
 
 -- parts one by one
@@ -31,7 +32,7 @@ parts_each templates (p ∷ ps) = ap (λ qs. expanded templates p ∷ qs) (parts
 -- ---- the parts of a pattern
 
 -- one more
-seen_more : (g : Pattern → Pattern) (xs : List CodePattern) (i : ℕ) (x : CodePattern) → i < length xs → x ≡ get_or xs i x → map g (map elaborated (take (i + 1) xs)) ≡ map g (map elaborated (take i xs)) ++ g (elaborated x) ∷ []
+pub seen_more : (g : Pattern → Pattern) (xs : List CodePattern) (i : ℕ) (x : CodePattern) → i < length xs → x ≡ get_or xs i x → map g (map elaborated (take (i + 1) xs)) ≡ map g (map elaborated (take i xs)) ++ g (elaborated x) ∷ []
 seen_more g xs i x lt is =
     ap (map g) (map_more elaborated xs i x lt ∙ ap (λ y. map elaborated (take i xs) ++ elaborated y ∷ []) (sym is)) ∙ map-append g (map elaborated (take i xs)) (elaborated x ∷ [])
 
@@ -97,7 +98,7 @@ needed_at times k (p ∷ ps) zero some = ap Some (one (times k) (subst (λ n. 0 
     one (suc n) lt = refl
 needed_at times k (p ∷ ps) (suc x) some = needed_at times (suc k) ps x (subst (λ n. 0 < times n) (omega arith) some)
 
-times_there : (xs : List ℕ) (x : ℕ) → Contains xs x → 0 < times_in xs x
+pub times_there : (xs : List ℕ) (x : ℕ) → Contains xs x → 0 < times_in xs x
 times_there [] x c = absurd (none_contained x c)
 times_there (y ∷ ys) x c = pick (eqb y x) refl (λ d. times_there ys x d)
   where
@@ -159,3 +160,7 @@ large_opened inner t k args kept lt = let sum = substituted_nodes args t in let 
 -- the nodes of one that is not are exact
 pub few_kept : (inner : List (Option Pattern)) (t : Pattern) (k : Kept) → IsKept inner t k → k.nodes ≤ 4096 → k.nodes ≡ pattern_nodes (substituted [] t)
 few_kept inner t k kept le = let is = kept.nodes in omega arith
+
+-- so is how often its parameters stand in it
+pub few_times_kept : (inner : List (Option Pattern)) (t : Pattern) (k : Kept) → IsKept inner t k → k.nodes ≤ 4096 → (x : ℕ) → times_kept k.times.items x ≡ times_in (pattern_variables t) x
+few_times_kept inner t k kept le x = let is = kept.nodes in let same = kept.times.counts x in let few = few_times x t in omega (arith, le, is, same, few)

@@ -1,15 +1,12 @@
 -- Steps in which code keeps templates.
-use Rattle.std.proofs.Common.{◌≡◌, ℕ, ◌-◌, ◌^◌, ◌<◌, ◌≤◌, List, [], Option, None, refl, ap, ◌∙◌, arith}
-use Rattle.std.specs.Prelude.{min}
+use Rattle.std.proofs.Common.{◌≡◌, List, Option, None, refl, ap, ◌∙◌}
 use Rattle.isle_base.specs.declared.ids.TermId.{TermId}
 use Rattle.isle_core.specs.Pattern as pattern
 use Rattle.isle_core.specs.Pattern.{Pattern, Patterns, NoPattern, APattern}
 use Rattle.isle_core.specs.RuleViews.{patterns_of}
-use Rattle.isle_templates.specs.NodeCount.{pattern_nodes}
-use Rattle.isle_templates.specs.Substituted.{expanded, all_expanded, opened, substituted, template_of}
-use Rattle.isle_templates.proofs.SubstitutedNodes.{no_fewer}
+use Rattle.isle_templates.specs.Substituted.{expanded, all_expanded, opened, template_of}
 
--- ---- where no term has a template, a pattern is as it was
+-- where no term has a template, a pattern is as it was
 
 module _ (none : List (Option Pattern)) (all : (term : TermId) → template_of none term ≡ None) where
   mutual
@@ -26,18 +23,3 @@ module _ (none : List (Option Pattern)) (all : (term : TermId) → template_of n
     none_replaced : (ps : Patterns) → patterns_of (all_expanded none ps) ≡ ps
     none_replaced NoPattern = refl
     none_replaced (APattern p ps) = ap (λ q. APattern q (patterns_of (all_expanded none ps))) (not_replaced p) ∙ ap (APattern p) (none_replaced ps)
-
--- ---- nodes counted up to 4,097
-
-pub few_nodes : (n base : ℕ) → n ≡ min base (2 ^ 64 - 1) → n ≤ 4096 → n ≡ min base 4097
-few_nodes n base is few = omega arith
-
-pub many_nodes : (n base : ℕ) → n ≡ min base (2 ^ 64 - 1) → 4096 < n → 4096 < base
-many_nodes n base is many = omega arith
-
-pub too_many : (base : ℕ) → 4096 < base → 4097 ≡ min base 4097
-too_many base lt = omega arith
-
--- a pattern with too many nodes has too many as a template, too
-pub large_pattern : (p : Pattern) → 4096 < pattern_nodes p → 4096 < pattern_nodes (substituted [] p)
-large_pattern p lt = let more = no_fewer p in omega arith

@@ -67,7 +67,7 @@ none_kept whole table below term h e = pick (template_of whole term) (subst (Sta
     pick (Some t) s = absurd s
 
 -- one is kept: what holds of its template with no other in it holds of the term's
-kept_there : (P : Option Pattern → Type 0) (whole : List (Option Pattern)) (table : List Template) (below : ℕ) (term : TermId) (k : Kept) → StandFor whole table below → kept_of table below term ≡ Some k
+pub kept_there : (P : Option Pattern → Type 0) (whole : List (Option Pattern)) (table : List Template) (below : ℕ) (term : TermId) (k : Kept) → StandFor whole table below → kept_of table below term ≡ Some k
     → ((inner : List (Option Pattern)) (t : Pattern) → StandFor inner table k.uses → IsKept inner t k → P (Some t)) → P (template_of whole term)
 kept_there P whole table below term k h e of = pick (template_of whole term) (subst (Stands h.inner (template_of whole term)) e (stands_there whole table below term h))
   where

@@ -28,7 +28,11 @@ pub mod OrderSteps
 pub mod RenamingSteps
 pub mod SubstitutedNodes
 pub mod CountedSteps
-pub mod ParameterSteps
+pub mod SameCounts
+pub mod OccurrenceSums
+pub mod OccurrenceLaws
+pub mod OccurrenceSteps
+pub mod WholeNodeSteps
 pub mod ExpansionSteps
 pub mod TemplateOrder
 pub mod FilledTable

@@ -11,7 +11,7 @@ use Rattle.isle_templates.specs.PutIn.{put_in, with_rest}
 use Rattle.isle_templates.proofs.SubstitutionSteps.{parts_each}
 use Rattle.isle_templates.specs.Substituted.{pattern_or, argument, substituted, all_substituted, opened}
 
-none_left : (n : ℕ) → ◌≡◌ {A = List Pattern} (drop n []) []
+pub none_left : (n : ℕ) → ◌≡◌ {A = List Pattern} (drop n []) []
 none_left zero = refl
 none_left (suc n) = refl
 

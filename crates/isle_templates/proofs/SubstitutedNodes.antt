@@ -1,5 +1,5 @@
 -- How many nodes a template has with patterns in place of its parameters.
-use Rattle.std.proofs.Common.{◌≡◌, ℕ, zero, suc, ◌+◌, ◌-◌, ◌*◌, ◌<◌, ◌≤◌, Bool, true, false, cond, eqb, List, [], ◌∷◌, ◌++◌, length, Option, Some, None, refl, sym, ap, ◌∙◌, arith}
+use Rattle.std.proofs.Common.{◌≡◌, ℕ, zero, suc, ◌+◌, ◌-◌, ◌*◌, ◌<◌, Bool, true, false, cond, eqb, List, [], ◌∷◌, ◌++◌, length, Option, Some, None, refl, sym, ap, ◌∙◌, arith}
 use Rattle.std.specs.Prelude.{Contains, slice_get}
 use Rattle.std.proofs.lemmas.Bool.{eq-eqb, ne_eqb}
 use Rattle.std.proofs.lemmas.List.Elements.{Contains-append_left, Contains-append_right}
@@ -65,22 +65,6 @@ mutual
       let rest = all_substituted_nodes args ps in
       let both = extras-append args (pattern_variables p) (patterns_variables ps) in
       omega arith
-
-mutual
-  -- and no fewer than it has itself
-  pub no_fewer : (p : Pattern) → pattern_nodes p ≤ pattern_nodes (substituted [] p)
-  no_fewer (pattern.BindPattern ty x p) = let rest = no_fewer p in omega arith
-  no_fewer (pattern.Var ty x) = omega arith
-  no_fewer (pattern.ConstBool b) = omega arith
-  no_fewer (pattern.ConstInt ty n) = omega arith
-  no_fewer (pattern.ConstPrim ty name) = omega arith
-  no_fewer (pattern.Term ty term ps) = let rest = all_no_fewer ps in omega arith
-  no_fewer (pattern.Wildcard ty) = omega arith
-  no_fewer (pattern.And ty ps) = let rest = all_no_fewer ps in omega arith
-
-  all_no_fewer : (ps : Patterns) → patterns_nodes ps ≤ patterns_nodes (all_substituted [] ps)
-  all_no_fewer NoPattern = omega arith
-  all_no_fewer (APattern p ps) = let first = no_fewer p in let rest = all_no_fewer ps in omega arith
 
 -- ---- what stands at a parameter counts as often as it does
 

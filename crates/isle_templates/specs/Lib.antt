@@ -8,6 +8,7 @@ pub mod TypedRule
 pub mod WrittenRule
 pub mod CodeBinding
 pub mod FirstPlaces
+pub mod SameCount
 pub mod Occurrences
 pub mod Counted
 pub mod Arguments

@@ -1,5 +1,5 @@
 -- What code keeps of templates.
-use Rattle.std.specs.Prelude.{◌≡◌, ◌≤◌, ◌⊎◌, ℕ, suc, List, [], Option, Some, None, slice_get, min, nat_le, if◌then◌else◌}
+use Rattle.std.specs.Prelude.{◌≡◌, ◌≤◌, ◌⊎◌, ℕ, suc, List, [], Option, Some, None, slice_get, nat_le, if◌then◌else◌}
 use Rattle.isle_base.specs.declared.ids.TermId.{TermId}
 use Rattle.isle_core.specs.Pattern.{Pattern}
 use Rattle.isle_core.specs.RuleViews.{pattern as elaborated}
@@ -7,8 +7,9 @@ use Rattle.isle_templates.specs.declared.template.Kept.{Kept}
 use Rattle.isle_templates.specs.declared.template.Template.{Template}
 use Rattle.isle_templates.specs.declared.template.Template.TheVariants.{Absent, Present}
 use Rattle.isle_templates.specs.NodeCount.{pattern_nodes}
-use Rattle.isle_templates.specs.Occurrences.{times_in, times_kept}
+use Rattle.isle_templates.specs.Occurrences.{CountsTimes}
 use Rattle.isle_templates.specs.Renumbered.{pattern_variables}
+use Rattle.isle_templates.specs.SameCount.{SameCount}
 use Rattle.isle_templates.specs.Substituted.{substituted, expanded, template_of}
 
 -- a template if its rank is below this
@@ -21,11 +22,11 @@ if_below below (Some (Present k)) = if nat_le (suc k.rank) below then Some k els
 abbrev pub kept_of : List Template → (below : ℕ) → TermId → Option Kept
 kept_of table below term = if_below below (slice_get table term.0)
 
--- what is kept of a template with no other in it: one that gives it, once these stand for those that it uses; how many nodes it has with parameters of one node, up to 4,097; and how often each parameter stands in it, if it is small enough
+-- what is kept of a template with no other in it: one that gives it, once these stand for those that it uses; how many nodes it has with parameters of one node; and how often each parameter stands in it
 pub record IsKept (inner : List (Option Pattern)) (t : Pattern) (k : Kept) : Type 0 where
   pub whole : t ≡ expanded inner (elaborated k.pattern)
-  pub nodes : k.nodes ≡ min (pattern_nodes (substituted [] t)) 4097
-  pub times : k.nodes ≤ 4096 → (x : ℕ) → times_kept k.times x ≡ times_in (pattern_variables t) x
+  pub nodes : SameCount k.nodes (pattern_nodes (substituted [] t))
+  pub times : CountsTimes (pattern_variables t) k.times.items
 
 -- what is kept for a term that may have a template, where these stand for those of ranks below each number
 abbrev pub Stands : (ℕ → List (Option Pattern)) → Option Pattern → Option Kept → Type 0

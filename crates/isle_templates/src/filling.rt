@@ -1,6 +1,6 @@
 //! Templates with patterns in place of their parameters, and with those that they use put in.
 
-ghost use Rattle.std.specs.Prelude.{◌≡◌, List, Option, IfOk, map};
+ghost use Rattle.std.specs.Prelude.{◌≡◌, List, Option, IfOk, map, take};
 ghost use Rattle.isle_core.specs.Pattern as pattern;
 ghost use Rattle.isle_core.specs.Pattern.{APattern, NoPattern};
 ghost use Rattle.isle_core.specs.Pattern.{Pattern as Tree};
@@ -41,6 +41,17 @@ fn both(alloc: Global, ty: TypeId, first: Pattern, second: Pattern) -> Result<Pa
     parts.push(first)?;
     parts.push(second)?;
     Ok(Pattern::And(ty, List::new(parts)))
+}
+
+// The first of these, up to so many.
+fn first(args: &[Pattern], most: usize) -> &[Pattern]
+    ensures { result.now ≡ take most args.now }
+{
+    if most < args.len() {
+        &args[..most]
+    } else {
+        args
+    }
 }
 
 // Copies of patterns after these, from their number on.
@@ -138,7 +149,7 @@ fn term_filled(
     match kept_of(known, term) {
         None => Ok(Pattern::Term(ty, term, List::new(parts))),
         Some(kept) => {
-            let all = with_rest(alloc, parts, args)?;
+            let all = with_rest(alloc, parts, first(args, kept.times.len()))?;
             filled(
                 alloc,
                 &kept.pattern,

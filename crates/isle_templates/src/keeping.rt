@@ -1,26 +1,22 @@
-//! What is kept of templates.
+//! What is kept of templates. They are counted first, and made only where they are kept with others put in.
 
-ghost use Rattle.std.specs.Prelude.{◌≡◌, ◌<◌, List, [], Option, IfOk, option_map};
+ghost use Rattle.std.specs.Prelude.{◌≡◌, List, Option, Some, IfOk, option_map};
 ghost use Rattle.isle_core.specs.Pattern.{Pattern as Tree};
 ghost use Rattle.isle_core.specs.RuleViews.{pattern as elaborated};
-ghost use Rattle.isle_templates.specs.NodeCount.{pattern_nodes};
+ghost use Rattle.isle_templates.specs.declared.counted.Counted.{Counted};
 ghost use Rattle.isle_templates.specs.Standing.{IsKeptAt, IsMade, StandFor};
-ghost use Rattle.isle_templates.specs.Substituted.{expanded, substituted};
+ghost use Rattle.isle_templates.specs.Substituted.{expanded};
 
-use crate::base_nodes::base_nodes;
 use crate::copies::copied;
-use crate::counted::MOST_NODES;
+use crate::counted::{Counted, MOST_NODES};
 use crate::expansion::expanded;
 use crate::known::Known;
 use crate::levels::levels;
-use crate::parameters::Parameters;
+use crate::occurrences::occurrences;
 use crate::template::{Kept, Template};
+use crate::whole_nodes::whole_nodes;
 use isle_core::Pattern;
 use std::alloc::{AllocError, Global};
-use std::collections::BTreeMap;
-
-// The nodes that are counted of a template that is too large to be used.
-const TOO_MANY: usize = MOST_NODES + 1;
 
 // A template of so few nodes is kept with those that it uses put in.
 const FEW_NODES: usize = 16;
@@ -29,58 +25,23 @@ const FEW_NODES: usize = 16;
 // in.
 const MOST_LEVELS: usize = 256;
 
-// What is kept of a template that is too large to be used.
-fn large(alloc: Global, written: &Pattern, rank: usize) -> Result<Kept, AllocError>
-    ensures { IfOk result (λ kept. (inner : List (Option Tree))
-        → 4096 < pattern_nodes (substituted [] (expanded inner (elaborated written.now)))
-        → IsKeptAt inner rank (expanded inner (elaborated written.now)) kept) }
-{
-    Ok(Kept {
-        pattern: copied(alloc, written)?,
-        rank,
-        uses: rank,
-        levels: 0,
-        nodes: TOO_MANY,
-        times: BTreeMap::new(alloc),
-    })
-}
-
-// What is kept of a template that is written so and puts in so many levels, by what comes of it with those that it
-// uses put in.
-fn kept(
+// A template with those that it uses put in, if it is kept so: it has few nodes, or many levels.
+fn whole(
     alloc: Global,
     written: &Pattern,
-    rank: usize,
+    known: Known<'_>,
+    nodes: usize,
     levels: usize,
-    whole: &Pattern,
-) -> Result<Kept, AllocError>
-    ensures { IfOk result (λ kept. (inner : List (Option Tree))
-        → elaborated whole.now ≡ expanded inner (elaborated written.now)
-        → IsKeptAt inner rank (elaborated whole.now) kept) }
+) -> Result<Option<Counted>, AllocError>
+    ensures { IfOk result (λ found. (c : Counted) → found ≡ Some c
+        → (inner : List (Option Tree)) → StandFor inner known.entry.table.now known.entry.below
+        → elaborated c.pattern ≡ expanded inner (elaborated written.now)) }
 {
-    let nodes = base_nodes(whole);
-    if nodes > MOST_NODES {
-        return large(alloc, written, rank);
+    if nodes <= FEW_NODES || nodes <= MOST_NODES && levels > MOST_LEVELS {
+        expanded(alloc, written, known)
+    } else {
+        Ok(None)
     }
-    let times = Parameters::of(alloc, whole)?.into_times();
-    if nodes <= FEW_NODES || levels > MOST_LEVELS {
-        return Ok(Kept {
-            pattern: copied(alloc, whole)?,
-            rank,
-            uses: 0,
-            levels: 0,
-            nodes,
-            times,
-        });
-    }
-    Ok(Kept {
-        pattern: copied(alloc, written)?,
-        rank,
-        uses: rank,
-        levels,
-        nodes,
-        times,
-    })
 }
 
 // What is kept of a template that is written so, where this is known of those that it uses.
@@ -89,13 +50,27 @@ fn kept_with(alloc: Global, written: &Pattern, known: Known<'_>) -> Result<Kept,
         (inner : List (Option Tree)) → StandFor inner known.entry.table.now known.entry.below
         → IsKeptAt inner known.entry.below (expanded inner (elaborated written.now)) kept) }
 {
-    let found = expanded(alloc, written, known)?;
-    match &found {
-        None => large(alloc, written, known.below),
-        Some(whole) => {
-            let levels = levels(written, known);
-            kept(alloc, written, known.below, levels, &whole.pattern)
-        }
+    let rank = known.below;
+    let nodes = whole_nodes(written, known);
+    let levels = levels(written, known);
+    let times = occurrences(alloc, written, known)?;
+    match whole(alloc, written, known, nodes, levels)? {
+        None => Ok(Kept {
+            pattern: copied(alloc, written)?,
+            rank,
+            uses: rank,
+            levels,
+            nodes,
+            times,
+        }),
+        Some(found) => Ok(Kept {
+            pattern: found.pattern,
+            rank,
+            uses: 0,
+            levels: 0,
+            nodes,
+            times,
+        }),
     }
 }
 

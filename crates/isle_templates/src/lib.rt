@@ -3,7 +3,6 @@
 //! Which terms are `multi` where a pattern uses them, with templates replaced.
 #![tactic(auto)]
 
-mod base_nodes;
 mod conditions;
 mod copies;
 mod counted;
@@ -16,8 +15,8 @@ mod known;
 mod levels;
 mod multi;
 mod multi_uses;
+mod occurrences;
 mod order;
-mod parameters;
 mod renaming;
 mod renumbering;
 mod rules;
@@ -25,6 +24,7 @@ mod template;
 mod templates;
 mod uses;
 mod variables;
+mod whole_nodes;
 
 pub use copies::copied_at;
 pub use multi::multi_extractors;

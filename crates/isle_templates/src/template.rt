@@ -4,7 +4,6 @@ ghost use Rattle.std.specs.Prelude.{◌≡◌, ◌≤◌};
 ghost use Rattle.isle_templates.specs.Occurrences.{times_kept};
 
 use isle_core::Pattern;
-use std::collections::BTreeMap;
 
 /// A template, with what is told of it once no other is in it.
 #[derive(Drop)]
@@ -17,10 +16,10 @@ pub struct Kept {
     pub uses: usize,
     /// How many levels of templates are put in where the pattern is used.
     pub levels: usize,
-    /// How many nodes there are where a pattern of one node stands for each parameter, or 4,097 if there are more.
+    /// How many nodes there are where a pattern of one node stands for each parameter.
     pub nodes: usize,
-    /// How often each parameter stands there, if there are few enough nodes.
-    pub times: BTreeMap<usize, usize>,
+    /// How often each parameter stands there, by its number. One of a number beyond these stands nowhere.
+    pub times: Vec<usize>,
     pub ghost lower: { uses ≤ rank },
 }
 
@@ -35,8 +34,8 @@ pub enum Template {
 impl Kept {
     /// Returns how often a parameter stands there.
     pub fn times(&self, parameter: usize) -> usize
-        ensures { result ≡ times_kept self.now.times parameter }
+        ensures { result ≡ times_kept self.now.times.items parameter }
     {
-        self.times.get(&parameter).copied().unwrap_or(0)
+        self.times.get(parameter).copied().unwrap_or(0)
     }
 }

@@ -60,4 +60,4 @@ declared_term (tree.ExternConst const ty pos ∷ defs) name h = declared_term de
 declared_term (tree.Extractor term params template pos ∷ defs) name h = declared_term defs name h
 declared_term (tree.Converter from to term pos ∷ defs) name h = declared_term defs name h
 declared_term (tree.Rule rule prio term args iflets rhs pos ∷ defs) name h = declared_term defs name h
-declared_term (tree.Passed head items pos ∷ defs) name h = declared_term defs name h
+declared_term (tree.Passed head pos ∷ defs) name h = declared_term defs name h

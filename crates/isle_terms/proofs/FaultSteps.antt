@@ -54,7 +54,7 @@ few_more bs (tree.ExternConst name ty pos) c le = let e = length-append bs (tree
 few_more bs (tree.Extractor term params template pos) c le = let e = length-append bs (tree.Extractor term params template pos ∷ []) in omega (arith, e)
 few_more bs (tree.Converter from to term pos) c le = let e = length-append bs (tree.Converter from to term pos ∷ []) in omega (arith, e)
 few_more bs (tree.Rule name prio term args iflets rhs pos) c le = let e = length-append bs (tree.Rule name prio term args iflets rhs pos ∷ []) in omega (arith, e)
-few_more bs (tree.Passed head items pos) c le = let e = length-append bs (tree.Passed head items pos ∷ []) in omega (arith, e)
+few_more bs (tree.Passed head pos) c le = let e = length-append bs (tree.Passed head pos ∷ []) in omega (arith, e)
 
 -- one definition more is counted
 pub counted_more : (bs : List Def) (d : Def) (c : Counts) → AreCounted bs c → AreCounted (bs ++ d ∷ []) (counts_after d c)

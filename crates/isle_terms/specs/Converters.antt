@@ -27,7 +27,7 @@ converter_of (ExternExtractor term func infallible pos) = None
 converter_of (ExternConst name ty pos) = None
 converter_of (Extractor term params template pos) = None
 converter_of (Rule name prio term args iflets rhs pos) = None
-converter_of (Passed head items pos) = None
+converter_of (Passed head pos) = None
 
 -- the converters, in order
 abbrev pub converters : List Def → List Conversion

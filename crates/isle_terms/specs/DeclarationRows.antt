@@ -39,7 +39,7 @@ named_by (ExternConst name ty pos) = None
 named_by (Extractor term params template pos) = Some term
 named_by (Converter from to term pos) = Some term
 named_by (Rule name prio term args iflets rhs pos) = None
-named_by (Passed head items pos) = None
+named_by (Passed head pos) = None
 
 -- it names a term that is not declared
 abbrev pub term_undeclared : Context → Def → Bool

@@ -57,80 +57,33 @@ impl<'b, 'd> Misfit<'b, 'd> {
 
     /// Reports it in words, for the user: no clause speaks of them.
     pub fn words(&self, alloc: Global) -> Result<Text, OutOfMemory> {
-        match self {
-            Misfit::ParameterCount(term, params, args) => counts(alloc, term, *params, *args),
-            Misfit::SecondConverter(given) => second(alloc, given),
-            Misfit::ConverterUnfit(given) => unfit(alloc, given),
-            Misfit::DeclaredTwice(term) => told(
-                alloc,
-                "term '",
-                term.as_str(),
-                "' is declared twice",
-            ),
-            Misfit::Made(term) => told(alloc, "term '", term.as_str(), "' is made by a type"),
-            Misfit::TypeMissing(ty) => told(alloc, "type '", ty.as_str(), "' is not declared"),
-            Misfit::ManyArguments(term) => told(
-                alloc,
-                "'",
-                term.as_str(),
-                "' has more than 256 arguments",
-            ),
-            Misfit::MultiAndPartial(term) => told(
-                alloc,
-                "'",
-                term.as_str(),
-                "' is multi and partial",
-            ),
-            Misfit::Undeclared(term) => told(alloc, "term '", term.as_str(), "' is not declared"),
-            Misfit::SecondConstructor(term) => {
-                told(
-                    alloc,
-                    "term '",
-                    term.as_str(),
-                    "' has two external constructors",
-                )
+        let (before, name, after) = match self {
+            Misfit::ParameterCount(term, params, args) => {
+                return counts(alloc, term, *params, *args);
             }
-            Misfit::SecondExtractor(term) => told(
-                alloc,
-                "term '",
-                term.as_str(),
-                "' has two extractors",
-            ),
-            Misfit::InfallibleMulti(term) => {
-                told(
-                    alloc,
-                    "'",
-                    term.as_str(),
-                    "' is multi, and its extractor infallible",
-                )
+            Misfit::SecondConverter(given) => return second(alloc, given),
+            Misfit::ConverterUnfit(given) => return unfit(alloc, given),
+            Misfit::DeclaredTwice(term) => ("term '", term, "' is declared twice"),
+            Misfit::Made(term) => ("term '", term, "' is made by a type"),
+            Misfit::TypeMissing(ty) | Misfit::ConverterTypeMissing(ty) => {
+                ("type '", ty, "' is not declared")
             }
-            Misfit::ParameterTwice(term) => told(
-                alloc,
+            Misfit::ManyArguments(term) => ("'", term, "' has more than 256 arguments"),
+            Misfit::MultiAndPartial(term) => ("'", term, "' is multi and partial"),
+            Misfit::Undeclared(term) | Misfit::HeadUndeclared(term) => {
+                ("term '", term, "' is not declared")
+            }
+            Misfit::SecondConstructor(term) => ("term '", term, "' has two external constructors"),
+            Misfit::SecondExtractor(term) => ("term '", term, "' has two extractors"),
+            Misfit::InfallibleMulti(term) => (
                 "'",
-                term.as_str(),
-                "' has one parameter twice",
+                term,
+                "' is multi, and its extractor infallible",
             ),
-            Misfit::ConverterTypeMissing(ty) => told(
-                alloc,
-                "type '",
-                ty.as_str(),
-                "' is not declared",
-            ),
-            Misfit::HeadUndeclared(term) => told(
-                alloc,
-                "term '",
-                term.as_str(),
-                "' is not declared",
-            ),
-            Misfit::HeadExternal(term) => {
-                told(
-                    alloc,
-                    "'",
-                    term.as_str(),
-                    "' has a rule and an external constructor",
-                )
-            }
-        }
+            Misfit::ParameterTwice(term) => ("'", term, "' has one parameter twice"),
+            Misfit::HeadExternal(term) => ("'", term, "' has a rule and an external constructor"),
+        };
+        told(alloc, before, name.as_str(), after)
     }
 }
 

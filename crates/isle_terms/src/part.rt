@@ -6,7 +6,7 @@ use isle_core::{Name, TypeId};
 #[derive(Clone, Copy)]
 pub enum Thing<'b, 'd> {
     Parameter(&'b Name<'d>),
-    Integer(i128),
+    Integer(&'b i128),
     Truth(bool),
     Variable(&'b Name<'d>),
     /// The name stands without its `$`.

@@ -1,6 +1,6 @@
 //! What is wrong with a part of a template or a rule, in words for the user: no clause speaks of them.
 
-use crate::culprit::{Culprit, Flaw};
+use crate::flaw::{Culprit, Flaw};
 use crate::part::{Part, Thing};
 use isle_core::{BuiltinType, Name, OutOfMemory, TypeDef, TypeEnv, TypeId};
 use isle_types::{push_name, told};

@@ -32,7 +32,7 @@ is_type_decl (ExternConst name ty pos) t e = absurd cc
 is_type_decl (Extractor term params template pos) t e = absurd cc
 is_type_decl (Converter from to term pos) t e = absurd cc
 is_type_decl (Rule name prio term args iflets rhs pos) t e = absurd cc
-is_type_decl (Passed head items pos) t e = absurd cc
+is_type_decl (Passed head pos) t e = absurd cc
 
 pub is_const : (d : Def) (c : Constant) → Some c ≡ constant_of d → (pos : Pos) × (d ≡ ExternConst c.name c.ty pos)
 is_const (ExternConst name ty pos) c e =
@@ -45,7 +45,7 @@ is_const (ExternExtractor term func infallible pos) c e = absurd cc
 is_const (Extractor term params template pos) c e = absurd cc
 is_const (Converter from to term pos) c e = absurd cc
 is_const (Rule name prio term args iflets rhs pos) c e = absurd cc
-is_const (Passed head items pos) c e = absurd cc
+is_const (Passed head pos) c e = absurd cc
 
 -- ---- lists with one more
 
@@ -137,7 +137,7 @@ other_judged all bs (ExternExtractor term func infallible pos) b t c h = record 
 other_judged all bs (Extractor term params template pos) b t c h = record { row = refl; after = λ none. kept bs (Extractor term params template pos) b t c h }
 other_judged all bs (Converter from to term pos) b t c h = record { row = refl; after = λ none. kept bs (Converter from to term pos) b t c h }
 other_judged all bs (Rule name prio term args iflets rhs pos) b t c h = record { row = refl; after = λ none. kept bs (Rule name prio term args iflets rhs pos) b t c h }
-other_judged all bs (Passed head items pos) b t c h = record { row = refl; after = λ none. kept bs (Passed head items pos) b t c h }
+other_judged all bs (Passed head pos) b t c h = record { row = refl; after = λ none. kept bs (Passed head pos) b t c h }
 other_judged all bs (TypeDecl name is_extern is_nodebug body pos) b t c h = absurd cc
 other_judged all bs (ExternConst name ty pos) b t c h = absurd cc
 

@@ -4,21 +4,19 @@ use Rattle.std.specs.Prelude.{option_map, is_some, find, ◌||◌, drop}
 use Rattle.std.specs.Option.{option_map_or}
 use Rattle.std.specs.List.{cons_option, list_any}
 use Rattle.std.specs.Str.{bytes_eq}
-use Rattle.std.specs.BTreeMap.{UpdatesBy}
-use Rattle.std.specs.Cmp.Lexicographic.{slice_cmp}
-use Rattle.std.specs.Ordering.{nat_cmp}
-use Rattle.std.proofs.lemmas.Map.Text.{btree_map_updates_str}
+use Rattle.std.proofs.Math.ListN.{get_or-append}
+use Rattle.std.proofs.Math.Seq.{get_or-append_seam}
 use Rattle.std.proofs.lemmas.Slice.Eq.{bytes_eq-Decides}
-use Rattle.std.proofs.lemmas.List.{drop_more}
-use denote.Ref.{Bor}
+use Rattle.std.proofs.lemmas.List.{drop_more, length-append}
 use Rattle.isle_ast.specs.Tree.{Def}
 use Rattle.isle_ast.specs.declared.tree.AstBody.{AstBody}
-use Rattle.isle_declarations.specs.LookedUp.{at_name}
+use Rattle.isle_declarations.specs.Symbols.{index_of, added}
+use Rattle.isle_declarations.proofs.SymbolLaws.{index_of_more, index_below}
 use Rattle.isle_types.specs.declared.known_types.KnownTypes.{KnownTypes}
 use Rattle.isle_declarations.specs.DeclaredTypes.{DeclaredType, type_of, types}
 use Rattle.isle_types.specs.Fault.{or_later}
 use Rattle.isle_types.specs.TypeNames.{declared_as, is_primitive}
-use Rattle.isle_types.specs.Gathered.{AreKnown}
+use Rattle.isle_types.specs.Gathered.{AreKnown, FindsFirsts, primitive_at}
 
 -- what a definition declares by a name
 abbrev pub declares : Option DeclaredType → List ℕ → Option AstBody
@@ -49,7 +47,7 @@ pub declared_more : (ds : List Def) (d : Def) (name : List ℕ) → declared_as 
 declared_more [] d name = alone (type_of d) name
 declared_more (x ∷ ds) d name = first_of (type_of x) (types (ds ++ d ∷ [])) (types ds) name (declares (type_of d) name) (declared_more ds d name)
 
--- ---- the map
+-- ---- those that are gathered
 
 later_none : (o : Option AstBody) → or_later o None ≡ o
 later_none None = refl
@@ -57,10 +55,12 @@ later_none (Some b) = refl
 
 -- a definition that declares no type
 pub known_other : (ds : List Def) (d : Def) (known : KnownTypes) → type_of d ≡ None → AreKnown ds known → AreKnown (ds ++ d ∷ []) known
+unfolding AreKnown
 known_other ds d known none h = record {
   finds = λ name.
       h.finds name
       ∙ ap (option_map is_primitive) (sym (declared_more ds d name ∙ ap (λ o. or_later (declared_as ds name) (declares o name)) none ∙ later_none (declared_as ds name)));
+  long = h.long;
 }
 
 again_at : (o : Option AstBody) (b : Bool) (body : AstBody) → is_some o ≡ true → or_later o (cond b (Some body) None) ≡ o
@@ -71,50 +71,103 @@ again_if : (ds : List Def) (t : DeclaredType) (name : List ℕ) (b : Bool) → b
 again_if ds t name false e s = later_none (declared_as ds name)
 again_if ds t name true e s = again_at (declared_as ds name) true t.body (subst (λ n. is_some (declared_as ds n) ≡ true) ((bytes_eq-Decides t.name name).0 e) s)
 
-primitive_there : (o : Option AstBody) (x : Option Bool) → x ≡ option_map is_primitive o → is_some x ≡ true → is_some o ≡ true
-primitive_there (Some b) x e s = refl
-primitive_there None x e s = absurd cc
+primitive_there : (values : List Bool) (place : Option ℕ) (o : Option AstBody) → option_map (λ i. get_or values i false) place ≡ option_map is_primitive o → is_some place ≡ true → is_some o ≡ true
+primitive_there values (Some i) (Some b) e s = refl
+primitive_there values (Some i) None e s = absurd cc
+primitive_there values None o e s = absurd cc
 
 -- one that declares a type of a name that is there
-pub known_again : (ds : List Def) (d : Def) (t : DeclaredType) (known : KnownTypes) → Some t ≡ type_of d → is_some (at_name known.primitive t.name) ≡ true → AreKnown ds known → AreKnown (ds ++ d ∷ []) known
-known_again ds d t known is there h = record {
-  finds = λ name.
-      h.finds name
-      ∙ ap (option_map is_primitive) (sym (declared_more ds d name ∙ ap (λ o. or_later (declared_as ds name) (declares o name)) (sym is)
-      ∙ again_if ds t name (bytes_eq t.name name) refl (primitive_there (declared_as ds t.name) (at_name known.primitive t.name) (h.finds t.name) there)));
-}
+pub known_again : (ds : List Def) (d : Def) (t : DeclaredType) (known new : KnownTypes) → Some t ≡ type_of d → is_some (index_of known.names t.name) ≡ true
+    → new.names ≡ added known.names t.name → new.primitive.items ≡ known.primitive.items → AreKnown ds known → AreKnown (ds ++ d ∷ []) new
+unfolding AreKnown
+known_again ds d t known new is there names values h =
+    let stays : new.names ≡ known.names = names ∙ ap (λ b. cond b known.names (known.names ++ t.name ∷ [])) there in
+    record {
+      finds = λ name.
+          ap (λ ns. option_map (λ i. get_or new.primitive.items i false) (index_of ns name)) stays
+          ∙ ap (λ vs. option_map (λ i. get_or vs i false) (index_of known.names name)) values
+          ∙ h.finds name
+          ∙ ap (option_map is_primitive) (sym (declared_more ds d name ∙ ap (λ o. or_later (declared_as ds name) (declares o name)) (sym is)
+          ∙ again_if ds t name (bytes_eq t.name name) refl (primitive_there known.primitive.items (index_of known.names t.name) (declared_as ds t.name) (h.finds t.name) there)));
+      long = ap length values ∙ h.long ∙ ap length (sym stays);
+    }
 
-none_there : (o : Option AstBody) → option_map is_primitive o ≡ None → o ≡ None
-none_there None e = refl
-none_there (Some b) e = absurd cc
+none_there : (values : List Bool) (place : Option ℕ) (o : Option AstBody) → option_map (λ i. get_or values i false) place ≡ option_map is_primitive o → place ≡ None → o ≡ None
+none_there values place None e n = refl
+none_there values None (Some b) e n = absurd cc
+none_there values (Some i) (Some b) e n = absurd cc
 
 new_if : (ds : List Def) (t : DeclaredType) (name : List ℕ) (b : Bool) → bytes_eq t.name name ≡ b → declared_as ds t.name ≡ None
     → cond b (Some (is_primitive t.body)) (option_map is_primitive (declared_as ds name)) ≡ option_map is_primitive (or_later (declared_as ds name) (cond b (Some t.body) None))
 new_if ds t name false e none = ap (option_map is_primitive) (sym (later_none (declared_as ds name)))
 new_if ds t name true e none = ap (λ o. option_map is_primitive (or_later o (Some t.body))) (sym none ∙ ap (declared_as ds) ((bytes_eq-Decides t.name name).0 e))
 
-not_there : (x : Option Bool) → is_some x ≡ false → x ≡ None
+not_there : (o : Option ℕ) → is_some o ≡ false → o ≡ None
 not_there None e = refl
-not_there (Some b) e = absurd cc
+not_there (Some i) e = absurd cc
+
+-- what was gathered at a place stays there
+value_stays : (names : List (List ℕ)) (values : List Bool) (value : Bool) (name : List ℕ) (place : Option ℕ) → length values ≡ length names → index_of names name ≡ place
+    → option_map (λ i. get_or (values ++ value ∷ []) i false) place ≡ option_map (λ i. get_or values i false) place
+value_stays names values value name None long e = refl
+value_stays names values value name (Some i) long e =
+    let lt : i < length names = index_below names name i e in
+    ap Some (get_or-append values (value ∷ []) false i (subst (λ n. i < n) (sym long) lt))
+
+value_at : (names : List (List ℕ)) (values : List Bool) (value : Bool) (name : List ℕ) (b : Bool) → length values ≡ length names
+    → option_map (λ i. get_or (values ++ value ∷ []) i false) (cond b (Some (length names)) (index_of names name)) ≡ cond b (Some value) (option_map (λ i. get_or values i false) (index_of names name))
+value_at names values value name true long = ap Some (ap (λ n. get_or (values ++ value ∷ []) n false) (sym long) ∙ get_or-append_seam values value [] false)
+value_at names values value name false long = value_stays names values value name (index_of names name) long refl
 
 -- one that declares the first type of its name
-pub known_new : (ds : List Def) (d : Def) (t : DeclaredType) (key : Bor (List ℕ)) (known new : KnownTypes) (value : Bool) → Some t ≡ type_of d → key.now ≡ t.name → value ≡ is_primitive t.body → is_some (at_name known.primitive t.name) ≡ false
-    → UpdatesBy (λ (x y : Bor (List ℕ)). slice_cmp nat_cmp x.now y.now) (λ (k : Bor (List ℕ)). slice_cmp nat_cmp key.now k.now) known.primitive new.primitive (Some value) → AreKnown ds known → AreKnown (ds ++ d ∷ []) new
-known_new ds d t key known new value is named valued absent updates h = record {
-  finds = λ name.
-      btree_map_updates_str key.now known.primitive new.primitive (Some value) updates name
-      ∙ ap (λ (b : Bool). cond b (Some value) (at_name known.primitive name)) (ap (λ n. bytes_eq n name) named)
-      ∙ ap (λ (v : Bool). cond (bytes_eq t.name name) (Some v) (at_name known.primitive name)) valued
-      ∙ ap (λ o. cond (bytes_eq t.name name) (Some (is_primitive t.body)) o) (h.finds name)
-      ∙ new_if ds t name (bytes_eq t.name name) refl (none_there (declared_as ds t.name) (sym (h.finds t.name) ∙ not_there (at_name known.primitive t.name) absent))
-      ∙ ap (option_map is_primitive) (sym (declared_more ds d name ∙ ap (λ o. or_later (declared_as ds name) (declares o name)) (sym is)));
+pub known_new : (ds : List Def) (d : Def) (t : DeclaredType) (known new : KnownTypes) (value : Bool) → Some t ≡ type_of d → value ≡ is_primitive t.body → is_some (index_of known.names t.name) ≡ false
+    → new.names ≡ added known.names t.name → new.primitive.items ≡ known.primitive.items ++ value ∷ [] → AreKnown ds known → AreKnown (ds ++ d ∷ []) new
+unfolding AreKnown
+known_new ds d t known new value is valued absent names values h =
+    let longer : new.names ≡ known.names ++ t.name ∷ [] = names ∙ ap (λ b. cond b known.names (known.names ++ t.name ∷ [])) absent in
+    let nowhere : index_of known.names t.name ≡ None = not_there (index_of known.names t.name) absent in
+    record {
+      finds = λ name.
+          ap (λ ns. option_map (λ i. get_or new.primitive.items i false) (index_of ns name)) longer
+          ∙ ap (λ vs. option_map (λ i. get_or vs i false) (index_of (known.names ++ t.name ∷ []) name)) values
+          ∙ ap (option_map (λ i. get_or (known.primitive.items ++ value ∷ []) i false)) (index_of_more known.names t.name name nowhere)
+          ∙ value_at known.names known.primitive.items value name (bytes_eq t.name name) h.long
+          ∙ ap (λ (v : Bool). cond (bytes_eq t.name name) (Some v) (primitive_at known name)) valued
+          ∙ ap (λ o. cond (bytes_eq t.name name) (Some (is_primitive t.body)) o) (h.finds name)
+          ∙ new_if ds t name (bytes_eq t.name name) refl (none_there known.primitive.items (index_of known.names t.name) (declared_as ds t.name) (h.finds t.name) nowhere)
+          ∙ ap (option_map is_primitive) (sym (declared_more ds d name ∙ ap (λ o. or_later (declared_as ds name) (declares o name)) (sym is)));
+      long = ap length values ∙ length-append known.primitive.items (value ∷ []) ∙ ap (λ (n : ℕ). n + 1) h.long ∙ sym (length-append known.names (t.name ∷ [])) ∙ ap length (sym longer);
+    }
+
+-- nothing is gathered of no definition
+pub nothing_known : (known : KnownTypes) → known.names ≡ [] → known.primitive.items ≡ [] → AreKnown [] known
+unfolding AreKnown
+nothing_known known names values = record {
+  finds = λ name. ap (λ ns. option_map (λ i. get_or known.primitive.items i false) (index_of ns name)) names;
+  long = ap length values ∙ ap length (sym names);
 }
 
--- what the map has at a name that is no builtin type's
-pub scalar_there : (builtin : Bool) (o : Option AstBody) (p : Bool) → builtin ≡ false → Some p ≡ option_map is_primitive o → p ≡ builtin || option_map_or is_primitive o false
-scalar_there true o p b e = absurd cc
-scalar_there false None p b e = absurd cc
-scalar_there false (Some body) p b e = cc
+some_if : (values : List Bool) (place : Option ℕ) (o : Option AstBody) → option_map (λ i. get_or values i false) place ≡ option_map is_primitive o → is_some place ≡ is_some o
+some_if values None None e = refl
+some_if values None (Some b) e = absurd cc
+some_if values (Some i) None e = absurd cc
+some_if values (Some i) (Some b) e = refl
+
+-- a name was gathered if a type is declared by it
+pub type_known : (ds : List Def) (known : KnownTypes) (name : List ℕ) → AreKnown ds known → is_some (index_of known.names name) ≡ is_some (declared_as ds name)
+unfolding AreKnown
+type_known ds known name h = some_if known.primitive.items (index_of known.names name) (declared_as ds name) (h.finds name)
+
+primitive_if : (values : List Bool) (place : Option ℕ) (o : Option AstBody) → option_map (λ i. get_or values i false) place ≡ option_map is_primitive o → option_map_or (λ i. get_or values i false) place false ≡ option_map_or is_primitive o false
+primitive_if values None None e = refl
+primitive_if values None (Some b) e = absurd cc
+primitive_if values (Some i) None e = absurd cc
+primitive_if values (Some i) (Some b) e = cc
+
+-- it was noted as primitive if that type is
+pub primitive_known : (ds : List Def) (known : KnownTypes) (name : List ℕ) → AreKnown ds known → option_map_or (λ i. get_or known.primitive.items i false) (index_of known.names name) false ≡ option_map_or is_primitive (declared_as ds name) false
+unfolding AreKnown
+primitive_known ds known name h = primitive_if known.primitive.items (index_of known.names name) (declared_as ds name) (h.finds name)
 
 -- one more of which a test fails
 pub any_more : {X : Type 0} (test : X → Bool) (xs : List X) (i : ℕ) (x d : X) → i < length xs → x ≡ get_or xs i d → test x ≡ false → list_any test (drop i xs) ≡ list_any test (drop (i + 1) xs)

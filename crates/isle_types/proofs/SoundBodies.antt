@@ -76,7 +76,7 @@ def_sound defs env (ExternConst name ty pos) is u h = tt
 def_sound defs env (Extractor term params template pos) is u h = tt
 def_sound defs env (Converter from to term pos) is u h = tt
 def_sound defs env (Rule name prio term args iflets rhs pos) is u h = tt
-def_sound defs env (Passed head items pos) is u h = tt
+def_sound defs env (Passed head pos) is u h = tt
 
 some_more : {Y : Type 0} (P : Y → Type 0) (o : Option Y) (ys : List Y) → IfSome o P → AllByRecursion P ys → AllByRecursion P (cons_option o ys)
 some_more P None ys h k = k

@@ -50,7 +50,7 @@ constant_sound defs env (ExternExtractor term func infallible pos) is u h = tt
 constant_sound defs env (Extractor term params template pos) is u h = tt
 constant_sound defs env (Converter from to term pos) is u h = tt
 constant_sound defs env (Rule name prio term args iflets rhs pos) is u h = tt
-constant_sound defs env (Passed head items pos) is u h = tt
+constant_sound defs env (Passed head pos) is u h = tt
 
 each_constant : (defs : List Def) (env : Environment) (ds : List Def) → env.types ≡ type_env_of defs → AllByRecursion (IsUnbroken defs) ds → AllByRecursion (λ (d : Def). AllStand (symbols defs) (def_names d)) ds
     → AllByRecursion (λ (d : Def). IfSome (constant_of d) (λ (c : Constant). IsSoundConstant defs env (constant_in defs c))) ds

@@ -96,7 +96,7 @@ declared_at all (ExternConst other ty pos ∷ ds) name body e = let r = declared
 declared_at all (Extractor term params template pos ∷ ds) name body e = let r = declared_at all ds name body e in record { place = r.place; what = r.what; at = r.at; stands = r.stands; plain = r.plain }
 declared_at all (Converter from to term pos ∷ ds) name body e = let r = declared_at all ds name body e in record { place = r.place; what = r.what; at = r.at; stands = r.stands; plain = r.plain }
 declared_at all (Rule own prio term args iflets rhs pos ∷ ds) name body e = let r = declared_at all ds name body e in record { place = r.place; what = r.what; at = r.at; stands = r.stands; plain = r.plain }
-declared_at all (Passed head items pos ∷ ds) name body e = let r = declared_at all ds name body e in record { place = r.place; what = r.what; at = r.at; stands = r.stands; plain = r.plain }
+declared_at all (Passed head pos ∷ ds) name body e = let r = declared_at all ds name body e in record { place = r.place; what = r.what; at = r.at; stands = r.stands; plain = r.plain }
 
 -- ---- the type of a name
 

@@ -1,5 +1,5 @@
 -- What the code that looks at types and constants sees.
-use Rattle.std.specs.Prelude.{◌≡◌, ℕ, List, [], ◌∷◌, ◌++◌, ◌||◌, not, Option, Some, None, Result, Ok, Err, map, option_map, if◌then◌else◌}
+use Rattle.std.specs.Prelude.{◌≡◌, ℕ, Bool, false, List, [], ◌∷◌, ◌++◌, ◌||◌, not, length, slice_index_or, Option, Some, None, Result, Ok, Err, map, option_map, if◌then◌else◌}
 use Rattle.std.specs.List.{list_any}
 use Rattle.isle_core.specs.declared.position.Pos.{Pos}
 use Rattle.isle_core.specs.declared.errors.Error.{Error}
@@ -19,13 +19,22 @@ use Rattle.isle_types.specs.Fault.{type_row, type_fault}
 use Rattle.isle_types.specs.Bodies.{any_fields, variants_repeat, fields_repeat, field_types, are_many}
 use Rattle.isle_ast.specs.declared.tree.AstBody.{AstBody}
 use Rattle.isle_ast.specs.declared.tree.AstFields.{AstFields}
-use Rattle.isle_declarations.specs.LookedUp.{at_name}
+use Rattle.isle_declarations.specs.Symbols.{index_of}
 use Rattle.isle_declarations.specs.DeclaredTypes.{Constant, constants, made_terms}
 use Rattle.isle_types.specs.TypeNames.{type_names, declared_as, is_primitive, is_type}
 
--- the map has the first type of each name
-pub record AreKnown (defs : List Def) (known : KnownTypes) : Type 0 where
-  pub finds : (name : List ℕ) → at_name known.primitive name ≡ option_map is_primitive (declared_as defs name)
+-- whether the type of a name is primitive, if it was gathered
+abbrev pub primitive_at : KnownTypes → List ℕ → Option Bool
+primitive_at known name = option_map (λ place. slice_index_or known.primitive.items place false) (index_of known.names name)
+
+-- of each name the first type was found, and as many names were gathered as types
+pub record FindsFirsts (defs : List Def) (known : KnownTypes) : Type 0 where
+  pub finds : (name : List ℕ) → primitive_at known name ≡ option_map is_primitive (declared_as defs name)
+  pub long : length known.primitive.items ≡ length known.names
+
+-- the first type of each name was gathered
+unfoldable pub AreKnown : List Def → KnownTypes → Type 0
+AreKnown defs known = FindsFirsts defs known
 
 -- what these definitions declare: types and constants by their names, and the terms that types make
 pub record IsBefore (defs : List Def) (before : Before) : Type 0 where

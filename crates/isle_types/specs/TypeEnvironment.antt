@@ -59,7 +59,7 @@ type_def_in defs (ExternConst name ty pos) = None
 type_def_in defs (Extractor term params template pos) = None
 type_def_in defs (Converter from to term pos) = None
 type_def_in defs (Rule name prio term args iflets rhs pos) = None
-type_def_in defs (Passed head items pos) = None
+type_def_in defs (Passed head pos) = None
 
 -- a constant, with its type
 abbrev pub constant_in : List Def → Constant → Sym × TypeId

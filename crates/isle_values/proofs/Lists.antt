@@ -39,8 +39,8 @@ pub values_refused : (k : ℕ) (ts : List Lexeme) (vs : Writtens) → stops (val
 values_refused k ts vs e l s = let x : stops (values_of ts) ≡ None = ap stops (values_complete ts vs l s).2 in absurd (let y : None ≡ Some k = sym x ∙ e in cc)
 
 -- the same, as the code has it
-pub values_got : (most : ℕ) (ts us rest : List Lexeme) (vs : List Written) → most ≡ length us → ts ≡ us → run (read_whole most) ts ≡ Got vs rest → ListS (in_order vs) us × (depth us ≤ most_open)
-values_got most ts us rest vs e g h = let x : values_of us ≡ Got vs rest = rw (← e, ← g) h in values_sound us rest vs x
+pub values_got : (most : ℕ) (ts rest : List Lexeme) (vs : List Written) → most ≡ length ts → run (read_whole most) ts ≡ Got vs rest → ListS (in_order vs) ts × (depth ts ≤ most_open)
+values_got most ts rest vs e h = let x : values_of ts ≡ Got vs rest = rw (← e) h in values_sound ts rest vs x
 
 -- what came of reading, if a value came
 pub comes_ok : {T A : Type 0} (view : T → A) (result : Result T Fail) (o : Reading A) (rest : List Lexeme) (P : T → Type 0) → Comes view result o rest → ((x : T) → o ≡ Got (view x) rest → P x) → IfOk result P

@@ -24,7 +24,7 @@ fn word_value(word: &str) -> Option<Written>
 
 // A value of one word that is next.
 #[tactic(auto, using(isle_reading::proofs::Steps::next))]
-fn next_simple(tokens: &Tokens<'_, '_>) -> Option<Written>
+fn next_simple(tokens: &Tokens<'_>) -> Option<Written>
     ensures { option_map written result ≡ next_word word_value (left tokens.now) }
 {
     word_value(tokens.word()?)
@@ -32,7 +32,7 @@ fn next_simple(tokens: &Tokens<'_, '_>) -> Option<Written>
 
 /// Reads a value of one word.
 #[tactic(auto, using(isle_reading::proofs::Steps::words), unfolding(crate::specs::Reading::read_simple))]
-pub fn simple(tokens: &mut Tokens<'_, '_>) -> Result<Written, Fail>
+pub fn simple(tokens: &mut Tokens<'_>) -> Result<Written, Fail>
     ensures { Reads written result read_simple (left tokens.old) (left tokens.new) }
 {
     match next_simple(tokens) {
@@ -48,7 +48,7 @@ pub fn simple(tokens: &mut Tokens<'_, '_>) -> Result<Written, Fail>
 #[cycle(values)]
 #[tactic(auto, using(crate::proofs::ValueSteps::value_steps, crate::proofs::Sees::sees))]
 pub fn value(
-    tokens: &mut Tokens<'_, '_>,
+    tokens: &mut Tokens<'_>,
     alloc: Global,
     most: usize,
     depth: usize,
@@ -73,7 +73,7 @@ pub fn value(
 #[cycle(values)]
 #[tactic(auto, using(crate::proofs::ValueSteps::lists))]
 pub fn parts(
-    tokens: &mut Tokens<'_, '_>,
+    tokens: &mut Tokens<'_>,
     alloc: Global,
     most: usize,
     depth: usize,
@@ -97,7 +97,7 @@ pub fn parts(
 /// Reads a list of values, with its parentheses.
 #[tactic(auto, using(isle_reading::proofs::Steps::chain), unfolding(crate::specs::Reading::read_list))]
 pub fn list(
-    tokens: &mut Tokens<'_, '_>,
+    tokens: &mut Tokens<'_>,
     alloc: Global,
     most: usize,
     depth: usize,
@@ -111,7 +111,7 @@ pub fn list(
 
 /// Reads a list of values, of at most `most` tokens, and nothing after it.
 #[tactic(auto, using(isle_reading::proofs::Steps::chain), unfolding(crate::specs::Reading::read_whole))]
-pub fn whole(tokens: &mut Tokens<'_, '_>, alloc: Global, most: usize) -> Result<Vec<Written>, Fail>
+pub fn whole(tokens: &mut Tokens<'_>, alloc: Global, most: usize) -> Result<Vec<Written>, Fail>
     ensures { Reads (λ values. map written values.items) result (read_whole most) (left tokens.old)
         (left tokens.new) }
 {

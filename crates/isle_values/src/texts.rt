@@ -1,7 +1,6 @@
 ghost use Rattle.std.specs.Prelude.{◌≡◌, ◌≤◌, Ok, None, IfOk, IfErr, IfSome};
-ghost use Rattle.isle_lexer.specs.TokenViews.{tokens_seen};
 ghost use Rattle.isle_reading.specs.Nesting.{depth, most_open};
-ghost use Rattle.isle_reading.specs.Views.{Refuses};
+ghost use Rattle.isle_reading.specs.Views.{left, Refuses};
 ghost use Rattle.isle_values.specs.Reading.{values_of};
 ghost use Rattle.isle_values.specs.Spelling.{ListS, SpellsValues};
 ghost use Rattle.isle_values.specs.Views.{seen};
@@ -10,19 +9,17 @@ ghost use Rattle.isle_values.specs.Written.{Writtens};
 use crate::reading::whole;
 use crate::written::Written;
 use isle_core::{List, OutOfMemory};
-use isle_lexer::{LexFail, Token, tokens};
 use isle_reading::{Fail, Tokens};
 use std::alloc::Global;
 
 // The list that tokens spell.
-fn listed(alloc: Global, tokens: &[Token<'_>]) -> Result<Vec<Written>, Fail>
+fn listed(alloc: Global, tokens: &mut Tokens<'_>) -> Result<Vec<Written>, Fail>
     ensures got { IfOk result (λ read.
-        ListS (seen read.items) (tokens_seen tokens.now)
-        × (depth (tokens_seen tokens.now) ≤ most_open)) }
-    ensures refused { IfErr result (λ fail. Refuses fail (values_of (tokens_seen tokens.now))) }
+        ListS (seen read.items) (left tokens.old) × (depth (left tokens.old) ≤ most_open)) }
+    ensures refused { IfErr result (λ fail. Refuses fail (values_of (left tokens.old))) }
 {
-    let mut cursor = Tokens::new(tokens);
-    whole(&mut cursor, alloc, tokens.len())
+    let most = tokens.len();
+    whole(tokens, alloc, most)
 }
 
 /// Returns the list of values that a text spells, `( V* )` and nothing after it. A V is `true`, `false`, an integer,
@@ -34,13 +31,13 @@ pub fn values(alloc: Global, text: &str) -> Result<Option<List<Written>>, OutOfM
         IfSome read (λ vs. (others : Writtens) → SpellsValues text.now others → others ≡ seen vs)) }
     ensures none { result ≡ Ok None → (others : Writtens) → SpellsValues text.now others → ⊥ }
 {
-    match tokens(alloc, text) {
-        Ok(tokens) => match listed(alloc, tokens.as_slice()) {
-            Ok(read) => Ok(Some(List::new(read))),
-            Err(Fail::At(_)) => Ok(None),
-            Err(Fail::Memory) => Err(OutOfMemory),
-        },
-        Err(LexFail::Unclosed(_)) => Ok(None),
-        Err(LexFail::Memory) => Err(OutOfMemory),
+    let mut tokens = match Tokens::new(text) {
+        Ok(tokens) => tokens,
+        Err(_) => return Ok(None),
+    };
+    match listed(alloc, &mut tokens) {
+        Ok(read) => Ok(Some(List::new(read))),
+        Err(Fail::At(_)) => Ok(None),
+        Err(Fail::Memory) => Err(OutOfMemory),
     }
 }

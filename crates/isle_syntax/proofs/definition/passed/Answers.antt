@@ -5,4 +5,4 @@ use Rattle.isle_syntax.proofs.definition.passed.Goals as goal
 
 pub returns : goal.returns
 unfolding read_passed
-returns c = then_got _ _ _ _ _ _ c.in_ok-items.ensures (search (rules, done_got))
+returns c = then_got _ _ _ _ _ _ c.in_ok-skip_passed.ensures.1 (search (rules, done_got))

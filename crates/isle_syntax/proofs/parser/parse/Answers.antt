@@ -1,18 +1,19 @@
-use Rattle.std.proofs.Common.{◌≡◌, ◌∙◌, length, subst, rules}
+use Rattle.std.proofs.Common.{◌≡◌, ℕ, List, length, sym, subst, ◌∙◌, None, Some, rules}
 use Rattle.isle_lexer.specs.Lexer.{lexer_file, lexer_text}
 use Rattle.isle_lexer.specs.Lexeme.{lexemes}
-use Rattle.isle_lexer.specs.TokenViews.{tokens_seen}
+use Rattle.isle_lexer.specs.Token.{IsClosed}
 use Rattle.isle_reading.specs.Places.{IsFaultAt}
-use Rattle.isle_grammar.specs.Spelling.{IsFile}
+use Rattle.isle_grammar.specs.Spelling.{IsFile, IsTextFault, open_comment, bad_tokens}
 use Rattle.isle_syntax.proofs.parser.parse.Goals as goal
 
-pub returns-in-Ok-clause-fault : goal.returns-in-Ok-clause-fault
-returns-in-Ok-clause-fault c = λ at m e.
-    let x = c.of_tokens.ensures.fault at m e in
-    let file : c.file-file.result ≡ lexer_file c.args.lexer = search rules in
-    let end : c.text_len-end.result ≡ length (lexer_text c.args.lexer) = search rules in
-    let seen : tokens_seen c.as_slice.result.now ≡ lexemes (lexer_text c.args.lexer) = search rules in (
-      x.0 ∙ file,
-      subst (λ f. IsFaultAt (IsFile f) (lexemes (lexer_text c.args.lexer)) (length (lexer_text c.args.lexer)) at.offset) file
-          (subst (λ n. IsFaultAt (IsFile c.file-file.result) (lexemes (lexer_text c.args.lexer)) n at.offset) end (subst (λ ts. IsFaultAt (IsFile c.file-file.result) ts c.text_len-end.result at.offset) seen x.1)),
-    )
+-- where each comment ends, the tokens go wrong
+of_closed : (file at : ℕ) (text : List ℕ) → IsClosed text → IsTextFault file text at → IsFaultAt (IsFile file) (lexemes text) (length text) at
+of_closed file at text closed (open_comment e) = absurd (let y : None ≡ Some at = sym closed ∙ e in cc)
+of_closed file at text closed (bad_tokens c fault) = fault
+
+pub returns-clause-fault : goal.returns-clause-fault
+returns-clause-fault c = λ at m e.
+    let x = c.parse_text.ensures.fault at m e in
+    let file : c.file.result ≡ lexer_file c.args.lexer = search rules in
+    let text : c.text.result.now ≡ lexer_text c.args.lexer = search rules in
+    (x.0 ∙ file, of_closed _ at.offset _ c.args.lexer.closed (subst (λ f. IsTextFault f (lexer_text c.args.lexer) at.offset) file (subst (λ t. IsTextFault c.file.result t at.offset) text x.1)))

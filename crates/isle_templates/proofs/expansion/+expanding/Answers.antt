@@ -7,7 +7,7 @@ use Rattle.isle_templates.specs.Standing.{kept_of, StandFor}
 use Rattle.isle_core.specs.RuleViews.{pattern as elaborated}
 use Rattle.isle_templates.specs.Counted.{IsCounted, AreTaken}
 use Rattle.isle_templates.specs.Substituted.{expanded, substituted}
-use Rattle.isle_templates.proofs.ExpansionSteps.{parts_more, too_many, some_base, place_is, arguments_more, too_many_opened, all_opened, term_seen, and_seen, large_opened, few_kept}
+use Rattle.isle_templates.proofs.ExpansionSteps.{parts_more, too_many, some_base, place_is, arguments_more, too_many_opened, all_opened, term_seen, and_seen, large_opened, few_kept, few_times_kept}
 use Rattle.isle_templates.proofs.KnownSteps.{counted_opened}
 use Rattle.isle_templates.proofs.expansion.+expanding.Goals as goal
 
@@ -42,7 +42,7 @@ opened-returns-then-not-branch t c = λ whole inner template stands below kept.
     let few : c.args.kept.now.nodes ≤ 4096 = search rules in
     let base = few_kept inner template c.args.kept.now kept few in
     let times = times_in (pattern_variables template) in
-    let times_is : c.times-times.result ≡ times c.loop-parameter.parameter = c.times-times.ensures ∙ kept.times few c.loop-parameter.parameter in
+    let times_is : c.times-times.result ≡ times c.loop-parameter.parameter = c.times-times.ensures ∙ few_times_kept inner template c.args.kept.now kept few c.loop-parameter.parameter in
     let before = needed times 0 (map (expanded whole) (map elaborated (take c.loop-parameter.parameter c.args.args.now))) in
     let more = before ++ needed_one c.times-times.result p ∷ [] in
     let refused : AreAccepted false c.args.kept.now.nodes times more c.push_argument.new.self =
@@ -58,7 +58,7 @@ opened-loop-parameter-preserved t c = λ whole inner template stands kept.
     let few : c.args.kept.now.nodes ≤ 4096 = search rules in
     let base = few_kept inner template c.args.kept.now kept few in
     let times = times_in (pattern_variables template) in
-    let times_is : c.times-times.result ≡ times c.loop-parameter.parameter = c.times-times.ensures ∙ kept.times few c.loop-parameter.parameter in
+    let times_is : c.times-times.result ≡ times c.loop-parameter.parameter = c.times-times.ensures ∙ few_times_kept inner template c.args.kept.now kept few c.loop-parameter.parameter in
     let before = needed times 0 (map (expanded whole) (map elaborated (take c.loop-parameter.parameter c.args.args.now))) in
     let more = before ++ needed_one c.times-times.result p ∷ [] in
     let accepted : AreAccepted true c.args.kept.now.nodes times more c.push_argument.new.self =

@@ -57,5 +57,5 @@ returns-in-TypeDecl c =
     elim c.in-TypeDecl.is [
       | inl h ↦ subst (λ (x : CodeDef). IsJudged all bs (def x) None found) (sym h.5) (other_judged all bs _ None found refl refl met)
       | inr (inl h) ↦ subst (λ (x : CodeDef). IsJudged all bs (def x) None found) (sym h.3) (other_judged all bs _ None found refl refl met)
-      | inr (inr h) ↦ subst (λ (x : CodeDef). IsJudged all bs (def x) None found) (sym h.3) (other_judged all bs _ None found refl refl met)
+      | inr (inr h) ↦ subst (λ (x : CodeDef). IsJudged all bs (def x) None found) (sym h.2) (other_judged all bs _ None found refl refl met)
     ]

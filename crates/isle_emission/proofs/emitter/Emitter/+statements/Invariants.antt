@@ -17,8 +17,8 @@ invariant-step_stmts-loop-step l = record {
   built : IsBuilt (setting_in l.self) l.bound (block_of (map step (drop l.step-index l.steps)));
 }
 
-abbrev pub invariant-arms_stmt-loop-arm : goal.invariant-arms_stmt-loop-arm
-invariant-arms_stmt-loop-arm l = record {
+abbrev pub invariant-push_arms-loop-arm : goal.invariant-push_arms-loop-arm
+invariant-push_arms-loop-arm l = record {
   arms : cases_onto l.cases.items (made_each (manner_in l.self) (setting_in l.self) l.bound (arms_of (map arm (drop l.arm-index l.arms)))) ≡ made_each (manner_in l.self) (setting_in l.self) l.fn.bound (arms_of (map arm l.arms));
   bound : l.bound ≡ l.fn.bound;
   built : AreCasesBuilt (setting_in l.self) l.bound (arms_of (map arm (drop l.arm-index l.arms)));
