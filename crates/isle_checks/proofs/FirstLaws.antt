@@ -1,9 +1,11 @@
 -- What was found among all rules of a list is the first for each.
 use Rattle.std.proofs.Common.{◌≡◌, ⊎_elim, ℕ, zero, suc, ◌<◌, List, [], ◌∷◌, length, replicate, true, false, Option, Some, None, refl, sym, ap, ◌∙◌, subst, arith}
-use Rattle.std.specs.Prelude.{IsSomeAnd, slice_get}
+use Rattle.std.specs.Prelude.{◌<ℤ◌, IsSomeAnd, slice_get}
+use Rattle.std.specs.Int.Signed.{<ℤ_irrefl}
 use Rattle.isle_core.specs.declared.rule_sets.FlatRule.{FlatRule}
 use Rattle.isle_core.proofs.OptionLaws.{some_same}
 use Rattle.isle_checks.specs.declared.placed.Check.{Check}
+use Rattle.isle_checks.specs.declared.placed.Check.TheVariants as check
 use Rattle.isle_checks.specs.declared.placed.Placed.{Placed}
 use Rattle.isle_checks.specs.Makes.{Makes, MakesOf, MakesAt}
 use Rattle.isle_checks.specs.Firsts.{Found, Has, HasUpTo, IsMade, Finds, ArePlaced, AreBelow, IsFirst, AreFirstMakers, AreFirstsOfTerm}
@@ -70,6 +72,34 @@ module _ (check : Check) (rules : List FlatRule) (group : List Placed) (old new 
         ⊎_elim (λ (k : Has old j i). absurd (no_old j i k)) (λ d. made_at i j d) (f.sound j i h),
         λ k m. let u = found_up_to k j m in let same : i ≡ u.k = some_same i u.k (some_one (Some i) (Some u.k) (sym h ∙ u.has)) in let le = u.le in omega (arith, same, le),
       )
+
+-- ---- fewer than two rules
+
+same_rule : (f g : FlatRule) → Some f ≡ Some g → f ≡ g
+same_rule f g e = cc
+
+not_of_itself : (c : Check) (i j : ℕ) (f g : FlatRule) → i ≡ j → f ≡ g → MakesOf c i f j g → ⊥
+not_of_itself check.Overlaps i j f g e s m = let lt = m.earlier in omega (arith, e, lt)
+not_of_itself check.Shadows i j f g e s m = <ℤ_irrefl (subst (λ (x : FlatRule). g.prio <ℤ x.prio) s m.higher)
+
+no_pair : (c : Check) (rules : List FlatRule) (i j : ℕ) → length rules < 2 → MakesAt c rules i j → ⊥
+no_pair c rules i j few m =
+    let r = made_of c i j (slice_get rules i) (slice_get rules j) m in
+    let one = length_of rules i r.0 r.2 in
+    let other = length_of rules j r.1 r.3 in
+    let same : i ≡ j = omega (arith, few, one, other) in
+    not_of_itself c i j r.0 r.1 same (same_rule r.0 r.1 (sym r.2 ∙ ap (slice_get rules) same ∙ r.3)) r.4
+
+few_first : (c : Check) (rules : List FlatRule) (n j : ℕ) (o : Option ℕ) → length rules < 2 → slice_get (replicate n None) j ≡ Some o → IsFirst (λ i. MakesAt c rules i j) o
+few_first c rules n j None few h = λ i m. no_pair c rules i j few m
+few_first c rules n j (Some i) few h = absurd (none_there n j i h)
+
+-- of these none makes an error of one
+pub few_rules : (c : Check) (rules : List FlatRule) (found : Found) → length rules < 2 → found ≡ replicate (length rules) None → AreFirstMakers c rules found
+few_rules c rules found few none = record {
+  long = ap length none ∙ long_replicate (length rules) None;
+  each = λ j o at. few_first c rules (length rules) j o few (subst (λ xs. slice_get xs j ≡ Some o) none at);
+}
 
 -- ---- the rules of a term
 

@@ -49,12 +49,16 @@ fn none_found(alloc: Global, count: usize) -> Result<Vec<Option<usize>>, AllocEr
     Ok(found)
 }
 
-// Finds for each rule the place of the first one that makes an error of it.
+// Finds for each rule the place of the first one that makes an error of it; a rule makes none of itself.
+#[tactic(auto, using(crate::proofs::FirstLaws::few_rules))]
 fn firsts(alloc: Global, check: Check, rules: &[FlatRule]) -> Result<Vec<Option<usize>>, AllocError>
     ensures { IfOk result (λ found. AreFirstMakers check rules.now found.items) }
 {
-    let group = placed(alloc, rules)?;
     let mut found = none_found(alloc, rules.len())?;
+    if rules.len() < 2 {
+        return Ok(found);
+    }
+    let group = placed(alloc, rules)?;
     note(alloc, check, group.as_slice(), &mut found)?;
     Ok(found)
 }

@@ -1,13 +1,11 @@
 -- The first place of each name, after one more is added.
-use Rattle.std.proofs.Common.{◌≡◌, ℕ, suc, ◌+◌, Bool, true, false, cond, List, [], ◌∷◌, ◌++◌, length, Option, Some, None, refl, sym, ap, ◌∙◌, arith, subst}
+use Rattle.std.proofs.Common.{◌≡◌, ℕ, suc, ◌+◌, Bool, true, false, cond, List, [], ◌∷◌, ◌++◌, length, Option, Some, None, refl, sym, ap, ◌∙◌, arith}
 use Rattle.std.specs.Prelude.{option_map, is_some}
 use Rattle.std.proofs.lemmas.List.{map-append, length-map}
 use denote.Ref.{Bor}
 use Rattle.isle_declarations.specs.Symbols.{index_of, added}
 use Rattle.isle_declarations.specs.LookedUp.{texts}
-use Rattle.isle_declarations.specs.Slots.{Overflow, PutsName, found_place, Places, AreDistinct, IsTable}
 use Rattle.isle_declarations.proofs.SymbolLaws.{index_of_new}
-use Rattle.isle_declarations.proofs.DistinctTables.{distinct_more}
 
 -- a place, or else this one if it is the name's
 abbrev pub or_at : Option ℕ → Bool → ℕ → Option ℕ
@@ -29,26 +27,6 @@ after_first false here None rest end h = ap (option_map (λ (n : ℕ). n + 1)) h
 -- their texts
 more_texts : (names more : List (Bor (List ℕ))) (key : Bor (List ℕ)) → more ≡ names ++ key ∷ [] → texts more ≡ texts names ++ key.now ∷ []
 more_texts names more key pushed = ap texts pushed ∙ map-append (λ (n : Bor (List ℕ)). n.now) names (key ∷ [])
-
--- one that is not found is new
-pub new_name : (names seen : List (Bor (List ℕ))) (name : List ℕ) (slots : List ℕ) (overflow : Overflow) (found : Option ℕ)
-    → seen ≡ names → Places (texts names) slots overflow → found ≡ found_place slots overflow (texts seen) name → found ≡ None
-    → index_of (texts names) name ≡ None
-new_name names seen name slots overflow found same were is none =
-    sym (were.finds name) ∙ ap (λ ns. found_place slots overflow (texts ns) name) (sym same) ∙ sym is ∙ none
-
--- they are a table if it is put there
-pub tabled : (names more : List (Bor (List ℕ))) (key : Bor (List ℕ)) (place : ℕ) (slots slots' : List ℕ) (overflow overflow' : Overflow)
-    → more ≡ names ++ key ∷ [] → AreDistinct (texts names) → Places (texts names) slots overflow
-    → index_of (texts names) key.now ≡ None → place ≡ length names
-    → PutsName place key.now slots overflow slots' overflow'
-    → IsTable (texts more) slots' overflow'
-tabled names more key place slots slots' overflow overflow' pushed distinct were absent is put =
-    subst (λ ns. IsTable ns slots' overflow') (sym (more_texts names more key pushed))
-    (record {
-      distinct = distinct_more (texts names) key.now distinct absent;
-      placed = put (texts names) (length-map names (λ (n : Bor (List ℕ)). n.now) ∙ sym is) absent were;
-    })
 
 -- its place is the last
 pub placed_last : (names more : List (Bor (List ℕ))) (key : Bor (List ℕ)) (place : ℕ) → more ≡ names ++ key ∷ []

@@ -54,10 +54,14 @@ KeepsPlaces slots overflow slots' overflow' =
 pub record AreDistinct (names : List (List ℕ)) : Type 0 where
   pub first : (i : ℕ) → i < length names → index_of (take i names) (get_or names i []) ≡ None
 
--- a table of names: each once, and each found
+-- of so many names at most no place is kept, since they are gone through
+abbrev pub few : ℕ
+few = 8
+
+-- a table of names: each once, and each found, if there are more than a few
 pub record IsTable (names : List (List ℕ)) (slots : List ℕ) (overflow : Overflow) : Type 0 where
   pub distinct : AreDistinct names
-  pub placed : Places names slots overflow
+  pub placed : few < length names → Places names slots overflow
 
 -- a free slot of a window: it has none of so many places, and has room for the next
 pub record IsFree (slots : List ℕ) (hash count slot : ℕ) : Type 0 where

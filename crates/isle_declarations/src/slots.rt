@@ -1,11 +1,11 @@
 //! Slots: where the place of a name may stand, by the name's hash.
 
-ghost use Rattle.std.specs.Prelude.{◌≡◌, [], OnOk, OnErr, IfOk, IfSome};
+ghost use Rattle.std.specs.Prelude.{◌≡◌, ◌<◌, [], OnOk, OnErr, IfOk, IfSome, length};
 ghost use Rattle.std.specs.List.{find};
 ghost use Rattle.isle_declarations.specs.LookedUp.{texts};
 ghost use Rattle.isle_declarations.specs.Hashing.{hash_of};
 ghost use Rattle.isle_declarations.specs.Slots.{stands_at, start_of, window_of, found_place};
-ghost use Rattle.isle_declarations.specs.Slots.{Places, PutsName, KeepsPlaces, AreDistinct, IsFree};
+ghost use Rattle.isle_declarations.specs.Slots.{Places, PutsName, KeepsPlaces, AreDistinct, IsFree, few};
 
 use crate::hashing::hash_of;
 use std::alloc::{AllocError, Global};
@@ -16,6 +16,9 @@ const WINDOW: usize = 8;
 
 // How many slots there are at least, once there are any.
 const LEAST: usize = 32;
+
+/// Of how many names no place is kept, since they are gone through.
+pub(crate) const FEW: usize = 8;
 
 // What an empty slot holds: the place of no name.
 const EMPTY: u32 = u32::MAX;
@@ -53,13 +56,18 @@ impl<'d> Slots<'d> {
         Ok(slots)
     }
 
-    /// Makes more slots, if half of them would be taken. The only error is want of memory.
+    /// Makes slots, if there were only a few names, or more, if half of them would be taken. The only error is want of
+    /// memory.
     pub(crate) fn make_room(&mut self, names: &[&'d str]) -> Result<(), AllocError>
         requires distinct { AreDistinct (texts names.now) }
-        requires placed { Places (texts names.now) self.old.places.items self.old.overflow }
-        ensures { Places (texts names.now) self.new.places.items self.new.overflow }
+        requires placed { few < length names.now
+            → Places (texts names.now) self.old.places.items self.old.overflow }
+        ensures made { OnOk result
+            (Places (texts names.now) self.new.places.items self.new.overflow) }
+        ensures kept { OnErr result ((self.new.places.items ≡ self.old.places.items)
+            × (self.new.overflow ≡ self.old.overflow)) }
     {
-        if names.len() >= self.places.len() / 2 {
+        if names.len() <= FEW || names.len() >= self.places.len() / 2 {
             *self = Slots::of_names(*self.places.allocator(), names)?;
         }
         Ok(())

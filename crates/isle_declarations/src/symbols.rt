@@ -1,11 +1,11 @@
 //! Names, numbered where they are met first.
 
-ghost use Rattle.std.specs.Prelude.{◌≡◌, Some, [], IfOk, OnOk, OnErr, length};
+ghost use Rattle.std.specs.Prelude.{◌≡◌, ◌<◌, Some, [], IfOk, IfSome, OnOk, OnErr, length};
 ghost use Rattle.isle_declarations.specs.LookedUp.{texts};
 ghost use Rattle.isle_declarations.specs.Symbols.{index_of, added};
 
 use crate::hashing::hash_of;
-use crate::slots::Slots;
+use crate::slots::{FEW, Slots};
 use isle_core::Text;
 use std::alloc::{AllocError, Global};
 use std::marker::Model;
@@ -53,14 +53,17 @@ impl<'d> Symbols<'d> {
         ensures names { OnOk result (self.new ≡ added self.old name.now) }
         ensures err { OnErr result (self.new ≡ self.old) }
     {
-        let hash = hash_of(name);
-        if let Some(place) = self.slots.find(self.names.as_slice(), name, hash) {
+        if let Some(place) = self.find(name) {
             return Ok(place);
         }
         let place = self.names.len();
+        if place < FEW {
+            self.names.push(name)?;
+            return Ok(place);
+        }
         self.slots.make_room(self.names.as_slice())?;
         self.names.push(name)?;
-        match self.slots.add(place, name, hash) {
+        match self.slots.add(place, name, hash_of(name)) {
             Ok(()) => return Ok(place),
             Err(_) => {
                 self.names.pop();
@@ -73,7 +76,11 @@ impl<'d> Symbols<'d> {
     pub fn find(&self, name: &str) -> Option<usize>
         ensures { result ≡ index_of self.now name.now }
     {
-        self.slots.find(self.names.as_slice(), name, hash_of(name))
+        let names = self.names.as_slice();
+        if names.len() <= FEW {
+            return place_among(names, name);
+        }
+        self.slots.find(names, name, hash_of(name))
     }
 
     /// Copies of the names, in order.
@@ -81,6 +88,26 @@ impl<'d> Symbols<'d> {
         ensures { IfOk result (λ copies. copies.items ≡ self.now) }
     {
         copies(alloc, self.names.as_slice())
+    }
+}
+
+// The first place of a name among a few.
+#[tactic(auto, using(crate::proofs::SymbolLaws::index_below))]
+fn place_among(names: &[&str], name: &str) -> Option<usize>
+    ensures place { result ≡ index_of (texts names.now) name.now }
+    ensures within { IfSome result (λ place. place < length names.now) }
+{
+    match names {
+        [] => None,
+        [first, more @ ..] => {
+            if *first == name {
+                return Some(0);
+            }
+            match place_among(more, name) {
+                Some(place) => Some(place + 1),
+                None => None,
+            }
+        }
     }
 }
 

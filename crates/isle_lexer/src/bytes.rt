@@ -28,11 +28,11 @@ fn is_single(byte: u8) -> bool
     matches!(byte, b')' | b'@' | b'<' | b'>')
 }
 
-/// Tells whether a byte belongs to a word.
+/// Tells whether a byte belongs to a word, as every letter does.
 pub fn is_word_byte(byte: u8) -> bool
     ensures { result ≡ is_word_byte byte }
 {
-    !(is_blank(byte) || is_single(byte) || byte == b'(' || byte == b';')
+    byte > b'@' || !(is_blank(byte) || is_single(byte) || byte == b'(' || byte == b';')
 }
 
 /// Returns what a byte begins.
@@ -40,6 +40,7 @@ pub fn begun_by(byte: u8) -> Begun
     ensures { (at : ℕ) → begun at byte ≡ begins result at }
 {
     match byte {
+        b'A'.. => Begun::Word,
         b'(' => Begun::Open,
         b';' => Begun::Line,
         _ if is_blank(byte) => Begun::Nothing,

@@ -1,5 +1,5 @@
 -- Each item of a list where it stands first.
-use Rattle.std.proofs.Common.{◌≡◌, ◌⊎◌, inl, inr, ⊎_elim, ℕ, ◌+◌, ◌<◌, ◌≤◌, List, [], ◌∷◌, ◌++◌, length, map, drop, get_or, Bool, true, false, not, cond, Ordering, Less, Equal, Greater, refl, sym, ap, ◌∙◌, subst, append_assoc, append-nil}
+use Rattle.std.proofs.Common.{◌≡◌, arith, ◌⊎◌, inl, inr, ⊎_elim, ℕ, ◌+◌, ◌<◌, ◌≤◌, List, [], ◌∷◌, ◌++◌, length, map, drop, get_or, Bool, true, false, not, cond, Ordering, Less, Equal, Greater, refl, sym, ap, ◌∙◌, subst, append_assoc, append-nil}
 use Rattle.std.specs.Prelude.{Contains}
 use Rattle.std.specs.Bool.{OnFalse}
 use Rattle.std.specs.Ordering.{is_eq, ordering_reverse}
@@ -16,6 +16,12 @@ use Rattle.isle_core.proofs.Contained.{head_contained, tail_contained, contained
 
 one_known : {A : Type 0} (old new : List A) (z : A) → ((y : A) → Contains old y → Contains new y) → (y : A) → Contains (z ∷ old) y → Contains (z ∷ new) y
 one_known old new z f y c = ⊎_elim (λ e. subst (Contains (z ∷ new)) e (head_contained z new)) (λ d. tail_contained z new y (f y d)) (contained_cases z old y c)
+
+-- fewer than two items stand first where they stand
+pub alone_first : {A : Type 0} (xs found : List A) → length xs < 2 → found ≡ xs → AreFirsts [] xs found
+alone_first [] found few e = subst (AreFirsts [] []) (sym e) (no_more [])
+alone_first (x ∷ []) found few e = subst (AreFirsts [] (x ∷ [])) (sym e) (first [] x [] [] (λ c. none_contained x c) (no_more (x ∷ [])))
+alone_first (x ∷ y ∷ xs) found few e = absurd (omega (arith, few))
 
 -- only what was seen counts, not in which order
 firsts_same : {A : Type 0} {seen xs ys : List A} (known : List A) → AreFirsts seen xs ys → ((x : A) → Contains seen x → Contains known x) → ((x : A) → Contains known x → Contains seen x) → AreFirsts known xs ys

@@ -6,11 +6,26 @@ use isle_core::{BindingId, Constraint};
 use std::alloc::{AllocError, Global};
 use std::collections::BTreeSet;
 
-// Each item where it stands first.
+// The same items.
+fn copied<T: Copy + Drop>(alloc: Global, items: &[T]) -> Result<Vec<T>, AllocError>
+    ensures { IfOk result (λ copies. copies.items ≡ items.now) }
+{
+    let mut copies = Vec::new(alloc);
+    for item in items {
+        copies.push(*item)?;
+    }
+    Ok(copies)
+}
+
+// Each item where it stands first. One alone is no other's repeat.
+#[tactic(auto, using(crate::proofs::FirstLaws::alone_first))]
 fn firsts<T: Ord + Copy + Drop>(alloc: Global, items: &[T]) -> Result<Vec<T>, AllocError>
     requires { TellsApart T.cmp }
     ensures { IfOk result (λ found. AreFirsts [] items.now found.items) }
 {
+    if items.len() < 2 {
+        return copied(alloc, items);
+    }
     let mut seen = BTreeSet::new(alloc);
     let mut found = Vec::new(alloc);
     for item in items {

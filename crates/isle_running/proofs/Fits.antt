@@ -41,7 +41,8 @@ cut_follows old mid after len ls h k is cut = record {
   same = k.same ∙ h.same;
 }
 
-left_flow : (end : CodeFlow) (after : Frame) (ls : List (ℕ × Holding)) (env : Env) → locals ls ≡ env → after_scope env (flow end after) ≡ flow end (record { locals = ls; calls = after.calls; given = after.given })
+-- what was bound is cut off from how statements end
+pub left_flow : (end : CodeFlow) (after : Frame) (ls : List (ℕ × Holding)) (env : Env) → locals ls ≡ env → after_scope env (flow end after) ≡ flow end (record { locals = ls; calls = after.calls; given = after.given })
 left_flow code.Goes after ls env h = ap (λ e. Goes e (state after)) (sym h)
 left_flow (code.Ends e) after ls env h = refl
 left_flow code.Full after ls env h = refl
@@ -67,3 +68,11 @@ pub fits_not : (w : CodeAround) (old mid : Frame) (b : Body) (o : Option Env) (f
 fits_not w old mid b o fits h e other =
     let go : Env → Flow = λ env. after_scope (locals old.locals) (run_body (within w old) b env (state old)) in
     h go other ∙ ap (λ x. if x then go (locals mid.locals) else other) e
+
+-- and nothing follows it
+pub not_run : (w : CodeAround) (old mid : Frame) (b : Body) (o : Option Env) (fits : Bool) → FitsSo o old mid fits → fits ≡ false → mid.locals ≡ old.locals → mid.calls ≡ old.calls → mid.given.items ≡ old.given.items
+    → fitted o (λ bound. after_scope (locals old.locals) (run_body (within w old) b (locals old.locals ++ bound) (state old))) (Goes (locals old.locals) (state old)) ≡ flow code.Goes mid
+not_run w old mid b o fits h e kept calls given =
+    fits_not w old mid b o fits h e (Goes (locals old.locals) (state old))
+    ∙ ap (Goes (locals old.locals)) (sym (same_state old mid calls given))
+    ∙ ap (λ ls. Goes (locals ls) (state mid)) (sym kept)

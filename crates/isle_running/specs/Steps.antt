@@ -2,11 +2,14 @@
 use Rattle.std.specs.Prelude.{◌≡◌, ℕ, List, [], ◌∷◌, ◌++◌, Bool, true, false, Option, Some, None, if◌then◌else◌, option_map, slice_get, drop}
 use Rattle.isle_core.specs.Answered.{Item, Held, Absent, One, Optional, Listed, a_value}
 use Rattle.isle_core.specs.Value.{Value, Variant, Struct, FieldValues}
-use Rattle.isle_tree.specs.Program.{Body}
+use Rattle.isle_tree.specs.Program.{Arms, Body}
 use Rattle.isle_tree.specs.declared.tree.Operand.{Operand}
+use Rattle.isle_tree.specs.declared.tree.Read.{Read}
+use Rattle.isle_tree.specs.declared.tree.Stmt.{Stmt as CodeStmt}
 use Rattle.isle_tree.specs.declared.tree.TPat.{TPat}
 use Rattle.isle_tree.specs.declared.tree.TPat.TheVariants as pattern
-use Rattle.isle_tree.specs.Run.{Around, State, Env, Flow, Goes, look, bind, on_list, after_scope, fit, fitted, run_items, run_body, value_in, value_of}
+use Rattle.isle_tree.specs.Run.{Around, State, Env, Flow, Goes, look, bind, on_list, after_scope, fit, fitted, run_arms, run_items, run_body, read_value, value_in, value_of}
+use Rattle.isle_tree.specs.Views.{arms, body}
 use Rattle.isle_running.specs.Frames.{Follows}
 use Rattle.isle_running.specs.RunViews.{locals, within, state, flow, tested}
 use Rattle.isle_running.specs.declared.around.Around.{Around as CodeAround}
@@ -49,11 +52,22 @@ run_arm pat held inside other w env s = fitted (fit w pat held) (λ bound. after
 abbrev pub run_where : TPat → Held → Body → Around → Env → State → Flow
 run_where pat held inside w env s = run_arm pat held inside (Goes env s) w env s
 
--- from a frame to another an arm goes as the code does, or its pattern doesn't fit, and nothing was done
-abbrev pub ArmRunsSo : TPat → Held → Body → CodeAround → (old new : Frame) → Option CodeFlow → Type 0
-ArmRunsSo pat held inside w old new (Some end) = (other : Flow) → run_arm pat held inside other (within w old) (locals old.locals) (state old) ≡ flow end new
-ArmRunsSo pat held inside w old new None =
-    ((other : Flow) → run_arm pat held inside other (within w old) (locals old.locals) (state old) ≡ other) × (state new ≡ state old)
+-- statements where a pattern fits what is read then
+abbrev pub run_read : TPat → Read → Body → Around → Env → State → Flow
+run_read pat read inside w env s = run_where pat (read_value w env read) inside w env s
+
+-- the first arm that fits what is read then
+abbrev pub run_match : Read → Arms → Around → Env → State → Flow
+run_match read arms w env s = run_arms w arms (read_value w env read) env s
+
+-- what is left to run of an arm that is chosen, where there is one, once its pattern has bound
+abbrev pub chosen_arm : Option (TPat × List CodeStmt) → CodeAround → (old new : Frame) → Flow
+chosen_arm (Some arm) w old new = after_scope (locals old.locals) (run_body (within w new) (body arm.1) (locals new.locals) (state new))
+chosen_arm None w old new = Goes (locals new.locals) (state new)
+
+-- arms go as the one at this place does
+abbrev pub Chosen : List (TPat × List CodeStmt) → Held → CodeAround → (old new : Frame) → ℕ → Type 0
+Chosen cases h w old new place = run_arms (within w old) (arms cases) h (locals old.locals) (state old) ≡ chosen_arm (slice_get cases place) w old new
 
 -- how the test of two operands goes
 abbrev pub test : Around → Env → (a b : Operand) → Option Bool

@@ -1,20 +1,23 @@
 //! Whether patterns fit what is read, and what they bind.
 
-ghost use Rattle.std.specs.Prelude.{◌≡◌, IfOk, OnOk, false};
+ghost use Rattle.std.specs.Prelude.{◌≡◌, IfOk, OnOk, false, Some as Is};
 ghost use Rattle.isle_core.specs.Answered.{a_value};
 ghost use Rattle.isle_core.specs.ValueViews.{value};
 ghost use Rattle.isle_tree.specs.Run as run;
-ghost use Rattle.isle_running.specs.RunViews.{held, within};
+ghost use Rattle.isle_running.specs.RunViews.{held, locals, within};
 ghost use Rattle.isle_running.specs.Frames.{Follows};
-ghost use Rattle.isle_running.specs.Steps.{FitsSo};
-ghost use Rattle.isle_running.specs.declared.around.Around.{Around};
+ghost use Rattle.isle_running.specs.Steps.{FitsSo, item_at};
+ghost use Rattle.isle_running.specs.declared.around.Around.{Around as CodeAround};
 
+use crate::around::Around;
 use crate::constants::is_constant;
 use crate::fields::{fit_struct, fit_variant};
 use crate::frame::Frame;
 use crate::holding::{Holding, item_copied, item_within, value_held};
+use crate::lists::item_at;
+use crate::reading::read_value;
 use isle_core::Value;
-use isle_tree::TPat;
+use isle_tree::{Read, TPat};
 use std::alloc::{AllocError, Global};
 
 // Binds what is within an option, where there is something.
@@ -50,7 +53,7 @@ fn fit_value(
     given: &Value,
     frame: &mut Frame<'_>,
 ) -> Result<bool, AllocError>
-    ensures fits { (w : Around)
+    ensures fits { (w : CodeAround)
         → IfOk result
         (FitsSo (run.fit (within w frame.old) pat.now (a_value (value given.now))) frame.old
         frame.new) }
@@ -88,7 +91,7 @@ pub fn fit(
     holding: &Holding,
     frame: &mut Frame<'_>,
 ) -> Result<bool, AllocError>
-    ensures fits { (w : Around)
+    ensures fits { (w : CodeAround)
         → IfOk result
         (FitsSo (run.fit (within w frame.old) pat.now (held holding.now)) frame.old frame.new) }
     ensures kept { IfOk result (λ fits. fits ≡ false → frame.new.locals ≡ frame.old.locals) }
@@ -103,4 +106,47 @@ pub fn fit(
             None => Ok(false),
         },
     }
+}
+
+/// Binds what a pattern binds, where it fits what is read now, and tells whether it does. Not inlined, so that what is
+/// read costs no stack where statements run.
+#[inline(never)]
+pub fn fits(
+    alloc: Global,
+    around: &Around<'_>,
+    pat: &TPat,
+    read: &Read,
+    frame: &mut Frame<'_>,
+) -> Result<bool, AllocError>
+    ensures fits { IfOk result (FitsSo (run.fit (within around.now frame.old) pat.now
+        (run.read_value (within around.now frame.old) (locals frame.old.locals) read.now))
+        frame.old frame.new) }
+    ensures kept { IfOk result (λ fits. fits ≡ false → frame.new.locals ≡ frame.old.locals) }
+    ensures calls { frame.new.calls ≡ frame.old.calls }
+    ensures given { frame.new.given.items ≡ frame.old.given.items }
+    ensures follows { OnOk result (Follows frame.old frame.new) }
+{
+    let holding = read_value(alloc, around, frame, read)?;
+    fit(alloc, pat, &holding, frame)
+}
+
+/// Binds a local to the item of this number of the list that another holds, where it is there, and tells whether it is.
+/// Not inlined either.
+#[inline(never)]
+pub fn fit_item(
+    alloc: Global,
+    list: usize,
+    item: usize,
+    index: usize,
+    frame: &mut Frame<'_>,
+) -> Result<bool, AllocError>
+    ensures fits { IfOk result (FitsSo (run.fit_some (Is item)
+        (item_at index (run.look (locals frame.old.locals) list))) frame.old frame.new) }
+    ensures kept { IfOk result (λ fits. fits ≡ false → frame.new.locals ≡ frame.old.locals) }
+    ensures calls { frame.new.calls ≡ frame.old.calls }
+    ensures given { frame.new.given.items ≡ frame.old.given.items }
+    ensures follows { OnOk result (Follows frame.old frame.new) }
+{
+    let found = item_at(alloc, frame, list, index)?;
+    fit_some(alloc, Some(item), &found, frame)
 }

@@ -46,7 +46,10 @@ fn outcome(of: ReturnKind, end: Flow, frame: Frame<'_>) -> Option<Outcome>
     match end {
         Flow::Ends(end) => {
             let calls = List::new(frame.calls.into_vec());
-            Some(Outcome { end, calls })
+            Some(Outcome {
+                end: end.into_inner(),
+                calls,
+            })
         }
         Flow::Full => Some(listed(frame)),
         Flow::Goes => runs_out(of, frame),

@@ -14,7 +14,7 @@ use crate::frame::Frame;
 use crate::holding::{Holding, Item, part_of, value_in};
 use crate::making::{struct_made, variant_made};
 use crate::reading::{read_value, read_values, value_of};
-use isle_core::{End, Value};
+use isle_core::{Boxed, End, Value};
 use isle_tree::{Operand, TCall, TExpr};
 use std::alloc::{AllocError, Global};
 
@@ -43,6 +43,7 @@ fn bind(frame: &mut Frame<'_>, local: usize, holding: Holding) -> Result<Flow, A
 }
 
 /// Binds a local to what a call answers.
+#[inline(never)]
 pub fn run_call(
     alloc: Global,
     around: &Around<'_>,
@@ -65,7 +66,12 @@ pub fn run_call(
 }
 
 // Binds a local to what is within an option, or ends.
-fn run_try(frame: &mut Frame<'_>, local: usize, holding: Holding) -> Result<Flow, AllocError>
+fn run_try(
+    alloc: Global,
+    frame: &mut Frame<'_>,
+    local: usize,
+    holding: Holding,
+) -> Result<Flow, AllocError>
     ensures runs { IfOk result (λ f.
         run.run_try local (held holding) (locals frame.old.locals) (state frame.old)
         ≡ flow f frame.new) }
@@ -76,7 +82,7 @@ fn run_try(frame: &mut Frame<'_>, local: usize, holding: Holding) -> Result<Flow
             frame.locals.bind(local, Holding::One(item))?;
             Ok(Flow::Goes)
         }
-        Holding::Optional(None) => Ok(Flow::Ends(End::Nothing)),
+        Holding::Optional(None) => Ok(Flow::Ends(Boxed::new(alloc, End::Nothing)?)),
         Holding::One(_) | Holding::Listed(_) | Holding::Absent => Ok(Flow::Stuck),
     }
 }
@@ -138,6 +144,7 @@ fn run_part(
 
 /// Binds a local to what is computed.
 #[tactic(auto, using(crate::proofs::Makes::variant_bound, crate::proofs::Makes::struct_bound))]
+#[inline(never)]
 pub fn run_let(
     alloc: Global,
     around: &Around<'_>,
@@ -161,7 +168,7 @@ pub fn run_let(
         TExpr::Call { call, .. } => run_call(alloc, around, frame, local, call),
         TExpr::Try { source, .. } => {
             let holding = value_of(alloc, around, frame, source)?;
-            run_try(frame, local, holding)
+            run_try(alloc, frame, local, holding)
         }
         TExpr::Variant {
             ty,

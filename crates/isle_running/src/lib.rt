@@ -1,6 +1,7 @@
 //! Functions of target programs run under given answers.
 #![tactic(auto)]
 
+mod arms;
 mod around;
 mod called;
 mod calls;

@@ -1,58 +1,78 @@
-//! The run of a function's statements.
+//! The run of a function's statements. What holds a value of the run stands outside the cycle of `run_body` and is not
+//! inlined into it, so that a statement within a statement costs little stack.
 
 ghost use Rattle.std.specs.Prelude.{◌≡◌, Some, IfOk, OnOk};
 ghost use Rattle.isle_core.specs.Value.{GivesSome};
 ghost use Rattle.isle_core.specs.ValueViews.{value};
 ghost use Rattle.isle_tree.specs.Run as run;
 ghost use Rattle.isle_tree.specs.Run.{value_in, value_of};
-ghost use Rattle.isle_tree.specs.Views.{stmt, body};
+ghost use Rattle.isle_tree.specs.Views.{stmt, body, arms};
 ghost use Rattle.isle_running.specs.RunViews.{held, locals, within, state, flow, tested};
 ghost use Rattle.isle_running.specs.declared.frame.Frame.{Frame};
 ghost use Rattle.isle_running.specs.Frames.{Follows};
-ghost use Rattle.isle_running.specs.Steps.{RunsSo, ArmRunsSo, run_inside, run_where, run_turn, run_loop, test};
+ghost use Rattle.isle_running.specs.Steps.{RunsSo, run_inside, run_read, run_match, run_turn, run_loop, test};
 
+use crate::arms::first_fit;
 use crate::around::Around;
-use crate::fit::fit;
+use crate::fit::{fit_item, fits};
 use crate::flow::Flow;
 use crate::frame::Frame;
 use crate::holding::{Holding, Item, is_equal, value_in};
 use crate::lets::{run_call, run_let};
-use crate::lists::{item_at, list_len};
+use crate::lists::list_len;
 use crate::reading::{read_value, value_of};
 use crate::results::{after_closure, run_extend, run_overflow};
-use isle_core::{End, Value};
-use isle_tree::{Operand, Stmt, TExpr, TPat};
+use isle_core::{Boxed, End, List, Text, Value};
+use isle_tree::{Operand, Read, Stmt, TExpr, TPat};
 use std::alloc::{AllocError, Global};
 
 // The end that gives what a place holds.
-fn ends_with(holding: Holding) -> Flow
-    ensures { (frame : Frame) → run.ends_with (held holding) (state frame) ≡ flow result frame }
+fn ends_with(alloc: Global, holding: Holding) -> Result<Flow, AllocError>
+    ensures { IfOk result (λ f.
+        (frame : Frame) → run.ends_with (held holding) (state frame) ≡ flow f frame) }
 {
     match holding {
-        Holding::One(Item::Value(value)) => Flow::Ends(End::Value(value)),
-        Holding::Optional(Some(Item::Value(value))) => Flow::Ends(End::Some(value)),
-        Holding::Optional(None) => Flow::Ends(End::Nothing),
+        Holding::One(Item::Value(value)) => {
+            Ok(Flow::Ends(Boxed::new(alloc, End::Value(value))?))
+        }
+        Holding::Optional(Some(Item::Value(value))) => {
+            Ok(Flow::Ends(Boxed::new(alloc, End::Some(value))?))
+        }
+        Holding::Optional(None) => Ok(Flow::Ends(Boxed::new(alloc, End::Nothing)?)),
         Holding::One(Item::Tuple(_))
         | Holding::Optional(Some(Item::Tuple(_)))
         | Holding::Listed(_)
-        | Holding::Absent => Flow::Stuck,
+        | Holding::Absent => Ok(Flow::Stuck),
     }
 }
 
 // The end that gives an option of a value.
 #[tactic(auto, using(crate::proofs::ValuesIn::on_value_in))]
-fn ends_some(holding: Holding) -> Flow
-    ensures { (frame : Frame)
+fn ends_some(alloc: Global, holding: Holding) -> Result<Flow, AllocError>
+    ensures { IfOk result (λ f. (frame : Frame)
         → run.on_value (held holding) (λ v. run.Ends (GivesSome v) (state frame))
-        ≡ flow result frame }
+        ≡ flow f frame) }
 {
     match value_in(holding) {
-        Some(value) => Flow::Ends(End::Some(value)),
-        None => Flow::Stuck,
+        Some(value) => Ok(Flow::Ends(Boxed::new(alloc, End::Some(value))?)),
+        None => Ok(Flow::Stuck),
+    }
+}
+
+// The end of a tail.
+#[inline(never)]
+fn run_tail(alloc: Global, given: &Option<(Text, Text)>) -> Result<Flow, AllocError>
+    ensures { IfOk result (λ f.
+        (frame : Frame) → run.Ends (run.tail_end given.now) (state frame) ≡ flow f frame) }
+{
+    match given {
+        Some(_) => Ok(Flow::Ends(Boxed::new(alloc, End::Unreachable)?)),
+        None => Ok(Flow::Ends(Boxed::new(alloc, End::Nothing)?)),
     }
 }
 
 // What a return gives.
+#[inline(never)]
 fn run_return(
     alloc: Global,
     around: &Around<'_>,
@@ -63,8 +83,16 @@ fn run_return(
         (RunsSo (λ w. run.run_return w given.now) around.now frame.now frame.now) }
 {
     match given {
-        TExpr::Read(read) => Ok(ends_with(read_value(alloc, around, frame, read)?)),
-        TExpr::Some(read) => Ok(ends_some(read_value(alloc, around, frame, read)?)),
+        TExpr::Read(read) => {
+            let holding = read_value(alloc, around, frame, read)?;
+            let end = ends_with(alloc, holding)?;
+            Ok(end)
+        }
+        TExpr::Some(read) => {
+            let holding = read_value(alloc, around, frame, read)?;
+            let end = ends_some(alloc, holding)?;
+            Ok(end)
+        }
         TExpr::Call { .. }
         | TExpr::Variant { .. }
         | TExpr::Struct { .. }
@@ -92,6 +120,7 @@ fn test_value(
 }
 
 // How the test of two operands goes.
+#[inline(never)]
 fn test(
     alloc: Global,
     around: &Around<'_>,
@@ -106,6 +135,22 @@ fn test(
         Some(one) => test_value(alloc, around, frame, &one, b),
         None => Ok(None),
     }
+}
+
+// Gives one result more: what is read.
+#[inline(never)]
+fn run_given(
+    alloc: Global,
+    around: &Around<'_>,
+    frame: &mut Frame<'_>,
+    read: &Read,
+) -> Result<Flow, AllocError>
+    ensures runs { IfOk result (RunsSo (λ w env s. run.on_value (run.read_value w env read.now)
+        (λ v. run.Goes env (run.one_given s v))) around.now frame.old frame.new) }
+    ensures follows { OnOk result (Follows frame.old frame.new) }
+{
+    let holding = read_value(alloc, around, frame, read)?;
+    run_extend(frame, holding)
 }
 
 // Runs a statement.
@@ -129,30 +174,19 @@ fn run_stmt(
             None => Ok(Flow::Stuck),
         },
         Stmt::IfLet(pat, read, inside) => {
-            let holding = read_value(alloc, around, frame, read)?;
-            run_where(alloc, around, pat, holding, inside.as_slice(), frame)
+            run_where(alloc, around, pat, read, inside.as_slice(), frame)
         }
-        Stmt::Match(read, arms) => {
-            let holding = read_value(alloc, around, frame, read)?;
-            for arm in arms.as_slice() {
-                let ran = run_arm(alloc, around, &arm.0, &holding, arm.1.as_slice(), frame)?;
-                if let Some(end) = ran {
-                    return Ok(end);
-                }
-            }
-            Ok(Flow::Goes)
-        }
+        Stmt::Match(read, arms) => run_match(alloc, around, read, arms.as_slice(), frame),
         Stmt::Return(given) => run_return(alloc, around, frame, given),
-        Stmt::Tail(None) => Ok(Flow::Ends(End::Nothing)),
-        Stmt::Tail(Some(_)) => Ok(Flow::Ends(End::Unreachable)),
+        Stmt::Tail(given) => {
+            let end = run_tail(alloc, given)?;
+            Ok(end)
+        }
         Stmt::LetList { local, call } => run_call(alloc, around, frame, *local, call),
         Stmt::Loop { list, item, body } => {
             run_loop(alloc, around, *list, *item, body.as_slice(), frame)
         }
-        Stmt::Extend(read) => {
-            let holding = read_value(alloc, around, frame, read)?;
-            run_extend(frame, holding)
-        }
+        Stmt::Extend(read) => run_given(alloc, around, frame, read),
         Stmt::Overflow { inside, limit } => Ok(run_overflow(around, frame, *inside, *limit)),
         Stmt::Log { .. } => Ok(Flow::Goes),
         Stmt::Split { body, inside } => {
@@ -181,30 +215,28 @@ fn run_inside(
     Ok(end)
 }
 
-// Runs statements where a pattern fits what is read, and leaves what they and the pattern bound; tells how they end,
-// where it fits.
+// Runs the first arm whose pattern fits what is read, and leaves what it and the pattern bound.
 #[cycle(running)]
-fn run_arm(
+fn run_match(
     alloc: Global,
     around: &Around<'_>,
-    pat: &TPat,
-    holding: &Holding,
-    statements: &[Stmt],
+    read: &Read,
+    cases: &[(TPat, List<Stmt>)],
     frame: &mut Frame<'_>,
-) -> Result<Option<Flow>, AllocError>
+) -> Result<Flow, AllocError>
     ensures runs { IfOk result
-        (ArmRunsSo pat.now (held holding.now) (body statements.now) around.now frame.old
-        frame.new) }
-    ensures kept { OnOk result (frame.new.locals ≡ frame.old.locals) }
+        (RunsSo (run_match read.now (arms cases.now)) around.now frame.old frame.new) }
     ensures follows { OnOk result (Follows frame.old frame.new) }
 {
-    let count = frame.locals.len();
-    if fit(alloc, pat, holding, frame)? {
-        let end = run_body(alloc, around, statements, frame)?;
-        frame.locals.truncate(count);
-        Ok(Some(end))
-    } else {
-        Ok(None)
+    let bound = frame.locals.len();
+    let place = first_fit(alloc, around, read, cases, frame)?;
+    match cases.get(place) {
+        Some(arm) => {
+            let end = run_body(alloc, around, arm.1.as_slice(), frame)?;
+            frame.locals.truncate(bound);
+            Ok(end)
+        }
+        None => Ok(Flow::Goes),
     }
 }
 
@@ -214,20 +246,22 @@ fn run_where(
     alloc: Global,
     around: &Around<'_>,
     pat: &TPat,
-    holding: Holding,
+    read: &Read,
     statements: &[Stmt],
     frame: &mut Frame<'_>,
 ) -> Result<Flow, AllocError>
     ensures runs { IfOk result
-        (RunsSo (run_where pat.now (held holding) (body statements.now)) around.now frame.old
+        (RunsSo (run_read pat.now read.now (body statements.now)) around.now frame.old
         frame.new) }
-    ensures kept { OnOk result (frame.new.locals ≡ frame.old.locals) }
     ensures follows { OnOk result (Follows frame.old frame.new) }
 {
-    let ran = run_arm(alloc, around, pat, &holding, statements, frame)?;
-    match ran {
-        Some(end) => Ok(end),
-        None => Ok(Flow::Goes),
+    let bound = frame.locals.len();
+    if fits(alloc, around, pat, read, frame)? {
+        let end = run_body(alloc, around, statements, frame)?;
+        frame.locals.truncate(bound);
+        Ok(end)
+    } else {
+        Ok(Flow::Goes)
     }
 }
 
@@ -248,9 +282,14 @@ fn run_turn(
     ensures kept { OnOk result (frame.new.locals ≡ frame.old.locals) }
     ensures follows { OnOk result (Follows frame.old frame.new) }
 {
-    let found = item_at(alloc, frame, list, index)?;
-    let pat = TPat::Some(Some(item));
-    run_where(alloc, around, &pat, found, statements, frame)
+    let bound = frame.locals.len();
+    if fit_item(alloc, list, item, index, frame)? {
+        let end = run_body(alloc, around, statements, frame)?;
+        frame.locals.truncate(bound);
+        Ok(end)
+    } else {
+        Ok(Flow::Goes)
+    }
 }
 
 // Runs statements for each item of the list that a local holds, in order.

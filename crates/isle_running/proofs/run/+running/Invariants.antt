@@ -1,16 +1,10 @@
 use Rattle.std.proofs.Common.{◌≡◌, ◌+◌, ◌*◌, drop}
-use Rattle.isle_tree.specs.Views.{stmt, body, arms}
+use Rattle.isle_tree.specs.Views.{body}
 use Rattle.isle_tree.specs.Run as run
-use Rattle.isle_running.specs.RunViews.{held, locals, within, state}
+use Rattle.isle_running.specs.RunViews.{locals, within, state}
 use Rattle.isle_running.specs.Frames.{Follows}
 use Rattle.isle_running.specs.Steps.{run_turns, run_loop}
 use Rattle.isle_running.proofs.run.+running.Given as goal
-
-abbrev pub invariant-run_stmt-loop-arm : goal.invariant-run_stmt-loop-arm
-invariant-run_stmt-loop-arm l =
-    (run.run_arms (within l.around l.frame) (arms (drop l.arm-index l.arm-items)) (held l.holding) (locals l.frame.locals) (state l.frame)
-    ≡ run.run_stmt (within l.around l.fn.frame) (stmt l.fn.statement) (locals l.fn.frame.locals) (state l.fn.frame))
-    × Follows l.fn.frame l.frame
 
 abbrev pub invariant-run_body-loop-statement : goal.invariant-run_body-loop-statement
 invariant-run_body-loop-statement l =
@@ -34,14 +28,14 @@ decreases-run_body l = 6 * goal.size-run_body l + 1
 abbrev pub decreases-run_inside : goal.decreases-run_inside
 decreases-run_inside l = 6 * goal.size-run_inside l + 2
 
-abbrev pub decreases-run_arm : goal.decreases-run_arm
-decreases-run_arm l = 6 * goal.size-run_arm l + 2
+abbrev pub decreases-run_match : goal.decreases-run_match
+decreases-run_match l = 6 * goal.size-run_match l + 2
 
 abbrev pub decreases-run_where : goal.decreases-run_where
-decreases-run_where l = 6 * goal.size-run_where l + 3
+decreases-run_where l = 6 * goal.size-run_where l + 2
 
 abbrev pub decreases-run_turn : goal.decreases-run_turn
-decreases-run_turn l = 6 * goal.size-run_turn l + 4
+decreases-run_turn l = 6 * goal.size-run_turn l + 2
 
 abbrev pub decreases-run_loop : goal.decreases-run_loop
-decreases-run_loop l = 6 * goal.size-run_loop l + 5
+decreases-run_loop l = 6 * goal.size-run_loop l + 3
