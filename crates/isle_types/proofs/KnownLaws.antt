@@ -1,17 +1,20 @@
 -- The first type of each name, after a definition more.
-use Rattle.std.proofs.Common.{◌≡◌, ℕ, Bool, true, false, cond, List, [], ◌∷◌, ◌++◌, Option, Some, None, refl, sym, ap, ◌∙◌, subst, ◌+◌, ◌<◌, length, get_or}
-use Rattle.std.specs.Prelude.{option_map, is_some, find, ◌||◌, drop}
+use Rattle.std.proofs.Common.{◌≡◌, ℕ, Bool, true, false, cond, List, [], ◌∷◌, ◌++◌, Option, Some, None, refl, sym, ap, ◌∙◌, subst, ◌+◌, ◌<◌, length, get_or, arith}
+use Rattle.std.specs.Prelude.{map, option_map, is_some, find, ◌||◌, drop, nat_lt}
 use Rattle.std.specs.Option.{option_map_or}
 use Rattle.std.specs.List.{cons_option, list_any}
 use Rattle.std.specs.Str.{bytes_eq}
 use Rattle.std.proofs.Math.ListN.{get_or-append}
 use Rattle.std.proofs.Math.Seq.{get_or-append_seam}
 use Rattle.std.proofs.lemmas.Slice.Eq.{bytes_eq-Decides}
+use Rattle.std.proofs.lemmas.Bool.Decides.{nat_tests}
 use Rattle.std.proofs.lemmas.List.{drop_more, length-append}
 use Rattle.isle_ast.specs.Tree.{Def}
 use Rattle.isle_ast.specs.declared.tree.AstBody.{AstBody}
 use Rattle.isle_declarations.specs.Symbols.{index_of, added}
-use Rattle.isle_declarations.proofs.SymbolLaws.{index_of_more, index_below}
+use Rattle.isle_declarations.specs.Repeats.{repeats}
+use Rattle.isle_declarations.proofs.SymbolLaws.{index_of_more, index_of_new, index_below}
+use Rattle.isle_core.proofs.OptionLaws.{some_same}
 use Rattle.isle_types.specs.declared.known_types.KnownTypes.{KnownTypes}
 use Rattle.isle_declarations.specs.DeclaredTypes.{DeclaredType, type_of, types}
 use Rattle.isle_types.specs.Fault.{or_later}
@@ -168,6 +171,25 @@ primitive_if values (Some i) (Some b) e = cc
 pub primitive_known : (ds : List Def) (known : KnownTypes) (name : List ℕ) → AreKnown ds known → option_map_or (λ i. get_or known.primitive.items i false) (index_of known.names name) false ≡ option_map_or is_primitive (declared_as ds name) false
 unfolding AreKnown
 primitive_known ds known name h = primitive_if known.primitive.items (index_of known.names name) (declared_as ds name) (h.finds name)
+
+met_if : (names : List (List ℕ)) (name : List ℕ) (place : ℕ) (before : Option ℕ) → index_of names name ≡ before → index_of (cond (is_some before) names (names ++ name ∷ [])) name ≡ Some place
+    → nat_lt place (length names) ≡ is_some before
+met_if names name place None e h =
+    let same : place ≡ length names = some_same place (length names) (sym h ∙ index_of_new names name e) in
+    grind (arith, nat_tests, same)
+met_if names name place (Some k) e h =
+    let lt : place < length names = index_below names name place h in
+    grind (arith, nat_tests, lt)
+
+-- a name has an earlier place than the next one if it was met before
+pub met_before : (names : List (List ℕ)) (name : List ℕ) (place : ℕ) → index_of (added names name) name ≡ Some place → nat_lt place (length names) ≡ is_some (index_of names name)
+met_before names name place h = met_if names name place (index_of names name) refl h
+
+-- of fewer than two none has an earlier one's name
+pub few_again : {A : Type 0} (name_of : A → List ℕ) (xs : List A) → length xs < 2 → repeats (map name_of xs) ≡ false
+few_again name_of [] few = refl
+few_again name_of (x ∷ []) few = refl
+few_again name_of (x ∷ y ∷ xs) few = absurd (omega (arith, few))
 
 -- one more of which a test fails
 pub any_more : {X : Type 0} (test : X → Bool) (xs : List X) (i : ℕ) (x d : X) → i < length xs → x ≡ get_or xs i d → test x ≡ false → list_any test (drop i xs) ≡ list_any test (drop (i + 1) xs)

@@ -22,15 +22,14 @@ use std::alloc::{AllocError, Global};
 const MOST_FIELDS: usize = 256;
 
 /// Tells whether a name was met before; it is met now.
+#[tactic(auto, using(crate::proofs::KnownLaws::met_before))]
 pub fn meets<'b>(before: &mut Symbols<'b>, name: &'b str) -> Result<bool, AllocError>
     ensures found { IfOk result (λ found. found ≡ is_some (index_of before.old name.now)) }
     ensures names { OnOk result (before.new ≡ added before.old name.now) }
 {
-    if before.find(name).is_some() {
-        return Ok(true);
-    }
-    before.intern(name)?;
-    Ok(false)
+    let met = before.len();
+    let place = before.intern(name)?;
+    Ok(place < met)
 }
 
 // The first variant of an earlier one's name.
@@ -49,7 +48,8 @@ fn variant_again<'b, 'd>(
     Ok(None)
 }
 
-// The first field of an earlier one's name.
+// The first field of an earlier one's name, if there are several.
+#[tactic(auto, using(crate::proofs::KnownLaws::few_again))]
 fn named_again<'b, 'd>(
     alloc: Global,
     fields: &'b [(Name<'d>, Name<'d>)],
@@ -57,6 +57,9 @@ fn named_again<'b, 'd>(
     ensures { IfOk result (λ found.
         is_some found ≡ repeats (map (λ (f : List ℕ × List ℕ). f.0) fields.now)) }
 {
+    if fields.len() < 2 {
+        return Ok(None);
+    }
     let mut before = Symbols::new(alloc);
     for field in fields {
         if meets(&mut before, field.0.as_str())? {

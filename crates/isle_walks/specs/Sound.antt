@@ -40,6 +40,11 @@ abbrev pub IsFinished : List (List ℕ) → (old new : DepthFirst) → (node : �
 IsFinished graph old new node true = IsSound graph new × Grows old.order.items new.order.items × (has new.order.items node ≡ true)
 IsFinished graph old new node false = (on : ℕ) × (on_closed_walk graph on ≡ true)
 
+-- what trying a node leaves: it is done, or else the order is as it was
+abbrev pub IsTried : List (List ℕ) → (old new : DepthFirst) → (node : ℕ) → Bool → Type 0
+IsTried graph old new node true = IsFinished graph old new node true
+IsTried graph old new node false = IsSound graph new × (new.order.items ≡ old.order.items)
+
 -- a path of nodes that are there and not done, each leading to the next; it has this start, unless that is done
 pub record IsOpen (graph : List (List ℕ)) (order path : List ℕ) (start : ℕ) : Type 0 where
   pub way : IsWay graph path

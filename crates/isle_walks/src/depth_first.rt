@@ -3,7 +3,7 @@
 ghost use Rattle.std.specs.Prelude.{◌≡◌, ◌<◌, ◌≤◌, ◌++◌, ℕ, [], ◌∷◌, length, IfOk, MatchOption, slice_index};
 ghost use Rattle.std.specs.Prelude.{slice_index_or, slice_set, Contains, true, false};
 ghost use Rattle.isle_walks.specs.Walks.{AreNodes, IsOrderFound, next_of};
-ghost use Rattle.isle_walks.specs.Sound.{has, LeadsInto, IsSound, IsFinished};
+ghost use Rattle.isle_walks.specs.Sound.{has, LeadsInto, IsSound, IsFinished, IsTried};
 
 use isle_core::List;
 use std::alloc::{AllocError, Global};
@@ -81,6 +81,23 @@ impl DepthFirst {
         Ok(())
     }
 
+    // Puts a node after the order if all is there that it leads to, and tells whether it did.
+    fn close_ready(&mut self, graph: &[List<usize>], node: usize) -> Result<bool, AllocError>
+        requires nodes { AreNodes graph.now }
+        requires sound { IsSound graph.now self.old }
+        requires there { node < length graph.now }
+        requires left { has self.old.order.items node ≡ false }
+        ensures { IfOk result (λ closed. IsTried graph.now self.old self.new node closed) }
+    {
+        match self.next_left(graph, node) {
+            Some(_) => Ok(false),
+            None => {
+                self.close(node)?;
+                Ok(true)
+            }
+        }
+    }
+
     // Puts a node after the order once all is there that it leads to, and so on; or tells that a node is on a closed
     // walk, since a path passes more nodes than there are.
     fn finish(
@@ -95,6 +112,9 @@ impl DepthFirst {
         ensures { IfOk result (λ finished. IsFinished graph.now self.old self.new start finished) }
     {
         if self.done[start] {
+            return Ok(true);
+        }
+        if self.close_ready(graph, start)? {
             return Ok(true);
         }
         let mut path = vec![in alloc; start]?;
