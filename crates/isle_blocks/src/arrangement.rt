@@ -23,6 +23,24 @@ pub struct Arranged<'r> {
     pub late: &'r [(BindingId, Constraint)],
 }
 
+// The ranks by which ways are ordered: those of the sources of their early tests, and then one above all, so that of
+// ways that begin alike the ones that test more stand first. Without turns there is one way, and no order to be found.
+fn ranks_of(
+    alloc: Global,
+    turns: &[usize],
+    early: &[(BindingId, Constraint)],
+) -> Result<Vec<u128>, AllocError> {
+    let mut ranks = Vec::new(alloc);
+    if turns.is_empty() {
+        return Ok(ranks);
+    }
+    for (source, _) in early {
+        ranks.push(rank(turns, *source))?;
+    }
+    ranks.push(u128::MAX)?;
+    Ok(ranks)
+}
+
 // Puts the early tests of a way in the order of their sources' ranks.
 fn arrange_way<'r>(
     alloc: Global,
@@ -34,15 +52,9 @@ fn arrange_way<'r>(
 {
     let mut early = Vec::from_slice(alloc, way.early)?;
     early.sort_by_key(|(source, _)| rank(turns, *source))?;
-    let mut ranks = Vec::new(alloc);
-    for (source, _) in &early {
-        ranks.push(rank(turns, *source))?;
-    }
-    // Of ways that begin alike, the ones that test more stand first.
-    ranks.push(u128::MAX)?;
     Ok(Arranged {
         rule: way.rule,
-        ranks,
+        ranks: ranks_of(alloc, turns, early.as_slice())?,
         early,
         late: way.late,
     })

@@ -32,8 +32,8 @@ fn gathered(alloc: Global, check: ControlFlow, behind: &mut Vec<BindingId>) -> E
     step_of(order, check)
 }
 
-// Puts a binding before an order that is gathered from its end on, or before the step of the order. Not inlined, so that
-// `open_each` costs little stack.
+// Puts a binding before an order that is gathered from its end on, or before the step of the order. Not inlined, so
+// that `open_each` costs little stack.
 #[inline(never)]
 fn open_one(
     alloc: Global,

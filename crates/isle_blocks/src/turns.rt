@@ -62,8 +62,8 @@ fn own_turn(tested: usize, ways: usize) -> usize {
     }
 }
 
-/// Gives each binding its turn: the more ways test it early the earlier, but no earlier than what it is made over. The
-/// only error is want of memory.
+/// Gives each binding its turn: the more ways test it early the earlier, but no earlier than what it is made over. Of a
+/// way that stands alone no turn is told, since all are the first. The only error is want of memory.
 pub fn turns_of(
     alloc: Global,
     bindings: &[Binding],
@@ -71,8 +71,11 @@ pub fn turns_of(
 ) -> Result<Vec<usize>, AllocError>
     ensures { IfOk result (λ turns. Turns.TurnsRise bindings.now turns.items) }
 {
-    let tested = tested_of(alloc, bindings.len(), ways)?;
     let mut turns = Vec::new(alloc);
+    if ways.len() < 2 {
+        return Ok(turns);
+    }
+    let tested = tested_of(alloc, bindings.len(), ways)?;
     for binding in bindings {
         let own = own_turn(turn_at(tested.as_slice(), turns.len()), ways.len());
         let turn = turn_after(turns.as_slice(), own, binding.parts());

@@ -6,11 +6,12 @@ use Rattle.isle_core.specs.declared.errors.Error.{Error}
 use Rattle.isle_core.specs.declared.position.Pos.{Pos}
 use Rattle.isle_core.specs.declared.rule_sets.FlatRule.{FlatRule}
 use Rattle.isle_checks.specs.declared.placed.Check.{Check}
+use Rattle.isle_checks.specs.declared.placed.Check.TheVariants as check
 use Rattle.isle_checks.specs.Makes.{MakesAt}
 use Rattle.isle_checks.specs.Firsts.{Found, IsFirst, AreFirstsOfTerm}
 use Rattle.isle_checks.specs.CheckList.{RuleError, Unreached, Overlap, Shadowed, single, span_at, unreachable_of, overlap_of, shadow_of, errors_of, told}
-use Rattle.isle_checks.specs.Errors.{places_of, AreUnreachable, errors_below, Joined}
-use Rattle.isle_checks.proofs.FirstLaws.{made_of}
+use Rattle.isle_checks.specs.Errors.{places_of, AreUnreachable, errors_below, IsSoundAlone, Joined, JoinedOf}
+use Rattle.isle_checks.proofs.FirstLaws.{made_of, few_rules, firsts_of_single, firsts_of_multi}
 use Rattle.isle_checks.proofs.PlacedLaws.{get_there, length_of}
 
 span_there : (fs : List FlatRule) (i : ℕ) (f : FlatRule) → i < length fs → span_at (places_of fs) i ≡ Some (single (get_or fs i f).pos)
@@ -67,3 +68,23 @@ below_of c multi fs j (Some i) h = let m = made_of c i j (slice_get fs i) (slice
 
 pub maker_below : (c : Check) (multi : Bool) (fs : List FlatRule) (os : Found) (j : ℕ) (o : Option ℕ) → j < length os → o ≡ get_or os j o → AreFirstsOfTerm c multi fs os → IfSome o (λ i. i < length fs)
 maker_below c multi fs os j o lt e h = below_of c multi fs j o (h.each j o (get_there os j o lt e))
+
+-- ---- one rule
+
+none_of_one : (c : Check) (multi : Bool) (f : FlatRule) → AreFirstsOfTerm c multi (f ∷ []) (None ∷ [])
+none_of_one c true f = firsts_of_multi c (f ∷ []) (None ∷ []) refl
+none_of_one c false f = firsts_of_single c (f ∷ []) (None ∷ []) (few_rules c (f ∷ []) (None ∷ []) (omega arith) refl)
+
+-- nothing is wrong with one that is reachable
+pub sound_alone : (multi : Bool) (fs : List FlatRule) (errors : List Error) → IsSoundAlone fs → JoinedOf multi fs errors errors
+sound_alone multi [] errors h = absurd h
+sound_alone multi (f ∷ []) errors h = record {
+  unreachable = false ∷ [];
+  overlaps = None ∷ [];
+  shadows = None ∷ [];
+  are_unreachable = ((λ e. absurd cc, λ k. absurd (h k)), tt);
+  first_overlaps = none_of_one check.Overlaps multi f;
+  first_shadows = none_of_one check.Shadows multi f;
+  joined = none_joined errors;
+}
+sound_alone multi (f ∷ g ∷ fs) errors h = absurd h

@@ -28,11 +28,6 @@ none_there zero j i h = cc
 none_there (suc n) zero i h = cc
 none_there (suc n) (suc j) i h = none_there n j i h
 
--- a rule at a place, as an item
-record RuleAt (rules : List FlatRule) (i : ℕ) : Type 0 where
-  rule : FlatRule
-  at : slice_get rules i ≡ Some rule
-
 pub made_of : (check : Check) (i j : ℕ) (o p : Option FlatRule) → IsSomeAnd o (λ (f : FlatRule). IsSomeAnd p (λ (g : FlatRule). MakesOf check i f j g)) → (f : FlatRule) × (g : FlatRule) × (o ≡ Some f) × (p ≡ Some g) × MakesOf check i f j g
 made_of check i j None p h = absurd h
 made_of check i j (Some f) None h = absurd h

@@ -19,6 +19,12 @@ AreUnreachable (f ∷ fs) (u ∷ us) = (IsTrue u ↔ IsUnreachable f) × AreUnre
 AreUnreachable [] (u ∷ us) = ⊥
 AreUnreachable (f ∷ fs) [] = ⊥
 
+-- there is one rule, and it is reachable
+abbrev pub IsSoundAlone : List FlatRule → Type 0
+IsSoundAlone [] = ⊥
+IsSoundAlone (f ∷ []) = IsUnreachable f → ⊥
+IsSoundAlone (f ∷ g ∷ fs) = ⊥
+
 -- of the first n rules
 abbrev pub errors_below : List Pos → List Bool → (overlaps shadows : Found) → ℕ → List RuleError
 errors_below ps us os ss zero = []

@@ -1,14 +1,14 @@
 //! The errors of the rules of a term.
 
-ghost use Rattle.std.specs.Prelude.{◌≡◌, ◌<◌, ◌≤◌, Some as SomeOf, length, IfOk, OnOk, IfSome};
+ghost use Rattle.std.specs.Prelude.{◌≡◌, ◌<◌, ◌≤◌, Some as SomeOf, length, IfOk, OnOk, IfSome, IsTrue};
 ghost use Rattle.isle_checks.specs.CheckList as list;
 ghost use Rattle.isle_checks.specs.CheckList.{told, single, unreachable_of, overlap_of, shadow_of};
-ghost use Rattle.isle_checks.specs.Errors.{places_of, Joined, JoinedOf};
+ghost use Rattle.isle_checks.specs.Errors.{places_of, IsSoundAlone, Joined, JoinedOf};
 
 use crate::firsts::firsts_of_term;
 use crate::names::TermNames;
 use crate::placed::Check;
-use crate::unreachable::unreachable_rules;
+use crate::unreachable::{is_unreachable, unreachable_rules};
 use isle_core::{Error, FlatRule, List, OutOfMemory, Pos, Span, Text};
 use std::alloc::{AllocError, Global};
 
@@ -132,6 +132,16 @@ fn push_shadow(
     Ok(())
 }
 
+// Whether a term has one rule, which is reachable: then nothing is wrong with it.
+fn is_sound_alone(alloc: Global, rules: &[FlatRule]) -> Result<bool, AllocError>
+    ensures { IfOk result (λ alone. IsTrue alone → IsSoundAlone rules.now) }
+{
+    match rules {
+        [rule] => Ok(!is_unreachable(alloc, rule)?),
+        _ => Ok(false),
+    }
+}
+
 /// Adds the errors of the rules of a term, rule by rule: that it is unreachable by itself, then the first
 /// earlier one that overlaps it, then the first that shadows it; only the unreachable ones if the term
 /// answers several times (`multi`). The only error is want of memory.
@@ -144,6 +154,10 @@ pub fn push_errors(
     ensures { OnOk result (JoinedOf multi term.now.rules.now errors.old.items errors.new.items) }
 {
     let rules = term.rules;
+    let alone = is_sound_alone(alloc, rules)?;
+    if alone {
+        return Ok(());
+    }
     let unreachable = unreachable_rules(alloc, rules)?;
     let overlaps = firsts_of_term(alloc, Check::Overlaps, multi, rules)?;
     let masks = firsts_of_term(alloc, Check::Shadows, multi, rules)?;

@@ -57,8 +57,9 @@ fn have_clash(
     Ok(false)
 }
 
-// Whether a rule puts two different constraints on one binding, or on two that its equalities join.
-fn is_unreachable(alloc: Global, rule: &FlatRule) -> Result<bool, AllocError>
+/// Tells whether a rule is unreachable by itself: it puts two different constraints on one binding, or on two that its
+/// equalities join. The only error is want of memory.
+pub fn is_unreachable(alloc: Global, rule: &FlatRule) -> Result<bool, AllocError>
     ensures { IfOk result (λ found. IsTrue found ↔ IsUnreachable rule.now) }
 {
     let constraints = rule.constraints.as_slice();

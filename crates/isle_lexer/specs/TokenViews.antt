@@ -1,5 +1,4 @@
 -- What contracts see of the code's tokens.
-use Rattle.std.specs.Prelude.{List, map}
 use Rattle.isle_lexer.specs.declared.token.Token.{Token}
 use Rattle.isle_lexer.specs.declared.token.Token.TheVariants as code
 use Rattle.isle_lexer.specs.Lexeme.{Lexeme, Open, Close, At, Less, Greater, Word}
@@ -12,7 +11,3 @@ token_seen (code.At at) = At at
 token_seen (code.Less at) = Less at
 token_seen (code.Greater at) = Greater at
 token_seen (code.Word at word) = Word at word.now
-
--- tokens in order
-abbrev pub tokens_seen : List Token → List Lexeme
-tokens_seen = map token_seen

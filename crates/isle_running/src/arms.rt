@@ -14,8 +14,8 @@ use isle_core::List;
 use isle_tree::{Read, Stmt, TPat};
 use std::alloc::{AllocError, Global};
 
-/// Returns the place of the first arm whose pattern fits what is read, and binds what that binds; if none fits, how many
-/// arms there are. Not inlined, so that what is read costs no stack where the arm runs.
+/// Returns the place of the first arm whose pattern fits what is read, and binds what that binds; if none fits, how
+/// many arms there are. Not inlined, so that what is read costs no stack where the arm runs.
 #[inline(never)]
 pub fn first_fit(
     alloc: Global,

@@ -1,3 +1,4 @@
 pub mod Scope
+pub mod Places
 pub mod Log
 pub mod Table

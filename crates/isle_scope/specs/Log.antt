@@ -1,7 +1,5 @@
 -- How the code finds where a local was bound.
-use Rattle.std.specs.Prelude.{◌≡◌, ℕ, List, [], ◌∷◌, ◌++◌, map}
-use Rattle.std.specs.Ordering.{nat_cmp}
-use Rattle.std.specs.BTreeMap.{BTreeMap, get}
+use Rattle.std.specs.Prelude.{◌≡◌, ℕ, List, [], ◌∷◌, ◌++◌, map, Option}
 use Rattle.isle_scope.specs.declared.entry.Entry.{Entry}
 use Rattle.isle_scope.specs.Scope.{last_place}
 
@@ -14,7 +12,7 @@ abbrev pub Undoes : List ℕ → List Entry → Type 0
 Undoes bound [] = Unit {0}
 Undoes bound (e ∷ es) = (e.hidden ≡ last_place bound e.local) × Undoes (bound ++ e.local ∷ []) es
 
--- the map has where each local is bound last, and the log where it was bound before
-pub record Finds (log : List Entry) (places : BTreeMap ℕ ℕ) : Type 0 where
-  pub now : (n : ℕ) → get nat_cmp places n ≡ last_place (locals_of log) n
+-- each local has the place where it is bound last, and the log where it was bound before
+pub record Finds (log : List Entry) (place : ℕ → Option ℕ) : Type 0 where
+  pub now : (n : ℕ) → place n ≡ last_place (locals_of log) n
   pub before : Undoes [] log

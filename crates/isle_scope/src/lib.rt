@@ -2,8 +2,10 @@
 #![tactic(auto)]
 
 mod entry;
+mod places;
 mod scope;
 mod table;
 
+pub use places::Places;
 pub use scope::Scope;
 pub use table::Table;

@@ -1,12 +1,8 @@
 -- The first place of each variable, after one more is joined.
 use Rattle.std.proofs.Common.{◌≡◌, ℕ, suc, Bool, true, false, cond, eqb, List, [], ◌∷◌, ◌++◌, length, Option, Some, None, refl, sym, ap, ◌∙◌}
 use Rattle.std.specs.Prelude.{option_map, is_some}
-use Rattle.std.specs.BTreeMap.{BTreeMap, Updates, get, is_at}
-use Rattle.std.specs.Cmp.{Equal-is, nat_cmp_is}
-use Rattle.std.specs.Ordering.{nat_cmp, is_eq}
-use Rattle.std.specs.declared.cmp.Ordering.TheVariants.{Equal}
 use Rattle.std.proofs.lemmas.Bool.{eqb-true, eq-eqb}
-use Rattle.std.proofs.lemmas.Map.Lookups.{exact_unsigned}
+use Rattle.isle_scope.specs.Places.{Sets}
 use Rattle.isle_templates.specs.FirstPlaces.{FindsPlaces}
 use Rattle.isle_templates.specs.Renumbered.{place_of}
 
@@ -34,22 +30,12 @@ place_of_more (y ∷ ys) new x e =
     pick differs rest false is true was = ap (option_map suc) (rest ∙ ap (λ b. cond b (Some (length ys)) (place_of ys x)) was)
     pick differs rest false is false was = ap (option_map suc) (rest ∙ ap (λ b. cond b (Some (length ys)) (place_of ys x)) was)
 
--- what the map has after an update
-pub got : (old new : BTreeMap ℕ ℕ) (key x place : ℕ) → Updates nat_cmp old new key (Some place) → get nat_cmp new x ≡ cond (eqb key x) (Some place) (get nat_cmp old x)
-got old new key x place updates = one (is_at (nat_cmp key) x) refl (eqb key x) refl
-  where
-    one : (b : Bool) → is_at (nat_cmp key) x ≡ b → (t : Bool) → eqb key x ≡ t → get nat_cmp new x ≡ cond t (Some place) (get nat_cmp old x)
-    one true is true was = updates.0 x ∙ ap (λ b. cond b (Some place) (get nat_cmp old x)) is
-    one false is false was = updates.0 x ∙ ap (λ b. cond b (Some place) (get nat_cmp old x)) is
-    one true is false was = let same = eq-eqb key x (exact_unsigned key x ((Equal-is (nat_cmp key x)).0 is)) in cc
-    one false is true was = let same : true ≡ is_at (nat_cmp key) x = ap is_eq (nat_cmp_is key x Equal (eqb-true key x was)) in cc
-
 -- a variable that is not there yet is placed at the end
-pub finds_more : (xs more : List ℕ) (old new : BTreeMap ℕ ℕ) (key place : ℕ) → more ≡ xs ++ key ∷ [] → FindsPlaces xs old → is_some (get nat_cmp old key) ≡ false → place ≡ length xs → Updates nat_cmp old new key (Some place)
+pub finds_more : (xs more : List ℕ) (old new : ℕ → Option ℕ) (key place : ℕ) → more ≡ xs ++ key ∷ [] → FindsPlaces xs old → is_some (old key) ≡ false → place ≡ length xs → Sets old new key (Some place)
     → FindsPlaces more new
-finds_more xs more old new key place added were absent is updates = record {
+finds_more xs more old new key place added were absent is sets = record {
   finds = λ x.
-      got old new key x place updates
-      ∙ rw (is, were.finds x) (sym (place_of_more xs key x (sym (were.finds key) ∙ none_of (get nat_cmp old key) absent)))
+      sets x
+      ∙ rw (is, were.finds x) (sym (place_of_more xs key x (sym (were.finds key) ∙ none_of (old key) absent)))
       ∙ ap (λ ys. place_of ys x) (sym added);
 }

@@ -5,26 +5,27 @@ ghost use Rattle.isle_templates.specs.FirstPlaces.{FindsPlaces};
 ghost use Rattle.isle_templates.specs.Renumbered.{joined, new_number};
 
 use isle_core::VarId;
+use isle_scope::Places;
 use std::alloc::{AllocError, Global};
-use std::collections::BTreeMap;
 use std::marker::Model;
 
 /// Variables in the order in which they stand first, each once. Contracts see them as the list of their numbers.
 #[derive(Drop)]
 pub struct Order {
     variables: Vec<usize>,
-    places: BTreeMap<usize, usize>,
+    places: Places,
 }
 
 impl Model for Order {
     ghost use Rattle.std.specs.Prelude.{List, ℕ};
+    ghost use Rattle.isle_scope.specs.Places.{look_in};
     ghost use Rattle.isle_templates.specs.FirstPlaces.{FindsPlaces};
 
     ghost Value = { List ℕ };
 
     ghost view = { λ o. o.variables.items };
 
-    ghost invariant = { λ o. FindsPlaces o.variables.items o.places };
+    ghost invariant = { λ o. FindsPlaces o.variables.items (look_in o.places) };
 }
 
 impl Order {
@@ -34,7 +35,7 @@ impl Order {
     {
         Order {
             variables: Vec::new(alloc),
-            places: BTreeMap::new(alloc),
+            places: Places::new(alloc),
         }
     }
 
@@ -43,16 +44,16 @@ impl Order {
         ensures { OnOk result (self.new ≡ joined self.old variable.0) }
     {
         let number = variable.index();
-        if self.places.get(&number).is_some() {
+        if self.places.get(number).is_some() {
             return Ok(());
         }
         let place = self.variables.len();
         self.variables.push(number)?;
-        match self.places.insert(number, place) {
-            Ok(_) => Ok(()),
-            Err(_) => {
+        match self.places.put(number, place) {
+            Ok(()) => Ok(()),
+            Err(e) => {
                 self.variables.pop();
-                Err(AllocError)
+                Err(e)
             }
         }
     }
@@ -61,8 +62,8 @@ impl Order {
     pub fn renumbered(&self, variable: VarId) -> VarId
         ensures { result ≡ new_number self.now variable }
     {
-        match self.places.get(&variable.index()) {
-            Some(place) => VarId(*place),
+        match self.places.get(variable.index()) {
+            Some(place) => VarId(place),
             None => variable,
         }
     }

@@ -1,7 +1,7 @@
 use Rattle.std.proofs.Common.{rules, ◌<◌, subst, sym}
 use Rattle.isle_checks.specs.declared.placed.Check.TheVariants as check
 use Rattle.isle_checks.specs.Errors.{places_of}
-use Rattle.isle_checks.proofs.ErrorLaws.{told_below, maker_below, rule_joined}
+use Rattle.isle_checks.proofs.ErrorLaws.{told_below, maker_below, rule_joined, sound_alone}
 use Rattle.isle_checks.proofs.errors.push_errors.Goals as goal
 
 pub index-requires : goal.index-requires
@@ -24,3 +24,6 @@ loop-place-preserved c =
     (told_below c.args.term.now.rules.now c.in_ok-unreachable.unreachable.items c.loop-place.place c.in_ok-unreachable.ensures c.loop-place-test.true) c.index.ensures
     (subst (λ n. c.loop-place.place < n) (sym c.in_ok-overlaps.ensures.long) c.loop-place-test.true) c.index-in-loop-place.ensures (subst (λ n. c.loop-place.place < n) (sym c.in_ok-masks.ensures.long) c.loop-place-test.true) c.index-in-loop-place-2.ensures
     c.loop-place.invariant c.in_ok-push_unreachable.ensures c.in_ok-push_overlap.ensures c.in_ok-push_shadow.ensures
+
+pub returns-then-alone : goal.returns-then-alone
+returns-then-alone c = sound_alone c.args.multi c.args.term.now.rules.now c.args.errors.now.items (c.in_ok-alone.ensures c.if-alone.true)

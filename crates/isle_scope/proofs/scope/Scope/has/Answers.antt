@@ -1,6 +1,6 @@
 use Rattle.std.proofs.Common.{ap, ◌∙◌}
 use Rattle.std.specs.Prelude.{is_some}
-use Rattle.isle_scope.proofs.Places.{has_place}
+use Rattle.isle_scope.proofs.PlaceLaws.{has_place}
 use Rattle.isle_scope.proofs.scope.Scope.has.Goals as goal
 
 pub returns : goal.returns

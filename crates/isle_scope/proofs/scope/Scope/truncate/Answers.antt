@@ -1,6 +1,6 @@
 use Rattle.std.proofs.Common.{take, ap, ◌∙◌}
 use Rattle.isle_scope.specs.Log.{locals_of}
-use Rattle.isle_scope.proofs.Places.{locals-take}
+use Rattle.isle_scope.proofs.PlaceLaws.{locals-take}
 use Rattle.isle_scope.proofs.scope.Scope.truncate.Goals as goal
 
 pub returns : goal.returns

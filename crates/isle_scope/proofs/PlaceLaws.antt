@@ -1,15 +1,11 @@
 -- Where a local is bound last, as it is bound and goes out of scope.
-use Rattle.std.proofs.Common.{◌≡◌, ℕ, zero, suc, ◌+◌, List, [], ◌∷◌, ◌++◌, length, take, Bool, true, false, cond, Option, Some, None, ⊎_elim, ◌⊎◌, inl, inr, refl, sym, ap, ◌∙◌, append_assoc, subst, arith}
+use Rattle.std.proofs.Common.{◌≡◌, ℕ, zero, suc, ◌+◌, List, [], ◌∷◌, ◌++◌, length, take, Bool, true, false, Option, Some, None, ⊎_elim, ◌⊎◌, inl, inr, refl, sym, ap, ◌∙◌, append_assoc, subst, arith}
 use Rattle.std.specs.Prelude.{◌==◌, ◌||◌, IsSome, is_some, if◌then◌else◌}
 use Rattle.std.specs.List.{list_any}
-use Rattle.std.specs.Ordering.{nat_cmp, is_eq}
-use Rattle.std.specs.BTreeMap.{BTreeMap, get, Updates, is_at}
-use Rattle.std.specs.Cmp.{Equal-is, nat_cmp_is}
-use Rattle.std.specs.declared.cmp.Ordering.TheVariants.{Equal}
-use Rattle.std.proofs.lemmas.Bool.{eq-eqb, ne_eqb}
+use Rattle.std.proofs.lemmas.Bool.{eq-eqb, eqb-true, ne_eqb}
 use Rattle.std.proofs.lemmas.List.{append-nil, map-append, length-map}
-use Rattle.std.proofs.lemmas.Map.Lookups.{exact_unsigned}
 use Rattle.isle_scope.specs.declared.entry.Entry.{Entry}
+use Rattle.isle_scope.specs.Places.{look_near, Sets, AreSame}
 use Rattle.isle_scope.specs.Scope.{last_from, last_place}
 use Rattle.isle_scope.specs.Log.{locals_of, Undoes, Finds}
 
@@ -65,23 +61,28 @@ undoes_less bound (x ∷ log) e h =
     let k = undoes_less (bound ++ x.local ∷ []) log e h.1 in
     ((h.0, k.0), subst (λ (ls : List ℕ). e.hidden ≡ last_place ls e.local) (append_assoc bound (x.local ∷ []) (locals_of log)) k.1)
 
--- ---- the map
+-- ---- the places
 
-differ : (n : ℕ) → is_at (nat_cmp n) n ≡ false → ⊥
-differ n e = let same : true ≡ is_eq (nat_cmp n n) = ap is_eq (nat_cmp_is n n Equal refl) in absurd cc
+unequal : true ≡ false → ⊥
+unequal e = absurd cc
 
--- what the map has after an update
-got : (old new : BTreeMap ℕ ℕ) (y n : ℕ) (o : Option ℕ) → Updates nat_cmp old new y o → ((y ≡ n) × (get nat_cmp new n ≡ o)) ⊎ ((y ≡ n → ⊥) × (get nat_cmp new n ≡ get nat_cmp old n))
-got old new y n o u = one (is_at (nat_cmp y) n) refl
+-- a number more, at which nothing stands
+pub near_more : (near : List (Option ℕ)) (n : ℕ) → look_near (near ++ None ∷ []) n ≡ look_near near n
+near_more [] zero = refl
+near_more [] (suc n) = refl
+near_more (x ∷ near) zero = refl
+near_more (x ∷ near) (suc n) = near_more near n
+
+-- what a local's place is after one was set
+got : (old new : ℕ → Option ℕ) (y n : ℕ) (o : Option ℕ) → Sets old new y o → ((y ≡ n) × (new n ≡ o)) ⊎ ((y ≡ n → ⊥) × (new n ≡ old n))
+got old new y n o u = one (y == n) refl
   where
-    one : (b : Bool) → is_at (nat_cmp y) n ≡ b → ((y ≡ n) × (get nat_cmp new n ≡ o)) ⊎ ((y ≡ n → ⊥) × (get nat_cmp new n ≡ get nat_cmp old n))
-    one true is =
-        let same : y ≡ n = exact_unsigned y n ((Equal-is (nat_cmp y n)).0 is) in
-        inl (same, u.0 n ∙ ap (λ b. cond b o (get nat_cmp old n)) is)
-    one false is = inr (λ e. differ n (subst (λ x. is_at (nat_cmp x) n ≡ false) e is), u.2 n is)
+    one : (b : Bool) → (y == n) ≡ b → ((y ≡ n) × (new n ≡ o)) ⊎ ((y ≡ n → ⊥) × (new n ≡ old n))
+    one true is = inl (eqb-true y n is, u n ∙ ap (λ (b : Bool). if b then o else old n) is)
+    one false is = inr (λ e. unequal (sym (eq-eqb y n e) ∙ is), u n ∙ ap (λ (b : Bool). if b then o else old n) is)
 
 -- a local is bound
-pub finds_more : (log : List Entry) (old new : BTreeMap ℕ ℕ) (e : Entry) (place : ℕ) → Finds log old → e.hidden ≡ get nat_cmp old e.local → place ≡ length log → Updates nat_cmp old new e.local (Some place) → Finds (log ++ e ∷ []) new
+pub finds_more : (log : List Entry) (old new : ℕ → Option ℕ) (e : Entry) (place : ℕ) → Finds log old → e.hidden ≡ old e.local → place ≡ length log → Sets old new e.local (Some place) → Finds (log ++ e ∷ []) new
 finds_more log old new e place f was is u = record {
   now = λ n.
       ⊎_elim
@@ -92,8 +93,12 @@ finds_more log old new e place f was is u = record {
   before = undoes_more [] log e f.before (was ∙ f.now e.local);
 }
 
+-- none was
+pub finds_still : (log : List Entry) (old new : ℕ → Option ℕ) → Finds log old → AreSame old new → Finds log new
+finds_still log old new f same = record { now = λ n. same n ∙ f.now n; before = f.before }
+
 -- a local goes out of scope
-pub finds_less : (log : List Entry) (old new : BTreeMap ℕ ℕ) (e : Entry) → Finds (log ++ e ∷ []) old → Updates nat_cmp old new e.local e.hidden → Finds log new
+pub finds_less : (log : List Entry) (old new : ℕ → Option ℕ) (e : Entry) → Finds (log ++ e ∷ []) old → Sets old new e.local e.hidden → Finds log new
 finds_less log old new e f u = record {
   now = λ n. ⊎_elim
       (λ same. same.1 ∙ k.1 ∙ ap (last_place (locals_of log)) same.0)
@@ -106,7 +111,7 @@ finds_less log old new e f u = record {
     k = undoes_less [] log e f.before
 
 -- the last local is bound
-pub last_is : (log : List Entry) (old : BTreeMap ℕ ℕ) (e : Entry) → Finds (log ++ e ∷ []) old → IsSome (get nat_cmp old e.local)
+pub last_is : (log : List Entry) (old : ℕ → Option ℕ) (e : Entry) → Finds (log ++ e ∷ []) old → IsSome (old e.local)
 last_is log old e f =
     subst IsSome (sym (f.now e.local ∙ ap (λ (ls : List ℕ). last_place ls e.local) (locals_more log e) ∙ last_now (locals_of log) e.local e.local refl)) refl
 
