@@ -5,7 +5,7 @@ use Rattle.std.specs.List.{list_any}
 use Rattle.std.proofs.lemmas.Bool.{eq-eqb, eqb-true, ne_eqb}
 use Rattle.std.proofs.lemmas.List.{append-nil, map-append, length-map}
 use Rattle.isle_scope.specs.declared.entry.Entry.{Entry}
-use Rattle.isle_scope.specs.Places.{look_near, Sets, AreSame}
+use Rattle.isle_scope.specs.Places.{look_near, Sets}
 use Rattle.isle_scope.specs.Scope.{last_from, last_place}
 use Rattle.isle_scope.specs.Log.{locals_of, Undoes, Finds}
 
@@ -92,10 +92,6 @@ finds_more log old new e place f was is u = record {
       ∙ ap (λ (ls : List ℕ). last_place ls n) (sym (locals_more log e));
   before = undoes_more [] log e f.before (was ∙ f.now e.local);
 }
-
--- none was
-pub finds_still : (log : List Entry) (old new : ℕ → Option ℕ) → Finds log old → AreSame old new → Finds log new
-finds_still log old new f same = record { now = λ n. same n ∙ f.now n; before = f.before }
 
 -- a local goes out of scope
 pub finds_less : (log : List Entry) (old new : ℕ → Option ℕ) (e : Entry) → Finds (log ++ e ∷ []) old → Sets old new e.local e.hidden → Finds log new
