@@ -1,0 +1,17 @@
+pub mod SeesLets
+pub mod SpacedNames
+pub mod Pieces
+pub mod Laid
+pub mod Bytes
+pub mod Lexing
+pub mod Apart
+pub mod Numbers
+pub mod Read
+pub mod Deep
+pub mod Ascii
+pub mod Spells
+pub mod Flagged
+pub mod WrittenLaw
+pub mod Names
+pub mod Witness
+pub mod Joined

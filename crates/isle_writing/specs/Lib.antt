@@ -1,0 +1,6 @@
+pub mod Text
+pub mod Seen
+pub mod Erased
+pub mod Height
+pub mod Writable
+pub mod Spelt

@@ -1,0 +1,181 @@
+//! Definitions of rule texts.
+
+ghost use Rattle.std.specs.Prelude.{◌≡◌, ◌++◌, OnOk, string_bytes};
+ghost use Rattle.isle_ast.specs.Views.{def, pattern};
+ghost use Rattle.isle_writing.specs.Text.{def_text, flags_text, marked_text, pair_text};
+ghost use Rattle.isle_writing.specs.Text.{signature_text, template_text};
+
+use crate::body::push_body;
+use crate::pattern::push_pattern;
+use crate::rule::{push_conclusion, push_parts, push_prio, push_rule_name};
+use crate::word::{push_after, push_mark, push_spaced};
+use isle_ast::{AstBody, AstPattern, Def};
+use isle_core::Name;
+use std::alloc::AllocError;
+
+// Appends two names after these bytes, with a blank between them, and the end of the line.
+fn push_pair(text: &mut String, before: &str, first: &Name, second: &Name) -> Result<(), AllocError>
+    ensures { OnOk result
+        (string_bytes text.new
+        ≡ string_bytes text.old ++ pair_text before.now first.now second.now) }
+{
+    push_after(text, before, first)?;
+    push_after(text, " ", second)?;
+    text.push_str(")\n")
+}
+
+// Appends a type's marks and what it is, and the end of the line.
+fn push_marked(
+    text: &mut String,
+    is_extern: bool,
+    is_nodebug: bool,
+    body: &AstBody,
+) -> Result<(), AllocError>
+    ensures { OnOk result
+        (string_bytes text.new
+        ≡ string_bytes text.old ++ marked_text is_extern is_nodebug body.now) }
+{
+    push_mark(text, is_extern, "extern")?;
+    push_mark(text, is_nodebug, "nodebug")?;
+    push_body(text, body)?;
+    text.push_str(")\n")
+}
+
+// Appends the flags of a declaration, each before a blank.
+fn push_flags(
+    text: &mut String,
+    pure: bool,
+    multi: bool,
+    partial: bool,
+    recursive: bool,
+) -> Result<(), AllocError>
+    ensures { OnOk result
+        (string_bytes text.new
+        ≡ string_bytes text.old ++ flags_text pure multi partial recursive) }
+{
+    push_mark(text, pure, "pure")?;
+    push_mark(text, multi, "multi")?;
+    push_mark(text, partial, "partial")?;
+    push_mark(text, recursive, "rec")
+}
+
+// Appends a declared term, its arguments and its result, and the end of the line.
+fn push_signature(
+    text: &mut String,
+    term: &Name,
+    args: &[Name],
+    ret: &Name,
+) -> Result<(), AllocError>
+    ensures { OnOk result
+        (string_bytes text.new
+        ≡ string_bytes text.old ++ signature_text term.now args.now ret.now) }
+{
+    text.push_str(term.as_str())?;
+    text.push_str(" (")?;
+    push_spaced(text, "", args)?;
+    push_after(text, ") ", ret)?;
+    text.push_str(")\n")
+}
+
+// Appends what an extractor stands for, and the end of the line.
+fn push_template(
+    text: &mut String,
+    params: &[Name],
+    template: &AstPattern<'_>,
+) -> Result<(), AllocError>
+    ensures { OnOk result
+        (string_bytes text.new
+        ≡ string_bytes text.old ++ template_text params.now (pattern template.now)) }
+{
+    push_spaced(text, " ", params)?;
+    text.push_str(") ")?;
+    push_pattern(text, template)?;
+    text.push_str(")\n")
+}
+
+/// Appends a definition, on lines of its own. Its place is not written, nor what stands in a list that is passed
+/// over. The only error is want of memory.
+#[tactic(auto, unfolding(crate::specs::Text::def_text))]
+pub fn push_def(text: &mut String, given: &Def<'_>) -> Result<(), AllocError>
+    ensures { OnOk result
+        (string_bytes text.new ≡ string_bytes text.old ++ def_text (def given.now)) }
+{
+    match given {
+        Def::TypeDecl {
+            name,
+            is_extern,
+            is_nodebug,
+            body,
+            pos: _,
+        } => {
+            push_after(text, "(type ", name)?;
+            text.push_str(" ")?;
+            push_marked(text, *is_extern, *is_nodebug, body)
+        }
+        Def::Decl {
+            term,
+            pure,
+            multi,
+            partial,
+            recursive,
+            args,
+            ret,
+            pos: _,
+        } => {
+            text.push_str("(decl ")?;
+            push_flags(text, *pure, *multi, *partial, *recursive)?;
+            push_signature(text, term, args.as_slice(), ret)
+        }
+        Def::ExternConstructor { term, func, pos: _ } => {
+            push_pair(text, "(extern constructor ", term, func)
+        }
+        Def::ExternExtractor {
+            term,
+            func,
+            infallible,
+            pos: _,
+        } => {
+            text.push_str("(extern extractor ")?;
+            push_mark(text, *infallible, "infallible")?;
+            push_pair(text, "", term, func)
+        }
+        Def::ExternConst { name, ty, pos: _ } => push_pair(text, "(extern const $", name, ty),
+        Def::Extractor {
+            term,
+            params,
+            template,
+            pos: _,
+        } => {
+            push_after(text, "(extractor (", term)?;
+            push_template(text, params.as_slice(), template)
+        }
+        Def::Converter {
+            from,
+            to,
+            term,
+            pos: _,
+        } => {
+            push_after(text, "(convert ", from)?;
+            push_pair(text, " ", to, term)
+        }
+        Def::Rule {
+            name,
+            prio,
+            term,
+            args,
+            iflets,
+            rhs,
+            pos: _,
+        } => {
+            text.push_str("(rule ")?;
+            push_rule_name(text, name)?;
+            push_prio(text, *prio)?;
+            push_parts(text, term, args.as_slice())?;
+            push_conclusion(text, iflets.as_slice(), rhs)
+        }
+        Def::Passed { head, pos: _ } => {
+            push_after(text, "(", head)?;
+            text.push_str(")\n")
+        }
+    }
+}

@@ -1,0 +1,13 @@
+//! The writer of rule texts: definitions as the text that spells them.
+#![tactic(auto)]
+
+mod body;
+mod definition;
+mod expression;
+mod pattern;
+mod rule;
+mod word;
+mod writer;
+
+pub use definition::push_def;
+pub use writer::{push_defs, write_defs};
