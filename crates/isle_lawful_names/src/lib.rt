@@ -18,4 +18,6 @@ mod words;
 
 pub use items::type_items;
 pub use judging::lawful_names;
+pub use lawful::is_type_name;
 pub use name_error::{NameError, NameFail, NameUse};
+pub use name_set::{added, is_new};

@@ -1,0 +1,12 @@
+pub mod Layout
+pub mod ShortName
+pub mod NumericTerms
+pub mod TableNames
+pub mod Immediates
+pub mod KnownTypes
+pub mod FormatRow
+pub mod InstructionRow
+pub mod Misfits
+pub mod Rows
+pub mod Told
+pub mod Checked
