@@ -23,7 +23,7 @@ use Rattle.isle_writing.proofs.Laid.{mark_pieces, names_pieces, joined_pieces, p
 glyph_plain : (d : ℕ) → d < 16 → is_plain_byte (glyph d) ≡ true
 glyph_plain d h = grind (arith, nat_tests)
 
-numeral_word : (n : ℕ) → IsWord (numeral 10 n)
+pub numeral_word : (n : ℕ) → IsWord (numeral 10 n)
 numeral_word n = (numeral_not_empty 10 n (omega arith), list_all-numeral_by is_plain_byte 10 n (omega arith) (omega arith) glyph_plain)
 
 number_word : (n : ℤ) → IsWord (number_text n)

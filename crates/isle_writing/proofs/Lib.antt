@@ -15,3 +15,4 @@ pub mod WrittenLaw
 pub mod Names
 pub mod Witness
 pub mod Joined
+pub mod Numbered

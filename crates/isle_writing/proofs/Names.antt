@@ -1,12 +1,15 @@
 -- Words that stand where the grammar has a name: for those who show that definitions can be written.
-use Rattle.std.proofs.Common.{◌≡◌, ℕ, List, Bool, true, false, Some, refl, ap, ◌∙◌}
+use Rattle.std.proofs.Common.{◌≡◌, ℕ, List, [], ◌∷◌, ◌++◌, length-append, arith, Bool, true, false, Some, refl, ap, ◌∙◌}
 use Rattle.std.specs.Prelude.{◌==◌, ◌||◌, not, if◌then◌else◌, option_map, slice_index, drop, bytes_eq, codes, None}
 use Rattle.isle_lexer.specs.Integer.{is_decimal, int_of}
 use Rattle.isle_lexer.specs.Word.{Dollar, Truth, Underscore, Plain, number_kind, symbol_kind, kind, names, IsName, is_let}
+use Rattle.std.proofs.lemmas.Bool.{and_parts, and_from}
+use Rattle.isle_printer.specs.Number.{numeral}
 use Rattle.isle_reading.specs.Names.{name_of}
 use Rattle.isle_ast.specs.Tree as tree
 use Rattle.isle_grammar.specs.Grammar.{pattern_of, IsAnd, IsTerm, pattern_head, expr_of, IsLet, IsCall, expr_head}
-use Rattle.isle_writing.specs.Writable.{IsWord, NamesOne, IsPattern, IsExpr}
+use Rattle.isle_writing.specs.Writable.{is_plain_byte, IsPlain, IsWord, NamesOne, IsPattern, IsExpr}
+use Rattle.isle_writing.proofs.Apart.{numeral_word}
 
 -- a byte that begins a symbol without `$`: no digit, - or $
 abbrev pub begins_symbol : ℕ → Bool
@@ -57,3 +60,17 @@ pub call_head : (w : List ℕ) → begins_symbol (slice_index w 0) ≡ true → 
 call_head w h e =
     ap (λ (b : Bool). if b then Some IsLet else option_map (λ name. IsCall name) (name_of w)) e
     ∙ ap (option_map (λ name. IsCall name)) (name_is w (symbol_name w h))
+
+-- ---- words that are put together
+
+pub plain_joined : (v w : List ℕ) → IsPlain v → IsPlain w → IsPlain (v ++ w)
+plain_joined [] w h k = k
+plain_joined (b ∷ v) w h k = let p = and_parts (is_plain_byte b) _ h in and_from _ _ p.0 (plain_joined v w p.1 k)
+
+-- what a word begins is one
+pub word_joined : (v w : List ℕ) → IsWord v → IsPlain w → IsWord (v ++ w)
+word_joined v w h k = (omega (arith, h.0, length-append v w), plain_joined v w h.1 k)
+
+-- a number in decimal
+pub numeral_plain : (n : ℕ) → IsPlain (numeral 10 n)
+numeral_plain n = (numeral_word n).1

@@ -106,7 +106,7 @@ pub fn push_def(text: &mut String, given: &Def<'_>) -> Result<(), AllocError>
             is_extern,
             is_nodebug,
             body,
-            pos: _,
+            ..
         } => {
             push_after(text, "(type ", name)?;
             text.push_str(" ")?;
@@ -120,41 +120,36 @@ pub fn push_def(text: &mut String, given: &Def<'_>) -> Result<(), AllocError>
             recursive,
             args,
             ret,
-            pos: _,
+            ..
         } => {
             text.push_str("(decl ")?;
             push_flags(text, *pure, *multi, *partial, *recursive)?;
             push_signature(text, term, args.as_slice(), ret)
         }
-        Def::ExternConstructor { term, func, pos: _ } => {
+        Def::ExternConstructor { term, func, .. } => {
             push_pair(text, "(extern constructor ", term, func)
         }
         Def::ExternExtractor {
             term,
             func,
             infallible,
-            pos: _,
+            ..
         } => {
             text.push_str("(extern extractor ")?;
             push_mark(text, *infallible, "infallible")?;
             push_pair(text, "", term, func)
         }
-        Def::ExternConst { name, ty, pos: _ } => push_pair(text, "(extern const $", name, ty),
+        Def::ExternConst { name, ty, .. } => push_pair(text, "(extern const $", name, ty),
         Def::Extractor {
             term,
             params,
             template,
-            pos: _,
+            ..
         } => {
             push_after(text, "(extractor (", term)?;
             push_template(text, params.as_slice(), template)
         }
-        Def::Converter {
-            from,
-            to,
-            term,
-            pos: _,
-        } => {
+        Def::Converter { from, to, term, .. } => {
             push_after(text, "(convert ", from)?;
             push_pair(text, " ", to, term)
         }
@@ -165,7 +160,7 @@ pub fn push_def(text: &mut String, given: &Def<'_>) -> Result<(), AllocError>
             args,
             iflets,
             rhs,
-            pos: _,
+            ..
         } => {
             text.push_str("(rule ")?;
             push_rule_name(text, name)?;
@@ -173,7 +168,7 @@ pub fn push_def(text: &mut String, given: &Def<'_>) -> Result<(), AllocError>
             push_parts(text, term, args.as_slice())?;
             push_conclusion(text, iflets.as_slice(), rhs)
         }
-        Def::Passed { head, pos: _ } => {
+        Def::Passed { head, .. } => {
             push_after(text, "(", head)?;
             text.push_str(")\n")
         }
