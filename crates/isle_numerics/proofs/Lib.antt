@@ -1,0 +1,9 @@
+pub mod WrapLaws
+pub mod ExactLaws
+pub mod FindLaws
+pub mod PlaceLaws
+pub mod CountLaws
+pub mod ShiftLaws
+pub mod ConversionLaws
+pub mod DefinitionLaws
+pub mod FlagLaws
