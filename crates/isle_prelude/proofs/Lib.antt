@@ -1,0 +1,5 @@
+mod AscendingLaws
+mod CamelLaws
+mod FirstLaws
+mod SizeLaws
+mod TextLaws

@@ -1,0 +1,19 @@
+-- What the generator of a file of instructions answers.
+use Rattle.std.specs.Prelude.{◌≡◌, ℕ, List, Some, None, Result, Ok, Err, String, string_bytes}
+use Rattle.isle_ast.specs.Tree.{Def}
+use Rattle.isle_meta.specs.declared.errors.TableFail.{TableFail}
+use Rattle.isle_meta.specs.declared.errors.TableFail.TheVariants as fail
+use Rattle.isle_meta.specs.declared.tables.Tables.{Tables}
+use Rattle.isle_meta.specs.Rows.{rows, IsFirstUnsupported}
+use Rattle.isle_writing.specs.Text.{def_texts}
+
+-- each row of the tables is supported, and the text is that of these definitions
+pub record IsTextOf (t : Tables) (defs : List Def) (text : List ℕ) : Type 0 where
+  pub supported : IsFirstUnsupported (rows t) None
+  pub written : text ≡ def_texts defs
+
+-- the text of these definitions, or the first row that isn't supported; want of memory is left open
+abbrev pub Generates : {A : Type 0} → Tables → List Def → Result (String A) TableFail → Type 0
+Generates t defs (Ok text) = IsTextOf t defs (string_bytes text)
+Generates t defs (Err (fail.Unsupported found)) = IsFirstUnsupported (rows t) (Some found)
+Generates t defs (Err fail.Memory) = Unit {0}

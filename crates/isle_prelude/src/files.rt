@@ -1,0 +1,166 @@
+//! The two files of instructions.
+
+ghost use Rattle.std.specs.Prelude.{◌≡◌, ◌++◌, IfOk, OnOk, slice_get, string_bytes};
+ghost use Rattle.isle_meta.specs.FormatRow.{all_fields};
+ghost use Rattle.isle_prelude.specs.ClifFiles.{file_defs, instruction_defs, lower_defs, of_format, opt_defs};
+ghost use Rattle.isle_prelude.specs.CommonDefs.{imm_defs};
+ghost use Rattle.isle_prelude.specs.FileManners.{common_of, file_manner, rows_defs};
+ghost use Rattle.isle_prelude.specs.Generated.{Generates};
+ghost use Rattle.isle_writing.specs.Text.{def_texts};
+
+use crate::arrays::push_arrays;
+use crate::fields::all_fields;
+use crate::immediates::push_imm_defs;
+use crate::instruction_data::push_data_defs;
+use crate::instructions::push_instruction;
+use crate::manners::{InstructionFile, file_manner};
+use isle_meta::{Instruction, InstructionFormat, TableFail, Tables, check_tables};
+use std::alloc::{AllocError, Global};
+
+// Appends the types of formats' immediates.
+fn push_field_types(
+    alloc: Global,
+    text: &mut String,
+    formats: &[InstructionFormat],
+) -> Result<(), AllocError>
+    ensures { OnOk result
+        (string_bytes text.new
+        ≡ string_bytes text.old ++ def_texts (imm_defs (all_fields formats.now))) }
+{
+    let fields = all_fields(alloc, formats)?;
+    push_imm_defs(alloc, text, fields.as_slice())
+}
+
+// Appends the definitions with which both files begin.
+fn push_common(
+    alloc: Global,
+    text: &mut String,
+    formats: &[InstructionFormat],
+    instructions: &[Instruction],
+) -> Result<(), AllocError>
+    ensures { OnOk result
+        (string_bytes text.new
+        ≡ string_bytes text.old ++ def_texts (common_of formats.now instructions.now)) }
+{
+    push_field_types(alloc, text, formats)?;
+    push_arrays(alloc, text, formats)?;
+    push_data_defs(alloc, text, formats, instructions)
+}
+
+// Appends an instruction of this format, if the file takes it.
+fn push_of_format(
+    alloc: Global,
+    text: &mut String,
+    file: InstructionFile,
+    format: &InstructionFormat,
+    instruction: &Instruction,
+) -> Result<(), AllocError>
+    ensures { OnOk result
+        (string_bytes text.new
+        ≡ string_bytes text.old
+        ++ def_texts (instruction_defs (file_manner file format.now.has_value_list instruction.now)
+        format.now instruction.now)) }
+{
+    match file_manner(file, format.has_value_list, instruction) {
+        Some(manner) => push_instruction(alloc, text, manner, format, instruction),
+        None => Ok(()),
+    }
+}
+
+// Appends an instruction, if its format is there and the file takes it.
+fn push_row(
+    alloc: Global,
+    text: &mut String,
+    file: InstructionFile,
+    formats: &[InstructionFormat],
+    instruction: &Instruction,
+) -> Result<(), AllocError>
+    ensures { OnOk result
+        (string_bytes text.new
+        ≡ string_bytes text.old
+        ++ def_texts (of_format (file_manner file)
+        (slice_get formats.now instruction.now.format) instruction.now)) }
+{
+    match formats.get(instruction.format) {
+        Some(format) => push_of_format(alloc, text, file, format, instruction),
+        None => Ok(()),
+    }
+}
+
+// Appends instructions.
+fn push_rows(
+    alloc: Global,
+    text: &mut String,
+    file: InstructionFile,
+    formats: &[InstructionFormat],
+    instructions: &[Instruction],
+) -> Result<(), AllocError>
+    ensures { OnOk result
+        (string_bytes text.new
+        ≡ string_bytes text.old ++ def_texts (rows_defs file formats.now instructions.now)) }
+{
+    for instruction in instructions {
+        push_row(alloc, text, file, formats, instruction)?;
+    }
+    Ok(())
+}
+
+// Appends a file.
+fn push_file(
+    alloc: Global,
+    text: &mut String,
+    file: InstructionFile,
+    formats: &[InstructionFormat],
+    instructions: &[Instruction],
+) -> Result<(), AllocError>
+    ensures { OnOk result
+        (string_bytes text.new
+        ≡ string_bytes text.old
+        ++ def_texts (common_of formats.now instructions.now
+        ++ rows_defs file formats.now instructions.now)) }
+{
+    push_common(alloc, text, formats, instructions)?;
+    push_rows(alloc, text, file, formats, instructions)
+}
+
+// The text of a file.
+fn file_text(alloc: Global, file: InstructionFile, tables: &Tables) -> Result<String, AllocError>
+    ensures { IfOk result (λ text.
+        string_bytes text ≡ def_texts (file_defs (file_manner file) tables.now)) }
+{
+    let mut text = String::new(alloc);
+    let formats = tables.formats.as_slice();
+    let instructions = tables.instructions.as_slice();
+    push_file(alloc, &mut text, file, formats, instructions)?;
+    Ok(text)
+}
+
+// The text of a file, if each row of the tables is supported.
+fn generated(alloc: Global, file: InstructionFile, tables: &Tables) -> Result<String, TableFail>
+    ensures { Generates tables.now (file_defs (file_manner file) tables.now) result }
+{
+    match check_tables(alloc, tables) {
+        Ok(()) => {}
+        Err(fail) => return Err(fail),
+    }
+    let text = file_text(alloc, file, tables)?;
+    Ok(text)
+}
+
+/// Returns the file of an optimizer's instructions: the types of immediates, arrays and instructions' data, and of
+/// each instruction without a list of values a term, its extractor and the rule that makes it. `Unsupported` has the
+/// first row of the tables that isn't supported, and the first shape that it breaks; `Memory` says that memory ran
+/// out.
+pub fn gen_opt(alloc: Global, tables: &Tables) -> Result<String, TableFail>
+    ensures { Generates tables.now (opt_defs tables.now) result }
+{
+    generated(alloc, InstructionFile::Opt, tables)
+}
+
+/// Returns the file of lowering's instructions: the types of immediates, arrays and instructions' data, and of each
+/// instruction a term and its extractor. Its errors are those of `gen_opt`.
+pub fn gen_lower(alloc: Global, tables: &Tables) -> Result<String, TableFail>
+    ensures { Generates tables.now (lower_defs tables.now) result }
+{
+    generated(alloc, InstructionFile::Lower, tables)
+}

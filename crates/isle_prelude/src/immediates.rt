@@ -1,0 +1,138 @@
+//! The types of immediates, each once, in ascending order.
+
+ghost use Rattle.std.specs.Prelude.{◌≡◌, ◌++◌, IfOk, OnOk, string_bytes, map, List};
+ghost use Rattle.isle_meta.specs.declared.clif.ImmField.{ImmField as FieldRow};
+ghost use Rattle.isle_prelude.specs.CommonDefs.{imm_defs, imm_enum};
+ghost use Rattle.isle_prelude.specs.Declaring.{primitive};
+ghost use Rattle.isle_prelude.specs.FirstFields.{HasFirsts};
+ghost use Rattle.isle_prelude.specs.Immediates.{enum_types, is_enum, plain_types};
+ghost use Rattle.isle_prelude.specs.Lent.{lent};
+ghost use Rattle.isle_writing.specs.Text.{def_text, def_texts};
+
+use crate::ascending::{in_order, put};
+use crate::declaring::{push_bare_enum, push_primitive};
+use crate::first_fields::{first_fields, type_values};
+use crate::paths::short_name;
+use isle_meta::ImmField;
+use std::alloc::{AllocError, Global};
+use std::collections::{BTreeMap, BTreeSet};
+
+// Whether an immediate is an enum.
+fn is_enum(field: &ImmField) -> bool
+    ensures { result ≡ is_enum field.now }
+{
+    field.values.is_some()
+}
+
+// The types of immediates that are no enums.
+fn plain_types<'t>(alloc: Global, fields: &[&'t ImmField]) -> Result<Vec<&'t str>, AllocError>
+    ensures { IfOk result (λ types. lent types.items ≡ plain_types (lent fields.now)) }
+{
+    let mut types = BTreeSet::new(alloc);
+    for field in fields {
+        if !is_enum(field) {
+            put(&mut types, short_name(field.rust_type.as_str()))?;
+        }
+    }
+    in_order(alloc, &types)
+}
+
+// The types of immediates that are enums.
+fn enum_types<'t>(alloc: Global, fields: &[&'t ImmField]) -> Result<Vec<&'t str>, AllocError>
+    ensures { IfOk result (λ types. lent types.items ≡ enum_types (lent fields.now)) }
+{
+    let mut types = BTreeSet::new(alloc);
+    for field in fields {
+        if is_enum(field) {
+            put(&mut types, short_name(field.rust_type.as_str()))?;
+        }
+    }
+    in_order(alloc, &types)
+}
+
+// Appends primitive types.
+fn push_primitives(text: &mut String, names: &[&str]) -> Result<(), AllocError>
+    ensures { OnOk result
+        (string_bytes text.new
+        ≡ string_bytes text.old ++ def_texts (map primitive (lent names.now))) }
+{
+    for name in names {
+        push_primitive(text, name)?;
+    }
+    Ok(())
+}
+
+// Appends the enum of the immediates of a type.
+fn push_imm_enum<'t>(
+    alloc: Global,
+    text: &mut String,
+    types: &BTreeMap<&'t str, &'t ImmField>,
+    name: &'t str,
+) -> Result<(), AllocError>
+    ensures { (fields : List FieldRow) → HasFirsts fields types.now → OnOk result
+        (string_bytes text.new ≡ string_bytes text.old ++ def_text (imm_enum fields name.now)) }
+{
+    let values = type_values(alloc, types, name)?;
+    push_bare_enum(alloc, text, name, values.as_slice())
+}
+
+// Appends the enums of these types.
+fn push_imm_enums<'t>(
+    alloc: Global,
+    text: &mut String,
+    types: &BTreeMap<&'t str, &'t ImmField>,
+    names: &[&'t str],
+) -> Result<(), AllocError>
+    ensures { (fields : List FieldRow) → HasFirsts fields types.now → OnOk result
+        (string_bytes text.new
+        ≡ string_bytes text.old ++ def_texts (map (imm_enum fields) (lent names.now))) }
+{
+    for name in names {
+        push_imm_enum(alloc, text, types, name)?;
+    }
+    Ok(())
+}
+
+// Appends the types of immediates that are enums.
+fn push_enum_types<'t>(
+    alloc: Global,
+    text: &mut String,
+    fields: &[&'t ImmField],
+) -> Result<(), AllocError>
+    ensures { OnOk result
+        (string_bytes text.new
+        ≡ string_bytes text.old
+        ++ def_texts (map (imm_enum (lent fields.now)) (enum_types (lent fields.now)))) }
+{
+    let types = first_fields(alloc, fields)?;
+    let names = enum_types(alloc, fields)?;
+    push_imm_enums(alloc, text, &types, names.as_slice())
+}
+
+// Appends the types of immediates that are no enums.
+fn push_plain_types(
+    alloc: Global,
+    text: &mut String,
+    fields: &[&ImmField],
+) -> Result<(), AllocError>
+    ensures { OnOk result
+        (string_bytes text.new
+        ≡ string_bytes text.old ++ def_texts (map primitive (plain_types (lent fields.now)))) }
+{
+    let names = plain_types(alloc, fields)?;
+    push_primitives(text, names.as_slice())
+}
+
+/// Appends the types of immediates. The only error is want of memory.
+pub fn push_imm_defs(
+    alloc: Global,
+    text: &mut String,
+    fields: &[&ImmField],
+) -> Result<(), AllocError>
+    ensures { OnOk result
+        (string_bytes text.new ≡ string_bytes text.old ++ def_texts (imm_defs (lent fields.now))) }
+{
+    push_plain_types(alloc, text, fields)?;
+    push_primitive(text, "MemFlagsData")?;
+    push_enum_types(alloc, text, fields)
+}
