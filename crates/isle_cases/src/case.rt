@@ -8,10 +8,14 @@ use std::alloc::{AllocError, Global};
 pub enum Key {
     Words,
     File,
+    Made,
+    Tables,
     After,
     Status,
     Err,
     Out,
+    Holds,
+    Lines,
     Tokens,
     Names,
     Trait,
@@ -27,10 +31,14 @@ impl Key {
         match word {
             "$" => Some(Key::Words),
             "file" => Some(Key::File),
+            "made" => Some(Key::Made),
+            "tables" => Some(Key::Tables),
             "after" => Some(Key::After),
             "status" => Some(Key::Status),
             "err" => Some(Key::Err),
             "out" => Some(Key::Out),
+            "holds" => Some(Key::Holds),
+            "lines" => Some(Key::Lines),
             "tokens" => Some(Key::Tokens),
             "names" => Some(Key::Names),
             "trait" => Some(Key::Trait),
@@ -45,7 +53,7 @@ impl Key {
     // Why no line has this key and this name.
     fn misnamed(self, name: &str) -> Option<Slip> {
         match self {
-            Key::File | Key::After if name.is_empty() => Some(Slip::Name),
+            Key::File | Key::Made | Key::After | Key::Lines if name.is_empty() => Some(Slip::Name),
             Key::Fails | Key::Piece if !matches!(name, "dir" | "out" | "err") => Some(Slip::Object),
             Key::Room if !matches!(name, "out" | "err") => Some(Slip::Object),
             _ => None,
@@ -56,7 +64,13 @@ impl Key {
     fn is_named(self) -> bool {
         matches!(
             self,
-            Key::File | Key::After | Key::Fails | Key::Piece | Key::Room
+            Key::File
+                | Key::Made
+                | Key::After
+                | Key::Lines
+                | Key::Fails
+                | Key::Piece
+                | Key::Room
         )
     }
 }

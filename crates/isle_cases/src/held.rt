@@ -3,11 +3,14 @@
 ghost use Rattle.std.specs.Prelude.{◌<◌, IfOk};
 
 use crate::case::{Case, Entry, Key};
+use crate::parts::{has_parts, holds_parts};
 use crate::slip::Slip;
 use crate::spelling::{number, spelt, text_spelt, words_of};
+use crate::tables::tables_of;
 use crate::wanted::{Shelf, entry, wanted_out};
+use isle_meta::Tables;
 use isle_outside::{MemDir, MemSink};
-use isle_top::run_words;
+use isle_top::{run_words, sample_tables};
 use std::alloc::{AllocError, Global};
 
 /// The most bytes that the directory gives at once, if a case says nothing.
@@ -76,9 +79,38 @@ fn files_of(alloc: Global, entries: &[&Entry]) -> Result<Vec<(String, Vec<u8>)>,
     Ok(files)
 }
 
-// The files of the case.
+// The files of the case: those that it gives, and after them those that words write.
 fn files_before(alloc: Global, case: &Case, head: &Case) -> Result<Vec<(String, Vec<u8>)>, Slip> {
-    files_of(alloc, entries(alloc, case, head, Key::File, "")?.as_slice())
+    let mut files = files_of(alloc, entries(alloc, case, head, Key::File, "")?.as_slice())?;
+    for entry in entries(alloc, case, head, Key::Made, "")? {
+        let name = text_spelt(alloc, entry.name.as_str())?;
+        files.push((name, made(alloc, case, head, entry.text.as_str())?))?;
+    }
+    Ok(files)
+}
+
+// What words write that read no file.
+fn made(alloc: Global, case: &Case, head: &Case, line: &str) -> Result<Vec<u8>, Slip> {
+    let words = words_of(alloc, line)?;
+    let tables = tables(alloc, case, head)?;
+    let dir = MemDir::new(alloc, Vec::new(alloc), Vec::new(alloc), DIR_PIECE);
+    let out = sink(alloc, case, head, "out")?;
+    let err = sink(alloc, case, head, "err")?;
+    let left = run_over(alloc, words.as_slice(), &tables, dir, out, err);
+    let mut bytes = Vec::new(alloc);
+    bytes.extend_from_slice(left.out.bytes())?;
+    Ok(bytes)
+}
+
+// The tables of the case; those of the program, if it says nothing.
+fn tables(alloc: Global, case: &Case, head: &Case) -> Result<Tables, Slip> {
+    match entry(case, head, Key::Tables, "")? {
+        Some(entry) => tables_of(alloc, text_spelt(alloc, entry.text.as_str())?.as_str()),
+        None => match sample_tables(alloc) {
+            Ok(tables) => Ok(tables),
+            Err(_) => Err(Slip::Memory),
+        },
+    }
 }
 
 // The files that the case wants afterwards: those listed, or else those of the case.
@@ -152,11 +184,12 @@ pub fn words(alloc: Global, case: &Case, head: &Case) -> Result<Vec<String>, Sli
 fn run_over(
     alloc: Global,
     words: &[String],
+    tables: &Tables,
     mut dir: MemDir,
     mut out: MemSink,
     mut err: MemSink,
 ) -> Left {
-    let exit = run_words(alloc, words, &mut dir, &mut out, &mut err);
+    let exit = run_words(alloc, words, tables, &mut dir, &mut out, &mut err);
     Left {
         status: exit.0,
         dir,
@@ -170,10 +203,11 @@ pub fn run(alloc: Global, case: &Case, head: &Case, words: &[String]) -> Result<
     if let Some(slip) = head.slip.or(case.slip) {
         return Err(slip);
     }
+    let tables = tables(alloc, case, head)?;
     let dir = dir(alloc, case, head)?;
     let out = sink(alloc, case, head, "out")?;
     let err = sink(alloc, case, head, "err")?;
-    Ok(run_over(alloc, words, dir, out, err))
+    Ok(run_over(alloc, words, &tables, dir, out, err))
 }
 
 // The status that a case wants.
@@ -193,6 +227,9 @@ fn has_out(
     shelf: &Shelf,
     left: &Left,
 ) -> Result<bool, Slip> {
+    if has_parts(case) {
+        return holds_parts(alloc, case, left.out.bytes());
+    }
     match wanted_out(alloc, case, head, words, shelf)? {
         Some(wanted) => Ok(wanted.is_met(alloc, left.out.bytes())?),
         None if left.status == 0 => Err(Slip::NoOut),

@@ -8,7 +8,7 @@ use isle_core::{CodegenOptions, Files, List, Text};
 use isle_outside::{MemDir, MemSink};
 use isle_sample::sample_text;
 use isle_target::{TreeCounts, tree_counts};
-use isle_top::run_words;
+use isle_top::{run_words, sample_tables};
 use std::alloc::{AllocError, Global};
 
 /// How many terms the sample has that is counted.
@@ -85,7 +85,10 @@ fn written(alloc: Global) -> Result<String, AllocError> {
     let mut dir = MemDir::new(alloc, Vec::new(alloc), Vec::new(alloc), 1);
     let mut out = sink(alloc)?;
     let mut err = sink(alloc)?;
-    let _ = run_words(alloc, words.as_slice(), &mut dir, &mut out, &mut err);
+    let Ok(tables) = sample_tables(alloc) else {
+        return Err(AllocError);
+    };
+    let _ = run_words(alloc, words.as_slice(), &tables, &mut dir, &mut out, &mut err);
     String::from_utf8_lossy(alloc, out.bytes())
 }
 

@@ -1,5 +1,6 @@
 //! Why a case isn't held.
 
+use isle_core::OutOfMemory;
 use std::alloc::{AllocError, AllocFailed};
 
 /// Why a case isn't held: how it is written, or what its run left.
@@ -24,6 +25,7 @@ pub enum Slip {
     Err,
     Out,
     Files,
+    Table,
     NoCases,
     NoTopic,
     Lines,
@@ -53,6 +55,7 @@ impl Slip {
             Slip::Err => "another text on err",
             Slip::Out => "another text on out",
             Slip::Files => "other files",
+            Slip::Table => "rows of tables that aren't written as rows are",
             Slip::NoCases => "no cases",
             Slip::NoTopic => "no such topic",
             Slip::Lines => "other lines",
@@ -63,6 +66,12 @@ impl Slip {
 
 impl From<AllocError> for Slip {
     fn from(_: AllocError) -> Self {
+        Slip::Memory
+    }
+}
+
+impl From<OutOfMemory> for Slip {
+    fn from(_: OutOfMemory) -> Self {
         Slip::Memory
     }
 }

@@ -3,6 +3,7 @@
 use crate::case::{Case, cases_of};
 use crate::held::{hold, run, words};
 use crate::library_calls::hold_calls;
+use crate::numeric_rows::hold_rows;
 use crate::report::Report;
 use crate::slip::Slip;
 use crate::wanted::Shelf;
@@ -11,6 +12,9 @@ use std::alloc::Global;
 
 /// The file of the lines that calls are to write, a topic of its own.
 const CALLS: &str = "library_calls.lines";
+
+/// The file of what numeric operations are to give, a topic of its own.
+const NUMERICS: &str = "numerics.rows";
 
 // The names of the files in the current folder, in order.
 fn names<D: Dir>(alloc: Global, dir: &mut D) -> Result<Vec<String>, Slip> {
@@ -28,7 +32,7 @@ fn names<D: Dir>(alloc: Global, dir: &mut D) -> Result<Vec<String>, Slip> {
 
 // Whether a file is a topic, or a text that cases name.
 fn is_data(name: &str) -> bool {
-    name.ends_with(".cases") || name.ends_with(".rs") || name == CALLS
+    name.ends_with(".cases") || name.ends_with(".rs") || name == CALLS || name == NUMERICS
 }
 
 // The files of the current folder. One that isn't read counts as a case that doesn't hold.
@@ -111,10 +115,19 @@ fn count_calls(alloc: Global, wanted: &str, report: &mut Report) -> Result<(), S
     count(alloc, "library_calls", "calls", held, told.as_str(), report)
 }
 
+// Counts the rows of numeric operations, as one case.
+fn count_rows(alloc: Global, rows: &str, report: &mut Report) -> Result<(), Slip> {
+    let mut told = String::new(alloc);
+    let held = hold_rows(alloc, rows, &mut told);
+    count(alloc, "numerics", "rows", held, told.as_str(), report)
+}
+
 // The topic that a file is.
 fn topic_of(file: &str) -> Option<&str> {
-    if file == CALLS {
-        return Some("library_calls");
+    match file {
+        CALLS => return Some("library_calls"),
+        NUMERICS => return Some("numerics"),
+        _ => {}
     }
     file.strip_suffix(".cases")
 }
@@ -128,8 +141,10 @@ fn count_file(
     shelf: &Shelf,
     report: &mut Report,
 ) -> Result<(), Slip> {
-    if file == CALLS {
-        return count_calls(alloc, text, report);
+    match file {
+        CALLS => return count_calls(alloc, text, report),
+        NUMERICS => return count_rows(alloc, text, report),
+        _ => {}
     }
     let cases = cases_of(alloc, text)?;
     count_topic(alloc, topic, cases.as_slice(), shelf, report)

@@ -2,7 +2,7 @@
 #![tactic(auto)]
 
 use isle_core::{StdDir, StdSink};
-use isle_top::run_words;
+use isle_top::{run_words, sample_tables};
 use std::alloc::Global;
 use std::io::ErrorKind;
 use std::process::ExitCode;
@@ -39,9 +39,13 @@ fn main(rt: HostRuntime) -> ExitCode {
         Err(status) => return ExitCode::from(status),
     };
     let alloc: Global = rt.alloc();
+    let tables = match sample_tables(alloc) {
+        Ok(tables) => tables,
+        Err(_) => return ExitCode::from(12),
+    };
     let mut out = StdSink::new(rt.stdout());
     let mut err = StdSink::new(rt.stderr());
     let mut dir = StdDir::new(rt, String::new(alloc));
-    let exit = run_words(alloc, words.as_slice(), &mut dir, &mut out, &mut err);
+    let exit = run_words(alloc, words.as_slice(), &tables, &mut dir, &mut out, &mut err);
     ExitCode::from(exit.0)
 }

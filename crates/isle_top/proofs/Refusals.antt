@@ -11,6 +11,7 @@ use Rattle.isle_core.specs.declared.errors.Error.TheVariants as error
 use Rattle.isle_codegen.specs.declared.file_error.FileError.TheVariants as file
 use Rattle.isle_command_line.specs.Request.{Request}
 use Rattle.isle_command_line.specs.Lines.{LineS, IsBad}
+use Rattle.isle_meta.specs.declared.tables.Tables.{Tables}
 use Rattle.isle_run.specs.declared.run_fail.RunFail.{RunFail}
 use Rattle.isle_run.specs.declared.run_fail.RunFail.TheVariants as run
 use Rattle.isle_top.specs.declared.refusal.Refusal.{Refusal}
@@ -34,13 +35,13 @@ at_number [] i P lt f = absurd (omega (arith, lt))
 at_number (name ∷ names) zero P lt f = f name refl
 at_number (name ∷ names) (suc i) P lt f = at_number names i P (omega (arith, lt)) f
 
-module _ {asks : Request → Type 0} {none : Type 0} {around : Around} {quiet : Type 0} {wrote : List ℕ → Type 0} (request : Request) (status : ℕ) (asked : asks request) where
+module _ {tables : Tables} {asks : Request → Type 0} {none : Type 0} {around : Around} {quiet : Type 0} {wrote : List ℕ → Type 0} (request : Request) (status : ℕ) (asked : asks request) where
   -- memory ran out
-  says_want : Tells wrote status 12 memory_line → Says asks none around quiet wrote status
-  says_want h = subst (Says asks none around quiet wrote) (sym h.0) (statuses.no_memory h.1)
+  says_want : Tells wrote status 12 memory_line → Says tables asks none around quiet wrote status
+  says_want h = subst (Says tables asks none around quiet wrote) (sym h.0) (statuses.no_memory h.1)
 
   -- what is said of a term that is not run
-  says_run : (e : RunFail) → (job_of request).fails (refusal.Run e) around → TellsRun (job_of request) wrote status e → Says asks none around quiet wrote status
+  says_run : (e : RunFail) → (job_of tables request).fails (refusal.Run e) around → TellsRun (job_of tables request) wrote status e → Says tables asks none around quiet wrote status
   says_run run.NoTerm cause told = statuses.refused request (refusal.Run run.NoTerm) status (λ same. absurd cc) asked cause told
   says_run run.ArgCount cause told = statuses.refused request (refusal.Run run.ArgCount) status (λ same. absurd cc) asked cause told
   says_run (run.ArgType i) cause told = statuses.refused request (refusal.Run (run.ArgType i)) status (λ same. absurd cc) asked cause told
@@ -48,8 +49,9 @@ module _ {asks : Request → Type 0} {none : Type 0} {around : Around} {quiet : 
   says_run run.Memory cause told = says_want told
 
   -- what is said of a line that is not answered
-  pub says_end : (e : Refusal) → (job_of request).fails e around → Ends (job_of request) wrote status e → Says asks none around quiet wrote status
+  pub says_end : (e : Refusal) → (job_of tables request).fails e around → Ends (job_of tables request) wrote status e → Says tables asks none around quiet wrote status
   says_end refusal.NotYet cause told = statuses.refused request refusal.NotYet status (λ want. want) asked cause told
+  says_end (refusal.Tables found) cause told = statuses.refused request (refusal.Tables found) status (λ want. want) asked cause told
   says_end (refusal.Files (file.Io index why)) cause told = statuses.refused request (refusal.Files (file.Io index why)) status (λ want. want) asked cause told
   says_end (refusal.Files (file.Errors e)) cause (inl told) = statuses.refused request (refusal.Files (file.Errors e)) status (λ want. want) asked cause told
   says_end (refusal.Files (file.Errors e)) cause (inr told) = says_want told
@@ -63,6 +65,9 @@ IsRefused status = (status ≡ 0 → ⊥) × (status ≡ 11 → ⊥)
 
 told_refused : (status n : ℕ) → IsRefused n → status ≡ n → IsRefused status
 told_refused status n h e = subst IsRefused (sym e) h
+
+four : IsRefused 4
+four = ((λ e. cc), (λ e. cc))
 
 five : IsRefused 5
 five = ((λ e. cc), (λ e. cc))
@@ -105,6 +110,7 @@ named_refused wrote status why (Some name) h = told_refused status 5 five h.0
 -- a line that is not answered ends with another status than one that is
 pub end_refused : (job : Job) (wrote : List ℕ → Type 0) (status : ℕ) (e : Refusal) → Ends job wrote status e → IsRefused status
 end_refused job wrote status refusal.NotYet h = told_refused status 14 fourteen h.0
+end_refused job wrote status (refusal.Tables found) h = told_refused status 4 four h.0
 end_refused job wrote status (refusal.Files (file.Io index why)) h = named_refused wrote status why (slice_get job.inputs index) h
 end_refused job wrote status (refusal.Files (file.Errors e)) (inl h) = errors_refused e.errors status h.0
 end_refused job wrote status (refusal.Files (file.Errors e)) (inr h) = told_refused status 12 twelve h.0
@@ -123,6 +129,7 @@ end_not_built job wrote status e is h = (subst (Ends job wrote status) is h).0
 -- and want of memory with its
 pub end_want : (job : Job) (wrote : List ℕ → Type 0) (status : ℕ) (e : Refusal) → IsWant e → Ends job wrote status e → status ≡ 12
 end_want job wrote status refusal.NotYet want h = absurd want
+end_want job wrote status (refusal.Tables found) want h = absurd want
 end_want job wrote status (refusal.Files (file.Io index why)) want h = absurd want
 end_want job wrote status (refusal.Files (file.Errors e)) want h = absurd want
 end_want job wrote status (refusal.Files (file.Name e)) want h = absurd want
@@ -138,8 +145,8 @@ pub no_bad_word : (words : List (List ℕ)) (i : ℕ) (request : Request) → Is
 no_bad_word words i request h line = h.bad (drop (i + 1) words, request, rw take-append-drop line)
 
 -- what is said of a line is said of the words that ask for it
-pub says_of : {asks others : Request → Type 0} {none fail : Type 0} {around : Around} {quiet : Type 0} {wrote : List ℕ → Type 0} {status : ℕ} → ((request : Request) → asks request → others request) → (none → fail)
-    → Says asks none around quiet wrote status → Says others fail around quiet wrote status
+pub says_of : {tables : Tables} {asks others : Request → Type 0} {none fail : Type 0} {around : Around} {quiet : Type 0} {wrote : List ℕ → Type 0} {status : ℕ} → ((request : Request) → asks request → others request) → (none → fail)
+    → Says tables asks none around quiet wrote status → Says tables others fail around quiet wrote status
 says_of f g (statuses.done h) = statuses.done h
 says_of f g (statuses.no_line h) = statuses.no_line (g h)
 says_of f g (statuses.refused request e status other a cause told) = statuses.refused request e status other (f request a) cause told

@@ -1,5 +1,5 @@
 -- The reply to a line, by what the line asks for.
-use Rattle.std.proofs.Common.{◌≡◌, ℕ, List, Bool, false, Option, Result, Ok, Err, refl, sym, subst}
+use Rattle.std.proofs.Common.{◌≡◌, ℕ, List, Bool, true, false, Option, Result, Ok, Err, refl, sym, subst}
 use Rattle.std.specs.Prelude.{IfOk, IfErr, String}
 use Rattle.std.specs.String.{string_bytes}
 use Rattle.std.specs.declared.alloc.Global.{Global}
@@ -7,15 +7,18 @@ use Rattle.isle_outside.specs.Directory.{Contents, Counts}
 use Rattle.isle_core.specs.declared.options.CodegenOptions.{CodegenOptions}
 use Rattle.isle_codegen.specs.Causes.{AllTried, IsCompiled, HasCause}
 use Rattle.isle_codegen.specs.declared.file_error.FileError.{FileError}
-use Rattle.isle_command_line.specs.Request.{Request, Running, Compile, Sample, Run}
+use Rattle.isle_command_line.specs.Request.{Request, Running, Compile, Prelude, Sample, Run}
+use Rattle.isle_command_line.specs.declared.commands.Kind.{Kind}
 use Rattle.isle_command_line.specs.declared.commands.Source.{Source}
 use Rattle.isle_command_line.specs.declared.commands.Source.TheVariants as source
+use Rattle.isle_meta.specs.declared.tables.Tables.{Tables}
 use Rattle.isle_top.specs.declared.refusal.Refusal.{Refusal}
 use Rattle.isle_top.specs.declared.refusal.Refusal.TheVariants as refusal
 use Rattle.isle_top.specs.Job.{Around, surroundings, IsReply}
 use Rattle.isle_top.specs.Jobs.{job_of, running_job}
 use Rattle.isle_top.specs.RunLine.{GivesLines, run_inputs, run_job}
 use Rattle.isle_top.specs.SampleLine.{sample_source, AreCounts, FailsToCount}
+use Rattle.isle_top.specs.PreludeLine.{is_written, IsPrelude, FailsToWrite}
 use Rattle.isle_top.proofs.Tries.{none_tried}
 
 -- the lines of a run of a file
@@ -33,26 +36,37 @@ run_replies trace from name r around result untraced file gives tried =
     (subst (λ s. IfOk result (λ text. IsReply (running_job false s r) around (string_bytes text))) (sym file) (file_replies name r around result gives tried))
 
 -- why a run gives none
-pub run_fails : {T : Type 0} (request : Request) (r : Running) (around : Around) (result : Result T Refusal) → request ≡ Run r → IfErr result (λ e. (running_job r.trace r.source r).fails e around)
-    → IfErr result (λ e. (job_of request).fails e around)
-run_fails request r around result is h = subst (λ q. IfErr result (λ e. (job_of q).fails e around)) (sym is) h
+pub run_fails : {T : Type 0} (tables : Tables) (request : Request) (r : Running) (around : Around) (result : Result T Refusal) → request ≡ Run r → IfErr result (λ e. (running_job r.trace r.source r).fails e around)
+    → IfErr result (λ e. (job_of tables request).fails e around)
+run_fails tables request r around result is h = subst (λ q. IfErr result (λ e. (job_of tables q).fails e around)) (sym is) h
 
-module _ (request : Request) (options : CodegenOptions) (names : List (List ℕ)) (around : Around) (is : request ≡ Compile options names) where
+module _ (tables : Tables) (request : Request) (options : CodegenOptions) (names : List (List ℕ)) (around : Around) (is : request ≡ Compile options names) where
   -- the text of a program of files
-  pub compile_replies : (text : List ℕ) → IsCompiled options names around.files text → AllTried names around.before around.after → IsReply (job_of request) around text
-  compile_replies text gives tried = subst (λ q. IsReply (job_of q) around text) (sym is) (record { built = refl; gives = gives; tried = tried })
+  pub compile_replies : (text : List ℕ) → IsCompiled options names around.files text → AllTried names around.before around.after → IsReply (job_of tables request) around text
+  compile_replies text gives tried = subst (λ q. IsReply (job_of tables q) around text) (sym is) (record { built = refl; gives = gives; tried = tried })
 
   -- why there is none
-  pub compile_fails : (e : FileError) → HasCause e options around.files names around.before around.after → (job_of request).fails (refusal.Files e) around
-  compile_fails e h = subst (λ q. (job_of q).fails (refusal.Files e) around) (sym is) h
+  pub compile_fails : (e : FileError) → HasCause e options around.files names around.before around.after → (job_of tables request).fails (refusal.Files e) around
+  compile_fails e h = subst (λ q. (job_of tables q).fails (refusal.Files e) around) (sym is) h
 
 -- the counts of a sample
-pub sample_replies : {E : Type 0} (request : Request) (size : ℕ) (files : Option Contents) (counts : Counts) (result : Result (String Global) E) → request ≡ Sample size
-    → IfOk result (λ lines. AreCounts (sample_source size) (string_bytes lines)) → IfOk result (λ lines. IsReply (job_of request) (surroundings files counts counts) (string_bytes lines))
-sample_replies request size files counts (Ok lines) is gives =
-    subst (λ q. IsReply (job_of q) (surroundings files counts counts) (string_bytes lines)) (sym is) (record { built = refl; gives = gives; tried = none_tried counts })
-sample_replies request size files counts (Err e) is gives = tt
+pub sample_replies : {E : Type 0} (tables : Tables) (request : Request) (size : ℕ) (files : Option Contents) (counts : Counts) (result : Result (String Global) E) → request ≡ Sample size
+    → IfOk result (λ lines. AreCounts (sample_source size) (string_bytes lines)) → IfOk result (λ lines. IsReply (job_of tables request) (surroundings files counts counts) (string_bytes lines))
+sample_replies tables request size files counts (Ok lines) is gives =
+    subst (λ q. IsReply (job_of tables q) (surroundings files counts counts) (string_bytes lines)) (sym is) (record { built = refl; gives = gives; tried = none_tried counts })
+sample_replies tables request size files counts (Err e) is gives = tt
 
 -- why there are none
-pub sample_fails : {T : Type 0} (request : Request) (size : ℕ) (around : Around) (result : Result T Refusal) → request ≡ Sample size → IfErr result (FailsToCount size) → IfErr result (λ e. (job_of request).fails e around)
-sample_fails request size around result is h = subst (λ q. IfErr result (λ e. (job_of q).fails e around)) (sym is) h
+pub sample_fails : {T : Type 0} (tables : Tables) (request : Request) (size : ℕ) (around : Around) (result : Result T Refusal) → request ≡ Sample size → IfErr result (FailsToCount size) → IfErr result (λ e. (job_of tables request).fails e around)
+sample_fails tables request size around result is h = subst (λ q. IfErr result (λ e. (job_of tables q).fails e around)) (sym is) h
+
+-- the text of a prelude
+pub prelude_replies : {E : Type 0} (tables : Tables) (request : Request) (kind : Kind) (files : Option Contents) (counts : Counts) (result : Result (String Global) E) → request ≡ Prelude kind
+    → IfOk result (λ text. is_written kind ≡ true) → IfOk result (λ text. IsPrelude tables kind (string_bytes text)) → IfOk result (λ text. IsReply (job_of tables request) (surroundings files counts counts) (string_bytes text))
+prelude_replies tables request kind files counts (Ok text) is built gives =
+    subst (λ q. IsReply (job_of tables q) (surroundings files counts counts) (string_bytes text)) (sym is) (record { built = built; gives = gives; tried = none_tried counts })
+prelude_replies tables request kind files counts (Err e) is built gives = tt
+
+-- why there is none
+pub prelude_fails : {T : Type 0} (tables : Tables) (request : Request) (kind : Kind) (around : Around) (result : Result T Refusal) → request ≡ Prelude kind → IfErr result (FailsToWrite tables kind) → IfErr result (λ e. (job_of tables request).fails e around)
+prelude_fails tables request kind around result is h = subst (λ q. IfErr result (λ e. (job_of tables q).fails e around)) (sym is) h

@@ -1,5 +1,5 @@
 -- A valid line has no refusal but want of memory, if no call of the directory fails; what a refusal tells is there.
-use Rattle.std.proofs.Common.{◌≡◌, ℕ, ◌<◌, ◌≤◌, zero, suc, List, [], ◌∷◌, length, Bool, true, false, Option, Some, None, Result, Ok, Err, refl, sym, ap, ◌∙◌, subst, arith}
+use Rattle.std.proofs.Common.{◌≡◌, ℕ, ◌<◌, ◌≤◌, zero, suc, List, [], ◌∷◌, length, Bool, true, false, Option, Some, None, Result, Ok, Err, refl, sym, ap, ◌∙◌, subst, inl, inr, arith}
 use Rattle.std.specs.Prelude.{◌^◌, IsSomeAnd, IfErr, IsUtf8, slice_get, codes}
 use Rattle.isle_outside.specs.Directory.{Contents, bytes_of, Rose, Counts}
 use Rattle.isle_outside.specs.Reading.{IsText, IsCause, RoseAt}
@@ -18,8 +18,14 @@ use Rattle.isle_codegen.specs.declared.file_error.FileError.{FileError}
 use Rattle.isle_codegen.specs.declared.file_error.FileError.TheVariants as file
 use Rattle.isle_codegen.proofs.Accepted.{accepted_none, accepted_named, some_errors}
 use Rattle.isle_command_line.specs.Request.{Request, Running, Help, Version, Compile, Build, Prelude, Units, Isa, Sample, Run}
+use Rattle.isle_command_line.specs.declared.commands.Kind.{Kind}
+use Rattle.isle_command_line.specs.declared.commands.Kind.TheVariants as kind
 use Rattle.isle_command_line.specs.declared.commands.Source.{Source}
 use Rattle.isle_command_line.specs.declared.commands.Source.TheVariants as source
+use Rattle.isle_meta.specs.Rows.{Row, rows, shapes, unsupported, IsFirstShape, IsFirstUnsupported}
+use Rattle.isle_meta.specs.declared.errors.Unsupported.{Unsupported}
+use Rattle.isle_meta.specs.declared.shapes.Shape.{Shape}
+use Rattle.isle_meta.specs.declared.tables.Tables.{Tables}
 use Rattle.isle_sample.proofs.SampleAccepted.{sample_accepted}
 use Rattle.isle_sample.specs.Sample.{sample}
 use Rattle.isle_run.specs.NoLines.{HasNoLines}
@@ -35,6 +41,7 @@ use Rattle.isle_top.specs.Jobs.{job_of, running_job}
 use Rattle.isle_top.specs.CompileLine.{AreValid, compile_job}
 use Rattle.isle_top.specs.RunLine.{answers_names, run_inputs, IsAnswersText, IsValidRun, FailsToRun, of_trial, unread, no_lines, memory, run_job}
 use Rattle.isle_top.specs.SampleLine.{FailsToCount, sample_source, sample_job}
+use Rattle.isle_top.specs.PreludeLine.{AreSupported, MayBeWritten, FailsByRows, FailsToWrite}
 use Rattle.isle_top.specs.Statuses.{IsOfJob}
 use Rattle.isle_top.specs.Texts.{not_built}
 use Rattle.isle_top.specs.Wants.{IsWant}
@@ -141,29 +148,62 @@ only_want_run from r fs before after _ v (memory h) calm = tt
 
 only_want_count : (n : ℕ) (e : Refusal) → FailsToCount n e → IsWant e
 only_want_count n refusal.NotYet h = absurd h
+only_want_count n (refusal.Tables found) h = absurd h
 only_want_count n (refusal.Files (file.Io index why)) h = absurd h
 only_want_count n (refusal.Files (file.Errors e)) h = accepted_none (sample_source n) e.errors (sample_accepted n) h.errors
 only_want_count n (refusal.Files (file.Name e)) h = accepted_named (codes "sample" ∷ []) (sample n ∷ []) e (sample_accepted n) h
 only_want_count n (refusal.Files file.Memory) h = tt
 only_want_count n (refusal.Run e) h = absurd h
 
+-- ---- a line that writes a prelude
+
+-- the rows that a shape is broken by aren't all supported
+no_shape : (row : Row) (shapes : List Shape) (shape : Shape) → IsFirstShape row shapes (Some shape) → IsFirstShape row shapes None → ⊥
+no_shape row [] shape h k = let same : Some shape ≡ None = h in absurd cc
+no_shape row (s ∷ ss) shape h (inl k) = let same : None ≡ Some s = k.1 in absurd cc
+no_shape row (s ∷ ss) shape (inl h) (inr k) = k.0 h.0
+no_shape row (s ∷ ss) shape (inr h) (inr k) = no_shape row ss shape h.1 k.1
+
+none_unsupported : (rs : List Row) (found : Unsupported) → IsFirstUnsupported rs (Some found) → IsFirstUnsupported rs None → ⊥
+none_unsupported [] found h k = let same : Some found ≡ None = h in absurd cc
+none_unsupported (r ∷ rs) found h (inl k) = let same : None ≡ Some (unsupported r k.0) = k.2 in absurd cc
+none_unsupported (r ∷ rs) found (inl h) (inr k) = no_shape r shapes h.0 h.1 k.0
+none_unsupported (r ∷ rs) found (inr h) (inr k) = none_unsupported rs found h.1 k.1
+
+only_want_rows : (t : Tables) (e : Refusal) → AreSupported t → FailsByRows t e → IsWant e
+only_want_rows t refusal.NotYet v h = absurd h
+only_want_rows t (refusal.Tables found) v h = none_unsupported (rows t) found h v
+only_want_rows t (refusal.Files e) v h = h
+only_want_rows t (refusal.Run e) v h = absurd h
+
+only_want_prelude : (t : Tables) (k : Kind) (e : Refusal) → MayBeWritten t k → FailsToWrite t k e → IsWant e
+only_want_prelude t kind.Numerics e v h = h
+only_want_prelude t kind.NumericsRust e v h = h
+only_want_prelude t kind.ClifOpt e v h = only_want_rows t e v h
+only_want_prelude t kind.ClifLower e v h = only_want_rows t e v h
+only_want_prelude t kind.Assembler e v h = absurd v
+only_want_prelude t kind.AssemblerRust e v h = absurd v
+only_want_prelude t kind.Pulley e v h = absurd v
+only_want_prelude t kind.PulleyRust e v h = absurd v
+
 -- ---- lines
 
 -- a valid line that isn't answered wants memory
-pub only_want : (request : Request) (e : Refusal) (files : Option Contents) (before after : Counts) → (job_of request).valid files → (job_of request).fails e (record { files = files; before = before; after = after })
+pub only_want : (tables : Tables) (request : Request) (e : Refusal) (files : Option Contents) (before after : Counts) → (job_of tables request).valid files → (job_of tables request).fails e (record { files = files; before = before; after = after })
     → (Rose before.faults after.faults → ⊥) → IsWant e
-only_want Help e files before after v h calm = h
-only_want Version e files before after v h calm = h
-only_want (Compile options names) refusal.NotYet files before after v h calm = absurd h
-only_want (Compile options names) (refusal.Files e) None before after v h calm = absurd v
-only_want (Compile options names) (refusal.Files e) (Some fs) before after v h calm = only_want_files options names fs v e before after h calm
-only_want (Compile options names) (refusal.Run e) files before after v h calm = absurd h
-only_want (Build options unit) e files before after v h calm = absurd v
-only_want (Prelude kind) e files before after v h calm = absurd v
-only_want Units e files before after v h calm = absurd v
-only_want (Isa target) e files before after v h calm = absurd v
-only_want (Sample n) e files before after v h calm = only_want_count n e h
-only_want (Run r) e files before after v h calm = by r.trace r.source files v h
+only_want tables Help e files before after v h calm = h
+only_want tables Version e files before after v h calm = h
+only_want tables (Compile options names) refusal.NotYet files before after v h calm = absurd h
+only_want tables (Compile options names) (refusal.Tables found) files before after v h calm = absurd h
+only_want tables (Compile options names) (refusal.Files e) None before after v h calm = absurd v
+only_want tables (Compile options names) (refusal.Files e) (Some fs) before after v h calm = only_want_files options names fs v e before after h calm
+only_want tables (Compile options names) (refusal.Run e) files before after v h calm = absurd h
+only_want tables (Build options unit) e files before after v h calm = absurd v
+only_want tables (Prelude k) e files before after v h calm = only_want_prelude tables k e v h
+only_want tables Units e files before after v h calm = absurd v
+only_want tables (Isa target) e files before after v h calm = absurd v
+only_want tables (Sample n) e files before after v h calm = only_want_count n e h
+only_want tables (Run r) e files before after v h calm = by r.trace r.source files v h
   where
     by : (trace : Bool) (from : Source) (files : Option Contents) → (running_job trace from r).valid files → (running_job trace from r).fails e (record { files = files; before = before; after = after }) → IsWant e
     by trace (source.Unit name) files v h = absurd v
@@ -172,10 +212,10 @@ only_want (Run r) e files before after v h calm = by r.trace r.source files v h
     by false (source.File name) (Some fs) v h = only_want_run name r fs before after e v h calm
 
 -- so it has its reply, or memory was wanting
-pub replied_unless : {T : Type 0} (request : Request) (r : Result T Refusal) (files : Option Contents) (before after : Counts) → IfErr r (λ e. (job_of request).fails e (record { files = files; before = before; after = after }))
-    → (job_of request).valid files → (Rose before.faults after.faults → ⊥) → IfErr r IsWant
-replied_unless request (Ok x) files before after h v calm = tt
-replied_unless request (Err e) files before after h v calm = only_want request e files before after v h calm
+pub replied_unless : {T : Type 0} (tables : Tables) (request : Request) (r : Result T Refusal) (files : Option Contents) (before after : Counts) → IfErr r (λ e. (job_of tables request).fails e (record { files = files; before = before; after = after }))
+    → (job_of tables request).valid files → (Rose before.faults after.faults → ⊥) → IfErr r IsWant
+replied_unless tables request (Ok x) files before after h v calm = tt
+replied_unless tables request (Err e) files before after h v calm = only_want tables request e files before after v h calm
 
 -- ---- what is told
 
@@ -202,6 +242,7 @@ told_files options names around file.Memory h = tt
 
 told_count : (n : ℕ) (e : Refusal) → FailsToCount n e → IsOfJob (sample_job n) e
 told_count n refusal.NotYet h = absurd h
+told_count n (refusal.Tables found) h = absurd h
 told_count n (refusal.Files (file.Io index why)) h = absurd h
 told_count n (refusal.Files (file.Errors e)) h = told_errors e (codes "sample" ∷ []) (sample n ∷ []) h
 told_count n (refusal.Files (file.Name e)) h = tt
@@ -210,6 +251,7 @@ told_count n (refusal.Run e) h = absurd h
 
 told_want : (job : Job) (e : Refusal) → IsWant e → IsOfJob job e
 told_want job refusal.NotYet h = absurd h
+told_want job (refusal.Tables found) h = absurd h
 told_want job (refusal.Files (file.Io index why)) h = absurd h
 told_want job (refusal.Files (file.Errors e)) h = absurd h
 told_want job (refusal.Files (file.Name e)) h = absurd h
@@ -219,19 +261,36 @@ told_want job (refusal.Run e) h = tt
 told_not_built : (job : Job) (e : Refusal) → e ≡ refusal.NotYet → IsOfJob job e
 told_not_built job e same = subst (IsOfJob job) (sym same) tt
 
+told_rows : (job : Job) (t : Tables) (e : Refusal) → FailsByRows t e → IsOfJob job e
+told_rows job t refusal.NotYet h = absurd h
+told_rows job t (refusal.Tables found) h = tt
+told_rows job t (refusal.Files e) h = told_want job (refusal.Files e) h
+told_rows job t (refusal.Run e) h = absurd h
+
+told_prelude : (job : Job) (t : Tables) (k : Kind) (e : Refusal) → FailsToWrite t k e → IsOfJob job e
+told_prelude job t kind.Numerics e h = told_want job e h
+told_prelude job t kind.NumericsRust e h = told_want job e h
+told_prelude job t kind.ClifOpt e h = told_rows job t e h
+told_prelude job t kind.ClifLower e h = told_rows job t e h
+told_prelude job t kind.Assembler e h = told_not_built job e h
+told_prelude job t kind.AssemblerRust e h = told_not_built job e h
+told_prelude job t kind.Pulley e h = told_not_built job e h
+told_prelude job t kind.PulleyRust e h = told_not_built job e h
+
 -- what is known of a line that is not answered is there
-pub of_job : (request : Request) (e : Refusal) (around : Around) → (job_of request).fails e around → IsOfJob (job_of request) e
-of_job Help e around h = told_want (job_of Help) e h
-of_job Version e around h = told_want (job_of Version) e h
-of_job (Compile options names) refusal.NotYet around h = absurd h
-of_job (Compile options names) (refusal.Files e) around h = told_files options names around e h
-of_job (Compile options names) (refusal.Run e) around h = absurd h
-of_job (Build options unit) e around h = told_not_built (job_of (Build options unit)) e h
-of_job (Prelude kind) e around h = told_not_built (job_of (Prelude kind)) e h
-of_job Units e around h = told_not_built (job_of Units) e h
-of_job (Isa target) e around h = told_not_built (job_of (Isa target)) e h
-of_job (Sample n) e around h = told_count n e h
-of_job (Run r) e around h = by r.trace r.source h
+pub of_job : (tables : Tables) (request : Request) (e : Refusal) (around : Around) → (job_of tables request).fails e around → IsOfJob (job_of tables request) e
+of_job tables Help e around h = told_want (job_of tables Help) e h
+of_job tables Version e around h = told_want (job_of tables Version) e h
+of_job tables (Compile options names) refusal.NotYet around h = absurd h
+of_job tables (Compile options names) (refusal.Tables found) around h = absurd h
+of_job tables (Compile options names) (refusal.Files e) around h = told_files options names around e h
+of_job tables (Compile options names) (refusal.Run e) around h = absurd h
+of_job tables (Build options unit) e around h = told_not_built (job_of tables (Build options unit)) e h
+of_job tables (Prelude k) e around h = told_prelude (job_of tables (Prelude k)) tables k e h
+of_job tables Units e around h = told_not_built (job_of tables Units) e h
+of_job tables (Isa target) e around h = told_not_built (job_of tables (Isa target)) e h
+of_job tables (Sample n) e around h = told_count n e h
+of_job tables (Run r) e around h = by r.trace r.source h
   where
     by : (trace : Bool) (from : Source) → (running_job trace from r).fails e around → IsOfJob (running_job trace from r) e
     by trace (source.Unit name) k = told_not_built not_built e k

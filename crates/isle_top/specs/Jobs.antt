@@ -6,12 +6,14 @@ use Rattle.isle_command_line.specs.Views.{seen_run}
 use Rattle.isle_command_line.specs.declared.commands.RunLine.{RunLine}
 use Rattle.isle_command_line.specs.declared.commands.Source.{Source}
 use Rattle.isle_command_line.specs.declared.commands.Source.TheVariants as source
+use Rattle.isle_meta.specs.declared.tables.Tables.{Tables}
 use Rattle.isle_top.specs.About.{help_text, version_text}
 use Rattle.isle_top.specs.Job.{Job}
 use Rattle.isle_top.specs.Texts.{text_job, not_built}
 use Rattle.isle_top.specs.CompileLine.{compile_job}
 use Rattle.isle_top.specs.RunLine.{run_job}
 use Rattle.isle_top.specs.SampleLine.{sample_job}
+use Rattle.isle_top.specs.PreludeLine.{prelude_job}
 
 -- what a source is to a line that has a job for its file: that job, or not built
 abbrev pub of_source : Source → (List ℕ → Job) → Job
@@ -31,17 +33,17 @@ running_job trace from r = of_source from (of_file trace r)
 abbrev pub job_of_run : RunLine → Job
 job_of_run r = running_job r.trace r.source (seen_run r)
 
--- the line that asks for this
-abbrev pub job_of : Request → Job
-job_of Help = text_job help_text
-job_of Version = text_job version_text
-job_of (Compile options names) = compile_job options names
-job_of (Build options unit) = not_built
-job_of (Prelude kind) = not_built
-job_of Units = not_built
-job_of (Isa target) = not_built
-job_of (Sample size) = sample_job size
-job_of (Run r) = running_job r.trace r.source r
+-- the line that asks for this, over these tables
+abbrev pub job_of : Tables → Request → Job
+job_of tables Help = text_job help_text
+job_of tables Version = text_job version_text
+job_of tables (Compile options names) = compile_job options names
+job_of tables (Build options unit) = not_built
+job_of tables (Prelude kind) = prelude_job tables kind
+job_of tables Units = not_built
+job_of tables (Isa target) = not_built
+job_of tables (Sample size) = sample_job size
+job_of tables (Run r) = running_job r.trace r.source r
 
 -- the words ask for this, and for nothing else
 pub record Asks (words : List (List ℕ)) (request : Request) : Type 0 where

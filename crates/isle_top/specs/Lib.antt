@@ -5,6 +5,8 @@ pub mod Texts
 pub mod CompileLine
 pub mod RunLine
 pub mod SampleLine
+pub mod PreludeLine
+pub mod ProgramTables
 pub mod Inputs
 pub mod Jobs
 pub mod Lines

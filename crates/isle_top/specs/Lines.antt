@@ -6,6 +6,8 @@ use Rattle.isle_outside.specs.Directory.{Rose}
 use Rattle.isle_outside.specs.Sinks.{Took, TookPart}
 use Rattle.isle_outside.specs.declared.errors.IoCause.{IoCause}
 use Rattle.isle_outside.specs.declared.errors.IoCause.TheVariants as cause
+use Rattle.isle_meta.specs.declared.shapes.Shape.{Shape}
+use Rattle.isle_meta.specs.declared.shapes.Shape.TheVariants as shape
 use Rattle.isle_lawful_names.specs.declared.name_error.NameUse.{NameUse}
 use Rattle.isle_lawful_names.specs.declared.name_error.NameUse.TheVariants as use_of
 
@@ -97,6 +99,38 @@ use_end use_of.Constant = line (codes ": Constant")
 -- a name may not be emitted
 abbrev pub bad_name_line : List ℕ → NameUse → List ℕ
 bad_name_line name usage = bad_name_head ++ (map masked name ++ use_end usage)
+
+-- what stands before the name of a row that is not supported
+unfoldable pub unsupported_head : List ℕ
+unsupported_head = codes "isle: unsupported "
+
+-- what stands after it: the shape that it breaks
+abbrev pub shape_end : Shape → List ℕ
+shape_end shape.BadName = line (codes ": BadName")
+shape_end shape.RepeatedName = line (codes ": RepeatedName")
+shape_end shape.ReservedName = line (codes ": ReservedName")
+shape_end shape.TyOperand = line (codes ": TyOperand")
+shape_end shape.FormatIndex = line (codes ": FormatIndex")
+shape_end shape.ValueCount = line (codes ": ValueCount")
+shape_end shape.BlockCount = line (codes ": BlockCount")
+shape_end shape.RawBlockCount = line (codes ": RawBlockCount")
+shape_end shape.ImmCount = line (codes ": ImmCount")
+shape_end shape.ImmType = line (codes ": ImmType")
+shape_end shape.ImmShape = line (codes ": ImmShape")
+shape_end shape.NoVarargs = line (codes ": NoVarargs")
+shape_end shape.NoTypevar = line (codes ": NoTypevar")
+shape_end shape.WrittenImm = line (codes ": WrittenImm")
+shape_end shape.AlignedMem = line (codes ": AlignedMem")
+shape_end shape.WrittenOperands = line (codes ": WrittenOperands")
+shape_end shape.ImplicitOperand = line (codes ": ImplicitOperand")
+shape_end shape.AlternateWithoutXmm = line (codes ": AlternateWithoutXmm")
+shape_end shape.BinaryOperands = line (codes ": BinaryOperands")
+shape_end shape.Results = line (codes ": Results")
+shape_end shape.FieldType = line (codes ": FieldType")
+
+-- a row of tables is not supported
+abbrev pub unsupported_line : List ℕ → Shape → List ℕ
+unsupported_line row shape = unsupported_head ++ (map masked row ++ shape_end shape)
 
 -- memory ran out
 abbrev pub memory_line : List ℕ

@@ -6,6 +6,7 @@ use Rattle.isle_codegen.specs.Errors.{HavePlaces}
 use Rattle.isle_codegen.specs.declared.file_error.FileError.TheVariants as file
 use Rattle.isle_command_line.specs.Request.{Request}
 use Rattle.isle_command_line.specs.Lines.{IsBad, IsMissing}
+use Rattle.isle_meta.specs.declared.tables.Tables.{Tables}
 use Rattle.isle_run.specs.declared.run_fail.RunFail.{RunFail}
 use Rattle.isle_run.specs.declared.run_fail.RunFail.TheVariants as run
 use Rattle.isle_top.specs.declared.refusal.Refusal.{Refusal}
@@ -14,11 +15,12 @@ use Rattle.isle_top.specs.Errors.{errors_status}
 use Rattle.isle_top.specs.Job.{Around, Job}
 use Rattle.isle_top.specs.Jobs.{job_of}
 use Rattle.isle_top.specs.Wants.{IsWant}
-use Rattle.isle_top.specs.Lines.{bad_word_line, missing_word_line, not_yet_line, unread_line, bad_name_line, no_term_line, count_line, argument_line, answers_line, write_fault_line, memory_line}
+use Rattle.isle_top.specs.Lines.{bad_word_line, missing_word_line, not_yet_line, unread_line, unsupported_line, bad_name_line, no_term_line, count_line, argument_line, answers_line, write_fault_line, memory_line}
 
 -- an input that is not read is one of the line, and errors are some and stand in the files that are reported with them
 abbrev pub IsOfJob : Job → Refusal → Type 0
 IsOfJob job refusal.NotYet = Unit {0}
+IsOfJob job (refusal.Tables found) = Unit {0}
 IsOfJob job (refusal.Files (file.Io index why)) = index < length job.inputs
 IsOfJob job (refusal.Files (file.Errors e)) = HavePlaces e × (e.errors ≡ [] → ⊥)
 IsOfJob job (refusal.Files (file.Name e)) = Unit {0}
@@ -44,6 +46,7 @@ TellsRun job wrote status run.Memory = Tells wrote status 12 memory_line
 -- what is known of a line that is not answered: its status, and what `err` took
 abbrev pub TellsRefusal : Job → (wrote : List ℕ → Type 0) → (status : ℕ) → Refusal → Type 0
 TellsRefusal job wrote status refusal.NotYet = Tells wrote status 14 not_yet_line
+TellsRefusal job wrote status (refusal.Tables found) = Tells wrote status 4 (unsupported_line found.row found.shape)
 TellsRefusal job wrote status (refusal.Files (file.Io index why)) = IsSomeAnd (slice_get job.inputs index) (λ name. Tells wrote status 5 (unread_line name why))
 TellsRefusal job wrote status (refusal.Files (file.Errors e)) = TellsErrors wrote status e
 TellsRefusal job wrote status (refusal.Files (file.Name e)) = Tells wrote status 10 (bad_name_line e.name e.usage)
@@ -53,6 +56,7 @@ TellsRefusal job wrote status (refusal.Run e) = TellsRun job wrote status e
 -- how a line ends that is not answered: as is told of it; or, of errors whose lines memory doesn't hold, as for want of memory
 abbrev pub Ends : Job → (wrote : List ℕ → Type 0) → (status : ℕ) → Refusal → Type 0
 Ends job wrote status refusal.NotYet = TellsRefusal job wrote status refusal.NotYet
+Ends job wrote status (refusal.Tables found) = TellsRefusal job wrote status (refusal.Tables found)
 Ends job wrote status (refusal.Files (file.Io index why)) = TellsRefusal job wrote status (refusal.Files (file.Io index why))
 Ends job wrote status (refusal.Files (file.Errors e)) = TellsRefusal job wrote status (refusal.Files (file.Errors e)) ⊎ Tells wrote status 12 memory_line
 Ends job wrote status (refusal.Files (file.Name e)) = TellsRefusal job wrote status (refusal.Files (file.Name e))
@@ -66,10 +70,10 @@ pub data IsNoLine (words : List (List ℕ)) (wrote : List ℕ → Type 0) : Type
 
 -- what a status says: the text was written, and nothing else; the words are no line; the line that is asked for is
 -- not answered, for a cause other than want of memory; the output failed; memory ran out. All but the first write their line
-pub data Says (asks : Request → Type 0) (none : Type 0) (around : Around) (quiet : Type 0) (wrote : List ℕ → Type 0) : ℕ → Type 0 where
-  done : quiet → Says asks none around quiet wrote 0
-  no_line : none → Says asks none around quiet wrote 2
-  refused : (request : Request) (e : Refusal) (status : ℕ) → (IsWant e → ⊥) → asks request → (job_of request).fails e around → TellsRefusal (job_of request) wrote status e
-      → Says asks none around quiet wrote status
-  write_fault : wrote write_fault_line → Says asks none around quiet wrote 11
-  no_memory : wrote memory_line → Says asks none around quiet wrote 12
+pub data Says (tables : Tables) (asks : Request → Type 0) (none : Type 0) (around : Around) (quiet : Type 0) (wrote : List ℕ → Type 0) : ℕ → Type 0 where
+  done : quiet → Says tables asks none around quiet wrote 0
+  no_line : none → Says tables asks none around quiet wrote 2
+  refused : (request : Request) (e : Refusal) (status : ℕ) → (IsWant e → ⊥) → asks request → (job_of tables request).fails e around → TellsRefusal (job_of tables request) wrote status e
+      → Says tables asks none around quiet wrote status
+  write_fault : wrote write_fault_line → Says tables asks none around quiet wrote 11
+  no_memory : wrote memory_line → Says tables asks none around quiet wrote 12

@@ -1,6 +1,7 @@
 //! The inputs of a line, and the name that it asks for.
 
 ghost use Rattle.std.specs.Prelude.{◌≡◌, ◌∷◌, ℕ, List, Some, slice_get};
+ghost use Rattle.isle_meta.specs.declared.tables.Tables.{Tables};
 ghost use Rattle.isle_command_line.specs.Views.{seen_command};
 ghost use Rattle.isle_top.specs.Jobs.{job_of, job_of_run};
 ghost use Rattle.isle_top.specs.RunLine.{answers_names};
@@ -42,8 +43,8 @@ fn running_term(run: &RunLine) -> &str
 
 /// Returns the name of the line's input of this number, or any if there is none (`specs/Jobs.antt`).
 pub fn input_name(request: &Command, index: usize) -> &str
-    ensures { (name : List ℕ)
-        → slice_get (job_of (seen_command request.now)).inputs index ≡ Some name
+    ensures { (tables : Tables) (name : List ℕ)
+        → slice_get (job_of tables (seen_command request.now)).inputs index ≡ Some name
         → result.now ≡ name }
 {
     match request {
@@ -65,7 +66,7 @@ pub fn input_name(request: &Command, index: usize) -> &str
 /// Returns the name that a line asks for beside its inputs: the term of a run; of other lines it is empty
 /// (`specs/Jobs.antt`).
 pub fn asked_name(request: &Command) -> &str
-    ensures { result.now ≡ (job_of (seen_command request.now)).asked }
+    ensures { (tables : Tables) → result.now ≡ (job_of tables (seen_command request.now)).asked }
 {
     match request {
         Command::Run(run) => running_term(run),

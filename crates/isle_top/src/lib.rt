@@ -2,10 +2,13 @@
 #![tactic(auto)]
 
 mod about;
+mod asked;
 mod compiled;
 mod inputs;
 mod job;
 mod lines;
+mod preluded;
+mod program_tables;
 mod ran;
 mod refusal;
 mod reply;
@@ -13,5 +16,6 @@ mod run;
 mod sampled;
 mod status;
 
+pub use program_tables::sample_tables;
 pub use run::run_words;
 pub use status::Exit;

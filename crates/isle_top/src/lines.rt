@@ -20,10 +20,14 @@ ghost use Rattle.isle_top.specs.Lines.{
   bad_name_head,
   use_end,
   bad_name_line,
+  unsupported_head,
+  shape_end,
+  unsupported_line,
 };
 
 use isle_codegen::NameUse;
 use isle_core::{Failed, IoCause, Sink, masked, write_all};
+use isle_meta::Shape;
 
 /// What is asked for is not built.
 pub const NOT_YET: &str = "isle: not yet\n";
@@ -104,6 +108,55 @@ pub fn write_bad_name<S: Sink>(sink: &mut S, name: &str, usage: NameUse) -> Resu
     ensures later { S.faults sink.old ≤ S.faults sink.new }
 {
     write_named(sink, bad_name_head(), name, use_end(usage))
+}
+
+// What stands after a row's name: its shape, in one word.
+fn shape_end(shape: Shape) -> &'static str
+    ensures { result.now ≡ shape_end shape }
+{
+    match shape {
+        Shape::BadName => ": BadName\n",
+        Shape::RepeatedName => ": RepeatedName\n",
+        Shape::ReservedName => ": ReservedName\n",
+        Shape::TyOperand => ": TyOperand\n",
+        Shape::FormatIndex => ": FormatIndex\n",
+        Shape::ValueCount => ": ValueCount\n",
+        Shape::BlockCount => ": BlockCount\n",
+        Shape::RawBlockCount => ": RawBlockCount\n",
+        Shape::ImmCount => ": ImmCount\n",
+        Shape::ImmType => ": ImmType\n",
+        Shape::ImmShape => ": ImmShape\n",
+        Shape::NoVarargs => ": NoVarargs\n",
+        Shape::NoTypevar => ": NoTypevar\n",
+        Shape::WrittenImm => ": WrittenImm\n",
+        Shape::AlignedMem => ": AlignedMem\n",
+        Shape::WrittenOperands => ": WrittenOperands\n",
+        Shape::ImplicitOperand => ": ImplicitOperand\n",
+        Shape::AlternateWithoutXmm => ": AlternateWithoutXmm\n",
+        Shape::BinaryOperands => ": BinaryOperands\n",
+        Shape::Results => ": Results\n",
+        Shape::FieldType => ": FieldType\n",
+    }
+}
+
+// What stands before the name of a row that is not supported.
+#[tactic(auto, unfolding(crate::specs::Lines::unsupported_head))]
+fn unsupported_head() -> &'static str
+    ensures { result.now ≡ unsupported_head }
+{
+    "isle: unsupported "
+}
+
+/// Writes the line of a row that is not supported, and of its shape. It takes no memory.
+pub fn write_unsupported<S: Sink>(sink: &mut S, row: &str, shape: Shape) -> Result<(), Failed>
+    ensures ok { OnOk result
+        (Took (S.taken sink.old) (S.taken sink.new) (unsupported_line row.now shape)) }
+    ensures part { OnErr result
+        (TookPart (S.taken sink.old) (S.taken sink.new) (unsupported_line row.now shape)) }
+    ensures failed { OnErr result (Rose (S.faults sink.old) (S.faults sink.new)) }
+    ensures later { S.faults sink.old ≤ S.faults sink.new }
+{
+    write_named(sink, unsupported_head(), row, shape_end(shape))
 }
 
 /// Writes the line of a word with which no line goes on. It takes no memory.

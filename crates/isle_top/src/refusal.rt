@@ -1,5 +1,6 @@
 use isle_codegen::FileError;
 use isle_core::OutOfMemory;
+use isle_meta::Unsupported;
 use isle_run::RunFail;
 use std::alloc::{AllocError, AllocFailed};
 
@@ -8,6 +9,8 @@ use std::alloc::{AllocError, AllocFailed};
 pub enum Refusal {
     /// The line is not built.
     NotYet,
+    /// The row of tables that isn't supported.
+    Tables(Unsupported),
     /// What is wrong with the files that it reads; or want of memory.
     Files(FileError),
     /// The term that it asks for is not run.

@@ -10,7 +10,9 @@ ghost use Rattle.isle_top.specs.SampleLine.{sample_source, AreCounts, FailsToCou
 ghost use Rattle.isle_top.specs.Wants.{IsWant};
 
 use crate::about::{help, version};
+use crate::asked::Asked;
 use crate::compiled::compiled;
+use crate::preluded::preluded;
 use crate::ran::ran;
 use crate::refusal::Refusal;
 use crate::sampled::sampled;
@@ -20,27 +22,27 @@ use std::alloc::Global;
 
 /// Returns the reply to a line (`specs/Jobs.antt`). Where the line is valid and no call of the directory fails, the
 /// only refusal is want of memory.
-pub fn reply<D: Dir>(alloc: Global, command: &Command, dir: &mut D) -> Result<String, Refusal>
+pub fn reply<D: Dir>(alloc: Global, line: &Asked<'_>, dir: &mut D) -> Result<String, Refusal>
     ensures ok { let around = surroundings (D.files dir.old) (D.counts dir.old) (D.counts dir.new)
         in
         IfOk result (λ text.
-        IsReply (job_of (seen_command command.now)) around (string_bytes text)) }
+        IsReply (job_of line.now.tables.now (seen_command line.now.command.now)) around (string_bytes text)) }
     ensures err { let around = surroundings (D.files dir.old) (D.counts dir.old) (D.counts dir.new)
         in
-        IfErr result (λ e. (job_of (seen_command command.now)).fails e around) }
-    ensures not_built { (job_of (seen_command command.now)).built ≡ false
+        IfErr result (λ e. (job_of line.now.tables.now (seen_command line.now.command.now)).fails e around) }
+    ensures not_built { (job_of line.now.tables.now (seen_command line.now.command.now)).built ≡ false
         → result ≡ Err Refusal.NotYet }
-    ensures untried { (job_of (seen_command command.now)).reads ≡ false → dir.new ≡ dir.old }
-    ensures complete { (job_of (seen_command command.now)).valid (D.files dir.old)
+    ensures untried { (job_of line.now.tables.now (seen_command line.now.command.now)).reads ≡ false → dir.new ≡ dir.old }
+    ensures complete { (job_of line.now.tables.now (seen_command line.now.command.now)).valid (D.files dir.old)
         → (Rose (D.counts dir.old).faults (D.counts dir.new).faults → ⊥) → IfErr result IsWant }
     ensures files { D.files dir.new ≡ D.files dir.old }
     ensures later { (D.counts dir.old).faults ≤ (D.counts dir.new).faults }
     ensures stays { (D.counts dir.old).faults ≡ 2 ^ 64 - 1
         → (D.counts dir.new).faults ≡ 2 ^ 64 - 1 }
-    ensures given { let names = (job_of (seen_command command.now)).inputs in
+    ensures given { let names = (job_of line.now.tables.now (seen_command line.now.command.now)).inputs in
         (D.counts dir.new).given ≤ (D.counts dir.old).given + (2 ^ 24 + 1) * length names }
 {
-    match command {
+    match line.command {
         Command::Help => Ok(String::from_str(alloc, help())?),
         Command::Version => Ok(String::from_str(alloc, version())?),
         Command::Compile { options, names } => match compiled(
@@ -54,9 +56,8 @@ pub fn reply<D: Dir>(alloc: Global, command: &Command, dir: &mut D) -> Result<St
         },
         Command::Run(run) => run_reply(alloc, run, dir),
         Command::Sample(size) => sample_reply(alloc, *size),
-        Command::Build { .. } | Command::Prelude(_) | Command::Units | Command::Isa(_) => Err(
-            Refusal::NotYet,
-        ),
+        Command::Prelude(kind) => preluded(alloc, line.tables, *kind),
+        Command::Build { .. } | Command::Units | Command::Isa(_) => Err(Refusal::NotYet),
     }
 }
 

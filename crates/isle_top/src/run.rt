@@ -10,18 +10,22 @@ ghost use Rattle.isle_top.specs.Jobs.{Asks, job_of};
 ghost use Rattle.isle_top.specs.Lines.{Wrote};
 ghost use Rattle.isle_top.specs.Statuses.{IsNoLine, Says};
 
+use crate::asked::Asked;
 use crate::lines::{MISSING_WORD, OUT_OF_MEMORY, WRITE_FAULT, write_bad_word};
 use crate::reply::reply;
 use crate::status::{Exit, complain, refuse};
-use isle_command_line::{Command, LineFail, command};
+use isle_command_line::{LineFail, command};
 use isle_core::{Dir, Sink, write_all};
+use isle_meta::Tables;
 use std::alloc::Global;
 
-/// Runs the program: does what the words ask for, and writes the text that answers them to `out`. Every status but 0
-/// writes its line to `err`. Writing takes no memory. `specs/Jobs.antt` says what each line is.
+/// Runs the program: does what the words ask for, over these tables of instructions, and writes the text that answers
+/// them to `out`. Every status but 0 writes its line to `err`. Writing takes no memory. `specs/Jobs.antt` says what
+/// each line is.
 pub fn run_words<D: Dir, O: Sink, E: Sink>(
     alloc: Global,
     words: &[String],
+    tables: &Tables,
     dir: &mut D,
     out: &mut O,
     err: &mut E,
@@ -31,14 +35,14 @@ pub fn run_words<D: Dir, O: Sink, E: Sink>(
         in
         result.0 ≡ 0 → (request : Request) × Asks (bytes_each words.now) request
         × (O.faults out.new ≡ O.faults out.old)
-        × TookReply (job_of request) around (O.taken out.old) (O.taken out.new) }
+        × TookReply (job_of tables.now request) around (O.taken out.old) (O.taken out.new) }
 
     // At status 11 its count rose, and it took a part of the reply.
     ensures part { let around = surroundings (D.files dir.old) (D.counts dir.old) (D.counts dir.new)
         in
         result.0 ≡ 11 → (request : Request) × Asks (bytes_each words.now) request
         × Rose (O.faults out.old) (O.faults out.new)
-        × TookPartOfReply (job_of request) around (O.taken out.old) (O.taken out.new) }
+        × TookPartOfReply (job_of tables.now request) around (O.taken out.old) (O.taken out.new) }
 
     // At every other status it was not touched.
     ensures untouched { result.0 ≢ 0 → result.0 ≢ 11 → out.new ≡ out.old }
@@ -47,7 +51,7 @@ pub fn run_words<D: Dir, O: Sink, E: Sink>(
     ensures says { let around = surroundings (D.files dir.old) (D.counts dir.old) (D.counts dir.new)
         in
         let wrote = Wrote (E.taken err.old) (E.taken err.new) (E.faults err.old) (E.faults err.new) in
-        Says (Asks (bytes_each words.now)) (IsNoLine (bytes_each words.now) wrote) around
+        Says tables.now (Asks (bytes_each words.now)) (IsNoLine (bytes_each words.now) wrote) around
         (err.new ≡ err.old)
         wrote result.0 }
 
@@ -55,11 +59,11 @@ pub fn run_words<D: Dir, O: Sink, E: Sink>(
     ensures no_line { ((request : Request) → LineS (bytes_each words.now) request → ⊥)
         → (result.0 ≡ 2) ⊎ (result.0 ≡ 12) }
     ensures not_built { (request : Request) → LineS (bytes_each words.now) request
-        → (job_of request).built ≡ false → (result.0 ≡ 14) ⊎ (result.0 ≡ 12) }
+        → (job_of tables.now request).built ≡ false → (result.0 ≡ 14) ⊎ (result.0 ≡ 12) }
 
     // A valid line has its reply, if nothing fails and memory suffices.
     ensures complete { (request : Request) → LineS (bytes_each words.now) request
-        → (job_of request).valid (D.files dir.old)
+        → (job_of tables.now request).valid (D.files dir.old)
         → (Rose (D.counts dir.old).faults (D.counts dir.new).faults → ⊥)
         → (result.0 ≡ 0) ⊎ (result.0 ≡ 11) ⊎ (result.0 ≡ 12) }
     ensures files { D.files dir.new ≡ D.files dir.old }
@@ -67,16 +71,22 @@ pub fn run_words<D: Dir, O: Sink, E: Sink>(
     // No count falls, of each input at most 2^24 + 1 bytes are taken, and the directory is as it was if no line
     // reads files.
     ensures untried { ((request : Request) → LineS (bytes_each words.now) request
-        → (job_of request).reads ≡ false) → dir.new ≡ dir.old }
+        → (job_of tables.now request).reads ≡ false) → dir.new ≡ dir.old }
     ensures later { (D.counts dir.old).faults ≤ (D.counts dir.new).faults }
     ensures out_later { O.faults out.old ≤ O.faults out.new }
     ensures err_later { E.faults err.old ≤ E.faults err.new }
     ensures given { (request : Request) → LineS (bytes_each words.now) request
         → (D.counts dir.new).given
-        ≤ (D.counts dir.old).given + (2 ^ 24 + 1) * length (job_of request).inputs }
+        ≤ (D.counts dir.old).given + (2 ^ 24 + 1) * length (job_of tables.now request).inputs }
 {
     match command(alloc, words) {
-        Ok(request) => run_command(alloc, &request, dir, out, err),
+        Ok(command) => {
+            let line = Asked {
+                command: &command,
+                tables,
+            };
+            run_command(alloc, &line, dir, out, err)
+        }
         Err(LineFail::Bad(index)) => {
             let _ = write_bad_word(err, word_at(words, index));
             Exit(2)
@@ -106,7 +116,7 @@ fn word_at(words: &[String], index: usize) -> &str
 // Does what a line asks for.
 fn run_command<D: Dir, O: Sink, E: Sink>(
     alloc: Global,
-    request: &Command,
+    line: &Asked<'_>,
     dir: &mut D,
     out: &mut O,
     err: &mut E,
@@ -114,30 +124,30 @@ fn run_command<D: Dir, O: Sink, E: Sink>(
     ensures done { let around = surroundings (D.files dir.old) (D.counts dir.old) (D.counts dir.new)
         in
         result.0 ≡ 0 → (O.faults out.new ≡ O.faults out.old)
-        × TookReply (job_of (seen_command request.now)) around (O.taken out.old) (O.taken out.new) }
+        × TookReply (job_of line.now.tables.now (seen_command line.now.command.now)) around (O.taken out.old) (O.taken out.new) }
     ensures part { let around = surroundings (D.files dir.old) (D.counts dir.old) (D.counts dir.new)
         in
         result.0 ≡ 11 → Rose (O.faults out.old) (O.faults out.new)
-        × TookPartOfReply (job_of (seen_command request.now)) around (O.taken out.old)
+        × TookPartOfReply (job_of line.now.tables.now (seen_command line.now.command.now)) around (O.taken out.old)
         (O.taken out.new) }
     ensures untouched { result.0 ≢ 0 → result.0 ≢ 11 → out.new ≡ out.old }
     ensures says { let around = surroundings (D.files dir.old) (D.counts dir.old) (D.counts dir.new)
         in
         let wrote = Wrote (E.taken err.old) (E.taken err.new) (E.faults err.old) (E.faults err.new) in
-        Says (λ a. a ≡ seen_command request.now) ⊥ around (err.new ≡ err.old) wrote result.0 }
-    ensures not_built { (job_of (seen_command request.now)).built ≡ false → result.0 ≡ 14 }
-    ensures untried { (job_of (seen_command request.now)).reads ≡ false → dir.new ≡ dir.old }
-    ensures complete { (job_of (seen_command request.now)).valid (D.files dir.old)
+        Says line.now.tables.now (λ a. a ≡ seen_command line.now.command.now) ⊥ around (err.new ≡ err.old) wrote result.0 }
+    ensures not_built { (job_of line.now.tables.now (seen_command line.now.command.now)).built ≡ false → result.0 ≡ 14 }
+    ensures untried { (job_of line.now.tables.now (seen_command line.now.command.now)).reads ≡ false → dir.new ≡ dir.old }
+    ensures complete { (job_of line.now.tables.now (seen_command line.now.command.now)).valid (D.files dir.old)
         → (Rose (D.counts dir.old).faults (D.counts dir.new).faults → ⊥)
         → (result.0 ≡ 0) ⊎ (result.0 ≡ 11) ⊎ (result.0 ≡ 12) }
     ensures files { D.files dir.new ≡ D.files dir.old }
     ensures later { (D.counts dir.old).faults ≤ (D.counts dir.new).faults }
     ensures out_later { O.faults out.old ≤ O.faults out.new }
     ensures err_later { E.faults err.old ≤ E.faults err.new }
-    ensures given { let names = (job_of (seen_command request.now)).inputs in
+    ensures given { let names = (job_of line.now.tables.now (seen_command line.now.command.now)).inputs in
         (D.counts dir.new).given ≤ (D.counts dir.old).given + (2 ^ 24 + 1) * length names }
 {
-    match reply(alloc, request, dir) {
+    match reply(alloc, line, dir) {
         Ok(text) => match write_all(out, text.as_bytes()) {
             Ok(()) => Exit(0),
             Err(_) => {
@@ -145,6 +155,6 @@ fn run_command<D: Dir, O: Sink, E: Sink>(
                 Exit(11)
             }
         },
-        Err(refusal) => refuse(alloc, err, request, &refusal),
+        Err(refusal) => refuse(alloc, err, line, &refusal),
     }
 }

@@ -8,19 +8,19 @@ ghost use Rattle.isle_top.specs.Jobs.{job_of};
 ghost use Rattle.isle_top.specs.Lines.{Wrote, memory_line};
 ghost use Rattle.isle_top.specs.Statuses.{IsOfJob, Tells, TellsErrors, TellsRun, Ends};
 
+use crate::asked::Asked;
 use crate::job::{asked_name, input_name};
 use crate::lines::{
     NOT_YET, OUT_OF_MEMORY, write_argument, write_argument_count, write_bad_answers,
-    write_bad_name, write_no_term, write_unread,
+    write_bad_name, write_no_term, write_unread, write_unsupported,
 };
 use crate::refusal::Refusal;
 use isle_codegen::FileError;
-use isle_command_line::Command;
 use isle_core::{Error, Errors, Sink, write_all};
 use isle_run::RunFail;
 use std::alloc::Global;
 
-/// The status of a run: 0 done, 2 the words are no line, 5 an input was not read, 6 to 9 errors are in the inputs (of
+/// The status of a run: 0 done, 2 the words are no line, 4 a row of tables is not supported, 5 an input was not read, 6 to 9 errors are in the inputs (of
 /// parsing, of typing, of rules, of recursion), 10 a name may not be emitted, 11 the output failed, 12 memory ran out,
 /// 13 a term is not run, 14 what is asked for is not built.
 #[derive(Clone, Copy, Debug, PartialEq, Eq)]
@@ -90,15 +90,15 @@ fn tell_errors<E: Sink>(alloc: Global, err: &mut E, errors: &Errors) -> Exit
 }
 
 // Writes why a term is not run, as far as the sink takes it, and returns the status.
-fn tell_run<E: Sink>(err: &mut E, request: &Command, fail: RunFail) -> Exit
+fn tell_run<E: Sink>(err: &mut E, line: &Asked<'_>, fail: RunFail) -> Exit
     ensures later { E.faults err.old ≤ E.faults err.new }
     ensures told { let wrote = Wrote (E.taken err.old) (E.taken err.new)
         (E.faults err.old) (E.faults err.new) in
-        TellsRun (job_of (seen_command request.now)) wrote result.0 fail }
+        TellsRun (job_of line.now.tables.now (seen_command line.now.command.now)) wrote result.0 fail }
 {
     match fail {
         RunFail::NoTerm => {
-            let _ = write_no_term(err, asked_name(request));
+            let _ = write_no_term(err, asked_name(line.command));
             Exit(13)
         }
         RunFail::ArgCount => {
@@ -119,20 +119,24 @@ fn tell_run<E: Sink>(err: &mut E, request: &Command, fail: RunFail) -> Exit
 
 /// Writes the lines of a refusal, as far as the sink takes them, and returns its status (`specs/Statuses.antt`). Only
 /// the lines of errors take memory; if it doesn't hold them the status is 12.
-pub fn refuse<E: Sink>(alloc: Global, err: &mut E, request: &Command, refusal: &Refusal) -> Exit
-    requires { IsOfJob (job_of (seen_command request.now)) refusal.now }
+pub fn refuse<E: Sink>(alloc: Global, err: &mut E, line: &Asked<'_>, refusal: &Refusal) -> Exit
+    requires { IsOfJob (job_of line.now.tables.now (seen_command line.now.command.now)) refusal.now }
     ensures later { E.faults err.old ≤ E.faults err.new }
     ensures ends { let wrote = Wrote (E.taken err.old) (E.taken err.new)
         (E.faults err.old) (E.faults err.new) in
-        Ends (job_of (seen_command request.now)) wrote result.0 refusal.now }
+        Ends (job_of line.now.tables.now (seen_command line.now.command.now)) wrote result.0 refusal.now }
 {
     match refusal {
         Refusal::NotYet => {
             complain(err, NOT_YET);
             Exit(14)
         }
+        Refusal::Tables(found) => {
+            let _ = write_unsupported(err, found.row.as_str(), found.shape);
+            Exit(4)
+        }
         Refusal::Files(FileError::Io { index, cause }) => {
-            let _ = write_unread(err, input_name(request, *index), *cause);
+            let _ = write_unread(err, input_name(line.command, *index), *cause);
             Exit(5)
         }
         Refusal::Files(FileError::Errors(errors)) => tell_errors(alloc, err, errors),
@@ -141,6 +145,6 @@ pub fn refuse<E: Sink>(alloc: Global, err: &mut E, request: &Command, refusal: &
             Exit(10)
         }
         Refusal::Files(FileError::Memory) => tell_memory(err),
-        Refusal::Run(fail) => tell_run(err, request, *fail),
+        Refusal::Run(fail) => tell_run(err, line, *fail),
     }
 }

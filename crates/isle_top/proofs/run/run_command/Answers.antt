@@ -15,28 +15,28 @@ pub returns-in-Ok-clause-says : goal.returns-in-Ok-clause-says
 returns-in-Ok-clause-says g c = statuses.write_fault (search rules)
 
 pub refuse-requires : goal.refuse-requires
-refuse-requires g c = of_job (seen_command c.args.request.now) c.in-Err.refusal _ c.in-Err.ensures.err
+refuse-requires g c = of_job c.args.line.now.tables.now (seen_command c.args.line.now.command.now) c.in-Err.refusal _ c.in-Err.ensures.err
 
 pub returns-clause-done : goal.returns-clause-done
 returns-clause-done g c = λ is.
     let wrote = Wrote (g.E.Sink.taken c.args.err.now) (g.E.Sink.taken c.refuse.new.err) (g.E.Sink.faults c.args.err.now) (g.E.Sink.faults c.refuse.new.err) in
-    absurd ((end_refused (job_of (seen_command c.args.request.now)) wrote c.refuse.result.0 c.in-Err.refusal c.refuse.ensures.ends).0 is)
+    absurd ((end_refused (job_of c.args.line.now.tables.now (seen_command c.args.line.now.command.now)) wrote c.refuse.result.0 c.in-Err.refusal c.refuse.ensures.ends).0 is)
 
 pub returns-clause-part : goal.returns-clause-part
 returns-clause-part g c = λ is.
     let wrote = Wrote (g.E.Sink.taken c.args.err.now) (g.E.Sink.taken c.refuse.new.err) (g.E.Sink.faults c.args.err.now) (g.E.Sink.faults c.refuse.new.err) in
-    absurd ((end_refused (job_of (seen_command c.args.request.now)) wrote c.refuse.result.0 c.in-Err.refusal c.refuse.ensures.ends).1 is)
+    absurd ((end_refused (job_of c.args.line.now.tables.now (seen_command c.args.line.now.command.now)) wrote c.refuse.result.0 c.in-Err.refusal c.refuse.ensures.ends).1 is)
 
 pub returns-clause-says : goal.returns-clause-says
-returns-clause-says g c = says_end (seen_command c.args.request.now) _ refl c.in-Err.refusal c.in-Err.ensures.err c.refuse.ensures.ends
+returns-clause-says g c = says_end (seen_command c.args.line.now.command.now) _ refl c.in-Err.refusal c.in-Err.ensures.err c.refuse.ensures.ends
 
 pub returns-clause-not_built : goal.returns-clause-not_built
 returns-clause-not_built g c = λ is.
     let wrote = Wrote (g.E.Sink.taken c.args.err.now) (g.E.Sink.taken c.refuse.new.err) (g.E.Sink.faults c.args.err.now) (g.E.Sink.faults c.refuse.new.err) in
     let same : c.in-Err.refusal ≡ refusal.NotYet = same_fail (Err c.in-Err.refusal) (Err refusal.NotYet) c.in-Err.refusal refusal.NotYet refl refl (c.in-Err.ensures.not_built is) in
-    end_not_built (job_of (seen_command c.args.request.now)) wrote c.refuse.result.0 c.in-Err.refusal same c.refuse.ensures.ends
+    end_not_built (job_of c.args.line.now.tables.now (seen_command c.args.line.now.command.now)) wrote c.refuse.result.0 c.in-Err.refusal same c.refuse.ensures.ends
 
 pub returns-clause-complete : goal.returns-clause-complete
 returns-clause-complete g c = λ valid calm.
     let wrote = Wrote (g.E.Sink.taken c.args.err.now) (g.E.Sink.taken c.refuse.new.err) (g.E.Sink.faults c.args.err.now) (g.E.Sink.faults c.refuse.new.err) in
-    inr (inr (end_want (job_of (seen_command c.args.request.now)) wrote c.refuse.result.0 c.in-Err.refusal (c.in-Err.ensures.complete valid calm) c.refuse.ensures.ends))
+    inr (inr (end_want (job_of c.args.line.now.tables.now (seen_command c.args.line.now.command.now)) wrote c.refuse.result.0 c.in-Err.refusal (c.in-Err.ensures.complete valid calm) c.refuse.ensures.ends))

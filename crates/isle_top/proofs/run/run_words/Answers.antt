@@ -15,18 +15,18 @@ returns-in-Err-Bad-clause-complete g c = λ request line valid calm. absurd (no_
 
 pub returns-in-Ok-clause-not_built : goal.returns-in-Ok-clause-not_built
 returns-in-Ok-clause-not_built g c = λ request line never.
-    inl (c.run_command.ensures.not_built (subst (λ (a : Request). (job_of a).built ≡ false) (c.in-Ok.ensures.only request line) never))
+    inl (c.run_command.ensures.not_built (subst (λ (a : Request). (job_of c.args.tables.now a).built ≡ false) (c.in-Ok.ensures.only request line) never))
 
 pub returns-in-Ok-clause-complete : goal.returns-in-Ok-clause-complete
 returns-in-Ok-clause-complete g c = λ request line valid calm.
-    c.run_command.ensures.complete (subst (λ (a : Request). (job_of a).valid (g.D.Dir.files c.args.dir.now)) (c.in-Ok.ensures.only request line) valid) calm
+    c.run_command.ensures.complete (subst (λ (a : Request). (job_of c.args.tables.now a).valid (g.D.Dir.files c.args.dir.now)) (c.in-Ok.ensures.only request line) valid) calm
 
 pub returns-in-Ok-clause-given : goal.returns-in-Ok-clause-given
 returns-in-Ok-clause-given g c = λ request line.
-    subst (λ (a : Request). (g.D.Dir.counts c.run_command.new.dir).given ≤ (g.D.Dir.counts c.args.dir.now).given + (2 ^ 24 + 1) * length (job_of a).inputs) (sym (c.in-Ok.ensures.only request line)) c.run_command.ensures.given
+    subst (λ (a : Request). (g.D.Dir.counts c.run_command.new.dir).given ≤ (g.D.Dir.counts c.args.dir.now).given + (2 ^ 24 + 1) * length (job_of c.args.tables.now a).inputs) (sym (c.in-Ok.ensures.only request line)) c.run_command.ensures.given
 
 pub returns-in-Ok-clause-untried : goal.returns-in-Ok-clause-untried
-returns-in-Ok-clause-untried g c = λ never. c.run_command.ensures.untried (never (seen_command c.in-Ok.request) c.in-Ok.ensures.line)
+returns-in-Ok-clause-untried g c = λ never. c.run_command.ensures.untried (never (seen_command c.in-Ok.command) c.in-Ok.ensures.line)
 
 pub returns-in-Ok-clause-says : goal.returns-in-Ok-clause-says
 returns-in-Ok-clause-says g c =
