@@ -1,1 +1,4 @@
 pub mod TextLaws
+pub mod OperationNames
+pub mod NumericNames
+pub mod SpeltLaws

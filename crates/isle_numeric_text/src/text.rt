@@ -2,6 +2,7 @@
 
 ghost use Rattle.std.specs.Prelude.{◌≡◌, ◌++◌, OnOk, IfOk, string_bytes};
 ghost use Rattle.std.specs.List.{flat_map, filter};
+ghost use Rattle.isle_writing.specs.Spelt.{SpellsOnly};
 ghost use Rattle.isle_writing.specs.Text.{def_texts};
 ghost use Rattle.isle_numerics.specs.declared.numeric_type.NumericType.{NumericType as Numeric};
 ghost use Rattle.isle_numerics.specs.Definitions.{is_other, numeric_defs, pair_defs, type_defs};
@@ -87,10 +88,12 @@ fn text_among(alloc: Global, types: &[NumericType]) -> Result<String, OutOfMemor
     Ok(text)
 }
 
-/// Returns the rule text of the numeric prelude. The only error is want of memory.
-#[tactic(auto, using(crate::proofs::TextLaws::numeric_among))]
+/// Returns the rule text of the numeric prelude, which spells its definitions and no others. The only error is want of
+/// memory.
+#[tactic(auto, using(crate::proofs::TextLaws::numeric_among, crate::proofs::SpeltLaws::numeric_spelt))]
 pub fn numerics_isle(alloc: Global) -> Result<String, OutOfMemory>
     ensures text { IfOk result (λ text. string_bytes text ≡ def_texts numeric_defs) }
+    ensures spelt { IfOk result (λ text. SpellsOnly (string_bytes text) numeric_defs) }
 {
     let types = NumericType::all(alloc)?;
     text_among(alloc, types.as_slice())
