@@ -1,5 +1,18 @@
+mod AllLaws
 mod AscendingLaws
 mod CamelLaws
+mod DataLaws
+pub mod FilesWritable
 mod FirstLaws
+mod FixedNames
+pub mod FlagLaws
+mod InstructionsWritable
+mod ManyLaws
+mod NameLaws
+mod OperandLaws
+mod OrderedLaws
+pub mod PreludeWritable
 mod SizeLaws
+mod SupportedLaws
 mod TextLaws
+mod TypesWritable

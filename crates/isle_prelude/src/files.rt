@@ -136,6 +136,7 @@ fn file_text(alloc: Global, file: InstructionFile, tables: &Tables) -> Result<St
 }
 
 // The text of a file, if each row of the tables is supported.
+#[tactic(auto, using(crate::proofs::FilesWritable::file_spelt))]
 fn generated(alloc: Global, file: InstructionFile, tables: &Tables) -> Result<String, TableFail>
     ensures { Generates tables.now (file_defs (file_manner file) tables.now) result }
 {
@@ -148,9 +149,10 @@ fn generated(alloc: Global, file: InstructionFile, tables: &Tables) -> Result<St
 }
 
 /// Returns the file of an optimizer's instructions: the types of immediates, arrays and instructions' data, and of
-/// each instruction without a list of values a term, its extractor and the rule that makes it. `Unsupported` has the
-/// first row of the tables that isn't supported, and the first shape that it breaks; `Memory` says that memory ran
-/// out.
+/// each instruction without a list of values a term, its extractor and the rule that makes it. The text spells these
+/// definitions, but nothing if one of these instructions is named `pure`, `multi`, `partial` or `rec`. `Unsupported`
+/// has the first row of the tables that isn't supported, and the first shape that it breaks; `Memory` says that memory
+/// ran out.
 pub fn gen_opt(alloc: Global, tables: &Tables) -> Result<String, TableFail>
     ensures { Generates tables.now (opt_defs tables.now) result }
 {
@@ -158,7 +160,7 @@ pub fn gen_opt(alloc: Global, tables: &Tables) -> Result<String, TableFail>
 }
 
 /// Returns the file of lowering's instructions: the types of immediates, arrays and instructions' data, and of each
-/// instruction a term and its extractor. Its errors are those of `gen_opt`.
+/// instruction a term and its extractor. What it spells and its errors are as with `gen_opt`.
 pub fn gen_lower(alloc: Global, tables: &Tables) -> Result<String, TableFail>
     ensures { Generates tables.now (lower_defs tables.now) result }
 {
