@@ -64,13 +64,7 @@ impl Key {
     fn is_named(self) -> bool {
         matches!(
             self,
-            Key::File
-                | Key::Made
-                | Key::After
-                | Key::Lines
-                | Key::Fails
-                | Key::Piece
-                | Key::Room
+            Key::File | Key::Made | Key::After | Key::Lines | Key::Fails | Key::Piece | Key::Room
         )
     }
 }

@@ -88,7 +88,14 @@ fn written(alloc: Global) -> Result<String, AllocError> {
     let Ok(tables) = sample_tables(alloc) else {
         return Err(AllocError);
     };
-    let _ = run_words(alloc, words.as_slice(), &tables, &mut dir, &mut out, &mut err);
+    let _ = run_words(
+        alloc,
+        words.as_slice(),
+        &tables,
+        &mut dir,
+        &mut out,
+        &mut err,
+    );
     String::from_utf8_lossy(alloc, out.bytes())
 }
 

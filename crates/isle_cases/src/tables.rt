@@ -199,10 +199,7 @@ fn format_place(formats: &[InstructionFormat], name: &str) -> Result<usize, Slip
 }
 
 // An instruction after its first word.
-fn instruction(
-    words: &mut Words<'_>,
-    formats: &[InstructionFormat],
-) -> Result<Instruction, Slip> {
+fn instruction(words: &mut Words<'_>, formats: &[InstructionFormat]) -> Result<Instruction, Slip> {
     let made = Instruction {
         name: words.text()?,
         camel_name: words.text()?,

@@ -70,11 +70,10 @@ pub data_takes : (f : InstructionFormat) (i : Instruction) â†’ IsDataNamed f i â
 data_takes f i n h =
     let raw : AllTake 1 (variables (names_of is_raw_block i)) = variables_take 1 (names_of is_raw_block i) (of_kind is_raw_block i h) in
     let imms : AllTake 1 (variables (names_of is_imm i)) = variables_take 1 (names_of is_imm i) (of_kind is_imm i h) in
-    let parts : AllTake 1 (pattern_parts f i) =
-    (
+    let parts : AllTake 1 (pattern_parts f i) = (
       over_takes 0 (opcode_term i) [] (opcode_named f i n) tt,
       all_joined (Takes 1) (value_patterns f.has_value_list i) _ (values_take f.has_value_list i h)
-      (all_joined (Takes 1) (block_patterns i) _ (blocks_take i h) (all_joined (Takes 1) (variables (names_of is_raw_block i)) _ raw imms)),
+          (all_joined (Takes 1) (block_patterns i) _ (blocks_take i h) (all_joined (Takes 1) (variables (names_of is_raw_block i)) _ raw imms)),
     ) in
     term_takes 1 (data_term f) (pattern_parts f i) (term_named f i n) parts
 
@@ -98,11 +97,10 @@ pub data_makes : (f : InstructionFormat) (i : Instruction) â†’ IsDataNamed f i â
 data_makes f i n h =
     let raw : AllMake 1 (variable_exprs (names_of is_raw_block i)) = names_make 1 (names_of is_raw_block i) (of_kind is_raw_block i h) in
     let imms : AllMake 1 (variable_exprs (names_of is_imm i)) = names_make 1 (names_of is_imm i) (of_kind is_imm i h) in
-    let parts : AllMake 1 (expr_parts f i) =
-    (
+    let parts : AllMake 1 (expr_parts f i) = (
       call_on_makes 0 (opcode_term i) [] (opcode_named f i n) tt,
       all_joined (Makes 1) (counted_expr (value_array_ctor (length (names_of is_value i))) (names_of is_value i)) _ (made_values i h)
-      (all_joined (Makes 1) (counted_expr (block_array (length (names_of is_block i))) (names_of is_block i)) _ (made_blocks i h)
-      (all_joined (Makes 1) (variable_exprs (names_of is_raw_block i)) _ raw imms)),
+          (all_joined (Makes 1) (counted_expr (block_array (length (names_of is_block i))) (names_of is_block i)) _ (made_blocks i h)
+          (all_joined (Makes 1) (variable_exprs (names_of is_raw_block i)) _ raw imms)),
     ) in
     call_makes 1 (data_term f) (expr_parts f i) (term_named f i n) parts

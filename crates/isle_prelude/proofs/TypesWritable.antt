@@ -70,11 +70,10 @@ primitive_writable name h = ((h, h), omega arith)
 imms_writable : (is : List ImmField) → AllByRecursion IsNamedField is → AreWritable (imm_defs is)
 imms_writable is h =
     all_joined (λ (d : Def). IsWritable d) (map primitive (plain_types is)) _
-    (all_mapped (λ (w : List ℕ). NamesOne w) (λ (d : Def). IsWritable d) primitive primitive_writable (plain_types is) (types_named (λ (i : ImmField). not (is_enum i)) is h))
-    (
+    (all_mapped (λ (w : List ℕ). NamesOne w) (λ (d : Def). IsWritable d) primitive primitive_writable (plain_types is) (types_named (λ (i : ImmField). not (is_enum i)) is h)) (
       primitive_writable (codes "MemFlagsData") flags_named,
       all_mapped (λ (w : List ℕ). NamesOne w) (λ (d : Def). IsWritable d) (imm_enum is) (λ name k. enum_writable name _ k (bare_variants (enum_values is name) (enum_named is name h)))
-      (enum_types is) (types_named is_enum is h),
+          (enum_types is) (types_named is_enum is h),
     )
 
 -- the types of immediates
@@ -135,8 +134,8 @@ variant_named f h = (
   (
     (names_one (codes "opcode") (omega arith, refl) refl, opcode_named),
     all_joined IsField (value_fields f.has_value_list f.num_value_operands) _ (values_fields f.has_value_list f.num_value_operands)
-    (all_joined IsField (block_fields f.num_block_operands) _ (blocks_fields f.num_block_operands)
-    (all_joined IsField (raw_block_fields f.num_raw_block_operands) _ (raw_fields f.num_raw_block_operands) (imm_fields_named f.imm_fields h.1))),
+        (all_joined IsField (block_fields f.num_block_operands) _ (blocks_fields f.num_block_operands)
+        (all_joined IsField (raw_block_fields f.num_raw_block_operands) _ (raw_fields f.num_raw_block_operands) (imm_fields_named f.imm_fields h.1))),
   ),
 )
 

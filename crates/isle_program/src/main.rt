@@ -46,6 +46,13 @@ fn main(rt: HostRuntime) -> ExitCode {
     let mut out = StdSink::new(rt.stdout());
     let mut err = StdSink::new(rt.stderr());
     let mut dir = StdDir::new(rt, String::new(alloc));
-    let exit = run_words(alloc, words.as_slice(), &tables, &mut dir, &mut out, &mut err);
+    let exit = run_words(
+        alloc,
+        words.as_slice(),
+        &tables,
+        &mut dir,
+        &mut out,
+        &mut err,
+    );
     ExitCode::from(exit.0)
 }
