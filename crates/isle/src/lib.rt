@@ -6,6 +6,7 @@ pub mod blocks;
 pub mod codegen;
 pub mod common;
 pub mod outside;
+pub mod preludes;
 pub mod runtime;
 pub mod sema;
 pub mod syntax;
