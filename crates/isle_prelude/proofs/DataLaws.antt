@@ -1,5 +1,5 @@
 -- The data of instructions as patterns and as expressions can be written.
-use Rattle.std.proofs.Common.{◌≡◌, ℕ, suc, List, [], ◌∷◌, ◌++◌, length, map, Bool, true, false, refl, codes}
+use Rattle.std.proofs.Common.{ℕ, List, [], ◌∷◌, ◌++◌, length, map, Bool, true, false, codes}
 use Rattle.std.specs.Prelude.{filter}
 use Rattle.std.specs.List.{AllByRecursion}
 use Rattle.isle_meta.specs.declared.clif.ClifOperand.{ClifOperand}
@@ -12,7 +12,6 @@ use Rattle.isle_prelude.specs.ClifFiles.{block_patterns, counted_expr, counted_p
 use Rattle.isle_prelude.specs.DataParts.{expr_parts, pattern_parts}
 use Rattle.isle_prelude.specs.NumberedNames.{block_array, unwrap_head, value_array, value_array_ctor}
 use Rattle.isle_prelude.specs.Operands.{is_imm, names_of}
-use Rattle.isle_writing.specs.Writable.{IsPlain}
 use Rattle.isle_prelude.proofs.AllLaws.{all_joined, all_kept, all_mapped}
 use Rattle.isle_prelude.proofs.FixedNames.{IsHead, blocks_head, ctor_head, data_head, opcode_head, slice_head, unwrap_is_head, values_head}
 use Rattle.isle_prelude.proofs.ManyLaws.{AllMake, AllTake, Makes, Takes, call_makes, call_on_makes, name_makes, names_make, over_takes, term_takes, variable_takes, variables_take}
@@ -24,7 +23,8 @@ use Rattle.isle_prelude.proofs.NameLaws.{identifier_named}
 abbrev pub AreIdentifiers : List (List ℕ) → Type 0
 AreIdentifiers = AllByRecursion IsIdentifier
 
-kind_named : (is : OperandClass → Bool) (os : List ClifOperand) → AreIdentifiers (map (λ (o : ClifOperand). o.name) os) → AreIdentifiers (map (λ (o : ClifOperand). o.name) (filter (λ (o : ClifOperand). is o.class) os))
+kind_named : (is : OperandClass → Bool) (os : List ClifOperand) → AreIdentifiers (map (λ (o : ClifOperand). o.name) os)
+    → AreIdentifiers (map (λ (o : ClifOperand). o.name) (filter (λ (o : ClifOperand). is o.class) os))
 kind_named is os h =
     all_mapped (λ (o : ClifOperand). IsIdentifier o.name) IsIdentifier (λ (o : ClifOperand). o.name) (λ o k. k) (filter (λ (o : ClifOperand). is o.class) os)
     (all_kept (λ (o : ClifOperand). IsIdentifier o.name) (λ (o : ClifOperand). is o.class) os (own os h))
@@ -70,11 +70,10 @@ pub data_takes : (f : InstructionFormat) (i : Instruction) → IsDataNamed f i �
 data_takes f i n h =
     let raw : AllTake 1 (variables (names_of is_raw_block i)) = variables_take 1 (names_of is_raw_block i) (of_kind is_raw_block i h) in
     let imms : AllTake 1 (variables (names_of is_imm i)) = variables_take 1 (names_of is_imm i) (of_kind is_imm i h) in
-    let parts : AllTake 1 (pattern_parts f i) =
-    (
+    let parts : AllTake 1 (pattern_parts f i) = (
       over_takes 0 (opcode_term i) [] (opcode_named f i n) tt,
       all_joined (Takes 1) (value_patterns f.has_value_list i) _ (values_take f.has_value_list i h)
-      (all_joined (Takes 1) (block_patterns i) _ (blocks_take i h) (all_joined (Takes 1) (variables (names_of is_raw_block i)) _ raw imms)),
+          (all_joined (Takes 1) (block_patterns i) _ (blocks_take i h) (all_joined (Takes 1) (variables (names_of is_raw_block i)) _ raw imms)),
     ) in
     term_takes 1 (data_term f) (pattern_parts f i) (term_named f i n) parts
 
@@ -98,11 +97,10 @@ pub data_makes : (f : InstructionFormat) (i : Instruction) → IsDataNamed f i �
 data_makes f i n h =
     let raw : AllMake 1 (variable_exprs (names_of is_raw_block i)) = names_make 1 (names_of is_raw_block i) (of_kind is_raw_block i h) in
     let imms : AllMake 1 (variable_exprs (names_of is_imm i)) = names_make 1 (names_of is_imm i) (of_kind is_imm i h) in
-    let parts : AllMake 1 (expr_parts f i) =
-    (
+    let parts : AllMake 1 (expr_parts f i) = (
       call_on_makes 0 (opcode_term i) [] (opcode_named f i n) tt,
       all_joined (Makes 1) (counted_expr (value_array_ctor (length (names_of is_value i))) (names_of is_value i)) _ (made_values i h)
-      (all_joined (Makes 1) (counted_expr (block_array (length (names_of is_block i))) (names_of is_block i)) _ (made_blocks i h)
-      (all_joined (Makes 1) (variable_exprs (names_of is_raw_block i)) _ raw imms)),
+          (all_joined (Makes 1) (counted_expr (block_array (length (names_of is_block i))) (names_of is_block i)) _ (made_blocks i h)
+          (all_joined (Makes 1) (variable_exprs (names_of is_raw_block i)) _ raw imms)),
     ) in
     call_makes 1 (data_term f) (expr_parts f i) (term_named f i n) parts
