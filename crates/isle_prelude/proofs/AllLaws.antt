@@ -1,5 +1,5 @@
 -- What holds of each thing of a list that is made of others.
-use Rattle.std.proofs.Common.{◌≡◌, ℕ, zero, suc, List, [], ◌∷◌, ◌++◌, map, Bool, true, false, Option, Some, None, subst, cond, flat_map}
+use Rattle.std.proofs.Common.{◌≡◌, ℕ, zero, suc, List, [], ◌∷◌, ◌++◌, map, Bool, true, false, Some, subst, cond, flat_map}
 use Rattle.std.specs.Prelude.{filter, slice_get}
 use Rattle.std.specs.List.{AllByRecursion}
 
@@ -46,7 +46,8 @@ module _ {X : Type 0} where
     all_mapped P Q f g (x ∷ xs) h = (g x h.0, all_mapped P Q f g xs h.1)
 
     -- of all that comes of each
-    pub all_each : (P : X → Type 0) (Q : Y → Type 0) (f : X → List Y) → ((x : X) → P x → AllByRecursion Q (f x)) → (xs : List X) → AllByRecursion P xs → AllByRecursion Q (flat_map f xs)
+    pub all_each : (P : X → Type 0) (Q : Y → Type 0) (f : X → List Y) → ((x : X) → P x → AllByRecursion Q (f x)) → (xs : List X) → AllByRecursion P xs
+        → AllByRecursion Q (flat_map f xs)
     all_each P Q f g [] h = tt
     all_each P Q f g (x ∷ xs) h = joined (f x) (flat_map f xs) (g x h.0) (all_each P Q f g xs h.1)
       where

@@ -1,5 +1,5 @@
 -- The data of instructions as patterns and as expressions can be written.
-use Rattle.std.proofs.Common.{◌≡◌, ℕ, suc, List, [], ◌∷◌, ◌++◌, length, map, Bool, true, false, refl, codes}
+use Rattle.std.proofs.Common.{ℕ, List, [], ◌∷◌, ◌++◌, length, map, Bool, true, false, codes}
 use Rattle.std.specs.Prelude.{filter}
 use Rattle.std.specs.List.{AllByRecursion}
 use Rattle.isle_meta.specs.declared.clif.ClifOperand.{ClifOperand}
@@ -12,7 +12,6 @@ use Rattle.isle_prelude.specs.ClifFiles.{block_patterns, counted_expr, counted_p
 use Rattle.isle_prelude.specs.DataParts.{expr_parts, pattern_parts}
 use Rattle.isle_prelude.specs.NumberedNames.{block_array, unwrap_head, value_array, value_array_ctor}
 use Rattle.isle_prelude.specs.Operands.{is_imm, names_of}
-use Rattle.isle_writing.specs.Writable.{IsPlain}
 use Rattle.isle_prelude.proofs.AllLaws.{all_joined, all_kept, all_mapped}
 use Rattle.isle_prelude.proofs.FixedNames.{IsHead, blocks_head, ctor_head, data_head, opcode_head, slice_head, unwrap_is_head, values_head}
 use Rattle.isle_prelude.proofs.ManyLaws.{AllMake, AllTake, Makes, Takes, call_makes, call_on_makes, name_makes, names_make, over_takes, term_takes, variable_takes, variables_take}
@@ -24,7 +23,8 @@ use Rattle.isle_prelude.proofs.NameLaws.{identifier_named}
 abbrev pub AreIdentifiers : List (List ℕ) → Type 0
 AreIdentifiers = AllByRecursion IsIdentifier
 
-kind_named : (is : OperandClass → Bool) (os : List ClifOperand) → AreIdentifiers (map (λ (o : ClifOperand). o.name) os) → AreIdentifiers (map (λ (o : ClifOperand). o.name) (filter (λ (o : ClifOperand). is o.class) os))
+kind_named : (is : OperandClass → Bool) (os : List ClifOperand) → AreIdentifiers (map (λ (o : ClifOperand). o.name) os)
+    → AreIdentifiers (map (λ (o : ClifOperand). o.name) (filter (λ (o : ClifOperand). is o.class) os))
 kind_named is os h =
     all_mapped (λ (o : ClifOperand). IsIdentifier o.name) IsIdentifier (λ (o : ClifOperand). o.name) (λ o k. k) (filter (λ (o : ClifOperand). is o.class) os)
     (all_kept (λ (o : ClifOperand). IsIdentifier o.name) (λ (o : ClifOperand). is o.class) os (own os h))

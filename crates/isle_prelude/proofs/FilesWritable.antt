@@ -1,10 +1,9 @@
 -- The files of supported tables can be written, so their texts spell their definitions.
-use Rattle.std.proofs.Common.{◌≡◌, ℕ, List, [], ◌∷◌, ◌++◌, Bool, Option, Some, None, flat_map}
+use Rattle.std.proofs.Common.{◌≡◌, ℕ, List, ◌++◌, Bool, Option, None}
 use Rattle.std.specs.Prelude.{slice_get}
 use Rattle.std.specs.List.{AllByRecursion}
 use Rattle.isle_ast.specs.Tree.{Def}
 use Rattle.isle_meta.specs.declared.clif.Instruction.{Instruction}
-use Rattle.isle_meta.specs.declared.clif.InstructionFormat.{InstructionFormat}
 use Rattle.isle_meta.specs.declared.tables.Tables.{Tables}
 use Rattle.isle_meta.specs.FormatRow.{all_fields}
 use Rattle.isle_meta.specs.Rows.{rows, IsFirstUnsupported}
@@ -29,12 +28,15 @@ use Rattle.isle_prelude.proofs.TypesWritable.{arrays_writable, data_writable, fi
 
 common_writable : (t : Tables) → AreNamed t → AreWritable (common_defs t)
 common_writable t h =
+    let camels : AllByRecursion (λ (i : Instruction). IsIdentifier i.camel_name) t.instructions =
+    all_to (IsNamedInstruction t.formats) (λ (i : Instruction). IsIdentifier i.camel_name) (λ i n. n.camel) t.instructions h.instructions in
     writable_joined (imm_defs (all_fields t.formats)) (arrays t.formats ++ data_defs t.formats t.instructions) (field_types_writable t.formats h.formats)
     (writable_joined (arrays t.formats) (data_defs t.formats t.instructions) (arrays_writable t.formats)
-    (data_writable t.formats t.instructions h.formats (all_to (IsNamedInstruction t.formats) (λ (i : Instruction). IsIdentifier i.camel_name) (λ i n. n.camel) t.instructions h.instructions)))
+    (data_writable t.formats t.instructions h.formats camels))
 
 -- a file of supported tables
-pub file_writable : (manner : Bool → Instruction → Option Manner) (t : Tables) → AreManners manner → IsFirstUnsupported (rows t) None → AreWritable (file_defs manner t)
+pub file_writable : (manner : Bool → Instruction → Option Manner) (t : Tables) → AreManners manner → IsFirstUnsupported (rows t) None
+    → AreWritable (file_defs manner t)
 file_writable manner t w h =
     let named : AreNamed t = tables_named t h in
     writable_joined (common_defs t) _ (common_writable t named)
@@ -56,7 +58,8 @@ manners_of file.Opt = opt_manners
 manners_of file.Lower = lower_manners
 
 -- the text of a file of supported tables
-pub file_spelt : (file : InstructionFile) (t : Tables) (text : List ℕ) → IsFirstUnsupported (rows t) None → text ≡ def_texts (file_defs (file_manner file) t) → IsTextOf t (file_defs (file_manner file) t) text
+pub file_spelt : (file : InstructionFile) (t : Tables) (text : List ℕ) → IsFirstUnsupported (rows t) None → text ≡ def_texts (file_defs (file_manner file) t)
+    → IsTextOf t (file_defs (file_manner file) t) text
 file_spelt file t text h e =
     record {
       supported = h;

@@ -1,5 +1,5 @@
 -- The names that files of instructions have whatever their tables are.
-use Rattle.std.proofs.Common.{◌≡◌, ℕ, List, ◌∷◌, ◌++◌, true, false, Some, refl, codes, arith}
+use Rattle.std.proofs.Common.{◌≡◌, ℕ, List, ◌++◌, true, false, Some, refl, codes, arith}
 use Rattle.std.specs.Prelude.{slice_index}
 use Rattle.std.specs.Str.{bytes_eq}
 use Rattle.isle_grammar.specs.Grammar.{IsCall, IsTerm, expr_head, pattern_head}

@@ -79,7 +79,8 @@ flag_taken : (o : Option Manner) (f : InstructionFormat) (i : Instruction) → d
 flag_taken None f i = refl
 flag_taken (Some m) f i = ap (λ b. is_flag i.name || b) (flag_making m.maker m f i) ∙ or_none (is_flag i.name)
 
-flag_of : (manner : Bool → Instruction → Option Manner) (o : Option InstructionFormat) (i : Instruction) → declare_flag (of_format manner o i) ≡ (is_some (option_and_then (λ (f : InstructionFormat). manner f.has_value_list i) o) && is_flag i.name)
+flag_of : (manner : Bool → Instruction → Option Manner) (o : Option InstructionFormat) (i : Instruction)
+    → declare_flag (of_format manner o i) ≡ (is_some (option_and_then (λ (f : InstructionFormat). manner f.has_value_list i) o) && is_flag i.name)
 flag_of manner None i = refl
 flag_of manner (Some f) i = flag_taken (manner f.has_value_list i) f i
 
@@ -91,7 +92,8 @@ flag_rows manner formats (i ∷ is) =
     ∙ ap₂ (λ b c. b || c) (flag_of manner (slice_get formats i.format) i) (flag_rows manner formats is)
 
 -- a file declares a term that has the name of a flag just if it takes an instruction of such a name
-pub flag_file : (manner : Bool → Instruction → Option Manner) (t : Tables) → declare_flag (file_defs manner t) ≡ list_any (is_flagged manner t.formats) t.instructions
+pub flag_file : (manner : Bool → Instruction → Option Manner) (t : Tables)
+    → declare_flag (file_defs manner t) ≡ list_any (is_flagged manner t.formats) t.instructions
 flag_file manner t =
     flag_joined (common_defs t) (flat_map (λ (i : Instruction). of_format manner (slice_get t.formats i.format) i) t.instructions)
     ∙ ap₂ (λ b c. b || c) (no_flag_common t) (flag_rows manner t.formats t.instructions)

@@ -1,5 +1,5 @@
 -- The definitions of instructions can be written.
-use Rattle.std.proofs.Common.{◌≡◌, ℕ, zero, suc, pos, List, [], ◌∷◌, ◌++◌, map, Bool, true, false, Option, Some, None, refl, codes, arith}
+use Rattle.std.proofs.Common.{◌≡◌, ℕ, zero, suc, List, [], ◌∷◌, ◌++◌, map, Bool, true, false, Option, Some, None, refl, codes, arith}
 use Rattle.std.specs.Prelude.{◌||◌, IfSome, slice_get}
 use Rattle.std.specs.List.{AllByRecursion}
 use Rattle.isle_ast.specs.Tree as tree
@@ -8,7 +8,7 @@ use Rattle.isle_meta.specs.declared.clif.ClifOperand.{ClifOperand}
 use Rattle.isle_meta.specs.declared.clif.Instruction.{Instruction}
 use Rattle.isle_meta.specs.declared.clif.InstructionFormat.{InstructionFormat}
 use Rattle.isle_spelling.specs.Identifier.{IsIdentifier}
-use Rattle.isle_prelude.specs.ClifFiles.{data_expr, data_pattern, declaration, extractor, instruction_defs, making, making_rule, of_format, operand_names, parameter_types, parameters, typed_first, variables}
+use Rattle.isle_prelude.specs.ClifFiles.{data_expr, data_pattern, declaration, extractor, instruction_defs, making, making_rule, of_format, operand_names, parameters, typed_first, variables}
 use Rattle.isle_prelude.specs.Manners.{Manner, by_results, lower_manner, lowered, lowered_typed, opt_manner, optimized, skeleton, type_variable, valued}
 use Rattle.isle_prelude.specs.Operands.{operand_type}
 use Rattle.isle_writing.specs.Writable.{AreNames, AreWritable, IsWritable, NamesOne}
@@ -35,12 +35,17 @@ ty_identifier = record { begins = refl; word = refl; unused = refl; free = refl 
 value_taker : IsHead (codes "inst_data_value")
 value_taker = head_from (codes "inst_data_value") (omega arith, refl) refl refl refl
 
+head_of_make : IsHead (codes "make_inst")
+head_of_make = head_from (codes "make_inst") (omega arith, refl) refl refl refl
+
+head_of_skeleton : IsHead (codes "make_skeleton_inst")
+head_of_skeleton = head_from (codes "make_skeleton_inst") (omega arith, refl) refl refl refl
+
 valued_manner : IsManner valued
-valued_manner = record { ret = value_named; taker = value_taker; in_front = (variable_takes 2 type_variable ty_identifier, tt); maker = head_from (codes "make_inst") (omega arith, refl) refl refl refl }
+valued_manner = record { ret = value_named; taker = value_taker; in_front = (variable_takes 2 type_variable ty_identifier, tt); maker = head_of_make }
 
 skeleton_manner : IsManner skeleton
-skeleton_manner =
-    record { ret = inst_named; taker = head_from (codes "inst_data") (omega arith, refl) refl refl refl; in_front = tt; maker = head_from (codes "make_skeleton_inst") (omega arith, refl) refl refl refl }
+skeleton_manner = record { ret = inst_named; taker = head_from (codes "inst_data") (omega arith, refl) refl refl refl; in_front = tt; maker = head_of_skeleton }
 
 lowered_typed_manner : IsManner lowered_typed
 lowered_typed_manner = record { ret = inst_named; taker = value_taker; in_front = (variable_takes 2 type_variable ty_identifier, tt); maker = tt }
@@ -109,7 +114,8 @@ rule_writable maker m f i h n =
     let right : Makes 3 (tree.Call maker (exprs_of (typed_first m.is_typed (tree.Name type_variable) (data_expr f i ∷ [])))) = call_makes 2 maker _ h (made m.is_typed f i n) in
     ((tt, omega arith, n.name, patterns_take 0 (variables (parameters m i)) args, tt, right.here), omega (arith, right.shallow, patterns_shallow 0 (variables (parameters m i)) args))
 
-making_writable : (maker : Option (List ℕ)) (m : Manner) (f : InstructionFormat) (i : Instruction) → IfSome maker IsHead → IsInstruction f i → AreWritable (making maker m f i)
+making_writable : (maker : Option (List ℕ)) (m : Manner) (f : InstructionFormat) (i : Instruction) → IfSome maker IsHead → IsInstruction f i
+    → AreWritable (making maker m f i)
 making_writable None m f i h n = tt
 making_writable (Some maker) m f i h n = (rule_writable maker m f i h n, tt)
 
@@ -118,7 +124,8 @@ taken_writable None f i w n = tt
 taken_writable (Some m) f i w n = (declaration_writable m f i w n, (extractor_writable m f i w n, making_writable m.maker m f i w.maker n))
 
 -- an instruction of supported tables, taken in a manner that can be written
-pub instruction_writable : (manner : Bool → Instruction → Option Manner) (formats : List InstructionFormat) (i : Instruction) → AreManners manner → AllByRecursion IsNamedFormat formats → IsNamedInstruction formats i
+pub instruction_writable : (manner : Bool → Instruction → Option Manner) (formats : List InstructionFormat) (i : Instruction) → AreManners manner
+    → AllByRecursion IsNamedFormat formats → IsNamedInstruction formats i
     → AreWritable (of_format manner (slice_get formats i.format) i)
 instruction_writable manner formats i w h n = one (slice_get formats i.format) refl
   where

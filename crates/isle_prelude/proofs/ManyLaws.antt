@@ -1,6 +1,5 @@
 -- Patterns and expressions of lists can be written, and how deep they nest.
-use Rattle.std.proofs.Common.{◌≡◌, ℕ, suc, ◌+◌, ◌≤◌, List, [], ◌∷◌, map, refl, arith}
-use Rattle.std.specs.Prelude.{max}
+use Rattle.std.proofs.Common.{ℕ, suc, ◌≤◌, List, [], ◌∷◌, arith}
 use Rattle.std.specs.List.{AllByRecursion}
 use Rattle.isle_ast.specs.Tree.{Pattern, Expr}
 use Rattle.isle_ast.specs.Tree as tree

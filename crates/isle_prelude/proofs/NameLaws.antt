@@ -1,5 +1,5 @@
 -- Names of tables as words of rule texts.
-use Rattle.std.proofs.Common.{◌≡◌, ℕ, ◌<◌, List, [], ◌∷◌, Bool, true, false, refl, sym, ap, ◌∙◌, arith, codes}
+use Rattle.std.proofs.Common.{◌≡◌, ℕ, List, [], ◌∷◌, Bool, true, false, refl, sym, ap, ◌∙◌, arith, codes}
 use Rattle.std.specs.Prelude.{if◌then◌else◌, slice_index}
 use Rattle.std.specs.List.{AllByRecursion, list_all, list_any}
 use Rattle.std.specs.Str.{bytes_eq}
@@ -7,7 +7,7 @@ use Rattle.std.proofs.lemmas.Bool.{and_parts, and_from}
 use Rattle.std.proofs.lemmas.Bool.Decides.{nat_tests}
 use Rattle.std.proofs.lemmas.Slice.Eq.{bytes_eq-Decides}
 use Rattle.isle_ast.specs.Tree as tree
-use Rattle.isle_lexer.specs.Word.{WordKind, Underscore, Truth, Plain, symbol_kind}
+use Rattle.isle_lexer.specs.Word.{Underscore, Truth, Plain, symbol_kind}
 use Rattle.isle_meta.specs.TableNames.{IsTermName}
 use Rattle.isle_printer.specs.Token.{is_word_byte}
 use Rattle.isle_spelling.specs.Identifier.{IsIdentifier, begins, is_begin, kept_words, used_words}
@@ -84,7 +84,8 @@ apart w v words h k = one (bytes_eq w v) refl
         let no : false ≡ true = sym h ∙ ap (λ u. list_any (bytes_eq u) words) same ∙ k in
         absurd cc
 
-none_of_three : (a b c : Bool) → a ≡ false → b ≡ false → c ≡ false → (if a then Underscore else (if b then Truth true else (if c then Truth false else Plain))) ≡ Plain
+none_of_three : (a b c : Bool) → a ≡ false → b ≡ false → c ≡ false
+    → (if a then Underscore else (if b then Truth true else (if c then Truth false else Plain))) ≡ Plain
 none_of_three a b c x y z = rw (x, y, z) refl
 
 identifier_symbol : (w : List ℕ) → IsIdentifier w → symbol_kind w ≡ Plain
@@ -103,7 +104,8 @@ identifier_name w i = plain_name w (begun_word w i.begins i.word) (begun_symbol 
 -- ---- an instruction's names
 
 -- a term's name, one more name, and others
-pub stable_names : (term camel : List ℕ) (others : List (List ℕ)) → ((IsTermName term × IsIdentifier camel × AllByRecursion IsIdentifier others → ⊥) → ⊥) → IsTermName term × IsIdentifier camel × AllByRecursion IsIdentifier others
+pub stable_names : (term camel : List ℕ) (others : List (List ℕ)) → ((IsTermName term × IsIdentifier camel × AllByRecursion IsIdentifier others → ⊥) → ⊥)
+    → IsTermName term × IsIdentifier camel × AllByRecursion IsIdentifier others
 stable_names term camel others h = (
   record {
     begins = stable_true (begins term) (λ no. h (λ all. no all.0.begins));

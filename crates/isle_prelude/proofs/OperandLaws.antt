@@ -47,7 +47,8 @@ types_of : (os : List ClifOperand) → AreNames (map short_name (filter_map imm_
 types_of [] h = tt
 types_of (o ∷ os) h = let parts = one o.class h in (parts.0, types_of os parts.1)
   where
-    one : (c : OperandClass) → AreNames (map short_name (cons_option (type_in c) (filter_map imm_type os))) → NamesOne (operand_type c) × AreNames (map short_name (filter_map imm_type os))
+    one : (c : OperandClass) → AreNames (map short_name (cons_option (type_in c) (filter_map imm_type os)))
+        → NamesOne (operand_type c) × AreNames (map short_name (filter_map imm_type os))
     one class.Value k = (value_named, k)
     one class.Varargs k = (slice_named, k)
     one class.Block k = (call_named, k)
@@ -55,7 +56,8 @@ types_of (o ∷ os) h = let parts = one o.class h in (parts.0, types_of os parts
     one (class.Imm ty) k = (k.0, k.1)
 
 -- the types of an instruction's operands
-pub operand_types_named : (f : InstructionFormat) (i : Instruction) → IsNamedFormat f → HasTypesOf i f → AreNames (map (λ (o : ClifOperand). operand_type o.class) i.operands_in)
+pub operand_types_named : (f : InstructionFormat) (i : Instruction) → IsNamedFormat f → HasTypesOf i f
+    → AreNames (map (λ (o : ClifOperand). operand_type o.class) i.operands_in)
 operand_types_named f i h t =
     let fields : List (List ℕ) = map (λ (field : ImmField). field.rust_type) f.imm_fields in
     types_of i.operands_in (same_named (imm_types i) fields (t.count ∙ sym (length-map f.imm_fields (λ (field : ImmField). field.rust_type))) t.same (field_types f.imm_fields h.1))

@@ -1,5 +1,5 @@
 -- Names in ascending order are names.
-use Rattle.std.proofs.Common.{◌≡◌, ℕ, List, [], ◌∷◌, Ordering, Less, Equal, Greater}
+use Rattle.std.proofs.Common.{ℕ, List, [], ◌∷◌, Ordering, Less, Equal, Greater}
 use Rattle.std.specs.Prelude.{fold}
 use Rattle.std.specs.Ordering.{match_ordering, nat_cmp}
 use Rattle.std.specs.BTreeSet.{insert_key}
@@ -12,7 +12,8 @@ put_named : (names : List (List ℕ)) (name : List ℕ) → AreNames names → N
 put_named [] name h k = (k, tt)
 put_named (x ∷ xs) name h k = one (slice_cmp nat_cmp name x) (put_named xs name h.1 k)
   where
-    one : (o : Ordering) → AreNames (insert_key (slice_cmp nat_cmp) xs name) → AreNames (match_ordering o (name ∷ x ∷ xs) (x ∷ xs) (x ∷ insert_key (slice_cmp nat_cmp) xs name))
+    one : (o : Ordering) → AreNames (insert_key (slice_cmp nat_cmp) xs name)
+        → AreNames (match_ordering o (name ∷ x ∷ xs) (x ∷ xs) (x ∷ insert_key (slice_cmp nat_cmp) xs name))
     one Less others = (k, h)
     one Equal others = h
     one Greater others = (h.0, others)

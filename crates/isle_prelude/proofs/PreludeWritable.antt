@@ -1,10 +1,8 @@
 -- The prelude that is written by hand can be written.
-use Rattle.std.proofs.Common.{◌≡◌, ℕ, List, [], ◌∷◌, ◌++◌, refl, codes, arith, flat_map}
-use Rattle.std.specs.Prelude.{replicate}
-use Rattle.isle_ast.specs.Tree.{Def}
+use Rattle.std.proofs.Common.{ℕ, List, [], ◌∷◌, ◌++◌, refl, codes, arith, flat_map}
 use Rattle.isle_meta.specs.declared.tables.Tables.{Tables}
-use Rattle.isle_prelude.specs.Declaring.{made_by, plain_decl, primitive, pure_decl, pure_multi_decl, taken_by}
-use Rattle.isle_prelude.specs.NumberedNames.{value_array_ctor, value_array_type}
+use Rattle.isle_prelude.specs.Declaring.{made_by, taken_by}
+use Rattle.isle_prelude.specs.NumberedNames.{value_array_ctor}
 use Rattle.isle_prelude.specs.WrittenPrelude.{ctor_defs, ctor_sizes, opt_terms, shared_types, written_defs}
 use Rattle.isle_writing.specs.Spelt.{AreSpelt}
 use Rattle.isle_writing.specs.Text.{def_texts}
@@ -67,7 +65,9 @@ ctor_writable n = (((ctor_named n, repeated_named n (codes "Value") value_named,
 
 -- the prelude of any tables
 pub prelude_writable : (t : Tables) → AreWritable (written_defs t)
-prelude_writable t = writable_joined shared_types (opt_terms ++ flat_map ctor_defs (ctor_sizes t)) types_writable (writable_joined opt_terms (flat_map ctor_defs (ctor_sizes t)) terms_writable (writable_each ctor_defs ctor_writable (ctor_sizes t)))
+prelude_writable t =
+    writable_joined shared_types (opt_terms ++ flat_map ctor_defs (ctor_sizes t)) types_writable
+    (writable_joined opt_terms (flat_map ctor_defs (ctor_sizes t)) terms_writable (writable_each ctor_defs ctor_writable (ctor_sizes t)))
 
 -- its text spells it
 pub prelude_spelt : (t : Tables) → AreSpelt (def_texts (written_defs t)) (written_defs t)

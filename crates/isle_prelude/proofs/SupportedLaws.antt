@@ -1,6 +1,6 @@
 -- What rows of supported tables are like.
-use Rattle.std.proofs.Common.{◌≡◌, ℕ, zero, suc, List, [], ◌∷◌, ◌++◌, length, map, Bool, true, false, Option, Some, None, refl, sym, ap, ◌∙◌, subst, inl, inr, arith}
-use Rattle.std.specs.Prelude.{◌⊎◌, IsSomeAnd, IsTrue, slice_get}
+use Rattle.std.proofs.Common.{◌≡◌, ℕ, zero, suc, List, [], ◌∷◌, ◌++◌, length, map, Bool, true, false, Option, Some, None, refl, sym, ap, subst, inl, inr, arith}
+use Rattle.std.specs.Prelude.{IsSomeAnd, slice_get}
 use Rattle.std.specs.List.{AllByRecursion}
 use Rattle.isle_meta.specs.declared.clif.ImmField.{ImmField}
 use Rattle.isle_meta.specs.declared.clif.Instruction.{Instruction}
@@ -9,7 +9,7 @@ use Rattle.isle_meta.specs.declared.shapes.Shape.{Shape}
 use Rattle.isle_meta.specs.declared.tables.Tables.{Tables}
 use Rattle.isle_meta.specs.FormatRow.{format_names}
 use Rattle.isle_meta.specs.InstructionRow.{imm_types, operand_names, types_differ}
-use Rattle.isle_meta.specs.Rows.{Row, OfFormat, OfInstruction, Breaks, shapes, rows, format_rows, instruction_rows, machine_rows, unsupported, IsFirstShape, IsFirstUnsupported}
+use Rattle.isle_meta.specs.Rows.{Row, OfInstruction, Breaks, shapes, rows, format_rows, instruction_rows, machine_rows, unsupported, IsFirstShape, IsFirstUnsupported}
 use Rattle.isle_meta.specs.TableNames.{IsTermName}
 use Rattle.isle_spelling.specs.Identifier.{IsIdentifier}
 use Rattle.isle_prelude.proofs.AllLaws.{all_front, all_behind}
@@ -69,7 +69,8 @@ not_so false h = refl
 not_of : (o : Option InstructionFormat) (P : InstructionFormat → Type 0) (f : InstructionFormat) → o ≡ Some f → (IsSomeAnd o P → ⊥) → P f → ⊥
 not_of o P f e h p = h (subst (λ (x : Option InstructionFormat). IsSomeAnd x P) (sym e) p)
 
-instruction_named : (formats : List InstructionFormat) (before : List Instruction) (i : Instruction) → IsSupported (OfInstruction formats before i) → IsNamedInstruction formats i
+instruction_named : (formats : List InstructionFormat) (before : List Instruction) (i : Instruction) → IsSupported (OfInstruction formats before i)
+    → IsNamedInstruction formats i
 instruction_named formats before i h =
     let names = stable_names i.name i.camel_name (operand_names i) h.0 in
     record {
@@ -82,7 +83,8 @@ instruction_named formats before i h =
       };
     }
 
-instructions_among : (formats : List InstructionFormat) (before is : List Instruction) → AllByRecursion IsSupported (instruction_rows formats before is) → AllByRecursion (IsNamedInstruction formats) is
+instructions_among : (formats : List InstructionFormat) (before is : List Instruction) → AllByRecursion IsSupported (instruction_rows formats before is)
+    → AllByRecursion (IsNamedInstruction formats) is
 instructions_among formats before [] h = tt
 instructions_among formats before (i ∷ is) h = (instruction_named formats before i h.0, instructions_among formats (before ++ i ∷ []) is h.1)
 

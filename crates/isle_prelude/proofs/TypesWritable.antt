@@ -1,5 +1,5 @@
 -- Types of immediates, arrays and instructions' data can be written.
-use Rattle.std.proofs.Common.{◌≡◌, ℕ, zero, suc, List, [], ◌∷◌, ◌++◌, map, Bool, true, false, refl, cond, codes, arith, flat_map}
+use Rattle.std.proofs.Common.{ℕ, zero, suc, List, [], ◌∷◌, map, Bool, true, false, refl, cond, codes, arith, flat_map}
 use Rattle.std.specs.Prelude.{filter, not, replicate}
 use Rattle.std.specs.List.{AllByRecursion}
 use Rattle.std.specs.Str.{bytes_eq}
@@ -16,13 +16,13 @@ use Rattle.isle_prelude.specs.Ascending.{ascending}
 use Rattle.isle_prelude.specs.CommonDefs.{imm_defs, imm_enum}
 use Rattle.isle_prelude.specs.Declaring.{bare, extern_enum, primitive}
 use Rattle.isle_prelude.specs.Immediates.{enum_types, enum_values, is_enum, plain_types}
-use Rattle.isle_prelude.specs.InstructionData.{block_fields, counted_values, data_defs, format_fields, format_variant, imm_field, raw_block_fields, value_fields}
+use Rattle.isle_prelude.specs.InstructionData.{block_fields, counted_values, data_defs, format_variant, imm_field, raw_block_fields, value_fields}
 use Rattle.isle_prelude.specs.NumberedNames.{block_array, block_array_type, value_array, value_array_type}
-use Rattle.isle_writing.specs.Writable.{AreNames, AreWritable, IsVariant, IsWord, IsWritable, NamesOne}
+use Rattle.isle_writing.specs.Writable.{AreNames, AreWritable, IsVariant, IsWritable, NamesOne}
 use Rattle.isle_writing.proofs.Joined.{writable_each, writable_joined}
 use Rattle.isle_writing.proofs.Names.{names_one}
-use Rattle.isle_prelude.proofs.AllLaws.{all_each, all_front, all_behind, all_joined, all_kept, all_mapped, all_to}
-use Rattle.isle_prelude.proofs.FixedNames.{block_named, blocks_named, blocks_type_named, blocks_word, call_named, data_named, flags_named, list_named, opcode_named, pack_named, unpack_named, value_named, values_named, values_type_named, values_word}
+use Rattle.isle_prelude.proofs.AllLaws.{all_each, all_front, all_behind, all_joined, all_kept, all_mapped}
+use Rattle.isle_prelude.proofs.FixedNames.{block_named, blocks_named, blocks_type_named, call_named, data_named, flags_named, list_named, opcode_named, pack_named, unpack_named, value_named, values_named, values_type_named}
 use Rattle.isle_prelude.proofs.NameLaws.{identifier_named, identifiers_named}
 use Rattle.isle_prelude.proofs.OrderedLaws.{ascending_named}
 use Rattle.isle_prelude.proofs.SupportedLaws.{IsNamedFormat}
@@ -61,7 +61,8 @@ bare_variants : (names : List (List ℕ)) → AreNames names → AllByRecursion 
 bare_variants names h = all_mapped (λ (w : List ℕ). NamesOne w) (λ (v : AstVariant). IsVariant v) bare (λ name k. (k, tt)) names h
 
 -- an enum
-enum_writable : (name : List ℕ) (variants : List AstVariant) → NamesOne name → AllByRecursion (λ (v : AstVariant). IsVariant v) variants → IsWritable (extern_enum name variants)
+enum_writable : (name : List ℕ) (variants : List AstVariant) → NamesOne name → AllByRecursion (λ (v : AstVariant). IsVariant v) variants
+    → IsWritable (extern_enum name variants)
 enum_writable name variants h k = ((h, k), omega arith)
 
 pub primitive_writable : (name : List ℕ) → NamesOne name → IsWritable (primitive name)
@@ -139,12 +140,19 @@ variant_named f h = (
   ),
 )
 
+-- the variants of opcodes
+opcodes_named : (is : List Instruction) → AllByRecursion (λ (i : Instruction). IsIdentifier i.camel_name) is
+    → AllByRecursion (λ (v : AstVariant). IsVariant v) (map (λ (i : Instruction). bare i.camel_name) is)
+opcodes_named [] h = tt
+opcodes_named (i ∷ is) h = ((identifier_named i.camel_name h.0, tt), opcodes_named is h.1)
+
 -- blocks, opcodes and instructions' data
-pub data_writable : (fs : List InstructionFormat) (is : List Instruction) → AllByRecursion IsNamedFormat fs → AllByRecursion (λ (i : Instruction). IsIdentifier i.camel_name) is → AreWritable (data_defs fs is)
+pub data_writable : (fs : List InstructionFormat) (is : List Instruction) → AllByRecursion IsNamedFormat fs
+    → AllByRecursion (λ (i : Instruction). IsIdentifier i.camel_name) is → AreWritable (data_defs fs is)
 data_writable fs is h k = (
   enum_writable (codes "Block") [] block_named tt,
   (
-    enum_writable (codes "Opcode") _ opcode_named (all_mapped (λ (i : Instruction). IsIdentifier i.camel_name) (λ (v : AstVariant). IsVariant v) (λ (i : Instruction). bare i.camel_name) (λ i c. (identifier_named i.camel_name c, tt)) is k),
+    enum_writable (codes "Opcode") _ opcode_named (opcodes_named is k),
     (enum_writable (codes "InstructionData") _ data_named (all_mapped IsNamedFormat (λ (v : AstVariant). IsVariant v) format_variant variant_named fs h), tt),
   ),
 )

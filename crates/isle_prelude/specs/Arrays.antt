@@ -1,5 +1,5 @@
 -- The arrays that instructions hold their operands in.
-use Rattle.std.specs.Prelude.{ℕ, List, [], ◌∷◌, ◌++◌, filter_map, replicate, Option, Some, None, Bool, true, false, if◌then◌else◌, ◌<◌, ◌==◌, codes}
+use Rattle.std.specs.Prelude.{ℕ, List, [], ◌∷◌, ◌++◌, filter_map, replicate, Option, Some, None, Bool, true, false, if◌then◌else◌, ◌==◌, codes}
 use Rattle.std.specs.List.{flat_map}
 use Rattle.isle_ast.specs.Tree.{Def}
 use Rattle.isle_meta.specs.declared.clif.InstructionFormat.{InstructionFormat}

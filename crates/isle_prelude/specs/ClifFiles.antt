@@ -1,5 +1,5 @@
 -- The definitions of the two files of instructions: that of an optimizer, and that of lowering.
-use Rattle.std.specs.Prelude.{ℕ, zero, suc, ℤ, pos, List, [], ◌∷◌, ◌++◌, map, length, Option, Some, None, Bool, true, false, slice_get, codes}
+use Rattle.std.specs.Prelude.{ℕ, pos, List, [], ◌∷◌, ◌++◌, map, length, Option, Some, None, Bool, true, false, slice_get, codes}
 use Rattle.std.specs.List.{flat_map}
 use Rattle.isle_ast.specs.Tree.{Def, Pattern, Expr}
 use Rattle.isle_ast.specs.Tree as tree

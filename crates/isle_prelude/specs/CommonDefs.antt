@@ -1,5 +1,5 @@
 -- The definitions with which both files of instructions begin.
-use Rattle.std.specs.Prelude.{ℕ, List, [], ◌∷◌, ◌++◌, map, codes}
+use Rattle.std.specs.Prelude.{ℕ, List, ◌∷◌, ◌++◌, map, codes}
 use Rattle.isle_ast.specs.Tree.{Def}
 use Rattle.isle_meta.specs.declared.clif.ImmField.{ImmField}
 use Rattle.isle_meta.specs.declared.tables.Tables.{Tables}

@@ -1,9 +1,8 @@
 -- The definitions that files of instructions are made of, without their places.
-use Rattle.std.specs.Prelude.{ℕ, List, [], ◌∷◌, map, true, false}
+use Rattle.std.specs.Prelude.{ℕ, List, true, false}
 use Rattle.isle_ast.specs.Tree.{Def}
 use Rattle.isle_ast.specs.Tree as tree
 use Rattle.isle_ast.specs.declared.tree.AstBody.TheVariants as body
-use Rattle.isle_ast.specs.declared.tree.AstFields.{AstFields}
 use Rattle.isle_ast.specs.declared.tree.AstFields.TheVariants as fields
 use Rattle.isle_ast.specs.declared.tree.AstVariant.{AstVariant}
 use Rattle.isle_writing.specs.Erased.{no_place}

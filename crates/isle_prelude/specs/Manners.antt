@@ -2,7 +2,6 @@
 use Rattle.std.specs.Prelude.{ℕ, zero, suc, List, [], ◌∷◌, Option, Some, None, Bool, true, false, ◌||◌, codes}
 use Rattle.isle_ast.specs.Tree.{Pattern}
 use Rattle.isle_ast.specs.Tree as tree
-use Rattle.isle_meta.specs.declared.clif.InstructionFormat.{InstructionFormat}
 use Rattle.isle_meta.specs.declared.clif.Instruction.{Instruction}
 
 -- the type of an instruction's term; whether its first argument is the type of its result; the extractor of its data, with the patterns in

@@ -34,7 +34,8 @@ refused_texts t defs (fail.Unsupported found) h = h
 refused_texts t defs fail.Memory h = refl
 
 -- before the first file is written all are as before
-pub unmade_files : (t : Tables) (files : List File) (old : Option Contents) (e : GenError) → 0 < length files → MakesTexts t (Err e) → WritesPreludes t files old old (Err e)
+pub unmade_files : (t : Tables) (files : List File) (old : Option Contents) (e : GenError) → 0 < length files → MakesTexts t (Err e)
+    → WritesPreludes t files old old (Err e)
 unmade_files t files old (gen.Unsupported found) lt h = (h, refl)
 unmade_files t files old (gen.Dir n) lt h = absurd h
 unmade_files t files old (gen.Memory n) lt h =
@@ -49,7 +50,8 @@ unmade_faults t (gen.Memory n) faults h = refl
 -- ---- what is written
 
 -- the four texts, each beside its name
-pub four_files : (a b c d : Output) (n : Names) (x : Texts) → file_of a ≡ (joined_name n.folder.now n.numerics.now, string_bytes x.numerics) → file_of b ≡ (joined_name n.folder.now n.methods.now, string_bytes x.methods)
+pub four_files : (a b c d : Output) (n : Names) (x : Texts) → file_of a ≡ (joined_name n.folder.now n.numerics.now, string_bytes x.numerics)
+    → file_of b ≡ (joined_name n.folder.now n.methods.now, string_bytes x.methods)
     → file_of c ≡ (joined_name n.folder.now n.opt.now, string_bytes x.opt) → file_of d ≡ (joined_name n.folder.now n.lower.now, string_bytes x.lower) → files_of (a ∷ b ∷ c ∷ d ∷ []) ≡ files_with n x
 four_files a b c d n x ea eb ec ed =
     ap (λ (f : File). f ∷ files_of (b ∷ c ∷ d ∷ [])) ea
@@ -73,7 +75,8 @@ four_texts n w x y z =
     ∷ []
 
 -- these are the files of the tables
-pub files_same : (t : Tables) (n : Names) (x : Texts) → AreTexts t x → files_with n x ≡ prelude_files n.folder.now n.numerics.now n.methods.now n.opt.now n.lower.now t
+pub files_same : (t : Tables) (n : Names) (x : Texts) → AreTexts t x
+    → files_with n x ≡ prelude_files n.folder.now n.numerics.now n.methods.now n.opt.now n.lower.now t
 files_same t n x a =
     ap (λ (w : List ℕ). four_texts n w (string_bytes x.methods) (string_bytes x.opt) (string_bytes x.lower)) a.numerics
     ∙ ap (λ (w : List ℕ). four_texts n (def_texts numeric_defs) w (string_bytes x.opt) (string_bytes x.lower)) a.methods
@@ -81,7 +84,8 @@ files_same t n x a =
     ∙ ap (λ (w : List ℕ). four_texts n (def_texts numeric_defs) numeric_methods (def_texts (opt_defs t)) w) a.lower
 
 -- and they are written where all rows are supported
-pub made_files : (t : Tables) (files others : List File) (old new : Option Contents) (r : Result ℕ GenError) → IsFirstUnsupported (rows t) None → files ≡ others → Writes files old new r → WritesPreludes t others old new r
+pub made_files : (t : Tables) (files others : List File) (old new : Option Contents) (r : Result ℕ GenError) → IsFirstUnsupported (rows t) None
+    → files ≡ others → Writes files old new r → WritesPreludes t others old new r
 made_files t files others old new (Ok n) h e w = (h, subst (λ fs. Writes fs old new (Ok n)) e w)
 made_files t files others old new (Err (gen.Unsupported found)) h e w = absurd w
 made_files t files others old new (Err (gen.Dir n)) h e w = (h, subst (λ fs. Writes fs old new (Err (gen.Dir n))) e w)

@@ -25,7 +25,8 @@ map_joined : (f : List ℕ → List ℕ) (xs ys : List (List ℕ)) → map f (xs
 map_joined f [] ys = refl
 map_joined f (x ∷ xs) ys = ap (λ zs. f x ∷ zs) (map_joined f xs ys)
 
-after_joined : (folder : List ℕ) (earlier names : List (List ℕ)) → repeats_after (map (joined_name folder) earlier) (map (joined_name folder) names) ≡ repeats_after earlier names
+after_joined : (folder : List ℕ) (earlier names : List (List ℕ))
+    → repeats_after (map (joined_name folder) earlier) (map (joined_name folder) names) ≡ repeats_after earlier names
 after_joined folder earlier [] = refl
 after_joined folder earlier (n ∷ names) =
     ap₂ (λ a b. a || b) (among_joined folder n earlier)

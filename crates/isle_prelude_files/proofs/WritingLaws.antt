@@ -21,7 +21,8 @@ names_joined [] gs = refl
 names_joined (f ∷ fs) gs = ap (λ ns. f.0 ∷ ns) (names_joined fs gs)
 
 -- a name that isn't among these and one more
-not_among : (name other : List ℕ) (names : List (List ℕ)) → is_among other (names ++ name ∷ []) ≡ false → (is_among other names ≡ false) × (bytes_eq other name ≡ false)
+not_among : (name other : List ℕ) (names : List (List ℕ)) → is_among other (names ++ name ∷ []) ≡ false
+    → (is_among other names ≡ false) × (bytes_eq other name ≡ false)
 not_among name other [] h = (refl, (either (bytes_eq other name) false h).0)
 not_among name other (n ∷ names) h =
     let parts = either (bytes_eq other n) (is_among other (names ++ name ∷ [])) h in
@@ -39,7 +40,8 @@ still_holds None new name f k ne h = subst (λ o. Holds o f.0 f.1) (sym k) tt
 still_holds (Some a) None name f k ne h = absurd k
 still_holds (Some a) (Some b) name f k ne h = k f.0 ne ∙ h
 
-all_still_hold : (now new : Option Contents) (name : List ℕ) (fs : List File) → KeepsOthers now new name → is_among name (names_of fs) ≡ false → HoldAll now fs → HoldAll new fs
+all_still_hold : (now new : Option Contents) (name : List ℕ) (fs : List File) → KeepsOthers now new name → is_among name (names_of fs) ≡ false
+    → HoldAll now fs → HoldAll new fs
 all_still_hold now new name [] k no h = tt
 all_still_hold now new name (f ∷ fs) k no h =
     let parts = either (bytes_eq name f.0) (is_among name (names_of fs)) no in
@@ -51,7 +53,8 @@ one_more_holds new [] file h k = (k, tt)
 one_more_holds new (f ∷ fs) file h k = (h.0, one_more_holds new fs file h.1 k)
 
 -- files of names that are none of these, nor one more
-keeps_more : (old now new : Option Contents) (names : List (List ℕ)) (name : List ℕ) → KeepsAllBut names old now → KeepsOthers now new name → KeepsAllBut (names ++ name ∷ []) old new
+keeps_more : (old now new : Option Contents) (names : List (List ℕ)) (name : List ℕ) → KeepsAllBut names old now → KeepsOthers now new name
+    → KeepsAllBut (names ++ name ∷ []) old new
 keeps_more None now new names name h k = subst (λ (o : Option Contents). KeepsOthers o new name) h k
 keeps_more (Some a) None new names name h k = absurd h
 keeps_more (Some a) (Some b) None names name h k = absurd k
@@ -74,7 +77,8 @@ pub written_none : (files : List File) (old : Option Contents) → repeats (name
 written_none files old h = record { left = record { hold = tt; others = none_but old }; apart = h }
 
 -- where the next file's name stands
-next_apart : (files : List File) (i : ℕ) (file : File) → i < length files → file ≡ get_or files i file → repeats_after (names_of (take i files)) (names_of (drop i files)) ≡ false
+next_apart : (files : List File) (i : ℕ) (file : File) → i < length files → file ≡ get_or files i file
+    → repeats_after (names_of (take i files)) (names_of (drop i files)) ≡ false
     → (is_among file.0 (names_of (take i files)) ≡ false) × (repeats_after (names_of (take i files) ++ file.0 ∷ []) (names_of (drop (i + 1) files)) ≡ false)
 next_apart files i file lt is h =
     let split : drop i files ≡ file ∷ drop (i + 1) files = drop_more files i file lt ∙ ap (λ (f : File). f ∷ drop (i + 1) files) (sym is) in
@@ -84,11 +88,13 @@ next_apart files i file lt is h =
 front_more : (files : List File) (i : ℕ) (file : File) → i < length files → file ≡ get_or files i file → take (i + 1) files ≡ take i files ++ file ∷ []
 front_more files i file lt is = take_more files i file lt ∙ ap (λ (f : File). take i files ++ f ∷ []) (sym is)
 
-names_more : (files : List File) (i : ℕ) (file : File) → i < length files → file ≡ get_or files i file → names_of (take (i + 1) files) ≡ names_of (take i files) ++ file.0 ∷ []
+names_more : (files : List File) (i : ℕ) (file : File) → i < length files → file ≡ get_or files i file
+    → names_of (take (i + 1) files) ≡ names_of (take i files) ++ file.0 ∷ []
 names_more files i file lt is = ap names_of (front_more files i file lt is) ∙ names_joined (take i files) (file ∷ [])
 
 -- the next file may hold anything
-pub written_up_to : (files : List File) (i : ℕ) (file : File) (old now new : Option Contents) → i < length files → file ≡ get_or files i file → WrittenTo files i old now → KeepsOthers now new file.0 → AreLeftUpTo files i old new
+pub written_up_to : (files : List File) (i : ℕ) (file : File) (old now new : Option Contents) → i < length files → file ≡ get_or files i file
+    → WrittenTo files i old now → KeepsOthers now new file.0 → AreLeftUpTo files i old new
 written_up_to files i file old now new lt is w k =
     record {
       within = lt;
@@ -97,7 +103,8 @@ written_up_to files i file old now new lt is w k =
     }
 
 -- it is written
-pub written_more : (files : List File) (i : ℕ) (file : File) (old now new : Option Contents) → i < length files → file ≡ get_or files i file → WrittenTo files i old now → KeepsOthers now new file.0 → Holds new file.0 file.1
+pub written_more : (files : List File) (i : ℕ) (file : File) (old now new : Option Contents) → i < length files → file ≡ get_or files i file
+    → WrittenTo files i old now → KeepsOthers now new file.0 → Holds new file.0 file.1
     → WrittenTo files (i + 1) old new
 written_more files i file old now new lt is w k h =
     let apart = next_apart files i file lt is w.apart in
