@@ -2,7 +2,7 @@
 use Rattle.std.proofs.Common.{◌≡◌, ◌≤◌, ℕ, suc, List, [], ◌∷◌, ◌++◌, map, Bool, true, false, cond, codes, flat_map, refl, sym, ap, ◌∙◌, subst, arith}
 use Rattle.std.specs.List.{filter}
 use Rattle.std.specs.Prelude.{◌||◌, max}
-use Rattle.isle_ast.specs.Tree.{Def, Pattern, ExternConstructor, ExternExtractor, Converter}
+use Rattle.isle_ast.specs.Tree.{Def, Pattern, ExternConstructor, ExternExtractor}
 use Rattle.isle_numerics.specs.declared.conversion.Conversion.{Conversion}
 use Rattle.isle_numerics.specs.declared.conversion.Conversion.TheVariants.{Into, TryInto, UnwrapInto, TruncateInto, CastSigned, CastUnsigned}
 use Rattle.isle_numerics.specs.declared.numeric_type.NumericType.{NumericType}
@@ -12,7 +12,7 @@ use Rattle.isle_numerics.specs.declared.operation.Operation.{Operation}
 use Rattle.isle_numerics.specs.declared.operation.Takes.{Takes}
 use Rattle.isle_numerics.specs.declared.operation.Takes.TheVariants.{One, Two, Amount}
 use Rattle.isle_numerics.specs.Conversions.{conversions}
-use Rattle.isle_numerics.specs.Definitions.{asked, argument_types, back_defs, constructed, conversion_defs, conversion_name, declared, extracted, extractors, flagged, from_name, implied, is_other, is_trial, matcher, matching, name_of, no_place, numeric_defs, operation_defs, pair_defs, prefixed, standing, type_defs}
+use Rattle.isle_numerics.specs.Definitions.{asked, argument_types, back_defs, constructed, conversion_defs, conversion_name, declared, extracted, extractors, flagged, from_name, implied, is_other, is_trial, matcher, name_of, no_place, numeric_defs, operation_defs, pair_defs, prefixed, standing, type_defs}
 use Rattle.isle_numerics.specs.NumericTypes.{int_type, numeric_types}
 use Rattle.isle_numerics.specs.Operations.{row}
 use Rattle.isle_numerics.specs.Table.{arguments, given, is_predicate, operations}
