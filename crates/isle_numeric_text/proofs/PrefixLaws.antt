@@ -32,7 +32,8 @@ of_each : {X : Type 0} (f : X → List (List ℕ)) → ((x : X) → Prefixed (f 
 of_each f h [] = tt
 of_each f h (x ∷ xs) = all_append IsPrefixed (f x) (flat_map f xs) (h x) (of_each f h xs)
 
-of_types : (f : NumericType → List (List ℕ)) → ((ty : NumericType) → IsNumeric ty → Prefixed (f ty)) → (types : List NumericType) → Numeric types → Prefixed (flat_map f types)
+of_types : (f : NumericType → List (List ℕ)) → ((ty : NumericType) → IsNumeric ty → Prefixed (f ty)) → (types : List NumericType) → Numeric types
+    → Prefixed (flat_map f types)
 of_types f h [] a = tt
 of_types f h (ty ∷ types) a = all_append IsPrefixed (f ty) (flat_map f types) (h ty a.0) (of_types f h types a.1)
 
@@ -56,8 +57,13 @@ asked_if false ds h = tt
 of_operation : (ty : NumericType) → IsNumeric ty → (op : Operation) → Prefixed (terms_of (operation_defs (name_of ty) op))
 of_operation ty h op = (
   begun ty h (row op).name,
-  asked_if (is_predicate op) (extractors (name_of ty) (asked op))
-      (begun ty h (codes "matches_" ++ asked op), (begun ty h (codes "extract_" ++ asked op), (begun ty h (codes "when_" ++ asked op), (begun ty h (codes "when_not_" ++ asked op), tt)))),
+  asked_if (is_predicate op) (extractors (name_of ty) (asked op)) (
+    begun ty h (codes "matches_" ++ asked op),
+    (
+      begun ty h (codes "extract_" ++ asked op),
+      (begun ty h (codes "when_" ++ asked op), (begun ty h (codes "when_not_" ++ asked op), tt)),
+    ),
+  ),
 )
 
 of_type : (ty : NumericType) → IsNumeric ty → Prefixed (terms_of (type_defs ty))
@@ -91,7 +97,8 @@ of_pairs types a from h =
 of_among : (types : List NumericType) → Numeric types → Prefixed (terms_of (defs_among types))
 of_among types a =
     subst (λ ts. Prefixed ts) (among_terms types)
-    (all_append IsPrefixed (flat_map (λ (ty : NumericType). terms_of (type_defs ty)) types) (flat_map (λ (from : NumericType). terms_of (pairs_among types from)) types)
+    (all_append IsPrefixed (flat_map (λ (ty : NumericType). terms_of (type_defs ty)) types)
+    (flat_map (λ (from : NumericType). terms_of (pairs_among types from)) types)
     (of_types (λ (ty : NumericType). terms_of (type_defs ty)) of_type types a)
     (of_types (λ (from : NumericType). terms_of (pairs_among types from)) (of_pairs types a) types a))
 

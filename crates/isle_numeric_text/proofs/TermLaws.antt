@@ -70,7 +70,8 @@ pub then_terms : (old mid new one two all : List (List ℕ)) → mid ≡ old ++ 
 then_terms old mid new one two all e f g = f ∙ ap (λ ts. ts ++ two) e ∙ append_assoc old one two ∙ ap (λ ts. old ++ ts) g
 
 -- the names of one thing more
-pub terms_step : {X : Type 0} (f : X → List (List ℕ)) (xs : List X) (i : ℕ) (d : X) (old mid new : List (List ℕ)) → i < length xs → mid ≡ old ++ flat_map f (take i xs) → new ≡ mid ++ f (get_or xs i d)
+pub terms_step : {X : Type 0} (f : X → List (List ℕ)) (xs : List X) (i : ℕ) (d : X) (old mid new : List (List ℕ)) → i < length xs
+    → mid ≡ old ++ flat_map f (take i xs) → new ≡ mid ++ f (get_or xs i d)
     → new ≡ old ++ flat_map f (take (i + 1) xs)
 terms_step f xs i d old mid new lt e k =
     k ∙ ap (λ ts. ts ++ f (get_or xs i d)) e ∙ flat_map_more f old (take i xs) (get_or xs i d) ∙ ap (λ ys. old ++ flat_map f ys) (sym (take_more xs i d lt))

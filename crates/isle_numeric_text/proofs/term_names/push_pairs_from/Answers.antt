@@ -12,5 +12,6 @@ returns c =
     let from = c.args.from in
     let types = c.args.types.now in
     c.loop-to.invariant
-    ∙ ap (λ ts. c.args.names.now.items ++ flat_map (λ (to : NumericType). terms_of (pair_defs from to)) (filter (is_other from) ts)) (take_all c.loop-to.to-index types c.loop-to-test.false)
+    ∙ ap (λ ts. c.args.names.now.items ++ flat_map (λ (to : NumericType). terms_of (pair_defs from to)) (filter (is_other from) ts))
+    (take_all c.loop-to.to-index types c.loop-to-test.false)
     ∙ ap (λ ts. c.args.names.now.items ++ ts) (pairs_terms types from)

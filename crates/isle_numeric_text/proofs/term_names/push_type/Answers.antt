@@ -10,5 +10,6 @@ use Rattle.isle_numeric_text.proofs.term_names.push_type.Goals as goal
 pub returns : goal.returns
 returns c =
     let ty = c.args.ty in
-    let first : c.push_operations.new.names.items ≡ c.args.names.now.items ++ flat_map (λ (op : Operation). terms_of (operation_defs (name_of ty) op)) (operations ty.signed) = search rules in
+    let first : c.push_operations.new.names.items
+    ≡ c.args.names.now.items ++ flat_map (λ (op : Operation). terms_of (operation_defs (name_of ty) op)) (operations ty.signed) = search rules in
     first ∙ ap (λ ts. c.args.names.now.items ++ ts) (type_terms ty)

@@ -8,4 +8,5 @@ use Rattle.isle_numeric_text.proofs.term_names.push_types.Goals as goal
 
 pub loop-ty-preserved : goal.loop-ty-preserved
 loop-ty-preserved c =
-    terms_step (λ (ty : NumericType). terms_of (type_defs ty)) c.args.types.now c.loop-ty.ty-index (numeric false 0) _ _ _ c.loop-ty-test.true c.loop-ty.invariant c.in_ok-push_type.ensures
+    terms_step (λ (ty : NumericType). terms_of (type_defs ty)) c.args.types.now c.loop-ty.ty-index
+    (numeric false 0) _ _ _ c.loop-ty-test.true c.loop-ty.invariant c.in_ok-push_type.ensures

@@ -10,5 +10,6 @@ pub returns : goal.returns
 returns c =
     let types = c.args.types.now in
     let first : c.push_types.new.names.items ≡ [] ++ flat_map (λ (ty : NumericType). terms_of (type_defs ty)) types = search rules in
-    let second : c.push_pairs.new.names.items ≡ c.push_types.new.names.items ++ flat_map (λ (from : NumericType). terms_of (pairs_among types from)) types = search rules in
+    let second : c.push_pairs.new.names.items
+    ≡ c.push_types.new.names.items ++ flat_map (λ (from : NumericType). terms_of (pairs_among types from)) types = search rules in
     c.new.ensures ∙ then_terms [] _ _ _ _ _ first second (among_terms types)
