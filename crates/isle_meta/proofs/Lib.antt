@@ -6,3 +6,4 @@ pub mod FirstLaws
 pub mod FormatLaws
 pub mod InstructionLaws
 pub mod CheckLaws
+pub mod ReservedLaws

@@ -1,6 +1,5 @@
 pub mod Layout
 pub mod ShortName
-pub mod NumericTerms
 pub mod TableNames
 pub mod Immediates
 pub mod KnownTypes

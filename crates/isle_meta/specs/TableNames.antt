@@ -8,7 +8,7 @@ use Rattle.isle_lawful_names.specs.LawfulNames.{IsTypeName}
 use Rattle.isle_spelling.specs.Identifier.{begins}
 use Rattle.isle_spelling.specs.Literal.{type_named}
 use Rattle.isle_spelling.specs.Names.{is_numbered}
-use Rattle.isle_meta.specs.NumericTerms.{numeric_terms}
+use Rattle.isle_numerics.specs.Definitions.{numeric_terms}
 
 -- what contracts see of borrowed names
 abbrev pub texts : List (Bor (List ℕ)) → List (List ℕ)

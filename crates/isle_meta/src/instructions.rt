@@ -5,14 +5,16 @@ ghost use Rattle.isle_lawful_names.specs.NameSet.{HasNames};
 ghost use Rattle.isle_meta.specs.declared.clif.Instruction.{Instruction as InstructionOf};
 ghost use Rattle.isle_meta.specs.InstructionRow as Row;
 ghost use Rattle.isle_meta.specs.Misfits.{TellsNames};
-ghost use Rattle.isle_meta.specs.NumericTerms.{numeric_terms};
+ghost use Rattle.isle_numerics.specs.Definitions.{numeric_terms};
 ghost use Rattle.isle_meta.specs.Rows.{OfInstruction, instruction_rows, IsFirstUnsupported};
 ghost use Rattle.isle_meta.specs.TableNames.{is_among, repeats};
 ghost use Rattle.isle_meta.specs.Told.{found_row, Tells};
 
 use crate::clif::{Instruction, InstructionFormat};
 use crate::faults::{Faults, first_shape};
-use crate::kept_names::{are_all_identifiers, is_reserved_term, is_term_name, numeric_terms};
+use crate::kept_names::{
+    are_all_identifiers, is_reserved_term, is_term_name, name_set, numeric_names,
+};
 use crate::misfits::misfits_among;
 use crate::operands::operand_names;
 use crate::repeats::has_repeat;
@@ -130,6 +132,30 @@ fn instruction_faults(
     })
 }
 
+// The name of the first instruction of these formats that breaks a shape, and the first shape that it breaks. The set
+// `numeric` has the terms of the numeric prelude.
+fn unsupported_among<'t>(
+    alloc: Global,
+    numeric: &BTreeSet<&str>,
+    formats: &[InstructionFormat],
+    instructions: &'t [Instruction],
+) -> Result<Option<(&'t str, Shape)>, AllocError>
+    requires { HasNames numeric_terms numeric.now }
+    ensures { IfOk result (λ found.
+        IsFirstUnsupported (instruction_rows formats.now [] instructions.now) (found_row found)) }
+{
+    let mut names = BTreeSet::new(alloc);
+    let mut camels = BTreeSet::new(alloc);
+    for instruction in instructions {
+        let named = name_faults(alloc, numeric, instruction, &mut names, &mut camels)?;
+        let faults = instruction_faults(alloc, formats, instruction, named)?;
+        if let Some(shape) = first_shape(&faults) {
+            return Ok(Some((instruction.name.as_str(), shape)));
+        }
+    }
+    Ok(None)
+}
+
 /// Returns the name of the first instruction of these formats that breaks a shape, and the first shape that it breaks.
 /// The only error is want of memory.
 pub fn unsupported_instruction<'t>(
@@ -140,15 +166,7 @@ pub fn unsupported_instruction<'t>(
     ensures { IfOk result (λ found.
         IsFirstUnsupported (instruction_rows formats.now [] instructions.now) (found_row found)) }
 {
-    let numeric = numeric_terms(alloc)?;
-    let mut names = BTreeSet::new(alloc);
-    let mut camels = BTreeSet::new(alloc);
-    for instruction in instructions {
-        let named = name_faults(alloc, &numeric, instruction, &mut names, &mut camels)?;
-        let faults = instruction_faults(alloc, formats, instruction, named)?;
-        if let Some(shape) = first_shape(&faults) {
-            return Ok(Some((instruction.name.as_str(), shape)));
-        }
-    }
-    Ok(None)
+    let terms = numeric_names(alloc)?;
+    let numeric = name_set(alloc, terms.as_slice())?;
+    unsupported_among(alloc, &numeric, formats, instructions)
 }

@@ -5,13 +5,15 @@ ghost use Rattle.std.specs.List.{AllByRecursion, list_all};
 ghost use Rattle.isle_lawful_names.specs.NameSet.{HasNames};
 ghost use Rattle.isle_spelling.specs.Identifier.{IsIdentifier, begins, is_begin};
 ghost use Rattle.isle_spelling.specs.Names.{are_digits, is_digit, is_numbered};
-ghost use Rattle.isle_meta.specs.NumericTerms.{numeric_terms};
+ghost use Rattle.isle_numerics.specs.Definitions.{numeric_terms};
 ghost use Rattle.isle_meta.specs.TableNames.{is_among, is_array_constructor, is_array_term};
 ghost use Rattle.isle_meta.specs.TableNames.{is_builtin, is_reserved_term, no_terms};
 ghost use Rattle.isle_meta.specs.TableNames.{prelude_terms, prelude_types, texts};
 ghost use Rattle.isle_meta.specs.TableNames.{IsImmediateType, IsTermName};
 
-use isle_lawful_names::{is_new, is_type_name};
+use isle_core::{List, Text};
+use isle_lawful_names::{added, is_new, is_type_name};
+use isle_numeric_text::terms;
 use isle_spelling::{are_word_bytes, int_type_named, is_among, is_identifier};
 use std::alloc::{AllocError, Global};
 use std::collections::BTreeSet;
@@ -187,11 +189,25 @@ fn is_prelude_term(name: &str) -> bool
     is_among(name, &PRELUDE_TERMS)
 }
 
-/// Gives the set of the terms of the numeric prelude. The only error is want of memory.
-pub fn numeric_terms(alloc: Global) -> Result<BTreeSet<&'static str>, AllocError>
-    ensures { IfOk result (λ terms. HasNames numeric_terms terms) }
+/// Gives the terms of the numeric prelude. The only error is want of memory.
+pub fn numeric_names(alloc: Global) -> Result<List<Text>, AllocError>
+    ensures { IfOk result (λ names. names ≡ numeric_terms) }
 {
-    Ok(BTreeSet::new(alloc))
+    match terms(alloc) {
+        Ok(names) => Ok(names),
+        Err(_) => Err(AllocError),
+    }
+}
+
+/// Gives the set of these names. The only error is want of memory.
+pub fn name_set<'n>(alloc: Global, names: &'n [Text]) -> Result<BTreeSet<&'n str>, AllocError>
+    ensures { IfOk result (λ set. HasNames names.now set) }
+{
+    let mut set = BTreeSet::new(alloc);
+    for name in names {
+        added(&mut set, name.as_str())?;
+    }
+    Ok(set)
 }
 
 /// Tells whether the preludes give the term to something else. The set has the terms of the numeric prelude.

@@ -1,5 +1,5 @@
 -- The names of types, and terms whose names begin with one: each is a name, and no flag.
-use Rattle.std.proofs.Common.{◌≡◌, ℕ, List, [], ◌∷◌, ◌++◌, Bool, true, false, codes, bytes_eq, refl, arith}
+use Rattle.std.proofs.Common.{◌≡◌, ℕ, List, ◌∷◌, ◌++◌, Bool, true, false, codes, bytes_eq, refl, arith}
 use Rattle.std.specs.Prelude.{slice_index}
 use Rattle.isle_lexer.specs.Word.{is_flag}
 use Rattle.isle_core.specs.Int.{type_name}

@@ -1,5 +1,5 @@
 -- The names of operations are of bytes that may stand in a word.
-use Rattle.std.proofs.Common.{◌≡◌, ℕ, suc, zero, List, [], ◌∷◌, drop, refl}
+use Rattle.std.proofs.Common.{ℕ, suc, zero, List, [], ◌∷◌, drop, refl}
 use Rattle.std.proofs.lemmas.Bool.{and_parts}
 use Rattle.isle_numerics.specs.declared.operation.Comparison.TheVariants.{Eq, Ne, Lt, LtEq, Gt, GtEq}
 use Rattle.isle_numerics.specs.declared.operation.Arithmetic.TheVariants.{CheckedAdd, WrappingAdd, Add, CheckedSub, WrappingSub, Sub, CheckedMul, WrappingMul, Mul, CheckedDiv, WrappingDiv, Div, CheckedRem, Rem}

@@ -2,7 +2,7 @@
 use Rattle.std.proofs.Common.{◌≡◌, ◌≤◌, ℕ, suc, List, [], ◌∷◌, ◌++◌, map, Bool, true, false, cond, codes, flat_map, refl, sym, ap, ◌∙◌, subst, arith}
 use Rattle.std.specs.List.{filter}
 use Rattle.std.specs.Prelude.{◌||◌, max}
-use Rattle.isle_ast.specs.Tree.{Def, Pattern, ExternConstructor, ExternExtractor, Converter}
+use Rattle.isle_ast.specs.Tree.{Def, Pattern, ExternConstructor, ExternExtractor}
 use Rattle.isle_numerics.specs.declared.conversion.Conversion.{Conversion}
 use Rattle.isle_numerics.specs.declared.conversion.Conversion.TheVariants.{Into, TryInto, UnwrapInto, TruncateInto, CastSigned, CastUnsigned}
 use Rattle.isle_numerics.specs.declared.numeric_type.NumericType.{NumericType}
@@ -12,7 +12,7 @@ use Rattle.isle_numerics.specs.declared.operation.Operation.{Operation}
 use Rattle.isle_numerics.specs.declared.operation.Takes.{Takes}
 use Rattle.isle_numerics.specs.declared.operation.Takes.TheVariants.{One, Two, Amount}
 use Rattle.isle_numerics.specs.Conversions.{conversions}
-use Rattle.isle_numerics.specs.Definitions.{asked, argument_types, back_defs, constructed, conversion_defs, conversion_name, declared, extracted, extractors, flagged, from_name, implied, is_other, is_trial, matcher, matching, name_of, no_place, numeric_defs, operation_defs, pair_defs, prefixed, standing, type_defs}
+use Rattle.isle_numerics.specs.Definitions.{asked, argument_types, back_defs, constructed, conversion_defs, conversion_name, declared, extracted, extractors, flagged, from_name, implied, is_other, is_trial, matcher, name_of, no_place, numeric_defs, operation_defs, pair_defs, prefixed, standing, type_defs}
 use Rattle.isle_numerics.specs.NumericTypes.{int_type, numeric_types}
 use Rattle.isle_numerics.specs.Operations.{row}
 use Rattle.isle_numerics.specs.Table.{arguments, given, is_predicate, operations}
@@ -44,22 +44,26 @@ each f h xs = record { written = writable_each f (λ x. (h x).written) xs; no_fl
 
 -- ---- one definition, and more
 
-declared_then : (term : List ℕ) (partial : Bool) (args : List (List ℕ)) (ret : List ℕ) (more : List Def) → IsTermWord term → AreNames args → NamesOne ret → AreSpellable more
+declared_then : (term : List ℕ) (partial : Bool) (args : List (List ℕ)) (ret : List ℕ) (more : List Def) → IsTermWord term → AreNames args → NamesOne ret
+    → AreSpellable more
     → AreSpellable (declared term partial args ret ∷ more)
 declared_then term partial args ret more t a r m =
     record { written = (((t.named, a, r), omega arith), m.written); no_flag = ap (λ b. b || declare_flag more) t.no_flag ∙ m.no_flag }
 
-constructed_then : (term : List ℕ) (partial : Bool) (args : List (List ℕ)) (ret : List ℕ) (more : List Def) → IsTermWord term → AreNames args → NamesOne ret → AreSpellable more
+constructed_then : (term : List ℕ) (partial : Bool) (args : List (List ℕ)) (ret : List ℕ) (more : List Def) → IsTermWord term → AreNames args
+    → NamesOne ret → AreSpellable more
     → AreSpellable (constructed term partial args ret ++ more)
 constructed_then term partial args ret more t a r m =
     declared_then term partial args ret (ExternConstructor term term no_place ∷ more) t a r
     (record { written = (((t.named, t.named), omega arith), m.written); no_flag = m.no_flag })
 
-answered_then : (term func : List ℕ) (more : List Def) → NamesOne term → NamesOne func → AreSpellable more → AreSpellable (ExternExtractor term func false no_place ∷ more)
+answered_then : (term func : List ℕ) (more : List Def) → NamesOne term → NamesOne func → AreSpellable more
+    → AreSpellable (ExternExtractor term func false no_place ∷ more)
 answered_then term func more t f m = record { written = (((t, f), omega arith), m.written); no_flag = m.no_flag }
 
 standing_then : (ty term : List ℕ) (args params : List (List ℕ)) (p : Pattern) (more : List Def)
-    → NamesOne ty → IsTermWord term → AreNames args → AreNames params → IsPattern p → suc (max 1 (pattern_height p)) ≤ 256 → AreSpellable more → AreSpellable (standing ty term args params p ++ more)
+    → NamesOne ty → IsTermWord term → AreNames args → AreNames params → IsPattern p → suc (max 1 (pattern_height p)) ≤ 256 → AreSpellable more
+    → AreSpellable (standing ty term args params p ++ more)
 standing_then ty term args params p more y t a s q l m =
     declared_then term false args ty _ t a y (record { written = (((t.named, s, q), l), m.written); no_flag = m.no_flag })
 
@@ -80,13 +84,17 @@ extractors_spelt w base h k =
     let m : IsTermWord (matcher w base) = prefixed_term w (codes "matches_" ++ base) h (plain_joined (codes "matches_") base refl k) in
     let e : IsTermWord (prefixed w (codes "extract_" ++ base)) = prefixed_term w (codes "extract_" ++ base) h (plain_joined (codes "extract_") base refl k) in
     let when : IsTermWord (prefixed w (codes "when_" ++ base)) = prefixed_term w (codes "when_" ++ base) h (plain_joined (codes "when_") base refl k) in
-    let when_not : IsTermWord (prefixed w (codes "when_not_" ++ base)) = prefixed_term w (codes "when_not_" ++ base) h (plain_joined (codes "when_not_") base refl k) in
-    let wants : (flag : Bool) → IsPattern (flagged (matcher w base) flag) = λ flag. flagged_pattern w (codes "matches_" ++ base) flag h (plain_joined (codes "matches_") base refl k) in
+    let when_not : IsTermWord (prefixed w (codes "when_not_" ++ base)) =
+    prefixed_term w (codes "when_not_" ++ base) h (plain_joined (codes "when_not_") base refl k) in
+    let wants : (flag : Bool) → IsPattern (flagged (matcher w base) flag) =
+    λ flag. flagged_pattern w (codes "matches_" ++ base) flag h (plain_joined (codes "matches_") base refl k) in
     declared_then (matcher w base) false (codes "bool" ∷ []) w _ m (bool_named, tt) h.named
     (answered_then (matcher w base) (matcher w base) _ m.named m.named
-    (standing_then w (prefixed w (codes "extract_" ++ base)) (w ∷ []) (codes "x" ∷ []) (extracted (matcher w base)) _ h.named e (h.named, tt) (x_named, tt) (wants true, (x_variable, tt)) (omega arith)
+    (standing_then w (prefixed w (codes "extract_" ++ base)) (w ∷ []) (codes "x" ∷ []) (extracted (matcher w base)) _ h.named e (h.named, tt) (x_named, tt)
+    (wants true, (x_variable, tt)) (omega arith)
     (standing_then w (prefixed w (codes "when_" ++ base)) [] [] (flagged (matcher w base) true) _ h.named when tt tt (wants true) (omega arith)
-    (standing_then w (prefixed w (codes "when_not_" ++ base)) [] [] (flagged (matcher w base) false) [] h.named when_not tt tt (wants false) (omega arith) nothing))))
+    (standing_then w (prefixed w (codes "when_not_" ++ base)) [] [] (flagged (matcher w base) false) [] h.named when_not tt tt (wants false)
+    (omega arith) nothing))))
 
 asked_if : (b : Bool) (ds : List Def) → AreSpellable ds → AreSpellable (cond b ds [])
 asked_if true ds h = h
@@ -94,7 +102,8 @@ asked_if false ds h = nothing
 
 operation_spelt : (w : List ℕ) → Begins w → (op : Operation) → AreSpellable (operation_defs w op)
 operation_spelt w h op =
-    constructed_then (prefixed w (row op).name) (row op).is_partial (argument_types w op) (given w (row op).gives) (cond (is_predicate op) (extractors w (asked op)) [])
+    constructed_then (prefixed w (row op).name) (row op).is_partial (argument_types w op) (given w (row op).gives)
+    (cond (is_predicate op) (extractors w (asked op)) [])
     (prefixed_term w (row op).name h (row_plain op)) (arguments_named w h.named (row op).takes) (given_named w h.named (row op).gives)
     (asked_if (is_predicate op) (extractors w (asked op)) (extractors_spelt w (asked op) h (asked_plain op)))
 
@@ -124,7 +133,8 @@ implied_spelt from to h k CastUnsigned = nothing
 
 conversion_spelt : (from to : List ℕ) → Begins from → Begins to → (c : Conversion) → AreSpellable (conversion_defs from to c)
 conversion_spelt from to h k c =
-    constructed_then (conversion_name from to c) (is_trial c) (from ∷ []) to (implied from to c) (conversion_term from to h k c) (h.named, tt) k.named (implied_spelt from to h k c)
+    constructed_then (conversion_name from to c) (is_trial c) (from ∷ []) to (implied from to c) (conversion_term from to h k c) (h.named, tt) k.named
+    (implied_spelt from to h k c)
 
 from_term : (to from : List ℕ) → Begins to → Begins from → IsTermWord (from_name to from)
 from_term to from h k = prefixed_term to (codes "from_" ++ from) h (plain_joined (codes "from_") from refl k.word.1)
@@ -148,7 +158,8 @@ pairs_spelt types from = each (pair_defs from) (pair_spelt from) (filter (is_oth
 
 among_spelt : (types : List NumericType) → AreSpellable (defs_among types)
 unfolding defs_among
-among_spelt types = joined (flat_map type_defs types) (flat_map (pairs_among types) types) (each type_defs type_spelt types) (each (pairs_among types) (pairs_spelt types) types)
+among_spelt types = joined (flat_map type_defs types) (flat_map (pairs_among types) types) (each type_defs type_spelt types)
+    (each (pairs_among types) (pairs_spelt types) types)
 
 -- the definitions among any types are spelt by their text, and no others are
 pub among_spelt_only : (types : List NumericType) (text : List ℕ) → text ≡ def_texts (defs_among types) → SpellsOnly text (defs_among types)

@@ -15,8 +15,13 @@ use isle_core::OutOfMemory;
 use isle_numerics::{Conversion, NumericType, conversions};
 use std::alloc::{AllocError, Global};
 
-// The name of a conversion's term.
-fn conversion_name(alloc: Global, from: &str, to: &str, c: Conversion) -> Result<String, AllocError>
+/// Returns the name of a conversion's term.
+pub fn conversion_name(
+    alloc: Global,
+    from: &str,
+    to: &str,
+    c: Conversion,
+) -> Result<String, AllocError>
     ensures { IfOk result (λ name. string_bytes name ≡ conversion_name from.now to.now c) }
 {
     match c {

@@ -1,7 +1,7 @@
 use Rattle.std.proofs.Common.{ℕ, List, [], take, subst, sym, Some}
 use Rattle.isle_meta.specs.Rows.{instruction_rows, IsFirstUnsupported}
 use Rattle.isle_meta.proofs.InstructionLaws.{instructions_on, instructions_out}
-use Rattle.isle_meta.proofs.instructions.unsupported_instruction.Goals as goal
+use Rattle.isle_meta.proofs.instructions.unsupported_among.Goals as goal
 
 pub returns-in-Some : goal.returns-in-Some
 returns-in-Some c =
