@@ -10,3 +10,4 @@ pub use isle_numeric_methods::numerics_rust;
 pub use isle_numeric_text::numerics_isle;
 pub use isle_numerics::{NumericOp, NumericType, OpResult, eval_op, ops_for_type};
 pub use isle_prelude::{gen_lower, gen_opt};
+pub use isle_prelude_files::{gen_numerics, generate};

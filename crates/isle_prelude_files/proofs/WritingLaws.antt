@@ -1,12 +1,11 @@
 -- Files that are written one by one.
-use Rattle.std.proofs.Common.{◌≡◌, ℕ, ◌+◌, ◌<◌, ◌≤◌, List, [], ◌∷◌, ◌++◌, length, get_or, take, drop, map, max, Bool, true, false, Option, Some, None, refl, sym, ap, ◌∙◌, subst, arith}
-use Rattle.std.specs.Prelude.{◌||◌, IsSomeAnd}
-use Rattle.std.specs.List.{AllByRecursion}
+use Rattle.std.proofs.Common.{◌≡◌, ℕ, ◌+◌, ◌<◌, ◌≤◌, List, [], ◌∷◌, ◌++◌, length, get_or, take, drop, max, Bool, true, false, Option, Some, None, refl, sym, ap, ◌∙◌, subst, arith}
+use Rattle.std.specs.Prelude.{◌||◌}
 use Rattle.std.specs.Str.{bytes_eq}
-use Rattle.std.proofs.lemmas.List.{drop_more, get_or-map, length-map, take_all, take_more}
+use Rattle.std.proofs.lemmas.List.{drop_more, get_or-map, length-map, take_more}
 use Rattle.std.proofs.lemmas.Slice.Eq.{bytes_eq-Decides}
-use Rattle.isle_meta.specs.TableNames.{is_among, repeats, repeats_after}
-use Rattle.isle_outside.specs.Directory.{Contents, Holds, KeepsEntries, KeepsOthers, bytes_of, entries_of}
+use Rattle.isle_meta.specs.TableNames.{is_among, repeats_after}
+use Rattle.isle_outside.specs.Directory.{Contents, Holds, KeepsEntries, KeepsOthers, entries_of}
 use Rattle.isle_prelude_files.specs.Outputs.{AddsNoSeconds, AreLeft, AreLeftUpTo, File, HoldAll, KeepsAllBut, file_of, files_of, names_of}
 use Rattle.isle_prelude_files.specs.declared.writing.Output.{Output}
 
@@ -42,9 +41,9 @@ still_holds (Some a) (Some b) name f k ne h = k f.0 ne ∙ h
 
 all_still_hold : (now new : Option Contents) (name : List ℕ) (fs : List File) → KeepsOthers now new name → is_among name (names_of fs) ≡ false
     → HoldAll now fs → HoldAll new fs
-all_still_hold now new name [] k no h = tt
-all_still_hold now new name (f ∷ fs) k no h =
-    let parts = either (bytes_eq name f.0) (is_among name (names_of fs)) no in
+all_still_hold now new name [] k none h = tt
+all_still_hold now new name (f ∷ fs) k none h =
+    let parts = either (bytes_eq name f.0) (is_among name (names_of fs)) none in
     (still_holds now new name f k (λ e. differs name f.0 parts.0 (sym e)) h.0, all_still_hold now new name fs k parts.1 h.1)
 
 -- and each holds its text, with one more that does
@@ -58,8 +57,8 @@ keeps_more : (old now new : Option Contents) (names : List (List ℕ)) (name : L
 keeps_more None now new names name h k = subst (λ (o : Option Contents). KeepsOthers o new name) h k
 keeps_more (Some a) None new names name h k = absurd h
 keeps_more (Some a) (Some b) None names name h k = absurd k
-keeps_more (Some a) (Some b) (Some c) names name h k = λ other no.
-    let parts = not_among name other names no in
+keeps_more (Some a) (Some b) (Some c) names name h k = λ other none.
+    let parts = not_among name other names none in
     k other (differs other name parts.1) ∙ h other parts.0
 
 -- ---- the loop
@@ -68,13 +67,6 @@ keeps_more (Some a) (Some b) (Some c) names name h k = λ other no.
 pub record WrittenTo (files : List File) (i : ℕ) (old now : Option Contents) : Type 0 where
   pub left : AreLeft (take i files) old now
   pub apart : repeats_after (names_of (take i files)) (names_of (drop i files)) ≡ false
-
-pub none_but : (old : Option Contents) → KeepsAllBut [] old old
-none_but None = refl
-none_but (Some a) = λ other no. refl
-
-pub written_none : (files : List File) (old : Option Contents) → repeats (names_of files) ≡ false → WrittenTo files 0 old old
-written_none files old h = record { left = record { hold = tt; others = none_but old }; apart = h }
 
 -- where the next file's name stands
 next_apart : (files : List File) (i : ℕ) (file : File) → i < length files → file ≡ get_or files i file
@@ -93,7 +85,7 @@ names_more : (files : List File) (i : ℕ) (file : File) → i < length files �
 names_more files i file lt is = ap names_of (front_more files i file lt is) ∙ names_joined (take i files) (file ∷ [])
 
 -- the next file may hold anything
-pub written_up_to : (files : List File) (i : ℕ) (file : File) (old now new : Option Contents) → i < length files → file ≡ get_or files i file
+written_up_to : (files : List File) (i : ℕ) (file : File) (old now new : Option Contents) → i < length files → file ≡ get_or files i file
     → WrittenTo files i old now → KeepsOthers now new file.0 → AreLeftUpTo files i old new
 written_up_to files i file old now new lt is w k =
     record {
@@ -103,7 +95,7 @@ written_up_to files i file old now new lt is w k =
     }
 
 -- it is written
-pub written_more : (files : List File) (i : ℕ) (file : File) (old now new : Option Contents) → i < length files → file ≡ get_or files i file
+written_more : (files : List File) (i : ℕ) (file : File) (old now new : Option Contents) → i < length files → file ≡ get_or files i file
     → WrittenTo files i old now → KeepsOthers now new file.0 → Holds new file.0 file.1
     → WrittenTo files (i + 1) old new
 written_more files i file old now new lt is w k h =
@@ -117,23 +109,31 @@ written_more files i file old now new lt is w k h =
       apart = subst (λ ns. repeats_after ns (names_of (drop (i + 1) files)) ≡ false) (sym (names_more files i file lt is)) apart.1;
     }
 
--- all are
-pub written_all : (files : List File) (i : ℕ) (old now : Option Contents) → length files ≤ i → WrittenTo files i old now → AreLeft files old now
-written_all files i old now le w = subst (λ fs. AreLeft fs old now) (take_all i files le) w.left
-
 -- ---- the outputs' files
 
-pub count_is : (outputs : List Output) → length (files_of outputs) ≡ length outputs
+count_is : (outputs : List Output) → length (files_of outputs) ≡ length outputs
 count_is outputs = length-map outputs file_of
 
-pub file_is : (outputs : List Output) (i : ℕ) (o : Output) → i < length outputs → o ≡ get_or outputs i o → file_of o ≡ get_or (files_of outputs) i (file_of o)
-file_is outputs i o lt is = ap file_of is ∙ sym (get_or-map file_of outputs i o (file_of o) lt)
+file_is : (outputs : List Output) (i : ℕ) (d : Output) → i < length outputs → file_of (get_or outputs i d) ≡ get_or (files_of outputs) i (file_of (get_or outputs i d))
+file_is outputs i d lt = sym (get_or-map file_of outputs i d (file_of (get_or outputs i d)) lt)
+
+within_files : (outputs : List Output) (i : ℕ) → i < length outputs → i < length (files_of outputs)
+within_files outputs i lt = subst (λ n. i < n) (sym (count_is outputs)) lt
+
+-- the next output's file may hold anything
+pub output_fails : (outputs : List Output) (i n : ℕ) (d : Output) (old now new : Option Contents) → i < length outputs → n ≡ i → WrittenTo (files_of outputs) i old now
+    → KeepsOthers now new (file_of (get_or outputs i d)).0 → AreLeftUpTo (files_of outputs) n old new
+output_fails outputs i n d old now new lt e w k =
+    subst (λ m. AreLeftUpTo (files_of outputs) m old new) (sym e)
+    (written_up_to (files_of outputs) i (file_of (get_or outputs i d)) old now new (within_files outputs i lt) (file_is outputs i d lt) w k)
+
+-- it holds its text
+pub output_written : (outputs : List Output) (i : ℕ) (d : Output) (old now new : Option Contents) → i < length outputs → WrittenTo (files_of outputs) i old now
+    → KeepsOthers now new (file_of (get_or outputs i d)).0 → Holds new (file_of (get_or outputs i d)).0 (file_of (get_or outputs i d)).1 → WrittenTo (files_of outputs) (i + 1) old new
+output_written outputs i d old now new lt w k h =
+    written_more (files_of outputs) i (file_of (get_or outputs i d)) old now new (within_files outputs i lt) (file_is outputs i d lt) w k h
 
 -- ---- entries
-
-pub no_seconds : (old : Option Contents) → AddsNoSeconds old old
-no_seconds None = refl
-no_seconds (Some a) = λ name. omega arith
 
 at_most : (m n k : ℕ) → m ≤ max 1 n → n ≤ max 1 k → m ≤ max 1 k
 at_most m n k h l = omega arith

@@ -1,10 +1,12 @@
 //! The files of preludes that are generated from tables of instructions.
 #![tactic(auto)]
 
-mod generate;
 mod names;
+mod numerics;
+mod preludes;
 mod texts;
 mod writing;
 
-pub use generate::generate;
+pub use numerics::gen_numerics;
+pub use preludes::generate;
 pub use writing::{Output, write_files};

@@ -7,14 +7,14 @@ ghost use Rattle.isle_prelude_files.specs.Made.{files_with, given_names};
 ghost use Rattle.isle_prelude_files.specs.Outputs.{AddsNoSeconds, CountsFault, Writes, file_of};
 ghost use Rattle.isle_prelude_files.specs.PreludeFiles.{WritesPreludes, prelude_files};
 
-use crate::texts::{Texts, texts};
+use crate::texts::{Texts, made_texts};
 use crate::writing::{Output, write_files};
 use isle_core::Dir;
 use isle_meta::{GenError, Tables};
 use std::alloc::Global;
 
 /// The names of the four files, and the folder that they lie in.
-#[derive(Clone, Copy, Debug)]
+#[derive(Drop)]
 pub struct Names<'n> {
     pub numerics: &'n str,
     pub methods: &'n str,
@@ -75,7 +75,7 @@ impl Names<'_> {
         ensures finds { (D.counts dir.new).finds ≡ (D.counts dir.old).finds }
         ensures given { (D.counts dir.new).given ≡ (D.counts dir.old).given }
     {
-        match texts(alloc, tables) {
+        match made_texts(alloc, tables) {
             Ok(texts) => self.write(alloc, &texts, dir),
             Err(fail) => Err(fail),
         }

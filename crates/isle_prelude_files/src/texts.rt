@@ -20,7 +20,7 @@ pub struct Texts {
 
 // The refusal of tables, where no file was written.
 fn of_table(fail: TableFail) -> GenError
-    ensures { result ≡ of_table fail.entry }
+    ensures { result ≡ of_table fail }
 {
     match fail {
         TableFail::Unsupported(found) => GenError::Unsupported(found),
@@ -30,7 +30,7 @@ fn of_table(fail: TableFail) -> GenError
 
 /// Makes the texts. `Unsupported` has the first row of the tables that isn't supported, and the first shape that it
 /// breaks; `Memory` says that memory ran out.
-pub fn texts(alloc: Global, tables: &Tables) -> Result<Texts, GenError>
+pub fn made_texts(alloc: Global, tables: &Tables) -> Result<Texts, GenError>
     ensures { MakesTexts tables.now result }
 {
     let opt = match gen_opt(alloc, tables) {

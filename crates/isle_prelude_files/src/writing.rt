@@ -12,7 +12,7 @@ use isle_meta::GenError;
 use std::alloc::{AllocError, Global};
 
 /// A text that is to be written to the file of a name in a folder; an empty folder leaves the name as it is.
-#[derive(Clone, Copy, Debug)]
+#[derive(Clone, Copy)]
 pub struct Output<'t> {
     pub folder: &'t str,
     pub name: &'t str,
