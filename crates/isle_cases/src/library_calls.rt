@@ -1,5 +1,6 @@
 //! Calls of the library that no line of words makes, with what they answer.
 
+use crate::generated::push_generators;
 use crate::items::push_iterators;
 use crate::judged::push_judged;
 use crate::literals::push_literals;
@@ -27,6 +28,7 @@ fn push_calls(alloc: Global, lines: &mut String) -> Result<(), AllocError> {
 pub fn hold_calls(alloc: Global, wanted: &str, told: &mut String) -> Result<(), Slip> {
     let mut lines = String::new(alloc);
     push_calls(alloc, &mut lines)?;
+    push_generators(alloc, &mut lines)?;
     if lines.as_str() == wanted {
         return Ok(());
     }

@@ -3,6 +3,7 @@
 #![tactic(auto)]
 
 mod case;
+mod generated;
 mod held;
 mod items;
 mod judged;

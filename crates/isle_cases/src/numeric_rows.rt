@@ -78,7 +78,7 @@ fn holds(alloc: Global, words: &[&str]) -> Result<bool, Slip> {
 
 /// Holds each row of a text, and tells those that don't hold.
 pub fn hold_rows(alloc: Global, rows: &str, told: &mut String) -> Result<(), Slip> {
-    let mut slips = 0;
+    let mut slips = 0usize;
     for row in rows.lines() {
         if row.starts_with('#') {
             continue;
@@ -90,7 +90,7 @@ pub fn hold_rows(alloc: Global, rows: &str, told: &mut String) -> Result<(), Sli
         if !holds(alloc, words.as_slice())? {
             told.push_str("\n")?;
             told.push_str(row)?;
-            slips += 1;
+            slips = slips.saturating_add(1);
         }
     }
     if slips == 0 { Ok(()) } else { Err(Slip::Lines) }
