@@ -1,0 +1,15 @@
+pub mod Has
+pub mod AtPlaces
+pub mod Simple
+pub mod Terms
+pub mod Callees
+pub mod Splits
+pub mod TypeFaults
+pub mod TermFaults
+pub mod TypedPatterns
+pub mod Parameters
+pub mod TemplateFaults
+pub mod TypedExprs
+pub mod RuleParts
+pub mod RuleFaults
+pub mod TypedEnvironment
