@@ -13,3 +13,8 @@ pub mod TypedExprs
 pub mod RuleParts
 pub mod RuleFaults
 pub mod TypedEnvironment
+pub mod CleanRules
+pub mod Symbols
+pub mod NamedTypes
+pub mod NamedFunctions
+pub mod SimpleLawful
