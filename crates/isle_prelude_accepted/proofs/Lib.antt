@@ -18,3 +18,9 @@ pub mod Symbols
 pub mod NamedTypes
 pub mod NamedFunctions
 pub mod SimpleLawful
+pub mod AscendingLists
+pub mod ArrayNames
+pub mod Supported
+pub mod Families
+pub mod PreludeParts
+pub mod TableFacts

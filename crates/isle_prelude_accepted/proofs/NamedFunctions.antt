@@ -35,12 +35,12 @@ use Rattle.isle_prelude_accepted.proofs.TypedEnvironment.{IsTermOf, AreTermsOf, 
 
 -- ---- nothing twice
 
-apart_unmap : {A B : Type 0} (f : A → B) (xs : List A) → AreApart (map f xs) → AreApart xs
+pub apart_unmap : {A B : Type 0} (f : A → B) (xs : List A) → AreApart (map f xs) → AreApart xs
 apart_unmap f [] h = tt
 apart_unmap f (x ∷ xs) h = ((λ i. h.0 (has_map f xs x i)), apart_unmap f xs h.1)
 
 -- of things that are apart by this, two of one kind are one
-apart_same : {A B : Type 0} (f : A → B) (xs : List A) (x y : A) → AreApart (map f xs) → Has xs x → Has xs y → f x ≡ f y → x ≡ y
+pub apart_same : {A B : Type 0} (f : A → B) (xs : List A) (x y : A) → AreApart (map f xs) → Has xs x → Has xs y → f x ≡ f y → x ≡ y
 apart_same f [] x y h i j e = absurd i
 apart_same {A} {B} f (z ∷ zs) x y h i j e = by (λ k l. apart_same f zs x y h.1 k l e) i j
   where
