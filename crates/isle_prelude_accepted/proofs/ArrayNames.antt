@@ -208,3 +208,35 @@ pack_block_name n = record { begins = refl; word = word_numeral n; unused = refl
 pub unpack_block_name : (n : ℕ) → IsIdentifier (unpack (block_array n))
 unfolding block_array
 unpack_block_name n = record { begins = refl; word = word_numeral n; unused = refl; free = refl }
+
+-- ---- kinds of functions
+
+-- whether a written function has the name
+abbrev pub is_written : List ℕ → Bool
+is_written name = is_among name (codes "make_inst" ∷ codes "make_skeleton_inst" ∷ codes "inst_data_value" ∷ codes "inst_data" ∷ [])
+
+-- the kinds of functions: written ones, those that pack and take out, and others
+abbrev pub func_class : List ℕ → ℕ
+func_class x =
+    cond (is_written x) 0 (cond (is_numbered (codes "pack_value_array_") x) 1 (cond (is_numbered (codes "pack_block_array_") x) 2
+    (cond (is_numbered (codes "unpack_value_array_") x) 3 (cond (is_numbered (codes "unpack_block_array_") x) 4 5))))
+
+pub pack_value_kind : (n : ℕ) → func_class (pack (value_array n)) ≡ 1
+unfolding value_array
+pack_value_kind n = ap (λ b. cond b 1 (cond false 2 (cond false 3 (cond false 4 5)))) (digits_numeral n)
+
+pub pack_block_kind : (n : ℕ) → func_class (pack (block_array n)) ≡ 2
+unfolding block_array
+pack_block_kind n = ap (λ b. cond b 2 (cond false 3 (cond false 4 5))) (digits_numeral n)
+
+pub unpack_value_kind : (n : ℕ) → func_class (unpack (value_array n)) ≡ 3
+unfolding value_array
+unpack_value_kind n = ap (λ b. cond b 3 (cond false 4 5)) (digits_numeral n)
+
+pub unpack_block_kind : (n : ℕ) → func_class (unpack (block_array n)) ≡ 4
+unfolding block_array
+unpack_block_kind n = ap (λ b. cond b 4 5) (digits_numeral n)
+
+pub ctor_func_kind : (n : ℕ) → func_class (value_array_ctor n) ≡ 5
+unfolding value_array value_array_ctor
+ctor_func_kind n = refl

@@ -24,3 +24,6 @@ pub mod Supported
 pub mod Families
 pub mod PreludeParts
 pub mod TableFacts
+pub mod PreludeNames
+pub mod PreludeTerms
+pub mod MadeNames

@@ -134,8 +134,9 @@ IsSoundBody E name (Primitive rust) = rust ≡ name
 IsSoundBody E name (Enum variants) = AllByRecursion (IsSoundVariant E) variants × AreApart (variant_names variants)
 IsSoundBody E name (Struct fields) = ⊥
 
--- the types of a declared term are known, and it has few arguments
-pub record IsSoundDecl (E : List Def) (args : List (List ℕ)) (ret : List ℕ) : Type 0 where
+-- a declared term is named by letters, digits and `_`, its types are known, and it has few arguments
+pub record IsSoundDecl (E : List Def) (term : List ℕ) (args : List (List ℕ)) (ret : List ℕ) : Type 0 where
+  pub named : IsTrue (is_term_name term)
   pub known : AllByRecursion (Has (type_names E)) args
   pub gives : Has (type_names E) ret
   pub few : length args ≤ 256
@@ -183,7 +184,7 @@ pub record IsSoundRule (E : List Def) (term : List ℕ) (patterns : List Pattern
 -- a definition among others
 abbrev pub IsSound : List Def → Def → Type 0
 IsSound E (TypeDecl name is_extern is_nodebug body at) = IsTypeName true name × IsSoundBody E name body
-IsSound E (Decl term pure multi partial recursive args ret at) = (partial ≡ false) × IsSoundDecl E args ret
+IsSound E (Decl term pure multi partial recursive args ret at) = (partial ≡ false) × IsSoundDecl E term args ret
 IsSound E (ExternConstructor term func at) = IsSoundMaker E term func
 IsSound E (ExternExtractor term func infallible at) = IsSoundTaker E term func infallible
 IsSound E (ExternConst name ty at) = ⊥
