@@ -27,3 +27,10 @@ pub mod TableFacts
 pub mod PreludeNames
 pub mod PreludeTerms
 pub mod MadeNames
+pub mod PreludeMembers
+pub mod OperandLists
+pub mod RowSound
+pub mod InstructionSound
+pub mod CommonSound
+pub mod DataSound
+pub mod PreludeAccepted

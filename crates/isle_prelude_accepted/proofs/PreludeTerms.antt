@@ -1,8 +1,9 @@
 -- The terms, functions and heads in a prelude: none is there twice.
-use Rattle.std.proofs.Common.{◌≡◌, ◌⊎◌, inl, inr, ℕ, List, [], ◌∷◌, ◌++◌, map, Bool, true, false, cond, Option, Some, None, refl, sym, ap, ap₂, ◌∙◌, subst}
+use Rattle.std.proofs.Common.{◌≡◌, ◌⊎◌, inl, inr, ℕ, List, [], ◌∷◌, ◌++◌, map, Bool, true, false, cond, Option, Some, None, refl, sym, ap, ap₂, ◌∙◌, subst, arith}
 use Rattle.std.specs.Prelude.{flat_map, filter_map, slice_get, codes, ◌||◌, ◌==◌}
 use Rattle.std.proofs.lemmas.Option.{same_Some}
 use Rattle.std.specs.List.{AllByRecursion, cons_option}
+use Rattle.isle_core.proofs.AllLaws.{all_append}
 use Rattle.std.proofs.lemmas.List.{append-nil}
 use Rattle.isle_ast.specs.Tree.{Def}
 use Rattle.isle_declarations.specs.Heads.{terms_of, extern_terms, extractor_terms, heads_of}
@@ -78,7 +79,7 @@ free_class name e =
 
 -- ---- sizes
 
-above_from : (n m : ℕ) → above_one n ≡ Some m → n ≡ m
+pub above_from : (n m : ℕ) → above_one n ≡ Some m → n ≡ m
 above_from n m e = by (n == 0) (n == 1) e
   where
     by : (a b : Bool) → cond a None (cond b None (Some n)) ≡ Some m → n ≡ m
@@ -220,6 +221,34 @@ none_family : (class : List ℕ → ℕ) (k : ℕ) → IsFamily class (k, [])
 none_family class k = (tt, tt)
 
 module _ (t : Tables) (s : AreSupported t) where
+  makers_are : extern_terms (externs (prelude_defs t)) ≡ (makers ++ map value_array_ctor (ctor_sizes t)) ++ ((map value_array (value_array_sizes t.formats) ++ map block_array (block_array_sizes t.formats)) ++ [])
+  makers_are =
+      found_flat extern_of (λ (x : Extern). x.term) (prelude_defs t)
+      ∙ terms_put t made_in makers (map value_array_ctor (ctor_sizes t)) (map value_array (value_array_sizes t.formats)) (map block_array (block_array_sizes t.formats)) []
+      refl refl (flat_single value_array_ctor (ctor_sizes t)) (λ x. refl) (λ x. refl) (flat_single value_array (value_array_sizes t.formats)) (flat_single block_array (block_array_sizes t.formats)) refl
+      (none_of_rows made_in t none_made)
+
+  -- none that a function makes is free for others
+  pub makers_reserved : (x : List ℕ) → Has (extern_terms (externs (prelude_defs t))) x → is_reserved_term x ≡ false → ⊥
+  makers_reserved x i free =
+      let written : AllByRecursion IsKept makers = (written_kept (codes "make_inst") refl, (written_kept (codes "make_skeleton_inst") refl, tt)) in
+      let all : AllByRecursion IsKept ((makers ++ map value_array_ctor (ctor_sizes t)) ++ ((map value_array (value_array_sizes t.formats) ++ map block_array (block_array_sizes t.formats)) ++ [])) =
+      all_append IsKept (makers ++ map value_array_ctor (ctor_sizes t)) _ (all_append IsKept makers (map value_array_ctor (ctor_sizes t)) written (kept_family 3 (map value_array_ctor (ctor_sizes t)) (λ e. omega (arith, e)) (ctor_family t s).1))
+      (all_append IsKept (map value_array (value_array_sizes t.formats) ++ map block_array (block_array_sizes t.formats)) []
+      (all_append IsKept (map value_array (value_array_sizes t.formats)) (map block_array (block_array_sizes t.formats)) (kept_family 1 _ (λ e. omega (arith, e)) (value_family t s).1)
+      (kept_family 2 _ (λ e. omega (arith, e)) (block_family t s).1)) tt) in
+      all_has IsKept (extern_terms (externs (prelude_defs t))) x (subst (AllByRecursion IsKept) (sym makers_are) all) i (free_class x free)
+    where
+      IsKept : List ℕ → Type 0
+      IsKept y = term_class y ≡ 4 → ⊥
+
+      written_kept : (y : List ℕ) → term_class y ≡ 0 → IsKept y
+      written_kept y e f = absurd (let k : ◌≡◌ {A = ℕ} 0 4 = sym e ∙ f in omega arith)
+
+      kept_family : (k : ℕ) (ys : List (List ℕ)) → (k ≡ 4 → ⊥) → AllByRecursion (λ y. term_class y ≡ k) ys → AllByRecursion IsKept ys
+      kept_family k [] never h = tt
+      kept_family k (y ∷ ys) never h = ((λ f. never (sym h.0 ∙ f)), kept_family k ys never h.1)
+
   -- no term has two
   pub makers_apart : AreApart (extern_terms (externs (prelude_defs t)))
   makers_apart =

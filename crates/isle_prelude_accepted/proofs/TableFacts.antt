@@ -164,7 +164,7 @@ fields_alike fs h i j k l same = within [] (all_fields fs) (shaped_all [] fs h) 
 
 -- ---- what passes a test
 
-filter_from : {A : Type 0} (test : A → Bool) (xs : List A) (x : A) → Has (filter test xs) x → Has xs x × (test x ≡ true)
+pub filter_from : {A : Type 0} (test : A → Bool) (xs : List A) (x : A) → Has (filter test xs) x → Has xs x × (test x ≡ true)
 filter_from test [] x h = absurd h
 filter_from {A} test (y ∷ ys) x h = by (test y) refl (filter_from test ys x) h
   where
@@ -173,7 +173,7 @@ filter_from {A} test (y ∷ ys) x h = by (test y) refl (filter_from test ys x) h
     by true e rest (inr k) = let r = rest k in (inr r.0, r.1)
     by false e rest k = let r = rest k in (inr r.0, r.1)
 
-filter_has : {A : Type 0} (test : A → Bool) (xs : List A) (x : A) → Has xs x → test x ≡ true → Has (filter test xs) x
+pub filter_has : {A : Type 0} (test : A → Bool) (xs : List A) (x : A) → Has xs x → test x ≡ true → Has (filter test xs) x
 filter_has test [] x h e = absurd h
 filter_has {A} test (y ∷ ys) x h e = by (test y) refl (λ k. filter_has test ys x k e) h
   where
