@@ -144,8 +144,11 @@ module _ (defs : List Def) (h : AreSimple (all_erased defs)) where
   -- ---- terms
 
   pub terms_once : AreApart (terms_of (terms defs))
-  terms_once = terms_apart defs (subst AreApart (made_same defs) h.made, subst AreApart (declared_same defs) h.declared,
-      λ name i j. h.unmade name (subst (λ names. Has names name) (sym (made_same defs)) i) (subst (λ names. Has names name) (sym (declared_same defs)) j))
+  terms_once = terms_apart defs (
+    subst AreApart (made_same defs) h.made,
+    subst AreApart (declared_same defs) h.declared,
+    λ name i j. h.unmade name (subst (λ names. Has names name) (sym (made_same defs)) i) (subst (λ names. Has names name) (sym (declared_same defs)) j),
+  )
 
   -- a term is found by its name
   pub term_found : (s : Signature) → Has (terms defs) s → termed (whole_of defs) s.term ≡ Some s
@@ -169,9 +172,11 @@ module _ (defs : List Def) (h : AreSimple (all_erased defs)) where
       → (at : Pos) × Has (signatures defs) (signature_at term pure multi partial recursive args ret at) × Has (terms defs) (signature_at term pure multi partial recursive args ret at)
   declaration_there term pure multi partial recursive args ret i =
       let d = at_some_place defs (Decl term pure multi partial recursive args ret no_place) i in
-      let s = signature_at term pure multi partial recursive args ret d.0 in
-      (d.0, has_found signature_of defs (Decl term pure multi partial recursive args ret d.0) s d.1 refl,
-      has_flat terms_by defs (Decl term pure multi partial recursive args ret d.0) s d.1 (inl refl))
+      let s = signature_at term pure multi partial recursive args ret d.0 in (
+        d.0,
+        has_found signature_of defs (Decl term pure multi partial recursive args ret d.0) s d.1 refl,
+        has_flat terms_by defs (Decl term pure multi partial recursive args ret d.0) s d.1 (inl refl),
+      )
 
   pub declared_found : (s : Signature) → Has (signatures defs) s → declared (whole_of defs) s.term ≡ Some s
   declared_found s i = found_by (λ (x : Signature). x.term) (signatures defs) s (subst AreApart (declared_same defs) h.declared) i
@@ -213,18 +218,22 @@ module _ (defs : List Def) (h : AreSimple (all_erased defs)) where
       let sound : IsSound E (TypeDecl ret v.is_extern v.is_nodebug (Enum v.variants) no_place) = all_has (IsSound E) E _ h.sound v.declared in
       let fields : IsSoundVariant E v.variant = all_has (IsSoundVariant E) v.variants v.variant sound.1.0 v.among in
       let t : DeclaredType = record { name = ret; body = Enum v.variants } in
-      let own : Has (type_names E) ret = has_back builtin_names (declared_names E) ret (has_map (λ (x : DeclaredType). x.name) (types E) t (has_found type_of E _ t v.declared refl)) in
-      (record {
-        signature = s;
-        there = ap (termed (whole_of defs)) (sym v.named) ∙ term_found s there;
-        named = v.named;
-        takes = v.fields;
-        gives = refl;
-        number = n.0;
-        numbered = ap (term_named (terms defs)) (sym v.named) ∙ n.1;
-        ret_known = known_type ret own;
-        args_known = subst (AllByRecursion (IsKnown defs)) v.fields (known_types (field_types v.variant.fields) fields.known);
-      }, refl, refl, refl)
+      let own : Has (type_names E) ret = has_back builtin_names (declared_names E) ret (has_map (λ (x : DeclaredType). x.name) (types E) t (has_found type_of E _ t v.declared refl)) in (
+        record {
+          signature = s;
+          there = ap (termed (whole_of defs)) (sym v.named) ∙ term_found s there;
+          named = v.named;
+          takes = v.fields;
+          gives = refl;
+          number = n.0;
+          numbered = ap (term_named (terms defs)) (sym v.named) ∙ n.1;
+          ret_known = known_type ret own;
+          args_known = subst (AllByRecursion (IsKnown defs)) v.fields (known_types (field_types v.variant.fields) fields.known);
+        },
+        refl,
+        refl,
+        refl,
+      )
 
   -- ---- both
 

@@ -42,13 +42,22 @@ use Rattle.isle_prelude_accepted.proofs.TableFacts.{IsSoundField, format_at, ins
 
 module _ (t : Tables) where
   pub shared_sound : AllByRecursion (IsSound (E t)) shared_types
-  shared_sound =
-      ((type_name (codes "Type") (record { begins = refl; word = refl; unused = refl; free = refl }) refl refl refl refl, refl),
-      ((type_name (codes "Value") (record { begins = refl; word = refl; unused = refl; free = refl }) refl refl refl refl, refl),
-      ((type_name (codes "Inst") (record { begins = refl; word = refl; unused = refl; free = refl }) refl refl refl refl, refl),
-      ((type_name (codes "ValueList") (record { begins = refl; word = refl; unused = refl; free = refl }) refl refl refl refl, refl),
-      ((type_name (codes "ValueSlice") (record { begins = refl; word = refl; unused = refl; free = refl }) refl refl refl refl, refl),
-      ((type_name (codes "BlockCall") (record { begins = refl; word = refl; unused = refl; free = refl }) refl refl refl refl, refl), tt))))))
+  shared_sound = (
+    (type_name (codes "Type") (record { begins = refl; word = refl; unused = refl; free = refl }) refl refl refl refl, refl),
+    (
+      (type_name (codes "Value") (record { begins = refl; word = refl; unused = refl; free = refl }) refl refl refl refl, refl),
+      (
+        (type_name (codes "Inst") (record { begins = refl; word = refl; unused = refl; free = refl }) refl refl refl refl, refl),
+        (
+          (type_name (codes "ValueList") (record { begins = refl; word = refl; unused = refl; free = refl }) refl refl refl refl, refl),
+          (
+            (type_name (codes "ValueSlice") (record { begins = refl; word = refl; unused = refl; free = refl }) refl refl refl refl, refl),
+            ((type_name (codes "BlockCall") (record { begins = refl; word = refl; unused = refl; free = refl }) refl refl refl refl, refl), tt),
+          ),
+        ),
+      ),
+    ),
+  )
 
   pub flags_sound : IsSound (E t) (primitive (codes "MemFlagsData"))
   flags_sound = (type_name (codes "MemFlagsData") (record { begins = refl; word = refl; unused = refl; free = refl }) refl refl refl refl, refl)
@@ -58,21 +67,47 @@ module _ (t : Tables) where
   typed_known = (type_type t, (data_type t, tt))
 
   pub terms_sound : AllByRecursion (IsSound (E t)) opt_terms
-  terms_sound =
-      ((refl, record { named = refl; known = typed_known; gives = value_type t; few = omega arith }),
-      (record { declared = term_there t (codes "make_inst") false false false false _ _ (in_terms t _ (inl refl)); named = record { begins = refl; word = refl; unused = refl; free = refl } },
-      ((refl, record { named = refl; known = (data_type t, tt); gives = inst_type t; few = omega arith }),
-      (record { declared = term_there t (codes "make_skeleton_inst") false false false false _ _ (in_terms t _ (inr (inr (inl refl)))); named = record { begins = refl; word = refl; unused = refl; free = refl } },
-      ((refl, record { named = refl; known = typed_known; gives = value_type t; few = omega arith }),
-      (record {
-        pure = true; multi = true; args = codes "Type" ∷ codes "InstructionData" ∷ []; ret = codes "Value";
-        declared = in_terms t _ (inr (inr (inr (inr (inl refl))))); once = refl; named = record { begins = refl; word = refl; unused = refl; free = refl };
-      },
-      ((refl, record { named = refl; known = (data_type t, tt); gives = inst_type t; few = omega arith }),
-      (record {
-        pure = true; multi = false; args = codes "InstructionData" ∷ []; ret = codes "Inst";
-        declared = in_terms t _ (inr (inr (inr (inr (inr (inr (inl refl))))))); once = refl; named = record { begins = refl; word = refl; unused = refl; free = refl };
-      }, tt))))))))
+  terms_sound = (
+    (refl, record { named = refl; known = typed_known; gives = value_type t; few = omega arith }),
+    (
+      record { declared = term_there t (codes "make_inst") false false false false _ _ (in_terms t _ (inl refl)); named = record { begins = refl; word = refl; unused = refl; free = refl } },
+      (
+        (refl, record { named = refl; known = (data_type t, tt); gives = inst_type t; few = omega arith }),
+        (
+          record { declared = term_there t (codes "make_skeleton_inst") false false false false _ _ (in_terms t _ (inr (inr (inl refl)))); named = record { begins = refl; word = refl; unused = refl; free = refl } },
+          (
+            (refl, record { named = refl; known = typed_known; gives = value_type t; few = omega arith }),
+            (
+              record {
+                pure = true;
+                multi = true;
+                args = codes "Type" ∷ codes "InstructionData" ∷ [];
+                ret = codes "Value";
+                declared = in_terms t _ (inr (inr (inr (inr (inl refl)))));
+                once = refl;
+                named = record { begins = refl; word = refl; unused = refl; free = refl };
+              },
+              (
+                (refl, record { named = refl; known = (data_type t, tt); gives = inst_type t; few = omega arith }),
+                (
+                  record {
+                    pure = true;
+                    multi = false;
+                    args = codes "InstructionData" ∷ [];
+                    ret = codes "Inst";
+                    declared = in_terms t _ (inr (inr (inr (inr (inr (inr (inl refl)))))));
+                    once = refl;
+                    named = record { begins = refl; word = refl; unused = refl; free = refl };
+                  },
+                  tt,
+                ),
+              ),
+            ),
+          ),
+        ),
+      ),
+    ),
+  )
 
 -- ---- arrays
 
@@ -100,27 +135,56 @@ module _ (t : Tables) (s : AreSupported t) (plain : ArePlain t) where
 
   pub ctors_sound : (n : ℕ) → Has (ctor_sizes t) n → AllByRecursion (IsSound (E t)) (ctor_defs n)
   ctors_sound n k =
-      let size = ctor_size_from t n k in
-      ((refl, record { named = ctor_word n; known = all_same (IsType t) n (codes "Value") (value_type t); gives = values_type t n size; few = few_repeated n 200 (codes "Value") (few_values n size) (omega arith) }),
-      (record { declared = term_there t (value_array_ctor n) true false false false _ _ (in_ctors t n _ k (inl refl)); named = ctor_name n }, tt))
+      let size = ctor_size_from t n k in (
+        (refl, record { named = ctor_word n; known = all_same (IsType t) n (codes "Value") (value_type t); gives = values_type t n size; few = few_repeated n 200 (codes "Value") (few_values n size) (omega arith) }),
+        (record { declared = term_there t (value_array_ctor n) true false false false _ _ (in_ctors t n _ k (inl refl)); named = ctor_name n }, tt),
+      )
 
   pub values_sound : (n : ℕ) → Has (value_array_sizes t.formats) n → AllByRecursion (IsSound (E t)) (value_array_defs n)
-  values_sound n k =
-      ((value_type_name n, (tt, tt)),
-      ((refl, record { named = value_array_word n; known = all_same (IsType t) n (codes "Value") (value_type t); gives = values_type t n k; few = few_repeated n 200 (codes "Value") (few_values n k) (omega arith) }),
-      (record { declared = term_there t (value_array n) false false false false _ _ (in_values t n _ k (inr (inl refl))); named = pack_value_name n },
-      (record {
-        pure = false; multi = false; args = replicate n (codes "Value"); ret = value_array_type n; declared = in_values t n _ k (inr (inl refl)); once = refl; named = unpack_value_name n;
-      }, tt))))
+  values_sound n k = (
+    (value_type_name n, (tt, tt)),
+    (
+      (refl, record { named = value_array_word n; known = all_same (IsType t) n (codes "Value") (value_type t); gives = values_type t n k; few = few_repeated n 200 (codes "Value") (few_values n k) (omega arith) }),
+      (
+        record { declared = term_there t (value_array n) false false false false _ _ (in_values t n _ k (inr (inl refl))); named = pack_value_name n },
+        (
+          record {
+            pure = false;
+            multi = false;
+            args = replicate n (codes "Value");
+            ret = value_array_type n;
+            declared = in_values t n _ k (inr (inl refl));
+            once = refl;
+            named = unpack_value_name n;
+          },
+          tt,
+        ),
+      ),
+    ),
+  )
 
   pub blocks_sound : (n : ℕ) → Has (block_array_sizes t.formats) n → AllByRecursion (IsSound (E t)) (block_array_defs n)
-  blocks_sound n k =
-      ((block_type_name n, (tt, tt)),
-      ((refl, record { named = block_array_word n; known = all_same (IsType t) n (codes "BlockCall") (call_type t); gives = blocks_type t n k; few = few_repeated n 2 (codes "BlockCall") (few_blocks n k) (omega arith) }),
-      (record { declared = term_there t (block_array n) false false false false _ _ (in_blocks t n _ k (inr (inl refl))); named = pack_block_name n },
-      (record {
-        pure = false; multi = false; args = replicate n (codes "BlockCall"); ret = block_array_type n; declared = in_blocks t n _ k (inr (inl refl)); once = refl; named = unpack_block_name n;
-      }, tt))))
+  blocks_sound n k = (
+    (block_type_name n, (tt, tt)),
+    (
+      (refl, record { named = block_array_word n; known = all_same (IsType t) n (codes "BlockCall") (call_type t); gives = blocks_type t n k; few = few_repeated n 2 (codes "BlockCall") (few_blocks n k) (omega arith) }),
+      (
+        record { declared = term_there t (block_array n) false false false false _ _ (in_blocks t n _ k (inr (inl refl))); named = pack_block_name n },
+        (
+          record {
+            pure = false;
+            multi = false;
+            args = replicate n (codes "BlockCall");
+            ret = block_array_type n;
+            declared = in_blocks t n _ k (inr (inl refl));
+            once = refl;
+            named = unpack_block_name n;
+          },
+          tt,
+        ),
+      ),
+    ),
+  )
 
   -- ---- immediates
 

@@ -100,10 +100,11 @@ members_named (i ∷ is) h = (h.0, members_named is (all_back IsIdentifier (imm_
 
 fields_named : (f : InstructionFormat) → AllByRecursion IsIdentifier (flat_map imm_names f.imm_fields) → AllByRecursion IsIdentifier (names_in (format_fields f))
 fields_named f h =
-    subst (AllByRecursion IsIdentifier) (sym (names_are f))
-    (record { begins = refl; word = refl; unused = refl; free = refl },
-    all_append IsIdentifier _ _ (values_named f.has_value_list f.num_value_operands)
-    (all_append IsIdentifier _ _ (blocks_named f.num_block_operands) (all_append IsIdentifier _ _ (raw_named f.num_raw_block_operands) (members_named f.imm_fields h))))
+    subst (AllByRecursion IsIdentifier) (sym (names_are f)) (
+      record { begins = refl; word = refl; unused = refl; free = refl },
+      all_append IsIdentifier _ _ (values_named f.has_value_list f.num_value_operands)
+          (all_append IsIdentifier _ _ (blocks_named f.num_block_operands) (all_append IsIdentifier _ _ (raw_named f.num_raw_block_operands) (members_named f.imm_fields h))),
+    )
 
 -- ---- each has a known type
 
@@ -131,10 +132,11 @@ module _ (t : Tables) (s : AreSupported t) (plain : ArePlain t) where
 
   fields_known : (f : InstructionFormat) → Has t.formats f → AllByRecursion (IsType t) (types_in (format_fields f))
   fields_known f k =
-      subst (AllByRecursion (IsType t)) (sym (field_types_are f))
-      (opcode_type t,
-      all_append (IsType t) _ _ (values_known f k f.num_value_operands refl f.has_value_list refl)
-      (all_append (IsType t) _ _ (blocks_known f k f.num_block_operands refl) (all_append (IsType t) _ _ (raws_known f.num_raw_block_operands) (imms_known f k f.imm_fields (λ i j. j)))))
+      subst (AllByRecursion (IsType t)) (sym (field_types_are f)) (
+        opcode_type t,
+        all_append (IsType t) _ _ (values_known f k f.num_value_operands refl f.has_value_list refl)
+            (all_append (IsType t) _ _ (blocks_known f k f.num_block_operands refl) (all_append (IsType t) _ _ (raws_known f.num_raw_block_operands) (imms_known f k f.imm_fields (λ i j. j)))),
+      )
 
   -- ---- formats as variants
 
@@ -163,9 +165,19 @@ module _ (t : Tables) (s : AreSupported t) (plain : ArePlain t) where
   format_variants (f ∷ fs) = ap (λ xs. f.name ∷ xs) (format_variants fs)
 
   pub data_sound : AllByRecursion (IsSound (E t)) (data_defs t.formats t.instructions)
-  data_sound =
-      ((type_name (codes "Block") (record { begins = refl; word = refl; unused = refl; free = refl }) refl refl refl refl, (tt, tt)),
-      ((type_name (codes "Opcode") (record { begins = refl; word = refl; unused = refl; free = refl }) refl refl refl refl,
-      (camels_sound t s plain t.instructions (λ i k. k), subst AreApart (sym (camel_variants t s plain t.instructions)) (camels_apart t.formats [] t.instructions s.instructions).0)),
-      ((type_name (codes "InstructionData") (record { begins = refl; word = refl; unused = refl; free = refl }) refl refl refl refl,
-      (formats_sound t.formats (λ f k. k), subst AreApart (sym (format_variants t.formats)) (formats_apart [] t.formats s.formats).0)), tt)))
+  data_sound = (
+    (type_name (codes "Block") (record { begins = refl; word = refl; unused = refl; free = refl }) refl refl refl refl, (tt, tt)),
+    (
+      (
+        type_name (codes "Opcode") (record { begins = refl; word = refl; unused = refl; free = refl }) refl refl refl refl,
+        (camels_sound t s plain t.instructions (λ i k. k), subst AreApart (sym (camel_variants t s plain t.instructions)) (camels_apart t.formats [] t.instructions s.instructions).0),
+      ),
+      (
+        (
+          type_name (codes "InstructionData") (record { begins = refl; word = refl; unused = refl; free = refl }) refl refl refl refl,
+          (formats_sound t.formats (λ f k. k), subst AreApart (sym (format_variants t.formats)) (formats_apart [] t.formats s.formats).0),
+        ),
+        tt,
+      ),
+    ),
+  )

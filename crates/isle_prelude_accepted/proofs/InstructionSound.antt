@@ -69,42 +69,60 @@ module _ (t : Tables) (s : AreSupported t) (plain : ArePlain t) (i : Instruction
         let there : Has (E t) (declaration skeleton i) = in_rows t i (declaration skeleton i) among (subst (λ ds. Has ds (declaration skeleton i)) (sym (rows_are skeleton is)) (inl refl)) in
         let size = data_size t s plain i among f at list in
         let few_names = few_operands in
-        let le = few_types in
-        ((refl, record { named = o.term.word; known = known; gives = inst_type t; few = omega (arith, le) }),
-        (record {
-          args = types;
-          ret = codes "Inst";
-          declared = there;
-          many = same_length;
-          apart = o.apart;
-          whole = (codes "InstructionData" ∷ [], inr (record {
-            pure = true;
-            multi = false;
-            func = codes "inst_data";
-            infallible = false;
-            declared = in_terms t _ (inr (inr (inr (inr (inr (inr (inl refl)))))));
-            taken = in_terms t _ (inr (inr (inr (inr (inr (inr (inr (inl refl))))))));
-          }), (data_fit t s plain i among f at list variables (typed []), tt));
-          used = has_all _ (operand_names i) (λ x k. has_front (variables_in (data_pattern f i)) [] x (all_has _ (operand_names i) x used k));
-        },
-        ((refl, refl, record {
-          args = types;
-          ret = codes "Inst";
-          params = operand_names i;
-          declared = there;
-          free = free;
-          are_variables = refl;
-          many = same_length;
-          apart = o.apart;
-          whole = (codes "InstructionData" ∷ [], inr (record {
-            pure = false;
-            func = codes "make_skeleton_inst";
-            declared = in_terms t _ (inr (inr (inl refl)));
-            made = in_terms t _ (inr (inr (inr (inl refl))));
-          }), (data_made t s plain i among f at list variables (typed []), tt));
-          few = omega (arith, size, few_names);
-          named = o.term.word;
-        }), tt)))
+        let le = few_types in (
+          (refl, record { named = o.term.word; known = known; gives = inst_type t; few = omega (arith, le) }),
+          (
+            record {
+              args = types;
+              ret = codes "Inst";
+              declared = there;
+              many = same_length;
+              apart = o.apart;
+              whole = (
+                codes "InstructionData" ∷ [],
+                inr (record {
+                  pure = true;
+                  multi = false;
+                  func = codes "inst_data";
+                  infallible = false;
+                  declared = in_terms t _ (inr (inr (inr (inr (inr (inr (inl refl)))))));
+                  taken = in_terms t _ (inr (inr (inr (inr (inr (inr (inr (inl refl))))))));
+                }),
+                (data_fit t s plain i among f at list variables (typed []), tt),
+              );
+              used = has_all _ (operand_names i) (λ x k. has_front (variables_in (data_pattern f i)) [] x (all_has _ (operand_names i) x used k));
+            },
+            (
+              (
+                refl,
+                refl,
+                record {
+                  args = types;
+                  ret = codes "Inst";
+                  params = operand_names i;
+                  declared = there;
+                  free = free;
+                  are_variables = refl;
+                  many = same_length;
+                  apart = o.apart;
+                  whole = (
+                    codes "InstructionData" ∷ [],
+                    inr (record {
+                      pure = false;
+                      func = codes "make_skeleton_inst";
+                      declared = in_terms t _ (inr (inr (inl refl)));
+                      made = in_terms t _ (inr (inr (inr (inl refl))));
+                    }),
+                    (data_made t s plain i among f at list variables (typed []), tt),
+                  );
+                  few = omega (arith, size, few_names);
+                  named = o.term.word;
+                },
+              ),
+              tt,
+            ),
+          ),
+        )
 
     -- with it
     valued_sound : optimized i.value_results (i.can_trap || i.other_side_effects) ≡ valued → (Has (operand_names i) type_variable → ⊥) → AllByRecursion (IsSound (E t)) (instruction_defs (Some valued) f i)
@@ -114,42 +132,60 @@ module _ (t : Tables) (s : AreSupported t) (plain : ArePlain t) (i : Instruction
         let size = data_size t s plain i among f at list in
         let few_names = few_operands in
         let le = few_types in
-        let first : Variables = (type_variable, codes "Type") ∷ [] in
-        ((refl, record { named = o.term.word; known = (type_type t, known); gives = value_type t; few = omega (arith, le) }),
-        (record {
-          args = codes "Type" ∷ types;
-          ret = codes "Value";
-          declared = there;
-          many = ap suc same_length;
-          apart = (no_ty, o.apart);
-          whole = (codes "Type" ∷ codes "InstructionData" ∷ [], inr (record {
-            pure = true;
-            multi = true;
-            func = codes "inst_data_value";
-            infallible = false;
-            declared = in_terms t _ (inr (inr (inr (inr (inl refl)))));
-            taken = in_terms t _ (inr (inr (inr (inr (inr (inl refl))))));
-          }), (inl refl, (data_fit t s plain i among f at list (first ++ variables) (typed first), tt)));
-          used = (inl refl, has_all _ (operand_names i) (λ x k. inr (has_front (variables_in (data_pattern f i)) [] x (all_has _ (operand_names i) x used k))));
-        },
-        ((refl, refl, record {
-          args = codes "Type" ∷ types;
-          ret = codes "Value";
-          params = type_variable ∷ operand_names i;
-          declared = there;
-          free = free;
-          are_variables = refl;
-          many = ap suc same_length;
-          apart = (no_ty, o.apart);
-          whole = (codes "Type" ∷ codes "InstructionData" ∷ [], inr (record {
-            pure = false;
-            func = codes "make_inst";
-            declared = in_terms t _ (inl refl);
-            made = in_terms t _ (inr (inl refl));
-          }), (inl refl, (data_made t s plain i among f at list (first ++ variables) (typed first), tt)));
-          few = omega (arith, size, few_names);
-          named = o.term.word;
-        }), tt)))
+        let first : Variables = (type_variable, codes "Type") ∷ [] in (
+          (refl, record { named = o.term.word; known = (type_type t, known); gives = value_type t; few = omega (arith, le) }),
+          (
+            record {
+              args = codes "Type" ∷ types;
+              ret = codes "Value";
+              declared = there;
+              many = ap suc same_length;
+              apart = (no_ty, o.apart);
+              whole = (
+                codes "Type" ∷ codes "InstructionData" ∷ [],
+                inr (record {
+                  pure = true;
+                  multi = true;
+                  func = codes "inst_data_value";
+                  infallible = false;
+                  declared = in_terms t _ (inr (inr (inr (inr (inl refl)))));
+                  taken = in_terms t _ (inr (inr (inr (inr (inr (inl refl))))));
+                }),
+                (inl refl, (data_fit t s plain i among f at list (first ++ variables) (typed first), tt)),
+              );
+              used = (inl refl, has_all _ (operand_names i) (λ x k. inr (has_front (variables_in (data_pattern f i)) [] x (all_has _ (operand_names i) x used k))));
+            },
+            (
+              (
+                refl,
+                refl,
+                record {
+                  args = codes "Type" ∷ types;
+                  ret = codes "Value";
+                  params = type_variable ∷ operand_names i;
+                  declared = there;
+                  free = free;
+                  are_variables = refl;
+                  many = ap suc same_length;
+                  apart = (no_ty, o.apart);
+                  whole = (
+                    codes "Type" ∷ codes "InstructionData" ∷ [],
+                    inr (record {
+                      pure = false;
+                      func = codes "make_inst";
+                      declared = in_terms t _ (inl refl);
+                      made = in_terms t _ (inr (inl refl));
+                    }),
+                    (inl refl, (data_made t s plain i among f at list (first ++ variables) (typed first), tt)),
+                  );
+                  few = omega (arith, size, few_names);
+                  named = o.term.word;
+                },
+              ),
+              tt,
+            ),
+          ),
+        )
 
     or_second : (a b : Bool) → b ≡ true → (a || b) ≡ true
     or_second true b e = refl

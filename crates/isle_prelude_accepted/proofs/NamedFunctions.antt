@@ -236,7 +236,7 @@ module _ (defs : List Def) (h : AreSimple (all_erased defs)) where
       where
         with_taker : (by : Extracting) (g : Option (List ℕ)) (r : Bool) → AreTexts (cons_option (function_of by) [] ++ made_by_name g)
             → fn_names (cons_option (option_map (extractor_fn env t) (extracted_by multi (extractor_from (symbols defs) (Some (record { term = x.term; by = by; pos = x.pos })))))
-                (cons_option (option_map (constructor_fn env t) (func_by (constructor_of (symbols defs) g r))) fns))
+            (cons_option (option_map (constructor_fn env t) (func_by (constructor_of (symbols defs) g r))) fns))
             ≡ (cons_option (function_of by) [] ++ made_by_name g) ++ fn_names fns
         with_taker (ByFunction func infallible) None true l = ap (λ n. n ∷ fn_names fns) (l func (inl refl))
         with_taker (ByFunction func infallible) None false l = ap (λ n. n ∷ fn_names fns) (l func (inl refl))

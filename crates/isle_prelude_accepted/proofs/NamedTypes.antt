@@ -86,10 +86,13 @@ module _ (defs : List Def) (h : AreSimple (all_erased defs)) where
   variants_named : (vs : List AstVariant) → AllByRecursion (IsSoundVariant (all_erased defs)) vs → AreSymbols (flat_map shaped_names vs) → AllByRecursion (IsVariantNamed env_types) (map (variant_in defs) vs)
   variants_named [] k syms = tt
   variants_named (v ∷ vs) k syms =
-      let rest = flat_map shaped_names vs in
-      ((subst IsIdentifier (sym (text_is defs v.name (syms v.name (inl refl)))) k.0.named,
-      fields_named v.fields k.0.fields (λ name i. syms name (has_front (shaped_names v) rest name (inr i)))),
-      variants_named vs k.1 (λ name i. syms name (has_back (shaped_names v) rest name i)))
+      let rest = flat_map shaped_names vs in (
+        (
+          subst IsIdentifier (sym (text_is defs v.name (syms v.name (inl refl)))) k.0.named,
+          fields_named v.fields k.0.fields (λ name i. syms name (has_front (shaped_names v) rest name (inr i))),
+        ),
+        variants_named vs k.1 (λ name i. syms name (has_back (shaped_names v) rest name i)),
+      )
 
   type_lawful : (b : Bool) (name : List ℕ) (x n : Bool) (body : AstBody) (at : Pos) → Has defs (TypeDecl name x n body at)
       → IsLawfulType b env_types (def_in defs name x n body at) × (emitted_name env_types (def_in defs name x n body at) ≡ name)
@@ -99,11 +102,13 @@ module _ (defs : List Def) (h : AreSimple (all_erased defs)) where
       (record { name = subst (IsTypeName b) (sym is) (any_name b name s.0); parts = tt }, is)
   type_lawful b name x n (Enum vs) at i =
       let s : IsSound (all_erased defs) (TypeDecl name x n (Enum vs) at) = sound_of (TypeDecl name x n (Enum vs) at) i in
-      let is : symbol_text env_types (sym_in defs name) ≡ name = text_is defs name (is_symbol defs (TypeDecl name x n (Enum vs) at) name i (inl refl)) in
-      (record {
-        name = subst (IsTypeName b) (sym is) (any_name b name s.0);
-        parts = variants_named vs s.1.0 (λ y j. is_symbol defs (TypeDecl name x n (Enum vs) at) y i (inr j));
-      }, is)
+      let is : symbol_text env_types (sym_in defs name) ≡ name = text_is defs name (is_symbol defs (TypeDecl name x n (Enum vs) at) name i (inl refl)) in (
+        record {
+          name = subst (IsTypeName b) (sym is) (any_name b name s.0);
+          parts = variants_named vs s.1.0 (λ y j. is_symbol defs (TypeDecl name x n (Enum vs) at) y i (inr j));
+        },
+        is,
+      )
   type_lawful b name x n (Struct fields) at i = absurd (let s : IsSound (all_erased defs) (TypeDecl name x n (Struct fields) at) = sound_of (TypeDecl name x n (Struct fields) at) i in s.1)
 
   types_lawful : (b : Bool) (ds : List Def) → ((d : Def) → Has ds d → Has defs d)

@@ -177,7 +177,7 @@ module _ (E : List Def) (vars : Variables) where
       by : (c : OperandClass) → Has vars (o.name, operand_type c)
           → ArePatternsOf E vars (map short_name (filter_map imm_type ops)) (patterns_of (variables (map (λ (x : ClifOperand). x.name) (filter (λ (x : ClifOperand). is_imm x.class) ops))))
           → ArePatternsOf E vars (map short_name (cons_option (type_in c) (filter_map imm_type ops)))
-              (patterns_of (variables (map (λ (x : ClifOperand). x.name) (cond (is_imm c) (o ∷ filter (λ (x : ClifOperand). is_imm x.class) ops) (filter (λ (x : ClifOperand). is_imm x.class) ops)))))
+          (patterns_of (variables (map (λ (x : ClifOperand). x.name) (cond (is_imm c) (o ∷ filter (λ (x : ClifOperand). is_imm x.class) ops) (filter (λ (x : ClifOperand). is_imm x.class) ops)))))
       by class.Value k rest = rest
       by class.Varargs k rest = rest
       by class.Block k rest = rest
@@ -192,7 +192,7 @@ module _ (E : List Def) (vars : Variables) where
       by : (c : OperandClass) → Has vars (o.name, operand_type c)
           → AreExprsOf E vars (map short_name (filter_map imm_type ops)) (exprs_of (variable_exprs (map (λ (x : ClifOperand). x.name) (filter (λ (x : ClifOperand). is_imm x.class) ops))))
           → AreExprsOf E vars (map short_name (cons_option (type_in c) (filter_map imm_type ops)))
-              (exprs_of (variable_exprs (map (λ (x : ClifOperand). x.name) (cond (is_imm c) (o ∷ filter (λ (x : ClifOperand). is_imm x.class) ops) (filter (λ (x : ClifOperand). is_imm x.class) ops)))))
+          (exprs_of (variable_exprs (map (λ (x : ClifOperand). x.name) (cond (is_imm c) (o ∷ filter (λ (x : ClifOperand). is_imm x.class) ops) (filter (λ (x : ClifOperand). is_imm x.class) ops)))))
       by class.Value k rest = rest
       by class.Varargs k rest = rest
       by class.Block k rest = rest

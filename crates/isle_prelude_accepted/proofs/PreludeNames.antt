@@ -151,26 +151,67 @@ module _ (t : Tables) (s : AreSupported t) where
       absurd (let both : false ≡ true = sym f.3 ∙ fields_alike t.formats s.formats f.0 g.0 f.1 g.1 (f.2 ∙ sym g.2) ∙ g.3 in cc)) in
       let shared_flags : Disjoint shared_names flags_name = λ x i j. first.2 x i (has_left x j) in
       let shared_data : Disjoint shared_names data_names = λ x i j. first.2 x i (has_right x j) in
-      subst AreApart (sym (types_grouped t)) (grouped_apart type_class (type_groups t)
-      ((none_repeated builtin_names refl, (refl, (refl, (refl, (refl, (refl, (refl, (refl, (refl, (refl, (refl, (refl, (refl, (refl, tt)))))))))))))),
-      ((none_repeated shared_names refl, (refl, (refl, (refl, (refl, (refl, (refl, tt))))))),
-      (nothing type_class, (nothing type_class,
-      (plain, ((none_repeated flags_name refl, (refl, tt)), (enums,
-      (numbered_family type_class 2 value_array_type (value_array_sizes t.formats) value_type_same value_type_class (value_sizes_apart t.formats),
-      (numbered_family type_class 3 block_array_type (block_array_sizes t.formats) block_type_same block_type_class (block_sizes_apart t.formats),
-      ((none_repeated data_names refl, (refl, (refl, (refl, tt)))),
-      (nothing type_class, tt)))))))))))
-      ((tt, (tt, (tt, (tt, (tt, (tt, (tt, (tt, (tt, (tt, tt)))))))))),
-      ((tt, (tt, (tt, (shared_flags, (tt, (tt, (tt, (shared_data, (tt, tt))))))))),
-      ((empty, (tt, (tt, (tt, (tt, (tt, (tt, (empty, tt)))))))),
-      ((tt, (tt, (tt, (tt, (tt, (tt, (empty, tt))))))),
-      ((tt, (unlike, (tt, (tt, (tt, (tt, tt)))))),
-      ((tt, (tt, (tt, (last.2, (tt, tt))))),
-      ((tt, (tt, (tt, (tt, tt)))),
-      ((tt, (tt, (tt, tt))),
-      ((tt, (tt, tt)),
-      ((tt, tt),
-      (tt, tt))))))))))))
+      subst AreApart (sym (types_grouped t)) (grouped_apart type_class (type_groups t) (
+        (none_repeated builtin_names refl, (refl, (refl, (refl, (refl, (refl, (refl, (refl, (refl, (refl, (refl, (refl, (refl, (refl, tt)))))))))))))),
+        (
+          (none_repeated shared_names refl, (refl, (refl, (refl, (refl, (refl, (refl, tt))))))),
+          (
+            nothing type_class,
+            (
+              nothing type_class,
+              (
+                plain,
+                (
+                  (none_repeated flags_name refl, (refl, tt)),
+                  (
+                    enums,
+                    (
+                      numbered_family type_class 2 value_array_type (value_array_sizes t.formats) value_type_same value_type_class (value_sizes_apart t.formats),
+                      (
+                        numbered_family type_class 3 block_array_type (block_array_sizes t.formats) block_type_same block_type_class (block_sizes_apart t.formats),
+                        (
+                          (none_repeated data_names refl, (refl, (refl, (refl, tt)))),
+                          (nothing type_class, tt),
+                        ),
+                      ),
+                    ),
+                  ),
+                ),
+              ),
+            ),
+          ),
+        ),
+      ) (
+        (tt, (tt, (tt, (tt, (tt, (tt, (tt, (tt, (tt, (tt, tt)))))))))),
+        (
+          (tt, (tt, (tt, (shared_flags, (tt, (tt, (tt, (shared_data, (tt, tt))))))))),
+          (
+            (empty, (tt, (tt, (tt, (tt, (tt, (tt, (empty, tt)))))))),
+            (
+              (tt, (tt, (tt, (tt, (tt, (tt, (empty, tt))))))),
+              (
+                (tt, (unlike, (tt, (tt, (tt, (tt, tt)))))),
+                (
+                  (tt, (tt, (tt, (last.2, (tt, tt))))),
+                  (
+                    (tt, (tt, (tt, (tt, tt)))),
+                    (
+                      (tt, (tt, (tt, tt))),
+                      (
+                        (tt, (tt, tt)),
+                        (
+                          (tt, tt),
+                          (tt, tt),
+                        ),
+                      ),
+                    ),
+                  ),
+                ),
+              ),
+            ),
+          ),
+        ),
+      ))
     where
       empty : Disjoint [] []
       empty x i j = i

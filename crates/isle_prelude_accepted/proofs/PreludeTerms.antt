@@ -118,12 +118,13 @@ module _ (t : Tables) (s : AreSupported t) (q : Def → List (List ℕ)) (own : 
 
   rows_family : IsFamily term_class (4, flat_map row_names t.instructions)
   rows_family =
-      let names = (instructions_apart t.formats [] t.instructions s.instructions).0 in
-      (apart_flat row_names t.instructions (apart_unmap (λ (i : Instruction). i.name) t.instructions names) (λ i k. (own i (slice_get t.formats i.format)).0)
-      (λ i j x k l m n. apart_same (λ (y : Instruction). y.name) t.instructions i j names k l (sym (each_own i x m) ∙ each_own j x n)),
-      has_all (λ x. term_class x ≡ 4) (flat_map row_names t.instructions)
-      (λ x k. (let r = has_flattened row_names t.instructions x k in
-      ap term_class (each_own r.0 x r.2) ∙ free_class r.0.name (instruction_at t.formats [] t.instructions r.0 s.instructions r.1).1.free)))
+      let names = (instructions_apart t.formats [] t.instructions s.instructions).0 in (
+        apart_flat row_names t.instructions (apart_unmap (λ (i : Instruction). i.name) t.instructions names) (λ i k. (own i (slice_get t.formats i.format)).0)
+            (λ i j x k l m n. apart_same (λ (y : Instruction). y.name) t.instructions i j names k l (sym (each_own i x m) ∙ each_own j x n)),
+        has_all (λ x. term_class x ≡ 4) (flat_map row_names t.instructions)
+            (λ x k. (let r = has_flattened row_names t.instructions x k in
+            ap term_class (each_own r.0 x r.2) ∙ free_class r.0.name (instruction_at t.formats [] t.instructions r.0 s.instructions r.1).1.free)),
+      )
 
 -- ---- the parts of a prelude that have terms
 
@@ -388,16 +389,46 @@ module _ (t : Tables) where
       refl refl (flat_none (ctor_sizes t)) (λ x. refl) (λ x. refl) (flat_single (λ (n : ℕ). unpack (value_array n)) VS) (flat_single (λ (n : ℕ). unpack (block_array n)) BS) refl (none_of_rows taker_in t none_takers))))
       (grouped_apart func_class
       (Both (term_groups (0, makers) (5, ctors) (1, map (λ (n : ℕ). pack (value_array n)) VS) (2, map (λ (n : ℕ). pack (block_array n)) BS) (6, []))
-      (term_groups (0, takers) (7, []) (3, map (λ (n : ℕ). unpack (value_array n)) VS) (4, map (λ (n : ℕ). unpack (block_array n)) BS) (8, [])))
-      ((none_repeated makers refl, (refl, (refl, tt))), (ctor_funcs, (pack_values, (pack_blocks, (none_family func_class 6,
-      ((none_repeated takers refl, (refl, (refl, tt))), (none_family func_class 7, (unpack_values, (unpack_blocks, (none_family func_class 8, tt))))))))))
-      ((tt, (tt, (tt, (tt, (apart.2, (tt, (tt, (tt, (tt, tt))))))))),
-      ((tt, (tt, (tt, (tt, (tt, (tt, (tt, (tt, tt)))))))),
-      ((tt, (tt, (tt, (tt, (tt, (tt, (tt, tt))))))),
-      ((tt, (tt, (tt, (tt, (tt, (tt, tt)))))),
-      ((tt, (tt, (tt, (tt, (tt, tt))))),
-      ((tt, (tt, (tt, (tt, tt)))),
-      ((tt, (tt, (tt, tt))),
-      ((tt, (tt, tt)),
-      ((tt, tt),
-      (tt, tt)))))))))))
+      (term_groups (0, takers) (7, []) (3, map (λ (n : ℕ). unpack (value_array n)) VS) (4, map (λ (n : ℕ). unpack (block_array n)) BS) (8, []))) (
+        (none_repeated makers refl, (refl, (refl, tt))),
+        (
+          ctor_funcs,
+          (
+            pack_values,
+            (
+              pack_blocks,
+              (
+                none_family func_class 6,
+                ((none_repeated takers refl, (refl, (refl, tt))), (none_family func_class 7, (unpack_values, (unpack_blocks, (none_family func_class 8, tt))))),
+              ),
+            ),
+          ),
+        ),
+      ) (
+        (tt, (tt, (tt, (tt, (apart.2, (tt, (tt, (tt, (tt, tt))))))))),
+        (
+          (tt, (tt, (tt, (tt, (tt, (tt, (tt, (tt, tt)))))))),
+          (
+            (tt, (tt, (tt, (tt, (tt, (tt, (tt, tt))))))),
+            (
+              (tt, (tt, (tt, (tt, (tt, (tt, tt)))))),
+              (
+                (tt, (tt, (tt, (tt, (tt, tt))))),
+                (
+                  (tt, (tt, (tt, (tt, tt)))),
+                  (
+                    (tt, (tt, (tt, tt))),
+                    (
+                      (tt, (tt, tt)),
+                      (
+                        (tt, tt),
+                        (tt, tt),
+                      ),
+                    ),
+                  ),
+                ),
+              ),
+            ),
+          ),
+        ),
+      ))

@@ -226,10 +226,14 @@ module _ (t : Tables) (s : AreSupported t) (plain : ArePlain t) (i : Instruction
         let vs = value_patterns f.has_value_list i in
         let bs = block_patterns i in
         let rs = variables (names_of is_raw_block i) in
-        let is = variables (names_of is_imm i) in
-        (types_in (format_fields f), inl data_variant, subst (λ ts. ArePatternsOf (E t) vars ts (patterns_of (term_over (opcode_term i) [] ∷ (vs ++ (bs ++ (rs ++ is)))))) (sym (field_types_are f))
-        (([], inl opcode_variant, tt),
-        patterns_append (E t) vars _ _ vs (bs ++ (rs ++ is)) values_pattern (patterns_append (E t) vars _ _ bs (rs ++ is) blocks_pattern (patterns_append (E t) vars _ _ rs is raws_pattern imms_pattern))))
+        let is = variables (names_of is_imm i) in (
+          types_in (format_fields f),
+          inl data_variant,
+          subst (λ ts. ArePatternsOf (E t) vars ts (patterns_of (term_over (opcode_term i) [] ∷ (vs ++ (bs ++ (rs ++ is)))))) (sym (field_types_are f)) (
+            ([], inl opcode_variant, tt),
+            patterns_append (E t) vars _ _ vs (bs ++ (rs ++ is)) values_pattern (patterns_append (E t) vars _ _ bs (rs ++ is) blocks_pattern (patterns_append (E t) vars _ _ rs is raws_pattern imms_pattern)),
+          ),
+        )
 
     values_expr : AreExprsOf (E t) vars (types_in (value_fields f.has_value_list f.num_value_operands)) (exprs_of (counted_expr (value_array_ctor (length (names_of is_value i))) (names_of is_value i)))
     values_expr =
@@ -255,10 +259,14 @@ module _ (t : Tables) (s : AreSupported t) (plain : ArePlain t) (i : Instruction
         let vs = counted_expr (value_array_ctor (length (names_of is_value i))) (names_of is_value i) in
         let bs = counted_expr (block_array (length (names_of is_block i))) (names_of is_block i) in
         let rs = variable_exprs (names_of is_raw_block i) in
-        let is = variable_exprs (names_of is_imm i) in
-        (types_in (format_fields f), inl data_variant, subst (λ ts. AreExprsOf (E t) vars ts (exprs_of (call_on (opcode_term i) [] ∷ (vs ++ (bs ++ (rs ++ is)))))) (sym (field_types_are f))
-        (([], inl opcode_variant, tt),
-        exprs_append (E t) vars _ _ vs (bs ++ (rs ++ is)) values_expr (exprs_append (E t) vars _ _ bs (rs ++ is) blocks_expr (exprs_append (E t) vars _ _ rs is raws_expr imms_expr))))
+        let is = variable_exprs (names_of is_imm i) in (
+          types_in (format_fields f),
+          inl data_variant,
+          subst (λ ts. AreExprsOf (E t) vars ts (exprs_of (call_on (opcode_term i) [] ∷ (vs ++ (bs ++ (rs ++ is)))))) (sym (field_types_are f)) (
+            ([], inl opcode_variant, tt),
+            exprs_append (E t) vars _ _ vs (bs ++ (rs ++ is)) values_expr (exprs_append (E t) vars _ _ bs (rs ++ is) blocks_expr (exprs_append (E t) vars _ _ rs is raws_expr imms_expr)),
+          ),
+        )
 
   -- ---- its size, and its variables
 

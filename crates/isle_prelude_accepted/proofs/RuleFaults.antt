@@ -79,25 +79,46 @@ module _ (defs : List Def) (h : AreSimple (all_erased defs)) where
         eq-eqb (length (map variable_of s.params)) (length c.1.signature.args) (length-map s.params variable_of ∙ s.many ∙ sym (ap length c.1.takes)) in
         let small : on (written_pass w 0 r) (λ (x : CoreRule). not (nat_le (rule_nodes (rule_expanded (whole_templates (templates w)) x)) 4096)) ≡ false =
         ap (λ o. on o (λ (x : CoreRule). not (nat_le (rule_nodes (rule_expanded (whole_templates (templates w)) x)) 4096))) (rule_written w name term s.params rhs at f 0)
-        ∙ ap not (le_true (rule_nodes (rule_expanded (whole_templates (templates w)) (rule_made w name term s.params rhs at f 0))) 4096 (few_nodes w name term s.params rhs at f (whole_templates (templates w)) 0)) in
-        (
+        ∙ ap not (le_true (rule_nodes (rule_expanded (whole_templates (templates w)) (rule_made w name term s.params rhs at f 0))) 4096 (few_nodes w name term s.params rhs at f (whole_templates (templates w)) 0)) in (
           or_from (on (termed w term) (λ (x : Signature). not (length (map variable_of s.params) == length x.args))) (list_any (is_untaken w) (sites_of w r))
-          (ap (λ o. on o (λ (x : Signature). not (length (map variable_of s.params) == length x.args))) c.1.there ∙ ap not many) (none (is_untaken w) (λ x k. k.taken)),
-          (none (is_mistaken w) (λ x k. k.typed),
-          (none (is_misplaced w) (λ x k. k.placed),
-          (none is_undeclared (λ x k. k.declared),
-          (none is_met_otherwise (λ x k. k.met),
-          (on_none (λ (x : Signature). not x.multi && list_any (is_use_of (is_multi_used w)) (left_of w r)) (termed w term) (λ x. and_none (not x.multi) _ (left (is_use_of (is_multi_used w)) (no_use (is_multi_used w)))),
-          (none (is_unknown w) (λ x k. k.known),
-          (none (is_mistyped w) (λ x k. k.fits),
-          (left (is_call_of (λ (t : Signature). not t.pure)) (no_call (λ (t : Signature). not t.pure)),
-          (on_none (λ (x : Signature). not x.partial && list_any (is_call_of (λ (t : Signature). t.partial)) (right_side_of w r).sites) (termed w term)
-          (λ x. and_none (not x.partial) _ (right (is_call_of (λ (t : Signature). t.partial)) (λ y k. k.whole))),
-          (ap (λ o. on o (λ (x : Signature). x.pure && list_any (is_call_of (λ (t : Signature). not t.pure)) (right_side_of w r).sites)) c.1.there
-          ∙ ap (λ (x : Signature). x.pure && list_any (is_call_of (λ (t : Signature). not t.pure)) (right_side_of w r).sites) c.2,
-          (on_none (λ (x : Signature). not x.multi && list_any (is_call_of (λ (t : Signature). t.multi)) (sites_of w r)) (termed w term)
-          (λ x. and_none (not x.multi) _ (none (is_call_of (λ (t : Signature). t.multi)) (λ y k. k.once))),
-          (small, tt)))))))))))),
+              (ap (λ o. on o (λ (x : Signature). not (length (map variable_of s.params) == length x.args))) c.1.there ∙ ap not many) (none (is_untaken w) (λ x k. k.taken)),
+          (
+            none (is_mistaken w) (λ x k. k.typed),
+            (
+              none (is_misplaced w) (λ x k. k.placed),
+              (
+                none is_undeclared (λ x k. k.declared),
+                (
+                  none is_met_otherwise (λ x k. k.met),
+                  (
+                    on_none (λ (x : Signature). not x.multi && list_any (is_use_of (is_multi_used w)) (left_of w r)) (termed w term) (λ x. and_none (not x.multi) _ (left (is_use_of (is_multi_used w)) (no_use (is_multi_used w)))),
+                    (
+                      none (is_unknown w) (λ x k. k.known),
+                      (
+                        none (is_mistyped w) (λ x k. k.fits),
+                        (
+                          left (is_call_of (λ (t : Signature). not t.pure)) (no_call (λ (t : Signature). not t.pure)),
+                          (
+                            on_none (λ (x : Signature). not x.partial && list_any (is_call_of (λ (t : Signature). t.partial)) (right_side_of w r).sites) (termed w term)
+                                (λ x. and_none (not x.partial) _ (right (is_call_of (λ (t : Signature). t.partial)) (λ y k. k.whole))),
+                            (
+                              ap (λ o. on o (λ (x : Signature). x.pure && list_any (is_call_of (λ (t : Signature). not t.pure)) (right_side_of w r).sites)) c.1.there
+                                  ∙ ap (λ (x : Signature). x.pure && list_any (is_call_of (λ (t : Signature). not t.pure)) (right_side_of w r).sites) c.2,
+                              (
+                                on_none (λ (x : Signature). not x.multi && list_any (is_call_of (λ (t : Signature). t.multi)) (sites_of w r)) (termed w term)
+                                    (λ x. and_none (not x.multi) _ (none (is_call_of (λ (t : Signature). t.multi)) (λ y k. k.once))),
+                                (small, tt),
+                              ),
+                            ),
+                          ),
+                        ),
+                      ),
+                    ),
+                  ),
+                ),
+              ),
+            ),
+          ),
         )
 
   rule_unbroken : (before : List Def) (name : Option (List ℕ)) (prio : ℤ) (term : List ℕ) (args : List Pattern) (iflets : List IfLet) (rhs : Expr) (at : Pos)

@@ -189,11 +189,14 @@ module _ (w : Whole) (name : Option (List ℕ)) (term : List ℕ) (params : List
   rule_is_made i =
       let ts = whole_templates (templates w) in
       let x = rule_expanded ts (rule_made i) in
-      let same = same_expanded ts f.left.made f.left.each in
-      (elaborated (templates w) (rule_made i), ap (option_map (elaborated (templates w))) (rule_written i), record {
-        root = f.numbered;
-        variables = still_variables (order_of x) x.args (subst (AllByRecursion IsVariable) (sym same) f.left.each);
-        free = refl;
-        calls = still_calls (IsUnruled w) (order_of x) f.right.made f.right.calls;
-        prio = refl;
-      })
+      let same = same_expanded ts f.left.made f.left.each in (
+        elaborated (templates w) (rule_made i),
+        ap (option_map (elaborated (templates w))) (rule_written i),
+        record {
+          root = f.numbered;
+          variables = still_variables (order_of x) x.args (subst (AllByRecursion IsVariable) (sym same) f.left.each);
+          free = refl;
+          calls = still_calls (IsUnruled w) (order_of x) f.right.made f.right.calls;
+          prio = refl;
+        },
+      )

@@ -103,10 +103,12 @@ module _ (defs : List Def) (h : AreSimple (all_erased defs)) where
   -- whatever lawful names their files have
   pub simple_lawful : (printed : List (List ℕ)) → AllByRecursion (λ name. IsTrue (is_file_name name)) printed → (env : Environment) × IsLawfulEnvironment printed defs env
   simple_lawful printed files =
-      let env = simple_typed defs h in
-      (env.0, record {
-        typed = env.1.typed;
-        clean = simple_clean defs h env.0 env.1;
-        marked = simple_marked defs h env.0 env.1;
-        names = simple_named env.0 env.1 printed files;
-      })
+      let env = simple_typed defs h in (
+        env.0,
+        record {
+          typed = env.1.typed;
+          clean = simple_clean defs h env.0 env.1;
+          marked = simple_marked defs h env.0 env.1;
+          names = simple_named env.0 env.1 printed files;
+        },
+      )

@@ -44,9 +44,10 @@ AreNew name before xs = AreApart (map name xs) × ((n : List ℕ) → Has (map n
 
 one_more : {A : Type 0} (name : A → List ℕ) (before : List A) (x : A) (xs : List A) → (Has (map name before) (name x) → ⊥) → AreNew name (before ++ x ∷ []) xs → AreNew name before (x ∷ xs)
 one_more name before x xs new rest =
-    let more = map-append name before (x ∷ []) in
-    (((λ i. rest.1 (name x) i (subst (λ ns. Has ns (name x)) (sym more) (has_back (map name before) (name x ∷ []) (name x) (inl refl)))), rest.0),
-    λ n i j. by n (λ k. rest.1 n k (subst (λ ns. Has ns n) (sym more) (has_front (map name before) (name x ∷ []) n j))) i j)
+    let more = map-append name before (x ∷ []) in (
+      ((λ i. rest.1 (name x) i (subst (λ ns. Has ns (name x)) (sym more) (has_back (map name before) (name x ∷ []) (name x) (inl refl)))), rest.0),
+      λ n i j. by n (λ k. rest.1 n k (subst (λ ns. Has ns n) (sym more) (has_front (map name before) (name x ∷ []) n j))) i j,
+    )
   where
     by : (n : List ℕ) → (Has (map name xs) n → ⊥) → (name x ≡ n) ⊎ Has (map name xs) n → Has (map name before) n → ⊥
     by n later (inl e) j = new (subst (Has (map name before)) (sym e) j)

@@ -152,12 +152,22 @@ module _ (defs : List Def) (h : AreSimple (all_erased defs)) where
       let none = λ (test : Site → Bool) (each : (x : Site) → IsGoodPart w x → test x ≡ false). any_none (IsGoodPart w) test sites each fit.parts in
       none_broken (λ (r : Row). breaks r (record { whole = w; before = before }) d) (rows_of OfExtractors) (
         reaches_none term (term_named (terms defs) term),
-        (or_from (list_any is_unbound sites) _ (none is_unbound (λ x k. k.bound)) (or_from (list_any _ params) (list_any is_met_otherwise sites) (each_param template params s.used) (none is_met_otherwise (λ x k. k.met))),
-        (none (is_untaken w) (λ x k. k.taken),
-        (none (is_mistaken w) (λ x k. k.typed),
-        (none (is_misplaced w) (λ x k. k.placed),
-        (none is_undeclared (λ x k. k.declared),
-        (none is_met_otherwise (λ x k. k.met), tt)))))),
+        (
+          or_from (list_any is_unbound sites) _ (none is_unbound (λ x k. k.bound)) (or_from (list_any _ params) (list_any is_met_otherwise sites) (each_param template params s.used) (none is_met_otherwise (λ x k. k.met))),
+          (
+            none (is_untaken w) (λ x k. k.taken),
+            (
+              none (is_mistaken w) (λ x k. k.typed),
+              (
+                none (is_misplaced w) (λ x k. k.placed),
+                (
+                  none is_undeclared (λ x k. k.declared),
+                  (none is_met_otherwise (λ x k. k.met), tt),
+                ),
+              ),
+            ),
+          ),
+        ),
       )
 
   unbroken : (before : List Def) (d : Def) (after : List Def) → defs ≡ before ++ d ∷ after → broken_in OfExtractors (record { whole = whole_of defs; before = before }) d ≡ None

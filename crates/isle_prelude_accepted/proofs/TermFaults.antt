@@ -77,7 +77,8 @@ module _ (defs : List Def) (h : AreSimple (all_erased defs)) where
       subst (λ ds. AreApart (extern_terms (externs ds))) e (subst (λ (xs : List Extern). AreApart (extern_terms xs)) (externs_same defs) h.externs_apart) in
       let new : index_of (extern_terms (externs before)) term ≡ None = no_place_of (extern_terms (externs before)) term (new_among extern_of (λ (y : Extern). y.term) before d after x refl once) in
       all_rows before d (
-        refl, (refl, (refl, (refl, (ap (λ (o : Option Signature). not (is_some o)) found.1, (ap (λ o. is_some o || false) new, (refl, (refl, (refl, (refl, tt)))))))))
+        refl,
+        (refl, (refl, (refl, (ap (λ (o : Option Signature). not (is_some o)) found.1, (ap (λ o. is_some o || false) new, (refl, (refl, (refl, (refl, tt))))))))),
       )
 
   -- an extractor's term has no earlier one
@@ -97,8 +98,22 @@ module _ (defs : List Def) (h : AreSimple (all_erased defs)) where
       let found = declared_found defs h (signature_at defs h term s.pure s.multi false false s.args s.ret there.0) there.1 in
       all_rows before d (
         refl,
-        (refl, (refl, (refl, (ap (λ (o : Option Signature). not (is_some o)) found, (ap is_some (first_taker before after d x refl e),
-        (ap (λ (o : Option Signature). infallible && on o (λ (y : Signature). y.multi)) found ∙ s.once, (refl, (refl, (refl, tt))))))))),
+        (
+          refl,
+          (
+            refl,
+            (
+              refl,
+              (
+                ap (λ (o : Option Signature). not (is_some o)) found,
+                (
+                  ap is_some (first_taker before after d x refl e),
+                  (ap (λ (o : Option Signature). infallible && on o (λ (y : Signature). y.multi)) found ∙ s.once, (refl, (refl, (refl, tt)))),
+                ),
+              ),
+            ),
+          ),
+        ),
       )
 
   template_unbroken : (before after : List Def) (term : List ℕ) (params : List (List ℕ)) (template : Pattern) (at : Pos) → defs ≡ before ++ Extractor term params template at ∷ after
@@ -112,11 +127,29 @@ module _ (defs : List Def) (h : AreSimple (all_erased defs)) where
       let many : (length params == length s.args) ≡ true = eq-eqb (length params) (length s.args) s.many in
       all_rows before d (
         refl,
-        (refl, (refl, (refl, (ap (λ (o : Option Signature). not (is_some o)) found, (ap is_some (first_taker before after d x refl e),
-        (refl,
-        (ap (λ (o : Option Signature). on o (λ (y : Signature). not (length params == length y.args)) || repeats params) found
-        ∙ or_from (not (length params == length s.args)) (repeats params) (ap not many) (none_repeat [] params s.apart (λ y i j. j)),
-        (refl, (refl, tt))))))))),
+        (
+          refl,
+          (
+            refl,
+            (
+              refl,
+              (
+                ap (λ (o : Option Signature). not (is_some o)) found,
+                (
+                  ap is_some (first_taker before after d x refl e),
+                  (
+                    refl,
+                    (
+                      ap (λ (o : Option Signature). on o (λ (y : Signature). not (length params == length y.args)) || repeats params) found
+                          ∙ or_from (not (length params == length s.args)) (repeats params) (ap not many) (none_repeat [] params s.apart (λ y i j. j)),
+                      (refl, (refl, tt)),
+                    ),
+                  ),
+                ),
+              ),
+            ),
+          ),
+        ),
       )
 
   rule_unbroken : (before after : List Def) (name : Option (List ℕ)) (prio : _) (term : List ℕ) (args : List Pattern) (iflets : List IfLet) (rhs : Expr) (at : Pos)
@@ -129,8 +162,32 @@ module _ (defs : List Def) (h : AreSimple (all_erased defs)) where
       let free : func_named (externs defs) term ≡ None =
       ap (option_map (λ (y : Extern). y.func)) (found_none (λ (y : Extern). y.term) (externs defs) term (λ i. s.2.free (subst (λ (xs : List Extern). Has (extern_terms xs) term) (sym (externs_same defs)) i))) in
       all_rows before d (
-        refl, (refl, (refl, (refl, (refl, (refl, (refl, (refl, (refl,
-        (ap₂ (λ (o : Option Signature) (f : Option (List ℕ)). not (is_some o) || is_some f) found free, tt))))))))),
+        refl,
+        (
+          refl,
+          (
+            refl,
+            (
+              refl,
+              (
+                refl,
+                (
+                  refl,
+                  (
+                    refl,
+                    (
+                      refl,
+                      (
+                        refl,
+                        (ap₂ (λ (o : Option Signature) (f : Option (List ℕ)). not (is_some o) || is_some f) found free, tt),
+                      ),
+                    ),
+                  ),
+                ),
+              ),
+            ),
+          ),
+        ),
       )
 
   unbroken : (before : List Def) (d : Def) (after : List Def) → defs ≡ before ++ d ∷ after → Unbroken before d

@@ -127,11 +127,19 @@ module _ (defs : List Def) (h : AreSimple (all_erased defs)) where
       let made_own = apart_parts (made_by name body) (made_terms after) made_parts.1 in
       none_broken (λ (r : Row). breaks r (record { whole = whole_of defs; before = before }) d) type_rows (
         ap is_some (no_place_of (type_names before) name (λ i. elsewhere (λ j. parts.2 name j own) (λ j. new_among type_of (λ (y : DeclaredType). y.name) before d after t refl parts.1 j) (has_either builtin_names (declared_names before) name i))),
-        (fields_sound name body s.1,
-        (types_there name body s.1,
-        (few_fields name body s.1,
-        (none_repeat (made_terms before) (made_by name body) made_own.0 (λ y i j. made_parts.2 y j (has_front (made_by name body) (made_terms after) y i)),
-        (refl, tt))))),
+        (
+          fields_sound name body s.1,
+          (
+            types_there name body s.1,
+            (
+              few_fields name body s.1,
+              (
+                none_repeat (made_terms before) (made_by name body) made_own.0 (λ y i j. made_parts.2 y j (has_front (made_by name body) (made_terms after) y i)),
+                (refl, tt),
+              ),
+            ),
+          ),
+        ),
       )
     where
       elsewhere : {A B : Type 0} → (A → ⊥) → (B → ⊥) → A ⊎ B → ⊥

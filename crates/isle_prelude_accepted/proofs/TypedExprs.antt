@@ -89,7 +89,15 @@ name_pass_by w next expected found by =
 
 used_good : (w : Whole) (l : Local) (expected : Option TypeId) (k : TypeId) → expected ≡ Some k → l.ty ≡ Some k → IsGoodSite w (UsedAt expected (Some l.ty))
 used_good w l expected k e f = record {
-  taken = refl; typed = refl; placed = refl; declared = refl; met = refl; known = refl; fits = known_differ l.ty expected k f e; whole = refl; once = refl;
+  taken = refl;
+  typed = refl;
+  placed = refl;
+  declared = refl;
+  met = refl;
+  known = refl;
+  fits = known_differ l.ty expected k f e;
+  whole = refl;
+  once = refl;
 }
 
 variable_right : (w : Whole) (locals : List Local) (next : ℕ) (name : List ℕ) (expected : Option TypeId) (l : Local) (k : TypeId) → local_named locals name ≡ Some l → expected ≡ Some k → l.ty ≡ Some k
