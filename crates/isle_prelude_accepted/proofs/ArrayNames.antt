@@ -1,6 +1,6 @@
 -- Names that end in a number: what they are, and that two numbers have two names.
-use Rattle.std.proofs.Common.{◌≡◌, ℕ, zero, suc, ◌+◌, ◌-◌, ◌<◌, List, [], ◌∷◌, ◌++◌, length, take, drop, Bool, true, false, cond, refl, sym, ap, ◌∙◌, subst, arith, length-append}
-use Rattle.std.specs.Prelude.{IsTrue, map, codes, ◌&&◌, ◌||◌}
+use Rattle.std.proofs.Common.{◌≡◌, ℕ, zero, suc, ◌+◌, ◌-◌, ◌<◌, List, [], ◌∷◌, ◌++◌, length, take, drop, Bool, true, false, cond, refl, sym, ap, ◌∙◌, arith, length-append}
+use Rattle.std.specs.Prelude.{IsTrue, map, codes, ◌&&◌}
 use Rattle.std.specs.List.{list_all, list_any}
 use Rattle.std.specs.Str.{bytes_eq}
 use Rattle.std.specs.Int.Digits.{digits_of, AllBelowBase}
@@ -13,9 +13,9 @@ use Rattle.isle_printer.specs.Token.{is_word_byte}
 use Rattle.isle_printer.proofs.Numerals.{list_all-numeral, list_all-join, numeral_not_empty}
 use Rattle.isle_printer.proofs.Readback.{numeral_again}
 use Rattle.isle_lawful_names.specs.LawfulNames.{type_words, IsTypeName}
-use Rattle.isle_meta.specs.TableNames.{is_builtin, is_among, prelude_types, prelude_terms, is_array_constructor, is_array_term}
+use Rattle.isle_meta.specs.TableNames.{is_builtin, is_among, prelude_types, prelude_terms, is_array_constructor}
 use Rattle.isle_spelling.specs.Identifier.{IsIdentifier}
-use Rattle.isle_spelling.specs.Names.{is_digit, are_digits, is_numbered, IsName}
+use Rattle.isle_spelling.specs.Names.{is_digit, are_digits, is_numbered}
 use Rattle.isle_prelude.specs.NumberedNames.{value_array, value_array_type, value_array_ctor, block_array, block_array_type, pack, unpack}
 
 -- ---- digits

@@ -1,14 +1,13 @@
 -- What definitions declare doesn't hang on their places.
 use Rattle.std.proofs.Common.{◌≡◌, ℕ, List, [], ◌∷◌, ◌++◌, map, Option, Some, None, refl, sym, ap, ap₂, ◌∙◌, subst}
-use Rattle.std.specs.Prelude.{flat_map, filter_map, option_map}
+use Rattle.std.specs.Prelude.{filter_map, option_map}
 use Rattle.std.specs.List.{cons_option}
 use Rattle.isle_core.specs.declared.position.Pos.{Pos}
 use Rattle.isle_ast.specs.Positions.{place_of}
 use Rattle.isle_ast.specs.Tree.{Def, TypeDecl, Decl, ExternConstructor, ExternExtractor, ExternConst, Extractor, Converter, Rule, Passed}
-use Rattle.isle_declarations.specs.DeclaredTypes.{Constant, DeclaredType, type_of, constant_of, types, constants, made_or_none, made_of, made_terms}
-use Rattle.isle_declarations.specs.Heads.{terms_of, extern_terms, extractor_terms, heads_of}
-use Rattle.isle_declarations.specs.Signatures.{Signature, Extern, ExtractorDef, RuleDef, signature_of, extern_of, extractor_of, rule_of, signatures, externs, extractors, rule_defs}
-use Rattle.isle_terms.specs.Converters.{converter_of, converters}
+use Rattle.isle_declarations.specs.DeclaredTypes.{DeclaredType, type_of, types, made_or_none, made_terms}
+use Rattle.isle_declarations.specs.Heads.{terms_of, extractor_terms, heads_of}
+use Rattle.isle_declarations.specs.Signatures.{Signature, ExtractorDef, RuleDef, signature_of, extern_of, extractor_of, rule_of, signatures, externs, extractors, rule_defs}
 use Rattle.isle_types.specs.Builtins.{builtin_names}
 use Rattle.isle_types.specs.TypeNames.{type_names}
 use Rattle.isle_writing.specs.Erased.{placed, erased, all_erased}

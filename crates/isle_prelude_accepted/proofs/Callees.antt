@@ -1,27 +1,26 @@
 -- What simple definitions know of the terms that patterns and expressions name.
-use Rattle.std.proofs.Common.{◌≡◌, ◌⊎◌, inl, inr, ℕ, ◌+◌, Bool, true, false, List, [], ◌∷◌, ◌++◌, map, Option, Some, None, refl, sym, ap, ◌∙◌, subst}
-use Rattle.std.specs.Prelude.{option_map, is_some, filter_map, ◌||◌}
-use Rattle.std.specs.List.{AllByRecursion, cons_option}
+use Rattle.std.proofs.Common.{◌≡◌, inl, inr, ℕ, Bool, true, false, List, [], ◌∷◌, map, Option, Some, None, refl, sym, ap, ◌∙◌, subst}
+use Rattle.std.specs.Prelude.{option_map, is_some, ◌||◌}
+use Rattle.std.specs.List.{AllByRecursion}
 use Rattle.isle_core.specs.declared.TermId.{TermId}
 use Rattle.isle_core.specs.declared.TypeId.{TypeId}
 use Rattle.isle_core.specs.declared.position.Pos.{Pos}
 use Rattle.isle_ast.specs.Tree.{Def, TypeDecl, Decl, ExternConstructor, ExternExtractor, ExternConst, Extractor, Converter, Rule, Passed}
-use Rattle.isle_ast.specs.declared.tree.AstBody.TheVariants.{Primitive, Enum, Struct}
+use Rattle.isle_ast.specs.declared.tree.AstBody.TheVariants.{Enum}
 use Rattle.isle_ast.specs.declared.tree.AstVariant.{AstVariant}
 use Rattle.isle_declarations.specs.declared.terms.Origin.TheVariants as origin
-use Rattle.isle_declarations.specs.DeclaredTypes.{DeclaredType, types, type_of, variant_term, made_by, made_of, made_or_none, made_terms, field_types}
+use Rattle.isle_declarations.specs.DeclaredTypes.{DeclaredType, types, type_of, variant_term, made_of, made_terms, field_types}
 use Rattle.isle_declarations.specs.Heads.{terms_of, extern_terms, extractor_terms, heads_of}
-use Rattle.isle_declarations.specs.Signatures.{Signature, Extern, Extracting, ByFunction, ByTemplate, ExtractorDef, RuleDef, signature_of, extern_of, extractor_of, rule_of, signatures, externs, extractors, rule_defs, signature_named, term_named, func_named, extractor_named, has_rule}
-use Rattle.isle_declarations.specs.Symbols.{index_of}
-use Rattle.isle_declarations.specs.Terms.{made_signature, variant_signatures, terms_by, terms, is_made}
+use Rattle.isle_declarations.specs.Signatures.{Signature, Extern, Extracting, ByFunction, ByTemplate, ExtractorDef, RuleDef, signature_of, extern_of, extractor_of, rule_of, signatures, externs, extractors, rule_defs, term_named, func_named, extractor_named, has_rule}
+use Rattle.isle_declarations.specs.Terms.{made_signature, terms_by, terms, is_made}
 use Rattle.isle_types.specs.Builtins.{builtin_names, type_id}
 use Rattle.isle_types.specs.TypeNames.{declared_names, type_names}
 use Rattle.isle_terms.specs.TypeNames.{type_named}
 use Rattle.isle_terms.specs.Whole.{Whole, whole_of, termed, declared, has_constructor, has_extractor}
-use Rattle.isle_writing.specs.Erased.{no_place, placed, all_erased}
-use Rattle.isle_prelude_accepted.proofs.Has.{Has, AreApart, has_front, has_back, has_either, has_map, has_mapped, has_flat, has_found, has_source, all_has, has_all, found_by, found_none, place_found}
+use Rattle.isle_writing.specs.Erased.{no_place, erased, all_erased}
+use Rattle.isle_prelude_accepted.proofs.Has.{Has, AreApart, has_back, has_map, has_mapped, has_flat, has_found, has_source, all_has, found_by, found_none, place_found}
 use Rattle.isle_prelude_accepted.proofs.AtPlaces.{at_some_place, type_names_same, externs_same, made_same, declared_same, taken_same, heads_same}
-use Rattle.isle_prelude_accepted.proofs.Simple.{AreSimple, IsSound, IsSoundVariant, IsSoundDecl, IsVariantTerm, IsTakenTerm, IsMakingTerm, Opens, Makes}
+use Rattle.isle_prelude_accepted.proofs.Simple.{AreSimple, IsSound, IsSoundVariant, IsVariantTerm, Opens, Makes}
 use Rattle.isle_prelude_accepted.proofs.Terms.{terms_apart, variant_there}
 
 -- a type of the name is known
@@ -116,6 +115,10 @@ head_sound E (Passed head at) r s e = absurd cc
 -- ---- over definitions whose places are forgotten
 
 module _ (defs : List Def) (h : AreSimple (all_erased defs)) where
+  -- each definition is sound
+  pub sound_in : (d : Def) → Has defs d → IsSound (all_erased defs) (erased d)
+  sound_in d i = all_has (IsSound (all_erased defs)) (all_erased defs) (erased d) h.sound (has_map erased defs d i)
+
   pub extractor_declared : (name : List ℕ) → Has (extractor_terms (extractors (all_erased defs))) name → Has (terms_of (signatures (all_erased defs))) name
   extractor_declared name i =
       let E = all_erased defs in

@@ -1,18 +1,17 @@
 -- Nothing is wrong with the rules of simple definitions: none tests anything, no two are of one term, and none calls a term with rules.
-use Rattle.std.proofs.Common.{◌≡◌, ◌≢◌, ◌⊎◌, inl, inr, ⊎_elim, ℕ, suc, ℤ, pos, List, [], ◌∷◌, ◌++◌, map, get_or, Bool, true, false, cond, Option, Some, None, refl, sym, ap, ap₂, ◌∙◌, subst, true≢false, eqb→eq}
-use Rattle.std.specs.Prelude.{◌↔◌, ◌==◌, ◌<ℤ◌, ◌||◌, IsTrue, Contains, IsSomeAnd, option_map, slice_get, fold}
+use Rattle.std.proofs.Common.{◌≡◌, inl, inr, ℕ, suc, ℤ, pos, List, [], ◌∷◌, ◌++◌, get_or, Bool, true, false, cond, Option, Some, None, refl, sym, ap, ap₂, ◌∙◌, subst, true≢false, eqb→eq}
+use Rattle.std.specs.Prelude.{◌↔◌, ◌==◌, ◌<ℤ◌, ◌||◌, IsTrue, IsSomeAnd, option_map, slice_get}
 use Rattle.std.specs.Bool.{passes}
 use Rattle.std.specs.List.{AllByRecursion, list_any}
 use Rattle.std.proofs.lemmas.Option.{same_Some}
 use Rattle.isle_core.specs.declared.TermId.{TermId}
-use Rattle.isle_core.specs.declared.rule_sets.Constraint.{Constraint}
 use Rattle.isle_core.specs.CalledTerms.{CalledTerm, Constructor, is_made, unless_made, extracted_in, called_by, called_by_all, called_in, called}
 use Rattle.isle_core.specs.Expr.{Expr, Exprs, NoExpr, AnExpr}
 use Rattle.isle_core.specs.Expr as expr
 use Rattle.isle_core.specs.Path.{Path, Arg}
 use Rattle.isle_core.specs.Pattern.{Pattern}
 use Rattle.isle_core.specs.Rule.{Environment, Rule, rules_of, IfLet}
-use Rattle.isle_core.specs.Terms.{has_rules, with_rules}
+use Rattle.isle_core.specs.Terms.{with_rules}
 use Rattle.isle_core.specs.Tests.{Test, Is, Equal, HasItem, is_constraint, met_tests, after, args_tests, args_after, iflets_tests, rule_tests}
 use Rattle.isle_core.specs.RightSide.{Places, no_places}
 use Rattle.isle_core.proofs.AllLaws.{all_append, all_each}
@@ -31,7 +30,7 @@ use Rattle.isle_checks.proofs.TermErrors.{all_filter}
 use Rattle.isle_sample.proofs.CleanErrors.{AreFlawless, clean}
 use Rattle.isle_sample.proofs.CleanPairs.{ArePairs, some_at, pairs_none, pairs_numbered}
 use Rattle.isle_writing.specs.Erased.{all_erased}
-use Rattle.isle_prelude_accepted.proofs.Has.{Has, AreApart, has_map}
+use Rattle.isle_prelude_accepted.proofs.Has.{Has, AreApart}
 use Rattle.isle_prelude_accepted.proofs.AtPlaces.{heads_same}
 use Rattle.isle_prelude_accepted.proofs.Simple.{AreSimple}
 use Rattle.isle_prelude_accepted.proofs.RuleParts.{IsVariable, IsMadeRule}

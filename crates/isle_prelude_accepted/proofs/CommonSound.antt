@@ -1,42 +1,33 @@
 -- The definitions that a prelude begins with are sound: its types, the terms of its arrays, and those that are written by hand.
-use Rattle.std.proofs.Common.{◌≡◌, ◌⊎◌, inl, inr, ℕ, zero, suc, ◌+◌, ◌<◌, ◌≤◌, List, [], ◌∷◌, ◌++◌, map, length, Bool, true, false, cond, Option, Some, None, refl, sym, ap, ap₂, ◌∙◌, subst, arith}
-use Rattle.std.specs.Prelude.{replicate, codes, ◌||◌, ◌==◌, nat_lt, if◌then◌else◌, flat_map, option_to_list}
-use Rattle.std.specs.List.{AllByRecursion, list_any}
+use Rattle.std.proofs.Common.{◌≡◌, inl, inr, ℕ, zero, suc, ◌≤◌, List, [], ◌∷◌, map, length, Bool, true, false, cond, refl, sym, ap, subst, arith}
+use Rattle.std.specs.Prelude.{replicate, codes}
+use Rattle.std.specs.List.{AllByRecursion}
 use Rattle.std.specs.Str.{bytes_eq}
-use Rattle.std.proofs.lemmas.Bool.Decides.{nat_tests}
-use Rattle.std.proofs.lemmas.List.{map-append, length-map, length-replicate, append_assoc}
-use Rattle.isle_core.proofs.AllLaws.{all_append, all_front, all_back}
-use Rattle.isle_ast.specs.Tree.{Def}
-use Rattle.isle_ast.specs.declared.tree.AstFields.TheVariants as shape
-use Rattle.isle_ast.specs.declared.tree.AstVariant.{AstVariant}
+use Rattle.std.proofs.lemmas.List.{length-replicate}
 use Rattle.isle_types.specs.Bodies.{variant_names}
 use Rattle.isle_lawful_names.specs.LawfulNames.{IsTypeName}
 use Rattle.isle_spelling.specs.Identifier.{IsIdentifier}
 use Rattle.isle_meta.specs.declared.clif.ImmField.{ImmField}
 use Rattle.isle_meta.specs.declared.clif.Instruction.{Instruction}
-use Rattle.isle_meta.specs.declared.clif.InstructionFormat.{InstructionFormat}
 use Rattle.isle_meta.specs.declared.tables.Tables.{Tables}
-use Rattle.isle_meta.specs.FormatRow.{values_field, blocks_field, raw_block_field, fixed_fields, field_names, all_fields, own_names as format_own_names}
-use Rattle.isle_meta.specs.Immediates.{type_of, values_of, imm_names}
+use Rattle.isle_meta.specs.FormatRow.{all_fields}
+use Rattle.isle_meta.specs.Immediates.{type_of, values_of}
 use Rattle.isle_meta.specs.InstructionRow.{camel_names}
 use Rattle.isle_prelude.specs.Arrays.{value_array_sizes, block_array_sizes, value_array_defs, block_array_defs}
 use Rattle.isle_prelude.specs.Ascending.{ascending}
 use Rattle.isle_prelude.specs.CommonDefs.{imm_enum}
-use Rattle.isle_prelude.specs.Declaring.{bare, with_fields, primitive, extern_enum}
+use Rattle.isle_prelude.specs.Declaring.{bare, primitive}
 use Rattle.isle_prelude.specs.Immediates.{plain_types, enum_types, enum_values}
-use Rattle.isle_prelude.specs.InstructionData.{counted_values, value_fields, block_fields, raw_block_fields, imm_field, format_fields, format_variant, data_defs}
-use Rattle.isle_prelude.specs.NumberedNames.{value_array, value_array_type, value_array_ctor, block_array, block_array_type, pack, unpack}
+use Rattle.isle_prelude.specs.NumberedNames.{value_array, value_array_type, value_array_ctor, block_array, block_array_type}
 use Rattle.isle_prelude.specs.WrittenPrelude.{shared_types, opt_terms, ctor_defs, ctor_sizes}
 use Rattle.isle_prelude_accepted.specs.Plain.{ArePlain, IsShortFormat}
-use Rattle.isle_prelude_accepted.proofs.Has.{Has, AreApart, has_flat, has_mapped, all_has, has_all}
+use Rattle.isle_prelude_accepted.proofs.Has.{Has, AreApart, all_has, has_all}
 use Rattle.isle_prelude_accepted.proofs.ArrayNames.{type_name, value_type_name, block_type_name, value_array_word, block_array_word, ctor_word, ctor_name, pack_value_name, unpack_value_name, pack_block_name, unpack_block_name}
 use Rattle.isle_prelude_accepted.proofs.AscendingLists.{ascending_apart, ascending_from}
-use Rattle.isle_prelude_accepted.proofs.OperandLists.{types_in}
-use Rattle.isle_prelude_accepted.proofs.PreludeMembers.{E, IsType, in_terms, in_ctors, in_values, in_blocks, type_type, value_type, inst_type, list_type, call_type, block_type, opcode_type, data_type, values_type, blocks_type, imm_type, term_there, value_size_from, block_size_from, ctor_size_from, value_size_there, block_size_there}
-use Rattle.isle_prelude_accepted.proofs.RowSound.{field_types_are}
+use Rattle.isle_prelude_accepted.proofs.PreludeMembers.{E, IsType, in_terms, in_ctors, in_values, in_blocks, type_type, value_type, inst_type, call_type, data_type, values_type, blocks_type, term_there, value_size_from, block_size_from, ctor_size_from}
 use Rattle.isle_prelude_accepted.proofs.Simple.{IsSound, IsSoundVariant}
-use Rattle.isle_prelude_accepted.proofs.Supported.{AreSupported, IsSupportedFormat}
-use Rattle.isle_prelude_accepted.proofs.TableFacts.{IsSoundField, format_at, instruction_at, formats_apart, camels_apart, field_sound, plain_from, enum_from}
+use Rattle.isle_prelude_accepted.proofs.Supported.{AreSupported}
+use Rattle.isle_prelude_accepted.proofs.TableFacts.{format_at, instruction_at, field_sound, plain_from, enum_from}
 
 -- ---- written types and terms
 

@@ -1,5 +1,5 @@
 -- The types of blocks, opcodes and instructions' data are sound among the definitions of a prelude.
-use Rattle.std.proofs.Common.{◌≡◌, ◌⊎◌, inl, inr, ℕ, zero, suc, ◌+◌, ◌<◌, ◌≤◌, List, [], ◌∷◌, ◌++◌, map, length, Bool, true, false, cond, Option, Some, None, refl, sym, ap, ap₂, ◌∙◌, subst, arith}
+use Rattle.std.proofs.Common.{◌≡◌, inl, inr, ℕ, zero, suc, ◌≤◌, List, [], ◌∷◌, ◌++◌, map, length, Bool, true, false, cond, Some, None, refl, sym, ap, ap₂, ◌∙◌, subst, arith}
 use Rattle.std.specs.Prelude.{codes, ◌||◌, ◌==◌, nat_lt, flat_map}
 use Rattle.std.specs.List.{AllByRecursion}
 use Rattle.std.specs.Option.{option_to_list}
@@ -11,9 +11,9 @@ use Rattle.isle_spelling.specs.Identifier.{IsIdentifier}
 use Rattle.isle_meta.specs.declared.clif.ImmField.{ImmField}
 use Rattle.isle_meta.specs.declared.clif.InstructionFormat.{InstructionFormat}
 use Rattle.isle_meta.specs.declared.tables.Tables.{Tables}
-use Rattle.isle_meta.specs.FormatRow.{values_field, blocks_field, raw_block_field, fixed_fields, field_names, own_names}
-use Rattle.isle_meta.specs.Immediates.{type_of, values_of, imm_names}
-use Rattle.isle_prelude.specs.InstructionData.{counted_values, value_fields, block_fields, raw_block_fields, imm_field, format_fields, format_variant, data_defs}
+use Rattle.isle_meta.specs.FormatRow.{values_field, blocks_field, raw_block_field, field_names, own_names}
+use Rattle.isle_meta.specs.Immediates.{imm_names}
+use Rattle.isle_prelude.specs.InstructionData.{value_fields, block_fields, raw_block_fields, imm_field, format_fields, format_variant, data_defs}
 use Rattle.isle_prelude_accepted.specs.Plain.{ArePlain, IsShortFormat}
 use Rattle.isle_prelude_accepted.proofs.Has.{Has, AreApart, has_flat, all_has}
 use Rattle.isle_prelude_accepted.proofs.ArrayNames.{type_name}
@@ -22,7 +22,7 @@ use Rattle.isle_prelude_accepted.proofs.OperandLists.{types_in}
 use Rattle.isle_prelude_accepted.proofs.PreludeMembers.{E, IsType, value_type, list_type, call_type, block_type, opcode_type, values_type, blocks_type, imm_type, value_size_there, block_size_there}
 use Rattle.isle_prelude_accepted.proofs.RowSound.{field_types_are}
 use Rattle.isle_prelude_accepted.proofs.Simple.{IsSound, IsSoundVariant}
-use Rattle.isle_prelude_accepted.proofs.Supported.{AreSupported, IsSupportedFormat}
+use Rattle.isle_prelude_accepted.proofs.Supported.{AreSupported}
 use Rattle.isle_prelude_accepted.proofs.TableFacts.{format_at, formats_apart, camels_apart}
 
 -- ---- the names of a format's fields

@@ -1,10 +1,10 @@
 -- Names in families: each family has a class, which a test of names tells, so that families of different classes have no name in common.
-use Rattle.std.proofs.Common.{◌≡◌, ◌⊎◌, inl, inr, ℕ, List, [], ◌∷◌, ◌++◌, map, Bool, true, false, Option, Some, None, refl, sym, ap, ap₂, ◌∙◌, subst}
+use Rattle.std.proofs.Common.{◌≡◌, ◌⊎◌, inl, inr, ℕ, List, [], ◌∷◌, ◌++◌, map, Bool, true, false, cond, Option, Some, None, refl, sym, ap, ap₂, ◌∙◌, subst}
 use Rattle.std.specs.Prelude.{flat_map, filter_map, ◌==◌, MatchBool}
 use Rattle.std.specs.List.{AllByRecursion, cons_option}
 use Rattle.std.proofs.lemmas.Bool.{eq-eqb}
 use Rattle.std.proofs.lemmas.List.{append_assoc, append-nil}
-use Rattle.isle_prelude_accepted.proofs.Has.{Has, AreApart, has_either, has_map, all_has, apart_append}
+use Rattle.isle_prelude_accepted.proofs.Has.{Has, AreApart, has_either, all_has, apart_append}
 
 -- ---- lists of lists
 
@@ -93,6 +93,15 @@ module _ (class : List ℕ → ℕ) where
   pub families_apart : (fs : List Family) → AllByRecursion (IsFamily class) fs → EachUnlike fs → AreApart (names_of fs)
   families_apart [] h unlike = tt
   families_apart (f ∷ fs) h unlike = apart_append f.1 (names_of fs) h.0.0 (families_apart fs h.1 unlike.1) (all_disjoint f fs h.0 h.1 unlike.0)
+
+-- ---- classes by tests
+
+-- the number of the first of four tests that passes
+abbrev pub first_of_four : (a b c d : Bool) → ℕ
+first_of_four a b c d = cond a 0 (cond b 1 (cond c 2 (cond d 3 4)))
+
+pub first_by : (a b c d : Bool) (a' b' c' d' : Bool) → a ≡ a' → b ≡ b' → c ≡ c' → d ≡ d' → first_of_four a b c d ≡ first_of_four a' b' c' d'
+first_by a b c d a' b' c' d' ea eb ec ed = ap₂ (λ x y. first_of_four x y c d) ea eb ∙ ap₂ (λ x y. first_of_four a' b' x y) ec ed
 
 -- ---- families that are put together otherwise
 

@@ -1,11 +1,11 @@
 -- What stands in a list, and lists in which nothing stands twice.
 use Rattle.std.proofs.Common.{◌≡◌, ◌⊎◌, inl, inr, ℕ, ◌+◌, List, [], ◌∷◌, ◌++◌, Bool, true, false, cond, map, Option, Some, None, refl, sym, ap, ◌∙◌, subst}
-use Rattle.std.specs.Prelude.{flat_map, filter_map, is_some, option_map, filter, ◌||◌, not}
-use Rattle.std.specs.List.{AllByRecursion, IsDistinct, cons_option, find, list_any}
+use Rattle.std.specs.Prelude.{flat_map, filter_map, is_some, option_map, ◌||◌}
+use Rattle.std.specs.List.{AllByRecursion, IsDistinct, cons_option, find}
 use Rattle.std.specs.Str.{bytes_eq}
 use Rattle.std.proofs.lemmas.Slice.Eq.{bytes_eq-Decides}
 use Rattle.isle_declarations.specs.Symbols.{index_of}
-use Rattle.isle_declarations.specs.Repeats.{repeats, repeats_after}
+use Rattle.isle_declarations.specs.Repeats.{repeats_after}
 
 -- ---- what stands in a list
 

@@ -1,9 +1,8 @@
 -- All definitions of an instruction are sound: its declaration, its extractor and the rule that makes it.
-use Rattle.std.proofs.Common.{◌≡◌, ◌⊎◌, inl, inr, ℕ, zero, suc, ◌+◌, ◌≤◌, List, [], ◌∷◌, ◌++◌, map, length, Bool, true, false, Option, Some, None, refl, sym, ap, ap₂, ◌∙◌, subst, arith}
+use Rattle.std.proofs.Common.{◌≡◌, inl, inr, ℕ, zero, suc, ◌≤◌, List, [], ◌∷◌, ◌++◌, map, length, Bool, true, false, Option, Some, None, refl, sym, ap, ap₂, ◌∙◌, subst, arith}
 use Rattle.std.specs.Prelude.{slice_get, codes, not, ◌||◌, ◌&&◌, nat_lt}
 use Rattle.std.specs.List.{AllByRecursion}
 use Rattle.std.proofs.lemmas.List.{length-map}
-use Rattle.isle_ast.specs.Tree.{Def}
 use Rattle.isle_declarations.specs.Heads.{extern_terms}
 use Rattle.isle_declarations.specs.Signatures.{externs}
 use Rattle.isle_terms.specs.NewVariables.{variables_in}
@@ -12,14 +11,14 @@ use Rattle.isle_meta.specs.declared.clif.Instruction.{Instruction}
 use Rattle.isle_meta.specs.declared.clif.InstructionFormat.{InstructionFormat}
 use Rattle.isle_meta.specs.declared.tables.Tables.{Tables}
 use Rattle.isle_meta.specs.InstructionRow.{takes_type_to_optimize, takes_type_to_lower}
-use Rattle.isle_prelude.specs.ClifFiles.{data_pattern, data_expr, operand_names, declaration, extractor, making_rule, instruction_defs, of_format}
+use Rattle.isle_prelude.specs.ClifFiles.{data_pattern, operand_names, declaration, instruction_defs, of_format}
 use Rattle.isle_prelude.specs.Manners.{Manner, type_variable, valued, skeleton, optimized, opt_manner}
 use Rattle.isle_prelude.specs.Operands.{operand_type}
 use Rattle.isle_prelude_accepted.specs.Plain.{ArePlain}
 use Rattle.isle_prelude_accepted.proofs.Has.{Has, has_front, has_back, has_mapped, all_has, has_all}
 use Rattle.isle_prelude_accepted.proofs.OperandLists.{operand_there, AreTyped}
 use Rattle.isle_prelude_accepted.proofs.PreludeMembers.{E, IsType, in_terms, in_rows, type_type, value_type, inst_type}
-use Rattle.isle_prelude_accepted.proofs.PreludeParts.{row_defs, row_cases}
+use Rattle.isle_prelude_accepted.proofs.PreludeParts.{row_defs}
 use Rattle.isle_prelude_accepted.proofs.PreludeTerms.{makers_reserved}
 use Rattle.isle_prelude_accepted.proofs.RowSound.{own, fits, few, operands_known, data_fit, data_made, data_size, data_used}
 use Rattle.isle_prelude_accepted.proofs.Simple.{Variables, with_types, IsSound}

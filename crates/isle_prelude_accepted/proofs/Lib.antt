@@ -34,3 +34,4 @@ pub mod InstructionSound
 pub mod CommonSound
 pub mod DataSound
 pub mod PreludeAccepted
+pub mod AcceptedTexts

@@ -1,5 +1,5 @@
 -- The terms that sound types make: no two have one name, and none has that of a declared term.
-use Rattle.std.proofs.Common.{◌≡◌, ◌⊎◌, inl, inr, ℕ, List, [], ◌∷◌, ◌++◌, map, Bool, true, false, cond, refl, sym, ap, ◌∙◌, subst, eqb→eq}
+use Rattle.std.proofs.Common.{◌≡◌, ◌⊎◌, inl, inr, ℕ, List, [], ◌∷◌, map, Bool, true, false, cond, refl, sym, ap, ◌∙◌, subst, eqb→eq}
 use Rattle.std.specs.Prelude.{IsTrue, ◌==◌, ◌&&◌}
 use Rattle.std.specs.Bool.{passes}
 use Rattle.std.specs.List.{AllByRecursion, list_all}
@@ -14,7 +14,6 @@ use Rattle.isle_declarations.specs.Signatures.{signatures}
 use Rattle.isle_types.specs.Bodies.{variant_names}
 use Rattle.isle_types.specs.TypeNames.{declared_names}
 use Rattle.isle_prelude_accepted.proofs.Has.{Has, AreApart, has_either, has_map, has_mapped, apart_append}
-use Rattle.isle_prelude_accepted.proofs.NamedFunctions.{apart_unmap}
 use Rattle.isle_prelude_accepted.proofs.Simple.{IsSound, IsSoundBody}
 
 -- ---- names with a dot

@@ -1,9 +1,8 @@
 -- The names of simple definitions' external functions may be emitted.
-use Rattle.std.proofs.Common.{◌≡◌, ◌⊎◌, inl, inr, ℕ, List, [], ◌∷◌, ◌++◌, map, Bool, true, false, cond, Option, Some, None, refl, sym, ap, ap₂, ◌∙◌, subst}
+use Rattle.std.proofs.Common.{◌≡◌, ◌⊎◌, inl, inr, ℕ, List, [], ◌∷◌, ◌++◌, map, Bool, true, false, Option, Some, None, refl, sym, ap, ap₂, ◌∙◌, subst}
 use Rattle.std.specs.Prelude.{filter_map, flat_map, option_map, find}
 use Rattle.std.specs.List.{AllByRecursion, IsDistinct, cons_option}
 use Rattle.std.specs.Str.{bytes_eq}
-use Rattle.std.proofs.lemmas.List.{append_assoc}
 use Rattle.std.proofs.lemmas.Option.{same_Some}
 use Rattle.isle_core.specs.declared.TypeId.{TypeId}
 use Rattle.isle_core.specs.declared.types.Term.{Term}
@@ -13,25 +12,24 @@ use Rattle.isle_core.specs.Terms.{sym_text, symbol_text}
 use Rattle.isle_ast.specs.Tree.{Def, TypeDecl, Decl, ExternConstructor, ExternExtractor, ExternConst, Extractor, Converter, Rule, Passed}
 use Rattle.isle_declarations.specs.declared.terms.Origin.{Origin}
 use Rattle.isle_declarations.specs.declared.terms.Origin.TheVariants as origin
-use Rattle.isle_declarations.specs.Heads.{terms_of}
 use Rattle.isle_declarations.specs.Signatures.{Signature, Extern, Extracting, ByFunction, ByTemplate, ExtractorDef, extern_of, extractor_of, externs, extractors, func_named, extractor_named}
 use Rattle.isle_declarations.specs.Symbols.{sym_of, symbols}
 use Rattle.isle_declarations.specs.Terms.{terms}
-use Rattle.isle_simulation.specs.TraitFns.{constructor_fn, extractor_fn, fns_before, trait_fns_in, AreFnNames, HasFnNames}
+use Rattle.isle_simulation.specs.TraitFns.{constructor_fn, extractor_fn, fns_before, trait_fns_in, HasFnNames}
 use Rattle.isle_spelling.specs.Identifier.{IsIdentifier}
 use Rattle.isle_terms.specs.TermPass.{constructor_of, extractor_from, kind_from, term_from}
-use Rattle.isle_terms.specs.Whole.{Whole, whole_of}
+use Rattle.isle_terms.specs.Whole.{whole_of}
 use Rattle.isle_tree.specs.declared.tree.TraitFn.{TraitFn}
 use Rattle.isle_tree.specs.WellFormed.{fn_names}
 use Rattle.isle_types.specs.TypeEnvironment.{type_env_of}
-use Rattle.isle_writing.specs.Erased.{erased, all_erased}
-use Rattle.isle_prelude_accepted.proofs.Has.{Has, AreApart, has_front, has_back, has_either, has_map, has_mapped, has_found, has_source, has_flattened, all_has, has_all, apart_append, apart_parts, apart_flat, apart_distinct, same_bytes}
+use Rattle.isle_writing.specs.Erased.{all_erased}
+use Rattle.isle_prelude_accepted.proofs.Has.{Has, AreApart, has_either, has_map, has_found, has_source, has_flattened, has_all, apart_append, apart_parts, apart_flat, apart_distinct, same_bytes}
 use Rattle.isle_prelude_accepted.proofs.AtPlaces.{externs_same}
-use Rattle.isle_prelude_accepted.proofs.Simple.{AreSimple, IsSound, function_of, functions}
-use Rattle.isle_prelude_accepted.proofs.Callees.{terms_once}
+use Rattle.isle_prelude_accepted.proofs.Simple.{AreSimple, IsSound, function_of}
+use Rattle.isle_prelude_accepted.proofs.Callees.{sound_in, terms_once}
 use Rattle.isle_prelude_accepted.proofs.Symbols.{is_symbol, text_is}
 use Rattle.isle_prelude_accepted.proofs.TemplateFaults.{find_is}
-use Rattle.isle_prelude_accepted.proofs.TypedEnvironment.{IsTermOf, AreTermsOf, IsSimpleEnvironment}
+use Rattle.isle_prelude_accepted.proofs.TypedEnvironment.{AreTermsOf}
 
 -- ---- nothing twice
 
@@ -179,15 +177,12 @@ module _ (defs : List Def) (h : AreSimple (all_erased defs)) where
 
   -- ---- each is an identifier, and a symbol
 
-  sound_of : (d : Def) → Has defs d → IsSound (all_erased defs) (erased d)
-  sound_of d i = all_has (IsSound (all_erased defs)) (all_erased defs) (erased d) h.sound (has_map erased defs d i)
-
   abbrev IsNamed : List ℕ → Type 0
   IsNamed func = IsIdentifier func × Has (symbols defs) func
 
   taker_named : (d : Def) (x : ExtractorDef) (func : List ℕ) → Has defs d → extractor_of d ≡ Some x → function_of x.by ≡ Some func → IsNamed func
   taker_named (ExternExtractor term f infallible at) x func i e g =
-      let s : IsSound (all_erased defs) (ExternExtractor term f infallible at) = sound_of (ExternExtractor term f infallible at) i in
+      let s : IsSound (all_erased defs) (ExternExtractor term f infallible at) = sound_in defs h (ExternExtractor term f infallible at) i in
       let is : f ≡ func = same_Some f func (ap (λ (y : ExtractorDef). function_of y.by) (same_Some _ x e) ∙ g) in
       subst IsNamed is (s.named, is_symbol defs (ExternExtractor term f infallible at) f i (inr (inl refl)))
   taker_named (Extractor term params template at) x func i e g = absurd (let none : None ≡ Some func = ap (λ (y : ExtractorDef). function_of y.by) (same_Some _ x e) ∙ g in cc)
@@ -201,7 +196,7 @@ module _ (defs : List Def) (h : AreSimple (all_erased defs)) where
 
   maker_named : (d : Def) (x : Extern) (func : List ℕ) → Has defs d → extern_of d ≡ Some x → x.func ≡ func → IsNamed func
   maker_named (ExternConstructor term f at) x func i e g =
-      let s : IsSound (all_erased defs) (ExternConstructor term f at) = sound_of (ExternConstructor term f at) i in
+      let s : IsSound (all_erased defs) (ExternConstructor term f at) = sound_in defs h (ExternConstructor term f at) i in
       let is : f ≡ func = ap (λ (y : Extern). y.func) (same_Some _ x e) ∙ g in
       subst IsNamed is (s.named, is_symbol defs (ExternConstructor term f at) f i (inr (inl refl)))
   maker_named (ExternExtractor term f infallible at) x func i e g = absurd cc

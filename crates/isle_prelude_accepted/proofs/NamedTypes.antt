@@ -1,5 +1,5 @@
 -- The names of simple definitions' types, variants and fields may be emitted.
-use Rattle.std.proofs.Common.{◌≡◌, ◌⊎◌, inl, inr, ℕ, List, [], ◌∷◌, ◌++◌, map, Bool, true, false, cond, Option, Some, None, refl, sym, ap, ap₂, ◌∙◌, subst}
+use Rattle.std.proofs.Common.{◌≡◌, inl, inr, ℕ, List, [], ◌∷◌, ◌++◌, map, Bool, true, false, None, refl, sym, ap, ap₂, ◌∙◌, subst}
 use Rattle.std.specs.Prelude.{filter_map, flat_map, ◌&&◌}
 use Rattle.std.specs.List.{AllByRecursion, IsDistinct, cons_option}
 use Rattle.std.specs.Str.{bytes_eq}
@@ -9,7 +9,6 @@ use Rattle.isle_core.specs.declared.position.Pos.{Pos}
 use Rattle.isle_core.specs.declared.types.BuiltinType.{BuiltinType}
 use Rattle.isle_core.specs.declared.types.BuiltinType.TheVariants as builtin
 use Rattle.isle_core.specs.declared.types.IntType.TheVariants.{U8, U16, U32, U64, U128, USize, I8, I16, I32, I64, I128, ISize}
-use Rattle.isle_core.specs.declared.types.TypeDef.{TypeDef}
 use Rattle.isle_core.specs.declared.types.TypeDef.TheVariants as def
 use Rattle.isle_core.specs.declared.types.TypeEnv.{TypeEnv}
 use Rattle.isle_core.specs.Terms.{symbol_text}
@@ -19,20 +18,20 @@ use Rattle.isle_ast.specs.declared.tree.AstBody.TheVariants.{Primitive, Enum, St
 use Rattle.isle_ast.specs.declared.tree.AstFields.{AstFields}
 use Rattle.isle_ast.specs.declared.tree.AstFields.TheVariants.{Unit as NoFields, Named, Tuple}
 use Rattle.isle_ast.specs.declared.tree.AstVariant.{AstVariant}
-use Rattle.isle_declarations.specs.DeclaredTypes.{DeclaredType, Constant, constant_of, constants, types}
-use Rattle.isle_declarations.specs.Names.{shape_names, shaped_names, body_names, def_names}
+use Rattle.isle_declarations.specs.DeclaredTypes.{constant_of, constants}
+use Rattle.isle_declarations.specs.Names.{shape_names, shaped_names}
 use Rattle.isle_declarations.specs.Symbols.{symbols}
-use Rattle.isle_lawful_names.specs.LawfulNames.{IsTypeName, IsFieldNamed, AreFieldsNamed, IsVariantNamed, ArePartsNamed, IsLawfulType, IsLawfulConstant, IsNoType, AreLawful, emitted_name, emitted_names}
-use Rattle.isle_lawful_names.proofs.ListLaws.{all_to}
+use Rattle.isle_lawful_names.specs.LawfulNames.{IsTypeName, IsFieldNamed, AreFieldsNamed, IsVariantNamed, IsLawfulType, IsLawfulConstant, IsNoType, AreLawful, emitted_name, emitted_names}
 use Rattle.isle_sample.proofs.NamedTypes.{builtins_lawful}
 use Rattle.isle_spelling.specs.Identifier.{IsIdentifier}
 use Rattle.isle_types.specs.Bodies.{field_names}
 use Rattle.isle_types.specs.Builtins.{builtins, builtin_names}
 use Rattle.isle_types.specs.TypeEnvironment.{sym_in, field_in, fields_in, variant_in, def_in, type_def_in, constant_in, type_env_of}
 use Rattle.isle_types.specs.TypeNames.{declared_names, type_names}
-use Rattle.isle_writing.specs.Erased.{erased, all_erased}
-use Rattle.isle_prelude_accepted.proofs.Has.{Has, AreApart, has_front, has_back, has_map, has_flat, all_has, apart_distinct}
+use Rattle.isle_writing.specs.Erased.{all_erased}
+use Rattle.isle_prelude_accepted.proofs.Has.{Has, AreApart, has_front, has_back, apart_distinct}
 use Rattle.isle_prelude_accepted.proofs.AtPlaces.{type_names_same}
+use Rattle.isle_prelude_accepted.proofs.Callees.{sound_in}
 use Rattle.isle_prelude_accepted.proofs.Simple.{AreSimple, IsSound, IsSoundVariant}
 use Rattle.isle_prelude_accepted.proofs.Symbols.{is_symbol, text_is}
 
@@ -65,9 +64,6 @@ module _ (defs : List Def) (h : AreSimple (all_erased defs)) where
   abbrev env_types : TypeEnv
   env_types = type_env_of defs
 
-  sound_of : (d : Def) → Has defs d → IsSound (all_erased defs) (erased d)
-  sound_of d i = all_has (IsSound (all_erased defs)) (all_erased defs) (erased d) h.sound (has_map erased defs d i)
-
   -- these names are symbols
   abbrev AreSymbols : List (List ℕ) → Type 0
   AreSymbols names = (name : List ℕ) → Has names name → Has (symbols defs) name
@@ -97,11 +93,11 @@ module _ (defs : List Def) (h : AreSimple (all_erased defs)) where
   type_lawful : (b : Bool) (name : List ℕ) (x n : Bool) (body : AstBody) (at : Pos) → Has defs (TypeDecl name x n body at)
       → IsLawfulType b env_types (def_in defs name x n body at) × (emitted_name env_types (def_in defs name x n body at) ≡ name)
   type_lawful b name x n (Primitive rust) at i =
-      let s : IsSound (all_erased defs) (TypeDecl name x n (Primitive rust) at) = sound_of (TypeDecl name x n (Primitive rust) at) i in
+      let s : IsSound (all_erased defs) (TypeDecl name x n (Primitive rust) at) = sound_in defs h (TypeDecl name x n (Primitive rust) at) i in
       let is : symbol_text env_types (sym_in defs rust) ≡ name = text_is defs rust (is_symbol defs (TypeDecl name x n (Primitive rust) at) rust i (inr (inl refl))) ∙ s.1 in
       (record { name = subst (IsTypeName b) (sym is) (any_name b name s.0); parts = tt }, is)
   type_lawful b name x n (Enum vs) at i =
-      let s : IsSound (all_erased defs) (TypeDecl name x n (Enum vs) at) = sound_of (TypeDecl name x n (Enum vs) at) i in
+      let s : IsSound (all_erased defs) (TypeDecl name x n (Enum vs) at) = sound_in defs h (TypeDecl name x n (Enum vs) at) i in
       let is : symbol_text env_types (sym_in defs name) ≡ name = text_is defs name (is_symbol defs (TypeDecl name x n (Enum vs) at) name i (inl refl)) in (
         record {
           name = subst (IsTypeName b) (sym is) (any_name b name s.0);
@@ -109,7 +105,7 @@ module _ (defs : List Def) (h : AreSimple (all_erased defs)) where
         },
         is,
       )
-  type_lawful b name x n (Struct fields) at i = absurd (let s : IsSound (all_erased defs) (TypeDecl name x n (Struct fields) at) = sound_of (TypeDecl name x n (Struct fields) at) i in s.1)
+  type_lawful b name x n (Struct fields) at i = absurd (let s : IsSound (all_erased defs) (TypeDecl name x n (Struct fields) at) = sound_in defs h (TypeDecl name x n (Struct fields) at) i in s.1)
 
   types_lawful : (b : Bool) (ds : List Def) → ((d : Def) → Has ds d → Has defs d)
       → AllByRecursion (IsLawfulType b env_types) (filter_map (type_def_in defs) ds) × (map (emitted_name env_types) (filter_map (type_def_in defs) ds) ≡ declared_names ds)
@@ -132,7 +128,7 @@ module _ (defs : List Def) (h : AreSimple (all_erased defs)) where
   no_constants (d ∷ ds) all = ap₂ cons_option (none d (all d (inl refl))) (no_constants ds (λ x i. all x (inr i)))
     where
       none : (x : Def) → Has defs x → constant_of x ≡ None
-      none (ExternConst name ty at) i = absurd (sound_of (ExternConst name ty at) i)
+      none (ExternConst name ty at) i = absurd (sound_in defs h (ExternConst name ty at) i)
       none (Converter from to term at) i = refl
       none (TypeDecl name x n body at) i = refl
       none (Decl term pure multi partial recursive args ret at) i = refl

@@ -1,12 +1,11 @@
 -- Lists of operands as patterns and as expressions: each operand has the type of its class.
-use Rattle.std.proofs.Common.{◌≡◌, ◌⊎◌, inl, inr, ℕ, zero, suc, ◌+◌, ◌≤◌, List, [], ◌∷◌, ◌++◌, map, length, Bool, true, false, cond, Option, Some, None, refl, sym, ap, ap₂, ◌∙◌, subst, arith}
-use Rattle.std.specs.Prelude.{filter, filter_map, replicate, codes, not, ◌||◌}
+use Rattle.std.proofs.Common.{◌≡◌, inl, inr, ℕ, suc, ◌+◌, ◌≤◌, List, [], ◌∷◌, ◌++◌, map, length, Bool, true, false, cond, refl, sym, ap, ap₂, ◌∙◌, subst, arith}
+use Rattle.std.specs.Prelude.{filter, filter_map, replicate, codes, not}
 use Rattle.std.specs.List.{AllByRecursion, cons_option}
 use Rattle.std.specs.Str.{bytes_eq}
 use Rattle.std.proofs.lemmas.Bool.{or_parts}
-use Rattle.std.proofs.lemmas.List.{append-nil, append_assoc, length-map}
+use Rattle.std.proofs.lemmas.List.{append_assoc, length-map}
 use Rattle.std.proofs.lemmas.List.Sums.{length-filter, count_by-le-length}
-use Rattle.isle_ast.specs.Tree as tree
 use Rattle.isle_ast.specs.Tree.{Def, Pattern, Expr}
 use Rattle.isle_ast.specs.Views.{patterns_of, exprs_of}
 use Rattle.isle_terms.specs.NewVariables.{variables_in, all_variables_in}
@@ -16,14 +15,14 @@ use Rattle.isle_meta.specs.declared.clif.Instruction.{Instruction}
 use Rattle.isle_meta.specs.declared.clif.OperandClass.{OperandClass}
 use Rattle.isle_meta.specs.declared.clif.OperandClass.TheVariants as class
 use Rattle.isle_meta.specs.Immediates.{type_of}
-use Rattle.isle_meta.specs.InstructionRow.{is_value, is_varargs, is_block, is_raw_block, type_in, imm_type, imm_types, types_differ, count_of}
+use Rattle.isle_meta.specs.InstructionRow.{is_value, is_block, is_raw_block, type_in, imm_type, types_differ, count_of}
 use Rattle.isle_meta.specs.ShortName.{short_name}
-use Rattle.isle_prelude.specs.ClifFiles.{variables, variable_exprs, term_over, call_on, counted_pattern, counted_expr, operand_names}
+use Rattle.isle_prelude.specs.ClifFiles.{variables, variable_exprs, counted_pattern, counted_expr}
 use Rattle.isle_prelude.specs.InstructionData.{counted_values, block_fields, raw_block_fields, imm_field}
 use Rattle.isle_prelude.specs.NumberedNames.{value_array, value_array_type, value_array_ctor, block_array, block_array_type}
 use Rattle.isle_prelude.specs.Operands.{operand_type, is_imm, names_of}
-use Rattle.isle_prelude_accepted.proofs.Has.{Has, has_front, has_back, has_either, has_map, has_mapped, all_has, same_bytes}
-use Rattle.isle_prelude_accepted.proofs.Simple.{Variables, Opens, Makes, IsPatternOf, ArePatternsOf, IsExprOf, AreExprsOf, with_types, expr_size, exprs_size}
+use Rattle.isle_prelude_accepted.proofs.Has.{Has, has_front, has_back, has_map, has_mapped, all_has, same_bytes}
+use Rattle.isle_prelude_accepted.proofs.Simple.{Variables, Opens, Makes, ArePatternsOf, AreExprsOf, with_types, exprs_size}
 use Rattle.isle_prelude_accepted.proofs.TableFacts.{filter_from, filter_has}
 
 -- the names of the types of fields

@@ -1,18 +1,17 @@
 -- Parameters that are apart are each bound at its type.
-use Rattle.std.proofs.Common.{◌≡◌, ◌⊎◌, inl, inr, ℕ, suc, Bool, true, false, cond, List, [], ◌∷◌, ◌++◌, map, length, Option, Some, None, refl, sym, ap, ap₂, ◌∙◌, subst, arith}
-use Rattle.std.specs.List.{AllByRecursion}
+use Rattle.std.proofs.Common.{◌≡◌, ◌⊎◌, inl, inr, ℕ, suc, Bool, true, false, cond, List, [], ◌∷◌, ◌++◌, map, length, Option, Some, None, refl, sym, ap, ◌∙◌, subst, arith}
 use Rattle.std.specs.Str.{bytes_eq}
 use Rattle.isle_core.specs.declared.TypeId.{TypeId}
 use Rattle.isle_ast.specs.Tree as tree
 use Rattle.isle_ast.specs.Tree.{Pattern}
 use Rattle.isle_ast.specs.Views.{patterns_of}
-use Rattle.isle_terms.specs.Scope.{Local, Scope, found_in, met, met_by, no_variables}
+use Rattle.isle_terms.specs.Scope.{Local, Scope, found_in, met, met_by}
 use Rattle.isle_terms.specs.TypeNames.{type_named}
 use Rattle.isle_terms.specs.Whole.{Whole}
 use Rattle.isle_sema.specs.PatternPass.{patterns_pass, first_expected, later_expected}
 use Rattle.isle_sema.specs.Templates.{params_met}
-use Rattle.isle_prelude_accepted.proofs.Has.{Has, AreApart, has_map, own_bytes, other_bytes}
-use Rattle.isle_prelude_accepted.proofs.Simple.{Variables, with_types}
+use Rattle.isle_prelude_accepted.proofs.Has.{Has, AreApart, own_bytes, other_bytes}
+use Rattle.isle_prelude_accepted.proofs.Simple.{with_types}
 use Rattle.isle_prelude_accepted.proofs.TypedPatterns.{AreBound}
 
 -- ---- what is found among variables

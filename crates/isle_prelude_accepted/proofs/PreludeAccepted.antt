@@ -1,5 +1,5 @@
 -- The written prelude of supported and plain tables, followed by the file of an optimizer, is valid input.
-use Rattle.std.proofs.Common.{◌≡◌, inl, inr, ℕ, List, [], ◌∷◌, ◌++◌, map, Bool, true, false, Option, Some, None, refl, sym, ap, ap₂, ◌∙◌, subst}
+use Rattle.std.proofs.Common.{◌≡◌, inl, inr, ℕ, List, [], ◌∷◌, ◌++◌, map, Option, Some, None, refl, sym, ap₂, ◌∙◌, subst}
 use Rattle.std.specs.Prelude.{flat_map, slice_get, codes, ◌||◌}
 use Rattle.std.specs.List.{AllByRecursion}
 use Rattle.isle_core.proofs.AllLaws.{all_append}

@@ -1,10 +1,9 @@
 -- What stands among the definitions of a prelude.
-use Rattle.std.proofs.Common.{◌≡◌, ◌⊎◌, inl, inr, ℕ, zero, suc, ◌<◌, ◌≤◌, List, [], ◌∷◌, ◌++◌, map, Bool, true, false, cond, Option, Some, None, refl, sym, ap, ap₂, ◌∙◌, subst, arith}
-use Rattle.std.specs.Prelude.{flat_map, filter_map, replicate, slice_get, codes, ◌==◌}
-use Rattle.std.specs.List.{AllByRecursion}
+use Rattle.std.proofs.Common.{◌≡◌, ◌⊎◌, inl, inr, ℕ, suc, List, [], ◌++◌, map, Bool, true, false, cond, Option, Some, None, refl, ap, ap₂, ◌∙◌, subst, arith}
+use Rattle.std.specs.Prelude.{flat_map, filter_map, codes, ◌==◌}
 use Rattle.std.proofs.lemmas.Bool.Decides.{nat_tests}
 use Rattle.std.proofs.lemmas.Option.{same_Some}
-use Rattle.isle_ast.specs.Tree.{Def, TypeDecl, Decl, ExternConstructor, ExternExtractor}
+use Rattle.isle_ast.specs.Tree.{Def, TypeDecl, Decl}
 use Rattle.isle_ast.specs.declared.tree.AstBody.{AstBody}
 use Rattle.isle_declarations.specs.DeclaredTypes.{DeclaredType, type_of, types}
 use Rattle.isle_declarations.specs.Heads.{terms_of}

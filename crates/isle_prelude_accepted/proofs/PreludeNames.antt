@@ -1,42 +1,33 @@
 -- The names in a prelude: none is declared twice.
-use Rattle.std.proofs.Common.{◌≡◌, ◌⊎◌, inl, inr, ℕ, List, [], ◌∷◌, ◌++◌, map, Bool, true, false, cond, Option, Some, None, refl, sym, ap, ap₂, ◌∙◌, subst}
+use Rattle.std.proofs.Common.{◌≡◌, ℕ, List, [], ◌∷◌, ◌++◌, map, true, false, Option, Some, None, refl, sym, ap, ◌∙◌, subst}
 use Rattle.std.specs.Prelude.{flat_map, filter_map, filter, not, slice_get, codes, ◌||◌}
 use Rattle.std.specs.List.{AllByRecursion, cons_option}
-use Rattle.std.proofs.lemmas.Bool.{or_parts}
 use Rattle.isle_ast.specs.Tree.{Def}
-use Rattle.isle_declarations.specs.DeclaredTypes.{DeclaredType, type_of, types}
-use Rattle.isle_declarations.specs.Heads.{terms_of, extern_terms, extractor_terms, heads_of}
-use Rattle.isle_declarations.specs.Signatures.{Signature, Extern, ExtractorDef, RuleDef, signature_of, extern_of, extractor_of, rule_of, signatures, externs, extractors, rule_defs}
+use Rattle.isle_declarations.specs.DeclaredTypes.{DeclaredType, type_of}
 use Rattle.isle_types.specs.Builtins.{builtin_names}
-use Rattle.isle_types.specs.TypeNames.{declared_names, type_names}
+use Rattle.isle_types.specs.TypeNames.{type_names}
 use Rattle.isle_meta.specs.declared.clif.ImmField.{ImmField}
 use Rattle.isle_meta.specs.Immediates.{type_of as imm_type_of}
 use Rattle.isle_meta.specs.declared.clif.Instruction.{Instruction}
 use Rattle.isle_meta.specs.declared.clif.InstructionFormat.{InstructionFormat}
 use Rattle.isle_meta.specs.declared.tables.Tables.{Tables}
 use Rattle.isle_meta.specs.FormatRow.{all_fields}
-use Rattle.isle_meta.specs.InstructionRow.{own_names}
-use Rattle.isle_meta.specs.NumericTerms.{numeric_terms}
-use Rattle.isle_meta.specs.TableNames.{is_builtin, is_among, prelude_types, prelude_terms, is_array_constructor, is_array_term, is_reserved_term, IsImmediateType}
+use Rattle.isle_meta.specs.TableNames.{is_builtin, is_among, prelude_types, IsImmediateType}
 use Rattle.isle_spelling.specs.Names.{is_numbered}
-use Rattle.isle_prelude.specs.Arrays.{value_array_size, value_array_sizes, block_array_sizes, value_array_defs, block_array_defs, above_one}
+use Rattle.isle_prelude.specs.Arrays.{value_array_size, value_array_sizes, block_array_sizes, above_one}
 use Rattle.isle_prelude.specs.ClifFiles.{making, instruction_defs, of_format}
-use Rattle.isle_prelude.specs.CommonDefs.{imm_enum}
-use Rattle.isle_prelude.specs.Declaring.{primitive}
 use Rattle.isle_prelude.specs.Immediates.{is_enum, plain_types, enum_types}
-use Rattle.isle_prelude.specs.InstructionData.{data_defs}
 use Rattle.isle_prelude.specs.Manners.{Manner, optimized, opt_manner}
-use Rattle.isle_prelude.specs.NumberedNames.{value_array, value_array_type, value_array_ctor, block_array, block_array_type, pack, unpack}
-use Rattle.isle_prelude.specs.WrittenPrelude.{shared_types, opt_terms, ctor_defs, ctor_sizes}
+use Rattle.isle_prelude.specs.NumberedNames.{value_array_type, block_array_type}
+use Rattle.isle_prelude.specs.WrittenPrelude.{ctor_sizes}
 use Rattle.isle_prelude_accepted.specs.Accepted.{prelude_defs}
-use Rattle.isle_prelude_accepted.proofs.Has.{Has, AreApart, has_front, has_back, has_mapped, has_flattened, has_map, all_has, has_all, apart_append, apart_parts, apart_map, apart_flat}
-use Rattle.isle_prelude_accepted.proofs.ArrayNames.{value_type_same, block_type_same, value_array_same, block_array_same, ctor_same, value_type_kind, block_type_kind, value_array_kind, block_array_kind, ctor_kind, packed_same, unpacked_same}
+use Rattle.isle_prelude_accepted.proofs.Has.{Has, AreApart, has_front, has_back, has_all, apart_parts, apart_map}
+use Rattle.isle_prelude_accepted.proofs.ArrayNames.{value_type_same, block_type_same, value_type_kind, block_type_kind}
 use Rattle.isle_prelude_accepted.proofs.AscendingLists.{ascending_apart, numbers_apart}
-use Rattle.isle_prelude_accepted.proofs.Families.{found_flat, flat_none, flat_single, flat_same, map_same, Disjoint, Family, IsFamily, Grouped, One, Both, grouped_apart, grouped_names}
-use Rattle.isle_prelude_accepted.proofs.NamedFunctions.{apart_unmap, apart_same}
-use Rattle.isle_prelude_accepted.proofs.PreludeParts.{put, put_same, row_defs, whole, row_cases}
-use Rattle.isle_prelude_accepted.proofs.Supported.{AreSupported, IsSupportedInstruction, none_repeated}
-use Rattle.isle_prelude_accepted.proofs.TableFacts.{field_sound, fields_alike, plain_from, enum_from, instruction_at, instructions_apart}
+use Rattle.isle_prelude_accepted.proofs.Families.{first_of_four, first_by, found_flat, flat_none, flat_single, flat_same, map_same, Disjoint, IsFamily, Grouped, One, Both, grouped_apart, grouped_names}
+use Rattle.isle_prelude_accepted.proofs.PreludeParts.{put_same, row_defs, whole, row_cases}
+use Rattle.isle_prelude_accepted.proofs.Supported.{AreSupported, none_repeated}
+use Rattle.isle_prelude_accepted.proofs.TableFacts.{field_sound, fields_alike, plain_from, enum_from}
 
 -- ---- what is in ascending order is apart
 
@@ -65,25 +56,18 @@ numbered_family class k name ns same each h = (apart_map name ns (λ i j _ _ e. 
 pub nothing : (class : List ℕ → ℕ) → IsFamily class (9, [])
 nothing class = (tt, tt)
 
--- the number of the first of four tests that passes
-abbrev first_of_four : (a b c d : Bool) → ℕ
-first_of_four a b c d = cond a 0 (cond b 1 (cond c 2 (cond d 3 4)))
-
 -- the kinds of names of types: builtin ones, written ones, arrays, and others
 abbrev type_class : List ℕ → ℕ
 type_class x = first_of_four (is_builtin x) (is_among x prelude_types) (is_numbered (codes "ValueArray") x) (is_numbered (codes "BlockArray") x)
 
-class_by : (a b c d : Bool) (a' b' c' d' : Bool) → a ≡ a' → b ≡ b' → c ≡ c' → d ≡ d' → first_of_four a b c d ≡ first_of_four a' b' c' d'
-class_by a b c d a' b' c' d' ea eb ec ed = ap₂ (λ x y. first_of_four x y c d) ea eb ∙ ap₂ (λ x y. first_of_four a' b' x y) ec ed
-
 value_type_class : (n : ℕ) → type_class (value_array_type n) ≡ 2
-value_type_class n = let k = value_type_kind n in class_by _ _ _ _ false false true (is_numbered (codes "BlockArray") (value_array_type n)) k.0 k.1 k.2 refl
+value_type_class n = let k = value_type_kind n in first_by _ _ _ _ false false true (is_numbered (codes "BlockArray") (value_array_type n)) k.0 k.1 k.2 refl
 
 block_type_class : (n : ℕ) → type_class (block_array_type n) ≡ 3
-block_type_class n = let k = block_type_kind n in class_by _ _ _ _ false false false true k.0 k.1 k.2 k.3
+block_type_class n = let k = block_type_kind n in first_by _ _ _ _ false false false true k.0 k.1 k.2 k.3
 
 imm_class : (x : List ℕ) → IsImmediateType x → type_class x ≡ 4
-imm_class x h = class_by _ _ _ _ false false false false h.own h.free h.no_values h.no_blocks
+imm_class x h = first_by _ _ _ _ false false false false h.own h.free h.no_values h.no_blocks
 
 -- ---- types
 

@@ -1,20 +1,18 @@
 -- What the definitions of a prelude come to, part by part.
-use Rattle.std.proofs.Common.{◌≡◌, inl, inr, ℕ, List, [], ◌∷◌, ◌++◌, map, Bool, true, false, Option, Some, None, refl, sym, ap, ap₂, ◌∙◌}
-use Rattle.std.specs.Prelude.{flat_map, filter_map, slice_get, codes}
-use Rattle.std.specs.List.{AllByRecursion, cons_option}
+use Rattle.std.proofs.Common.{◌≡◌, ℕ, List, [], ◌∷◌, ◌++◌, map, Bool, true, false, Option, Some, None, refl, ap, ap₂, ◌∙◌}
+use Rattle.std.specs.Prelude.{flat_map, slice_get, codes}
 use Rattle.isle_ast.specs.Tree.{Def}
-use Rattle.isle_meta.specs.declared.clif.ImmField.{ImmField}
 use Rattle.isle_meta.specs.declared.clif.Instruction.{Instruction}
 use Rattle.isle_meta.specs.declared.clif.InstructionFormat.{InstructionFormat}
 use Rattle.isle_meta.specs.declared.tables.Tables.{Tables}
 use Rattle.isle_meta.specs.FormatRow.{all_fields}
 use Rattle.isle_prelude.specs.Arrays.{value_array_sizes, block_array_sizes, value_array_defs, block_array_defs, arrays}
-use Rattle.isle_prelude.specs.ClifFiles.{declaration, extractor, making, instruction_defs, of_format, opt_defs}
+use Rattle.isle_prelude.specs.ClifFiles.{instruction_defs, of_format, opt_defs}
 use Rattle.isle_prelude.specs.CommonDefs.{imm_enum, imm_defs, common_defs}
 use Rattle.isle_prelude.specs.Declaring.{primitive}
 use Rattle.isle_prelude.specs.Immediates.{plain_types, enum_types}
 use Rattle.isle_prelude.specs.InstructionData.{data_defs}
-use Rattle.isle_prelude.specs.Manners.{Manner, optimized, opt_manner}
+use Rattle.isle_prelude.specs.Manners.{opt_manner}
 use Rattle.isle_prelude.specs.WrittenPrelude.{shared_types, opt_terms, ctor_defs, ctor_sizes, written_defs}
 use Rattle.isle_prelude_accepted.specs.Accepted.{prelude_defs}
 use Rattle.isle_prelude_accepted.proofs.Families.{flat_append, flat_flat, flat_mapped}

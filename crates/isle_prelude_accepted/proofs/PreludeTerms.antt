@@ -1,5 +1,5 @@
 -- The terms, functions and heads in a prelude: none is there twice.
-use Rattle.std.proofs.Common.{◌≡◌, ◌⊎◌, inl, inr, ℕ, List, [], ◌∷◌, ◌++◌, map, Bool, true, false, cond, Option, Some, None, refl, sym, ap, ap₂, ◌∙◌, subst, arith}
+use Rattle.std.proofs.Common.{◌≡◌, ℕ, List, [], ◌∷◌, ◌++◌, map, Bool, true, false, cond, Option, Some, None, refl, sym, ap, ap₂, ◌∙◌, subst, arith}
 use Rattle.std.specs.Prelude.{flat_map, filter_map, slice_get, codes, ◌||◌, ◌==◌}
 use Rattle.std.proofs.lemmas.Option.{same_Some}
 use Rattle.std.specs.List.{AllByRecursion, cons_option}
@@ -12,7 +12,6 @@ use Rattle.isle_meta.specs.declared.clif.Instruction.{Instruction}
 use Rattle.isle_meta.specs.declared.clif.InstructionFormat.{InstructionFormat}
 use Rattle.isle_meta.specs.declared.tables.Tables.{Tables}
 use Rattle.isle_meta.specs.FormatRow.{all_fields}
-use Rattle.isle_meta.specs.InstructionRow.{own_names}
 use Rattle.isle_meta.specs.NumericTerms.{numeric_terms}
 use Rattle.isle_meta.specs.TableNames.{is_among, prelude_terms, is_array_constructor, is_array_term, is_reserved_term}
 use Rattle.isle_spelling.specs.Names.{is_numbered}
@@ -26,37 +25,30 @@ use Rattle.isle_prelude.specs.Manners.{Manner, optimized, opt_manner}
 use Rattle.isle_prelude.specs.NumberedNames.{value_array, value_array_ctor, block_array, pack, unpack}
 use Rattle.isle_prelude.specs.WrittenPrelude.{shared_types, opt_terms, ctor_defs, ctor_sizes}
 use Rattle.isle_prelude_accepted.specs.Accepted.{prelude_defs}
-use Rattle.isle_prelude_accepted.proofs.Has.{Has, AreApart, has_source, has_flattened, has_map, all_has, has_all, apart_flat, apart_parts}
+use Rattle.isle_prelude_accepted.proofs.Has.{Has, AreApart, has_source, has_flattened, all_has, has_all, apart_flat, apart_parts}
 use Rattle.isle_prelude_accepted.proofs.ArrayNames.{value_array_same, block_array_same, ctor_same, value_array_kind, block_array_kind, ctor_kind, packed_same, unpacked_same, pack_value_kind, pack_block_kind, unpack_value_kind, unpack_block_kind, ctor_func_kind, func_class}
-use Rattle.isle_prelude_accepted.proofs.Families.{found_flat, flat_none, flat_single, flat_same, Disjoint, Family, IsFamily, Grouped, One, Both, grouped_apart, grouped_names}
+use Rattle.isle_prelude_accepted.proofs.Families.{first_of_four, first_by, found_flat, flat_none, flat_single, flat_same, Family, IsFamily, Grouped, One, Both, grouped_apart}
 use Rattle.isle_prelude_accepted.proofs.NamedFunctions.{apart_unmap, apart_same}
-use Rattle.isle_prelude_accepted.proofs.PreludeNames.{numbered_family, nothing, value_sizes_apart, block_sizes_apart}
-use Rattle.isle_prelude_accepted.proofs.PreludeParts.{put, put_same, row_defs, whole, row_cases}
+use Rattle.isle_prelude_accepted.proofs.PreludeNames.{numbered_family, value_sizes_apart, block_sizes_apart}
+use Rattle.isle_prelude_accepted.proofs.PreludeParts.{put, row_defs, whole, row_cases}
 use Rattle.isle_prelude_accepted.proofs.Simple.{function_of, functions}
-use Rattle.isle_prelude_accepted.proofs.Supported.{AreSupported, IsSupportedInstruction, none_repeated}
+use Rattle.isle_prelude_accepted.proofs.Supported.{AreSupported, none_repeated}
 use Rattle.isle_prelude_accepted.proofs.TableFacts.{instruction_at, instructions_apart}
 
 -- ---- kinds of terms
-
--- the number of the first of four tests that passes
-abbrev first_of_four : (a b c d : Bool) → ℕ
-first_of_four a b c d = cond a 0 (cond b 1 (cond c 2 (cond d 3 4)))
 
 -- the kinds of terms: written ones, arrays, those that make arrays, and others
 abbrev term_class : List ℕ → ℕ
 term_class x = first_of_four (is_among x prelude_terms) (is_numbered (codes "value_array_") x) (is_numbered (codes "block_array_") x) (is_array_constructor x)
 
-class_by : (a b c d : Bool) (a' b' c' d' : Bool) → a ≡ a' → b ≡ b' → c ≡ c' → d ≡ d' → first_of_four a b c d ≡ first_of_four a' b' c' d'
-class_by a b c d a' b' c' d' ea eb ec ed = ap₂ (λ x y. first_of_four x y c d) ea eb ∙ ap₂ (λ x y. first_of_four a' b' x y) ec ed
-
 value_class : (n : ℕ) → term_class (value_array n) ≡ 1
-value_class n = let k = value_array_kind n in class_by _ _ _ _ false true (is_numbered (codes "block_array_") (value_array n)) (is_array_constructor (value_array n)) k.0 k.1 refl refl
+value_class n = let k = value_array_kind n in first_by _ _ _ _ false true (is_numbered (codes "block_array_") (value_array n)) (is_array_constructor (value_array n)) k.0 k.1 refl refl
 
 block_class : (n : ℕ) → term_class (block_array n) ≡ 2
-block_class n = let k = block_array_kind n in class_by _ _ _ _ false false true (is_array_constructor (block_array n)) k.0 k.1 k.2 refl
+block_class n = let k = block_array_kind n in first_by _ _ _ _ false false true (is_array_constructor (block_array n)) k.0 k.1 k.2 refl
 
 ctor_class : (n : ℕ) → term_class (value_array_ctor n) ≡ 3
-ctor_class n = let k = ctor_kind n in class_by _ _ _ _ false false false true k.0 k.1 k.2 k.3
+ctor_class n = let k = ctor_kind n in first_by _ _ _ _ false false false true k.0 k.1 k.2 k.3
 
 three_false : (a b c : Bool) → (a || b || c) ≡ false → (a ≡ false) × (b ≡ false) × (c ≡ false)
 three_false true b c e = absurd (by b c e)
@@ -75,7 +67,7 @@ free_class : (name : List ℕ) → is_reserved_term name ≡ false → term_clas
 free_class name e =
     let parts = three_false (is_among name prelude_terms) (is_among name numeric_terms) (is_array_term name) e in
     let arrays = three_false (is_numbered (codes "value_array_") name) (is_numbered (codes "block_array_") name) (is_array_constructor name) parts.2 in
-    class_by _ _ _ _ false false false false parts.0 arrays.0 arrays.1 arrays.2
+    first_by _ _ _ _ false false false false parts.0 arrays.0 arrays.1 arrays.2
 
 -- ---- sizes
 

@@ -1,15 +1,11 @@
 -- The definitions of an instruction are sound among those of a prelude.
-use Rattle.std.proofs.Common.{◌≡◌, ◌⊎◌, inl, inr, ℕ, zero, suc, ◌+◌, ◌<◌, ◌≤◌, pos, List, [], ◌∷◌, ◌++◌, map, length, Bool, true, false, cond, Option, Some, None, refl, sym, ap, ap₂, ◌∙◌, subst, arith}
-use Rattle.std.specs.Prelude.{replicate, slice_get, codes, not, ◌||◌, ◌&&◌, ◌==◌, nat_lt, filter_map, flat_map}
+use Rattle.std.proofs.Common.{◌≡◌, inl, inr, ℕ, zero, suc, ◌≤◌, List, [], ◌∷◌, ◌++◌, map, length, true, false, Some, refl, sym, ap, ◌∙◌, subst, arith}
+use Rattle.std.specs.Prelude.{replicate, slice_get, codes, filter_map}
 use Rattle.std.specs.List.{AllByRecursion}
 use Rattle.std.proofs.lemmas.Option.{same_Some}
-use Rattle.std.proofs.lemmas.List.{map-append, length-map, append-nil}
-use Rattle.isle_ast.specs.Tree as tree
-use Rattle.isle_ast.specs.Tree.{Def, Pattern, Expr, NoPattern, APattern, NoExpr, AnExpr}
+use Rattle.std.proofs.lemmas.List.{map-append, length-map}
+use Rattle.isle_ast.specs.Tree.{Pattern}
 use Rattle.isle_ast.specs.Views.{patterns_of, exprs_of}
-use Rattle.isle_ast.specs.declared.tree.AstVariant.{AstVariant}
-use Rattle.isle_declarations.specs.Heads.{extern_terms}
-use Rattle.isle_declarations.specs.Signatures.{externs}
 use Rattle.isle_terms.specs.NewVariables.{variables_in, all_variables_in}
 use Rattle.isle_meta.specs.declared.clif.ClifOperand.{ClifOperand}
 use Rattle.isle_meta.specs.declared.clif.ImmField.{ImmField}
@@ -18,22 +14,18 @@ use Rattle.isle_meta.specs.declared.clif.InstructionFormat.{InstructionFormat}
 use Rattle.isle_meta.specs.declared.clif.OperandClass.{OperandClass}
 use Rattle.isle_meta.specs.declared.clif.OperandClass.TheVariants as class
 use Rattle.isle_meta.specs.declared.tables.Tables.{Tables}
-use Rattle.isle_meta.specs.Immediates.{type_of}
-use Rattle.isle_meta.specs.InstructionRow.{is_value, is_varargs, is_block, is_raw_block, type_in, imm_type, imm_types, takes_type_to_optimize, takes_type_to_lower, count_of}
+use Rattle.isle_meta.specs.InstructionRow.{is_value, is_varargs, is_block, is_raw_block, type_in, imm_type, imm_types}
 use Rattle.isle_meta.specs.ShortName.{short_name}
-use Rattle.isle_prelude.specs.ClifFiles.{variables, variable_exprs, term_over, call_on, counted_pattern, counted_expr, value_patterns, block_patterns, opcode_term, data_term, data_pattern, data_expr, operand_names, parameters, parameter_types, declaration, extractor, making_rule, making, instruction_defs, of_format}
+use Rattle.isle_prelude.specs.ClifFiles.{variables, variable_exprs, term_over, call_on, counted_expr, value_patterns, block_patterns, opcode_term, data_term, data_pattern, data_expr}
 use Rattle.isle_prelude.specs.Declaring.{bare}
 use Rattle.isle_prelude.specs.InstructionData.{counted_values, value_fields, block_fields, raw_block_fields, imm_field, format_fields, format_variant}
-use Rattle.isle_prelude.specs.Manners.{Manner, type_variable, valued, skeleton, optimized, opt_manner}
 use Rattle.isle_prelude.specs.NumberedNames.{value_array, value_array_type, value_array_ctor, block_array, block_array_type, pack, unpack}
 use Rattle.isle_prelude.specs.Operands.{operand_type, is_imm, names_of}
-use Rattle.isle_writing.specs.Erased.{no_place}
 use Rattle.isle_prelude_accepted.specs.Plain.{ArePlain, IsShortInstruction}
-use Rattle.isle_prelude_accepted.proofs.Has.{Has, AreApart, has_front, has_back, has_map, has_flat, has_found, all_has, has_all}
-use Rattle.isle_prelude_accepted.proofs.OperandLists.{types_in, operand_there, name_from, name_there, many_names, few_names, same_types, types_of_fields, patterns_append, exprs_append, values_fit, blocks_fit, raw_fit, imms_fit, values_made, blocks_made, raw_made, imms_made, AreTyped, values_of_type, blocks_of_type, raws_of_type, in_first, in_second, in_variables, in_counted, size_append, size_variables, size_counted}
-use Rattle.isle_prelude_accepted.proofs.PreludeMembers.{E, IsType, in_terms, in_ctors, in_values, in_blocks, in_data, in_rows, type_type, value_type, inst_type, slice_type, call_type, block_type, data_type, imm_type as type_of_imm, value_size_there, ctor_size_there, block_size_there}
-use Rattle.isle_prelude_accepted.proofs.PreludeParts.{row_defs}
-use Rattle.isle_prelude_accepted.proofs.Simple.{Variables, Opens, Makes, IsVariantTerm, IsPatternOf, ArePatternsOf, IsExprOf, AreExprsOf, with_types, expr_size, exprs_size, IsSound, IsSoundDecl, IsSoundTemplate, IsSoundRule}
+use Rattle.isle_prelude_accepted.proofs.Has.{Has, has_map, has_flat, has_found, all_has}
+use Rattle.isle_prelude_accepted.proofs.OperandLists.{types_in, name_there, many_names, few_names, same_types, types_of_fields, patterns_append, exprs_append, values_fit, blocks_fit, raw_fit, imms_fit, values_made, blocks_made, raw_made, imms_made, AreTyped, values_of_type, blocks_of_type, raws_of_type, in_first, in_second, in_variables, in_counted, size_append, size_variables, size_counted}
+use Rattle.isle_prelude_accepted.proofs.PreludeMembers.{E, IsType, in_ctors, in_values, in_blocks, in_data, value_type, slice_type, call_type, block_type, imm_type as type_of_imm, value_size_there, ctor_size_there, block_size_there}
+use Rattle.isle_prelude_accepted.proofs.Simple.{Variables, Opens, Makes, IsVariantTerm, IsPatternOf, ArePatternsOf, IsExprOf, AreExprsOf, expr_size}
 use Rattle.isle_prelude_accepted.proofs.Supported.{AreSupported, IsSupportedFormat, IsSupportedInstruction, Fits}
 use Rattle.isle_prelude_accepted.proofs.TableFacts.{format_at, instruction_at}
 

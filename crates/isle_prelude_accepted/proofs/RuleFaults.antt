@@ -1,6 +1,6 @@
 -- The rules of simple definitions have no fault.
-use Rattle.std.proofs.Common.{◌≡◌, ℕ, ◌≤◌, ℤ, pos, Bool, true, false, cond, List, [], ◌∷◌, ◌++◌, map, length, Option, Some, None, refl, sym, ap, ap₂, ◌∙◌, subst}
-use Rattle.std.specs.Prelude.{is_some, not, ◌||◌, ◌&&◌, ◌==◌, nat_le}
+use Rattle.std.proofs.Common.{◌≡◌, ℕ, ℤ, pos, Bool, true, false, List, [], ◌∷◌, ◌++◌, map, length, Option, Some, None, refl, sym, ap, ap₂, ◌∙◌, subst}
+use Rattle.std.specs.Prelude.{not, ◌&&◌, ◌==◌, nat_le}
 use Rattle.std.specs.List.{AllByRecursion, list_any}
 use Rattle.std.proofs.lemmas.Bool.{or_from, eq-eqb}
 use Rattle.std.proofs.lemmas.List.{append-nil, length-map}
@@ -17,18 +17,17 @@ use Rattle.isle_types.specs.TypeRows.{on}
 use Rattle.isle_terms.specs.Whole.{Whole, whole_of, termed}
 use Rattle.isle_sema.specs.Breaks.{breaks}
 use Rattle.isle_sema.specs.Fault.{OfRules, rows_of, broken_in, fault_in}
-use Rattle.isle_sema.specs.RulePass.{patterns_of, conditions_of, right_side_of, left_of, sites_of, written_pass}
+use Rattle.isle_sema.specs.RulePass.{patterns_of, right_side_of, left_of, sites_of, written_pass}
 use Rattle.isle_sema.specs.RuleRows.{is_untaken, is_mistaken, is_misplaced, is_undeclared, is_met_otherwise, is_multi_used, is_use_of, is_unknown, is_mistyped, is_call_of}
-use Rattle.isle_sema.specs.Site.{Site, MetAt}
+use Rattle.isle_sema.specs.Site.{Site}
 use Rattle.isle_sema.specs.Templates.{templates}
-use Rattle.isle_writing.specs.Erased.{erased, all_erased}
-use Rattle.isle_prelude_accepted.proofs.Has.{Has}
+use Rattle.isle_writing.specs.Erased.{all_erased}
 use Rattle.isle_prelude_accepted.proofs.Simple.{AreSimple, IsSound, IsSoundRule}
 use Rattle.isle_prelude_accepted.proofs.Callees.{declared_callee}
-use Rattle.isle_prelude_accepted.proofs.RuleParts.{variable_of, IsFresh, AreVariables, rule_on, IsRuleFit, rule_fit, rule_made, rule_written, few_nodes}
+use Rattle.isle_prelude_accepted.proofs.RuleParts.{variable_of, IsFresh, rule_on, rule_fit, rule_made, rule_written, few_nodes}
 use Rattle.isle_prelude_accepted.proofs.Splits.{none_broken, none_in}
 use Rattle.isle_prelude_accepted.proofs.TemplateFaults.{any_none}
-use Rattle.isle_prelude_accepted.proofs.TypedExprs.{IsGoodSite, IsRight}
+use Rattle.isle_prelude_accepted.proofs.TypedExprs.{IsGoodSite}
 use Rattle.isle_prelude_accepted.proofs.TypeFaults.{le_true, sound_at}
 
 -- ---- tests of what may be there

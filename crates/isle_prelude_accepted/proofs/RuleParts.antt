@@ -1,8 +1,7 @@
 -- The parts of a rule of simple definitions: its patterns are variables, and its right side has a tree.
-use Rattle.std.proofs.Common.{◌≡◌, ◌⊎◌, inl, inr, ℕ, suc, ◌+◌, ◌≤◌, ℤ, pos, Bool, true, false, cond, List, [], ◌∷◌, ◌++◌, map, length, Option, Some, None, refl, sym, ap, ap₂, ◌∙◌, subst, arith}
-use Rattle.std.specs.Prelude.{is_some, not, ◌||◌, ◌==◌, option_map, option_and_then, nat_le}
+use Rattle.std.proofs.Common.{◌≡◌, inl, ℕ, suc, ◌+◌, ◌≤◌, pos, false, cond, List, [], ◌∷◌, map, length, Option, Some, None, refl, sym, ap, ap₂, ◌∙◌, subst, arith}
+use Rattle.std.specs.Prelude.{option_map, option_and_then}
 use Rattle.std.specs.List.{AllByRecursion}
-use Rattle.isle_core.proofs.AllLaws.{all_append}
 use Rattle.isle_core.specs.declared.TermId.{TermId}
 use Rattle.isle_core.specs.declared.TypeId.{TypeId}
 use Rattle.isle_core.specs.declared.VarId.{VarId}
@@ -11,30 +10,29 @@ use Rattle.isle_core.specs.Expr.{Expr as CoreExpr, Exprs as CoreExprs, NoExpr as
 use Rattle.isle_core.specs.Expr as core_expr
 use Rattle.isle_core.specs.Pattern as core_pattern
 use Rattle.isle_core.specs.Pattern.{Pattern as CorePattern}
-use Rattle.isle_core.specs.Rule.{Rule as CoreRule, IfLet as CoreIfLet}
+use Rattle.isle_core.specs.Rule.{Rule as CoreRule}
 use Rattle.isle_ast.specs.Tree as tree
 use Rattle.isle_ast.specs.Tree.{Def, Pattern, Expr}
 use Rattle.isle_ast.specs.Views.{patterns_of as seen_patterns}
-use Rattle.isle_declarations.specs.Signatures.{Signature, RuleDef, term_named}
+use Rattle.isle_declarations.specs.Signatures.{RuleDef, term_named}
 use Rattle.isle_declarations.specs.Terms.{terms}
 use Rattle.isle_templates.specs.Elaborated.{elaborated, rule_expanded}
 use Rattle.isle_templates.specs.NodeCount.{pattern_nodes, expr_nodes, rule_nodes, total}
-use Rattle.isle_templates.specs.Renumbered.{renamed, expr_renamed, exprs_renamed, order_of, rule_renamed}
+use Rattle.isle_templates.specs.Renumbered.{renamed, expr_renamed, exprs_renamed, order_of}
 use Rattle.isle_templates.specs.Substituted.{expanded, whole_templates}
-use Rattle.isle_terms.specs.Locals.{local_named, of_patterns}
-use Rattle.isle_terms.specs.Scope.{Local, Scope, found_in, bound_at, local_type, met, no_variables, variable, typed_local}
+use Rattle.isle_terms.specs.Locals.{of_patterns}
+use Rattle.isle_terms.specs.Scope.{Local, Scope, found_in, local_type, met, no_variables, typed_local}
 use Rattle.isle_terms.specs.TermPass.{tree_before}
 use Rattle.isle_terms.specs.TypeNames.{type_named}
 use Rattle.isle_terms.specs.Whole.{Whole, whole_of, termed, arg_types, ret_type}
 use Rattle.isle_terms.proofs.LocalLaws.{latest_found}
-use Rattle.isle_terms.proofs.MadeTerms.{before_both}
-use Rattle.isle_sema.specs.ExprPass.{ExprPass, expr_pass}
-use Rattle.isle_sema.specs.PatternPass.{PatternPass, PatternsPass, pattern_pass, patterns_pass, variable_tree}
+use Rattle.isle_sema.specs.ExprPass.{expr_pass}
+use Rattle.isle_sema.specs.PatternPass.{PatternsPass, patterns_pass, variable_tree}
 use Rattle.isle_sema.specs.RulePass.{patterns_of, right_side_of, rule_from, written_from, written_pass, rule_pass}
 use Rattle.isle_sema.specs.Site.{Site, MetAt}
 use Rattle.isle_sema.specs.Templates.{params_met, templates}
 use Rattle.isle_writing.specs.Erased.{all_erased}
-use Rattle.isle_prelude_accepted.proofs.Has.{Has, AreApart, own_bytes}
+use Rattle.isle_prelude_accepted.proofs.Has.{AreApart, own_bytes}
 use Rattle.isle_prelude_accepted.proofs.Simple.{AreSimple, IsSoundRule, with_types, expr_size}
 use Rattle.isle_prelude_accepted.proofs.Callees.{IsKnown, declared_callee, made_by_function}
 use Rattle.isle_prelude_accepted.proofs.Parameters.{AreFree, first_met, met_first, found_more, still_free, params_bound, variables_bind}

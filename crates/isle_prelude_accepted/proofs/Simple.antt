@@ -1,6 +1,6 @@
 -- Definitions of a simple kind of which nothing is wrong: types, declared terms that functions make and take apart, templates, and rules whose
 -- patterns are variables. What is asked of one stands in the others, places left aside.
-use Rattle.std.specs.Prelude.{◌≡◌, ◌⊎◌, ℕ, suc, ◌+◌, ◌≤◌, ℤ, pos, List, [], ◌∷◌, ◌++◌, length, map, Bool, true, false, ◌&&◌, not, Option, Some, None, IsTrue, filter_map}
+use Rattle.std.specs.Prelude.{◌≡◌, ◌⊎◌, ℕ, suc, ◌+◌, ◌≤◌, pos, List, [], ◌∷◌, ◌++◌, length, map, Bool, true, false, ◌&&◌, Option, Some, None, IsTrue, filter_map}
 use Rattle.std.specs.List.{AllByRecursion}
 use Rattle.isle_ast.specs.Tree as tree
 use Rattle.isle_ast.specs.Tree.{Def, TypeDecl, Decl, ExternConstructor, ExternExtractor, ExternConst, Extractor, Converter, Rule, Passed, Pattern, Patterns, NoPattern, APattern, Expr, Exprs, NoExpr, AnExpr}
@@ -9,7 +9,7 @@ use Rattle.isle_ast.specs.declared.tree.AstBody.TheVariants.{Primitive, Enum, St
 use Rattle.isle_ast.specs.declared.tree.AstVariant.{AstVariant}
 use Rattle.isle_declarations.specs.DeclaredTypes.{field_types, variant_term, made_terms}
 use Rattle.isle_declarations.specs.Heads.{terms_of, extern_terms, extractor_terms, heads_of}
-use Rattle.isle_declarations.specs.Signatures.{Signature, Extern, ExtractorDef, Extracting, ByFunction, ByTemplate, signatures, externs, extractors, rule_defs}
+use Rattle.isle_declarations.specs.Signatures.{Extern, ExtractorDef, Extracting, ByFunction, ByTemplate, signatures, externs, extractors, rule_defs}
 use Rattle.isle_lawful_names.specs.LawfulNames.{IsTypeName}
 use Rattle.isle_lawful_names.specs.Words.{is_term_name}
 use Rattle.isle_spelling.specs.Identifier.{IsIdentifier}

@@ -1,8 +1,7 @@
 -- Simple definitions have a lawful environment, at whatever places they stand.
-use Rattle.std.proofs.Common.{◌≡◌, ℕ, zero, suc, inl, List, [], ◌∷◌, ◌++◌, map, get_or, Bool, true, false, Option, Some, None, refl, sym, ap, ◌∙◌, subst}
+use Rattle.std.proofs.Common.{◌≡◌, ℕ, zero, suc, inl, List, [], ◌∷◌, ◌++◌, get_or, true, Some, refl, sym, ap, ◌∙◌, subst}
 use Rattle.std.specs.Prelude.{IsTrue, slice_get, ◌&&◌, flat_map, option_to_list}
 use Rattle.std.specs.List.{AllByRecursion, list_all}
-use Rattle.isle_core.specs.declared.TermId.{TermId}
 use Rattle.isle_core.specs.declared.types.Term.{Term}
 use Rattle.isle_core.specs.Rule.{Environment}
 use Rattle.isle_core.specs.Terms.{sym_text, symbol_text, has_rules}
@@ -17,13 +16,13 @@ use Rattle.isle_codegen.specs.LawfulEnvironment.{IsLawfulEnvironment}
 use Rattle.isle_lawful_names.specs.Claims.{is_ruled}
 use Rattle.isle_lawful_names.specs.NameFault.{AreLawfulNames}
 use Rattle.isle_lawful_names.specs.Words.{is_file_name, is_term_name}
-use Rattle.isle_lawful_names.proofs.LawfulLaws.{AreLawfulParts, names_are_lawful}
-use Rattle.isle_terms.specs.TermPass.{term_from}
+use Rattle.isle_lawful_names.proofs.LawfulLaws.{names_are_lawful}
 use Rattle.isle_terms.specs.Whole.{Whole, whole_of}
 use Rattle.isle_types.specs.TypeEnvironment.{type_env_of}
-use Rattle.isle_writing.specs.Erased.{erased, all_erased}
+use Rattle.isle_writing.specs.Erased.{all_erased}
 use Rattle.std.proofs.lemmas.Option.{same_Some}
-use Rattle.isle_prelude_accepted.proofs.Has.{Has, has_front, has_back, has_map, has_mapped, has_source, all_has}
+use Rattle.isle_prelude_accepted.proofs.Has.{Has, has_front, has_back, has_mapped, has_source}
+use Rattle.isle_prelude_accepted.proofs.Callees.{sound_in}
 use Rattle.isle_prelude_accepted.proofs.Simple.{AreSimple, IsSound}
 use Rattle.isle_prelude_accepted.proofs.CleanRules.{named_at, ruled_name, all_rules_made, simple_clean, simple_marked}
 use Rattle.isle_prelude_accepted.proofs.NamedFunctions.{functions_named}
@@ -46,16 +45,13 @@ files_printed [] h = refl
 files_printed (name ∷ names) h = ap (λ b. b && list_all is_file_name names) h.0 ∙ files_printed names h.1
 
 module _ (defs : List Def) (h : AreSimple (all_erased defs)) where
-  sound_of : (d : Def) → Has defs d → IsSound (all_erased defs) (erased d)
-  sound_of d i = all_has (IsSound (all_erased defs)) (all_erased defs) (erased d) h.sound (has_map erased defs d i)
-
   abbrev IsHead : List ℕ → Type 0
   IsHead name = (is_term_name name ≡ true) × Has (symbols defs) name
 
   head_of_rule : (d : Def) (r : RuleDef) → Has defs d → rule_of d ≡ Some r → IsHead r.term
   head_of_rule (Rule name prio term args iflets rhs at) r i e =
       let d = Rule name prio term args iflets rhs at in
-      let s : IsSound (all_erased defs) d = sound_of d i in
+      let s : IsSound (all_erased defs) d = sound_in defs h d i in
       let first = option_to_list name ++ (term ∷ flat_map pattern_names args) in
       let among : Has (def_names d) term =
       has_front (first ++ flat_map iflet_names iflets) (expr_names rhs) term

@@ -1,5 +1,5 @@
 -- The names in definitions are symbols, and each symbol's text is its name.
-use Rattle.std.proofs.Common.{◌≡◌, ◌⊎◌, inl, inr, ℕ, List, [], ◌∷◌, ◌++◌, Bool, true, false, cond, Option, Some, None, refl, sym, ap, ◌∙◌, subst}
+use Rattle.std.proofs.Common.{◌≡◌, ◌⊎◌, inl, inr, ℕ, List, [], ◌∷◌, ◌++◌, Bool, true, false, cond, Option, Some, None, refl, ap, ◌∙◌, subst}
 use Rattle.std.specs.Prelude.{fold, flat_map, is_some}
 use Rattle.isle_core.specs.Terms.{symbol_text}
 use Rattle.isle_ast.specs.Tree.{Def}

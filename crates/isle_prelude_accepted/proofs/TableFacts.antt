@@ -1,6 +1,6 @@
 -- What supported tables say of single formats, immediates and instructions.
-use Rattle.std.proofs.Common.{◌≡◌, ◌⊎◌, inl, inr, ℕ, List, [], ◌∷◌, ◌++◌, map, Bool, true, false, cond, Option, Some, None, refl, sym, ap, ap₂, ◌∙◌, subst}
-use Rattle.std.specs.Prelude.{flat_map, filter, not, ◌&&◌, ◌||◌, is_some}
+use Rattle.std.proofs.Common.{◌≡◌, ◌⊎◌, inl, inr, ℕ, List, [], ◌∷◌, ◌++◌, map, Bool, true, false, cond, Option, Some, None, refl, sym, ap, ◌∙◌, subst}
+use Rattle.std.specs.Prelude.{flat_map, filter, not, ◌&&◌, is_some}
 use Rattle.std.specs.List.{AllByRecursion, list_any}
 use Rattle.std.specs.Str.{bytes_eq}
 use Rattle.std.proofs.lemmas.Bool.{or_parts}
@@ -12,11 +12,10 @@ use Rattle.isle_meta.specs.declared.clif.InstructionFormat.{InstructionFormat}
 use Rattle.isle_meta.specs.FormatRow as format
 use Rattle.isle_meta.specs.FormatRow.{all_fields}
 use Rattle.isle_meta.specs.Immediates.{type_of, values_of, imm_names, same_values, has_others, is_misshapen, are_misshapen}
-use Rattle.isle_meta.specs.InstructionRow.{own_names, camel_names}
 use Rattle.isle_meta.specs.TableNames.{repeats, IsImmediateType}
 use Rattle.isle_spelling.specs.Identifier.{IsIdentifier}
-use Rattle.isle_prelude.specs.Immediates.{is_enum, plain_types, enum_types, enum_values}
-use Rattle.isle_prelude_accepted.proofs.Has.{Has, AreApart, has_front, has_back, has_either, has_map, has_mapped, has_flattened, all_has, own_bytes}
+use Rattle.isle_prelude.specs.Immediates.{is_enum, plain_types, enum_types}
+use Rattle.isle_prelude_accepted.proofs.Has.{Has, AreApart, has_front, has_back, has_map, has_mapped, has_flattened, own_bytes}
 use Rattle.isle_prelude_accepted.proofs.AscendingLists.{ascending_from, ascending_has}
 use Rattle.isle_prelude_accepted.proofs.Families.{flat_append}
 use Rattle.isle_prelude_accepted.proofs.Supported.{AreSupportedFormats, AreSupportedInstructions, IsSupportedFormat, IsSupportedInstruction}

@@ -1,15 +1,14 @@
 -- The templates of simple definitions have no fault: each has a tree, and none uses another.
-use Rattle.std.proofs.Common.{◌≡◌, ◌⊎◌, inl, inr, ℕ, zero, suc, Bool, true, false, cond, List, [], ◌∷◌, ◌++◌, map, length, Option, Some, None, refl, sym, ap, ap₂, ◌∙◌, subst, arith}
+use Rattle.std.proofs.Common.{◌≡◌, inl, inr, ℕ, zero, suc, Bool, true, false, cond, List, [], ◌∷◌, ◌++◌, map, length, Option, Some, None, refl, sym, ap, ap₂, ◌∙◌, subst}
 use Rattle.std.specs.Prelude.{is_some, not, ◌||◌, ◌&&◌, ◌==◌}
 use Rattle.std.specs.List.{AllByRecursion, list_any, list_all, find}
 use Rattle.std.specs.Str.{bytes_eq}
 use Rattle.std.proofs.lemmas.Bool.{or_from}
 use Rattle.std.proofs.lemmas.Option.{same_Some}
 use Rattle.isle_core.specs.declared.TermId.{TermId}
-use Rattle.isle_core.specs.declared.TypeId.{TypeId}
 use Rattle.isle_core.specs.declared.position.Pos.{Pos}
 use Rattle.isle_ast.specs.Tree.{Def, TypeDecl, Decl, ExternConstructor, ExternExtractor, ExternConst, Extractor, Converter, Rule, Passed, Pattern}
-use Rattle.isle_declarations.specs.Signatures.{Signature, Template, Extracting, ByFunction, ByTemplate, ExtractorDef, extractor_of, extractors, extractor_named, term_named}
+use Rattle.isle_declarations.specs.Signatures.{Signature, ExtractorDef, extractor_of, extractors, extractor_named, term_named}
 use Rattle.isle_declarations.specs.Symbols.{index_of}
 use Rattle.isle_declarations.specs.Terms.{terms}
 use Rattle.isle_types.specs.declared.row.Row.{Row}
@@ -17,20 +16,20 @@ use Rattle.isle_types.specs.TypeRows.{on}
 use Rattle.isle_terms.specs.NewVariables.{variables_in}
 use Rattle.isle_terms.specs.Scope.{Scope, no_variables}
 use Rattle.isle_terms.specs.TypeNames.{type_named}
-use Rattle.isle_terms.specs.Whole.{Whole, whole_of, termed, arg_types, ret_type}
-use Rattle.isle_walks.specs.Walks.{nodes_or_none, next_of, reaches, on_closed_walk}
+use Rattle.isle_terms.specs.Whole.{whole_of, termed, arg_types, ret_type}
+use Rattle.isle_walks.specs.Walks.{next_of, reaches, on_closed_walk}
 use Rattle.isle_sema.specs.Breaks.{breaks}
 use Rattle.isle_sema.specs.Fault.{OfExtractors, rows_of, broken_in, fault_in}
-use Rattle.isle_sema.specs.PatternPass.{PatternPass, pattern_pass}
+use Rattle.isle_sema.specs.PatternPass.{pattern_pass}
 use Rattle.isle_sema.specs.RuleRows.{is_untaken, is_mistaken, is_misplaced, is_undeclared, is_met_otherwise, sites_in}
 use Rattle.isle_sema.specs.Site.{Site}
-use Rattle.isle_sema.specs.TemplateRows.{is_unbound, misses_parameter}
+use Rattle.isle_sema.specs.TemplateRows.{is_unbound}
 use Rattle.isle_sema.specs.Templates.{params_met, template_pass, is_treed, has_tree, are_treed}
 use Rattle.isle_sema.specs.TemplateUses.{uses_in, used_through, used_of, template_uses}
-use Rattle.isle_writing.specs.Erased.{no_place, placed, erased, all_erased}
-use Rattle.isle_prelude_accepted.proofs.Has.{Has, AreApart, has_map, has_source, has_all, same_bytes, place_found}
-use Rattle.isle_prelude_accepted.proofs.Simple.{AreSimple, IsSound, IsSoundTemplate}
-use Rattle.isle_prelude_accepted.proofs.Callees.{IsCallee, declared_callee, opened}
+use Rattle.isle_writing.specs.Erased.{all_erased}
+use Rattle.isle_prelude_accepted.proofs.Has.{Has, has_source, same_bytes, place_found}
+use Rattle.isle_prelude_accepted.proofs.Simple.{AreSimple, IsSoundTemplate}
+use Rattle.isle_prelude_accepted.proofs.Callees.{sound_in, declared_callee, opened}
 use Rattle.isle_prelude_accepted.proofs.Parameters.{params_bound}
 use Rattle.isle_prelude_accepted.proofs.Splits.{none_broken, none_in, has_middle}
 use Rattle.isle_prelude_accepted.proofs.TypedPatterns.{IsGoodPart, IsFit, pattern_fit, none_used}
@@ -70,15 +69,7 @@ no_steps graph (suc steps) from to h = ap (list_any (λ (next : ℕ). (next == t
 module _ (defs : List Def) (h : AreSimple (all_erased defs)) where
   -- a template of definitions is sound
   template_sound : (term : List ℕ) (params : List (List ℕ)) (template : Pattern) (at : Pos) → Has defs (Extractor term params template at) → IsSoundTemplate (all_erased defs) term params template
-  template_sound term params template at i = sound_of (Extractor term params template at) i
-    where
-      sound_of : (d : Def) → Has defs d → IsSound (all_erased defs) (erased d)
-      sound_of d i = all_sound (all_erased defs) h.sound (has_map erased defs d i)
-        where
-          all_sound : (es : List Def) → AllByRecursion (IsSound (all_erased defs)) es → Has es (erased d) → IsSound (all_erased defs) (erased d)
-          all_sound [] k j = absurd j
-          all_sound (e ∷ es) k (inl same) = subst (IsSound (all_erased defs)) same k.0
-          all_sound (e ∷ es) k (inr j) = all_sound es k.1 j
+  template_sound term params template at i = sound_in defs h (Extractor term params template at) i
 
   -- a template at its term's type, over its parameters
   template_fit : (term : List ℕ) (params : List (List ℕ)) (template : Pattern) → IsSoundTemplate (all_erased defs) term params template

@@ -1,10 +1,9 @@
 -- Simple definitions have no fault in declarations, functions, extractors' heads and rules' heads.
-use Rattle.std.proofs.Common.{◌≡◌, ◌⊎◌, inl, inr, ℕ, ◌≤◌, Bool, true, false, cond, List, [], ◌∷◌, ◌++◌, map, length, Option, Some, None, refl, sym, ap, ap₂, ◌∙◌, subst}
-use Rattle.std.specs.Prelude.{filter_map, is_some, nat_le, not, ◌||◌, ◌&&◌, ◌==◌, option_map}
-use Rattle.std.specs.List.{AllByRecursion, cons_option, list_any, list_all}
+use Rattle.std.proofs.Common.{◌≡◌, ℕ, Bool, true, false, List, [], ◌∷◌, ◌++◌, length, Option, Some, None, refl, sym, ap, ap₂, ◌∙◌, subst}
+use Rattle.std.specs.Prelude.{is_some, not, ◌||◌, ◌&&◌, ◌==◌, option_map}
+use Rattle.std.specs.List.{AllByRecursion, list_all}
 use Rattle.std.proofs.lemmas.Bool.{or_from, eq-eqb}
 use Rattle.isle_ast.specs.Tree.{Def, TypeDecl, Decl, ExternConstructor, ExternExtractor, ExternConst, Extractor, Converter, Rule, Passed, Pattern, Expr, IfLet}
-use Rattle.isle_core.specs.declared.TypeId.{TypeId}
 use Rattle.isle_core.specs.declared.position.Pos.{Pos}
 use Rattle.isle_declarations.specs.DeclaredTypes.{made_terms}
 use Rattle.isle_declarations.specs.Heads.{terms_of, extern_terms, extractor_terms}
@@ -14,10 +13,10 @@ use Rattle.isle_declarations.specs.Symbols.{index_of}
 use Rattle.isle_types.specs.declared.row.Row.{Row}
 use Rattle.isle_types.specs.TypeRows.{on}
 use Rattle.isle_terms.specs.TypeNames.{type_named}
-use Rattle.isle_terms.specs.Whole.{Whole, whole_of, declared}
+use Rattle.isle_terms.specs.Whole.{whole_of, declared}
 use Rattle.isle_sema.specs.Breaks.{breaks}
 use Rattle.isle_sema.specs.Fault.{OfTerms, rows_of, broken_in, fault_in}
-use Rattle.isle_writing.specs.Erased.{no_place, erased, all_erased}
+use Rattle.isle_writing.specs.Erased.{all_erased}
 use Rattle.isle_prelude_accepted.proofs.Has.{Has, AreApart, has_map, has_mapped, has_found, no_place_of, none_repeat, found_none}
 use Rattle.isle_prelude_accepted.proofs.AtPlaces.{externs_same, made_same, declared_same, taken_same}
 use Rattle.isle_prelude_accepted.proofs.Simple.{AreSimple, IsSound}

@@ -1,26 +1,16 @@
 -- The terms of simple definitions: no two have one name, and each is found by its name.
-use Rattle.std.proofs.Common.{◌≡◌, ◌⊎◌, inl, inr, ℕ, ◌+◌, Bool, true, false, List, [], ◌∷◌, ◌++◌, map, Option, Some, None, refl, sym, ap, ◌∙◌, subst}
-use Rattle.std.specs.Prelude.{option_map, is_some, filter_map}
-use Rattle.std.specs.List.{AllByRecursion, cons_option}
+use Rattle.std.proofs.Common.{◌≡◌, ◌⊎◌, inl, inr, ℕ, ◌+◌, List, [], ◌∷◌, ◌++◌, map, refl, sym, ap, ◌∙◌, subst}
 use Rattle.std.proofs.lemmas.List.{map-append}
-use Rattle.isle_core.specs.declared.TypeId.{TypeId}
 use Rattle.isle_core.specs.declared.position.Pos.{Pos}
 use Rattle.isle_ast.specs.Tree.{Def, TypeDecl, Decl, ExternConstructor, ExternExtractor, ExternConst, Extractor, Converter, Rule, Passed}
 use Rattle.isle_ast.specs.declared.tree.AstBody.TheVariants.{Primitive, Enum, Struct}
 use Rattle.isle_ast.specs.declared.tree.AstVariant.{AstVariant}
 use Rattle.isle_declarations.specs.declared.terms.Origin.TheVariants as origin
-use Rattle.isle_declarations.specs.DeclaredTypes.{DeclaredType, types, variant_term, made_by, made_of, made_terms}
-use Rattle.isle_declarations.specs.Heads.{terms_of, extern_terms, extractor_terms, heads_of}
-use Rattle.isle_declarations.specs.Signatures.{Signature, Extern, Extracting, ByFunction, ByTemplate, ExtractorDef, RuleDef, signature_of, extern_of, extractor_of, rule_of, signatures, externs, extractors, rule_defs, signature_named, term_named, func_named, extractor_named}
-use Rattle.isle_declarations.specs.Symbols.{index_of}
-use Rattle.isle_declarations.specs.Terms.{made_signature, variant_signatures, terms_by, terms}
-use Rattle.isle_types.specs.Builtins.{builtin_names, type_id}
-use Rattle.isle_types.specs.TypeNames.{declared_names, type_names}
-use Rattle.isle_terms.specs.TypeNames.{type_named}
-use Rattle.isle_writing.specs.Erased.{no_place, all_erased}
-use Rattle.isle_prelude_accepted.proofs.Has.{Has, AreApart, has_front, has_back, has_either, has_map, has_mapped, has_flat, has_found, has_source, all_has, apart_append, apart_parts, found_by, found_none, place_found}
-use Rattle.isle_prelude_accepted.proofs.AtPlaces.{at_some_place, type_names_same, externs_same, made_same, declared_same, taken_same, heads_same}
-use Rattle.isle_prelude_accepted.proofs.Simple.{AreSimple, IsSound}
+use Rattle.isle_declarations.specs.DeclaredTypes.{variant_term, made_by, made_terms}
+use Rattle.isle_declarations.specs.Heads.{terms_of}
+use Rattle.isle_declarations.specs.Signatures.{Signature, signatures}
+use Rattle.isle_declarations.specs.Terms.{made_signature, variant_signatures, terms}
+use Rattle.isle_prelude_accepted.proofs.Has.{Has, AreApart, has_front, has_back, has_either, apart_append, apart_parts}
 
 -- ---- names of terms
 

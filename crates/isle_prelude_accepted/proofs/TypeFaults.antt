@@ -1,7 +1,7 @@
 -- Simple definitions have no fault in their types.
-use Rattle.std.proofs.Common.{◌≡◌, ◌⊎◌, inl, inr, ℕ, ◌≤◌, Bool, true, false, cond, List, [], ◌∷◌, ◌++◌, map, length, Option, Some, None, refl, sym, ap, ap₂, ◌∙◌, subst}
-use Rattle.std.specs.Prelude.{filter_map, flat_map, is_some, nat_le, not, ◌||◌, option_map, find}
-use Rattle.std.specs.List.{AllByRecursion, cons_option, list_any}
+use Rattle.std.proofs.Common.{◌≡◌, ◌⊎◌, inl, inr, ℕ, ◌≤◌, Bool, true, false, cond, List, [], ◌∷◌, ◌++◌, map, length, Option, Some, None, refl, sym, ap, ◌∙◌, subst}
+use Rattle.std.specs.Prelude.{is_some, nat_le, not, ◌||◌, option_map, find}
+use Rattle.std.specs.List.{AllByRecursion, list_any}
 use Rattle.std.specs.Str.{bytes_eq}
 use Rattle.std.proofs.lemmas.List.{append_assoc}
 use Rattle.std.proofs.lemmas.Bool.{or_from, le-leb}
@@ -12,19 +12,19 @@ use Rattle.isle_ast.specs.declared.tree.AstFields.{AstFields}
 use Rattle.isle_ast.specs.declared.tree.AstVariant.{AstVariant}
 use Rattle.isle_core.specs.declared.position.Pos.{Pos}
 use Rattle.isle_declarations.specs.DeclaredTypes.{DeclaredType, types, type_of, made_by, made_of, made_terms, field_types}
-use Rattle.isle_declarations.specs.Repeats.{repeats, repeats_after}
-use Rattle.isle_declarations.specs.Symbols.{index_of}
+use Rattle.isle_declarations.specs.Repeats.{repeats}
 use Rattle.isle_types.specs.declared.row.Row.{Row}
 use Rattle.isle_types.specs.Fault.{type_rows}
 use Rattle.isle_types.specs.Bodies.{any_fields, fields_repeat, variants_repeat, variant_names, field_names, are_many}
 use Rattle.isle_types.specs.Builtins.{builtin_names, builtin_named, type_id}
 use Rattle.isle_types.specs.TypeNames.{declared_names, declared_as, type_names, is_type}
-use Rattle.isle_terms.specs.Whole.{Whole, whole_of}
+use Rattle.isle_terms.specs.Whole.{whole_of}
 use Rattle.isle_sema.specs.Breaks.{breaks}
 use Rattle.isle_sema.specs.Fault.{OfTypes, broken_in, fault_in}
 use Rattle.isle_writing.specs.Erased.{erased, all_erased}
-use Rattle.isle_prelude_accepted.proofs.Has.{Has, AreApart, has_front, has_back, has_either, has_map, has_mapped, has_found, all_has, apart_parts, place_found, none_repeat, no_place_of, own_bytes}
+use Rattle.isle_prelude_accepted.proofs.Has.{Has, AreApart, has_front, has_either, has_map, has_found, apart_parts, place_found, none_repeat, no_place_of, own_bytes}
 use Rattle.isle_prelude_accepted.proofs.AtPlaces.{type_names_same, made_same}
+use Rattle.isle_prelude_accepted.proofs.Callees.{sound_in}
 use Rattle.isle_prelude_accepted.proofs.Simple.{AreSimple, IsSound, IsSoundBody, IsSoundVariant}
 use Rattle.isle_prelude_accepted.proofs.Splits.{none_broken, none_in, has_middle, new_among}
 
@@ -50,7 +50,7 @@ there_by_name (t ∷ ts) name i = first_found t ts name (bytes_eq t.name name) r
     by rest (inl e) f = absurd (let both : true ≡ false = sym (own_bytes t.name) ∙ ap (bytes_eq t.name) e ∙ f in cc)
     by rest (inr k) f = rest k
 
-some_mapped : {A B : Type 0} (f : A → B) (o : Option A) → is_some (option_map f o) ≡ is_some o
+pub some_mapped : {A B : Type 0} (f : A → B) (o : Option A) → is_some (option_map f o) ≡ is_some o
 some_mapped f None = refl
 some_mapped f (Some x) = refl
 
@@ -89,8 +89,7 @@ all_known defs names h = subst (λ (ns : List (List ℕ)). AllByRecursion (Has n
 module _ (defs : List Def) (h : AreSimple (all_erased defs)) where
   -- a definition among the others is sound
   pub sound_at : (before : List Def) (d : Def) (after : List Def) → defs ≡ before ++ d ∷ after → IsSound (all_erased defs) (erased d)
-  sound_at before d after e =
-      all_has (IsSound (all_erased defs)) (all_erased defs) (erased d) h.sound (has_map erased defs d (subst (λ ds. Has ds d) (sym e) (has_middle before d after)))
+  sound_at before d after e = sound_in defs h d (subst (λ ds. Has ds d) (sym e) (has_middle before d after))
 
   fields_sound : (name : List ℕ) (body : AstBody) → IsSoundBody (all_erased defs) name body → (variants_repeat body || any_fields fields_repeat body) ≡ false
   fields_sound name (Primitive rust) s = refl

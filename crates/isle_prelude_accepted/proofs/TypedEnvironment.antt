@@ -1,15 +1,14 @@
 -- Simple definitions give one environment.
-use Rattle.std.proofs.Common.{◌≡◌, ◌⊎◌, inl, inr, ℕ, ◌+◌, ℤ, pos, Bool, true, false, cond, List, [], ◌∷◌, ◌++◌, map, length, Option, Some, None, refl, sym, ap, ap₂, ◌∙◌, subst}
-use Rattle.std.specs.Prelude.{option_map, option_and_then, filter_map}
+use Rattle.std.proofs.Common.{◌≡◌, inl, inr, ℕ, ◌+◌, pos, Bool, cond, List, [], ◌∷◌, Option, Some, None, refl, ap, ap₂, ◌∙◌}
+use Rattle.std.specs.Prelude.{option_map, option_and_then}
 use Rattle.std.specs.List.{AllByRecursion, cons_option}
-use Rattle.std.proofs.lemmas.Option.{same_Some}
 use Rattle.isle_core.specs.declared.TermId.{TermId}
 use Rattle.isle_core.specs.declared.TypeId.{TypeId}
 use Rattle.isle_core.specs.declared.types.Term.{Term}
 use Rattle.isle_core.specs.Rule.{Rule as CoreRule, Environment}
 use Rattle.isle_ast.specs.Tree.{Def, TypeDecl, Decl, ExternConstructor, ExternExtractor, ExternConst, Extractor, Converter, Rule, Passed}
 use Rattle.isle_ast.specs.declared.tree.AstBody.TheVariants.{Primitive, Enum, Struct}
-use Rattle.isle_declarations.specs.Signatures.{Signature, RuleDef, rule_of, rule_defs}
+use Rattle.isle_declarations.specs.Signatures.{Signature, RuleDef, rule_defs}
 use Rattle.isle_ast.specs.declared.tree.AstBody.{AstBody}
 use Rattle.isle_ast.specs.declared.tree.AstVariant.{AstVariant}
 use Rattle.isle_core.proofs.AllLaws.{all_append}
@@ -21,22 +20,20 @@ use Rattle.isle_types.specs.TypeNames.{declared_names}
 use Rattle.isle_types.specs.TypeEnvironment.{type_env_of}
 use Rattle.isle_terms.specs.Converters.{Conversion, converter_of, converters, converters_pass}
 use Rattle.isle_terms.specs.TermPass.{term_from, term_pass, terms_pass, types_named, tree_before}
-use Rattle.isle_terms.specs.TypeNames.{type_named}
 use Rattle.isle_terms.specs.Whole.{Whole, whole_of}
 use Rattle.isle_terms.proofs.MadeTerms.{before_both}
 use Rattle.isle_sema.specs.Environment.{env_over, env_with, env_of}
 use Rattle.isle_sema.specs.Fault.{OfTypes, OfTerms, OfExtractors, OfRules, or_later, fault_in, later_fault}
 use Rattle.isle_sema.specs.RulePass.{rule_pass, rules_pass}
-use Rattle.isle_sema.specs.Templates.{are_treed}
-use Rattle.isle_sema.specs.Typing.{fault, Typed, TypedOnly}
+use Rattle.isle_sema.specs.Typing.{fault, TypedOnly}
 use Rattle.isle_sema.proofs.Firsts.{none_stages}
 use Rattle.isle_sema.proofs.TypedOnce.{typed_only}
 use Rattle.isle_writing.specs.Erased.{erased, all_erased}
-use Rattle.isle_prelude_accepted.proofs.Has.{Has, has_back, has_map, has_found, all_has}
+use Rattle.isle_prelude_accepted.proofs.Has.{Has, has_back, has_map, has_found}
 use Rattle.isle_prelude_accepted.proofs.Simple.{AreSimple, IsSound, IsSoundVariant}
-use Rattle.isle_prelude_accepted.proofs.Callees.{IsKnown, known_type, known_types}
+use Rattle.isle_prelude_accepted.proofs.Callees.{sound_in, IsKnown, known_type, known_types}
 use Rattle.isle_prelude_accepted.proofs.RuleFaults.{rules_unbroken}
-use Rattle.isle_prelude_accepted.proofs.RuleParts.{IsMadeRule, variable_of, rule_on, rule_fit, rule_is_made}
+use Rattle.isle_prelude_accepted.proofs.RuleParts.{IsMadeRule, rule_on, rule_fit, rule_is_made}
 use Rattle.isle_prelude_accepted.proofs.TemplateFaults.{templates_unbroken, all_treed}
 use Rattle.isle_prelude_accepted.proofs.TermFaults.{terms_unbroken}
 use Rattle.isle_prelude_accepted.proofs.TypeFaults.{types_unbroken}
@@ -82,9 +79,6 @@ terms_found w (s ∷ sigs) h =
     (t ∷ rest.0, before_both (term_pass w s) (terms_pass w sigs) t rest.0 one rest.1, (record { args = args.0; ret = ret.0; is = refl }, rest.2))
 
 module _ (defs : List Def) (h : AreSimple (all_erased defs)) where
-  sound_of : (d : Def) → Has defs d → IsSound (all_erased defs) (erased d)
-  sound_of d i = all_has (IsSound (all_erased defs)) (all_erased defs) (erased d) h.sound (has_map erased defs d i)
-
   -- ---- faults
 
   pub no_fault : fault defs ≡ None
@@ -101,7 +95,7 @@ module _ (defs : List Def) (h : AreSimple (all_erased defs)) where
   no_conversions (d ∷ ds) all = ap₂ cons_option (none d (all d (inl refl))) (no_conversions ds (λ x i. all x (inr i)))
     where
       none : (x : Def) → Has defs x → converter_of x ≡ None
-      none (Converter from to term at) i = absurd (sound_of (Converter from to term at) i)
+      none (Converter from to term at) i = absurd (sound_in defs h (Converter from to term at) i)
       none (TypeDecl name x n body at) i = refl
       none (Decl term pure multi partial recursive args ret at) i = refl
       none (ExternConstructor term func at) i = refl
@@ -118,7 +112,7 @@ module _ (defs : List Def) (h : AreSimple (all_erased defs)) where
   rules_from i (Rule name prio term args iflets rhs at ∷ ds) all =
       let w = whole_of defs in
       let d = Rule name prio term args iflets rhs at in
-      let s : IsSound (all_erased defs) d = sound_of d (all d (inl refl)) in
+      let s : IsSound (all_erased defs) d = sound_in defs h d (all d (inl refl)) in
       let r : RuleDef = record { name = name; prio = prio; term = term; args = args; iflets = iflets; rhs = rhs; pos = at } in
       let form : r ≡ rule_on name term s.2.params rhs at =
       ap (λ z. record { name = name; prio = z; term = term; args = args; iflets = iflets; rhs = rhs; pos = at }) s.0
@@ -152,13 +146,13 @@ module _ (defs : List Def) (h : AreSimple (all_erased defs)) where
   terms_typed [] all = tt
   terms_typed (TypeDecl name x n (Enum vs) at ∷ ds) all =
       let i = all (TypeDecl name x n (Enum vs) at) (inl refl) in
-      let s : IsSound (all_erased defs) (TypeDecl name x n (Enum vs) at) = sound_of (TypeDecl name x n (Enum vs) at) i in
+      let s : IsSound (all_erased defs) (TypeDecl name x n (Enum vs) at) = sound_in defs h (TypeDecl name x n (Enum vs) at) i in
       all_append (HasTypes defs) (variant_signatures name at 0 vs) (terms ds) (variants_typed name at 0 vs (type_there name x n (Enum vs) at i) s.1.0) (terms_typed ds (λ y j. all y (inr j)))
   terms_typed (TypeDecl name x n (Primitive rust) at ∷ ds) all = terms_typed ds (λ y j. all y (inr j))
-  terms_typed (TypeDecl name x n (Struct fields) at ∷ ds) all = absurd (let s : IsSound (all_erased defs) (TypeDecl name x n (Struct fields) at) = sound_of (TypeDecl name x n (Struct fields) at) (all _ (inl refl)) in s.1)
+  terms_typed (TypeDecl name x n (Struct fields) at ∷ ds) all = absurd (let s : IsSound (all_erased defs) (TypeDecl name x n (Struct fields) at) = sound_in defs h (TypeDecl name x n (Struct fields) at) (all _ (inl refl)) in s.1)
   terms_typed (Decl term pure multi partial recursive args ret at ∷ ds) all =
       let d = Decl term pure multi partial recursive args ret at in
-      let s : IsSound (all_erased defs) d = sound_of d (all d (inl refl)) in
+      let s : IsSound (all_erased defs) d = sound_in defs h d (all d (inl refl)) in
       ((known_type defs h ret s.1.gives, known_types defs h args s.1.known), terms_typed ds (λ y j. all y (inr j)))
   terms_typed (ExternConstructor term func at ∷ ds) all = terms_typed ds (λ y j. all y (inr j))
   terms_typed (ExternExtractor term func infallible at ∷ ds) all = terms_typed ds (λ y j. all y (inr j))

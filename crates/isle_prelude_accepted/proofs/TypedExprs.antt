@@ -1,6 +1,6 @@
 -- An expression of the right types has a tree of as many nodes, calls only what functions and variants make, and breaks no row.
-use Rattle.std.proofs.Common.{◌≡◌, inl, inr, ℕ, suc, ◌+◌, Bool, true, false, cond, List, [], ◌∷◌, ◌++◌, map, length, Option, Some, None, refl, sym, ap, ap₂, ◌∙◌, subst, arith}
-use Rattle.std.specs.Prelude.{is_some, not, ◌||◌, ◌==◌, option_map, option_and_then}
+use Rattle.std.proofs.Common.{◌≡◌, ℕ, suc, ◌+◌, true, false, List, [], ◌∷◌, ◌++◌, map, length, Option, Some, None, refl, sym, ap, ap₂, ◌∙◌, subst}
+use Rattle.std.specs.Prelude.{not, ◌==◌, option_map}
 use Rattle.std.specs.List.{AllByRecursion}
 use Rattle.std.proofs.lemmas.Bool.{or_from, eq-eqb}
 use Rattle.isle_core.proofs.AllLaws.{all_append}
@@ -17,15 +17,15 @@ use Rattle.isle_declarations.specs.Terms.{terms}
 use Rattle.isle_templates.specs.NodeCount.{expr_nodes, exprs_nodes}
 use Rattle.isle_terms.specs.Converters.{conversion, within}
 use Rattle.isle_terms.specs.Locals.{local_named}
-use Rattle.isle_terms.specs.Scope.{Local, local_type, typed_local}
+use Rattle.isle_terms.specs.Scope.{Local, local_type}
 use Rattle.isle_terms.specs.TypeNames.{type_named}
-use Rattle.isle_terms.specs.Whole.{Whole, termed, arg_types, ret_type, has_constructor}
+use Rattle.isle_terms.specs.Whole.{Whole, arg_types, ret_type, has_constructor}
 use Rattle.isle_sema.specs.ExprPass.{ExprPass, ExprsPass, expr_pass, exprs_pass, call_tree, expr_within, called_by, local_tree, known_type, expr_before, count_of}
-use Rattle.isle_sema.specs.RuleRows.{is_untaken, is_mistaken, is_misplaced, is_undeclared, is_met_otherwise, is_unknown, is_mistyped, is_call_of, is_call_misfit, differ}
+use Rattle.isle_sema.specs.RuleRows.{is_untaken, is_mistaken, is_misplaced, is_undeclared, is_met_otherwise, is_unknown, is_mistyped, is_call_of}
 use Rattle.isle_sema.specs.Site.{Site, UsedAt, CalledAt}
 use Rattle.isle_prelude_accepted.proofs.Has.{Has}
 use Rattle.isle_prelude_accepted.proofs.Simple.{Makes, Variables, IsExprOf, AreExprsOf, expr_size, exprs_size}
-use Rattle.isle_prelude_accepted.proofs.Callees.{IsKnown, IsCallee, IsMadeBy}
+use Rattle.isle_prelude_accepted.proofs.Callees.{IsKnown, IsMadeBy}
 use Rattle.isle_prelude_accepted.proofs.TypedPatterns.{known_differ, no_conversion}
 
 -- ---- what is asked

@@ -1,6 +1,6 @@
 -- A pattern of the right types has a tree, binds nothing more, and breaks no row.
-use Rattle.std.proofs.Common.{◌≡◌, inl, inr, ℕ, suc, Bool, true, false, cond, List, [], ◌∷◌, ◌++◌, map, length, Option, Some, None, refl, sym, ap, ap₂, ◌∙◌, subst, arith}
-use Rattle.std.specs.Prelude.{is_some, not, ◌||◌, ◌==◌, option_map, option_and_then}
+use Rattle.std.proofs.Common.{◌≡◌, ℕ, suc, true, false, cond, List, [], ◌∷◌, ◌++◌, map, length, Option, Some, None, refl, sym, ap, ap₂, ◌∙◌, subst}
+use Rattle.std.specs.Prelude.{is_some, not, ◌==◌, option_map, option_and_then}
 use Rattle.std.specs.List.{AllByRecursion}
 use Rattle.std.proofs.lemmas.Bool.{or_from, eq-eqb}
 use Rattle.isle_core.proofs.AllLaws.{all_append}
@@ -11,21 +11,21 @@ use Rattle.isle_core.specs.Pattern as core_pattern
 use Rattle.isle_core.specs.Pattern.{Pattern as CorePattern}
 use Rattle.isle_ast.specs.Tree as tree
 use Rattle.isle_ast.specs.Tree.{Def, Pattern, Patterns, NoPattern, APattern}
-use Rattle.isle_declarations.specs.Signatures.{Signature, ByFunction, ByTemplate, ExtractorDef, extractors, extractor_named, term_named}
-use Rattle.isle_declarations.specs.Terms.{terms}
+use Rattle.isle_declarations.specs.Signatures.{Signature, ByFunction, ByTemplate, ExtractorDef, extractors, extractor_named}
 use Rattle.isle_terms.specs.Converters.{Conversion, conversion, within, converter_between, converters}
-use Rattle.isle_terms.specs.Scope.{Local, Scope, found_in, bound_at, local_type, met, met_by, variable, typed_local}
+use Rattle.isle_terms.specs.Scope.{Local, Scope, found_in, local_type, met, met_by, variable, typed_local}
 use Rattle.isle_terms.specs.TermPass.{tree_before}
 use Rattle.isle_terms.specs.TypeNames.{type_named}
 use Rattle.isle_terms.specs.Whole.{Whole, termed, arg_types, ret_type, has_extractor}
 use Rattle.isle_sema.specs.PatternPass.{PatternPass, PatternsPass, pattern_pass, patterns_pass, term_tree, pattern_within, taken_by, variable_tree, count_of}
-use Rattle.isle_sema.specs.RuleRows.{is_untaken, is_mistaken, is_misplaced, is_undeclared, is_met_otherwise, is_taken_misfit, differ}
-use Rattle.isle_sema.specs.Site.{Site, PartAt, MetAt, TakenAt}
+use Rattle.isle_sema.specs.RuleRows.{is_untaken, is_mistaken, is_misplaced, is_undeclared, is_met_otherwise, differ}
+use Rattle.isle_sema.specs.Site.{Site, MetAt, TakenAt}
 use Rattle.isle_sema.specs.TemplateRows.{is_unbound}
 use Rattle.isle_sema.specs.TemplateUses.{templated, templated_with, uses_in, all_uses_in}
 use Rattle.isle_prelude_accepted.proofs.Has.{Has}
 use Rattle.isle_prelude_accepted.proofs.Simple.{Opens, Variables, IsPatternOf, ArePatternsOf}
-use Rattle.isle_prelude_accepted.proofs.Callees.{IsKnown, IsCallee, HasNoTemplate, IsOpened}
+use Rattle.isle_prelude_accepted.proofs.TypeFaults.{some_mapped}
+use Rattle.isle_prelude_accepted.proofs.Callees.{IsKnown, HasNoTemplate, IsOpened}
 
 -- a part of a pattern that breaks no row
 pub record IsGoodPart (w : Whole) (site : Site) : Type 0 where
@@ -68,10 +68,6 @@ AreBound w vars scope = (name ty : List ℕ) → Has vars (name, ty) → (l : Lo
 
 variable_good : (w : Whole) (l : Local) (expected : Option TypeId) (k : TypeId) → expected ≡ Some k → l.ty ≡ Some k → IsGoodPart w (MetAt expected (Some l.ty))
 variable_good w l expected k e f = record { bound = refl; met = known_differ l.ty expected k f e; taken = refl; typed = refl; placed = refl; declared = refl }
-
-some_mapped : {A B : Type 0} (f : A → B) (o : Option A) → is_some (option_map f o) ≡ is_some o
-some_mapped f None = refl
-some_mapped f (Some x) = refl
 
 local_typed : (l : Local) (k : TypeId) → l.ty ≡ Some k → is_some (typed_local (Some l)) ≡ true
 local_typed l k e = ap (λ (o : Option TypeId). is_some (option_map {U = TypeId × VarId} (λ (ty : TypeId). (ty, record { 0 = l.number })) o)) e

@@ -1,5 +1,5 @@
 -- Which tables are plain: those of which each file can be spelt, and no row of which is long.
-use Rattle.std.specs.Prelude.{◌≡◌, ℕ, ◌≤◌, List, length, false}
+use Rattle.std.specs.Prelude.{◌≡◌, ◌≤◌, length, false}
 use Rattle.std.specs.List.{AllByRecursion}
 use Rattle.isle_meta.specs.declared.clif.Instruction.{Instruction}
 use Rattle.isle_meta.specs.declared.clif.InstructionFormat.{InstructionFormat}
