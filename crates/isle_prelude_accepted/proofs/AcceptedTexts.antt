@@ -12,7 +12,8 @@ use Rattle.isle_prelude_accepted.specs.Plain.{ArePlain}
 use Rattle.isle_prelude_accepted.proofs.PreludeAccepted.{prelude_lawful}
 
 -- what texts spell together, from this file on
-sources : (file : ℕ) (texts : List (List ℕ)) (parts : List (List Def)) → SpellParts texts parts → (defs : List Def) × Source file texts defs × (all_erased defs ≡ all_erased (flat_map (λ ds. ds) parts))
+sources : (file : ℕ) (texts : List (List ℕ)) (parts : List (List Def)) → SpellParts texts parts
+    → (defs : List Def) × Source file texts defs × (all_erased defs ≡ all_erased (flat_map (λ ds. ds) parts))
 sources file [] [] h = ([], refl, refl)
 sources file [] (ds ∷ parts) h = absurd h
 sources file (text ∷ texts) [] h = absurd h

@@ -1,5 +1,6 @@
 -- Names that end in a number: what they are, and that two numbers have two names.
-use Rattle.std.proofs.Common.{◌≡◌, ℕ, zero, suc, ◌+◌, ◌-◌, ◌<◌, List, [], ◌∷◌, ◌++◌, length, take, drop, Bool, true, false, cond, refl, sym, ap, ◌∙◌, arith, length-append}
+use Rattle.std.proofs.Common.{◌≡◌, ℕ, zero, suc, ◌+◌, ◌-◌, ◌<◌, List, [], ◌∷◌, ◌++◌, length, take, drop, Bool, true, false, cond, refl, sym, ap, ◌∙◌, arith}
+use Rattle.std.proofs.Common.{length-append}
 use Rattle.std.specs.Prelude.{IsTrue, map, codes, ◌&&◌}
 use Rattle.std.specs.List.{list_all, list_any}
 use Rattle.std.specs.Str.{bytes_eq}
@@ -52,7 +53,8 @@ leading_digits : (ds : List ℕ) (b : ℕ) (bs : List ℕ) → list_all is_digit
 leading_digits [] b bs h e = ap (λ c. cond c (b ∷ leading bs) []) e
 leading_digits (d ∷ ds) b bs h e = by (is_digit d) h (λ k. leading_digits ds b bs k e)
   where
-    by : (c : Bool) → (c && list_all is_digit ds) ≡ true → (list_all is_digit ds ≡ true → leading (ds ++ b ∷ bs) ≡ ds) → cond c (d ∷ leading (ds ++ b ∷ bs)) [] ≡ d ∷ ds
+    by : (c : Bool) → (c && list_all is_digit ds) ≡ true → (list_all is_digit ds ≡ true → leading (ds ++ b ∷ bs) ≡ ds)
+        → cond c (d ∷ leading (ds ++ b ∷ bs)) [] ≡ d ∷ ds
     by true k rest = ap (λ xs. d ∷ xs) (rest k)
     by false k rest = absurd cc
 
@@ -106,11 +108,13 @@ unpacked_same a b e = ap (drop 7) e
 
 -- ---- kinds of names
 
-pub value_type_kind : (n : ℕ) → (is_builtin (value_array_type n) ≡ false) × (is_among (value_array_type n) prelude_types ≡ false) × (is_numbered (codes "ValueArray") (value_array_type n) ≡ true)
+pub value_type_kind : (n : ℕ)
+    → (is_builtin (value_array_type n) ≡ false) × (is_among (value_array_type n) prelude_types ≡ false) × (is_numbered (codes "ValueArray") (value_array_type n) ≡ true)
 unfolding value_array_type
 value_type_kind n = (refl, refl, digits_numeral n)
 
-pub block_type_kind : (n : ℕ) → (is_builtin (block_array_type n) ≡ false) × (is_among (block_array_type n) prelude_types ≡ false) × (is_numbered (codes "ValueArray") (block_array_type n) ≡ false) × (is_numbered (codes "BlockArray") (block_array_type n) ≡ true)
+pub block_type_kind : (n : ℕ)
+    → (is_builtin (block_array_type n) ≡ false) × (is_among (block_array_type n) prelude_types ≡ false) × (is_numbered (codes "ValueArray") (block_array_type n) ≡ false) × (is_numbered (codes "BlockArray") (block_array_type n) ≡ true)
 unfolding block_array_type
 block_type_kind n = (refl, refl, refl, digits_numeral n)
 
@@ -118,7 +122,8 @@ pub value_array_kind : (n : ℕ) → (is_among (value_array n) prelude_terms ≡
 unfolding value_array
 value_array_kind n = (refl, digits_numeral n)
 
-pub block_array_kind : (n : ℕ) → (is_among (block_array n) prelude_terms ≡ false) × (is_numbered (codes "value_array_") (block_array n) ≡ false) × (is_numbered (codes "block_array_") (block_array n) ≡ true)
+pub block_array_kind : (n : ℕ)
+    → (is_among (block_array n) prelude_terms ≡ false) × (is_numbered (codes "value_array_") (block_array n) ≡ false) × (is_numbered (codes "block_array_") (block_array n) ≡ true)
 unfolding block_array
 block_array_kind n = (refl, refl, digits_numeral n)
 
@@ -158,7 +163,8 @@ ctor_blocks : (n : ℕ) → is_numbered (codes "block_array_") (value_array_ctor
 unfolding value_array value_array_ctor
 ctor_blocks n = refl
 
-pub ctor_kind : (n : ℕ) → (is_among (value_array_ctor n) prelude_terms ≡ false) × (is_numbered (codes "value_array_") (value_array_ctor n) ≡ false) × (is_numbered (codes "block_array_") (value_array_ctor n) ≡ false)
+pub ctor_kind : (n : ℕ)
+    → (is_among (value_array_ctor n) prelude_terms ≡ false) × (is_numbered (codes "value_array_") (value_array_ctor n) ≡ false) × (is_numbered (codes "block_array_") (value_array_ctor n) ≡ false)
     × (is_array_constructor (value_array_ctor n) ≡ true)
 ctor_kind n = (ctor_fixed n, ctor_array n, ctor_blocks n, ctor_constructs n)
 

@@ -66,7 +66,8 @@ module _ {K : Type 0} (R : K → K → Ordering) (o : IsTotalOrder R) (exact : (
   inserted_from [] k y i = i
   inserted_from (x ∷ xs) k y i = by (R k x) (λ j. inserted_from xs k y j) i
     where
-      by : (r : Ordering) → (Has (insert_key R xs k) y → (k ≡ y) ⊎ Has xs y) → Has (match_ordering r (k ∷ x ∷ xs) (x ∷ xs) (x ∷ insert_key R xs k)) y → (k ≡ y) ⊎ ((x ≡ y) ⊎ Has xs y)
+      by : (r : Ordering) → (Has (insert_key R xs k) y → (k ≡ y) ⊎ Has xs y) → Has (match_ordering r (k ∷ x ∷ xs) (x ∷ xs) (x ∷ insert_key R xs k)) y
+          → (k ≡ y) ⊎ ((x ≡ y) ⊎ Has xs y)
       by Less rest j = j
       by Equal rest j = inr j
       by Greater rest (inl e) = inr (inl e)

@@ -7,7 +7,8 @@ use Rattle.isle_ast.specs.Positions.{place_of}
 use Rattle.isle_ast.specs.Tree.{Def, TypeDecl, Decl, ExternConstructor, ExternExtractor, ExternConst, Extractor, Converter, Rule, Passed}
 use Rattle.isle_declarations.specs.DeclaredTypes.{DeclaredType, type_of, types, made_or_none, made_terms}
 use Rattle.isle_declarations.specs.Heads.{terms_of, extractor_terms, heads_of}
-use Rattle.isle_declarations.specs.Signatures.{Signature, ExtractorDef, RuleDef, signature_of, extern_of, extractor_of, rule_of, signatures, externs, extractors, rule_defs}
+use Rattle.isle_declarations.specs.Signatures.{Signature, ExtractorDef, RuleDef, signature_of, extern_of, extractor_of, rule_of, signatures, externs}
+use Rattle.isle_declarations.specs.Signatures.{extractors, rule_defs}
 use Rattle.isle_types.specs.Builtins.{builtin_names}
 use Rattle.isle_types.specs.TypeNames.{type_names}
 use Rattle.isle_writing.specs.Erased.{placed, erased, all_erased}

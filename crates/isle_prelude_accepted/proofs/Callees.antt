@@ -11,14 +11,17 @@ use Rattle.isle_ast.specs.declared.tree.AstVariant.{AstVariant}
 use Rattle.isle_declarations.specs.declared.terms.Origin.TheVariants as origin
 use Rattle.isle_declarations.specs.DeclaredTypes.{DeclaredType, types, type_of, variant_term, made_of, made_terms, field_types}
 use Rattle.isle_declarations.specs.Heads.{terms_of, extern_terms, extractor_terms, heads_of}
-use Rattle.isle_declarations.specs.Signatures.{Signature, Extern, Extracting, ByFunction, ByTemplate, ExtractorDef, RuleDef, signature_of, extern_of, extractor_of, rule_of, signatures, externs, extractors, rule_defs, term_named, func_named, extractor_named, has_rule}
+use Rattle.isle_declarations.specs.Signatures.{Signature, Extern, Extracting, ByFunction, ByTemplate, ExtractorDef, RuleDef, signature_of, extern_of}
+use Rattle.isle_declarations.specs.Signatures.{extractor_of, rule_of, signatures, externs, extractors, rule_defs, term_named, func_named, extractor_named}
+use Rattle.isle_declarations.specs.Signatures.{has_rule}
 use Rattle.isle_declarations.specs.Terms.{made_signature, terms_by, terms, is_made}
 use Rattle.isle_types.specs.Builtins.{builtin_names, type_id}
 use Rattle.isle_types.specs.TypeNames.{declared_names, type_names}
 use Rattle.isle_terms.specs.TypeNames.{type_named}
 use Rattle.isle_terms.specs.Whole.{Whole, whole_of, termed, declared, has_constructor, has_extractor}
 use Rattle.isle_writing.specs.Erased.{no_place, erased, all_erased}
-use Rattle.isle_prelude_accepted.proofs.Has.{Has, AreApart, has_back, has_map, has_mapped, has_flat, has_found, has_source, all_has, found_by, found_none, place_found}
+use Rattle.isle_prelude_accepted.proofs.Has.{Has, AreApart, has_back, has_map, has_mapped, has_flat, has_found, has_source, all_has, found_by, found_none}
+use Rattle.isle_prelude_accepted.proofs.Has.{place_found}
 use Rattle.isle_prelude_accepted.proofs.AtPlaces.{at_some_place, type_names_same, externs_same, made_same, declared_same, taken_same, heads_same}
 use Rattle.isle_prelude_accepted.proofs.Simple.{AreSimple, IsSound, IsSoundVariant, IsVariantTerm, Opens, Makes}
 use Rattle.isle_prelude_accepted.proofs.Terms.{terms_apart, variant_there}
@@ -93,7 +96,8 @@ taker_declared E (Rule name prio term args iflets rhs at) x s e = absurd cc
 taker_declared E (Passed head at) x s e = absurd cc
 
 -- a rule of sound definitions is of a declared term that no function makes
-head_sound : (E : List Def) (d : Def) (r : RuleDef) → IsSound E d → rule_of d ≡ Some r → Has (terms_of (signatures E)) r.term × (Has (extern_terms (externs E)) r.term → ⊥)
+head_sound : (E : List Def) (d : Def) (r : RuleDef) → IsSound E d → rule_of d ≡ Some r
+    → Has (terms_of (signatures E)) r.term × (Has (extern_terms (externs E)) r.term → ⊥)
 head_sound E (Rule name prio term args iflets rhs at) r s e =
     let sig : Signature = record { term = term; pure = false; multi = false; partial = false; recursive = false; args = s.2.args; ret = s.2.ret; pos = no_place; origin = origin.Declared } in
     let same : term ≡ r.term = ap term_or e in
@@ -126,7 +130,8 @@ module _ (defs : List Def) (h : AreSimple (all_erased defs)) where
       let d = has_source extractor_of E x.0 x.1 in
       subst (Has (terms_of (signatures E))) x.2 (taker_declared E d.0 x.0 (all_has (IsSound E) E d.0 h.sound d.1) d.2)
 
-  pub head_declared : (name : List ℕ) → Has (heads_of (rule_defs (all_erased defs))) name → Has (terms_of (signatures (all_erased defs))) name × (Has (extern_terms (externs (all_erased defs))) name → ⊥)
+  pub head_declared : (name : List ℕ) → Has (heads_of (rule_defs (all_erased defs))) name
+      → Has (terms_of (signatures (all_erased defs))) name × (Has (extern_terms (externs (all_erased defs))) name → ⊥)
   head_declared name i =
       let E = all_erased defs in
       let x = has_mapped (λ (y : RuleDef). y.term) (rule_defs E) name i in

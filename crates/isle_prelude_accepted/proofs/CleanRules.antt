@@ -1,5 +1,6 @@
 -- Nothing is wrong with the rules of simple definitions: none tests anything, no two are of one term, and none calls a term with rules.
-use Rattle.std.proofs.Common.{◌≡◌, inl, inr, ℕ, suc, ℤ, pos, List, [], ◌∷◌, ◌++◌, get_or, Bool, true, false, cond, Option, Some, None, refl, sym, ap, ap₂, ◌∙◌, subst, true≢false, eqb→eq}
+use Rattle.std.proofs.Common.{◌≡◌, inl, inr, ℕ, suc, ℤ, pos, List, [], ◌∷◌, ◌++◌, get_or, Bool, true, false, cond, Option, Some, None, refl, sym, ap, ap₂, ◌∙◌}
+use Rattle.std.proofs.Common.{subst, true≢false, eqb→eq}
 use Rattle.std.specs.Prelude.{◌↔◌, ◌==◌, ◌<ℤ◌, ◌||◌, IsTrue, IsSomeAnd, option_map, slice_get}
 use Rattle.std.specs.Bool.{passes}
 use Rattle.std.specs.List.{AllByRecursion, list_any}
@@ -43,7 +44,8 @@ use Rattle.isle_prelude_accepted.proofs.TypedExprs.{IsUnruled, CallsOnly, AllCal
 abbrev IsNoConstraint : Test → Type 0
 IsNoConstraint t = is_constraint t ≡ false
 
-no_tests : (env : Environment) (ps : List Pattern) (i : ℕ) (places : Places) → AllByRecursion IsVariable ps → AllByRecursion IsNoConstraint (args_tests env ps i places)
+no_tests : (env : Environment) (ps : List Pattern) (i : ℕ) (places : Places) → AllByRecursion IsVariable ps
+    → AllByRecursion IsNoConstraint (args_tests env ps i places)
 no_tests env [] i places h = tt
 no_tests env (p ∷ ps) i places h =
     let v = h.0 in
@@ -86,7 +88,8 @@ same_name w a b m n e f same =
 abbrev pub OtherRoots : Rule → Rule → Type 0
 OtherRoots q r = q.root_term.0 ≡ r.root_term.0 → ⊥
 
-roots_behind : (w : Whole) (term : List ℕ) (q : Rule) (rs : List RuleDef) (xs : List Rule) → IsMadeRule w term q → (Has (heads_of rs) term → ⊥) → AreMadeRules w rs xs → AllByRecursion (OtherRoots q) xs
+roots_behind : (w : Whole) (term : List ℕ) (q : Rule) (rs : List RuleDef) (xs : List Rule) → IsMadeRule w term q → (Has (heads_of rs) term → ⊥)
+    → AreMadeRules w rs xs → AllByRecursion (OtherRoots q) xs
 roots_behind w term q [] [] m none h = tt
 roots_behind w term q [] (x ∷ xs) m none h = absurd h
 roots_behind w term q (r ∷ rs) [] m none h = absurd h
@@ -136,19 +139,22 @@ none_extracted : (env : Environment) (ps : List Pattern) → AllByRecursion IsVa
 none_extracted env [] h = refl
 none_extracted env (p ∷ ps) h = ap₂ (λ xs ys. xs ++ ys) (ap (Rattle.isle_core.specs.CalledTerms.extracted_by env) h.0.2) (none_extracted env ps h.1)
 
-rule_calls : (env : Environment) (w : Whole) (term : List ℕ) (r : Rule) → IsMadeRule w term r → AllByRecursion (λ (c : CalledTerm). IsUnruled w c.term.0) (called_in env r)
+rule_calls : (env : Environment) (w : Whole) (term : List ℕ) (r : Rule) → IsMadeRule w term r
+    → AllByRecursion (λ (c : CalledTerm). IsUnruled w c.term.0) (called_in env r)
 rule_calls env w term r m =
     let P = λ (c : CalledTerm). IsUnruled w c.term.0 in
     subst (λ xs. AllByRecursion P (xs ++ called_by env r.rhs))
     (sym (ap₂ (λ xs ys. xs ++ ys) (none_extracted env r.args m.variables) (ap (Rattle.isle_core.specs.CalledTerms.called_in_iflets env) m.free)))
     (calls_kept env (IsUnruled w) r.rhs m.calls)
 
-rules_call : (env : Environment) (w : Whole) (rs : List RuleDef) (xs : List Rule) → AllByRecursion (IsOf w rs) xs → AllByRecursion (λ (c : CalledTerm). IsUnruled w c.term.0) (called env xs)
+rules_call : (env : Environment) (w : Whole) (rs : List RuleDef) (xs : List Rule) → AllByRecursion (IsOf w rs) xs
+    → AllByRecursion (λ (c : CalledTerm). IsUnruled w c.term.0) (called env xs)
 rules_call env w rs [] h = tt
 rules_call env w rs (x ∷ xs) h = all_append (λ (c : CalledTerm). IsUnruled w c.term.0) (called_in env x) (called env xs) (rule_calls env w h.0.0 x h.0.2) (rules_call env w rs xs h.1)
 
 -- a term with a rule has the name of a head
-pub ruled_name : (w : Whole) (rs : List RuleDef) (xs : List Rule) (id : TermId) → AllByRecursion (IsOf w rs) xs → list_any (λ (r : Rule). r.root_term.0 == id.0) xs ≡ true
+pub ruled_name : (w : Whole) (rs : List RuleDef) (xs : List Rule) (id : TermId) → AllByRecursion (IsOf w rs) xs
+    → list_any (λ (r : Rule). r.root_term.0 == id.0) xs ≡ true
     → (name : List ℕ) × Has (heads_of rs) name × (n : TermId) × (term_named (terms w.defs) name ≡ Some n) × (n.0 ≡ id.0)
 ruled_name w rs [] id h e = absurd cc
 ruled_name w rs (x ∷ xs) id h e = by (x.root_term.0 == id.0) refl (ruled_name w rs xs id h.1) e
@@ -156,7 +162,8 @@ ruled_name w rs (x ∷ xs) id h e = by (x.root_term.0 == id.0) refl (ruled_name 
     Named : Type 0
     Named = (name : List ℕ) × Has (heads_of rs) name × (n : TermId) × (term_named (terms w.defs) name ≡ Some n) × (n.0 ≡ id.0)
 
-    by : (b : Bool) → (x.root_term.0 == id.0) ≡ b → (list_any (λ (r : Rule). r.root_term.0 == id.0) xs ≡ true → Named) → (b || list_any (λ (r : Rule). r.root_term.0 == id.0) xs) ≡ true → Named
+    by : (b : Bool) → (x.root_term.0 == id.0) ≡ b → (list_any (λ (r : Rule). r.root_term.0 == id.0) xs ≡ true → Named)
+        → (b || list_any (λ (r : Rule). r.root_term.0 == id.0) xs) ≡ true → Named
     by true s rest k = (h.0.0, h.0.1, x.root_term, h.0.2.root, eqb→eq x.root_term.0 id.0 (passes (x.root_term.0 == id.0) s))
     by false s rest k = rest k
 

@@ -22,9 +22,11 @@ use Rattle.isle_prelude.specs.NumberedNames.{value_array, value_array_type, valu
 use Rattle.isle_prelude.specs.WrittenPrelude.{shared_types, opt_terms, ctor_defs, ctor_sizes}
 use Rattle.isle_prelude_accepted.specs.Plain.{ArePlain, IsShortFormat}
 use Rattle.isle_prelude_accepted.proofs.Has.{Has, AreApart, all_has, has_all}
-use Rattle.isle_prelude_accepted.proofs.ArrayNames.{type_name, value_type_name, block_type_name, value_array_word, block_array_word, ctor_word, ctor_name, pack_value_name, unpack_value_name, pack_block_name, unpack_block_name}
+use Rattle.isle_prelude_accepted.proofs.ArrayNames.{type_name, value_type_name, block_type_name, value_array_word, block_array_word, ctor_word, ctor_name}
+use Rattle.isle_prelude_accepted.proofs.ArrayNames.{pack_value_name, unpack_value_name, pack_block_name, unpack_block_name}
 use Rattle.isle_prelude_accepted.proofs.AscendingLists.{ascending_apart, ascending_from}
-use Rattle.isle_prelude_accepted.proofs.PreludeMembers.{E, IsType, in_terms, in_ctors, in_values, in_blocks, type_type, value_type, inst_type, call_type, data_type, values_type, blocks_type, term_there, value_size_from, block_size_from, ctor_size_from}
+use Rattle.isle_prelude_accepted.proofs.PreludeMembers.{E, IsType, in_terms, in_ctors, in_values, in_blocks, type_type, value_type, inst_type, call_type}
+use Rattle.isle_prelude_accepted.proofs.PreludeMembers.{data_type, values_type, blocks_type, term_there, value_size_from, block_size_from, ctor_size_from}
 use Rattle.isle_prelude_accepted.proofs.Simple.{IsSound, IsSoundVariant}
 use Rattle.isle_prelude_accepted.proofs.Supported.{AreSupported}
 use Rattle.isle_prelude_accepted.proofs.TableFacts.{format_at, instruction_at, field_sound, plain_from, enum_from}
@@ -193,7 +195,8 @@ module _ (t : Tables) (s : AreSupported t) (plain : ArePlain t) where
   bare_names (n ∷ ns) = ap (λ xs. n ∷ xs) (bare_names ns)
 
   -- the values of an enum are identifiers, and apart
-  values_named : (fields : List ImmField) (name : List ℕ) → ((i : ImmField) → Has fields i → AllByRecursion IsIdentifier (values_of i)) → AllByRecursion IsIdentifier (enum_values fields name) × AreApart (enum_values fields name)
+  values_named : (fields : List ImmField) (name : List ℕ) → ((i : ImmField) → Has fields i → AllByRecursion IsIdentifier (values_of i))
+      → AllByRecursion IsIdentifier (enum_values fields name) × AreApart (enum_values fields name)
   values_named [] name h = (tt, tt)
   values_named (i ∷ is) name h = by (bytes_eq name (type_of i)) (values_named is name (λ x k. h x (inr k)))
     where
@@ -211,7 +214,8 @@ module _ (t : Tables) (s : AreSupported t) (plain : ArePlain t) where
 
   -- ---- opcodes
 
-  pub camels_sound : (is : List Instruction) → ((i : Instruction) → Has is i → Has t.instructions i) → AllByRecursion (IsSoundVariant (E t)) (map (λ (i : Instruction). bare i.camel_name) is)
+  pub camels_sound : (is : List Instruction) → ((i : Instruction) → Has is i → Has t.instructions i)
+      → AllByRecursion (IsSoundVariant (E t)) (map (λ (i : Instruction). bare i.camel_name) is)
   camels_sound [] all = tt
   camels_sound (i ∷ is) all =
       (record { named = (instruction_at t.formats [] t.instructions i s.instructions (all i (inl refl))).1.camel; fields = tt; apart = tt; known = tt; few = omega arith }, camels_sound is (λ x k. all x (inr k)))

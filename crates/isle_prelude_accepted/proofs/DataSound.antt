@@ -1,5 +1,6 @@
 -- The types of blocks, opcodes and instructions' data are sound among the definitions of a prelude.
-use Rattle.std.proofs.Common.{◌≡◌, inl, inr, ℕ, zero, suc, ◌≤◌, List, [], ◌∷◌, ◌++◌, map, length, Bool, true, false, cond, Some, None, refl, sym, ap, ap₂, ◌∙◌, subst, arith}
+use Rattle.std.proofs.Common.{◌≡◌, inl, inr, ℕ, zero, suc, ◌≤◌, List, [], ◌∷◌, ◌++◌, map, length, Bool, true, false, cond, Some, None, refl, sym, ap, ap₂, ◌∙◌}
+use Rattle.std.proofs.Common.{subst, arith}
 use Rattle.std.specs.Prelude.{codes, ◌||◌, ◌==◌, nat_lt, flat_map}
 use Rattle.std.specs.List.{AllByRecursion}
 use Rattle.std.specs.Option.{option_to_list}
@@ -19,7 +20,8 @@ use Rattle.isle_prelude_accepted.proofs.Has.{Has, AreApart, has_flat, all_has}
 use Rattle.isle_prelude_accepted.proofs.ArrayNames.{type_name}
 use Rattle.isle_prelude_accepted.proofs.CommonSound.{camels_sound, camel_variants}
 use Rattle.isle_prelude_accepted.proofs.OperandLists.{types_in}
-use Rattle.isle_prelude_accepted.proofs.PreludeMembers.{E, IsType, value_type, list_type, call_type, block_type, opcode_type, values_type, blocks_type, imm_type, value_size_there, block_size_there}
+use Rattle.isle_prelude_accepted.proofs.PreludeMembers.{E, IsType, value_type, list_type, call_type, block_type, opcode_type, values_type, blocks_type}
+use Rattle.isle_prelude_accepted.proofs.PreludeMembers.{imm_type, value_size_there, block_size_there}
 use Rattle.isle_prelude_accepted.proofs.RowSound.{field_types_are}
 use Rattle.isle_prelude_accepted.proofs.Simple.{IsSound, IsSoundVariant}
 use Rattle.isle_prelude_accepted.proofs.Supported.{AreSupported}
@@ -34,7 +36,8 @@ names_in fields = map (λ (f : List ℕ × List ℕ). f.0) fields
 above_one_field : (n : ℕ) → nat_lt 1 (suc (suc n)) ≡ true
 above_one_field n = grind (arith, nat_tests)
 
-values_names : (has_list : Bool) (n : ℕ) → names_in (value_fields has_list n) ≡ option_to_list (cond (has_list || nat_lt 1 n) (Some (codes "args")) (cond (n == 1) (Some (codes "arg")) None))
+values_names : (has_list : Bool) (n : ℕ)
+    → names_in (value_fields has_list n) ≡ option_to_list (cond (has_list || nat_lt 1 n) (Some (codes "args")) (cond (n == 1) (Some (codes "arg")) None))
 values_names true n = refl
 values_names false zero = refl
 values_names false (suc zero) = refl
@@ -109,7 +112,8 @@ fields_named f h =
 -- ---- each has a known type
 
 module _ (t : Tables) (s : AreSupported t) (plain : ArePlain t) where
-  values_known : (f : InstructionFormat) → Has t.formats f → (n : ℕ) → f.num_value_operands ≡ n → (b : Bool) → f.has_value_list ≡ b → AllByRecursion (IsType t) (types_in (value_fields b n))
+  values_known : (f : InstructionFormat) → Has t.formats f → (n : ℕ) → f.num_value_operands ≡ n → (b : Bool) → f.has_value_list ≡ b
+      → AllByRecursion (IsType t) (types_in (value_fields b n))
   values_known f k n e true l = (list_type t, tt)
   values_known f k zero e false l = tt
   values_known f k (suc zero) e false l = (value_type t, tt)
@@ -126,7 +130,8 @@ module _ (t : Tables) (s : AreSupported t) (plain : ArePlain t) where
   raws_known zero = tt
   raws_known (suc n) = (block_type t, tt)
 
-  imms_known : (f : InstructionFormat) → Has t.formats f → (fs : List ImmField) → ((i : ImmField) → Has fs i → Has f.imm_fields i) → AllByRecursion (IsType t) (types_in (map imm_field fs))
+  imms_known : (f : InstructionFormat) → Has t.formats f → (fs : List ImmField) → ((i : ImmField) → Has fs i → Has f.imm_fields i)
+      → AllByRecursion (IsType t) (types_in (map imm_field fs))
   imms_known f k [] all = tt
   imms_known f k (i ∷ is) all = (imm_type t i (has_flat (λ (g : InstructionFormat). g.imm_fields) t.formats f i k (all i (inl refl))), imms_known f k is (λ x j. all x (inr j)))
 
@@ -156,7 +161,8 @@ module _ (t : Tables) (s : AreSupported t) (plain : ArePlain t) where
         few = omega (arith, few, a, b, c);
       }
 
-  formats_sound : (fs : List InstructionFormat) → ((f : InstructionFormat) → Has fs f → Has t.formats f) → AllByRecursion (IsSoundVariant (E t)) (map format_variant fs)
+  formats_sound : (fs : List InstructionFormat) → ((f : InstructionFormat) → Has fs f → Has t.formats f)
+      → AllByRecursion (IsSoundVariant (E t)) (map format_variant fs)
   formats_sound [] all = tt
   formats_sound (f ∷ fs) all = (format_sound f (all f (inl refl)), formats_sound fs (λ x k. all x (inr k)))
 

@@ -41,7 +41,8 @@ pub found_flat : {A B C : Type 0} (f : A → Option B) (g : B → C) (xs : List 
 found_flat f g [] = refl
 found_flat {A} {B} {C} f g (x ∷ xs) = by (f x) (found_flat f g xs)
   where
-    by : (o : Option B) → map g (filter_map f xs) ≡ flat_map (λ y. map g (cons_option (f y) [])) xs → map g (cons_option o (filter_map f xs)) ≡ map g (cons_option o []) ++ flat_map (λ y. map g (cons_option (f y) [])) xs
+    by : (o : Option B) → map g (filter_map f xs) ≡ flat_map (λ y. map g (cons_option (f y) [])) xs
+        → map g (cons_option o (filter_map f xs)) ≡ map g (cons_option o []) ++ flat_map (λ y. map g (cons_option (f y) [])) xs
     by None h = h
     by (Some b) h = ap (λ ys. g b ∷ ys) h
 
@@ -82,7 +83,8 @@ module _ (class : List ℕ → ℕ) where
           (let same : f.0 ≡ g.0 = sym (all_has (λ y. class y ≡ f.0) f.1 x h.1 i) ∙ all_has (λ y. class y ≡ g.0) g.1 x k.1 j in
           absurd (let both : true ≡ false = sym (eq-eqb f.0 g.0 same) ∙ e in cc))
 
-  all_disjoint : (f : Family) (gs : List Family) → IsFamily class f → AllByRecursion (IsFamily class) gs → AllByRecursion (AreUnlike f) gs → Disjoint f.1 (names_of gs)
+  all_disjoint : (f : Family) (gs : List Family) → IsFamily class f → AllByRecursion (IsFamily class) gs → AllByRecursion (AreUnlike f) gs
+      → Disjoint f.1 (names_of gs)
   all_disjoint f [] h k unlike = λ x i j. j
   all_disjoint f (g ∷ gs) h k unlike = λ x i j. by (two_disjoint f g h k.0 unlike.0) (all_disjoint f gs h k.1 unlike.1) x i (has_either g.1 (names_of gs) x j)
     where

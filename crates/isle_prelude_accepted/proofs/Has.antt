@@ -127,7 +127,8 @@ apart_map f (x ∷ xs) same h = (other, apart_map f xs (λ y z i j. same y z (in
     other : Has (map f xs) (f x) → ⊥
     other i = let r = has_mapped f xs (f x) i in h.0 (subst (Has xs) (same r.0 x (inr r.1) (inl refl) r.2) r.1)
 
-pub apart_flat : {A B : Type 0} (f : A → List B) (xs : List A) → AreApart xs → ((x : A) → Has xs x → AreApart (f x)) → ((x y : A) (z : B) → Has xs x → Has xs y → Has (f x) z → Has (f y) z → x ≡ y)
+pub apart_flat : {A B : Type 0} (f : A → List B) (xs : List A) → AreApart xs → ((x : A) → Has xs x → AreApart (f x))
+    → ((x y : A) (z : B) → Has xs x → Has xs y → Has (f x) z → Has (f y) z → x ≡ y)
     → AreApart (flat_map f xs)
 apart_flat f [] h each same = tt
 apart_flat {A} {B} f (x ∷ xs) h each same =
@@ -174,7 +175,8 @@ pub placed_there : (names : List (List ℕ)) (name : List ℕ) (n : ℕ) → ind
 placed_there [] name n e = absurd cc
 placed_there (x ∷ xs) name n e = by (bytes_eq x name) (index_of xs name) refl (placed_there xs name) e
   where
-    by : (b : Bool) (o : Option ℕ) → bytes_eq x name ≡ b → ((m : ℕ) → o ≡ Some m → Has xs name) → cond b (Some 0) (option_map (λ (k : ℕ). k + 1) o) ≡ Some n → Has (x ∷ xs) name
+    by : (b : Bool) (o : Option ℕ) → bytes_eq x name ≡ b → ((m : ℕ) → o ≡ Some m → Has xs name)
+        → cond b (Some 0) (option_map (λ (k : ℕ). k + 1) o) ≡ Some n → Has (x ∷ xs) name
     by true o s rest k = inl (same_bytes x name s)
     by false None s rest k = absurd cc
     by false (Some m) s rest k = inr (rest m refl)
@@ -207,7 +209,8 @@ module _ {A : Type 0} (key : A → List ℕ) where
   found_by [] x h i = absurd i
   found_by (y ∷ ys) x h i = by (bytes_eq (key y) (key x)) refl (found_by ys x h.1) i
     where
-      by : (b : Bool) → bytes_eq (key y) (key x) ≡ b → (Has ys x → find (λ (z : A). bytes_eq (key z) (key x)) ys ≡ Some x) → Has (y ∷ ys) x → cond b (Some y) (find (λ (z : A). bytes_eq (key z) (key x)) ys) ≡ Some x
+      by : (b : Bool) → bytes_eq (key y) (key x) ≡ b → (Has ys x → find (λ (z : A). bytes_eq (key z) (key x)) ys ≡ Some x) → Has (y ∷ ys) x
+          → cond b (Some y) (find (λ (z : A). bytes_eq (key z) (key x)) ys) ≡ Some x
       by true e rest (inl s) = ap Some s
       by true e rest (inr k) = absurd (h.0 (subst (Has (map key ys)) (sym (same_bytes (key y) (key x) e)) (has_map key ys x k)))
       by false e rest (inl s) = absurd (let both : true ≡ false = sym (own_bytes (key y)) ∙ ap (λ a. bytes_eq (key y) (key a)) s ∙ e in cc)

@@ -1,5 +1,6 @@
 -- All definitions of an instruction are sound: its declaration, its extractor and the rule that makes it.
-use Rattle.std.proofs.Common.{◌≡◌, inl, inr, ℕ, zero, suc, ◌≤◌, List, [], ◌∷◌, ◌++◌, map, length, Bool, true, false, Option, Some, None, refl, sym, ap, ap₂, ◌∙◌, subst, arith}
+use Rattle.std.proofs.Common.{◌≡◌, inl, inr, ℕ, zero, suc, ◌≤◌, List, [], ◌∷◌, ◌++◌, map, length, Bool, true, false, Option, Some, None, refl, sym, ap, ap₂}
+use Rattle.std.proofs.Common.{◌∙◌, subst, arith}
 use Rattle.std.specs.Prelude.{slice_get, codes, not, ◌||◌, ◌&&◌, nat_lt}
 use Rattle.std.specs.List.{AllByRecursion}
 use Rattle.std.proofs.lemmas.List.{length-map}
@@ -62,7 +63,8 @@ module _ (t : Tables) (s : AreSupported t) (plain : ArePlain t) (i : Instruction
     free k = makers_reserved t s i.name k (own t s plain i among f at list).1.free
 
     -- without the type of a result
-    skeleton_sound : optimized i.value_results (i.can_trap || i.other_side_effects) ≡ skeleton → AllByRecursion (IsSound (E t)) (instruction_defs (Some skeleton) f i)
+    skeleton_sound : optimized i.value_results (i.can_trap || i.other_side_effects) ≡ skeleton
+        → AllByRecursion (IsSound (E t)) (instruction_defs (Some skeleton) f i)
     skeleton_sound is =
         let o = (own t s plain i among f at list).1 in
         let there : Has (E t) (declaration skeleton i) = in_rows t i (declaration skeleton i) among (subst (λ ds. Has ds (declaration skeleton i)) (sym (rows_are skeleton is)) (inl refl)) in
@@ -124,7 +126,8 @@ module _ (t : Tables) (s : AreSupported t) (plain : ArePlain t) (i : Instruction
         )
 
     -- with it
-    valued_sound : optimized i.value_results (i.can_trap || i.other_side_effects) ≡ valued → (Has (operand_names i) type_variable → ⊥) → AllByRecursion (IsSound (E t)) (instruction_defs (Some valued) f i)
+    valued_sound : optimized i.value_results (i.can_trap || i.other_side_effects) ≡ valued → (Has (operand_names i) type_variable → ⊥)
+        → AllByRecursion (IsSound (E t)) (instruction_defs (Some valued) f i)
     valued_sound is no_ty =
         let o = (own t s plain i among f at list).1 in
         let there : Has (E t) (declaration valued i) = in_rows t i (declaration valued i) among (subst (λ ds. Has ds (declaration valued i)) (sym (rows_are valued is)) (inl refl)) in
@@ -197,7 +200,8 @@ module _ (t : Tables) (s : AreSupported t) (plain : ArePlain t) (i : Instruction
         takes : i.value_results ≡ 1 → (takes_type_to_optimize f i || takes_type_to_lower f i) ≡ true
         takes one = or_second (takes_type_to_optimize f i) (takes_type_to_lower f i) (ap₂ (λ b n. not b && nat_lt 0 n) list one)
 
-        by : (r : ℕ) (e : Bool) → i.value_results ≡ r → (i.can_trap || i.other_side_effects) ≡ e → AllByRecursion (IsSound (E t)) (instruction_defs (Some (optimized r e)) f i)
+        by : (r : ℕ) (e : Bool) → i.value_results ≡ r → (i.can_trap || i.other_side_effects) ≡ e
+            → AllByRecursion (IsSound (E t)) (instruction_defs (Some (optimized r e)) f i)
         by zero e er ee = skeleton_sound (ap₂ optimized er ee)
         by (suc zero) true er ee = skeleton_sound (ap₂ optimized er ee)
         by (suc zero) false er ee = valued_sound (ap₂ optimized er ee) ((fits t s plain i among f at list).no_ty (takes er))

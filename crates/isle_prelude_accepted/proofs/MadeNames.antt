@@ -68,12 +68,14 @@ dotted (b ∷ bs) v h = dotted bs v (rest_word b (variant_term bs v) h)
 abbrev IsMadeOf : List Def → List ℕ → Type 0
 IsMadeOf ds z = (name : List ℕ) × (v : List ℕ) × Has (declared_names ds) name × IsWord name × (z ≡ variant_term name v)
 
-body_made : (E : List Def) (name : List ℕ) (body : AstBody) (z : List ℕ) → IsSoundBody E name body → Has (made_by name body) z → (v : List ℕ) × (z ≡ variant_term name v)
+body_made : (E : List Def) (name : List ℕ) (body : AstBody) (z : List ℕ) → IsSoundBody E name body → Has (made_by name body) z
+    → (v : List ℕ) × (z ≡ variant_term name v)
 body_made E name (Primitive rust) z s i = absurd i
 body_made E name (Enum vs) z s i = let r = has_mapped (λ (v : AstVariant). variant_term name v.name) vs z i in (r.0.name, sym r.2)
 body_made E name (Struct fields) z s i = absurd s
 
-later : (ds : List Def) (name z : List ℕ) → IsMadeOf ds z → (n : List ℕ) × (v : List ℕ) × ((name ≡ n) ⊎ Has (declared_names ds) n) × IsWord n × (z ≡ variant_term n v)
+later : (ds : List Def) (name z : List ℕ) → IsMadeOf ds z
+    → (n : List ℕ) × (v : List ℕ) × ((name ≡ n) ⊎ Has (declared_names ds) n) × IsWord n × (z ≡ variant_term n v)
 later ds name z m = (m.0, m.1, inr m.2, m.3, m.4)
 
 made_from : (E ds : List Def) → AllByRecursion (IsSound E) ds → (z : List ℕ) → Has (made_terms ds) z → IsMadeOf ds z
@@ -92,7 +94,8 @@ made_from E (Converter from to term at ∷ ds) s z i = made_from E ds s.1 z i
 made_from E (Rule name prio term args iflets rhs at ∷ ds) s z i = made_from E ds s.1 z i
 made_from E (Passed head at ∷ ds) s z i = made_from E ds s.1 z i
 
-variants_apart : (name : List ℕ) (vs : List AstVariant) → IsWord name → AreApart (variant_names vs) → AreApart (map (λ (v : AstVariant). variant_term name v.name) vs)
+variants_apart : (name : List ℕ) (vs : List AstVariant) → IsWord name → AreApart (variant_names vs)
+    → AreApart (map (λ (v : AstVariant). variant_term name v.name) vs)
 variants_apart name [] w h = tt
 variants_apart name (v ∷ vs) w h = (other, variants_apart name vs w h.1)
   where

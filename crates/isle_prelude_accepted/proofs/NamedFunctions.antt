@@ -12,7 +12,8 @@ use Rattle.isle_core.specs.Terms.{sym_text, symbol_text}
 use Rattle.isle_ast.specs.Tree.{Def, TypeDecl, Decl, ExternConstructor, ExternExtractor, ExternConst, Extractor, Converter, Rule, Passed}
 use Rattle.isle_declarations.specs.declared.terms.Origin.{Origin}
 use Rattle.isle_declarations.specs.declared.terms.Origin.TheVariants as origin
-use Rattle.isle_declarations.specs.Signatures.{Signature, Extern, Extracting, ByFunction, ByTemplate, ExtractorDef, extern_of, extractor_of, externs, extractors, func_named, extractor_named}
+use Rattle.isle_declarations.specs.Signatures.{Signature, Extern, Extracting, ByFunction, ByTemplate, ExtractorDef, extern_of, extractor_of, externs}
+use Rattle.isle_declarations.specs.Signatures.{extractors, func_named, extractor_named}
 use Rattle.isle_declarations.specs.Symbols.{sym_of, symbols}
 use Rattle.isle_declarations.specs.Terms.{terms}
 use Rattle.isle_simulation.specs.TraitFns.{constructor_fn, extractor_fn, fns_before, trait_fns_in, HasFnNames}
@@ -23,7 +24,8 @@ use Rattle.isle_tree.specs.declared.tree.TraitFn.{TraitFn}
 use Rattle.isle_tree.specs.WellFormed.{fn_names}
 use Rattle.isle_types.specs.TypeEnvironment.{type_env_of}
 use Rattle.isle_writing.specs.Erased.{all_erased}
-use Rattle.isle_prelude_accepted.proofs.Has.{Has, AreApart, has_either, has_map, has_found, has_source, has_flattened, has_all, apart_append, apart_parts, apart_flat, apart_distinct, same_bytes}
+use Rattle.isle_prelude_accepted.proofs.Has.{Has, AreApart, has_either, has_map, has_found, has_source, has_flattened, has_all, apart_append, apart_parts}
+use Rattle.isle_prelude_accepted.proofs.Has.{apart_flat, apart_distinct, same_bytes}
 use Rattle.isle_prelude_accepted.proofs.AtPlaces.{externs_same}
 use Rattle.isle_prelude_accepted.proofs.Simple.{AreSimple, IsSound, function_of}
 use Rattle.isle_prelude_accepted.proofs.Callees.{sound_in, terms_once}
@@ -49,11 +51,13 @@ apart_same {A} {B} f (z ∷ zs) x y h i j e = by (λ k l. apart_same f zs x y h.
     by rest (inr a) (inr b) = rest a b
 
 -- so of things that may have none
-apart_one : {A B : Type 0} (f : A → Option B) (xs : List A) (x y : A) (z : B) → AreApart (filter_map f xs) → Has xs x → Has xs y → f x ≡ Some z → f y ≡ Some z → x ≡ y
+apart_one : {A B : Type 0} (f : A → Option B) (xs : List A) (x y : A) (z : B) → AreApart (filter_map f xs) → Has xs x → Has xs y → f x ≡ Some z
+    → f y ≡ Some z → x ≡ y
 apart_one f [] x y z h i j e g = absurd i
 apart_one {A} {B} f (a ∷ as') x y z h i j e g = by (f a) refl (λ r k l. apart_one f as' x y z r k l e g) h i j
   where
-    by : (o : Option B) → f a ≡ o → (AreApart (filter_map f as') → Has as' x → Has as' y → x ≡ y) → AreApart (cons_option o (filter_map f as')) → (a ≡ x) ⊎ Has as' x → (a ≡ y) ⊎ Has as' y → x ≡ y
+    by : (o : Option B) → f a ≡ o → (AreApart (filter_map f as') → Has as' x → Has as' y → x ≡ y) → AreApart (cons_option o (filter_map f as'))
+        → (a ≡ x) ⊎ Has as' x → (a ≡ y) ⊎ Has as' y → x ≡ y
     by o s rest k (inl p) (inl q) = sym p ∙ q
     by None s rest k (inl p) (inr q) = absurd (let both : None ≡ Some z = sym s ∙ ap f p ∙ e in cc)
     by None s rest k (inr p) (inl q) = absurd (let both : None ≡ Some z = sym s ∙ ap f q ∙ g in cc)
@@ -106,7 +110,8 @@ IsTaken defs term func = (x : ExtractorDef) × Has (extractors defs) x × (x.ter
 abbrev IsMade : List Def → List ℕ → List ℕ → Type 0
 IsMade defs term func = (x : Extern) × Has (externs defs) x × (x.term ≡ term) × (x.func ≡ func)
 
-taken_from : (defs : List Def) (term func : List ℕ) (o : Option ExtractorDef) → extractor_named (extractors defs) term ≡ o → Has (taken_by_name o) func → IsTaken defs term func
+taken_from : (defs : List Def) (term func : List ℕ) (o : Option ExtractorDef) → extractor_named (extractors defs) term ≡ o
+    → Has (taken_by_name o) func → IsTaken defs term func
 taken_from defs term func None e i = absurd i
 taken_from defs term func (Some x) e i =
     let found = find_is (λ (y : ExtractorDef). bytes_eq y.term term) (extractors defs) x e in
@@ -120,7 +125,8 @@ taken_from defs term func (Some x) e i =
 made_from : (defs : List Def) (term func : List ℕ) → Has (made_by_name (func_named (externs defs) term)) func → IsMade defs term func
 made_from defs term func i = by (find (λ (y : Extern). bytes_eq y.term term) (externs defs)) refl i
   where
-    by : (o : Option Extern) → find (λ (y : Extern). bytes_eq y.term term) (externs defs) ≡ o → Has (made_by_name (option_map (λ (y : Extern). y.func) o)) func → IsMade defs term func
+    by : (o : Option Extern) → find (λ (y : Extern). bytes_eq y.term term) (externs defs) ≡ o
+        → Has (made_by_name (option_map (λ (y : Extern). y.func) o)) func → IsMade defs term func
     by None e j = absurd j
     by (Some x) e (inl s) = let found = find_is (λ (y : Extern). bytes_eq y.term term) (externs defs) x e in (x, found.0, same_bytes x.term term found.1, s)
     by (Some x) e (inr j) = absurd j
@@ -128,7 +134,8 @@ made_from defs term func i = by (find (λ (y : Extern). bytes_eq y.term term) (e
 functions_from : (defs : List Def) (term func : List ℕ) (o : Origin) → Has (functions_at defs term o) func → IsTaken defs term func ⊎ IsMade defs term func
 functions_from defs term func origin.Declared i = by (has_either (taken_by_name (extractor_named (extractors defs) term)) (made_by_name (func_named (externs defs) term)) func i)
   where
-    by : Has (taken_by_name (extractor_named (extractors defs) term)) func ⊎ Has (made_by_name (func_named (externs defs) term)) func → IsTaken defs term func ⊎ IsMade defs term func
+    by : Has (taken_by_name (extractor_named (extractors defs) term)) func ⊎ Has (made_by_name (func_named (externs defs) term)) func
+        → IsTaken defs term func ⊎ IsMade defs term func
     by (inl j) = inl (taken_from defs term func (extractor_named (extractors defs) term) refl j)
     by (inr j) = inr (made_from defs term func j)
 functions_from defs term func (origin.Variant n) i = absurd i
@@ -221,7 +228,8 @@ module _ (defs : List Def) (h : AreSimple (all_erased defs)) where
     abbrev AreTexts : List (List ℕ) → Type 0
     AreTexts names = (func : List ℕ) → Has names func → sym_text env (sym_of (symbols defs) func) ≡ func
 
-    names_by : (t : Term) (fns : List TraitFn) (multi : Bool) (x : Option ExtractorDef) (f : Option (List ℕ)) (ruled : Bool) → AreTexts (taken_by_name x ++ made_by_name f)
+    names_by : (t : Term) (fns : List TraitFn) (multi : Bool) (x : Option ExtractorDef) (f : Option (List ℕ)) (ruled : Bool)
+        → AreTexts (taken_by_name x ++ made_by_name f)
         → fn_names (cons_option (option_map (extractor_fn env t) (extracted_by multi (extractor_from (symbols defs) x))) (cons_option (option_map (constructor_fn env t) (func_by (constructor_of (symbols defs) f ruled))) fns))
         ≡ (taken_by_name x ++ made_by_name f) ++ fn_names fns
     names_by t fns multi None None true k = refl
@@ -247,7 +255,8 @@ module _ (defs : List Def) (h : AreSimple (all_erased defs)) where
     names_at t fns s ret (origin.Variant n) k = refl
     names_at t fns s ret origin.Struct k = refl
 
-    all_names : (sigs : List Signature) (ts : List Term) → AreTermsOf (whole_of defs) sigs ts → fn_names (trait_fns_in env ts) ≡ flat_map (functions_of_term defs) sigs
+    all_names : (sigs : List Signature) (ts : List Term) → AreTermsOf (whole_of defs) sigs ts
+        → fn_names (trait_fns_in env ts) ≡ flat_map (functions_of_term defs) sigs
     all_names [] [] k = refl
     all_names [] (t ∷ ts) k = absurd k
     all_names (s ∷ sigs) [] k = absurd k

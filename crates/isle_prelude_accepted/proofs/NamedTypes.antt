@@ -21,7 +21,8 @@ use Rattle.isle_ast.specs.declared.tree.AstVariant.{AstVariant}
 use Rattle.isle_declarations.specs.DeclaredTypes.{constant_of, constants}
 use Rattle.isle_declarations.specs.Names.{shape_names, shaped_names}
 use Rattle.isle_declarations.specs.Symbols.{symbols}
-use Rattle.isle_lawful_names.specs.LawfulNames.{IsTypeName, IsFieldNamed, AreFieldsNamed, IsVariantNamed, IsLawfulType, IsLawfulConstant, IsNoType, AreLawful, emitted_name, emitted_names}
+use Rattle.isle_lawful_names.specs.LawfulNames.{IsTypeName, IsFieldNamed, AreFieldsNamed, IsVariantNamed, IsLawfulType, IsLawfulConstant, IsNoType, AreLawful}
+use Rattle.isle_lawful_names.specs.LawfulNames.{emitted_name, emitted_names}
 use Rattle.isle_sample.proofs.NamedTypes.{builtins_lawful}
 use Rattle.isle_spelling.specs.Identifier.{IsIdentifier}
 use Rattle.isle_types.specs.Bodies.{field_names}
@@ -74,12 +75,14 @@ module _ (defs : List Def) (h : AreSimple (all_erased defs)) where
   named_fields (f ∷ named) k syms =
       (subst IsIdentifier (sym (text_is defs f.0 (syms f.0 (inl refl)))) k.0, named_fields named k.1 (λ name i. syms name (inr (inr i))))
 
-  fields_named : (fields : AstFields) → AllByRecursion IsIdentifier (field_names fields) → AreSymbols (shape_names fields) → AreFieldsNamed env_types (fields_in defs fields)
+  fields_named : (fields : AstFields) → AllByRecursion IsIdentifier (field_names fields) → AreSymbols (shape_names fields)
+      → AreFieldsNamed env_types (fields_in defs fields)
   fields_named NoFields k syms = tt
   fields_named (Named named) k syms = named_fields named k syms
   fields_named (Tuple tys) k syms = tt
 
-  variants_named : (vs : List AstVariant) → AllByRecursion (IsSoundVariant (all_erased defs)) vs → AreSymbols (flat_map shaped_names vs) → AllByRecursion (IsVariantNamed env_types) (map (variant_in defs) vs)
+  variants_named : (vs : List AstVariant) → AllByRecursion (IsSoundVariant (all_erased defs)) vs → AreSymbols (flat_map shaped_names vs)
+      → AllByRecursion (IsVariantNamed env_types) (map (variant_in defs) vs)
   variants_named [] k syms = tt
   variants_named (v ∷ vs) k syms =
       let rest = flat_map shaped_names vs in (
@@ -142,7 +145,8 @@ module _ (defs : List Def) (h : AreSimple (all_erased defs)) where
   one_builtin b builtin.Bool l = record { name = l.name; parts = tt }
   one_builtin b (builtin.Int ty) l = record { name = l.name; parts = tt }
 
-  builtin_types : (b : Bool) (ks : List BuiltinType) → AllByRecursion (IsLawfulType b only_builtins) (map def.Builtin ks) → AllByRecursion (IsLawfulType b env_types) (map def.Builtin ks)
+  builtin_types : (b : Bool) (ks : List BuiltinType) → AllByRecursion (IsLawfulType b only_builtins) (map def.Builtin ks)
+      → AllByRecursion (IsLawfulType b env_types) (map def.Builtin ks)
   builtin_types b [] l = tt
   builtin_types b (k ∷ ks) l = (one_builtin b k l.0, builtin_types b ks l.1)
 

@@ -32,7 +32,8 @@ types_in fields = map (λ (f : List ℕ × List ℕ). f.1) fields
 -- ---- operands by kind
 
 -- an operand is a variable of its class's type
-pub operand_there : (ops : List ClifOperand) (o : ClifOperand) → Has ops o → Has (with_types (map (λ (x : ClifOperand). x.name) ops) (map (λ (x : ClifOperand). operand_type x.class) ops)) (o.name, operand_type o.class)
+pub operand_there : (ops : List ClifOperand) (o : ClifOperand) → Has ops o
+    → Has (with_types (map (λ (x : ClifOperand). x.name) ops) (map (λ (x : ClifOperand). operand_type x.class) ops)) (o.name, operand_type o.class)
 operand_there [] o i = absurd i
 operand_there (x ∷ ops) o (inl e) = inl (ap (λ (y : ClifOperand). (y.name, operand_type y.class)) e)
 operand_there (x ∷ ops) o (inr i) = inr (operand_there ops o i)
@@ -59,7 +60,8 @@ raw_class class.RawBlock e = refl
 raw_class (class.Imm ty) e = absurd cc
 
 -- the operand that a name of a kind is of
-pub name_from : (is : OperandClass → Bool) (i : Instruction) (name : List ℕ) → Has (names_of is i) name → (o : ClifOperand) × Has i.operands_in o × (o.name ≡ name) × (is o.class ≡ true)
+pub name_from : (is : OperandClass → Bool) (i : Instruction) (name : List ℕ) → Has (names_of is i) name
+    → (o : ClifOperand) × Has i.operands_in o × (o.name ≡ name) × (is o.class ≡ true)
 name_from is i name h =
     let r = has_mapped (λ (o : ClifOperand). o.name) (filter (λ (o : ClifOperand). is o.class) i.operands_in) name h in
     let f = filter_from (λ (o : ClifOperand). is o.class) i.operands_in r.0 r.1 in
@@ -99,13 +101,15 @@ types_of_fields (f ∷ fs) = ap (λ xs. type_of f ∷ xs) (types_of_fields fs)
 -- ---- lists as patterns
 
 module _ (E : List Def) (vars : Variables) where
-  pub patterns_append : (ts us : List (List ℕ)) (ps qs : List Pattern) → ArePatternsOf E vars ts (patterns_of ps) → ArePatternsOf E vars us (patterns_of qs) → ArePatternsOf E vars (ts ++ us) (patterns_of (ps ++ qs))
+  pub patterns_append : (ts us : List (List ℕ)) (ps qs : List Pattern) → ArePatternsOf E vars ts (patterns_of ps)
+      → ArePatternsOf E vars us (patterns_of qs) → ArePatternsOf E vars (ts ++ us) (patterns_of (ps ++ qs))
   patterns_append [] us [] qs h k = k
   patterns_append [] us (p ∷ ps) qs h k = absurd h
   patterns_append (t ∷ ts) us [] qs h k = absurd h
   patterns_append (t ∷ ts) us (p ∷ ps) qs h k = (h.0, patterns_append ts us ps qs h.1 k)
 
-  pub exprs_append : (ts us : List (List ℕ)) (ps qs : List Expr) → AreExprsOf E vars ts (exprs_of ps) → AreExprsOf E vars us (exprs_of qs) → AreExprsOf E vars (ts ++ us) (exprs_of (ps ++ qs))
+  pub exprs_append : (ts us : List (List ℕ)) (ps qs : List Expr) → AreExprsOf E vars ts (exprs_of ps) → AreExprsOf E vars us (exprs_of qs)
+      → AreExprsOf E vars (ts ++ us) (exprs_of (ps ++ qs))
   exprs_append [] us [] qs h k = k
   exprs_append [] us (p ∷ ps) qs h k = absurd h
   exprs_append (t ∷ ts) us [] qs h k = absurd h
@@ -138,7 +142,8 @@ module _ (E : List Def) (vars : Variables) where
   blocks_fit (x ∷ []) h opens = (h.0, tt)
   blocks_fit (x ∷ y ∷ names) h opens = ((replicate (length (x ∷ y ∷ names)) (codes "BlockCall"), opens (length names) refl, variables_fit (codes "BlockCall") (x ∷ y ∷ names) h), tt)
 
-  pub raw_fit : (names : List (List ℕ)) → length names ≤ 1 → AreOf (codes "Block") names → ArePatternsOf E vars (types_in (raw_block_fields (length names))) (patterns_of (variables names))
+  pub raw_fit : (names : List (List ℕ)) → length names ≤ 1 → AreOf (codes "Block") names
+      → ArePatternsOf E vars (types_in (raw_block_fields (length names))) (patterns_of (variables names))
   raw_fit [] le h = tt
   raw_fit (x ∷ []) le h = (h.0, tt)
   raw_fit (x ∷ y ∷ names) le h = absurd (omega (arith, le))
@@ -158,7 +163,8 @@ module _ (E : List Def) (vars : Variables) where
   blocks_made (x ∷ []) h makes = (h.0, tt)
   blocks_made (x ∷ y ∷ names) h makes = ((replicate (length (x ∷ y ∷ names)) (codes "BlockCall"), makes (length names) refl, names_fit (codes "BlockCall") (x ∷ y ∷ names) h), tt)
 
-  pub raw_made : (names : List (List ℕ)) → length names ≤ 1 → AreOf (codes "Block") names → AreExprsOf E vars (types_in (raw_block_fields (length names))) (exprs_of (variable_exprs names))
+  pub raw_made : (names : List (List ℕ)) → length names ≤ 1 → AreOf (codes "Block") names
+      → AreExprsOf E vars (types_in (raw_block_fields (length names))) (exprs_of (variable_exprs names))
   raw_made [] le h = tt
   raw_made (x ∷ []) le h = (h.0, tt)
   raw_made (x ∷ y ∷ names) le h = absurd (omega (arith, le))
@@ -199,7 +205,8 @@ module _ (E : List Def) (vars : Variables) where
       by (class.Imm ty) k rest = (k, rest)
 
   -- the operands of a kind are variables of its type
-  of_kind : (is : OperandClass → Bool) (ty : List ℕ) (i : Instruction) → AreTyped i.operands_in → ((c : OperandClass) → is c ≡ true → operand_type c ≡ ty) → AreOf ty (names_of is i)
+  of_kind : (is : OperandClass → Bool) (ty : List ℕ) (i : Instruction) → AreTyped i.operands_in
+      → ((c : OperandClass) → is c ≡ true → operand_type c ≡ ty) → AreOf ty (names_of is i)
   of_kind is ty i h same = all (names_of is i) (λ n k. k)
     where
       one : (name : List ℕ) → Has (names_of is i) name → Has vars (name, ty)

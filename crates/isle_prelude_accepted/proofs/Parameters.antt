@@ -1,5 +1,6 @@
 -- Parameters that are apart are each bound at its type.
-use Rattle.std.proofs.Common.{◌≡◌, ◌⊎◌, inl, inr, ℕ, suc, Bool, true, false, cond, List, [], ◌∷◌, ◌++◌, map, length, Option, Some, None, refl, sym, ap, ◌∙◌, subst, arith}
+use Rattle.std.proofs.Common.{◌≡◌, ◌⊎◌, inl, inr, ℕ, suc, Bool, true, false, cond, List, [], ◌∷◌, ◌++◌, map, length, Option, Some, None, refl, sym, ap, ◌∙◌}
+use Rattle.std.proofs.Common.{subst, arith}
 use Rattle.std.specs.Str.{bytes_eq}
 use Rattle.isle_core.specs.declared.TypeId.{TypeId}
 use Rattle.isle_ast.specs.Tree as tree
@@ -21,7 +22,8 @@ found_stays : (xs ys : List Local) (name : List ℕ) (l : Local) → found_in xs
 found_stays [] ys name l e = absurd cc
 found_stays (x ∷ xs) ys name l e = by (bytes_eq x.name name) (found_stays xs ys name l) e
   where
-    by : (b : Bool) → (found_in xs name ≡ Some l → found_in (xs ++ ys) name ≡ Some l) → cond b (Some x) (found_in xs name) ≡ Some l → cond b (Some x) (found_in (xs ++ ys) name) ≡ Some l
+    by : (b : Bool) → (found_in xs name ≡ Some l → found_in (xs ++ ys) name ≡ Some l) → cond b (Some x) (found_in xs name) ≡ Some l
+        → cond b (Some x) (found_in (xs ++ ys) name) ≡ Some l
     by true rest k = k
     by false rest k = rest k
 
@@ -30,7 +32,8 @@ pub found_more : (xs : List Local) (x : Local) (name : List ℕ) → found_in xs
 found_more [] x name e = refl
 found_more (y ∷ ys) x name e = by (bytes_eq y.name name) (found_more ys x name) e
   where
-    by : (b : Bool) → (found_in ys name ≡ None → found_in (ys ++ x ∷ []) name ≡ cond (bytes_eq x.name name) (Some x) None) → cond b (Some y) (found_in ys name) ≡ None
+    by : (b : Bool) → (found_in ys name ≡ None → found_in (ys ++ x ∷ []) name ≡ cond (bytes_eq x.name name) (Some x) None)
+        → cond b (Some y) (found_in ys name) ≡ None
         → cond b (Some y) (found_in (ys ++ x ∷ []) name) ≡ cond (bytes_eq x.name name) (Some x) None
     by true rest k = absurd cc
     by false rest k = rest k
@@ -49,7 +52,8 @@ pub met_first : (scope : Scope) (name : List ℕ) (ty : Option TypeId) → found
 met_first scope name ty e = ap (λ o. met_by o scope name ty) e
 
 -- what is bound stays so while parameters are met
-params_keep : (scope : Scope) (params : List (List ℕ)) (tys : List (Option TypeId)) (name : List ℕ) (l : Local) → found_in scope.variables name ≡ Some l → found_in (params_met scope params tys).variables name ≡ Some l
+params_keep : (scope : Scope) (params : List (List ℕ)) (tys : List (Option TypeId)) (name : List ℕ) (l : Local)
+    → found_in scope.variables name ≡ Some l → found_in (params_met scope params tys).variables name ≡ Some l
 params_keep scope [] tys name l e = e
 params_keep scope (p ∷ ps) tys name l e = params_keep (met scope p (first_expected tys)) ps (later_expected tys) name l (by (first_expected tys) (found_in scope.variables p))
   where
@@ -57,7 +61,8 @@ params_keep scope (p ∷ ps) tys name l e = params_keep (met scope p (first_expe
     by ty None = found_stays scope.variables (record { name = p; ty = ty; number = scope.next } ∷ []) name l e
     by ty (Some x) = e
 
-pub still_free : (scope : Scope) (p : List ℕ) (ps : List (List ℕ)) (ty : Option TypeId) → AreApart (p ∷ ps) → AreFree (p ∷ ps) scope → AreFree ps (first_met scope p ty)
+pub still_free : (scope : Scope) (p : List ℕ) (ps : List (List ℕ)) (ty : Option TypeId) → AreApart (p ∷ ps) → AreFree (p ∷ ps) scope
+    → AreFree ps (first_met scope p ty)
 still_free scope p ps ty apart free name i =
     let x : Local = record { name = p; ty = ty; number = scope.next } in
     found_more scope.variables x name (free name (inr i))
@@ -86,7 +91,8 @@ module _ (w : Whole) where
       Found : Type 0
       Found = (l : Local) × (found_in after.variables name ≡ Some l) × (l.ty ≡ type_named w.defs ty)
 
-      by : found_in (met scope p (type_named w.defs t)).variables p ≡ Some own → (Has (with_types ps ts) (name, ty) → Found) → (◌≡◌ {A = List ℕ × List ℕ} (p, t) (name, ty)) ⊎ Has (with_types ps ts) (name, ty) → Found
+      by : found_in (met scope p (type_named w.defs t)).variables p ≡ Some own → (Has (with_types ps ts) (name, ty) → Found)
+          → (◌≡◌ {A = List ℕ × List ℕ} (p, t) (name, ty)) ⊎ Has (with_types ps ts) (name, ty) → Found
       by there rest (inl e) =
           let same_name : p ≡ name = ap (λ (v : List ℕ × List ℕ). v.0) e in
           let same_type : t ≡ ty = ap (λ (v : List ℕ × List ℕ). v.1) e in

@@ -175,7 +175,8 @@ module _ (t : Tables) where
 
   -- ---- declared terms
 
-  pub term_there : (term : List ℕ) (pure multi partial recursive : Bool) (args : List (List ℕ)) (ret : List ℕ) → Has E (Decl term pure multi partial recursive args ret no_place) → Has (terms_of (signatures E)) term
+  pub term_there : (term : List ℕ) (pure multi partial recursive : Bool) (args : List (List ℕ)) (ret : List ℕ)
+      → Has E (Decl term pure multi partial recursive args ret no_place) → Has (terms_of (signatures E)) term
   term_there term pure multi partial recursive args ret i =
       let s : Signature = record { term = term; pure = pure; multi = multi; partial = partial; recursive = recursive; args = args; ret = ret; pos = no_place; origin = origin.Declared } in
       has_map (λ (x : Signature). x.term) (signatures E) s (has_found signature_of E (Decl term pure multi partial recursive args ret no_place) s i refl)
@@ -197,7 +198,8 @@ module _ (t : Tables) where
   ctor_size_from n k = let r = has_source above_one (value_array_sizes t.formats) n k in subst (Has (value_array_sizes t.formats)) (above_from r.0 n r.2) r.1
 
   -- several values that stand in no list are in an array
-  pub value_size_there : (f : InstructionFormat) (n : ℕ) → Has t.formats f → f.has_value_list ≡ false → f.num_value_operands ≡ suc (suc n) → (f.typevar_operand ≡ None → ⊥) → Has (value_array_sizes t.formats) (suc (suc n))
+  pub value_size_there : (f : InstructionFormat) (n : ℕ) → Has t.formats f → f.has_value_list ≡ false → f.num_value_operands ≡ suc (suc n)
+      → (f.typevar_operand ≡ None → ⊥) → Has (value_array_sizes t.formats) (suc (suc n))
   value_size_there f n i list many typed =
       numbers_has (filter_map value_array_size t.formats) (suc (suc n)) (has_found value_array_size t.formats f (suc (suc n)) i (by f.typevar_operand typed))
     where

@@ -24,7 +24,8 @@ use Rattle.isle_prelude_accepted.specs.Accepted.{prelude_defs}
 use Rattle.isle_prelude_accepted.proofs.Has.{Has, AreApart, has_front, has_back, has_all, apart_parts, apart_map}
 use Rattle.isle_prelude_accepted.proofs.ArrayNames.{value_type_same, block_type_same, value_type_kind, block_type_kind}
 use Rattle.isle_prelude_accepted.proofs.AscendingLists.{ascending_apart, numbers_apart}
-use Rattle.isle_prelude_accepted.proofs.Families.{first_of_four, first_by, found_flat, flat_none, flat_single, flat_same, map_same, Disjoint, IsFamily, Grouped, One, Both, grouped_apart, grouped_names}
+use Rattle.isle_prelude_accepted.proofs.Families.{first_of_four, first_by, found_flat, flat_none, flat_single, flat_same, map_same, Disjoint, IsFamily, Grouped}
+use Rattle.isle_prelude_accepted.proofs.Families.{One, Both, grouped_apart, grouped_names}
 use Rattle.isle_prelude_accepted.proofs.PreludeParts.{put_same, row_defs, whole, row_cases}
 use Rattle.isle_prelude_accepted.proofs.Supported.{AreSupported, none_repeated}
 use Rattle.isle_prelude_accepted.proofs.TableFacts.{field_sound, fields_alike, plain_from, enum_from}
@@ -46,7 +47,8 @@ block_sizes_apart fs = numbers_apart (filter_map (λ (f : InstructionFormat). ab
 -- ---- families of names
 
 -- names by numbers are apart, and of a class if each is
-pub numbered_family : (class : List ℕ → ℕ) (k : ℕ) (name : ℕ → List ℕ) (ns : List ℕ) → ((i j : ℕ) → name i ≡ name j → i ≡ j) → ((n : ℕ) → class (name n) ≡ k) → AreApart ns → IsFamily class (k, map name ns)
+pub numbered_family : (class : List ℕ → ℕ) (k : ℕ) (name : ℕ → List ℕ) (ns : List ℕ) → ((i j : ℕ) → name i ≡ name j → i ≡ j)
+    → ((n : ℕ) → class (name n) ≡ k) → AreApart ns → IsFamily class (k, map name ns)
 numbered_family class k name ns same each h = (apart_map name ns (λ i j _ _ e. same i j e) h, all ns)
   where
     all : (ms : List ℕ) → AllByRecursion (λ x. class x ≡ k) (map name ms)

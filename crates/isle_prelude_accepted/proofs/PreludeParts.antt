@@ -21,7 +21,8 @@ use Rattle.isle_prelude_accepted.proofs.Families.{flat_append, flat_flat, flat_m
 abbrev pub put : {X : Type 0} → (a b c d e f g h i j : List X) → List X
 put a b c d e f g h i j = (a ++ (b ++ c)) ++ (((d ++ (e ++ f)) ++ ((g ++ h) ++ i)) ++ j)
 
-pub put_same : {X : Type 0} (a b c d e f g h i j : List X) (c' d' f' g' h' j' : List X) → c ≡ c' → d ≡ d' → f ≡ f' → g ≡ g' → h ≡ h' → j ≡ j' → put a b c d e f g h i j ≡ put a b c' d' e f' g' h' i j'
+pub put_same : {X : Type 0} (a b c d e f g h i j : List X) (c' d' f' g' h' j' : List X) → c ≡ c' → d ≡ d' → f ≡ f' → g ≡ g' → h ≡ h' → j ≡ j'
+    → put a b c d e f g h i j ≡ put a b c' d' e f' g' h' i j'
 put_same a b c d e f g h i j c' d' f' g' h' j' ec ed ef eg eh ej =
     ap₂ (λ x y. x ++ y) (ap (λ x. a ++ (b ++ x)) ec)
     (ap₂ (λ x y. x ++ y) (ap₂ (λ x y. x ++ y) (ap₂ (λ x y. x ++ (e ++ y)) ed ef) (ap (λ x. x ++ i) (ap₂ (λ x y. x ++ y) eg eh))) ej)
@@ -59,7 +60,9 @@ module _ (t : Tables) where
         (flat_flat q row_defs t.instructions))
 
 -- what holds of nothing, and of an instruction taken in a manner, holds of an instruction
-pub row_cases : (P : List Def → Type 0) (i : Instruction) → P [] → ((f : InstructionFormat) → f.has_value_list ≡ false → P (instruction_defs (opt_manner false i) f i)) → (o : Option InstructionFormat) → P (of_format opt_manner o i)
+pub row_cases : (P : List Def → Type 0) (i : Instruction) → P []
+    → ((f : InstructionFormat) → f.has_value_list ≡ false → P (instruction_defs (opt_manner false i) f i)) → (o : Option InstructionFormat)
+    → P (of_format opt_manner o i)
 row_cases P i none some None = none
 row_cases P i none some (Some f) = by f.has_value_list refl
   where

@@ -7,7 +7,8 @@ use Rattle.isle_core.proofs.AllLaws.{all_append}
 use Rattle.std.proofs.lemmas.List.{append-nil}
 use Rattle.isle_ast.specs.Tree.{Def}
 use Rattle.isle_declarations.specs.Heads.{terms_of, extern_terms, extractor_terms, heads_of}
-use Rattle.isle_declarations.specs.Signatures.{Signature, Extern, ExtractorDef, RuleDef, signature_of, extern_of, extractor_of, rule_of, signatures, externs, extractors, rule_defs}
+use Rattle.isle_declarations.specs.Signatures.{Signature, Extern, ExtractorDef, RuleDef, signature_of, extern_of, extractor_of, rule_of, signatures, externs}
+use Rattle.isle_declarations.specs.Signatures.{extractors, rule_defs}
 use Rattle.isle_meta.specs.declared.clif.Instruction.{Instruction}
 use Rattle.isle_meta.specs.declared.clif.InstructionFormat.{InstructionFormat}
 use Rattle.isle_meta.specs.declared.tables.Tables.{Tables}
@@ -26,8 +27,11 @@ use Rattle.isle_prelude.specs.NumberedNames.{value_array, value_array_ctor, bloc
 use Rattle.isle_prelude.specs.WrittenPrelude.{shared_types, opt_terms, ctor_defs, ctor_sizes}
 use Rattle.isle_prelude_accepted.specs.Accepted.{prelude_defs}
 use Rattle.isle_prelude_accepted.proofs.Has.{Has, AreApart, has_source, has_flattened, all_has, has_all, apart_flat, apart_parts}
-use Rattle.isle_prelude_accepted.proofs.ArrayNames.{value_array_same, block_array_same, ctor_same, value_array_kind, block_array_kind, ctor_kind, packed_same, unpacked_same, pack_value_kind, pack_block_kind, unpack_value_kind, unpack_block_kind, ctor_func_kind, func_class}
-use Rattle.isle_prelude_accepted.proofs.Families.{first_of_four, first_by, found_flat, flat_none, flat_single, flat_same, Family, IsFamily, Grouped, One, Both, grouped_apart}
+use Rattle.isle_prelude_accepted.proofs.ArrayNames.{value_array_same, block_array_same, ctor_same, value_array_kind, block_array_kind, ctor_kind, packed_same}
+use Rattle.isle_prelude_accepted.proofs.ArrayNames.{unpacked_same, pack_value_kind, pack_block_kind, unpack_value_kind, unpack_block_kind, ctor_func_kind}
+use Rattle.isle_prelude_accepted.proofs.ArrayNames.{func_class}
+use Rattle.isle_prelude_accepted.proofs.Families.{first_of_four, first_by, found_flat, flat_none, flat_single, flat_same, Family, IsFamily, Grouped, One, Both}
+use Rattle.isle_prelude_accepted.proofs.Families.{grouped_apart}
 use Rattle.isle_prelude_accepted.proofs.NamedFunctions.{apart_unmap, apart_same}
 use Rattle.isle_prelude_accepted.proofs.PreludeNames.{numbered_family, value_sizes_apart, block_sizes_apart}
 use Rattle.isle_prelude_accepted.proofs.PreludeParts.{put, row_defs, whole, row_cases}
@@ -147,7 +151,9 @@ module _ (t : Tables) (q : Def → List (List ℕ)) where
 -- ---- what is none of an instruction
 
 -- where neither a declaration, an extractor nor a rule has any, instructions have none
-none_of_rows : (q : Def → List (List ℕ)) (t : Tables) → ((m : Manner) (f : InstructionFormat) (i : Instruction) → flat_map q (instruction_defs (Some m) f i) ≡ []) → flat_map (λ (i : Instruction). flat_map q (row_defs t i)) t.instructions ≡ []
+none_of_rows : (q : Def → List (List ℕ)) (t : Tables)
+    → ((m : Manner) (f : InstructionFormat) (i : Instruction) → flat_map q (instruction_defs (Some m) f i) ≡ [])
+    → flat_map (λ (i : Instruction). flat_map q (row_defs t i)) t.instructions ≡ []
 none_of_rows q t each =
     flat_same (λ (i : Instruction). flat_map q (row_defs t i)) (λ i. []) t.instructions
     (λ i. row_cases (λ ds. flat_map q ds ≡ []) i refl (λ f e. each (optimized i.value_results (i.can_trap || i.other_side_effects)) f i) (slice_get t.formats i.format))

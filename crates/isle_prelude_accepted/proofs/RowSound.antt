@@ -16,15 +16,20 @@ use Rattle.isle_meta.specs.declared.clif.OperandClass.TheVariants as class
 use Rattle.isle_meta.specs.declared.tables.Tables.{Tables}
 use Rattle.isle_meta.specs.InstructionRow.{is_value, is_varargs, is_block, is_raw_block, type_in, imm_type, imm_types}
 use Rattle.isle_meta.specs.ShortName.{short_name}
-use Rattle.isle_prelude.specs.ClifFiles.{variables, variable_exprs, term_over, call_on, counted_expr, value_patterns, block_patterns, opcode_term, data_term, data_pattern, data_expr}
+use Rattle.isle_prelude.specs.ClifFiles.{variables, variable_exprs, term_over, call_on, counted_expr, value_patterns, block_patterns, opcode_term, data_term}
+use Rattle.isle_prelude.specs.ClifFiles.{data_pattern, data_expr}
 use Rattle.isle_prelude.specs.Declaring.{bare}
 use Rattle.isle_prelude.specs.InstructionData.{counted_values, value_fields, block_fields, raw_block_fields, imm_field, format_fields, format_variant}
 use Rattle.isle_prelude.specs.NumberedNames.{value_array, value_array_type, value_array_ctor, block_array, block_array_type, pack, unpack}
 use Rattle.isle_prelude.specs.Operands.{operand_type, is_imm, names_of}
 use Rattle.isle_prelude_accepted.specs.Plain.{ArePlain, IsShortInstruction}
 use Rattle.isle_prelude_accepted.proofs.Has.{Has, has_map, has_flat, has_found, all_has}
-use Rattle.isle_prelude_accepted.proofs.OperandLists.{types_in, name_there, many_names, few_names, same_types, types_of_fields, patterns_append, exprs_append, values_fit, blocks_fit, raw_fit, imms_fit, values_made, blocks_made, raw_made, imms_made, AreTyped, values_of_type, blocks_of_type, raws_of_type, in_first, in_second, in_variables, in_counted, size_append, size_variables, size_counted}
-use Rattle.isle_prelude_accepted.proofs.PreludeMembers.{E, IsType, in_ctors, in_values, in_blocks, in_data, value_type, slice_type, call_type, block_type, imm_type as type_of_imm, value_size_there, ctor_size_there, block_size_there}
+use Rattle.isle_prelude_accepted.proofs.OperandLists.{types_in, name_there, many_names, few_names, same_types, types_of_fields, patterns_append, exprs_append}
+use Rattle.isle_prelude_accepted.proofs.OperandLists.{values_fit, blocks_fit, raw_fit, imms_fit, values_made, blocks_made, raw_made, imms_made, AreTyped}
+use Rattle.isle_prelude_accepted.proofs.OperandLists.{values_of_type, blocks_of_type, raws_of_type, in_first, in_second, in_variables, in_counted, size_append}
+use Rattle.isle_prelude_accepted.proofs.OperandLists.{size_variables, size_counted}
+use Rattle.isle_prelude_accepted.proofs.PreludeMembers.{E, IsType, in_ctors, in_values, in_blocks, in_data, value_type, slice_type, call_type, block_type}
+use Rattle.isle_prelude_accepted.proofs.PreludeMembers.{imm_type as type_of_imm, value_size_there, ctor_size_there, block_size_there}
 use Rattle.isle_prelude_accepted.proofs.Simple.{Variables, Opens, Makes, IsVariantTerm, IsPatternOf, ArePatternsOf, IsExprOf, AreExprsOf, expr_size}
 use Rattle.isle_prelude_accepted.proofs.Supported.{AreSupported, IsSupportedFormat, IsSupportedInstruction, Fits}
 use Rattle.isle_prelude_accepted.proofs.TableFacts.{format_at, instruction_at}
@@ -87,7 +92,8 @@ module _ (t : Tables) (s : AreSupported t) (plain : ArePlain t) (i : Instruction
   imm_known : (ty : List ℕ) → Has (map short_name (imm_types i)) (short_name ty) → IsType t (short_name ty)
   imm_known ty h = by (subst (λ xs. Has xs (short_name ty)) imm_types_are h)
     where
-      of_fields : (fs : List ImmField) → ((x : ImmField) → Has fs x → Has f.imm_fields x) → Has (types_in (map imm_field fs)) (short_name ty) → IsType t (short_name ty)
+      of_fields : (fs : List ImmField) → ((x : ImmField) → Has fs x → Has f.imm_fields x) → Has (types_in (map imm_field fs)) (short_name ty)
+          → IsType t (short_name ty)
       of_fields [] all k = absurd k
       of_fields (x ∷ fs) all (inl e) = subst (IsType t) e (type_of_imm t x (has_flat (λ (g : InstructionFormat). g.imm_fields) t.formats f x format_among (all x (inl refl))))
       of_fields (x ∷ fs) all (inr k) = of_fields fs (λ y j. all y (inr j)) k
@@ -102,11 +108,13 @@ module _ (t : Tables) (s : AreSupported t) (plain : ArePlain t) (i : Instruction
   class_known class.RawBlock h = block_type t
   class_known (class.Imm ty) h = imm_known ty (h ty refl)
 
-  imm_there : (ops : List ClifOperand) (o : ClifOperand) (ty : List ℕ) → Has ops o → o.class ≡ class.Imm ty → Has (map short_name (filter_map imm_type ops)) (short_name ty)
+  imm_there : (ops : List ClifOperand) (o : ClifOperand) (ty : List ℕ) → Has ops o → o.class ≡ class.Imm ty
+      → Has (map short_name (filter_map imm_type ops)) (short_name ty)
   imm_there ops o ty h e =
       has_map short_name (filter_map imm_type ops) ty (has_found imm_type ops o ty h (ap type_in e))
 
-  pub operands_known : (ops : List ClifOperand) → ((o : ClifOperand) → Has ops o → Has i.operands_in o) → AllByRecursion (IsType t) (map (λ (o : ClifOperand). operand_type o.class) ops)
+  pub operands_known : (ops : List ClifOperand) → ((o : ClifOperand) → Has ops o → Has i.operands_in o)
+      → AllByRecursion (IsType t) (map (λ (o : ClifOperand). operand_type o.class) ops)
   operands_known [] all = tt
   operands_known (o ∷ ops) all =
       (class_known o.class (λ ty e. imm_there i.operands_in o ty (all o (inl refl)) e), operands_known ops (λ x k. all x (inr k)))
@@ -114,7 +122,8 @@ module _ (t : Tables) (s : AreSupported t) (plain : ArePlain t) (i : Instruction
   -- ---- terms
 
   -- an array of values
-  values_open : (k : ℕ) → length (names_of is_value i) ≡ suc (suc k) → Opens (E t) (value_array (length (names_of is_value i))) (replicate (length (names_of is_value i)) (codes "Value")) (value_array_type (length (names_of is_value i)))
+  values_open : (k : ℕ) → length (names_of is_value i) ≡ suc (suc k)
+      → Opens (E t) (value_array (length (names_of is_value i))) (replicate (length (names_of is_value i)) (codes "Value")) (value_array_type (length (names_of is_value i)))
   values_open k e =
       let n = suc (suc k) in
       let size = value_size_there t f k format_among list (sym many_values ∙ e) (λ none. own_format.1.controlled list (let m = sym many_values ∙ e in omega (arith, m)) none) in
@@ -127,7 +136,8 @@ module _ (t : Tables) (s : AreSupported t) (plain : ArePlain t) (i : Instruction
         taken = in_values t n _ size (inr (inr (inr (inl refl))));
       }))
 
-  values_make : (k : ℕ) → length (names_of is_value i) ≡ suc (suc k) → Makes (E t) (value_array_ctor (length (names_of is_value i))) (replicate (length (names_of is_value i)) (codes "Value")) (value_array_type (length (names_of is_value i)))
+  values_make : (k : ℕ) → length (names_of is_value i) ≡ suc (suc k)
+      → Makes (E t) (value_array_ctor (length (names_of is_value i))) (replicate (length (names_of is_value i)) (codes "Value")) (value_array_type (length (names_of is_value i)))
   values_make k e =
       let n = suc (suc k) in
       let size = ctor_size_there t k (value_size_there t f k format_among list (sym many_values ∙ e) (λ none. own_format.1.controlled list (let m = sym many_values ∙ e in omega (arith, m)) none)) in
@@ -139,7 +149,8 @@ module _ (t : Tables) (s : AreSupported t) (plain : ArePlain t) (i : Instruction
       }))
 
   -- an array of blocks
-  blocks_open : (k : ℕ) → length (names_of is_block i) ≡ suc (suc k) → Opens (E t) (block_array (length (names_of is_block i))) (replicate (length (names_of is_block i)) (codes "BlockCall")) (block_array_type (length (names_of is_block i)))
+  blocks_open : (k : ℕ) → length (names_of is_block i) ≡ suc (suc k)
+      → Opens (E t) (block_array (length (names_of is_block i))) (replicate (length (names_of is_block i)) (codes "BlockCall")) (block_array_type (length (names_of is_block i)))
   blocks_open k e =
       let n = suc (suc k) in
       let size = block_size_there t f k format_among (sym many_blocks ∙ e) in
@@ -152,7 +163,8 @@ module _ (t : Tables) (s : AreSupported t) (plain : ArePlain t) (i : Instruction
         taken = in_blocks t n _ size (inr (inr (inr (inl refl))));
       }))
 
-  blocks_make : (k : ℕ) → length (names_of is_block i) ≡ suc (suc k) → Makes (E t) (block_array (length (names_of is_block i))) (replicate (length (names_of is_block i)) (codes "BlockCall")) (block_array_type (length (names_of is_block i)))
+  blocks_make : (k : ℕ) → length (names_of is_block i) ≡ suc (suc k)
+      → Makes (E t) (block_array (length (names_of is_block i))) (replicate (length (names_of is_block i)) (codes "BlockCall")) (block_array_type (length (names_of is_block i)))
   blocks_make k e =
       let n = suc (suc k) in
       let size = block_size_there t f k format_among (sym many_blocks ∙ e) in

@@ -18,7 +18,8 @@ use Rattle.isle_terms.specs.Whole.{Whole, whole_of, termed}
 use Rattle.isle_sema.specs.Breaks.{breaks}
 use Rattle.isle_sema.specs.Fault.{OfRules, rows_of, broken_in, fault_in}
 use Rattle.isle_sema.specs.RulePass.{patterns_of, right_side_of, left_of, sites_of, written_pass}
-use Rattle.isle_sema.specs.RuleRows.{is_untaken, is_mistaken, is_misplaced, is_undeclared, is_met_otherwise, is_multi_used, is_use_of, is_unknown, is_mistyped, is_call_of}
+use Rattle.isle_sema.specs.RuleRows.{is_untaken, is_mistaken, is_misplaced, is_undeclared, is_met_otherwise, is_multi_used, is_use_of, is_unknown, is_mistyped}
+use Rattle.isle_sema.specs.RuleRows.{is_call_of}
 use Rattle.isle_sema.specs.Site.{Site}
 use Rattle.isle_sema.specs.Templates.{templates}
 use Rattle.isle_writing.specs.Erased.{all_erased}
@@ -128,7 +129,8 @@ module _ (defs : List Def) (h : AreSimple (all_erased defs)) where
       subst (λ d. broken_in OfRules (record { whole = whole_of defs; before = before }) d ≡ None) (sym form)
       (none_broken (λ (r : Row). breaks r (record { whole = whole_of defs; before = before }) (rule_def name term s.2.params rhs at)) (rows_of OfRules) (rows_kept before name term args rhs at s.2))
 
-  unbroken : (before : List Def) (d : Def) (after : List Def) → defs ≡ before ++ d ∷ after → broken_in OfRules (record { whole = whole_of defs; before = before }) d ≡ None
+  unbroken : (before : List Def) (d : Def) (after : List Def) → defs ≡ before ++ d ∷ after
+      → broken_in OfRules (record { whole = whole_of defs; before = before }) d ≡ None
   unbroken before (Rule name prio term args iflets rhs at) after e = rule_unbroken before name prio term args iflets rhs at (sound_at defs h before (Rule name prio term args iflets rhs at) after e)
   unbroken before (Extractor term params template at) after e = refl
   unbroken before (TypeDecl name x n body at) after e = refl

@@ -68,7 +68,8 @@ first_tree scope name ty k free e =
     ∙ ap (λ (o : Option TypeId). option_map (λ (v : TypeId × VarId). core_pattern.Var v.0 v.1) (option_map {U = TypeId × VarId} (λ (t : TypeId). (t, record { 0 = scope.next })) o)) e
 
 module _ (w : Whole) where
-  pub variables_right : (scope : Scope) (params args : List (List ℕ)) → length params ≡ length args → AreApart params → AreFree params scope → AllByRecursion (IsKnown w.defs) args
+  pub variables_right : (scope : Scope) (params args : List (List ℕ)) → length params ≡ length args → AreApart params → AreFree params scope
+      → AllByRecursion (IsKnown w.defs) args
       → AreVariables (length params) (patterns_pass w (map (type_named w.defs) args) scope (seen_patterns (map variable_of params)))
   variables_right scope [] args many apart free known = record { made = []; treed = refl; each = tt; count = refl; fresh = tt }
   variables_right scope (p ∷ ps) [] many apart free known = absurd (let e : suc (length ps) ≡ 0 = many in omega arith)

@@ -3,7 +3,8 @@
 use Rattle.std.specs.Prelude.{◌≡◌, ◌⊎◌, ℕ, suc, ◌+◌, ◌≤◌, pos, List, [], ◌∷◌, ◌++◌, length, map, Bool, true, false, ◌&&◌, Option, Some, None, IsTrue, filter_map}
 use Rattle.std.specs.List.{AllByRecursion}
 use Rattle.isle_ast.specs.Tree as tree
-use Rattle.isle_ast.specs.Tree.{Def, TypeDecl, Decl, ExternConstructor, ExternExtractor, ExternConst, Extractor, Converter, Rule, Passed, Pattern, Patterns, NoPattern, APattern, Expr, Exprs, NoExpr, AnExpr}
+use Rattle.isle_ast.specs.Tree.{Def, TypeDecl, Decl, ExternConstructor, ExternExtractor, ExternConst, Extractor, Converter, Rule, Passed, Pattern, Patterns}
+use Rattle.isle_ast.specs.Tree.{NoPattern, APattern, Expr, Exprs, NoExpr, AnExpr}
 use Rattle.isle_ast.specs.declared.tree.AstBody.{AstBody}
 use Rattle.isle_ast.specs.declared.tree.AstBody.TheVariants.{Primitive, Enum, Struct}
 use Rattle.isle_ast.specs.declared.tree.AstVariant.{AstVariant}

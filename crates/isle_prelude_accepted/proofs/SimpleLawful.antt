@@ -97,7 +97,8 @@ module _ (defs : List Def) (h : AreSimple (all_erased defs)) where
     })
 
   -- whatever lawful names their files have
-  pub simple_lawful : (printed : List (List ℕ)) → AllByRecursion (λ name. IsTrue (is_file_name name)) printed → (env : Environment) × IsLawfulEnvironment printed defs env
+  pub simple_lawful : (printed : List (List ℕ)) → AllByRecursion (λ name. IsTrue (is_file_name name)) printed
+      → (env : Environment) × IsLawfulEnvironment printed defs env
   simple_lawful printed files =
       let env = simple_typed defs h in (
         env.0,

@@ -1,5 +1,6 @@
 -- What is known of the rows of supported tables.
-use Rattle.std.proofs.Common.{◌≡◌, ◌≢◌, ◌⊎◌, inl, inr, ⊎_elim, ℕ, zero, suc, ◌<◌, ◌≤◌, List, [], ◌∷◌, ◌++◌, length, map, Bool, true, false, Some, None, refl, sym, ap, ◌∙◌, subst, arith}
+use Rattle.std.proofs.Common.{◌≡◌, ◌≢◌, ◌⊎◌, inl, inr, ⊎_elim, ℕ, zero, suc, ◌<◌, ◌≤◌, List, [], ◌∷◌, ◌++◌, length, map, Bool, true, false, Some, None, refl}
+use Rattle.std.proofs.Common.{sym, ap, ◌∙◌, subst, arith}
 use Rattle.std.specs.Prelude.{IsTrue, IsSomeAnd, slice_get, codes, ◌||◌, ◌&&◌}
 use Rattle.std.specs.List.{AllByRecursion}
 use Rattle.std.specs.Str.{bytes_eq}
@@ -14,7 +15,8 @@ use Rattle.isle_meta.specs.declared.tables.Tables.{Tables}
 use Rattle.isle_meta.specs.FormatRow as format
 use Rattle.isle_meta.specs.FormatRow.{format_names, field_names, all_fields}
 use Rattle.isle_meta.specs.InstructionRow as instruction
-use Rattle.isle_meta.specs.InstructionRow.{operand_names, count_of, is_value, is_varargs, is_block, is_raw_block, imm_types, types_differ, takes_type_to_optimize, takes_type_to_lower}
+use Rattle.isle_meta.specs.InstructionRow.{operand_names, count_of, is_value, is_varargs, is_block, is_raw_block, imm_types, types_differ}
+use Rattle.isle_meta.specs.InstructionRow.{takes_type_to_optimize, takes_type_to_lower}
 use Rattle.isle_meta.specs.Immediates.{type_of, are_misshapen}
 use Rattle.isle_meta.specs.Rows.{Row, OfFormat, OfInstruction, Breaks, shapes, rows, format_rows, instruction_rows, machine_rows, IsFirstShape, IsFirstUnsupported}
 use Rattle.isle_meta.specs.TableNames.{is_among, repeats_after, repeats, IsImmediateType, IsTermName, is_reserved_term}
@@ -92,7 +94,8 @@ apart_after earlier (name ∷ names) h =
     let rest = apart_after (earlier ++ name ∷ []) names parts.1 in
     (((λ i. rest.1 name i (has_back earlier (name ∷ []) name (inl refl))), rest.0), λ x i j. by rest.1 parts.0 x i j)
   where
-    by : ((y : List ℕ) → Has names y → Has (earlier ++ name ∷ []) y → ⊥) → is_among name earlier ≡ false → (x : List ℕ) → (name ≡ x) ⊎ Has names x → Has earlier x → ⊥
+    by : ((y : List ℕ) → Has names y → Has (earlier ++ name ∷ []) y → ⊥) → is_among name earlier ≡ false → (x : List ℕ) → (name ≡ x) ⊎ Has names x
+        → Has earlier x → ⊥
     by rest first x (inl e) j = none_among name earlier first (subst (Has earlier) (sym e) j)
     by rest first x (inr i) j = rest x i (has_front earlier (name ∷ []) x j)
 
@@ -181,7 +184,8 @@ none_above : (n : ℕ) → (0 < n → ⊥) → n ≡ 0
 none_above zero h = refl
 none_above (suc n) h = absurd (h (omega arith))
 
-instruction_sound : (formats : List InstructionFormat) (before : List Instruction) (i : Instruction) → AllByRecursion (λ s. Breaks (OfInstruction formats before i) s → ⊥) shapes
+instruction_sound : (formats : List InstructionFormat) (before : List Instruction) (i : Instruction)
+    → AllByRecursion (λ s. Breaks (OfInstruction formats before i) s → ⊥) shapes
     → IsSupportedInstruction formats before i
 instruction_sound formats before i h =
     let f = found_below formats i.format h.1.1.1.1.0 in
@@ -221,12 +225,14 @@ AreSupportedInstructions formats before (i ∷ is) = IsSupportedInstruction form
 
 -- ---- tables
 
-formats_sound : (before fs : List InstructionFormat) → ((row : Row) → Has (format_rows before fs) row → AllByRecursion (λ s. Breaks row s → ⊥) shapes) → AreSupportedFormats before fs
+formats_sound : (before fs : List InstructionFormat) → ((row : Row) → Has (format_rows before fs) row → AllByRecursion (λ s. Breaks row s → ⊥) shapes)
+    → AreSupportedFormats before fs
 unfolding AreSupportedFormats
 formats_sound before [] h = tt
 formats_sound before (f ∷ fs) h = (format_sound before f (h (OfFormat before f) (inl refl)), formats_sound (before ++ f ∷ []) fs (λ row i. h row (inr i)))
 
-instructions_sound : (formats : List InstructionFormat) (before is : List Instruction) → ((row : Row) → Has (instruction_rows formats before is) row → AllByRecursion (λ s. Breaks row s → ⊥) shapes)
+instructions_sound : (formats : List InstructionFormat) (before is : List Instruction)
+    → ((row : Row) → Has (instruction_rows formats before is) row → AllByRecursion (λ s. Breaks row s → ⊥) shapes)
     → AreSupportedInstructions formats before is
 unfolding AreSupportedInstructions
 instructions_sound formats before [] h = tt

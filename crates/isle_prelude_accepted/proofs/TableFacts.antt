@@ -22,7 +22,8 @@ use Rattle.isle_prelude_accepted.proofs.Supported.{AreSupportedFormats, AreSuppo
 
 -- ---- single rows
 
-pub format_at : (before fs : List InstructionFormat) (f : InstructionFormat) → AreSupportedFormats before fs → Has fs f → (b : List InstructionFormat) × IsSupportedFormat b f
+pub format_at : (before fs : List InstructionFormat) (f : InstructionFormat) → AreSupportedFormats before fs → Has fs f
+    → (b : List InstructionFormat) × IsSupportedFormat b f
 unfolding AreSupportedFormats
 format_at before [] f h i = absurd i
 format_at before (g ∷ fs) f h (inl e) = (before, subst (IsSupportedFormat before) e h.0)
@@ -41,7 +42,8 @@ instruction_at formats before (j ∷ is) i h (inr k) = instruction_at formats (b
 abbrev AreNew : {A : Type 0} (name : A → List ℕ) → List A → List A → Type 0
 AreNew name before xs = AreApart (map name xs) × ((n : List ℕ) → Has (map name xs) n → Has (map name before) n → ⊥)
 
-one_more : {A : Type 0} (name : A → List ℕ) (before : List A) (x : A) (xs : List A) → (Has (map name before) (name x) → ⊥) → AreNew name (before ++ x ∷ []) xs → AreNew name before (x ∷ xs)
+one_more : {A : Type 0} (name : A → List ℕ) (before : List A) (x : A) (xs : List A) → (Has (map name before) (name x) → ⊥)
+    → AreNew name (before ++ x ∷ []) xs → AreNew name before (x ∷ xs)
 one_more name before x xs new rest =
     let more = map-append name before (x ∷ []) in (
       ((λ i. rest.1 (name x) i (subst (λ ns. Has ns (name x)) (sym more) (has_back (map name before) (name x ∷ []) (name x) (inl refl)))), rest.0),
@@ -52,17 +54,20 @@ one_more name before x xs new rest =
     by n later (inl e) j = new (subst (Has (map name before)) (sym e) j)
     by n later (inr i) j = later i
 
-pub formats_apart : (before fs : List InstructionFormat) → AreSupportedFormats before fs → AreApart (format.own_names fs) × ((n : List ℕ) → Has (format.own_names fs) n → Has (format.own_names before) n → ⊥)
+pub formats_apart : (before fs : List InstructionFormat) → AreSupportedFormats before fs
+    → AreApart (format.own_names fs) × ((n : List ℕ) → Has (format.own_names fs) n → Has (format.own_names before) n → ⊥)
 unfolding AreSupportedFormats
 formats_apart before [] h = (tt, λ n i j. i)
 formats_apart before (f ∷ fs) h = one_more (λ (x : InstructionFormat). x.name) before f fs h.0.new (formats_apart (before ++ f ∷ []) fs h.1)
 
-pub instructions_apart : (formats : List InstructionFormat) (before is : List Instruction) → AreSupportedInstructions formats before is → AreNew (λ (i : Instruction). i.name) before is
+pub instructions_apart : (formats : List InstructionFormat) (before is : List Instruction) → AreSupportedInstructions formats before is
+    → AreNew (λ (i : Instruction). i.name) before is
 unfolding AreSupportedInstructions
 instructions_apart formats before [] h = (tt, λ n i j. i)
 instructions_apart formats before (i ∷ is) h = one_more (λ (x : Instruction). x.name) before i is h.0.new (instructions_apart formats (before ++ i ∷ []) is h.1)
 
-pub camels_apart : (formats : List InstructionFormat) (before is : List Instruction) → AreSupportedInstructions formats before is → AreNew (λ (i : Instruction). i.camel_name) before is
+pub camels_apart : (formats : List InstructionFormat) (before is : List Instruction) → AreSupportedInstructions formats before is
+    → AreNew (λ (i : Instruction). i.camel_name) before is
 unfolding AreSupportedInstructions
 camels_apart formats before [] h = (tt, λ n i j. i)
 camels_apart formats before (i ∷ is) h = one_more (λ (x : Instruction). x.camel_name) before i is h.0.new_camel (camels_apart formats (before ++ i ∷ []) is h.1)
@@ -74,7 +79,8 @@ pub record IsSoundField (i : ImmField) : Type 0 where
   pub names : AllByRecursion IsIdentifier (imm_names i)
   pub type : IsImmediateType (type_of i)
 
-each_field : (fields : List ImmField) (i : ImmField) → AllByRecursion IsIdentifier (flat_map imm_names fields) → AllByRecursion IsImmediateType (map type_of fields) → Has fields i → IsSoundField i
+each_field : (fields : List ImmField) (i : ImmField) → AllByRecursion IsIdentifier (flat_map imm_names fields)
+    → AllByRecursion IsImmediateType (map type_of fields) → Has fields i → IsSoundField i
 each_field [] i h k j = absurd j
 each_field (f ∷ fs) i h k (inl e) = subst IsSoundField e (record { names = all_front IsIdentifier (imm_names f) (flat_map imm_names fs) h; type = k.0 })
 each_field (f ∷ fs) i h k (inr j) = each_field fs i (all_back IsIdentifier (imm_names f) (flat_map imm_names fs) h) k.1 j
@@ -159,7 +165,8 @@ within earlier (f ∷ fs) h i j k l = by (within (earlier ++ f ∷ []) fs h.1 i 
     by rest (inr m) (inl b) = λ same. sym (subst (λ x. Alike x i) b (later i m) (sym same))
     by rest (inr m) (inr n) = rest m n
 
-pub fields_alike : (fs : List InstructionFormat) → AreSupportedFormats [] fs → (i j : ImmField) → Has (all_fields fs) i → Has (all_fields fs) j → type_of i ≡ type_of j → is_enum i ≡ is_enum j
+pub fields_alike : (fs : List InstructionFormat) → AreSupportedFormats [] fs → (i j : ImmField) → Has (all_fields fs) i → Has (all_fields fs) j
+    → type_of i ≡ type_of j → is_enum i ≡ is_enum j
 fields_alike fs h i j k l same = within [] (all_fields fs) (shaped_all [] fs h) i j k l same
 
 -- ---- what passes a test
@@ -168,7 +175,8 @@ pub filter_from : {A : Type 0} (test : A → Bool) (xs : List A) (x : A) → Has
 filter_from test [] x h = absurd h
 filter_from {A} test (y ∷ ys) x h = by (test y) refl (filter_from test ys x) h
   where
-    by : (b : Bool) → test y ≡ b → (Has (filter test ys) x → Has ys x × (test x ≡ true)) → Has (cond b (y ∷ filter test ys) (filter test ys)) x → Has (y ∷ ys) x × (test x ≡ true)
+    by : (b : Bool) → test y ≡ b → (Has (filter test ys) x → Has ys x × (test x ≡ true)) → Has (cond b (y ∷ filter test ys) (filter test ys)) x
+        → Has (y ∷ ys) x × (test x ≡ true)
     by true e rest (inl s) = (inl s, ap test (sym s) ∙ e)
     by true e rest (inr k) = let r = rest k in (inr r.0, r.1)
     by false e rest k = let r = rest k in (inr r.0, r.1)

@@ -1,5 +1,6 @@
 -- The templates of simple definitions have no fault: each has a tree, and none uses another.
-use Rattle.std.proofs.Common.{◌≡◌, inl, inr, ℕ, zero, suc, Bool, true, false, cond, List, [], ◌∷◌, ◌++◌, map, length, Option, Some, None, refl, sym, ap, ap₂, ◌∙◌, subst}
+use Rattle.std.proofs.Common.{◌≡◌, inl, inr, ℕ, zero, suc, Bool, true, false, cond, List, [], ◌∷◌, ◌++◌, map, length, Option, Some, None, refl, sym, ap, ap₂}
+use Rattle.std.proofs.Common.{◌∙◌, subst}
 use Rattle.std.specs.Prelude.{is_some, not, ◌||◌, ◌&&◌, ◌==◌}
 use Rattle.std.specs.List.{AllByRecursion, list_any, list_all, find}
 use Rattle.std.specs.Str.{bytes_eq}
@@ -68,7 +69,8 @@ no_steps graph (suc steps) from to h = ap (list_any (λ (next : ℕ). (next == t
 
 module _ (defs : List Def) (h : AreSimple (all_erased defs)) where
   -- a template of definitions is sound
-  template_sound : (term : List ℕ) (params : List (List ℕ)) (template : Pattern) (at : Pos) → Has defs (Extractor term params template at) → IsSoundTemplate (all_erased defs) term params template
+  template_sound : (term : List ℕ) (params : List (List ℕ)) (template : Pattern) (at : Pos) → Has defs (Extractor term params template at)
+      → IsSoundTemplate (all_erased defs) term params template
   template_sound term params template at i = sound_in defs h (Extractor term params template at) i
 
   -- a template at its term's type, over its parameters
@@ -118,7 +120,8 @@ module _ (defs : List Def) (h : AreSimple (all_erased defs)) where
       let d = has_source extractor_of defs x found.0 in
       ap (λ name. used_through (whole_of defs) name x.by) (sym (same_bytes x.term s.term found.1)) ∙ used_none d.0 x d.1 d.2
 
-  pub all_unused : (sigs : List Signature) → AllByRecursion (λ us. us ≡ []) (map (λ (s : Signature). used_of (whole_of defs) s (extractor_named (extractors defs) s.term)) sigs)
+  pub all_unused : (sigs : List Signature)
+      → AllByRecursion (λ us. us ≡ []) (map (λ (s : Signature). used_of (whole_of defs) s (extractor_named (extractors defs) s.term)) sigs)
   all_unused [] = tt
   all_unused (s ∷ sigs) = (each_unused s (extractor_named (extractors defs) s.term) refl, all_unused sigs)
 
@@ -128,7 +131,8 @@ module _ (defs : List Def) (h : AreSimple (all_erased defs)) where
 
   -- ---- rows
 
-  each_param : (template : Pattern) (params : List (List ℕ)) → AllByRecursion (Has (variables_in template)) params → list_any (λ (param : List ℕ). not (is_some (index_of (variables_in template) param))) params ≡ false
+  each_param : (template : Pattern) (params : List (List ℕ)) → AllByRecursion (Has (variables_in template)) params
+      → list_any (λ (param : List ℕ). not (is_some (index_of (variables_in template) param))) params ≡ false
   each_param template params k = any_none (Has (variables_in template)) (λ (param : List ℕ). not (is_some (index_of (variables_in template) param))) params
       (λ param i. ap (λ o. not (is_some o)) (place_found (variables_in template) param i).1) k
 
@@ -161,7 +165,8 @@ module _ (defs : List Def) (h : AreSimple (all_erased defs)) where
         ),
       )
 
-  unbroken : (before : List Def) (d : Def) (after : List Def) → defs ≡ before ++ d ∷ after → broken_in OfExtractors (record { whole = whole_of defs; before = before }) d ≡ None
+  unbroken : (before : List Def) (d : Def) (after : List Def) → defs ≡ before ++ d ∷ after
+      → broken_in OfExtractors (record { whole = whole_of defs; before = before }) d ≡ None
   unbroken before (Extractor term params template at) after e = template_unbroken before term params template at (subst (λ ds. Has ds (Extractor term params template at)) (sym e) (has_middle before _ after))
   unbroken before (TypeDecl name x n body at) after e = refl
   unbroken before (Decl term pure multi partial recursive args ret at) after e = refl

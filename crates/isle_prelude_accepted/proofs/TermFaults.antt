@@ -8,7 +8,8 @@ use Rattle.isle_core.specs.declared.position.Pos.{Pos}
 use Rattle.isle_declarations.specs.DeclaredTypes.{made_terms}
 use Rattle.isle_declarations.specs.Heads.{terms_of, extern_terms, extractor_terms}
 use Rattle.isle_declarations.specs.Repeats.{repeats}
-use Rattle.isle_declarations.specs.Signatures.{Signature, Extern, ExtractorDef, ByFunction, ByTemplate, signature_of, extern_of, extractor_of, signatures, externs, extractors, func_named}
+use Rattle.isle_declarations.specs.Signatures.{Signature, Extern, ExtractorDef, ByFunction, ByTemplate, signature_of, extern_of, extractor_of, signatures}
+use Rattle.isle_declarations.specs.Signatures.{externs, extractors, func_named}
 use Rattle.isle_declarations.specs.Symbols.{index_of}
 use Rattle.isle_types.specs.declared.row.Row.{Row}
 use Rattle.isle_types.specs.TypeRows.{on}
@@ -33,7 +34,8 @@ module _ (defs : List Def) (h : AreSimple (all_erased defs)) where
   abbrev Unbroken : List Def → Def → Type 0
   Unbroken before d = broken_in OfTerms (record { whole = whole_of defs; before = before }) d ≡ None
 
-  all_rows : (before : List Def) (d : Def) → AllByRecursion (λ (r : Row). breaks r (record { whole = whole_of defs; before = before }) d ≡ false) (rows_of OfTerms) → Unbroken before d
+  all_rows : (before : List Def) (d : Def)
+      → AllByRecursion (λ (r : Row). breaks r (record { whole = whole_of defs; before = before }) d ≡ false) (rows_of OfTerms) → Unbroken before d
   all_rows before d k = none_broken (λ (r : Row). breaks r (record { whole = whole_of defs; before = before }) d) (rows_of OfTerms) k
 
   -- a name that definitions declare is found
@@ -66,7 +68,8 @@ module _ (defs : List Def) (h : AreSimple (all_erased defs)) where
       once_or_partial true p f = f
       once_or_partial false p f = refl
 
-  maker_unbroken : (before after : List Def) (term func : List ℕ) (at : Pos) → defs ≡ before ++ ExternConstructor term func at ∷ after → Unbroken before (ExternConstructor term func at)
+  maker_unbroken : (before after : List Def) (term func : List ℕ) (at : Pos) → defs ≡ before ++ ExternConstructor term func at ∷ after
+      → Unbroken before (ExternConstructor term func at)
   maker_unbroken before after term func at e =
       let d = ExternConstructor term func at in
       let s : IsSound (all_erased defs) d = sound_at defs h before d after e in
@@ -81,7 +84,8 @@ module _ (defs : List Def) (h : AreSimple (all_erased defs)) where
       )
 
   -- an extractor's term has no earlier one
-  first_taker : (before after : List Def) (d : Def) (x : ExtractorDef) → extractor_of d ≡ Some x → defs ≡ before ++ d ∷ after → index_of (extractor_terms (extractors before)) x.term ≡ None
+  first_taker : (before after : List Def) (d : Def) (x : ExtractorDef) → extractor_of d ≡ Some x → defs ≡ before ++ d ∷ after
+      → index_of (extractor_terms (extractors before)) x.term ≡ None
   first_taker before after d x is e =
       let once : AreApart (extractor_terms (extractors (before ++ d ∷ after))) =
       subst (λ ds. AreApart (extractor_terms (extractors ds))) e (subst AreApart (taken_same defs) h.extractors_apart) in
@@ -115,7 +119,8 @@ module _ (defs : List Def) (h : AreSimple (all_erased defs)) where
         ),
       )
 
-  template_unbroken : (before after : List Def) (term : List ℕ) (params : List (List ℕ)) (template : Pattern) (at : Pos) → defs ≡ before ++ Extractor term params template at ∷ after
+  template_unbroken : (before after : List Def) (term : List ℕ) (params : List (List ℕ)) (template : Pattern) (at : Pos)
+      → defs ≡ before ++ Extractor term params template at ∷ after
       → Unbroken before (Extractor term params template at)
   template_unbroken before after term params template at e =
       let d = Extractor term params template at in

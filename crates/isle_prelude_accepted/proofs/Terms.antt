@@ -14,7 +14,8 @@ use Rattle.isle_prelude_accepted.proofs.Has.{Has, AreApart, has_front, has_back,
 
 -- ---- names of terms
 
-variants_named : (ty : List ℕ) (at : Pos) (i : ℕ) (vs : List AstVariant) → terms_of (variant_signatures ty at i vs) ≡ map (λ (v : AstVariant). variant_term ty v.name) vs
+variants_named : (ty : List ℕ) (at : Pos) (i : ℕ) (vs : List AstVariant)
+    → terms_of (variant_signatures ty at i vs) ≡ map (λ (v : AstVariant). variant_term ty v.name) vs
 variants_named ty at i [] = refl
 variants_named ty at i (v ∷ vs) = ap (λ names. variant_term ty v.name ∷ names) (variants_named ty at (i + 1) vs)
 
@@ -45,7 +46,8 @@ term_names (TypeDecl ty is_extern is_nodebug (Enum vs) at ∷ ds) name i = of_bo
 term_names (TypeDecl ty is_extern is_nodebug (Struct fields) at ∷ ds) name i = of_body (ty ∷ []) (made_signature ty ty fields origin.Struct at ∷ []) ds name refl (term_names ds name) i
 term_names (Decl term pure multi partial recursive args ret at ∷ ds) name i = by (term_names ds name) i
   where
-    by : (Has (terms_of (terms ds)) name → Names ds name) → (term ≡ name) ⊎ Has (terms_of (terms ds)) name → Has (made_terms ds) name ⊎ ((term ≡ name) ⊎ Has (terms_of (signatures ds)) name)
+    by : (Has (terms_of (terms ds)) name → Names ds name) → (term ≡ name) ⊎ Has (terms_of (terms ds)) name
+        → Has (made_terms ds) name ⊎ ((term ≡ name) ⊎ Has (terms_of (signatures ds)) name)
     by rest (inl e) = inr (inl e)
     by rest (inr k) = to (rest k)
       where

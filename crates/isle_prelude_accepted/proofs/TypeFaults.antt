@@ -36,16 +36,19 @@ made_append (x ∷ xs) ys = ap (λ ms. made_of x ++ ms) (made_append xs ys) ∙ 
 
 -- ---- types that are declared
 
-first_found : (t : DeclaredType) (ts : List DeclaredType) (name : List ℕ) (b : Bool) → bytes_eq t.name name ≡ b → ((b ≡ false) → is_some (find (λ (x : DeclaredType). bytes_eq x.name name) ts) ≡ true)
+first_found : (t : DeclaredType) (ts : List DeclaredType) (name : List ℕ) (b : Bool) → bytes_eq t.name name ≡ b
+    → ((b ≡ false) → is_some (find (λ (x : DeclaredType). bytes_eq x.name name) ts) ≡ true)
     → is_some (cond b (Some t) (find (λ (x : DeclaredType). bytes_eq x.name name) ts)) ≡ true
 first_found t ts name true e rest = refl
 first_found t ts name false e rest = rest refl
 
-there_by_name : (ts : List DeclaredType) (name : List ℕ) → Has (map (λ (t : DeclaredType). t.name) ts) name → is_some (find (λ (t : DeclaredType). bytes_eq t.name name) ts) ≡ true
+there_by_name : (ts : List DeclaredType) (name : List ℕ) → Has (map (λ (t : DeclaredType). t.name) ts) name
+    → is_some (find (λ (t : DeclaredType). bytes_eq t.name name) ts) ≡ true
 there_by_name [] name i = absurd i
 there_by_name (t ∷ ts) name i = first_found t ts name (bytes_eq t.name name) refl (by (there_by_name ts name) i)
   where
-    by : (Has (map (λ (x : DeclaredType). x.name) ts) name → is_some (find (λ (x : DeclaredType). bytes_eq x.name name) ts) ≡ true) → (t.name ≡ name) ⊎ Has (map (λ (x : DeclaredType). x.name) ts) name
+    by : (Has (map (λ (x : DeclaredType). x.name) ts) name → is_some (find (λ (x : DeclaredType). bytes_eq x.name name) ts) ≡ true)
+        → (t.name ≡ name) ⊎ Has (map (λ (x : DeclaredType). x.name) ts) name
         → bytes_eq t.name name ≡ false → is_some (find (λ (x : DeclaredType). bytes_eq x.name name) ts) ≡ true
     by rest (inl e) f = absurd (let both : true ≡ false = sym (own_bytes t.name) ∙ ap (bytes_eq t.name) e ∙ f in cc)
     by rest (inr k) f = rest k
@@ -68,7 +71,8 @@ is_known_type defs name i = by (has_either builtin_names (declared_names defs) n
         ap (λ b. is_some (builtin_named name) || b) (some_mapped (λ (t : DeclaredType). t.body) (find (λ (t : DeclaredType). bytes_eq t.name name) (types defs)) ∙ there_by_name (types defs) name k)
         ∙ or_true (is_some (builtin_named name))
 
-none_missing : (defs : List Def) (names : List (List ℕ)) → AllByRecursion (Has (type_names defs)) names → list_any (λ (name : List ℕ). not (is_type defs name)) names ≡ false
+none_missing : (defs : List Def) (names : List (List ℕ)) → AllByRecursion (Has (type_names defs)) names
+    → list_any (λ (name : List ℕ). not (is_type defs name)) names ≡ false
 none_missing defs [] h = refl
 none_missing defs (name ∷ names) h = or_from (not (is_type defs name)) (list_any (λ (n : List ℕ). not (is_type defs n)) names) (ap not (is_known_type defs name h.0)) (none_missing defs names h.1)
 
@@ -78,7 +82,8 @@ pub le_true : (n m : ℕ) → n ≤ m → nat_le n m ≡ true
 le_true n m le = le-leb n m le
 
 -- a test that fails for the fields of each variant
-none_of_fields : (E : List Def) (test : AstFields → Bool) (vs : List AstVariant) → ((v : AstVariant) → IsSoundVariant E v → test v.fields ≡ false) → AllByRecursion (IsSoundVariant E) vs
+none_of_fields : (E : List Def) (test : AstFields → Bool) (vs : List AstVariant) → ((v : AstVariant) → IsSoundVariant E v → test v.fields ≡ false)
+    → AllByRecursion (IsSoundVariant E) vs
     → list_any (λ (v : AstVariant). test v.fields) vs ≡ false
 none_of_fields E test [] each h = refl
 none_of_fields E test (v ∷ vs) each h = or_from (test v.fields) (list_any (λ (x : AstVariant). test x.fields) vs) (each v h.0) (none_of_fields E test vs each h.1)
@@ -145,7 +150,8 @@ module _ (defs : List Def) (h : AreSimple (all_erased defs)) where
       elsewhere a b (inl i) = a i
       elsewhere a b (inr i) = b i
 
-  unbroken : (before : List Def) (d : Def) (after : List Def) → defs ≡ before ++ d ∷ after → broken_in OfTypes (record { whole = whole_of defs; before = before }) d ≡ None
+  unbroken : (before : List Def) (d : Def) (after : List Def) → defs ≡ before ++ d ∷ after
+      → broken_in OfTypes (record { whole = whole_of defs; before = before }) d ≡ None
   unbroken before (TypeDecl name x n body at) after e = type_unbroken before after name x n body at e
   unbroken before (Decl term pure multi partial recursive args ret at) after e = refl
   unbroken before (ExternConstructor term func at) after e = refl

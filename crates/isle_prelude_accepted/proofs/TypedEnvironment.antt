@@ -107,7 +107,8 @@ module _ (defs : List Def) (h : AreSimple (all_erased defs)) where
 
   -- ---- rules
 
-  rules_from : (i : ℕ) (ds : List Def) → ((d : Def) → Has ds d → Has defs d) → (xs : List CoreRule) × (rules_pass (whole_of defs) i (rule_defs ds) ≡ Some xs) × AreMadeRules (whole_of defs) (rule_defs ds) xs
+  rules_from : (i : ℕ) (ds : List Def) → ((d : Def) → Has ds d → Has defs d)
+      → (xs : List CoreRule) × (rules_pass (whole_of defs) i (rule_defs ds) ≡ Some xs) × AreMadeRules (whole_of defs) (rule_defs ds) xs
   rules_from i [] all = ([], refl, tt)
   rules_from i (Rule name prio term args iflets rhs at ∷ ds) all =
       let w = whole_of defs in
@@ -138,7 +139,8 @@ module _ (defs : List Def) (h : AreSimple (all_erased defs)) where
       let t : DeclaredType = record { name = name; body = body } in
       known_type defs h name (has_back builtin_names (declared_names E) name (has_map (λ (y : DeclaredType). y.name) (types E) t (has_found type_of E _ t (has_map erased defs (TypeDecl name x n body at) i) refl)))
 
-  variants_typed : (ty : List ℕ) (at : Pos) (i : ℕ) (vs : List AstVariant) → IsKnown defs ty → AllByRecursion (IsSoundVariant (all_erased defs)) vs → AllByRecursion (HasTypes defs) (variant_signatures ty at i vs)
+  variants_typed : (ty : List ℕ) (at : Pos) (i : ℕ) (vs : List AstVariant) → IsKnown defs ty → AllByRecursion (IsSoundVariant (all_erased defs)) vs
+      → AllByRecursion (HasTypes defs) (variant_signatures ty at i vs)
   variants_typed ty at i [] known s = tt
   variants_typed ty at i (v ∷ vs) known s = ((known, known_types defs h (field_types v.fields) s.0.known), variants_typed ty at (i + 1) vs known s.1)
 

@@ -100,7 +100,8 @@ used_good w l expected k e f = record {
   once = refl;
 }
 
-variable_right : (w : Whole) (locals : List Local) (next : ℕ) (name : List ℕ) (expected : Option TypeId) (l : Local) (k : TypeId) → local_named locals name ≡ Some l → expected ≡ Some k → l.ty ≡ Some k
+variable_right : (w : Whole) (locals : List Local) (next : ℕ) (name : List ℕ) (expected : Option TypeId) (l : Local) (k : TypeId)
+    → local_named locals name ≡ Some l → expected ≡ Some k → l.ty ≡ Some k
     → IsRight w 1 (expr_pass w locals next expected (tree.Name name))
 variable_right w locals next name expected l k found e f =
     let form : expr_pass w locals next expected (tree.Name name) ≡ name_pass_by w next expected (Some l) None =
@@ -124,7 +125,8 @@ call_pass_by w expected of by callee number count args = record {
   sites = called_by by expected ++ CalledAt (within by of expected) callee count ∷ args.sites;
 }
 
-called_good : (w : Whole) (s : Signature) (expected : Option TypeId) (count : ℕ) (k : TypeId) → type_named w.defs s.ret ≡ Some k → expected ≡ Some k → count ≡ length s.args → has_constructor w s ≡ true
+called_good : (w : Whole) (s : Signature) (expected : Option TypeId) (count : ℕ) (k : TypeId) → type_named w.defs s.ret ≡ Some k → expected ≡ Some k
+    → count ≡ length s.args → has_constructor w s ≡ true
     → s.partial ≡ false → s.multi ≡ false → IsGoodSite w (CalledAt expected (Some s) count)
 called_good w s expected count k gives e many made whole once = record {
   taken = refl;
@@ -170,7 +172,8 @@ module _ (w : Whole) (E : List Def) (makes : (name : List ℕ) (args : List (Lis
       })
 
   mutual
-    pub expr_right : (next : ℕ) (ty : List ℕ) (e : Expr) → IsKnown w.defs ty → IsExprOf E vars ty e → IsRight w (expr_size e) (expr_pass w locals next (type_named w.defs ty) e)
+    pub expr_right : (next : ℕ) (ty : List ℕ) (e : Expr) → IsKnown w.defs ty → IsExprOf E vars ty e
+        → IsRight w (expr_size e) (expr_pass w locals next (type_named w.defs ty) e)
     expr_right next ty (tree.Name name) there h =
         let b = known name ty h in
         variable_right w locals next name (type_named w.defs ty) b.0 there.0 b.1 there.1 (b.2 ∙ there.1)

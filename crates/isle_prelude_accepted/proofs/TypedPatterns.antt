@@ -72,7 +72,8 @@ variable_good w l expected k e f = record { bound = refl; met = known_differ l.t
 local_typed : (l : Local) (k : TypeId) → l.ty ≡ Some k → is_some (typed_local (Some l)) ≡ true
 local_typed l k e = ap (λ (o : Option TypeId). is_some (option_map {U = TypeId × VarId} (λ (ty : TypeId). (ty, record { 0 = l.number })) o)) e
 
-variable_fit : (w : Whole) (scope : Scope) (name : List ℕ) (expected : Option TypeId) (l : Local) (k : TypeId) → found_in scope.variables name ≡ Some l → expected ≡ Some k → l.ty ≡ Some k
+variable_fit : (w : Whole) (scope : Scope) (name : List ℕ) (expected : Option TypeId) (l : Local) (k : TypeId)
+    → found_in scope.variables name ≡ Some l → expected ≡ Some k → l.ty ≡ Some k
     → IsFit w scope (pattern_pass w expected scope (tree.Var name))
 variable_fit w scope name expected l k found e f =
     let same : met scope name expected ≡ scope = ap (λ o. met_by o scope name expected) found in
@@ -99,7 +100,8 @@ is_true_and : (k : TypeId) (n : TermId) (o : Option (List CorePattern)) → is_s
 is_true_and k n None e = absurd cc
 is_true_and k n (Some ps) e = refl
 
-taken_good : (w : Whole) (s : Signature) (expected : Option TypeId) (count : ℕ) (k : TypeId) → type_named w.defs s.ret ≡ Some k → expected ≡ Some k → count ≡ length s.args → has_extractor w s ≡ true
+taken_good : (w : Whole) (s : Signature) (expected : Option TypeId) (count : ℕ) (k : TypeId) → type_named w.defs s.ret ≡ Some k → expected ≡ Some k
+    → count ≡ length s.args → has_extractor w s ≡ true
     → IsGoodPart w (TakenAt expected (Some s) count)
 taken_good w s expected count k gives e many taken = record {
   bound = refl;
@@ -120,7 +122,8 @@ pub none_templated : (w : Whole) (term : List ℕ) (o : Option ExtractorDef) →
 none_templated w term None h = refl
 none_templated w term (Some x) h = by x.by h
   where
-    by : (e : _) → HasNoTemplate (Some (record { term = x.term; by = e; pos = x.pos })) → templated_with w term (Some (record { term = x.term; by = e; pos = x.pos })) ≡ []
+    by : (e : _) → HasNoTemplate (Some (record { term = x.term; by = e; pos = x.pos }))
+        → templated_with w term (Some (record { term = x.term; by = e; pos = x.pos })) ≡ []
     by (ByFunction func infallible) k = refl
     by (ByTemplate t) k = absurd k
 
@@ -131,7 +134,8 @@ before_some (Some p) (Some ps) e f = refl
 
 module _ (w : Whole) (E : List Def) (opens : (name : List ℕ) (args : List (List ℕ)) (ret : List ℕ) → Opens E name args ret → IsOpened w name args ret)
     (vars : Variables) (scope : Scope) (bound : AreBound w vars scope) where
-  term_fit : (name ty : List ℕ) (args : List (List ℕ)) (ps : Patterns) → IsOpened w name args ty → count_of ps ≡ length args → AreFit w scope (patterns_pass w (map (type_named w.defs) args) scope ps)
+  term_fit : (name ty : List ℕ) (args : List (List ℕ)) (ps : Patterns) → IsOpened w name args ty → count_of ps ≡ length args
+      → AreFit w scope (patterns_pass w (map (type_named w.defs) args) scope ps)
       → IsFit w scope (pattern_pass w (type_named w.defs ty) scope (tree.Term name ps))
   term_fit name ty args ps o many parts =
       let c = o.callee in
@@ -186,7 +190,8 @@ module _ (w : Whole) (E : List Def) (opens : (name : List ℕ) (args : List (Lis
     pattern_fit ty (tree.Bind name p) known h = absurd h
     pattern_fit ty (tree.And ps) known h = absurd h
 
-    pub patterns_fit : (tys : List (List ℕ)) (ps : Patterns) → AllByRecursion (IsKnown w.defs) tys → ArePatternsOf E vars tys ps → AreFit w scope (patterns_pass w (map (type_named w.defs) tys) scope ps)
+    pub patterns_fit : (tys : List (List ℕ)) (ps : Patterns) → AllByRecursion (IsKnown w.defs) tys → ArePatternsOf E vars tys ps
+        → AreFit w scope (patterns_pass w (map (type_named w.defs) tys) scope ps)
     patterns_fit [] NoPattern known h = record { treed = refl; same = refl; parts = tt }
     patterns_fit (ty ∷ tys) (APattern p ps) known h =
         let first = pattern_fit ty p known.0 h.0 in
