@@ -71,7 +71,8 @@ pub record IsMadeBy (w : Whole) (name : List ℕ) (args : List (List ℕ)) (ret 
 -- an extractor of sound definitions is of a declared term
 taker_declared : (E : List Def) (d : Def) (x : ExtractorDef) → IsSound E d → extractor_of d ≡ Some x → Has (terms_of (signatures E)) x.term
 taker_declared E (ExternExtractor term func infallible at) x s e =
-    let sig : Signature = record { term = term; pure = s.pure; multi = s.multi; partial = false; recursive = false; args = s.args; ret = s.ret; pos = no_place; origin = origin.Declared } in
+    let sig : Signature =
+    record { term = term; pure = s.pure; multi = s.multi; partial = false; recursive = false; args = s.args; ret = s.ret; pos = no_place; origin = origin.Declared } in
     let is : Some (record { term = term; by = ByFunction func infallible; pos = at }) ≡ Some x = e in
     let same : term ≡ x.term = ap term_or is in
     subst (Has (terms_of (signatures E))) same (has_map (λ (y : Signature). y.term) (signatures E) sig (has_found signature_of E _ sig s.declared refl))
@@ -80,7 +81,8 @@ taker_declared E (ExternExtractor term func infallible at) x s e =
     term_or None = []
     term_or (Some y) = y.term
 taker_declared E (Extractor term params template at) x s e =
-    let sig : Signature = record { term = term; pure = false; multi = false; partial = false; recursive = false; args = s.args; ret = s.ret; pos = no_place; origin = origin.Declared } in
+    let sig : Signature =
+    record { term = term; pure = false; multi = false; partial = false; recursive = false; args = s.args; ret = s.ret; pos = no_place; origin = origin.Declared } in
     let same : term ≡ x.term = ap term_or e in
     subst (Has (terms_of (signatures E))) same (has_map (λ (y : Signature). y.term) (signatures E) sig (has_found signature_of E _ sig s.declared refl))
   where
@@ -99,7 +101,8 @@ taker_declared E (Passed head at) x s e = absurd cc
 head_sound : (E : List Def) (d : Def) (r : RuleDef) → IsSound E d → rule_of d ≡ Some r
     → Has (terms_of (signatures E)) r.term × (Has (extern_terms (externs E)) r.term → ⊥)
 head_sound E (Rule name prio term args iflets rhs at) r s e =
-    let sig : Signature = record { term = term; pure = false; multi = false; partial = false; recursive = false; args = s.2.args; ret = s.2.ret; pos = no_place; origin = origin.Declared } in
+    let sig : Signature =
+    record { term = term; pure = false; multi = false; partial = false; recursive = false; args = s.2.args; ret = s.2.ret; pos = no_place; origin = origin.Declared } in
     let same : term ≡ r.term = ap term_or e in
     subst (λ name. Has (terms_of (signatures E)) name × (Has (extern_terms (externs E)) name → ⊥)) same
     (has_map (λ (y : Signature). y.term) (signatures E) sig (has_found signature_of E _ sig s.2.declared refl), s.2.free)
@@ -193,7 +196,8 @@ module _ (defs : List Def) (h : AreSimple (all_erased defs)) where
   pub declaration_known : (term : List ℕ) (pure multi partial recursive : Bool) (args : List (List ℕ)) (ret : List ℕ)
       → Has (all_erased defs) (Decl term pure multi partial recursive args ret no_place) → IsKnown defs ret × AllByRecursion (IsKnown defs) args
   declaration_known term pure multi partial recursive args ret i =
-      let s : IsSound (all_erased defs) (Decl term pure multi partial recursive args ret no_place) = all_has (IsSound (all_erased defs)) (all_erased defs) _ h.sound i in
+      let s : IsSound (all_erased defs) (Decl term pure multi partial recursive args ret no_place) =
+      all_has (IsSound (all_erased defs)) (all_erased defs) _ h.sound i in
       (known_type ret s.1.gives, known_types args s.1.known)
 
   pub declared_callee : (term : List ℕ) (pure multi partial recursive : Bool) (args : List (List ℕ)) (ret : List ℕ)
@@ -226,7 +230,8 @@ module _ (defs : List Def) (h : AreSimple (all_erased defs)) where
       let sound : IsSound E (TypeDecl ret v.is_extern v.is_nodebug (Enum v.variants) no_place) = all_has (IsSound E) E _ h.sound v.declared in
       let fields : IsSoundVariant E v.variant = all_has (IsSoundVariant E) v.variants v.variant sound.1.0 v.among in
       let t : DeclaredType = record { name = ret; body = Enum v.variants } in
-      let own : Has (type_names E) ret = has_back builtin_names (declared_names E) ret (has_map (λ (x : DeclaredType). x.name) (types E) t (has_found type_of E _ t v.declared refl)) in (
+      let own : Has (type_names E) ret =
+      has_back builtin_names (declared_names E) ret (has_map (λ (x : DeclaredType). x.name) (types E) t (has_found type_of E _ t v.declared refl)) in (
         record {
           signature = s;
           there = ap (termed (whole_of defs)) (sym v.named) ∙ term_found s there;
@@ -262,7 +267,8 @@ module _ (defs : List Def) (h : AreSimple (all_erased defs)) where
       let c = declared_callee name t.pure t.multi false false args ret t.declared in
       let d = at_some_place defs (ExternExtractor name t.func t.infallible no_place) t.taken in
       let x : ExtractorDef = record { term = name; by = ByFunction t.func t.infallible; pos = d.0 } in
-      let found : extractor_named (extractors defs) name ≡ Some x = found_by (λ (y : ExtractorDef). y.term) (extractors defs) x (subst AreApart (taken_same defs) h.extractors_apart) (has_found extractor_of defs _ x d.1 refl) in
+      let found : extractor_named (extractors defs) name ≡ Some x =
+      found_by (λ (y : ExtractorDef). y.term) (extractors defs) x (subst AreApart (taken_same defs) h.extractors_apart) (has_found extractor_of defs _ x d.1 refl) in
       record {
         callee = c.1;
         taken = ap (λ (s : Signature). is_made s.origin || is_some (extractor_named (extractors defs) s.term)) c.2 ∙ ap is_some found;

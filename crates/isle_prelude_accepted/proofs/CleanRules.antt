@@ -120,7 +120,8 @@ each_made w (r ∷ rs) (x ∷ xs) h = ((r.term, inl refl, h.0), made_wider w r r
 
 mutual
   calls_kept : (env : Environment) (P : ℕ → Type 0) (e : Expr) → CallsOnly P e → AllByRecursion (λ (c : CalledTerm). P c.term.0) (called_by env e)
-  calls_kept env P (expr.Term ty term es) h = all_append (λ (c : CalledTerm). P c.term.0) (called_by_all env es) (unless_made env Constructor term) (all_kept env P es h.1) (one (is_made env term))
+  calls_kept env P (expr.Term ty term es) h =
+      all_append (λ (c : CalledTerm). P c.term.0) (called_by_all env es) (unless_made env Constructor term) (all_kept env P es h.1) (one (is_made env term))
     where
       one : (b : Bool) → AllByRecursion (λ (c : CalledTerm). P c.term.0) (cond b [] (record { term = term; role = Constructor } ∷ []))
       one true = tt
@@ -133,7 +134,8 @@ mutual
 
   all_kept : (env : Environment) (P : ℕ → Type 0) (es : Exprs) → AllCallOnly P es → AllByRecursion (λ (c : CalledTerm). P c.term.0) (called_by_all env es)
   all_kept env P NoExpr h = tt
-  all_kept env P (AnExpr e es) h = all_append (λ (c : CalledTerm). P c.term.0) (called_by env e) (called_by_all env es) (calls_kept env P e h.0) (all_kept env P es h.1)
+  all_kept env P (AnExpr e es) h =
+      all_append (λ (c : CalledTerm). P c.term.0) (called_by env e) (called_by_all env es) (calls_kept env P e h.0) (all_kept env P es h.1)
 
 none_extracted : (env : Environment) (ps : List Pattern) → AllByRecursion IsVariable ps → extracted_in env ps ≡ []
 none_extracted env [] h = refl
@@ -150,7 +152,8 @@ rule_calls env w term r m =
 rules_call : (env : Environment) (w : Whole) (rs : List RuleDef) (xs : List Rule) → AllByRecursion (IsOf w rs) xs
     → AllByRecursion (λ (c : CalledTerm). IsUnruled w c.term.0) (called env xs)
 rules_call env w rs [] h = tt
-rules_call env w rs (x ∷ xs) h = all_append (λ (c : CalledTerm). IsUnruled w c.term.0) (called_in env x) (called env xs) (rule_calls env w h.0.0 x h.0.2) (rules_call env w rs xs h.1)
+rules_call env w rs (x ∷ xs) h =
+    all_append (λ (c : CalledTerm). IsUnruled w c.term.0) (called_in env x) (called env xs) (rule_calls env w h.0.0 x h.0.2) (rules_call env w rs xs h.1)
 
 -- a term with a rule has the name of a head
 pub ruled_name : (w : Whole) (rs : List RuleDef) (xs : List Rule) (id : TermId) → AllByRecursion (IsOf w rs) xs
@@ -208,7 +211,8 @@ module _ (defs : List Def) (h : AreSimple (all_erased defs)) (env : Environment)
       let w = whole_of defs in
       let P = λ (c : CalledTerm). IsUnruled w c.term.0 in
       let made = all_filter (IsOf w (rule_defs defs)) (λ (r : Rule). r.root_term.0 == one.0) env.rules all_rules_made in
-      let called_one : IsUnruled w other.0 = all_each P (called env (rules_of env one)) (record { term = other; role = u.0 }) (rules_call env w (rule_defs defs) (rules_of env one) made) u.1 in
+      let called_one : IsUnruled w other.0 =
+      all_each P (called env (rules_of env one)) (record { term = other; role = u.0 }) (rules_call env w (rule_defs defs) (rules_of env one) made) u.1 in
       let ruled = ruled_name w (rule_defs defs) env.rules other all_rules_made u.2 in
       called_one.2 (subst (Has (heads_of (rule_defs defs))) (same_name w ruled.0 called_one.0 ruled.2 (record { 0 = other.0 }) ruled.3 called_one.1 ruled.4) ruled.1)
 

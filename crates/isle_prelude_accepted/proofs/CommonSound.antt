@@ -202,7 +202,8 @@ module _ (t : Tables) (s : AreSupported t) (plain : ArePlain t) where
     where
       by : (b : Bool) → AllByRecursion IsIdentifier (enum_values is name) × AreApart (enum_values is name)
           → AllByRecursion IsIdentifier (cond b (ascending (values_of i)) (enum_values is name)) × AreApart (cond b (ascending (values_of i)) (enum_values is name))
-      by true rest = (has_all IsIdentifier (ascending (values_of i)) (λ x k. all_has IsIdentifier (values_of i) x (h i (inl refl)) (ascending_from (values_of i) x k)), ascending_apart (values_of i))
+      by true rest =
+          (has_all IsIdentifier (ascending (values_of i)) (λ x k. all_has IsIdentifier (values_of i) x (h i (inl refl)) (ascending_from (values_of i) x k)), ascending_apart (values_of i))
       by false rest = rest
 
   pub enums_sound : (name : List ℕ) → Has (enum_types (all_fields t.formats)) name → IsSound (E t) (imm_enum (all_fields t.formats) name)

@@ -41,12 +41,14 @@ values_names : (has_list : Bool) (n : ℕ)
 values_names true n = refl
 values_names false zero = refl
 values_names false (suc zero) = refl
-values_names false (suc (suc n)) = ap (λ b. option_to_list (cond b (Some (codes "args")) (cond (suc (suc n) == 1) (Some (codes "arg")) None))) (sym (above_one_field n))
+values_names false (suc (suc n)) =
+    ap (λ b. option_to_list (cond b (Some (codes "args")) (cond (suc (suc n) == 1) (Some (codes "arg")) None))) (sym (above_one_field n))
 
 blocks_names : (n : ℕ) → names_in (block_fields n) ≡ option_to_list (cond (nat_lt 1 n) (Some (codes "blocks")) (cond (n == 1) (Some (codes "destination")) None))
 blocks_names zero = refl
 blocks_names (suc zero) = refl
-blocks_names (suc (suc n)) = ap (λ b. option_to_list (cond b (Some (codes "blocks")) (cond (suc (suc n) == 1) (Some (codes "destination")) None))) (sym (above_one_field n))
+blocks_names (suc (suc n)) =
+    ap (λ b. option_to_list (cond b (Some (codes "blocks")) (cond (suc (suc n) == 1) (Some (codes "destination")) None))) (sym (above_one_field n))
 
 raw_names : (n : ℕ) → n ≤ 1 → names_in (raw_block_fields n) ≡ option_to_list (cond (n == 1) (Some (codes "block")) None)
 raw_names zero le = refl
@@ -133,7 +135,8 @@ module _ (t : Tables) (s : AreSupported t) (plain : ArePlain t) where
   imms_known : (f : InstructionFormat) → Has t.formats f → (fs : List ImmField) → ((i : ImmField) → Has fs i → Has f.imm_fields i)
       → AllByRecursion (IsType t) (types_in (map imm_field fs))
   imms_known f k [] all = tt
-  imms_known f k (i ∷ is) all = (imm_type t i (has_flat (λ (g : InstructionFormat). g.imm_fields) t.formats f i k (all i (inl refl))), imms_known f k is (λ x j. all x (inr j)))
+  imms_known f k (i ∷ is) all =
+      (imm_type t i (has_flat (λ (g : InstructionFormat). g.imm_fields) t.formats f i k (all i (inl refl))), imms_known f k is (λ x j. all x (inr j)))
 
   fields_known : (f : InstructionFormat) → Has t.formats f → AllByRecursion (IsType t) (types_in (format_fields f))
   fields_known f k =

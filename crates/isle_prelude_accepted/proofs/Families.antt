@@ -128,7 +128,8 @@ families g = families_before g []
 
 regrouped : (g : Grouped) (fs : List Family) → grouped_names g ++ names_of fs ≡ names_of (families_before g fs)
 regrouped (One f) fs = refl
-regrouped (Both g h) fs = append_assoc (grouped_names g) (grouped_names h) (names_of fs) ∙ ap (λ xs. grouped_names g ++ xs) (regrouped h fs) ∙ regrouped g (families_before h fs)
+regrouped (Both g h) fs =
+    append_assoc (grouped_names g) (grouped_names h) (names_of fs) ∙ ap (λ xs. grouped_names g ++ xs) (regrouped h fs) ∙ regrouped g (families_before h fs)
 
 pub grouped_apart : (class : List ℕ → ℕ) (g : Grouped) → AllByRecursion (IsFamily class) (families g) → EachUnlike (families g) → AreApart (grouped_names g)
 grouped_apart class g h unlike = subst AreApart (sym (sym (append-nil (grouped_names g)) ∙ regrouped g [])) (families_apart class (families g) h unlike)

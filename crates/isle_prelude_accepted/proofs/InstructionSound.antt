@@ -67,7 +67,8 @@ module _ (t : Tables) (s : AreSupported t) (plain : ArePlain t) (i : Instruction
         → AllByRecursion (IsSound (E t)) (instruction_defs (Some skeleton) f i)
     skeleton_sound is =
         let o = (own t s plain i among f at list).1 in
-        let there : Has (E t) (declaration skeleton i) = in_rows t i (declaration skeleton i) among (subst (λ ds. Has ds (declaration skeleton i)) (sym (rows_are skeleton is)) (inl refl)) in
+        let there : Has (E t) (declaration skeleton i) =
+        in_rows t i (declaration skeleton i) among (subst (λ ds. Has ds (declaration skeleton i)) (sym (rows_are skeleton is)) (inl refl)) in
         let size = data_size t s plain i among f at list in
         let few_names = few_operands in
         let le = few_types in (
@@ -130,7 +131,8 @@ module _ (t : Tables) (s : AreSupported t) (plain : ArePlain t) (i : Instruction
         → AllByRecursion (IsSound (E t)) (instruction_defs (Some valued) f i)
     valued_sound is no_ty =
         let o = (own t s plain i among f at list).1 in
-        let there : Has (E t) (declaration valued i) = in_rows t i (declaration valued i) among (subst (λ ds. Has ds (declaration valued i)) (sym (rows_are valued is)) (inl refl)) in
+        let there : Has (E t) (declaration valued i) =
+        in_rows t i (declaration valued i) among (subst (λ ds. Has ds (declaration valued i)) (sym (rows_are valued is)) (inl refl)) in
         let size = data_size t s plain i among f at list in
         let few_names = few_operands in
         let le = few_types in

@@ -36,7 +36,8 @@ no_dot : (b : ℕ) (bs : List ℕ) → IsWord (b ∷ bs) → (b == 46) ≡ false
 no_dot b bs h = by (b == 46) refl h
   where
     by : (c : Bool) → (b == 46) ≡ c → (is_word_byte b && list_all is_word_byte bs) ≡ true → c ≡ false
-    by true e k = absurd (let same : b ≡ 46 = eqb→eq b 46 (passes (b == 46) e) in let bad : (is_word_byte 46 && list_all is_word_byte bs) ≡ true = ap (λ x. is_word_byte x && list_all is_word_byte bs) (sym same) ∙ k in cc)
+    by true e k =
+        absurd (let same : b ≡ 46 = eqb→eq b 46 (passes (b == 46) e) in let bad : (is_word_byte 46 && list_all is_word_byte bs) ≡ true = ap (λ x. is_word_byte x && list_all is_word_byte bs) (sym same) ∙ k in cc)
     by false e k = refl
 
 rest_word : (b : ℕ) (bs : List ℕ) → IsWord (b ∷ bs) → IsWord bs
@@ -120,7 +121,8 @@ made_apart E (TypeDecl name x n body at ∷ ds) s h =
     apart z i j =
         let own = body_made E name body z s.0.1 i in
         let other = made_from E ds s.1 z j in
-        let same : other.0 ≡ name = sym (first_part other.0 other.1 other.3) ∙ ap before_dot (sym other.4 ∙ own.1) ∙ first_part name own.0 s.0.0.name.identifier.word in
+        let same : other.0 ≡ name =
+        sym (first_part other.0 other.1 other.3) ∙ ap before_dot (sym other.4 ∙ own.1) ∙ first_part name own.0 s.0.0.name.identifier.word in
         h.0 (subst (Has (declared_names ds)) same other.2)
 made_apart E (Decl term pure multi partial recursive args ret at ∷ ds) s h = made_apart E ds s.1 h
 made_apart E (ExternConstructor term func at ∷ ds) s h = made_apart E ds s.1 h

@@ -132,7 +132,8 @@ made_from defs term func i = by (find (λ (y : Extern). bytes_eq y.term term) (e
     by (Some x) e (inr j) = absurd j
 
 functions_from : (defs : List Def) (term func : List ℕ) (o : Origin) → Has (functions_at defs term o) func → IsTaken defs term func ⊎ IsMade defs term func
-functions_from defs term func origin.Declared i = by (has_either (taken_by_name (extractor_named (extractors defs) term)) (made_by_name (func_named (externs defs) term)) func i)
+functions_from defs term func origin.Declared i =
+    by (has_either (taken_by_name (extractor_named (extractors defs) term)) (made_by_name (func_named (externs defs) term)) func i)
   where
     by : Has (taken_by_name (extractor_named (extractors defs) term)) func ⊎ Has (made_by_name (func_named (externs defs) term)) func
         → IsTaken defs term func ⊎ IsMade defs term func
@@ -163,10 +164,14 @@ module _ (defs : List Def) (h : AreSimple (all_erased defs)) where
       (has_found (λ (x : ExtractorDef). function_of x.by) (extractors defs) t.0 func t.1 t.3)
 
   one_term : (a b func : List ℕ) → IsTaken defs a func ⊎ IsMade defs a func → IsTaken defs b func ⊎ IsMade defs b func → a ≡ b
-  one_term a b func (inl s) (inl t) = sym s.2 ∙ ap (λ (x : ExtractorDef). x.term) (apart_one (λ (x : ExtractorDef). function_of x.by) (extractors defs) s.0 t.0 func apart_functions.1 s.1 t.1 s.3 t.3) ∙ t.2
+  one_term a b func (inl s) (inl t) =
+      sym s.2
+      ∙ ap (λ (x : ExtractorDef). x.term) (apart_one (λ (x : ExtractorDef). function_of x.by) (extractors defs) s.0 t.0 func apart_functions.1 s.1 t.1 s.3 t.3)
+      ∙ t.2
   one_term a b func (inl s) (inr t) = absurd (never_both a b func s t)
   one_term a b func (inr s) (inl t) = absurd (never_both b a func t s)
-  one_term a b func (inr s) (inr t) = sym s.2 ∙ ap (λ (x : Extern). x.term) (apart_same (λ (x : Extern). x.func) (externs defs) s.0 t.0 apart_functions.0 s.1 t.1 (s.3 ∙ sym t.3)) ∙ t.2
+  one_term a b func (inr s) (inr t) =
+      sym s.2 ∙ ap (λ (x : Extern). x.term) (apart_same (λ (x : Extern). x.func) (externs defs) s.0 t.0 apart_functions.0 s.1 t.1 (s.3 ∙ sym t.3)) ∙ t.2
 
   each_apart : (term : List ℕ) (o : Origin) → AreApart (functions_at defs term o)
   each_apart term origin.Declared =
@@ -192,7 +197,8 @@ module _ (defs : List Def) (h : AreSimple (all_erased defs)) where
       let s : IsSound (all_erased defs) (ExternExtractor term f infallible at) = sound_in defs h (ExternExtractor term f infallible at) i in
       let is : f ≡ func = same_Some f func (ap (λ (y : ExtractorDef). function_of y.by) (same_Some _ x e) ∙ g) in
       subst IsNamed is (s.named, is_symbol defs (ExternExtractor term f infallible at) f i (inr (inl refl)))
-  taker_named (Extractor term params template at) x func i e g = absurd (let none : None ≡ Some func = ap (λ (y : ExtractorDef). function_of y.by) (same_Some _ x e) ∙ g in cc)
+  taker_named (Extractor term params template at) x func i e g =
+      absurd (let none : None ≡ Some func = ap (λ (y : ExtractorDef). function_of y.by) (same_Some _ x e) ∙ g in cc)
   taker_named (TypeDecl name y n body at) x func i e g = absurd cc
   taker_named (Decl term pure multi partial recursive args ret at) x func i e g = absurd cc
   taker_named (ExternConstructor term f at) x func i e g = absurd cc
@@ -274,7 +280,8 @@ module _ (defs : List Def) (h : AreSimple (all_erased defs)) where
     functions_named k =
         let names = all_names (terms defs) env.terms k in
         record {
-          identifiers = all_identifiers (trait_fns_in env env.terms) (subst (AllByRecursion IsIdentifier) (sym names) (has_all IsIdentifier (flat_map (functions_of_term defs) (terms defs))
+          identifiers =
+              all_identifiers (trait_fns_in env env.terms) (subst (AllByRecursion IsIdentifier) (sym names) (has_all IsIdentifier (flat_map (functions_of_term defs) (terms defs))
               (λ func i. (let r = has_flattened (functions_of_term defs) (terms defs) func i in (function_named r.0.term func (functions_from defs r.0.term func r.0.origin r.2)).0))));
           distinct = subst (IsDistinct bytes_eq) (sym names) (apart_distinct (flat_map (functions_of_term defs) (terms defs)) all_apart);
         }

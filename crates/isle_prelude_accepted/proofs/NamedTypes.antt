@@ -97,7 +97,8 @@ module _ (defs : List Def) (h : AreSimple (all_erased defs)) where
       → IsLawfulType b env_types (def_in defs name x n body at) × (emitted_name env_types (def_in defs name x n body at) ≡ name)
   type_lawful b name x n (Primitive rust) at i =
       let s : IsSound (all_erased defs) (TypeDecl name x n (Primitive rust) at) = sound_in defs h (TypeDecl name x n (Primitive rust) at) i in
-      let is : symbol_text env_types (sym_in defs rust) ≡ name = text_is defs rust (is_symbol defs (TypeDecl name x n (Primitive rust) at) rust i (inr (inl refl))) ∙ s.1 in
+      let is : symbol_text env_types (sym_in defs rust) ≡ name =
+      text_is defs rust (is_symbol defs (TypeDecl name x n (Primitive rust) at) rust i (inr (inl refl))) ∙ s.1 in
       (record { name = subst (IsTypeName b) (sym is) (any_name b name s.0); parts = tt }, is)
   type_lawful b name x n (Enum vs) at i =
       let s : IsSound (all_erased defs) (TypeDecl name x n (Enum vs) at) = sound_in defs h (TypeDecl name x n (Enum vs) at) i in
@@ -108,7 +109,8 @@ module _ (defs : List Def) (h : AreSimple (all_erased defs)) where
         },
         is,
       )
-  type_lawful b name x n (Struct fields) at i = absurd (let s : IsSound (all_erased defs) (TypeDecl name x n (Struct fields) at) = sound_in defs h (TypeDecl name x n (Struct fields) at) i in s.1)
+  type_lawful b name x n (Struct fields) at i =
+      absurd (let s : IsSound (all_erased defs) (TypeDecl name x n (Struct fields) at) = sound_in defs h (TypeDecl name x n (Struct fields) at) i in s.1)
 
   types_lawful : (b : Bool) (ds : List Def) → ((d : Def) → Has ds d → Has defs d)
       → AllByRecursion (IsLawfulType b env_types) (filter_map (type_def_in defs) ds) × (map (emitted_name env_types) (filter_map (type_def_in defs) ds) ≡ declared_names ds)
@@ -158,7 +160,8 @@ module _ (defs : List Def) (h : AreSimple (all_erased defs)) where
       let texts : emitted_names env_types env_types.types ≡ type_names defs =
       map-append (emitted_name env_types) builtins (filter_map (type_def_in defs) defs) ∙ ap (λ names. builtin_names ++ names) declared.1 in
       record {
-        types = all_append (IsLawfulType b env_types) builtins (filter_map (type_def_in defs) defs) (builtin_types b kinds (builtins_lawful b only_builtins refl refl).types) declared.0;
+        types =
+            all_append (IsLawfulType b env_types) builtins (filter_map (type_def_in defs) defs) (builtin_types b kinds (builtins_lawful b only_builtins refl refl).types) declared.0;
         constants = subst (AllByRecursion (IsLawfulConstant env_types)) (sym none) tt;
         apart = record {
           types = subst (IsDistinct bytes_eq) (sym texts) (apart_distinct (type_names defs) (subst AreApart (type_names_same defs) h.types));

@@ -133,14 +133,16 @@ module _ (E : List Def) (vars : Variables) where
       → ArePatternsOf E vars (types_in (counted_values (length names))) (patterns_of (counted_pattern (value_array (length names)) names))
   values_fit [] h opens = tt
   values_fit (x ∷ []) h opens = (h.0, tt)
-  values_fit (x ∷ y ∷ names) h opens = ((replicate (length (x ∷ y ∷ names)) (codes "Value"), opens (length names) refl, variables_fit (codes "Value") (x ∷ y ∷ names) h), tt)
+  values_fit (x ∷ y ∷ names) h opens =
+      ((replicate (length (x ∷ y ∷ names)) (codes "Value"), opens (length names) refl, variables_fit (codes "Value") (x ∷ y ∷ names) h), tt)
 
   pub blocks_fit : (names : List (List ℕ)) → AreOf (codes "BlockCall") names
       → ((k : ℕ) → length names ≡ suc (suc k) → Opens E (block_array (length names)) (replicate (length names) (codes "BlockCall")) (block_array_type (length names)))
       → ArePatternsOf E vars (types_in (block_fields (length names))) (patterns_of (counted_pattern (block_array (length names)) names))
   blocks_fit [] h opens = tt
   blocks_fit (x ∷ []) h opens = (h.0, tt)
-  blocks_fit (x ∷ y ∷ names) h opens = ((replicate (length (x ∷ y ∷ names)) (codes "BlockCall"), opens (length names) refl, variables_fit (codes "BlockCall") (x ∷ y ∷ names) h), tt)
+  blocks_fit (x ∷ y ∷ names) h opens =
+      ((replicate (length (x ∷ y ∷ names)) (codes "BlockCall"), opens (length names) refl, variables_fit (codes "BlockCall") (x ∷ y ∷ names) h), tt)
 
   pub raw_fit : (names : List (List ℕ)) → length names ≤ 1 → AreOf (codes "Block") names
       → ArePatternsOf E vars (types_in (raw_block_fields (length names))) (patterns_of (variables names))
@@ -154,14 +156,16 @@ module _ (E : List Def) (vars : Variables) where
       → AreExprsOf E vars (types_in (counted_values (length names))) (exprs_of (counted_expr (value_array_ctor (length names)) names))
   values_made [] h makes = tt
   values_made (x ∷ []) h makes = (h.0, tt)
-  values_made (x ∷ y ∷ names) h makes = ((replicate (length (x ∷ y ∷ names)) (codes "Value"), makes (length names) refl, names_fit (codes "Value") (x ∷ y ∷ names) h), tt)
+  values_made (x ∷ y ∷ names) h makes =
+      ((replicate (length (x ∷ y ∷ names)) (codes "Value"), makes (length names) refl, names_fit (codes "Value") (x ∷ y ∷ names) h), tt)
 
   pub blocks_made : (names : List (List ℕ)) → AreOf (codes "BlockCall") names
       → ((k : ℕ) → length names ≡ suc (suc k) → Makes E (block_array (length names)) (replicate (length names) (codes "BlockCall")) (block_array_type (length names)))
       → AreExprsOf E vars (types_in (block_fields (length names))) (exprs_of (counted_expr (block_array (length names)) names))
   blocks_made [] h makes = tt
   blocks_made (x ∷ []) h makes = (h.0, tt)
-  blocks_made (x ∷ y ∷ names) h makes = ((replicate (length (x ∷ y ∷ names)) (codes "BlockCall"), makes (length names) refl, names_fit (codes "BlockCall") (x ∷ y ∷ names) h), tt)
+  blocks_made (x ∷ y ∷ names) h makes =
+      ((replicate (length (x ∷ y ∷ names)) (codes "BlockCall"), makes (length names) refl, names_fit (codes "BlockCall") (x ∷ y ∷ names) h), tt)
 
   pub raw_made : (names : List (List ℕ)) → length names ≤ 1 → AreOf (codes "Block") names
       → AreExprsOf E vars (types_in (raw_block_fields (length names))) (exprs_of (variable_exprs names))
@@ -232,7 +236,9 @@ module _ (E : List Def) (vars : Variables) where
 
 pub variables_append : (ps qs : List Pattern) → all_variables_in (patterns_of (ps ++ qs)) ≡ all_variables_in (patterns_of ps) ++ all_variables_in (patterns_of qs)
 variables_append [] qs = refl
-variables_append (p ∷ ps) qs = ap (λ xs. variables_in p ++ xs) (variables_append ps qs) ∙ sym (append_assoc (variables_in p) (all_variables_in (patterns_of ps)) (all_variables_in (patterns_of qs)))
+variables_append (p ∷ ps) qs =
+    ap (λ xs. variables_in p ++ xs) (variables_append ps qs)
+    ∙ sym (append_assoc (variables_in p) (all_variables_in (patterns_of ps)) (all_variables_in (patterns_of qs)))
 
 pub in_first : (ps qs : List Pattern) (x : List ℕ) → Has (all_variables_in (patterns_of ps)) x → Has (all_variables_in (patterns_of (ps ++ qs))) x
 in_first ps qs x h = subst (λ xs. Has xs x) (sym (variables_append ps qs)) (has_front (all_variables_in (patterns_of ps)) (all_variables_in (patterns_of qs)) x h)

@@ -55,7 +55,8 @@ met_first scope name ty e = ap (λ o. met_by o scope name ty) e
 params_keep : (scope : Scope) (params : List (List ℕ)) (tys : List (Option TypeId)) (name : List ℕ) (l : Local)
     → found_in scope.variables name ≡ Some l → found_in (params_met scope params tys).variables name ≡ Some l
 params_keep scope [] tys name l e = e
-params_keep scope (p ∷ ps) tys name l e = params_keep (met scope p (first_expected tys)) ps (later_expected tys) name l (by (first_expected tys) (found_in scope.variables p))
+params_keep scope (p ∷ ps) tys name l e =
+    params_keep (met scope p (first_expected tys)) ps (later_expected tys) name l (by (first_expected tys) (found_in scope.variables p))
   where
     by : (ty : Option TypeId) (o : Option Local) → found_in (met_by o scope p ty).variables name ≡ Some l
     by ty None = found_stays scope.variables (record { name = p; ty = ty; number = scope.next } ∷ []) name l e
@@ -78,7 +79,8 @@ module _ (w : Whole) where
       let first = met_first scope p (type_named w.defs t) (free p (inl refl)) in
       let new : found_in (first_met scope p (type_named w.defs t)).variables p ≡ Some x =
       found_more scope.variables x p (free p (inl refl)) ∙ ap (λ b. cond b (Some x) None) (own_bytes p) in
-      let rest = params_bound (first_met scope p (type_named w.defs t)) ps ts (let e : suc (length ps) ≡ suc (length ts) = many in omega arith) apart.1 (still_free scope p ps (type_named w.defs t) apart free) in
+      let rest =
+      params_bound (first_met scope p (type_named w.defs t)) ps ts (let e : suc (length ps) ≡ suc (length ts) = many in omega arith) apart.1 (still_free scope p ps (type_named w.defs t) apart free) in
       by (subst (λ (s : Scope). found_in s.variables p ≡ Some x) (sym first) new)
       (λ j. subst (λ (s : Scope). (l : Local) × (found_in (params_met s ps (map (type_named w.defs) ts)).variables name ≡ Some l) × (l.ty ≡ type_named w.defs ty)) (sym first) (rest name ty j)) i
     where

@@ -99,7 +99,8 @@ module _ (t : Tables) where
   in_flags = imms (primitive (codes "MemFlagsData")) (has_back (map primitive (plain_types fields)) _ (primitive (codes "MemFlagsData")) (inl refl))
 
   pub in_enums : (name : List ℕ) → Has (enum_types fields) name → Has E (imm_enum fields name)
-  in_enums name i = imms (imm_enum fields name) (has_back (map primitive (plain_types fields)) _ (imm_enum fields name) (inr (has_map (imm_enum fields) (enum_types fields) name i)))
+  in_enums name i =
+      imms (imm_enum fields name) (has_back (map primitive (plain_types fields)) _ (imm_enum fields name) (inr (has_map (imm_enum fields) (enum_types fields) name i)))
 
   behind : (d : Def) → Has (arrays t.formats ++ kinds) d → Has E d
   behind d i = common d (has_back (imm_defs fields) (arrays t.formats ++ kinds) d i)
@@ -108,7 +109,8 @@ module _ (t : Tables) where
   values = flat_map value_array_defs (value_array_sizes t.formats)
 
   pub in_values : (n : ℕ) (d : Def) → Has (value_array_sizes t.formats) n → Has (value_array_defs n) d → Has E d
-  in_values n d k i = behind d (has_front (arrays t.formats) kinds d (has_front (flat_map value_array_defs (value_array_sizes t.formats)) _ d (has_flat value_array_defs (value_array_sizes t.formats) n d k i)))
+  in_values n d k i =
+      behind d (has_front (arrays t.formats) kinds d (has_front (flat_map value_array_defs (value_array_sizes t.formats)) _ d (has_flat value_array_defs (value_array_sizes t.formats) n d k i)))
 
   pub in_blocks : (n : ℕ) (d : Def) → Has (block_array_sizes t.formats) n → Has (block_array_defs n) d → Has E d
   in_blocks n d k i =
@@ -178,7 +180,8 @@ module _ (t : Tables) where
   pub term_there : (term : List ℕ) (pure multi partial recursive : Bool) (args : List (List ℕ)) (ret : List ℕ)
       → Has E (Decl term pure multi partial recursive args ret no_place) → Has (terms_of (signatures E)) term
   term_there term pure multi partial recursive args ret i =
-      let s : Signature = record { term = term; pure = pure; multi = multi; partial = partial; recursive = recursive; args = args; ret = ret; pos = no_place; origin = origin.Declared } in
+      let s : Signature =
+      record { term = term; pure = pure; multi = multi; partial = partial; recursive = recursive; args = args; ret = ret; pos = no_place; origin = origin.Declared } in
       has_map (λ (x : Signature). x.term) (signatures E) s (has_found signature_of E (Decl term pure multi partial recursive args ret no_place) s i refl)
 
   -- ---- sizes
@@ -191,7 +194,8 @@ module _ (t : Tables) where
 
   pub block_size_from : (n : ℕ) → Has (block_array_sizes t.formats) n → (f : InstructionFormat) × Has t.formats f × (f.num_block_operands ≡ n)
   block_size_from n k =
-      let r = has_source (λ (f : InstructionFormat). above_one f.num_block_operands) t.formats n (numbers_from (filter_map (λ (f : InstructionFormat). above_one f.num_block_operands) t.formats) n k) in
+      let r =
+      has_source (λ (f : InstructionFormat). above_one f.num_block_operands) t.formats n (numbers_from (filter_map (λ (f : InstructionFormat). above_one f.num_block_operands) t.formats) n k) in
       (r.0, r.1, above_from r.0.num_block_operands n r.2)
 
   pub ctor_size_from : (n : ℕ) → Has (ctor_sizes t) n → Has (value_array_sizes t.formats) n

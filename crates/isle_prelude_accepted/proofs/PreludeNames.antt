@@ -130,8 +130,10 @@ module _ (t : Tables) (s : AreSupported t) where
       let fs = all_fields t.formats in
       let first = apart_parts shared_names (flags_name ++ data_names) written_apart in
       let last = apart_parts flags_name data_names first.1 in
-      let plain = imm_family (plain_types fs) (plain_apart fs) (λ x i. (let f = plain_from fs x i in subst IsImmediateType f.2 (field_sound t.formats f.0 s.formats f.1).type)) in
-      let enums = imm_family (enum_types fs) (enums_apart fs) (λ x i. (let f = enum_from fs x i in subst IsImmediateType f.2 (field_sound t.formats f.0 s.formats f.1).type)) in
+      let plain =
+      imm_family (plain_types fs) (plain_apart fs) (λ x i. (let f = plain_from fs x i in subst IsImmediateType f.2 (field_sound t.formats f.0 s.formats f.1).type)) in
+      let enums =
+      imm_family (enum_types fs) (enums_apart fs) (λ x i. (let f = enum_from fs x i in subst IsImmediateType f.2 (field_sound t.formats f.0 s.formats f.1).type)) in
       let unlike : Disjoint (plain_types fs) (enum_types fs) =
       λ x i j. (let f = plain_from fs x i in let g = enum_from fs x j in
       absurd (let both : false ≡ true = sym f.3 ∙ fields_alike t.formats s.formats f.0 g.0 f.1 g.1 (f.2 ∙ sym g.2) ∙ g.3 in cc)) in

@@ -46,7 +46,8 @@ abbrev term_class : List ℕ → ℕ
 term_class x = first_of_four (is_among x prelude_terms) (is_numbered (codes "value_array_") x) (is_numbered (codes "block_array_") x) (is_array_constructor x)
 
 value_class : (n : ℕ) → term_class (value_array n) ≡ 1
-value_class n = let k = value_array_kind n in first_by _ _ _ _ false true (is_numbered (codes "block_array_") (value_array n)) (is_array_constructor (value_array n)) k.0 k.1 refl refl
+value_class n =
+    let k = value_array_kind n in first_by _ _ _ _ false true (is_numbered (codes "block_array_") (value_array n)) (is_array_constructor (value_array n)) k.0 k.1 refl refl
 
 block_class : (n : ℕ) → term_class (block_array n) ≡ 2
 block_class n = let k = block_array_kind n in first_by _ _ _ _ false false true (is_array_constructor (block_array n)) k.0 k.1 k.2 refl
@@ -134,8 +135,10 @@ term_groups b c g h j = Both (Both (One b) (One c)) (Both (Both (One g) (One h))
 module _ (t : Tables) (q : Def → List (List ℕ)) where
   -- the parts of definitions that have none of these but where terms are declared
   terms_put : (b c g h j : List (List ℕ))
-      → flat_map q shared_types ≡ [] → flat_map q opt_terms ≡ b → flat_map (λ (n : ℕ). flat_map q (ctor_defs n)) (ctor_sizes t) ≡ c → ((x : List ℕ) → q (primitive x) ≡ []) → ((x : List ℕ) → q (imm_enum (all_fields t.formats) x) ≡ [])
-      → flat_map (λ (n : ℕ). flat_map q (value_array_defs n)) (value_array_sizes t.formats) ≡ g → flat_map (λ (n : ℕ). flat_map q (block_array_defs n)) (block_array_sizes t.formats) ≡ h
+      → flat_map q shared_types ≡ [] → flat_map q opt_terms ≡ b → flat_map (λ (n : ℕ). flat_map q (ctor_defs n)) (ctor_sizes t) ≡ c
+      → ((x : List ℕ) → q (primitive x) ≡ []) → ((x : List ℕ) → q (imm_enum (all_fields t.formats) x) ≡ [])
+      → flat_map (λ (n : ℕ). flat_map q (value_array_defs n)) (value_array_sizes t.formats) ≡ g
+      → flat_map (λ (n : ℕ). flat_map q (block_array_defs n)) (block_array_sizes t.formats) ≡ h
       → flat_map q (data_defs t.formats t.instructions) ≡ [] → flat_map (λ (i : Instruction). flat_map q (row_defs t i)) t.instructions ≡ j
       → flat_map q (prelude_defs t) ≡ (b ++ c) ++ ((g ++ h) ++ j)
   terms_put b c g h j ea eb ec ed ef eg eh ei ej =
@@ -357,16 +360,20 @@ takers_flat (d ∷ ds) = by (extractor_of d) (takers_flat ds)
 
 module _ (t : Tables) where
   pack_values : IsFamily func_class (1, map (λ (n : ℕ). pack (value_array n)) (value_array_sizes t.formats))
-  pack_values = numbered_family func_class 1 (λ (n : ℕ). pack (value_array n)) (value_array_sizes t.formats) (λ i j e. value_array_same i j (packed_same (value_array i) (value_array j) e)) pack_value_kind (value_sizes_apart t.formats)
+  pack_values =
+      numbered_family func_class 1 (λ (n : ℕ). pack (value_array n)) (value_array_sizes t.formats) (λ i j e. value_array_same i j (packed_same (value_array i) (value_array j) e)) pack_value_kind (value_sizes_apart t.formats)
 
   pack_blocks : IsFamily func_class (2, map (λ (n : ℕ). pack (block_array n)) (block_array_sizes t.formats))
-  pack_blocks = numbered_family func_class 2 (λ (n : ℕ). pack (block_array n)) (block_array_sizes t.formats) (λ i j e. block_array_same i j (packed_same (block_array i) (block_array j) e)) pack_block_kind (block_sizes_apart t.formats)
+  pack_blocks =
+      numbered_family func_class 2 (λ (n : ℕ). pack (block_array n)) (block_array_sizes t.formats) (λ i j e. block_array_same i j (packed_same (block_array i) (block_array j) e)) pack_block_kind (block_sizes_apart t.formats)
 
   unpack_values : IsFamily func_class (3, map (λ (n : ℕ). unpack (value_array n)) (value_array_sizes t.formats))
-  unpack_values = numbered_family func_class 3 (λ (n : ℕ). unpack (value_array n)) (value_array_sizes t.formats) (λ i j e. value_array_same i j (unpacked_same (value_array i) (value_array j) e)) unpack_value_kind (value_sizes_apart t.formats)
+  unpack_values =
+      numbered_family func_class 3 (λ (n : ℕ). unpack (value_array n)) (value_array_sizes t.formats) (λ i j e. value_array_same i j (unpacked_same (value_array i) (value_array j) e)) unpack_value_kind (value_sizes_apart t.formats)
 
   unpack_blocks : IsFamily func_class (4, map (λ (n : ℕ). unpack (block_array n)) (block_array_sizes t.formats))
-  unpack_blocks = numbered_family func_class 4 (λ (n : ℕ). unpack (block_array n)) (block_array_sizes t.formats) (λ i j e. block_array_same i j (unpacked_same (block_array i) (block_array j) e)) unpack_block_kind (block_sizes_apart t.formats)
+  unpack_blocks =
+      numbered_family func_class 4 (λ (n : ℕ). unpack (block_array n)) (block_array_sizes t.formats) (λ i j e. block_array_same i j (unpacked_same (block_array i) (block_array j) e)) unpack_block_kind (block_sizes_apart t.formats)
 
   ctor_funcs : IsFamily func_class (5, map value_array_ctor (ctor_sizes t))
   ctor_funcs = numbered_family func_class 5 value_array_ctor (ctor_sizes t) ctor_same ctor_func_kind (ctor_sizes_apart t)

@@ -95,7 +95,8 @@ module _ (t : Tables) (s : AreSupported t) (plain : ArePlain t) (i : Instruction
       of_fields : (fs : List ImmField) → ((x : ImmField) → Has fs x → Has f.imm_fields x) → Has (types_in (map imm_field fs)) (short_name ty)
           → IsType t (short_name ty)
       of_fields [] all k = absurd k
-      of_fields (x ∷ fs) all (inl e) = subst (IsType t) e (type_of_imm t x (has_flat (λ (g : InstructionFormat). g.imm_fields) t.formats f x format_among (all x (inl refl))))
+      of_fields (x ∷ fs) all (inl e) =
+          subst (IsType t) e (type_of_imm t x (has_flat (λ (g : InstructionFormat). g.imm_fields) t.formats f x format_among (all x (inl refl))))
       of_fields (x ∷ fs) all (inr k) = of_fields fs (λ y j. all y (inr j)) k
 
       by : Has (types_in (map imm_field f.imm_fields)) (short_name ty) → IsType t (short_name ty)
@@ -126,7 +127,8 @@ module _ (t : Tables) (s : AreSupported t) (plain : ArePlain t) (i : Instruction
       → Opens (E t) (value_array (length (names_of is_value i))) (replicate (length (names_of is_value i)) (codes "Value")) (value_array_type (length (names_of is_value i)))
   values_open k e =
       let n = suc (suc k) in
-      let size = value_size_there t f k format_among list (sym many_values ∙ e) (λ none. own_format.1.controlled list (let m = sym many_values ∙ e in omega (arith, m)) none) in
+      let size =
+      value_size_there t f k format_among list (sym many_values ∙ e) (λ none. own_format.1.controlled list (let m = sym many_values ∙ e in omega (arith, m)) none) in
       subst (λ m. Opens (E t) (value_array m) (replicate m (codes "Value")) (value_array_type m)) (sym e) (inr (record {
         pure = false;
         multi = false;
@@ -140,7 +142,8 @@ module _ (t : Tables) (s : AreSupported t) (plain : ArePlain t) (i : Instruction
       → Makes (E t) (value_array_ctor (length (names_of is_value i))) (replicate (length (names_of is_value i)) (codes "Value")) (value_array_type (length (names_of is_value i)))
   values_make k e =
       let n = suc (suc k) in
-      let size = ctor_size_there t k (value_size_there t f k format_among list (sym many_values ∙ e) (λ none. own_format.1.controlled list (let m = sym many_values ∙ e in omega (arith, m)) none)) in
+      let size =
+      ctor_size_there t k (value_size_there t f k format_among list (sym many_values ∙ e) (λ none. own_format.1.controlled list (let m = sym many_values ∙ e in omega (arith, m)) none)) in
       subst (λ m. Makes (E t) (value_array_ctor m) (replicate m (codes "Value")) (value_array_type m)) (sym e) (inr (record {
         pure = true;
         func = value_array_ctor n;
@@ -325,5 +328,7 @@ module _ (t : Tables) (s : AreSupported t) (plain : ArePlain t) (i : Instruction
       by class.Varargs e = absurd (no_varargs (ap is_varargs e))
       by class.Block e =
           in_second vs (bs ++ (rs ++ is)) o.name (in_first bs (rs ++ is) o.name (in_counted (block_array (length (names_of is_block i))) (names_of is_block i) o.name (name_there is_block i o h (ap is_block e))))
-      by class.RawBlock e = in_second vs (bs ++ (rs ++ is)) o.name (in_second bs (rs ++ is) o.name (in_first rs is o.name (in_variables (names_of is_raw_block i) o.name (name_there is_raw_block i o h (ap is_raw_block e)))))
-      by (class.Imm ty) e = in_second vs (bs ++ (rs ++ is)) o.name (in_second bs (rs ++ is) o.name (in_second rs is o.name (in_variables (names_of is_imm i) o.name (name_there is_imm i o h (ap is_imm e)))))
+      by class.RawBlock e =
+          in_second vs (bs ++ (rs ++ is)) o.name (in_second bs (rs ++ is) o.name (in_first rs is o.name (in_variables (names_of is_raw_block i) o.name (name_there is_raw_block i o h (ap is_raw_block e)))))
+      by (class.Imm ty) e =
+          in_second vs (bs ++ (rs ++ is)) o.name (in_second bs (rs ++ is) o.name (in_second rs is o.name (in_variables (names_of is_imm i) o.name (name_there is_imm i o h (ap is_imm e)))))

@@ -44,7 +44,8 @@ and_none false b e = refl
 -- ---- sites
 
 fresh_good : (w : Whole) (site : Site) → IsFresh site → IsGoodSite w site
-fresh_good w site f = subst (IsGoodSite w) (sym f.1) (record { taken = refl; typed = refl; placed = refl; declared = refl; met = refl; known = refl; fits = refl; whole = refl; once = refl })
+fresh_good w site f =
+    subst (IsGoodSite w) (sym f.1) (record { taken = refl; typed = refl; placed = refl; declared = refl; met = refl; known = refl; fits = refl; whole = refl; once = refl })
 
 all_fresh : (w : Whole) (sites : List Site) → AllByRecursion IsFresh sites → AllByRecursion (IsGoodSite w) sites
 all_fresh w [] h = tt
@@ -71,9 +72,11 @@ module _ (defs : List Def) (h : AreSimple (all_erased defs)) where
         let f = rule_fit defs h name term patterns rhs at s in
         let c = declared_callee defs h term false false false false s.args s.ret s.declared in
         let fresh : AllByRecursion IsFresh (left_of w r) = subst (AllByRecursion IsFresh) (sym (append-nil (patterns_of w r).sites)) f.left.fresh in
-        let good : AllByRecursion (IsGoodSite w) (sites_of w r) = all_append (IsGoodSite w) (left_of w r) (right_side_of w r).sites (all_fresh w (left_of w r) fresh) f.right.parts in
+        let good : AllByRecursion (IsGoodSite w) (sites_of w r) =
+        all_append (IsGoodSite w) (left_of w r) (right_side_of w r).sites (all_fresh w (left_of w r) fresh) f.right.parts in
         let none = λ (test : Site → Bool) (each : (x : Site) → IsGoodSite w x → test x ≡ false). any_none (IsGoodSite w) test (sites_of w r) each good in
-        let right = λ (test : Site → Bool) (each : (x : Site) → IsGoodSite w x → test x ≡ false). any_none (IsGoodSite w) test (right_side_of w r).sites each f.right.parts in
+        let right =
+        λ (test : Site → Bool) (each : (x : Site) → IsGoodSite w x → test x ≡ false). any_none (IsGoodSite w) test (right_side_of w r).sites each f.right.parts in
         let left = λ (test : Site → Bool) (each : (x : Site) → IsFresh x → test x ≡ false). any_none IsFresh test (left_of w r) each fresh in
         let many : (length (map variable_of s.params) == length c.1.signature.args) ≡ true =
         eq-eqb (length (map variable_of s.params)) (length c.1.signature.args) (length-map s.params variable_of ∙ s.many ∙ sym (ap length c.1.takes)) in
@@ -131,7 +134,8 @@ module _ (defs : List Def) (h : AreSimple (all_erased defs)) where
 
   unbroken : (before : List Def) (d : Def) (after : List Def) → defs ≡ before ++ d ∷ after
       → broken_in OfRules (record { whole = whole_of defs; before = before }) d ≡ None
-  unbroken before (Rule name prio term args iflets rhs at) after e = rule_unbroken before name prio term args iflets rhs at (sound_at defs h before (Rule name prio term args iflets rhs at) after e)
+  unbroken before (Rule name prio term args iflets rhs at) after e =
+      rule_unbroken before name prio term args iflets rhs at (sound_at defs h before (Rule name prio term args iflets rhs at) after e)
   unbroken before (Extractor term params template at) after e = refl
   unbroken before (TypeDecl name x n body at) after e = refl
   unbroken before (Decl term pure multi partial recursive args ret at) after e = refl

@@ -79,7 +79,8 @@ module _ (w : Whole) where
       let unbound = free p (inl refl) in
       let first = met_first scope p ty unbound in
       let later = λ (s : Scope). patterns_pass w (map (type_named w.defs) ts) s (seen_patterns (map variable_of ps)) in
-      let rest = variables_right (first_met scope p ty) ps ts (let e : suc (length ps) ≡ suc (length ts) = many in omega arith) apart.1 (still_free scope p ps ty apart free) known.1 in
+      let rest =
+      variables_right (first_met scope p ty) ps ts (let e : suc (length ps) ≡ suc (length ts) = many in omega arith) apart.1 (still_free scope p ps ty apart free) known.1 in
       let own = core_pattern.Var k (record { 0 = scope.next }) in
       let made : variable_tree (met scope p ty) p ≡ Some own = ap (λ (s : Scope). variable_tree s p) first ∙ first_tree scope p ty k unbound known.0.1 in
       let behind : AreVariables (length ps) (later (met scope p ty)) = subst (λ s. AreVariables (length ps) (later s)) (sym first) rest in
@@ -152,11 +153,13 @@ module _ (defs : List Def) (h : AreSimple (all_erased defs)) where
       let scope = params_met no_variables s.params (map (type_named defs) s.args) in
       let bound = params_bound w no_variables s.params s.args s.many s.apart (λ n i. refl) in
       let after : (patterns_of w r).scope ≡ scope = ap (λ ts. (left_at ts).scope) takes ∙ variables_bind w no_variables s.params (map (type_named defs) s.args) in
-      let locals : AreLocals w (with_types s.params s.args) (of_patterns scope) = λ n ty i. (let b = bound n ty i in (b.0, latest_found scope.variables n ∙ b.1, b.2)) in
+      let locals : AreLocals w (with_types s.params s.args) (of_patterns scope) =
+      λ n ty i. (let b = bound n ty i in (b.0, latest_found scope.variables n ∙ b.1, b.2)) in
       let form : right_side_of w r ≡ expr_pass w (of_patterns scope) scope.next (type_named defs s.ret) rhs =
       ap₂ (λ (z : Scope) (ty : Option TypeId). expr_pass w (of_patterns z) z.next ty rhs) after gives in
       record {
-        left = subst (λ ts. AreVariables (length s.params) (left_at ts)) (sym takes) (variables_right w no_variables s.params s.args s.many s.apart (λ n i. refl) c.1.args_known);
+        left =
+            subst (λ ts. AreVariables (length s.params) (left_at ts)) (sym takes) (variables_right w no_variables s.params s.args s.many s.apart (λ n i. refl) c.1.args_known);
         right = subst (IsRight w (expr_size rhs)) (sym form)
             (expr_right w (all_erased defs) (made_by_function defs h) (with_types s.params s.args) (of_patterns scope) locals scope.next s.ret rhs c.1.ret_known s.whole);
         number = c.1.number;
@@ -179,7 +182,8 @@ module _ (w : Whole) (name : Option (List ℕ)) (term : List ℕ) (params : List
   pub few_nodes : (ts : List (Option CorePattern)) (i : ℕ) → rule_nodes (rule_expanded ts (rule_made i)) ≤ 4096
   few_nodes ts i =
       let few = f.few in
-      let many : total (map pattern_nodes (map (expanded ts) f.left.made)) ≡ length params = ap (λ ps. total (map pattern_nodes ps)) (same_expanded ts f.left.made f.left.each) ∙ one_node f.left.made f.left.each ∙ f.left.count in
+      let many : total (map pattern_nodes (map (expanded ts) f.left.made)) ≡ length params =
+      ap (λ ps. total (map pattern_nodes ps)) (same_expanded ts f.left.made f.left.each) ∙ one_node f.left.made f.left.each ∙ f.left.count in
       let size : expr_nodes f.right.made ≡ expr_size rhs = f.right.nodes in
       subst (λ n. n + 0 + expr_nodes f.right.made ≤ 4096) (sym many) (subst (λ n. length params + 0 + n ≤ 4096) (sym size) (omega (arith, few)))
 

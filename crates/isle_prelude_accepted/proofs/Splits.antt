@@ -19,7 +19,8 @@ none_broken f (r ∷ rows) h = ap (λ b. cond b (Some r) (first_broken f rows)) 
 
 -- wherever a definition stands, it breaks no row of a stage
 abbrev pub AreUnbroken : Stage → Whole → List Def → Type 0
-AreUnbroken stage w ds = (before : List Def) (d : Def) (after : List Def) → ds ≡ before ++ d ∷ after → broken_in stage (record { whole = w; before = before }) d ≡ None
+AreUnbroken stage w ds =
+    (before : List Def) (d : Def) (after : List Def) → ds ≡ before ++ d ∷ after → broken_in stage (record { whole = w; before = before }) d ≡ None
 
 pub none_in : (stage : Stage) (w : Whole) (before ds : List Def)
     → ((bs : List Def) (d : Def) (after : List Def) → before ++ ds ≡ bs ++ d ∷ after → broken_in stage (record { whole = w; before = bs }) d ≡ None)

@@ -190,7 +190,8 @@ instruction_sound : (formats : List InstructionFormat) (before : List Instructio
 instruction_sound formats before i h =
     let f = found_below formats i.format h.1.1.1.1.0 in
     let of = λ (P : InstructionFormat → Type 0) (k : IsSomeAnd (slice_get formats i.format) P → ⊥) (p : P f.0). k (subst (λ o. IsSomeAnd o P) (sym f.1) p) in
-    let tests = or_parts (is_among i.name (instruction.own_names before) || is_among i.camel_name (instruction.camel_names before)) (repeats (operand_names i)) (stable_false _ h.1.0) in
+    let tests =
+    or_parts (is_among i.name (instruction.own_names before) || is_among i.camel_name (instruction.camel_names before)) (repeats (operand_names i)) (stable_false _ h.1.0) in
     let own = or_parts (is_among i.name (instruction.own_names before)) (is_among i.camel_name (instruction.camel_names before)) tests.0 in
     let names : (IsTermName i.name × IsIdentifier i.camel_name × AllByRecursion IsIdentifier (operand_names i) → ⊥) → ⊥ = h.0 in
     record {
@@ -236,7 +237,8 @@ instructions_sound : (formats : List InstructionFormat) (before is : List Instru
     → AreSupportedInstructions formats before is
 unfolding AreSupportedInstructions
 instructions_sound formats before [] h = tt
-instructions_sound formats before (i ∷ is) h = (instruction_sound formats before i (h (OfInstruction formats before i) (inl refl)), instructions_sound formats (before ++ i ∷ []) is (λ row k. h row (inr k)))
+instructions_sound formats before (i ∷ is) h =
+    (instruction_sound formats before i (h (OfInstruction formats before i) (inl refl)), instructions_sound formats (before ++ i ∷ []) is (λ row k. h row (inr k)))
 
 pub record AreSupported (t : Tables) : Type 0 where
   pub formats : AreSupportedFormats [] t.formats

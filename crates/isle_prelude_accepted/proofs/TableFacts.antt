@@ -215,4 +215,5 @@ imm_type_there fields i h = by (is_enum i) refl
   where
     by : (b : Bool) → is_enum i ≡ b → Has (plain_types fields) (type_of i) ⊎ Has (enum_types fields) (type_of i)
     by true e = inr (ascending_has _ (type_of i) (has_map type_of (filter is_enum fields) i (filter_has is_enum fields i h e)))
-    by false e = inl (ascending_has _ (type_of i) (has_map type_of (filter (λ (x : ImmField). not (is_enum x)) fields) i (filter_has (λ (x : ImmField). not (is_enum x)) fields i h (ap not e))))
+    by false e =
+        inl (ascending_has _ (type_of i) (has_map type_of (filter (λ (x : ImmField). not (is_enum x)) fields) i (filter_has (λ (x : ImmField). not (is_enum x)) fields i h (ap not e))))

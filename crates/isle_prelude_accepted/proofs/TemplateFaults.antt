@@ -167,7 +167,8 @@ module _ (defs : List Def) (h : AreSimple (all_erased defs)) where
 
   unbroken : (before : List Def) (d : Def) (after : List Def) → defs ≡ before ++ d ∷ after
       → broken_in OfExtractors (record { whole = whole_of defs; before = before }) d ≡ None
-  unbroken before (Extractor term params template at) after e = template_unbroken before term params template at (subst (λ ds. Has ds (Extractor term params template at)) (sym e) (has_middle before _ after))
+  unbroken before (Extractor term params template at) after e =
+      template_unbroken before term params template at (subst (λ ds. Has ds (Extractor term params template at)) (sym e) (has_middle before _ after))
   unbroken before (TypeDecl name x n body at) after e = refl
   unbroken before (Decl term pure multi partial recursive args ret at) after e = refl
   unbroken before (ExternConstructor term func at) after e = refl

@@ -50,10 +50,12 @@ module _ (defs : List Def) (h : AreSimple (all_erased defs)) where
       let d = Decl term pure multi partial recursive args ret at in
       let x = signature_at defs h term pure multi partial recursive args ret at in
       let s : IsSound (all_erased defs) d = sound_at defs h before d after e in
-      let once : AreApart (terms_of (signatures (before ++ d ∷ after))) = subst (λ ds. AreApart (terms_of (signatures ds))) e (subst AreApart (declared_same defs) h.declared) in
+      let once : AreApart (terms_of (signatures (before ++ d ∷ after))) =
+      subst (λ ds. AreApart (terms_of (signatures ds))) e (subst AreApart (declared_same defs) h.declared) in
       let own : Has (terms_of (signatures defs)) term =
       has_map (λ (y : Signature). y.term) (signatures defs) x (has_found signature_of defs d x (subst (λ ds. Has ds d) (sym e) (has_middle before d after)) refl) in
-      let new : index_of (terms_of (signatures before)) term ≡ None = no_place_of (terms_of (signatures before)) term (new_among signature_of (λ (y : Signature). y.term) before d after x refl once) in
+      let new : index_of (terms_of (signatures before)) term ≡ None =
+      no_place_of (terms_of (signatures before)) term (new_among signature_of (λ (y : Signature). y.term) before d after x refl once) in
       let unmade : index_of (made_terms defs) term ≡ None =
       no_place_of (made_terms defs) term (λ i. h.unmade term (subst (λ names. Has names term) (sym (made_same defs)) i) (subst (λ names. Has names term) (sym (declared_same defs)) own)) in
       let ret_known = known_type defs h ret s.1.gives in
@@ -77,7 +79,8 @@ module _ (defs : List Def) (h : AreSimple (all_erased defs)) where
       let found = declared_by_name term s.declared in
       let once : AreApart (extern_terms (externs (before ++ d ∷ after))) =
       subst (λ ds. AreApart (extern_terms (externs ds))) e (subst (λ (xs : List Extern). AreApart (extern_terms xs)) (externs_same defs) h.externs_apart) in
-      let new : index_of (extern_terms (externs before)) term ≡ None = no_place_of (extern_terms (externs before)) term (new_among extern_of (λ (y : Extern). y.term) before d after x refl once) in
+      let new : index_of (extern_terms (externs before)) term ≡ None =
+      no_place_of (extern_terms (externs before)) term (new_among extern_of (λ (y : Extern). y.term) before d after x refl once) in
       all_rows before d (
         refl,
         (refl, (refl, (refl, (ap (λ (o : Option Signature). not (is_some o)) found.1, (ap (λ o. is_some o || false) new, (refl, (refl, (refl, (refl, tt))))))))),

@@ -33,7 +33,8 @@ made_later ms ds name (inr i) = inr i
 
 of_body : (ms : List (List ℕ)) (first : List Signature) (ds : List Def) (name : List ℕ) → terms_of first ≡ ms → (Has (terms_of (terms ds)) name → Names ds name)
     → Has (terms_of (first ++ terms ds)) name → Has (ms ++ made_terms ds) name ⊎ Has (terms_of (signatures ds)) name
-of_body ms first ds name are rest i = by (has_either ms (terms_of (terms ds)) name (subst (λ names. Has names name) (more_named first (terms ds) ∙ ap (λ ns. ns ++ terms_of (terms ds)) are) i))
+of_body ms first ds name are rest i =
+    by (has_either ms (terms_of (terms ds)) name (subst (λ names. Has names name) (more_named first (terms ds) ∙ ap (λ ns. ns ++ terms_of (terms ds)) are) i))
   where
     by : Has ms name ⊎ Has (terms_of (terms ds)) name → Has (ms ++ made_terms ds) name ⊎ Has (terms_of (signatures ds)) name
     by (inl k) = inl (has_front ms (made_terms ds) name k)
@@ -42,8 +43,10 @@ of_body ms first ds name are rest i = by (has_either ms (terms_of (terms ds)) na
 pub term_names : (ds : List Def) (name : List ℕ) → Has (terms_of (terms ds)) name → Names ds name
 term_names [] name i = absurd i
 term_names (TypeDecl ty is_extern is_nodebug (Primitive rust) at ∷ ds) name i = term_names ds name i
-term_names (TypeDecl ty is_extern is_nodebug (Enum vs) at ∷ ds) name i = of_body (made_by ty (Enum vs)) (variant_signatures ty at 0 vs) ds name (variants_named ty at 0 vs) (term_names ds name) i
-term_names (TypeDecl ty is_extern is_nodebug (Struct fields) at ∷ ds) name i = of_body (ty ∷ []) (made_signature ty ty fields origin.Struct at ∷ []) ds name refl (term_names ds name) i
+term_names (TypeDecl ty is_extern is_nodebug (Enum vs) at ∷ ds) name i =
+    of_body (made_by ty (Enum vs)) (variant_signatures ty at 0 vs) ds name (variants_named ty at 0 vs) (term_names ds name) i
+term_names (TypeDecl ty is_extern is_nodebug (Struct fields) at ∷ ds) name i =
+    of_body (ty ∷ []) (made_signature ty ty fields origin.Struct at ∷ []) ds name refl (term_names ds name) i
 term_names (Decl term pure multi partial recursive args ret at ∷ ds) name i = by (term_names ds name) i
   where
     by : (Has (terms_of (terms ds)) name → Names ds name) → (term ≡ name) ⊎ Has (terms_of (terms ds)) name
@@ -64,7 +67,8 @@ term_names (Passed head at ∷ ds) name i = term_names ds name i
 
 -- made names and declared ones are apart
 abbrev pub AreNamesApart : List Def → Type 0
-AreNamesApart ds = AreApart (made_terms ds) × AreApart (terms_of (signatures ds)) × ((name : List ℕ) → Has (made_terms ds) name → Has (terms_of (signatures ds)) name → ⊥)
+AreNamesApart ds =
+    AreApart (made_terms ds) × AreApart (terms_of (signatures ds)) × ((name : List ℕ) → Has (made_terms ds) name → Has (terms_of (signatures ds)) name → ⊥)
 
 body_apart : (ms : List (List ℕ)) (first : List Signature) (ds : List Def) → terms_of first ≡ ms → AreApart (ms ++ made_terms ds) → AreApart (terms_of (terms ds))
     → ((name : List ℕ) → Has (ms ++ made_terms ds) name → Has (terms_of (signatures ds)) name → ⊥) → AreApart (terms_of (first ++ terms ds))

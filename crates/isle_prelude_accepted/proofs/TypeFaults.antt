@@ -74,7 +74,8 @@ is_known_type defs name i = by (has_either builtin_names (declared_names defs) n
 none_missing : (defs : List Def) (names : List (List ℕ)) → AllByRecursion (Has (type_names defs)) names
     → list_any (λ (name : List ℕ). not (is_type defs name)) names ≡ false
 none_missing defs [] h = refl
-none_missing defs (name ∷ names) h = or_from (not (is_type defs name)) (list_any (λ (n : List ℕ). not (is_type defs n)) names) (ap not (is_known_type defs name h.0)) (none_missing defs names h.1)
+none_missing defs (name ∷ names) h =
+    or_from (not (is_type defs name)) (list_any (λ (n : List ℕ). not (is_type defs n)) names) (ap not (is_known_type defs name h.0)) (none_missing defs names h.1)
 
 -- ---- bodies
 
@@ -124,7 +125,8 @@ module _ (defs : List Def) (h : AreSimple (all_erased defs)) where
       let s : IsSound (all_erased defs) d = sound_at before d after e in
       let types_once : AreApart (type_names (before ++ d ∷ after)) = subst (λ ds. AreApart (type_names ds)) e (subst AreApart (type_names_same defs) h.types) in
       let parts = apart_parts builtin_names (declared_names (before ++ d ∷ after)) types_once in
-      let own : Has (declared_names (before ++ d ∷ after)) name = has_map (λ (y : DeclaredType). y.name) (types (before ++ d ∷ after)) t (has_found type_of (before ++ d ∷ after) d t (has_middle before d after) refl) in
+      let own : Has (declared_names (before ++ d ∷ after)) name =
+      has_map (λ (y : DeclaredType). y.name) (types (before ++ d ∷ after)) t (has_found type_of (before ++ d ∷ after) d t (has_middle before d after) refl) in
       let made_once : AreApart (made_terms before ++ (made_by name body ++ made_terms after)) =
       subst AreApart (ap made_terms e ∙ made_append before (d ∷ after)) (subst AreApart (made_same defs) h.made) in
       let made_parts = apart_parts (made_terms before) (made_by name body ++ made_terms after) made_once in

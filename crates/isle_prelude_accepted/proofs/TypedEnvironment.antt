@@ -151,7 +151,8 @@ module _ (defs : List Def) (h : AreSimple (all_erased defs)) where
       let s : IsSound (all_erased defs) (TypeDecl name x n (Enum vs) at) = sound_in defs h (TypeDecl name x n (Enum vs) at) i in
       all_append (HasTypes defs) (variant_signatures name at 0 vs) (terms ds) (variants_typed name at 0 vs (type_there name x n (Enum vs) at i) s.1.0) (terms_typed ds (λ y j. all y (inr j)))
   terms_typed (TypeDecl name x n (Primitive rust) at ∷ ds) all = terms_typed ds (λ y j. all y (inr j))
-  terms_typed (TypeDecl name x n (Struct fields) at ∷ ds) all = absurd (let s : IsSound (all_erased defs) (TypeDecl name x n (Struct fields) at) = sound_in defs h (TypeDecl name x n (Struct fields) at) (all _ (inl refl)) in s.1)
+  terms_typed (TypeDecl name x n (Struct fields) at ∷ ds) all =
+      absurd (let s : IsSound (all_erased defs) (TypeDecl name x n (Struct fields) at) = sound_in defs h (TypeDecl name x n (Struct fields) at) (all _ (inl refl)) in s.1)
   terms_typed (Decl term pure multi partial recursive args ret at ∷ ds) all =
       let d = Decl term pure multi partial recursive args ret at in
       let s : IsSound (all_erased defs) d = sound_in defs h d (all d (inl refl)) in

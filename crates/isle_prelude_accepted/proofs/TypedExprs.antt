@@ -109,7 +109,8 @@ variable_right w locals next name expected l k found e f =
     ∙ ap (name_pass_by w next expected (Some l)) (ap₂ (conversion w) f e ∙ no_conversion w k) in
     subst (IsRight w 1) (sym form) (record {
       made = core_expr.Var k (record { 0 = l.number });
-      treed = ap (λ (o : Option TypeId). option_map (λ (v : TypeId × VarId). core_expr.Var v.0 v.1) (option_map {U = TypeId × VarId} (λ (ty : TypeId). (ty, record { 0 = l.number })) o)) f;
+      treed =
+          ap (λ (o : Option TypeId). option_map (λ (v : TypeId × VarId). core_expr.Var v.0 v.1) (option_map {U = TypeId × VarId} (λ (ty : TypeId). (ty, record { 0 = l.number })) o)) f;
       nodes = refl;
       calls = tt;
       parts = (used_good w l expected k e f, tt);
@@ -149,7 +150,8 @@ many_exprs E vars (ty ∷ tys) NoExpr h = absurd h
 module _ (w : Whole) (E : List Def) (makes : (name : List ℕ) (args : List (List ℕ)) (ret : List ℕ) → Makes E name args ret → IsMadeBy w name args ret)
     (vars : Variables) (locals : List Local) (known : AreLocals w vars locals) where
   call_right : (next : ℕ) (name ty : List ℕ) (args : List (List ℕ)) (es : Exprs) → IsMadeBy w name args ty → count_of es ≡ length args
-      → AreRight w (exprs_size es) (exprs_pass w locals next (map (type_named w.defs) args) es) → IsRight w (suc (exprs_size es)) (expr_pass w locals next (type_named w.defs ty) (tree.Call name es))
+      → AreRight w (exprs_size es) (exprs_pass w locals next (map (type_named w.defs) args) es)
+      → IsRight w (suc (exprs_size es)) (expr_pass w locals next (type_named w.defs ty) (tree.Call name es))
   call_right next name ty args es m many inner =
       let c = m.callee in
       let s = c.signature in
@@ -158,7 +160,8 @@ module _ (w : Whole) (E : List Def) (makes : (name : List ℕ) (args : List (Lis
       let there : expected ≡ Some k = c.ret_known.1 in
       let given : type_named w.defs s.ret ≡ Some k = ap (type_named w.defs) c.gives ∙ there in
       let after = exprs_pass w locals next (map (type_named w.defs) s.args) es in
-      let right : AreRight w (exprs_size es) after = subst (λ ts. AreRight w (exprs_size es) (exprs_pass w locals next (map (type_named w.defs) ts) es)) (sym c.takes) inner in
+      let right : AreRight w (exprs_size es) after =
+      subst (λ ts. AreRight w (exprs_size es) (exprs_pass w locals next (map (type_named w.defs) ts) es)) (sym c.takes) inner in
       let form : expr_pass w locals next expected (tree.Call name es) ≡ call_pass_by w expected (Some k) None (Some s) (Some c.number) (count_of es) after =
       ap₂ (λ (x : Option Signature) (n : Option TermId). call_pass_by w expected (ret_type w x) (conversion w (ret_type w x) expected) x n (count_of es) (exprs_pass w locals next (arg_types w x) es)) c.there c.numbered
       ∙ ap₂ (λ (of e : Option TypeId). call_pass_by w expected of (conversion w of e) (Some s) (Some c.number) (count_of es) after) given there

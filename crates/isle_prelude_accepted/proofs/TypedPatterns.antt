@@ -54,7 +54,8 @@ pub same_differ : (k : TypeId) → differ (Some k) (Some k) ≡ false
 same_differ k = ap not (eq-eqb k.0 k.0 refl)
 
 pub no_conversion : (w : Whole) (k : TypeId) → conversion w (Some k) (Some k) ≡ None
-no_conversion w k = ap (λ b. cond b None (option_and_then (λ (c : Conversion). termed w c.term) (converter_between w.defs (converters w.defs) k k))) (eq-eqb k.0 k.0 refl)
+no_conversion w k =
+    ap (λ b. cond b None (option_and_then (λ (c : Conversion). termed w c.term) (converter_between w.defs (converters w.defs) k k))) (eq-eqb k.0 k.0 refl)
 
 -- two types that are one known type
 pub known_differ : (a b : Option TypeId) (k : TypeId) → a ≡ Some k → b ≡ Some k → differ a b ≡ false
