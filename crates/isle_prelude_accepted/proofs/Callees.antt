@@ -290,7 +290,8 @@ module _ (defs : List Def) (h : AreSimple (all_erased defs)) where
       let x : Extern = record { term = name; func = t.func } in
       let among : Has (externs defs) x = subst (λ (xs : List Extern). Has xs x) (externs_same defs) (has_found extern_of (all_erased defs) _ x t.made refl) in
       let found : func_named (externs defs) name ≡ Some t.func =
-      ap (option_map (λ (y : Extern). y.func)) (found_by (λ (y : Extern). y.term) (externs defs) x (subst (λ (xs : List Extern). AreApart (extern_terms xs)) (externs_same defs) h.externs_apart) among) in
+      ap (option_map (λ (y : Extern). y.func))
+      (found_by (λ (y : Extern). y.term) (externs defs) x (subst (λ (xs : List Extern). AreApart (extern_terms xs)) (externs_same defs) h.externs_apart) among) in
       record {
         callee = c.1;
         made = ap (λ (s : Signature). is_made s.origin || is_some (func_named (externs defs) s.term) || has_rule (rule_defs defs) s.term) c.2

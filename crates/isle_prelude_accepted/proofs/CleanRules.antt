@@ -49,7 +49,8 @@ no_tests : (env : Environment) (ps : List Pattern) (i : ℕ) (places : Places) �
 no_tests env [] i places h = tt
 no_tests env (p ∷ ps) i places h =
     let v = h.0 in
-    all_append IsNoConstraint _ _ (subst (λ q. AllByRecursion IsNoConstraint (Rattle.isle_core.specs.Tests.tests env q (Arg i) places)) (sym v.2) (met (places v.1.0) (Arg i)))
+    all_append IsNoConstraint _ _
+    (subst (λ q. AllByRecursion IsNoConstraint (Rattle.isle_core.specs.Tests.tests env q (Arg i) places)) (sym v.2) (met (places v.1.0) (Arg i)))
     (no_tests env ps (suc i) (after env p (Arg i) places) h.1)
   where
     met : (o : Option Path) (p : Path) → AllByRecursion IsNoConstraint (met_tests o p)
@@ -58,7 +59,8 @@ no_tests env (p ∷ ps) i places h =
 
 tests_nothing : (env : Environment) (w : Whole) (term : List ℕ) (r : Rule) → IsMadeRule w term r → AllByRecursion IsNoConstraint (rule_tests env r)
 tests_nothing env w term r m =
-    all_append IsNoConstraint (args_tests env r.args 0 no_places) (iflets_tests env r.iflets (args_after env r.args 0 no_places)) (no_tests env r.args 0 no_places m.variables)
+    all_append IsNoConstraint (args_tests env r.args 0 no_places) (iflets_tests env r.iflets (args_after env r.args 0 no_places))
+    (no_tests env r.args 0 no_places m.variables)
     (subst (λ (cs : List IfLet). AllByRecursion IsNoConstraint (iflets_tests env cs (args_after env r.args 0 no_places))) (sym m.free) tt)
 
 reachable : (env : Environment) (w : Whole) (term : List ℕ) (r : Rule) → IsMadeRule w term r → Unreachable env r → ⊥

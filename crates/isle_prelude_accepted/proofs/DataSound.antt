@@ -68,7 +68,8 @@ names_are f =
     let bs = block_fields f.num_block_operands in
     let rs = raw_block_fields f.num_raw_block_operands in
     let is = map imm_field f.imm_fields in
-    ap (λ xs. codes "opcode" ∷ xs) (map-append first vs (bs ++ (rs ++ is)) ∙ ap (λ xs. names_in vs ++ xs) (map-append first bs (rs ++ is) ∙ ap (λ xs. names_in bs ++ xs) (map-append first rs is)))
+    ap (λ xs. codes "opcode" ∷ xs)
+    (map-append first vs (bs ++ (rs ++ is)) ∙ ap (λ xs. names_in vs ++ xs) (map-append first bs (rs ++ is) ∙ ap (λ xs. names_in bs ++ xs) (map-append first rs is)))
 
 -- they are those that rows tell
 names_told : (f : InstructionFormat) → f.num_raw_block_operands ≤ 1 → names_in (format_fields f) ≡ field_names f

@@ -175,7 +175,8 @@ module _ (defs : List Def) (h : AreSimple (all_erased defs)) where
 
   each_apart : (term : List ℕ) (o : Origin) → AreApart (functions_at defs term o)
   each_apart term origin.Declared =
-      apart_append (taken_by_name (extractor_named (extractors defs) term)) (made_by_name (func_named (externs defs) term)) (taken_apart (extractor_named (extractors defs) term)) (one_apart (func_named (externs defs) term))
+      apart_append (taken_by_name (extractor_named (extractors defs) term)) (made_by_name (func_named (externs defs) term))
+      (taken_apart (extractor_named (extractors defs) term)) (one_apart (func_named (externs defs) term))
       (λ func i j. never_both term term func (taken_from defs term func (extractor_named (extractors defs) term) refl i) (made_from defs term func j))
   each_apart term (origin.Variant n) = tt
   each_apart term origin.Struct = tt
@@ -268,7 +269,8 @@ module _ (defs : List Def) (h : AreSimple (all_erased defs)) where
     all_names (s ∷ sigs) [] k = absurd k
     all_names (s ∷ sigs) (t ∷ ts) k =
         ap (λ x. fn_names (fns_before env x (trait_fns_in env ts))) k.0.is
-        ∙ names_at (term_from (whole_of defs) s k.0.args k.0.ret) (trait_fns_in env ts) s k.0.ret s.origin (λ func i. function_text func (function_named s.term func (functions_from defs s.term func s.origin i)).1)
+        ∙ names_at (term_from (whole_of defs) s k.0.args k.0.ret) (trait_fns_in env ts) s k.0.ret s.origin
+        (λ func i. function_text func (function_named s.term func (functions_from defs s.term func s.origin i)).1)
         ∙ ap (λ names. functions_of_term defs s ++ names) (all_names sigs ts k.1)
 
     all_identifiers : (fns : List TraitFn) → AllByRecursion IsIdentifier (fn_names fns) → AllByRecursion (λ (f : TraitFn). IsIdentifier f.name) fns
@@ -281,7 +283,8 @@ module _ (defs : List Def) (h : AreSimple (all_erased defs)) where
         let names = all_names (terms defs) env.terms k in
         record {
           identifiers =
-              all_identifiers (trait_fns_in env env.terms) (subst (AllByRecursion IsIdentifier) (sym names) (has_all IsIdentifier (flat_map (functions_of_term defs) (terms defs))
+              all_identifiers (trait_fns_in env env.terms)
+              (subst (AllByRecursion IsIdentifier) (sym names) (has_all IsIdentifier (flat_map (functions_of_term defs) (terms defs))
               (λ func i. (let r = has_flattened (functions_of_term defs) (terms defs) func i in (function_named r.0.term func (functions_from defs r.0.term func r.0.origin r.2)).0))));
           distinct = subst (IsDistinct bytes_eq) (sym names) (apart_distinct (flat_map (functions_of_term defs) (terms defs)) all_apart);
         }

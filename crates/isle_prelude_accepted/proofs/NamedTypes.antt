@@ -161,7 +161,8 @@ module _ (defs : List Def) (h : AreSimple (all_erased defs)) where
       map-append (emitted_name env_types) builtins (filter_map (type_def_in defs) defs) ∙ ap (λ names. builtin_names ++ names) declared.1 in
       record {
         types =
-            all_append (IsLawfulType b env_types) builtins (filter_map (type_def_in defs) defs) (builtin_types b kinds (builtins_lawful b only_builtins refl refl).types) declared.0;
+            all_append (IsLawfulType b env_types) builtins (filter_map (type_def_in defs) defs)
+            (builtin_types b kinds (builtins_lawful b only_builtins refl refl).types) declared.0;
         constants = subst (AllByRecursion (IsLawfulConstant env_types)) (sym none) tt;
         apart = record {
           types = subst (IsDistinct bytes_eq) (sym texts) (apart_distinct (type_names defs) (subst AreApart (type_names_same defs) h.types));

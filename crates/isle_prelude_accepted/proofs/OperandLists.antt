@@ -69,7 +69,8 @@ name_from is i name h =
 
 pub name_there : (is : OperandClass → Bool) (i : Instruction) (o : ClifOperand) → Has i.operands_in o → is o.class ≡ true → Has (names_of is i) o.name
 name_there is i o h e =
-    has_map (λ (x : ClifOperand). x.name) (filter (λ (x : ClifOperand). is x.class) i.operands_in) o (filter_has (λ (x : ClifOperand). is x.class) i.operands_in o h e)
+    has_map (λ (x : ClifOperand). x.name) (filter (λ (x : ClifOperand). is x.class) i.operands_in) o
+    (filter_has (λ (x : ClifOperand). is x.class) i.operands_in o h e)
 
 -- as many names as operands are counted
 pub many_names : (is : OperandClass → Bool) (i : Instruction) → length (names_of is i) ≡ count_of is i
@@ -88,7 +89,8 @@ same_types [] (u ∷ us) l h = absurd (let e : 0 ≡ suc (length us) = l in omeg
 same_types (t ∷ ts) [] l h = absurd (let e : suc (length ts) ≡ 0 = l in omega arith)
 same_types (t ∷ ts) (u ∷ us) l h =
     let parts = or_parts (not (bytes_eq (short_name t) (short_name u))) (types_differ ts us) h in
-    ap₂ (λ x xs. x ∷ xs) (same_bytes (short_name t) (short_name u) (turned (bytes_eq (short_name t) (short_name u)) parts.0)) (same_types ts us (let e : suc (length ts) ≡ suc (length us) = l in omega arith) parts.1)
+    ap₂ (λ x xs. x ∷ xs) (same_bytes (short_name t) (short_name u) (turned (bytes_eq (short_name t) (short_name u)) parts.0))
+    (same_types ts us (let e : suc (length ts) ≡ suc (length us) = l in omega arith) parts.1)
   where
     turned : (b : Bool) → not b ≡ false → b ≡ true
     turned true e = refl

@@ -80,7 +80,8 @@ module _ (w : Whole) where
       let new : found_in (first_met scope p (type_named w.defs t)).variables p ≡ Some x =
       found_more scope.variables x p (free p (inl refl)) ∙ ap (λ b. cond b (Some x) None) (own_bytes p) in
       let rest =
-      params_bound (first_met scope p (type_named w.defs t)) ps ts (let e : suc (length ps) ≡ suc (length ts) = many in omega arith) apart.1 (still_free scope p ps (type_named w.defs t) apart free) in
+      params_bound (first_met scope p (type_named w.defs t)) ps ts (let e : suc (length ps) ≡ suc (length ts) = many in omega arith) apart.1
+      (still_free scope p ps (type_named w.defs t) apart free) in
       by (subst (λ (s : Scope). found_in s.variables p ≡ Some x) (sym first) new)
       (λ j. subst (λ (s : Scope). (l : Local) × (found_in (params_met s ps (map (type_named w.defs) ts)).variables name ≡ Some l) × (l.ty ≡ type_named w.defs ty)) (sym first) (rest name ty j)) i
     where

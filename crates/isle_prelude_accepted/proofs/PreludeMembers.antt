@@ -100,7 +100,8 @@ module _ (t : Tables) where
 
   pub in_enums : (name : List ℕ) → Has (enum_types fields) name → Has E (imm_enum fields name)
   in_enums name i =
-      imms (imm_enum fields name) (has_back (map primitive (plain_types fields)) _ (imm_enum fields name) (inr (has_map (imm_enum fields) (enum_types fields) name i)))
+      imms (imm_enum fields name)
+      (has_back (map primitive (plain_types fields)) _ (imm_enum fields name) (inr (has_map (imm_enum fields) (enum_types fields) name i)))
 
   behind : (d : Def) → Has (arrays t.formats ++ kinds) d → Has E d
   behind d i = common d (has_back (imm_defs fields) (arrays t.formats ++ kinds) d i)
@@ -130,7 +131,8 @@ module _ (t : Tables) where
 
   type_there : (name : List ℕ) (x n : Bool) (body : AstBody) → Has E (TypeDecl name x n body no_place) → IsType name
   type_there name x n body i =
-      has_back builtin_names (declared_names E) name (has_map (λ (y : DeclaredType). y.name) (types E) (record { name = name; body = body }) (has_found type_of E (TypeDecl name x n body no_place) _ i refl))
+      has_back builtin_names (declared_names E) name
+      (has_map (λ (y : DeclaredType). y.name) (types E) (record { name = name; body = body }) (has_found type_of E (TypeDecl name x n body no_place) _ i refl))
 
   shared_type : (name : List ℕ) → Has shared_types (primitive name) → IsType name
   shared_type name i = type_there name false false _ (in_shared (primitive name) i)
@@ -195,7 +197,8 @@ module _ (t : Tables) where
   pub block_size_from : (n : ℕ) → Has (block_array_sizes t.formats) n → (f : InstructionFormat) × Has t.formats f × (f.num_block_operands ≡ n)
   block_size_from n k =
       let r =
-      has_source (λ (f : InstructionFormat). above_one f.num_block_operands) t.formats n (numbers_from (filter_map (λ (f : InstructionFormat). above_one f.num_block_operands) t.formats) n k) in
+      has_source (λ (f : InstructionFormat). above_one f.num_block_operands) t.formats n
+      (numbers_from (filter_map (λ (f : InstructionFormat). above_one f.num_block_operands) t.formats) n k) in
       (r.0, r.1, above_from r.0.num_block_operands n r.2)
 
   pub ctor_size_from : (n : ℕ) → Has (ctor_sizes t) n → Has (value_array_sizes t.formats) n

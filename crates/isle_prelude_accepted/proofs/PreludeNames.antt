@@ -110,9 +110,12 @@ types_grouped : (t : Tables) → type_names (prelude_defs t) ≡ grouped_names (
 types_grouped t =
     let fs = all_fields t.formats in
     ap (λ names. builtin_names ++ names) (found_flat type_of (λ (x : DeclaredType). x.name) (prelude_defs t) ∙ whole t type_in
-    ∙ put_same shared_names [] (flat_map (λ (n : ℕ). []) (ctor_sizes t)) (flat_map (λ (x : List ℕ). x ∷ []) (plain_types fs)) flags_name (flat_map (λ (x : List ℕ). x ∷ []) (enum_types fs))
-    (flat_map (λ (n : ℕ). value_array_type n ∷ []) (value_array_sizes t.formats)) (flat_map (λ (n : ℕ). block_array_type n ∷ []) (block_array_sizes t.formats)) data_names
-    (flat_map (λ (i : Instruction). flat_map type_in (row_defs t i)) t.instructions) [] (plain_types fs) (enum_types fs) (map value_array_type (value_array_sizes t.formats)) (map block_array_type (block_array_sizes t.formats)) []
+    ∙ put_same shared_names [] (flat_map (λ (n : ℕ). []) (ctor_sizes t)) (flat_map (λ (x : List ℕ). x ∷ []) (plain_types fs)) flags_name
+    (flat_map (λ (x : List ℕ). x ∷ []) (enum_types fs))
+    (flat_map (λ (n : ℕ). value_array_type n ∷ []) (value_array_sizes t.formats))
+    (flat_map (λ (n : ℕ). block_array_type n ∷ []) (block_array_sizes t.formats)) data_names
+    (flat_map (λ (i : Instruction). flat_map type_in (row_defs t i)) t.instructions) [] (plain_types fs) (enum_types fs)
+    (map value_array_type (value_array_sizes t.formats)) (map block_array_type (block_array_sizes t.formats)) []
     (flat_none (ctor_sizes t)) (flat_single (λ x. x) (plain_types fs) ∙ map_same (plain_types fs)) (flat_single (λ x. x) (enum_types fs) ∙ map_same (enum_types fs))
     (flat_single value_array_type (value_array_sizes t.formats)) (flat_single block_array_type (block_array_sizes t.formats))
     (flat_same (λ (i : Instruction). flat_map type_in (row_defs t i)) (λ i. []) t.instructions (λ i. no_types i (slice_get t.formats i.format)) ∙ flat_none t.instructions))
@@ -131,7 +134,8 @@ module _ (t : Tables) (s : AreSupported t) where
       let first = apart_parts shared_names (flags_name ++ data_names) written_apart in
       let last = apart_parts flags_name data_names first.1 in
       let plain =
-      imm_family (plain_types fs) (plain_apart fs) (λ x i. (let f = plain_from fs x i in subst IsImmediateType f.2 (field_sound t.formats f.0 s.formats f.1).type)) in
+      imm_family (plain_types fs) (plain_apart fs)
+      (λ x i. (let f = plain_from fs x i in subst IsImmediateType f.2 (field_sound t.formats f.0 s.formats f.1).type)) in
       let enums =
       imm_family (enum_types fs) (enums_apart fs) (λ x i. (let f = enum_from fs x i in subst IsImmediateType f.2 (field_sound t.formats f.0 s.formats f.1).type)) in
       let unlike : Disjoint (plain_types fs) (enum_types fs) =

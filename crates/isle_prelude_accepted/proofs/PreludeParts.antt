@@ -35,9 +35,11 @@ module _ (t : Tables) where
   module _ {X : Type 0} (q : Def → List X) where
     -- what comes of all
     pub whole : flat_map q (prelude_defs t)
-        ≡ put (flat_map q shared_types) (flat_map q opt_terms) (flat_map (λ (n : ℕ). flat_map q (ctor_defs n)) (ctor_sizes t)) (flat_map (λ (x : List ℕ). q (primitive x)) (plain_types (all_fields t.formats)))
+        ≡ put (flat_map q shared_types) (flat_map q opt_terms) (flat_map (λ (n : ℕ). flat_map q (ctor_defs n)) (ctor_sizes t))
+        (flat_map (λ (x : List ℕ). q (primitive x)) (plain_types (all_fields t.formats)))
         (q (primitive (codes "MemFlagsData"))) (flat_map (λ (x : List ℕ). q (imm_enum (all_fields t.formats) x)) (enum_types (all_fields t.formats)))
-        (flat_map (λ (n : ℕ). flat_map q (value_array_defs n)) (value_array_sizes t.formats)) (flat_map (λ (n : ℕ). flat_map q (block_array_defs n)) (block_array_sizes t.formats))
+        (flat_map (λ (n : ℕ). flat_map q (value_array_defs n)) (value_array_sizes t.formats))
+        (flat_map (λ (n : ℕ). flat_map q (block_array_defs n)) (block_array_sizes t.formats))
         (flat_map q (data_defs t.formats t.instructions)) (flat_map (λ (i : Instruction). flat_map q (row_defs i)) t.instructions)
     whole =
         let fs = all_fields t.formats in
@@ -56,7 +58,8 @@ module _ (t : Tables) where
         ∙ ap₂ (λ x y. x ++ y)
         (flat_append q plain (primitive (codes "MemFlagsData") ∷ enums) ∙ ap₂ (λ x y. x ++ (q (primitive (codes "MemFlagsData")) ++ y)) (flat_mapped q primitive (plain_types fs)) (flat_mapped q (imm_enum fs) (enum_types fs)))
         (flat_append q (arrays t.formats) kinds
-        ∙ ap (λ x. x ++ flat_map q kinds) (flat_append q values blocks ∙ ap₂ (λ x y. x ++ y) (flat_flat q value_array_defs (value_array_sizes t.formats)) (flat_flat q block_array_defs (block_array_sizes t.formats)))))
+        ∙ ap (λ x. x ++ flat_map q kinds)
+        (flat_append q values blocks ∙ ap₂ (λ x y. x ++ y) (flat_flat q value_array_defs (value_array_sizes t.formats)) (flat_flat q block_array_defs (block_array_sizes t.formats)))))
         (flat_flat q row_defs t.instructions))
 
 -- what holds of nothing, and of an instruction taken in a manner, holds of an instruction

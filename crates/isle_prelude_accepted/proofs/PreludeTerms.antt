@@ -47,7 +47,8 @@ term_class x = first_of_four (is_among x prelude_terms) (is_numbered (codes "val
 
 value_class : (n : ℕ) → term_class (value_array n) ≡ 1
 value_class n =
-    let k = value_array_kind n in first_by _ _ _ _ false true (is_numbered (codes "block_array_") (value_array n)) (is_array_constructor (value_array n)) k.0 k.1 refl refl
+    let k = value_array_kind n in first_by _ _ _ _ false true (is_numbered (codes "block_array_") (value_array n))
+    (is_array_constructor (value_array n)) k.0 k.1 refl refl
 
 block_class : (n : ℕ) → term_class (block_array n) ≡ 2
 block_class n = let k = block_array_kind n in first_by _ _ _ _ false false true (is_array_constructor (block_array n)) k.0 k.1 k.2 refl
@@ -196,9 +197,11 @@ module _ (t : Tables) (s : AreSupported t) where
   declared_apart =
       let rows = rows_family t s declared_in declared_own in
       subst AreApart (sym (found_flat signature_of (λ (x : Signature). x.term) (prelude_defs t)
-      ∙ terms_put t declared_in opt_names (map value_array_ctor (ctor_sizes t)) (map value_array (value_array_sizes t.formats)) (map block_array (block_array_sizes t.formats))
+      ∙ terms_put t declared_in opt_names (map value_array_ctor (ctor_sizes t)) (map value_array (value_array_sizes t.formats))
+      (map block_array (block_array_sizes t.formats))
       (flat_map (λ (i : Instruction). flat_map declared_in (row_defs t i)) t.instructions)
-      refl refl (flat_single value_array_ctor (ctor_sizes t)) (λ x. refl) (λ x. refl) (flat_single value_array (value_array_sizes t.formats)) (flat_single block_array (block_array_sizes t.formats)) refl refl))
+      refl refl (flat_single value_array_ctor (ctor_sizes t)) (λ x. refl) (λ x. refl) (flat_single value_array (value_array_sizes t.formats))
+      (flat_single block_array (block_array_sizes t.formats)) refl refl))
       (grouped_apart term_class (term_groups (0, opt_names) (3, map value_array_ctor (ctor_sizes t)) (1, map value_array (value_array_sizes t.formats)) (2, map block_array (block_array_sizes t.formats)) (4, _))
       ((none_repeated opt_names refl, (refl, (refl, (refl, (refl, tt))))), (ctor_family, (value_family, (block_family, (rows, tt)))))
       ((tt, (tt, (tt, (tt, tt)))), ((tt, (tt, (tt, tt))), ((tt, (tt, tt)), ((tt, tt), (tt, tt))))))
@@ -226,16 +229,20 @@ module _ (t : Tables) (s : AreSupported t) where
   makers_are : extern_terms (externs (prelude_defs t)) ≡ (makers ++ map value_array_ctor (ctor_sizes t)) ++ ((map value_array (value_array_sizes t.formats) ++ map block_array (block_array_sizes t.formats)) ++ [])
   makers_are =
       found_flat extern_of (λ (x : Extern). x.term) (prelude_defs t)
-      ∙ terms_put t made_in makers (map value_array_ctor (ctor_sizes t)) (map value_array (value_array_sizes t.formats)) (map block_array (block_array_sizes t.formats)) []
-      refl refl (flat_single value_array_ctor (ctor_sizes t)) (λ x. refl) (λ x. refl) (flat_single value_array (value_array_sizes t.formats)) (flat_single block_array (block_array_sizes t.formats)) refl
+      ∙ terms_put t made_in makers (map value_array_ctor (ctor_sizes t)) (map value_array (value_array_sizes t.formats))
+      (map block_array (block_array_sizes t.formats)) []
+      refl refl (flat_single value_array_ctor (ctor_sizes t)) (λ x. refl) (λ x. refl) (flat_single value_array (value_array_sizes t.formats))
+      (flat_single block_array (block_array_sizes t.formats)) refl
       (none_of_rows made_in t none_made)
 
   -- none that a function makes is free for others
   pub makers_reserved : (x : List ℕ) → Has (extern_terms (externs (prelude_defs t))) x → is_reserved_term x ≡ false → ⊥
   makers_reserved x i free =
       let written : AllByRecursion IsKept makers = (written_kept (codes "make_inst") refl, (written_kept (codes "make_skeleton_inst") refl, tt)) in
-      let all : AllByRecursion IsKept ((makers ++ map value_array_ctor (ctor_sizes t)) ++ ((map value_array (value_array_sizes t.formats) ++ map block_array (block_array_sizes t.formats)) ++ [])) =
-      all_append IsKept (makers ++ map value_array_ctor (ctor_sizes t)) _ (all_append IsKept makers (map value_array_ctor (ctor_sizes t)) written (kept_family 3 (map value_array_ctor (ctor_sizes t)) (λ e. omega (arith, e)) (ctor_family t s).1))
+      let all : AllByRecursion IsKept
+      ((makers ++ map value_array_ctor (ctor_sizes t)) ++ ((map value_array (value_array_sizes t.formats) ++ map block_array (block_array_sizes t.formats)) ++ [])) =
+      all_append IsKept (makers ++ map value_array_ctor (ctor_sizes t)) _
+      (all_append IsKept makers (map value_array_ctor (ctor_sizes t)) written (kept_family 3 (map value_array_ctor (ctor_sizes t)) (λ e. omega (arith, e)) (ctor_family t s).1))
       (all_append IsKept (map value_array (value_array_sizes t.formats) ++ map block_array (block_array_sizes t.formats)) []
       (all_append IsKept (map value_array (value_array_sizes t.formats)) (map block_array (block_array_sizes t.formats)) (kept_family 1 _ (λ e. omega (arith, e)) (value_family t s).1)
       (kept_family 2 _ (λ e. omega (arith, e)) (block_family t s).1)) tt) in
@@ -255,8 +262,10 @@ module _ (t : Tables) (s : AreSupported t) where
   pub makers_apart : AreApart (extern_terms (externs (prelude_defs t)))
   makers_apart =
       subst AreApart (sym (found_flat extern_of (λ (x : Extern). x.term) (prelude_defs t)
-      ∙ terms_put t made_in makers (map value_array_ctor (ctor_sizes t)) (map value_array (value_array_sizes t.formats)) (map block_array (block_array_sizes t.formats)) []
-      refl refl (flat_single value_array_ctor (ctor_sizes t)) (λ x. refl) (λ x. refl) (flat_single value_array (value_array_sizes t.formats)) (flat_single block_array (block_array_sizes t.formats)) refl
+      ∙ terms_put t made_in makers (map value_array_ctor (ctor_sizes t)) (map value_array (value_array_sizes t.formats))
+      (map block_array (block_array_sizes t.formats)) []
+      refl refl (flat_single value_array_ctor (ctor_sizes t)) (λ x. refl) (λ x. refl) (flat_single value_array (value_array_sizes t.formats))
+      (flat_single block_array (block_array_sizes t.formats)) refl
       (none_of_rows made_in t none_made)))
       (grouped_apart term_class (term_groups (0, makers) (3, map value_array_ctor (ctor_sizes t)) (1, map value_array (value_array_sizes t.formats)) (2, map block_array (block_array_sizes t.formats)) (4, []))
       ((none_repeated makers refl, (refl, (refl, tt))), (ctor_family t s, (value_family t s, (block_family t s, (none_family term_class 4, tt)))))
@@ -287,8 +296,10 @@ module _ (t : Tables) (s : AreSupported t) where
   takers_apart =
       let rows = rows_family t s taken_in taken_own in
       subst AreApart (sym (found_flat extractor_of (λ (x : ExtractorDef). x.term) (prelude_defs t)
-      ∙ terms_put t taken_in takers [] (map value_array (value_array_sizes t.formats)) (map block_array (block_array_sizes t.formats)) (flat_map (λ (i : Instruction). flat_map taken_in (row_defs t i)) t.instructions)
-      refl refl (flat_none (ctor_sizes t)) (λ x. refl) (λ x. refl) (flat_single value_array (value_array_sizes t.formats)) (flat_single block_array (block_array_sizes t.formats)) refl refl))
+      ∙ terms_put t taken_in takers [] (map value_array (value_array_sizes t.formats)) (map block_array (block_array_sizes t.formats))
+      (flat_map (λ (i : Instruction). flat_map taken_in (row_defs t i)) t.instructions)
+      refl refl (flat_none (ctor_sizes t)) (λ x. refl) (λ x. refl) (flat_single value_array (value_array_sizes t.formats))
+      (flat_single block_array (block_array_sizes t.formats)) refl refl))
       (grouped_apart term_class (term_groups (0, takers) (3, []) (1, map value_array (value_array_sizes t.formats)) (2, map block_array (block_array_sizes t.formats)) (4, _))
       ((none_repeated takers refl, (refl, (refl, tt))), (none_family term_class 3, (value_family t s, (block_family t s, (rows, tt)))))
       ((tt, (tt, (tt, (tt, tt)))), ((tt, (tt, (tt, tt))), ((tt, (tt, tt)), ((tt, tt), (tt, tt))))))
@@ -316,7 +327,8 @@ module _ (t : Tables) (s : AreSupported t) where
       let rows = rows_family t s headed_in headed_own in
       subst AreApart (sym (found_flat rule_of (λ (r : RuleDef). r.term) (prelude_defs t)
       ∙ terms_put t headed_in [] [] [] [] (flat_map (λ (i : Instruction). flat_map headed_in (row_defs t i)) t.instructions)
-      refl refl (flat_none (ctor_sizes t)) (λ x. refl) (λ x. refl) (flat_none (value_array_sizes t.formats)) (flat_none (block_array_sizes t.formats)) refl refl)) rows.0
+      refl refl (flat_none (ctor_sizes t)) (λ x. refl) (λ x. refl) (flat_none (value_array_sizes t.formats))
+      (flat_none (block_array_sizes t.formats)) refl refl)) rows.0
 
 -- ---- functions
 
@@ -361,19 +373,23 @@ takers_flat (d ∷ ds) = by (extractor_of d) (takers_flat ds)
 module _ (t : Tables) where
   pack_values : IsFamily func_class (1, map (λ (n : ℕ). pack (value_array n)) (value_array_sizes t.formats))
   pack_values =
-      numbered_family func_class 1 (λ (n : ℕ). pack (value_array n)) (value_array_sizes t.formats) (λ i j e. value_array_same i j (packed_same (value_array i) (value_array j) e)) pack_value_kind (value_sizes_apart t.formats)
+      numbered_family func_class 1 (λ (n : ℕ). pack (value_array n)) (value_array_sizes t.formats)
+      (λ i j e. value_array_same i j (packed_same (value_array i) (value_array j) e)) pack_value_kind (value_sizes_apart t.formats)
 
   pack_blocks : IsFamily func_class (2, map (λ (n : ℕ). pack (block_array n)) (block_array_sizes t.formats))
   pack_blocks =
-      numbered_family func_class 2 (λ (n : ℕ). pack (block_array n)) (block_array_sizes t.formats) (λ i j e. block_array_same i j (packed_same (block_array i) (block_array j) e)) pack_block_kind (block_sizes_apart t.formats)
+      numbered_family func_class 2 (λ (n : ℕ). pack (block_array n)) (block_array_sizes t.formats)
+      (λ i j e. block_array_same i j (packed_same (block_array i) (block_array j) e)) pack_block_kind (block_sizes_apart t.formats)
 
   unpack_values : IsFamily func_class (3, map (λ (n : ℕ). unpack (value_array n)) (value_array_sizes t.formats))
   unpack_values =
-      numbered_family func_class 3 (λ (n : ℕ). unpack (value_array n)) (value_array_sizes t.formats) (λ i j e. value_array_same i j (unpacked_same (value_array i) (value_array j) e)) unpack_value_kind (value_sizes_apart t.formats)
+      numbered_family func_class 3 (λ (n : ℕ). unpack (value_array n)) (value_array_sizes t.formats)
+      (λ i j e. value_array_same i j (unpacked_same (value_array i) (value_array j) e)) unpack_value_kind (value_sizes_apart t.formats)
 
   unpack_blocks : IsFamily func_class (4, map (λ (n : ℕ). unpack (block_array n)) (block_array_sizes t.formats))
   unpack_blocks =
-      numbered_family func_class 4 (λ (n : ℕ). unpack (block_array n)) (block_array_sizes t.formats) (λ i j e. block_array_same i j (unpacked_same (block_array i) (block_array j) e)) unpack_block_kind (block_sizes_apart t.formats)
+      numbered_family func_class 4 (λ (n : ℕ). unpack (block_array n)) (block_array_sizes t.formats)
+      (λ i j e. block_array_same i j (unpacked_same (block_array i) (block_array j) e)) unpack_block_kind (block_sizes_apart t.formats)
 
   ctor_funcs : IsFamily func_class (5, map value_array_ctor (ctor_sizes t))
   ctor_funcs = numbered_family func_class 5 value_array_ctor (ctor_sizes t) ctor_same ctor_func_kind (ctor_sizes_apart t)
@@ -388,10 +404,12 @@ module _ (t : Tables) where
       subst AreApart (sym (ap₂ (λ x y. x ++ y)
       (found_flat extern_of (λ (x : Extern). x.func) (prelude_defs t)
       ∙ terms_put t maker_in makers ctors (map (λ (n : ℕ). pack (value_array n)) VS) (map (λ (n : ℕ). pack (block_array n)) BS) []
-      refl refl (flat_single value_array_ctor (ctor_sizes t)) (λ x. refl) (λ x. refl) (flat_single (λ (n : ℕ). pack (value_array n)) VS) (flat_single (λ (n : ℕ). pack (block_array n)) BS) refl (none_of_rows maker_in t none_makers))
+      refl refl (flat_single value_array_ctor (ctor_sizes t)) (λ x. refl) (λ x. refl) (flat_single (λ (n : ℕ). pack (value_array n)) VS)
+      (flat_single (λ (n : ℕ). pack (block_array n)) BS) refl (none_of_rows maker_in t none_makers))
       (takers_flat (prelude_defs t)
       ∙ terms_put t taker_in takers [] (map (λ (n : ℕ). unpack (value_array n)) VS) (map (λ (n : ℕ). unpack (block_array n)) BS) []
-      refl refl (flat_none (ctor_sizes t)) (λ x. refl) (λ x. refl) (flat_single (λ (n : ℕ). unpack (value_array n)) VS) (flat_single (λ (n : ℕ). unpack (block_array n)) BS) refl (none_of_rows taker_in t none_takers))))
+      refl refl (flat_none (ctor_sizes t)) (λ x. refl) (λ x. refl) (flat_single (λ (n : ℕ). unpack (value_array n)) VS)
+      (flat_single (λ (n : ℕ). unpack (block_array n)) BS) refl (none_of_rows taker_in t none_takers))))
       (grouped_apart func_class
       (Both (term_groups (0, makers) (5, ctors) (1, map (λ (n : ℕ). pack (value_array n)) VS) (2, map (λ (n : ℕ). pack (block_array n)) BS) (6, []))
       (term_groups (0, takers) (7, []) (3, map (λ (n : ℕ). unpack (value_array n)) VS) (4, map (λ (n : ℕ). unpack (block_array n)) BS) (8, []))) (

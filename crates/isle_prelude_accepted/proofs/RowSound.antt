@@ -51,7 +51,8 @@ field_types_are f =
     let bs = block_fields f.num_block_operands in
     let rs = raw_block_fields f.num_raw_block_operands in
     let is = map imm_field f.imm_fields in
-    ap (λ xs. codes "Opcode" ∷ xs) (map-append second vs (bs ++ (rs ++ is)) ∙ ap (λ xs. types_in vs ++ xs) (map-append second bs (rs ++ is) ∙ ap (λ xs. types_in bs ++ xs) (map-append second rs is)))
+    ap (λ xs. codes "Opcode" ∷ xs)
+    (map-append second vs (bs ++ (rs ++ is)) ∙ ap (λ xs. types_in vs ++ xs) (map-append second bs (rs ++ is) ∙ ap (λ xs. types_in bs ++ xs) (map-append second rs is)))
 
 -- ---- an instruction of a format without a list of values
 
@@ -84,7 +85,8 @@ module _ (t : Tables) (s : AreSupported t) (plain : ArePlain t) (i : Instruction
   -- the types of its immediates are those of the format's fields
   imm_types_are : map short_name (imm_types i) ≡ types_in (map imm_field f.imm_fields)
   imm_types_are =
-      same_types (imm_types i) (map (λ (x : ImmField). x.rust_type) f.imm_fields) (fits.many_imms ∙ sym (length-map f.imm_fields (λ (x : ImmField). x.rust_type))) fits.imms
+      same_types (imm_types i) (map (λ (x : ImmField). x.rust_type) f.imm_fields)
+      (fits.many_imms ∙ sym (length-map f.imm_fields (λ (x : ImmField). x.rust_type))) fits.imms
       ∙ types_of_fields f.imm_fields
 
   -- ---- types of operands
@@ -238,7 +240,8 @@ module _ (t : Tables) (s : AreSupported t) (plain : ArePlain t) (i : Instruction
           inl data_variant,
           subst (λ ts. ArePatternsOf (E t) vars ts (patterns_of (term_over (opcode_term i) [] ∷ (vs ++ (bs ++ (rs ++ is)))))) (sym (field_types_are f)) (
             ([], inl opcode_variant, tt),
-            patterns_append (E t) vars _ _ vs (bs ++ (rs ++ is)) values_pattern (patterns_append (E t) vars _ _ bs (rs ++ is) blocks_pattern (patterns_append (E t) vars _ _ rs is raws_pattern imms_pattern)),
+            patterns_append (E t) vars _ _ vs (bs ++ (rs ++ is)) values_pattern
+                (patterns_append (E t) vars _ _ bs (rs ++ is) blocks_pattern (patterns_append (E t) vars _ _ rs is raws_pattern imms_pattern)),
           ),
         )
 
@@ -271,7 +274,8 @@ module _ (t : Tables) (s : AreSupported t) (plain : ArePlain t) (i : Instruction
           inl data_variant,
           subst (λ ts. AreExprsOf (E t) vars ts (exprs_of (call_on (opcode_term i) [] ∷ (vs ++ (bs ++ (rs ++ is)))))) (sym (field_types_are f)) (
             ([], inl opcode_variant, tt),
-            exprs_append (E t) vars _ _ vs (bs ++ (rs ++ is)) values_expr (exprs_append (E t) vars _ _ bs (rs ++ is) blocks_expr (exprs_append (E t) vars _ _ rs is raws_expr imms_expr)),
+            exprs_append (E t) vars _ _ vs (bs ++ (rs ++ is)) values_expr
+                (exprs_append (E t) vars _ _ bs (rs ++ is) blocks_expr (exprs_append (E t) vars _ _ rs is raws_expr imms_expr)),
           ),
         )
 
@@ -327,8 +331,11 @@ module _ (t : Tables) (s : AreSupported t) (plain : ArePlain t) (i : Instruction
       by class.Value e = values_in (in_counted (value_array (length (names_of is_value i))) (names_of is_value i) o.name (name_there is_value i o h (ap is_value e)))
       by class.Varargs e = absurd (no_varargs (ap is_varargs e))
       by class.Block e =
-          in_second vs (bs ++ (rs ++ is)) o.name (in_first bs (rs ++ is) o.name (in_counted (block_array (length (names_of is_block i))) (names_of is_block i) o.name (name_there is_block i o h (ap is_block e))))
+          in_second vs (bs ++ (rs ++ is)) o.name
+          (in_first bs (rs ++ is) o.name (in_counted (block_array (length (names_of is_block i))) (names_of is_block i) o.name (name_there is_block i o h (ap is_block e))))
       by class.RawBlock e =
-          in_second vs (bs ++ (rs ++ is)) o.name (in_second bs (rs ++ is) o.name (in_first rs is o.name (in_variables (names_of is_raw_block i) o.name (name_there is_raw_block i o h (ap is_raw_block e)))))
+          in_second vs (bs ++ (rs ++ is)) o.name
+          (in_second bs (rs ++ is) o.name (in_first rs is o.name (in_variables (names_of is_raw_block i) o.name (name_there is_raw_block i o h (ap is_raw_block e)))))
       by (class.Imm ty) e =
-          in_second vs (bs ++ (rs ++ is)) o.name (in_second bs (rs ++ is) o.name (in_second rs is o.name (in_variables (names_of is_imm i) o.name (name_there is_imm i o h (ap is_imm e)))))
+          in_second vs (bs ++ (rs ++ is)) o.name
+          (in_second bs (rs ++ is) o.name (in_second rs is o.name (in_variables (names_of is_imm i) o.name (name_there is_imm i o h (ap is_imm e)))))

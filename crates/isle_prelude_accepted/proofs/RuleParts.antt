@@ -64,7 +64,8 @@ first_tree : (scope : Scope) (name : List ℕ) (ty : Option TypeId) (k : TypeId)
     → variable_tree (first_met scope name ty) name ≡ Some (core_pattern.Var k (record { 0 = scope.next }))
 first_tree scope name ty k free e =
     let x : Local = record { name = name; ty = ty; number = scope.next } in
-    ap (λ (o : Option Local). option_map (λ (v : TypeId × VarId). core_pattern.Var v.0 v.1) (typed_local o)) (found_more scope.variables x name free ∙ ap (λ b. cond b (Some x) None) (own_bytes name))
+    ap (λ (o : Option Local). option_map (λ (v : TypeId × VarId). core_pattern.Var v.0 v.1) (typed_local o))
+    (found_more scope.variables x name free ∙ ap (λ b. cond b (Some x) None) (own_bytes name))
     ∙ ap (λ (o : Option TypeId). option_map (λ (v : TypeId × VarId). core_pattern.Var v.0 v.1) (option_map {U = TypeId × VarId} (λ (t : TypeId). (t, record { 0 = scope.next })) o)) e
 
 module _ (w : Whole) where
@@ -80,7 +81,8 @@ module _ (w : Whole) where
       let first = met_first scope p ty unbound in
       let later = λ (s : Scope). patterns_pass w (map (type_named w.defs) ts) s (seen_patterns (map variable_of ps)) in
       let rest =
-      variables_right (first_met scope p ty) ps ts (let e : suc (length ps) ≡ suc (length ts) = many in omega arith) apart.1 (still_free scope p ps ty apart free) known.1 in
+      variables_right (first_met scope p ty) ps ts (let e : suc (length ps) ≡ suc (length ts) = many in omega arith) apart.1
+      (still_free scope p ps ty apart free) known.1 in
       let own = core_pattern.Var k (record { 0 = scope.next }) in
       let made : variable_tree (met scope p ty) p ≡ Some own = ap (λ (s : Scope). variable_tree s p) first ∙ first_tree scope p ty k unbound known.0.1 in
       let behind : AreVariables (length ps) (later (met scope p ty)) = subst (λ s. AreVariables (length ps) (later s)) (sym first) rest in
@@ -159,7 +161,8 @@ module _ (defs : List Def) (h : AreSimple (all_erased defs)) where
       ap₂ (λ (z : Scope) (ty : Option TypeId). expr_pass w (of_patterns z) z.next ty rhs) after gives in
       record {
         left =
-            subst (λ ts. AreVariables (length s.params) (left_at ts)) (sym takes) (variables_right w no_variables s.params s.args s.many s.apart (λ n i. refl) c.1.args_known);
+            subst (λ ts. AreVariables (length s.params) (left_at ts)) (sym takes)
+            (variables_right w no_variables s.params s.args s.many s.apart (λ n i. refl) c.1.args_known);
         right = subst (IsRight w (expr_size rhs)) (sym form)
             (expr_right w (all_erased defs) (made_by_function defs h) (with_types s.params s.args) (of_patterns scope) locals scope.next s.ret rhs c.1.ret_known s.whole);
         number = c.1.number;

@@ -92,7 +92,8 @@ module _ (defs : List Def) (h : AreSimple (all_erased defs)) where
     simple_named printed files = names_are_lawful printed env (record {
       printed = files_printed printed files;
       declared =
-          subst (λ types. Rattle.isle_lawful_names.specs.LawfulNames.AreLawful (is_ruled env.rules) types) (sym s.types_are) (types_named defs h (is_ruled env.rules));
+          subst (λ types. Rattle.isle_lawful_names.specs.LawfulNames.AreLawful (is_ruled env.rules) types) (sym s.types_are)
+          (types_named defs h (is_ruled env.rules));
       fns = functions_named defs h env s.types_are s.terms_are;
       terms = term_named_well;
     })

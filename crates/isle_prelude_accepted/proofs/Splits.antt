@@ -27,7 +27,8 @@ pub none_in : (stage : Stage) (w : Whole) (before ds : List Def)
     → fault_after stage w before ds ≡ None
 none_in stage w before [] h = refl
 none_in stage w before (d ∷ ds) h =
-    none_later (λ (r : Row). (r, place_of d)) (broken_in stage (record { whole = w; before = before }) d) (fault_after stage w (before ++ d ∷ []) ds) (h before d ds refl)
+    none_later (λ (r : Row). (r, place_of d)) (broken_in stage (record { whole = w; before = before }) d) (fault_after stage w (before ++ d ∷ []) ds)
+    (h before d ds refl)
     (none_in stage w (before ++ d ∷ []) ds (λ bs x after e. h bs x after (sym (append_assoc before (d ∷ []) ds) ∙ e)))
 
 pub has_middle : {A : Type 0} (before : List A) (x : A) (after : List A) → Has (before ++ x ∷ after) x

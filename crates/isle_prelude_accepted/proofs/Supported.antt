@@ -191,7 +191,8 @@ instruction_sound formats before i h =
     let f = found_below formats i.format h.1.1.1.1.0 in
     let of = λ (P : InstructionFormat → Type 0) (k : IsSomeAnd (slice_get formats i.format) P → ⊥) (p : P f.0). k (subst (λ o. IsSomeAnd o P) (sym f.1) p) in
     let tests =
-    or_parts (is_among i.name (instruction.own_names before) || is_among i.camel_name (instruction.camel_names before)) (repeats (operand_names i)) (stable_false _ h.1.0) in
+    or_parts (is_among i.name (instruction.own_names before) || is_among i.camel_name (instruction.camel_names before)) (repeats (operand_names i))
+    (stable_false _ h.1.0) in
     let own = or_parts (is_among i.name (instruction.own_names before)) (is_among i.camel_name (instruction.camel_names before)) tests.0 in
     let names : (IsTermName i.name × IsIdentifier i.camel_name × AllByRecursion IsIdentifier (operand_names i) → ⊥) → ⊥ = h.0 in
     record {

@@ -140,7 +140,8 @@ shaped_all before [] h = tt
 shaped_all before (f ∷ fs) h =
     let more : all_fields (before ++ f ∷ []) ≡ all_fields before ++ f.imm_fields =
     flat_append (λ (x : InstructionFormat). x.imm_fields) before (f ∷ []) ∙ ap (λ xs. all_fields before ++ xs) (append-nil f.imm_fields) in
-    shaped_both (all_fields before) f.imm_fields (all_fields fs) (shaped_fields (all_fields before) f.imm_fields h.0.shaped) (subst (λ es. Shaped es (all_fields fs)) more (shaped_all (before ++ f ∷ []) fs h.1))
+    shaped_both (all_fields before) f.imm_fields (all_fields fs) (shaped_fields (all_fields before) f.imm_fields h.0.shaped)
+    (subst (λ es. Shaped es (all_fields fs)) more (shaped_all (before ++ f ∷ []) fs h.1))
 
 -- an earlier one and a later one are alike
 across : (earlier fields : List ImmField) → Shaped earlier fields → (i j : ImmField) → Has earlier i → Has fields j → Alike i j

@@ -103,7 +103,8 @@ module _ (defs : List Def) (h : AreSimple (all_erased defs)) where
 
   used_none : (d : Def) (x : ExtractorDef) → Has defs d → extractor_of d ≡ Some x → used_through (whole_of defs) x.term x.by ≡ []
   used_none (Extractor term params template at) x i e =
-      subst (λ (y : ExtractorDef). used_through (whole_of defs) y.term y.by ≡ []) (same_Some _ x e) (template_unused term params template (template_sound term params template at i))
+      subst (λ (y : ExtractorDef). used_through (whole_of defs) y.term y.by ≡ []) (same_Some _ x e)
+      (template_unused term params template (template_sound term params template at i))
   used_none (ExternExtractor term func infallible at) x i e = subst (λ (y : ExtractorDef). used_through (whole_of defs) y.term y.by ≡ []) (same_Some _ x e) refl
   used_none (TypeDecl name is_extern is_nodebug body at) x i e = absurd cc
   used_none (Decl term pure multi partial recursive args ret at) x i e = absurd cc
@@ -148,7 +149,8 @@ module _ (defs : List Def) (h : AreSimple (all_erased defs)) where
       none_broken (λ (r : Row). breaks r (record { whole = w; before = before }) d) (rows_of OfExtractors) (
         reaches_none term (term_named (terms defs) term),
         (
-          or_from (list_any is_unbound sites) _ (none is_unbound (λ x k. k.bound)) (or_from (list_any _ params) (list_any is_met_otherwise sites) (each_param template params s.used) (none is_met_otherwise (λ x k. k.met))),
+          or_from (list_any is_unbound sites) _ (none is_unbound (λ x k. k.bound))
+              (or_from (list_any _ params) (list_any is_met_otherwise sites) (each_param template params s.used) (none is_met_otherwise (λ x k. k.met))),
           (
             none (is_untaken w) (λ x k. k.taken),
             (
@@ -186,7 +188,8 @@ module _ (defs : List Def) (h : AreSimple (all_erased defs)) where
 
   has_its_tree : (d : Def) (x : ExtractorDef) → Has defs d → extractor_of d ≡ Some x → is_treed (whole_of defs) x.term x.by ≡ true
   has_its_tree (Extractor term params template at) x i e =
-      subst (λ (y : ExtractorDef). is_treed (whole_of defs) y.term y.by ≡ true) (same_Some _ x e) (template_fit term params template (template_sound term params template at i)).1.treed
+      subst (λ (y : ExtractorDef). is_treed (whole_of defs) y.term y.by ≡ true) (same_Some _ x e)
+      (template_fit term params template (template_sound term params template at i)).1.treed
   has_its_tree (ExternExtractor term func infallible at) x i e = subst (λ (y : ExtractorDef). is_treed (whole_of defs) y.term y.by ≡ true) (same_Some _ x e) refl
   has_its_tree (TypeDecl name is_extern is_nodebug body at) x i e = absurd cc
   has_its_tree (Decl term pure multi partial recursive args ret at) x i e = absurd cc

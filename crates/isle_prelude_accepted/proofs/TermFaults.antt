@@ -57,7 +57,8 @@ module _ (defs : List Def) (h : AreSimple (all_erased defs)) where
       let new : index_of (terms_of (signatures before)) term ≡ None =
       no_place_of (terms_of (signatures before)) term (new_among signature_of (λ (y : Signature). y.term) before d after x refl once) in
       let unmade : index_of (made_terms defs) term ≡ None =
-      no_place_of (made_terms defs) term (λ i. h.unmade term (subst (λ names. Has names term) (sym (made_same defs)) i) (subst (λ names. Has names term) (sym (declared_same defs)) own)) in
+      no_place_of (made_terms defs) term
+      (λ i. h.unmade term (subst (λ names. Has names term) (sym (made_same defs)) i) (subst (λ names. Has names term) (sym (declared_same defs)) own)) in
       let ret_known = known_type defs h ret s.1.gives in
       let types : (is_some (type_named defs ret) && list_all (λ (n : List ℕ). is_some (type_named defs n)) args) ≡ true =
       ap (λ o. is_some o && list_all (λ (n : List ℕ). is_some (type_named defs n)) args) ret_known.1 ∙ all_some defs args (known_types defs h args s.1.known) in
@@ -167,7 +168,8 @@ module _ (defs : List Def) (h : AreSimple (all_erased defs)) where
       let there = declaration_there defs h term false false false false s.2.args s.2.ret s.2.declared in
       let found = declared_found defs h (signature_at defs h term false false false false s.2.args s.2.ret there.0) there.1 in
       let free : func_named (externs defs) term ≡ None =
-      ap (option_map (λ (y : Extern). y.func)) (found_none (λ (y : Extern). y.term) (externs defs) term (λ i. s.2.free (subst (λ (xs : List Extern). Has (extern_terms xs) term) (sym (externs_same defs)) i))) in
+      ap (option_map (λ (y : Extern). y.func))
+      (found_none (λ (y : Extern). y.term) (externs defs) term (λ i. s.2.free (subst (λ (xs : List Extern). Has (extern_terms xs) term) (sym (externs_same defs)) i))) in
       all_rows before d (
         refl,
         (

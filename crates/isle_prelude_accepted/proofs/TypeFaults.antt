@@ -68,7 +68,8 @@ is_known_type defs name i = by (has_either builtin_names (declared_names defs) n
     by : Has builtin_names name ⊎ Has (declared_names defs) name → is_type defs name ≡ true
     by (inl k) = let r = place_found builtin_names name k in ap (λ o. is_some (option_map type_id o) || is_some (declared_as defs name)) r.1
     by (inr k) =
-        ap (λ b. is_some (builtin_named name) || b) (some_mapped (λ (t : DeclaredType). t.body) (find (λ (t : DeclaredType). bytes_eq t.name name) (types defs)) ∙ there_by_name (types defs) name k)
+        ap (λ b. is_some (builtin_named name) || b)
+        (some_mapped (λ (t : DeclaredType). t.body) (find (λ (t : DeclaredType). bytes_eq t.name name) (types defs)) ∙ there_by_name (types defs) name k)
         ∙ or_true (is_some (builtin_named name))
 
 none_missing : (defs : List Def) (names : List (List ℕ)) → AllByRecursion (Has (type_names defs)) names

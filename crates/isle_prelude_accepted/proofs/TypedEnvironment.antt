@@ -137,7 +137,8 @@ module _ (defs : List Def) (h : AreSimple (all_erased defs)) where
   type_there name x n body at i =
       let E = all_erased defs in
       let t : DeclaredType = record { name = name; body = body } in
-      known_type defs h name (has_back builtin_names (declared_names E) name (has_map (λ (y : DeclaredType). y.name) (types E) t (has_found type_of E _ t (has_map erased defs (TypeDecl name x n body at) i) refl)))
+      known_type defs h name
+      (has_back builtin_names (declared_names E) name (has_map (λ (y : DeclaredType). y.name) (types E) t (has_found type_of E _ t (has_map erased defs (TypeDecl name x n body at) i) refl)))
 
   variants_typed : (ty : List ℕ) (at : Pos) (i : ℕ) (vs : List AstVariant) → IsKnown defs ty → AllByRecursion (IsSoundVariant (all_erased defs)) vs
       → AllByRecursion (HasTypes defs) (variant_signatures ty at i vs)
@@ -149,7 +150,8 @@ module _ (defs : List Def) (h : AreSimple (all_erased defs)) where
   terms_typed (TypeDecl name x n (Enum vs) at ∷ ds) all =
       let i = all (TypeDecl name x n (Enum vs) at) (inl refl) in
       let s : IsSound (all_erased defs) (TypeDecl name x n (Enum vs) at) = sound_in defs h (TypeDecl name x n (Enum vs) at) i in
-      all_append (HasTypes defs) (variant_signatures name at 0 vs) (terms ds) (variants_typed name at 0 vs (type_there name x n (Enum vs) at i) s.1.0) (terms_typed ds (λ y j. all y (inr j)))
+      all_append (HasTypes defs) (variant_signatures name at 0 vs) (terms ds) (variants_typed name at 0 vs (type_there name x n (Enum vs) at i) s.1.0)
+      (terms_typed ds (λ y j. all y (inr j)))
   terms_typed (TypeDecl name x n (Primitive rust) at ∷ ds) all = terms_typed ds (λ y j. all y (inr j))
   terms_typed (TypeDecl name x n (Struct fields) at ∷ ds) all =
       absurd (let s : IsSound (all_erased defs) (TypeDecl name x n (Struct fields) at) = sound_in defs h (TypeDecl name x n (Struct fields) at) (all _ (inl refl)) in s.1)
