@@ -107,6 +107,7 @@ takers_same (Passed head at ∷ ds) = takers_same ds
 abbrev IsTaken : List Def → List ℕ → List ℕ → Type 0
 IsTaken defs term func = (x : ExtractorDef) × Has (extractors defs) x × (x.term ≡ term) × (function_of x.by ≡ Some func)
 
+-- an external constructor of the term, by this function
 abbrev IsMade : List Def → List ℕ → List ℕ → Type 0
 IsMade defs term func = (x : Extern) × Has (externs defs) x × (x.term ≡ term) × (x.func ≡ func)
 
@@ -190,6 +191,7 @@ module _ (defs : List Def) (h : AreSimple (all_erased defs)) where
 
   -- ---- each is an identifier, and a symbol
 
+  -- an identifier that is a symbol
   abbrev IsNamed : List ℕ → Type 0
   IsNamed func = IsIdentifier func × Has (symbols defs) func
 
@@ -232,6 +234,7 @@ module _ (defs : List Def) (h : AreSimple (all_erased defs)) where
     function_text : (func : List ℕ) → Has (symbols defs) func → sym_text env (sym_of (symbols defs) func) ≡ func
     function_text func i = ap (λ types. symbol_text types (sym_of (symbols defs) func)) types_are ∙ text_is defs func i
 
+    -- the symbol of each of these has it as its text
     abbrev AreTexts : List (List ℕ) → Type 0
     AreTexts names = (func : List ℕ) → Has names func → sym_text env (sym_of (symbols defs) func) ≡ func
 

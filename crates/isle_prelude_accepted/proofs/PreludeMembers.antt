@@ -61,9 +61,11 @@ module _ (t : Tables) where
   abbrev pub fields : List ImmField
   fields = all_fields t.formats
 
+  -- what comes of all instructions
   abbrev rows : List Def
   rows = flat_map (row_defs t) t.instructions
 
+  -- the types of blocks, opcodes and instructions' data
   abbrev kinds : List Def
   kinds = data_defs t.formats t.instructions
 

@@ -81,9 +81,11 @@ type_in d = map (λ (t : DeclaredType). t.name) (cons_option (type_of d) [])
 abbrev shared_names : List (List ℕ)
 shared_names = codes "Type" ∷ codes "Value" ∷ codes "Inst" ∷ codes "ValueList" ∷ codes "ValueSlice" ∷ codes "BlockCall" ∷ []
 
+-- the type of flags, which both files have
 abbrev flags_name : List (List ℕ)
 flags_name = codes "MemFlagsData" ∷ []
 
+-- the types of blocks, opcodes and instructions' data
 abbrev data_names : List (List ℕ)
 data_names = codes "Block" ∷ codes "Opcode" ∷ codes "InstructionData" ∷ []
 

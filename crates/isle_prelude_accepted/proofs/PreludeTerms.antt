@@ -179,6 +179,7 @@ declared_own i o = row_cases (λ ds. IsOwn i (flat_map declared_in ds)) i (tt, t
     by : (m : Manner) (f : InstructionFormat) → IsOwn i (flat_map declared_in (instruction_defs (Some m) f i))
     by m f = subst (λ names. IsOwn i (i.name ∷ names)) (sym (made m.maker m f)) (own_one i)
 
+-- the terms that are written by hand
 abbrev opt_names : List (List ℕ)
 opt_names = codes "make_inst" ∷ codes "make_skeleton_inst" ∷ codes "inst_data_value" ∷ codes "inst_data" ∷ []
 
@@ -212,6 +213,7 @@ module _ (t : Tables) (s : AreSupported t) where
 abbrev made_in : Def → List (List ℕ)
 made_in d = map (λ (x : Extern). x.term) (cons_option (extern_of d) [])
 
+-- those of them that make
 abbrev makers : List (List ℕ)
 makers = codes "make_inst" ∷ codes "make_skeleton_inst" ∷ []
 
@@ -277,6 +279,7 @@ module _ (t : Tables) (s : AreSupported t) where
 abbrev taken_in : Def → List (List ℕ)
 taken_in d = map (λ (x : ExtractorDef). x.term) (cons_option (extractor_of d) [])
 
+-- those of them that take apart
 abbrev takers : List (List ℕ)
 takers = codes "inst_data_value" ∷ codes "inst_data" ∷ []
 

@@ -230,6 +230,7 @@ module _ (t : Tables) (s : AreSupported t) (plain : ArePlain t) (i : Instruction
     imms_pattern : ArePatternsOf (E t) vars (types_in (map imm_field f.imm_fields)) (patterns_of (variables (names_of is_imm i)))
     imms_pattern = subst (λ ts. ArePatternsOf (E t) vars ts (patterns_of (variables (names_of is_imm i)))) imm_types_are (imms_fit (E t) vars i.operands_in typed)
 
+    -- its data, as a pattern over these variables
     pub data_fit : IsPatternOf (E t) vars (codes "InstructionData") (data_pattern f i)
     data_fit =
         let vs = value_patterns f.has_value_list i in
@@ -264,6 +265,7 @@ module _ (t : Tables) (s : AreSupported t) (plain : ArePlain t) (i : Instruction
     imms_expr : AreExprsOf (E t) vars (types_in (map imm_field f.imm_fields)) (exprs_of (variable_exprs (names_of is_imm i)))
     imms_expr = subst (λ ts. AreExprsOf (E t) vars ts (exprs_of (variable_exprs (names_of is_imm i)))) imm_types_are (imms_made (E t) vars i.operands_in typed)
 
+    -- and as an expression
     pub data_made : IsExprOf (E t) vars (codes "InstructionData") (data_expr f i)
     data_made =
         let vs = counted_expr (value_array_ctor (length (names_of is_value i))) (names_of is_value i) in

@@ -45,6 +45,7 @@ files_printed [] h = refl
 files_printed (name ∷ names) h = ap (λ b. b && list_all is_file_name names) h.0 ∙ files_printed names h.1
 
 module _ (defs : List Def) (h : AreSimple (all_erased defs)) where
+  -- a name of letters, digits and `_` that is a symbol
   abbrev IsHead : List ℕ → Type 0
   IsHead name = (is_term_name name ≡ true) × Has (symbols defs) name
 

@@ -241,6 +241,7 @@ instructions_sound formats before [] h = tt
 instructions_sound formats before (i ∷ is) h =
     (instruction_sound formats before i (h (OfInstruction formats before i) (inl refl)), instructions_sound formats (before ++ i ∷ []) is (λ row k. h row (inr k)))
 
+-- the rows of formats and of instructions are supported
 pub record AreSupported (t : Tables) : Type 0 where
   pub formats : AreSupportedFormats [] t.formats
   pub instructions : AreSupportedInstructions t.formats [] t.instructions

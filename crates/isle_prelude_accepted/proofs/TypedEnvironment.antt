@@ -61,6 +61,7 @@ pub record IsTermOf (w : Whole) (s : Signature) (t : Term) : Type 0 where
   pub ret : TypeId
   pub is : t ≡ term_from w s args ret
 
+-- each is that of its signature, in order
 abbrev pub AreTermsOf : Whole → List Signature → List Term → Type 0
 AreTermsOf w [] [] = Unit {0}
 AreTermsOf w (s ∷ ss) (t ∷ ts) = IsTermOf w s t × AreTermsOf w ss ts
