@@ -91,14 +91,8 @@ module _ (t : Tables) where
   imms : (d : Def) → Has (imm_defs fields) d → Has E d
   imms d i = common d (has_front (imm_defs fields) (arrays t.formats ++ kinds) d i)
 
-  enum_defs : List Def
-  enum_defs = map (imm_enum fields) (enum_types fields)
-
   pub in_plain : (name : List ℕ) → Has (plain_types fields) name → Has E (primitive name)
   in_plain name i = imms (primitive name) (has_front (map primitive (plain_types fields)) _ (primitive name) (has_map primitive (plain_types fields) name i))
-
-  pub in_flags : Has E (primitive (codes "MemFlagsData"))
-  in_flags = imms (primitive (codes "MemFlagsData")) (has_back (map primitive (plain_types fields)) _ (primitive (codes "MemFlagsData")) (inl refl))
 
   pub in_enums : (name : List ℕ) → Has (enum_types fields) name → Has E (imm_enum fields name)
   in_enums name i =
@@ -107,9 +101,6 @@ module _ (t : Tables) where
 
   behind : (d : Def) → Has (arrays t.formats ++ kinds) d → Has E d
   behind d i = common d (has_back (imm_defs fields) (arrays t.formats ++ kinds) d i)
-
-  values : List Def
-  values = flat_map value_array_defs (value_array_sizes t.formats)
 
   pub in_values : (n : ℕ) (d : Def) → Has (value_array_sizes t.formats) n → Has (value_array_defs n) d → Has E d
   in_values n d k i =

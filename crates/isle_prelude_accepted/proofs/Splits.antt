@@ -17,11 +17,7 @@ pub none_broken : (f : Row → Bool) (rows : List Row) → AllByRecursion (λ r.
 none_broken f [] h = refl
 none_broken f (r ∷ rows) h = ap (λ b. cond b (Some r) (first_broken f rows)) h.0 ∙ none_broken f rows h.1
 
--- wherever a definition stands, it breaks no row of a stage
-abbrev pub AreUnbroken : Stage → Whole → List Def → Type 0
-AreUnbroken stage w ds =
-    (before : List Def) (d : Def) (after : List Def) → ds ≡ before ++ d ∷ after → broken_in stage (record { whole = w; before = before }) d ≡ None
-
+-- no definition breaks a row of a stage, wherever it stands among the others
 pub none_in : (stage : Stage) (w : Whole) (before ds : List Def)
     → ((bs : List Def) (d : Def) (after : List Def) → before ++ ds ≡ bs ++ d ∷ after → broken_in stage (record { whole = w; before = bs }) d ≡ None)
     → fault_after stage w before ds ≡ None
