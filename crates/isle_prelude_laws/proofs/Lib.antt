@@ -1,0 +1,9 @@
+pub mod ReadNames
+pub mod Mirror
+pub mod NamedTrees
+pub mod Mirrored
+pub mod Apart
+pub mod Operands
+pub mod Laid
+pub mod LaidBack
+pub mod LaidApart
