@@ -2,6 +2,7 @@
 use Rattle.std.specs.Prelude.{◌≡◌, ℕ, ◌<◌, [], ◌∷◌, length, Bool, true, false, Some, Contains, slice_get}
 use Rattle.isle_base.specs.declared.ids.TermId.{TermId}
 use Rattle.isle_base.specs.declared.ids.TypeId.{TypeId}
+use Rattle.isle_base.specs.declared.ids.VariantId.{VariantId}
 use Rattle.isle_core.specs.declared.types.Term.{Term}
 use Rattle.isle_core.specs.ExprType.{Allowed, IsExprOf}
 use Rattle.isle_core.specs.Pattern.{Pattern}
@@ -15,7 +16,7 @@ use Rattle.isle_prelude.specs.InstructionParts.{right_side, template}
 use Rattle.isle_prelude.specs.Manners.{Manner, valued, skeleton}
 use Rattle.isle_prelude.specs.Operands.{names_of}
 use Rattle.isle_prelude_laws.specs.HonestMeaning.{Whole, ValuedInst, SkeletonInst, ValueArray, BlockArray, maker, taker}
-use Rattle.isle_prelude_laws.proofs.Apart.{IsNamedVariant}
+use Rattle.isle_prelude_laws.proofs.Apart.{MakesThis}
 use Rattle.isle_prelude_laws.proofs.Mirror.{IsPair}
 use Rattle.isle_prelude_laws.proofs.Mirrored.{IsVariantTerm}
 use Rattle.isle_prelude_laws.proofs.NamedTrees.{Numbers, ExprNamed, PatternNamed}
@@ -52,5 +53,7 @@ pub record IsLaid (env : Environment) (number : Numbers) (f : InstructionFormat)
   pub taken : PatternNamed number (parameters (manner_by is_valued) i) (template (manner_by is_valued) f i) pattern
   pub occurs : (ty : TypeId) (n : ℕ) → slice_get decl.arg_tys n ≡ Some ty → Contains {X = TypeId × ℕ} (typed_variables pattern) (ty, n)
   pub data_made : (d : TermId) → number (data_term f) ≡ Some d → IsVariantTerm env d
-  pub opcode_made : (o : TermId) → number (opcode_term i) ≡ Some o → IsNamedVariant env o i.camel_name
+  pub opcodes : TypeId
+  pub place : VariantId
+  pub opcode_made : (o : TermId) → number (opcode_term i) ≡ Some o → MakesThis env o opcodes place
   pub pair : (w : Whole) → HasWhole is_valued i w → (a b : TermId) → number (maker w) ≡ Some a → number (taker w) ≡ Some b → IsPair env a b w

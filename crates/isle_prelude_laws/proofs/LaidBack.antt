@@ -71,7 +71,7 @@ can_data env number f i is_valued term pattern params allowed vars laid =
     let with_blocks = can_counted env number params allowed vars (BlockArray (length blocks)) blocks more_es more_ps (λ many. laid.pair (BlockArray (length blocks)) (refl, many)) tail in
     let with_values = can_counted env number params allowed vars (ValueArray (length values)) values block_es block_ps (λ many. laid.pair (ValueArray (length values)) (refl, many)) with_blocks in
     let value_es = counted_expr (maker (ValueArray (length values))) values ++ block_es in
-    let opcode = can_make env number params allowed vars (opcode_term i) tree.NoExpr tree.NoPattern (λ o is. let k = laid.opcode_made o is in record { ty = k.ty; variant = k.variant; made = k.made }) (can_nothing env number params allowed vars) in
+    let opcode = can_make env number params allowed vars (opcode_term i) tree.NoExpr tree.NoPattern (λ o is. record { ty = laid.opcodes; variant = laid.place; made = laid.opcode_made o is }) (can_nothing env number params allowed vars) in
     let listed : Bool → List tree.Pattern = λ b. value_patterns b i ++ block_ps in
     let data_of : Bool → tree.Pattern = λ b. tree.Term (data_term f) (patterns_of (term_over (opcode_term i) [] ∷ listed b)) in
     subst (λ (b : Bool). CanMirror env number params allowed vars (data_expr f i) (data_of b)) (sym laid.listless)

@@ -7,3 +7,4 @@ pub mod Operands
 pub mod Laid
 pub mod LaidBack
 pub mod LaidApart
+pub mod PassedTrees
