@@ -8,3 +8,6 @@ pub mod Laid
 pub mod LaidBack
 pub mod LaidApart
 pub mod PassedTrees
+pub mod GivenTerms
+pub mod Unexpanded
+pub mod GivenTemplates
