@@ -11,3 +11,6 @@ pub mod PassedTrees
 pub mod GivenTerms
 pub mod Unexpanded
 pub mod GivenTemplates
+pub mod Renumbered
+pub mod GivenRules
+pub mod RuleParts

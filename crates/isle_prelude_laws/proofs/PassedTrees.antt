@@ -158,7 +158,7 @@ later_place j k first b (Some n) rest other go e =
     (r.0, ap (λ t. cond t (Some first) rest) other ∙ r.1, omega (arith, more, at))
 
 -- a parameter is found at its place
-listed_at_place : (params : List (List ℕ)) (types : List (Option TypeId)) (j k : ℕ) (name : List ℕ) → index_of params name ≡ Some k → IsFoundAt (found_in (listed j params types) name) (j + k)
+pub listed_at_place : (params : List (List ℕ)) (types : List (Option TypeId)) (j k : ℕ) (name : List ℕ) → index_of params name ≡ Some k → IsFoundAt (found_in (listed j params types) name) (j + k)
 listed_at_place [] types j k name h = absurd cc
 listed_at_place (param ∷ params) types j k name h = by (λ n e. listed_at_place params (later_expected types) (suc j) n name e) (bytes_eq param name) refl h
   where
@@ -177,14 +177,14 @@ typed_there params name k l o q is number found h = by l.ty (ap (λ x. option_ma
     by None e = absurd cc
     by (Some ty) e = (ty, record { 0 = l.number }, sym (some_same (pattern.Var ty (record { 0 = l.number })) q e), is ∙ ap Some (sym number))
 
-record TreesThere (first : Option Pattern) (rest : Option (List Pattern)) (qs : List Pattern) : Type 0 where
-  one : Pattern
-  others : List Pattern
-  one_is : first ≡ Some one
-  others_are : rest ≡ Some others
-  whole : qs ≡ one ∷ others
+pub record TreesThere (first : Option Pattern) (rest : Option (List Pattern)) (qs : List Pattern) : Type 0 where
+  pub one : Pattern
+  pub others : List Pattern
+  pub one_is : first ≡ Some one
+  pub others_are : rest ≡ Some others
+  pub whole : qs ≡ one ∷ others
 
-trees_there : (first : Option Pattern) (rest : Option (List Pattern)) (qs : List Pattern) → tree_before first rest ≡ Some qs → TreesThere first rest qs
+pub trees_there : (first : Option Pattern) (rest : Option (List Pattern)) (qs : List Pattern) → tree_before first rest ≡ Some qs → TreesThere first rest qs
 trees_there None rest qs h = absurd cc
 trees_there (Some p) None qs h = absurd cc
 trees_there (Some p) (Some ps) qs h = record { one = p; others = ps; one_is = refl; others_are = refl; whole = sym (some_same (p ∷ ps) qs h) }
