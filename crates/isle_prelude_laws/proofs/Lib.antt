@@ -14,3 +14,6 @@ pub mod GivenTemplates
 pub mod Renumbered
 pub mod GivenRules
 pub mod RuleParts
+pub mod SupportedRows
+pub mod SizesThere
+pub mod OptDefs
