@@ -17,3 +17,7 @@ pub mod RuleParts
 pub mod SupportedRows
 pub mod SizesThere
 pub mod OptDefs
+pub mod OptConverters
+pub mod InstructionTexts
+pub mod PartTerms
+pub mod LaidOut
