@@ -32,7 +32,7 @@ use Rattle.isle_prelude.specs.ClifFiles.{declaration, extractor, making_rule, in
 use Rattle.isle_prelude.specs.InstructionParts.{right_side, template}
 use Rattle.isle_prelude.specs.Manners.{Manner, optimized, opt_manner}
 use Rattle.isle_sema.specs.Typing.{Typed}
-use Rattle.isle_sema.specs.Templates.{templates}
+use Rattle.isle_sema.specs.Templates.{parameters as parameters_of, templates}
 use Rattle.isle_sema.proofs.Conversions.{term_alone}
 use Rattle.isle_sema.proofs.NamesApart.{place_is}
 use Rattle.isle_sema.proofs.ParameterScopes.{params_listed}
@@ -51,12 +51,13 @@ use Rattle.isle_prelude_laws.specs.HonestMeaning.{Whole, maker, taker}
 use Rattle.isle_prelude_laws.specs.RoundTrip.{opt_source, IsInstruction, extractor_pattern}
 use Rattle.isle_prelude_laws.proofs.Apart.{MakesThis}
 use Rattle.isle_prelude_laws.proofs.GivenRules.{IsOnlyRule, given_rule}
-use Rattle.isle_prelude_laws.proofs.GivenTemplates.{by_function, by_making, given_template, given_params}
+use Rattle.isle_prelude_laws.proofs.GivenTemplates.{AreParams, by_function, by_making, given_template, given_params}
 use Rattle.isle_prelude_laws.proofs.GivenTerms.{signatures_apart, names_apart, IsGivenTerm, given_term, given_number, given_name, makes_nothing, makes_variant}
 use Rattle.isle_prelude_laws.proofs.InstructionTexts.{HasNone, simple_right, over_template, plain_template}
 use Rattle.isle_prelude_laws.proofs.Laid.{manner_by, whole_by, HasWhole, IsLaid}
 use Rattle.isle_prelude_laws.proofs.Mirror.{IsPair}
 use Rattle.isle_prelude_laws.proofs.Mirrored.{IsVariantTerm}
+use Rattle.isle_prelude_laws.proofs.NamedTrees.{PatternNamed}
 use Rattle.isle_prelude_laws.proofs.OptConverters.{opt_converts}
 use Rattle.isle_prelude_laws.proofs.OptDefs.{term_there, extractor_there, rule_there, in_instruction, heads_apart, IsVariantOf, opcode_there, data_there}
 use Rattle.isle_prelude_laws.proofs.PartTerms.{HasPair, pairs}
@@ -164,3 +165,121 @@ pub record IsLaidOut (t : Tables) (env : Environment) (i : Instruction) (term : 
   pub laid : IsLaid env (numbers (whole_of (opt_source t))) format i is_valued term pattern
   pub place : slice_get t.instructions laid.place.0 ≡ Some i
   pub opcodes : type_named (opt_source t) (codes "Opcode") ≡ Some laid.opcodes
+
+module _ (t : Tables) (env : Environment) (i : Instruction) (f : InstructionFormat) (b : Bool) (term : TermId) (supported : IsFirstUnsupported (rows t) None) (typed : Typed (opt_source t) env) (h : IsTaken t i f b) (number : term_named (terms (opt_source t)) i.name ≡ Some term) where
+  abbrev own_params : List (List ℕ)
+  own_params = parameters (manner_by b) i
+
+  own_given : IsGivenTerm (opt_source t) env (own_signature (manner_by b) i) term
+  own_given = given_term (opt_source t) env (own_signature (manner_by b) i) term (given_in typed) (own_declared t i f b h) number
+
+  own_alone : termed (whole_of (opt_source t)) i.name ≡ Some (own_signature (manner_by b) i)
+  own_alone = term_alone (terms (opt_source t)) (own_signature (manner_by b) i) (names_apart (opt_source t) env (given_in typed)) (own_declared t i f b h)
+
+  -- the terms of its parts
+  pair_is : (w : Whole) → HasWhole b i w → (x y : TermId) → numbers (whole_of (opt_source t)) (maker w) ≡ Some x → numbers (whole_of (opt_source t)) (taker w) ≡ Some y → IsPair env x y w
+  pair_is w has x y is_x is_y =
+      let defs = opt_source t in
+      let g = given_in typed in
+      let p = pairs t supported i f h.among h.is h.listless b w has in
+      let kx = given_term defs env p.made.signature x g p.made.among (ap (term_named (terms defs)) p.made.named ∙ is_x) in
+      let ky = given_term defs env p.taken.signature y g p.taken.among (ap (term_named (terms defs)) p.taken.named ∙ is_y) in
+      record {
+        made = makes_nothing kx p.made.own;
+        taken = makes_nothing ky p.taken.own;
+        maker = given_name defs env p.made.signature x g kx ∙ p.made.named;
+        taker = given_name defs env p.taken.signature y g ky ∙ p.taken.named;
+      }
+
+  none_taken : (w : Whole) → HasWhole b i w → HasNone (numbers (whole_of (opt_source t))) (templates (whole_of (opt_source t))) (taker w)
+  none_taken w has a is =
+      let defs = opt_source t in
+      let g = given_in typed in
+      let p = pairs t supported i f h.among h.is h.listless b w has in
+      let k = given_term defs env p.taken.signature a g p.taken.among (ap (term_named (terms defs)) p.taken.named ∙ is) in
+      by_function defs env p.taken.signature a p.by.extractor p.by.func p.by.infallible g k p.by.among (p.by.named ∙ sym p.taken.named) p.by.by
+
+  -- its parameters
+  params_are : AreParams (own_signature (manner_by b) i) own_params
+  params_are = given_params (opt_source t) env (own_signature (manner_by b) i) (own_extractor (manner_by b) f i) (own_template (manner_by b) f i) (given_in typed) own_alone (own_extracted t i f b h) refl refl
+
+  types_are_own : arg_types (whole_of (opt_source t)) (termed (whole_of (opt_source t)) i.name) ≡ map Some own_given.decl.arg_tys
+  types_are_own = ap (arg_types (whole_of (opt_source t))) own_alone ∙ types_are (opt_source t) (parameter_types (manner_by b) i) own_given.decl.arg_tys own_given.args
+
+  params_many : length own_params ≡ length own_given.decl.arg_tys
+  params_many =
+      params_are.many ∙ sym (length-map (parameter_types (manner_by b) i) (type_named (opt_source t))) ∙ ap length (types_are (opt_source t) (parameter_types (manner_by b) i) own_given.decl.arg_tys own_given.args) ∙ length-map own_given.decl.arg_tys Some
+
+  -- its template
+  template_is : (q : Pattern) × (template_of (templates (whole_of (opt_source t))) term ≡ Some q) × PatternNamed (numbers (whole_of (opt_source t))) own_params (template (manner_by b) f i) q
+  template_is =
+      let defs = opt_source t in
+      let w = whole_of defs in
+      let own = own_template (manner_by b) f i in
+      let q = given_template defs env (own_signature (manner_by b) i) term (own_extractor (manner_by b) f i) own (given_in typed) own_given (own_extracted t i f b h) refl refl in
+      let types = arg_types w (termed w i.name) in
+      (q.0, q.2, pattern_named w (opt_converts t) own_params types (parameters_of w i.name own_params) (params_listed own_params types params_are.apart) (ret_type w (termed w i.name)) (template (manner_by b) f i) q.0 (over_template b f i h.listless) q.1)
+
+  -- its rule
+  rule_is : IsOnlyRule (whole_of (opt_source t)) (own_rule b f i) term env.rules
+  rule_is = given_rule (opt_source t) env term (own_rule b f i) (given_in typed) (heads_apart t (signatures_apart (opt_source t) env (given_in typed))) number (own_ruled t i f b h)
+
+  rule_parts : HasParts (whole_of (opt_source t)) own_params (own_rule b f i) rule_is.rule own_given.decl.arg_tys
+  rule_parts = given_parts (whole_of (opt_source t)) rule_is.number own_params (own_rule b f i) rule_is.rule own_given.decl.arg_tys (opt_converts t) rule_is.given refl refl (simple_right b f i) params_are.apart params_many types_are_own
+
+  rule_is_typed : IsExprOf env (in_right_side (may_be_nothing (kind_of own_given.decl.kind))) (rule_typed rule_is.rule) own_given.decl.ret_ty rule_is.rule.rhs
+  rule_is_typed =
+      let r = All-contains (IsTypedRule env) env.rules rule_is.rule (typed_rules (opt_source t) env typed) rule_is.among in
+      let m = rule_made (whole_of (opt_source t)) rule_is.number (own_rule b f i) rule_is.rule rule_is.given in
+      let root : rule_is.rule.root_term ≡ term = some_same rule_is.rule.root_term term (sym m.root ∙ number) in
+      let same : r.term ≡ own_given.decl = some_same r.term own_given.decl (sym r.root ∙ ap (λ (x : TermId). slice_get env.terms x.0) root ∙ own_given.there) in
+      subst (λ (d : Term). IsExprOf env (in_right_side (may_be_nothing (kind_of d.kind))) (rule_typed rule_is.rule) d.ret_ty rule_is.rule.rhs) same r.typed.rhs
+
+  -- all of it
+  lay_out : IsLaidOut t env i term
+  lay_out =
+      let defs = opt_source t in
+      let w = whole_of defs in
+      let g = given_in typed in
+      let lt = h.among.1 in
+      let at : slice_get t.instructions h.among.0 ≡ Some i = slice_get-get_or t.instructions h.among.0 i lt ∙ ap Some h.among.2 in
+      let op = opcode_there t h.among.0 i at in
+      let held = data_there t i.format f h.is in
+      let op_number = given_number defs env op.signature g op.among in
+      let op_made = variant_made g op op_number.0 (ap (term_named (terms defs)) (sym op.named) ∙ op_number.1) in
+      let q = template_is in
+      let plain = plain_template (numbers w) (templates w) b f i h.listless (λ a is. (variant_made g held a is).3) (λ a is. (variant_made g op a is).3) none_taken in
+      record {
+        format = f;
+        is_valued = b;
+        manner = h.manner;
+        pattern = q.0;
+        whole = whole_same (numbers w) own_params (templates w) term (template (manner_by b) f i) q.0 plain q.2 q.1;
+        laid = record {
+          listless = h.listless;
+          decl = own_given.decl;
+          there = own_given.there;
+          rule = rule_is.rule;
+          rules = rule_is.alone;
+          plain = rule_parts.plain;
+          right = rule_parts.rhs;
+          allowed = in_right_side (may_be_nothing (kind_of own_given.decl.kind));
+          typed = rule_is_typed;
+          taken = q.2;
+          occurs = (templates_typed defs env g term own_given.decl q.0 own_given.there q.1).occurs;
+          data_made = λ d is. let v = variant_made g held d is in record { ty = v.0; variant = record { 0 = i.format }; made = v.2 };
+          opcodes = op_made.0;
+          place = record { 0 = h.among.0 };
+          opcode_made = λ o is. let v = variant_made g op o is in subst (λ (ty : TypeId). MakesThis env o ty (record { 0 = h.among.0 })) (some_same v.0 op_made.0 (sym v.1 ∙ op_made.1)) v.2;
+          pair = pair_is;
+        };
+        place = at;
+        opcodes = op_made.1;
+      }
+
+-- each instruction is laid out
+pub laid_out : (t : Tables) (env : Environment) (i : Instruction) (term : TermId) → IsFirstUnsupported (rows t) None → Typed (opt_source t) env → IsInstruction t env i term → IsLaidOut t env i term
+laid_out t env i term supported typed h =
+    let m = valued_or i.value_results (i.can_trap || i.other_side_effects) in
+    let taken : IsTaken t i h.format m.0 = record { among = h.among; is = h.is; listless = h.listless; manner = m.1 } in
+    lay_out t env i h.format m.0 term supported typed taken (own_number t env i h.format m.0 term typed taken h.there h.named)

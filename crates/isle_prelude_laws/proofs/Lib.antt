@@ -21,3 +21,4 @@ pub mod OptConverters
 pub mod InstructionTexts
 pub mod PartTerms
 pub mod LaidOut
+pub mod RoundTripLaws
