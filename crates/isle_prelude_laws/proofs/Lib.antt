@@ -22,3 +22,5 @@ pub mod InstructionTexts
 pub mod PartTerms
 pub mod LaidOut
 pub mod RoundTripLaws
+pub mod Gives
+pub mod Plan
