@@ -24,3 +24,4 @@ pub mod LaidOut
 pub mod RoundTripLaws
 pub mod Gives
 pub mod Plan
+pub mod HonestExists

@@ -32,6 +32,14 @@ unequal a b h = by (b == a) refl
     by false e = refl
     by true e = let same : b ≡ a = eqb-true b a e in let bad : ⊥ = omega (arith, h, same) in absurd bad
 
+-- a number isn't one after it
+pub not_yet : (a b : ℕ) → a < b → a == b ≡ false
+not_yet a b lt = pick (a == b) refl
+  where
+    pick : (t : Bool) → a == b ≡ t → t ≡ false
+    pick false e = refl
+    pick true e = let same : a ≡ b = eqb-true a b e in let bad : ⊥ = omega (arith, lt, same) in absurd bad
+
 eqb_self : (x : ℕ) → x == x ≡ true
 eqb_self x = search rules
 
@@ -63,13 +71,6 @@ names_set env m choice i (ty ∷ tys) (v ∷ vs) before after none h =
       ap suc r.1,
     )
   where
-    not_yet : (a b : ℕ) → a < b → a == b ≡ false
-    not_yet a b lt = pick (a == b) refl
-      where
-        pick : (t : Bool) → a == b ≡ t → t ≡ false
-        pick false e = refl
-        pick true e = let same : a ≡ b = eqb-true a b e in let bad : ⊥ = omega (arith, lt, same) in absurd bad
-
     by : (i : ℕ) (v : Value) (vs : List Value) (before after : Names) → AreNames (suc i) vs (with before i v) after → (k : ℕ) → after (i + k) ≡ slice_get (v ∷ vs) k
     by i v vs before after r zero =
         let here : i + 0 ≡ i = omega arith in
