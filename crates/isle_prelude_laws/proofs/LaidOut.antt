@@ -21,7 +21,7 @@ use Rattle.isle_core.proofs.OptionLaws.{some_same}
 use Rattle.isle_ast.specs.Tree as tree
 use Rattle.isle_ast.specs.Tree.{Def}
 use Rattle.isle_declarations.specs.declared.terms.Origin.TheVariants as origin
-use Rattle.isle_declarations.specs.Signatures.{Signature, Template, ExtractorDef, ByTemplate, RuleDef, extractors, rule_defs, term_named}
+use Rattle.isle_declarations.specs.Signatures.{Signature, Template, ExtractorDef, ByFunction, ByTemplate, RuleDef, extractors, rule_defs, term_named}
 use Rattle.isle_declarations.specs.Symbols.{index_of}
 use Rattle.isle_declarations.specs.Terms.{terms}
 use Rattle.isle_meta.specs.Rows.{rows, IsFirstUnsupported}
@@ -60,7 +60,7 @@ use Rattle.isle_prelude_laws.proofs.Mirrored.{IsVariantTerm}
 use Rattle.isle_prelude_laws.proofs.NamedTrees.{PatternNamed}
 use Rattle.isle_prelude_laws.proofs.OptConverters.{opt_converts}
 use Rattle.isle_prelude_laws.proofs.OptDefs.{term_there, extractor_there, rule_there, in_instruction, heads_apart, IsVariantOf, opcode_there, data_there}
-use Rattle.isle_prelude_laws.proofs.PartTerms.{HasPair, pairs}
+use Rattle.isle_prelude_laws.proofs.PartTerms.{taker_func, taker_sure, HasPair, taker_extracts, pairs}
 use Rattle.isle_prelude_laws.proofs.PassedTrees.{numbers, pattern_named}
 use Rattle.isle_prelude_laws.proofs.RuleParts.{HasParts, given_parts}
 use Rattle.isle_prelude_laws.proofs.Unexpanded.{whole_same}
@@ -197,7 +197,7 @@ module _ (t : Tables) (env : Environment) (i : Instruction) (f : InstructionForm
       let g = given_in typed in
       let p = pairs t supported i f h.among h.is h.listless b w has in
       let k = given_term defs env p.taken.signature a g p.taken.among (ap (term_named (terms defs)) p.taken.named ∙ is) in
-      by_function defs env p.taken.signature a p.by.extractor p.by.func p.by.infallible g k p.by.among (p.by.named ∙ sym p.taken.named) p.by.by
+      by_function defs env p.taken.signature a (record { term = taker w; by = ByFunction (taker_func w) (taker_sure w); pos = no_place }) (taker_func w) (taker_sure w) g k (taker_extracts defs w p) (sym p.taken.named) refl
 
   -- its parameters
   params_are : AreParams (own_signature (manner_by b) i) own_params

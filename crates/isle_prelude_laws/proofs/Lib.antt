@@ -20,6 +20,7 @@ pub mod OptDefs
 pub mod OptConverters
 pub mod InstructionTexts
 pub mod PartTerms
+pub mod Callable
 pub mod LaidOut
 pub mod RoundTripLaws
 pub mod Gives

@@ -62,6 +62,9 @@ instructions_of t = flat_map (λ (i : Instruction). of_format opt_manner (slice_
 pub in_written : (t : Tables) (d : Def) → Contains (written_defs t) d → Contains (opt_source t) d
 in_written t d c = Contains-append_left (written_defs t) (opt_defs t) d c
 
+pub in_types : (t : Tables) (d : Def) → Contains shared_types d → Contains (opt_source t) d
+in_types t d c = in_written t d (Contains-append_left shared_types (opt_terms ++ flat_map ctor_defs (ctor_sizes t)) d c)
+
 pub in_terms : (t : Tables) (d : Def) → Contains opt_terms d → Contains (opt_source t) d
 in_terms t d c = in_written t d (Contains-append_right shared_types (opt_terms ++ flat_map ctor_defs (ctor_sizes t)) d (Contains-append_left opt_terms (flat_map ctor_defs (ctor_sizes t)) d c))
 

@@ -15,6 +15,8 @@ use Rattle.isle_core.proofs.Contained.{head_contained, tail_contained}
 use Rattle.isle_core.proofs.OptionLaws.{some_same}
 use Rattle.isle_ast.specs.Tree as tree
 use Rattle.isle_ast.specs.Tree.{Def}
+use Rattle.isle_ast.specs.declared.tree.AstBody.{AstBody}
+use Rattle.isle_ast.specs.declared.tree.AstBody.TheVariants as body
 use Rattle.isle_declarations.specs.declared.terms.Origin.TheVariants as origin
 use Rattle.isle_declarations.specs.Signatures.{Signature, ExtractorDef, ByFunction, ByTemplate, RuleDef, extractors, rule_defs, term_named}
 use Rattle.isle_declarations.specs.Terms.{terms}
@@ -27,7 +29,7 @@ use Rattle.isle_prelude.specs.Arrays.{value_array_sizes, block_array_sizes}
 use Rattle.isle_prelude.specs.ClifFiles.{declaration, extractor, making_rule, instruction_defs, opcode_term, data_term, parameters}
 use Rattle.isle_prelude.specs.InstructionParts.{right_side, template}
 use Rattle.isle_prelude.specs.Manners.{Manner, optimized, opt_manner}
-use Rattle.isle_prelude.specs.NumberedNames.{value_array, value_array_type, block_array, block_array_type, unpack}
+use Rattle.isle_prelude.specs.NumberedNames.{value_array, value_array_ctor, value_array_type, block_array, block_array_type, pack, unpack}
 use Rattle.isle_prelude.specs.Operands.{names_of}
 use Rattle.isle_writing.specs.Erased.{no_place}
 use Rattle.isle_sema.specs.Typing.{Typed}
@@ -44,44 +46,89 @@ use Rattle.isle_prelude_laws.proofs.GivenTemplates.{by_function, by_making}
 use Rattle.isle_prelude_laws.proofs.Laid.{manner_by, whole_by, HasWhole, IsLaid}
 use Rattle.isle_prelude_laws.proofs.Mirror.{IsPair}
 use Rattle.isle_prelude_laws.proofs.Mirrored.{IsVariantTerm}
-use Rattle.isle_prelude_laws.proofs.OptDefs.{term_there, extractor_there, rule_there, in_terms, in_ctors, in_values, in_blocks, in_instruction, IsVariantOf, opcode_there, data_there}
+use Rattle.isle_prelude_laws.proofs.OptDefs.{term_there, extractor_there, rule_there, in_types, in_terms, in_ctors, in_values, in_blocks, in_instruction, IsVariantOf, opcode_there, data_there}
 use Rattle.isle_prelude_laws.proofs.PassedTrees.{numbers}
 use Rattle.isle_prelude_laws.proofs.SizesThere.{values_there, ctors_there, blocks_there}
 use Rattle.isle_prelude_laws.proofs.SupportedRows.{values_counted, blocks_counted, has_typevar}
 
 -- ---- terms that are declared
 
--- a term of the name is declared
-pub record IsDeclaredAs (defs : List Def) (name : List ℕ) : Type 0 where
+-- a term of the name is declared with these flags
+pub record IsDeclaredAs (defs : List Def) (name : List ℕ) (pure multi : Bool) : Type 0 where
   pub signature : Signature
   pub among : Contains (terms defs) signature
   pub named : signature.term ≡ name
   pub own : signature.origin ≡ origin.Declared
+  pub is_pure : signature.pure ≡ pure
+  pub is_multi : signature.multi ≡ multi
+  pub is_partial : signature.partial ≡ false
 
--- a function takes apart what a term of the name makes
-pub record IsTakenBy (defs : List Def) (name : List ℕ) : Type 0 where
-  pub extractor : ExtractorDef
-  pub among : Contains (extractors defs) extractor
-  pub named : extractor.term ≡ name
-  pub func : List ℕ
-  pub infallible : Bool
-  pub by : extractor.by ≡ ByFunction func infallible
+-- a primitive type, or an extern enum
+abbrev pub IsOpaqueBody : (is_extern : Bool) → AstBody → Type 0
+IsOpaqueBody is_extern (body.Primitive rust) = Unit {0}
+IsOpaqueBody is_extern (body.Enum variants) = is_extern ≡ true
+IsOpaqueBody is_extern (body.Struct fields) = ⊥
 
--- the terms of an instruction's parts
+-- such a type of the name is declared
+pub record IsOpaqueType (defs : List Def) (name : List ℕ) : Type 0 where
+  pub is_extern : Bool
+  pub body : AstBody
+  pub among : Contains defs (tree.TypeDecl name is_extern false body no_place)
+  pub is_opaque : IsOpaqueBody is_extern body
+
+-- what the maker of a whole calls, and whether it is pure
+abbrev pub maker_func : Whole → List ℕ
+maker_func ValuedInst = codes "make_inst"
+maker_func SkeletonInst = codes "make_skeleton_inst"
+maker_func (ValueArray n) = value_array_ctor n
+maker_func (BlockArray n) = pack (block_array n)
+
+abbrev pub maker_pure : Whole → Bool
+maker_pure ValuedInst = false
+maker_pure SkeletonInst = false
+maker_pure (ValueArray n) = true
+maker_pure (BlockArray n) = false
+
+-- what its taker calls, the flags of its declaration, and whether it is infallible
+abbrev pub taker_func : Whole → List ℕ
+taker_func ValuedInst = codes "inst_data_value"
+taker_func SkeletonInst = codes "inst_data"
+taker_func (ValueArray n) = unpack (value_array n)
+taker_func (BlockArray n) = unpack (block_array n)
+
+abbrev pub taker_pure : Whole → Bool
+taker_pure ValuedInst = true
+taker_pure SkeletonInst = true
+taker_pure (ValueArray n) = false
+taker_pure (BlockArray n) = false
+
+abbrev pub taker_multi : Whole → Bool
+taker_multi ValuedInst = true
+taker_multi SkeletonInst = false
+taker_multi (ValueArray n) = false
+taker_multi (BlockArray n) = false
+
+abbrev pub taker_sure : Whole → Bool
+taker_sure ValuedInst = false
+taker_sure SkeletonInst = false
+taker_sure (ValueArray n) = true
+taker_sure (BlockArray n) = true
+
+-- the terms of an instruction's parts: their declarations, the functions that they call, and the type of the whole
 pub record HasPair (defs : List Def) (w : Whole) : Type 0 where
-  pub made : IsDeclaredAs defs (maker w)
-  pub taken : IsDeclaredAs defs (taker w)
-  pub by : IsTakenBy defs (taker w)
+  pub made : IsDeclaredAs defs (maker w) (maker_pure w) false
+  pub taken : IsDeclaredAs defs (taker w) (taker_pure w) (taker_multi w)
+  pub makes : Contains defs (tree.ExternConstructor (maker w) (maker_func w) no_place)
+  pub takes : Contains defs (tree.ExternExtractor (taker w) (taker_func w) (taker_sure w) no_place)
+  pub whole : IsOpaqueType defs made.signature.ret
 
-declared_as : (defs : List Def) (term : List ℕ) (pure multi : Bool) (args : List (List ℕ)) (ret : List ℕ) → Contains defs (tree.Decl term pure multi false false args ret no_place) → IsDeclaredAs defs term
+abbrev declared_as : (defs : List Def) (term : List ℕ) (pure multi : Bool) (args : List (List ℕ)) (ret : List ℕ) → Contains defs (tree.Decl term pure multi false false args ret no_place) → IsDeclaredAs defs term pure multi
 declared_as defs term pure multi args ret c =
     let s : Signature = record { term = term; pure = pure; multi = multi; partial = false; recursive = false; args = args; ret = ret; pos = no_place; origin = origin.Declared } in
-    record { signature = s; among = term_there defs (tree.Decl term pure multi false false args ret no_place) s c (head_contained s []); named = refl; own = refl }
+    record { signature = s; among = term_there defs (tree.Decl term pure multi false false args ret no_place) s c (head_contained s []); named = refl; own = refl; is_pure = refl; is_multi = refl; is_partial = refl }
 
-taken_as : (defs : List Def) (term func : List ℕ) (infallible : Bool) → Contains defs (tree.ExternExtractor term func infallible no_place) → IsTakenBy defs term
-taken_as defs term func infallible c =
-    let x : ExtractorDef = record { term = term; by = ByFunction func infallible; pos = no_place } in
-    record { extractor = x; among = extractor_there defs (tree.ExternExtractor term func infallible no_place) x c refl; named = refl; func = func; infallible = infallible; by = refl }
+pub taker_extracts : (defs : List Def) (w : Whole) → HasPair defs w → Contains (extractors defs) (record { term = taker w; by = ByFunction (taker_func w) (taker_sure w); pos = no_place })
+taker_extracts defs w p = extractor_there defs (tree.ExternExtractor (taker w) (taker_func w) (taker_sure w) no_place) _ p.takes refl
 
 -- what stands at a place is among all
 pub contained_at : {X : Type 0} (xs : List X) (i : ℕ) (x : X) → slice_get xs i ≡ Some x → Contains xs x
@@ -107,24 +154,32 @@ module _ (t : Tables) (supported : IsFirstUnsupported (rows t) None) (i : Instru
   pairs b ValuedInst h = record {
     made = declared_as (opt_source t) (maker ValuedInst) false false (codes "Type" ∷ codes "InstructionData" ∷ []) (codes "Value") (in_terms t _ (0, omega arith, refl));
     taken = declared_as (opt_source t) (taker ValuedInst) true true (codes "Type" ∷ codes "InstructionData" ∷ []) (codes "Value") (in_terms t _ (4, omega arith, refl));
-    by = taken_as (opt_source t) (taker ValuedInst) (taker ValuedInst) false (in_terms t _ (5, omega arith, refl));
+    makes = in_terms t _ (1, omega arith, refl);
+    takes = in_terms t _ (5, omega arith, refl);
+    whole = record { is_extern = false; body = body.Primitive (codes "Value"); among = in_types t _ (1, omega arith, refl); is_opaque = tt };
   }
   pairs b SkeletonInst h = record {
     made = declared_as (opt_source t) (maker SkeletonInst) false false (codes "InstructionData" ∷ []) (codes "Inst") (in_terms t _ (2, omega arith, refl));
     taken = declared_as (opt_source t) (taker SkeletonInst) true false (codes "InstructionData" ∷ []) (codes "Inst") (in_terms t _ (6, omega arith, refl));
-    by = taken_as (opt_source t) (taker SkeletonInst) (taker SkeletonInst) false (in_terms t _ (7, omega arith, refl));
+    makes = in_terms t _ (3, omega arith, refl);
+    takes = in_terms t _ (7, omega arith, refl);
+    whole = record { is_extern = false; body = body.Primitive (codes "Inst"); among = in_types t _ (2, omega arith, refl); is_opaque = tt };
   }
   pairs b (ValueArray n) h =
       let s = value_size_there n h.0 h.1 in
       record {
         made = declared_as (opt_source t) (maker (ValueArray n)) true false (replicate n (codes "Value")) (value_array_type n) (in_ctors t n _ (ctors_there t n s h.1) (0, omega arith, refl));
         taken = declared_as (opt_source t) (taker (ValueArray n)) false false (replicate n (codes "Value")) (value_array_type n) (in_values t n _ s (1, omega arith, refl));
-        by = taken_as (opt_source t) (taker (ValueArray n)) (unpack (value_array n)) true (in_values t n _ s (3, omega arith, refl));
+        makes = in_ctors t n _ (ctors_there t n s h.1) (1, omega arith, refl);
+        takes = in_values t n _ s (3, omega arith, refl);
+        whole = record { is_extern = true; body = body.Enum []; among = in_values t n _ s (0, omega arith, refl); is_opaque = refl };
       }
   pairs b (BlockArray n) h =
       let s = block_size_there n h.0 h.1 in
       record {
         made = declared_as (opt_source t) (maker (BlockArray n)) false false (replicate n (codes "BlockCall")) (block_array_type n) (in_blocks t n _ s (1, omega arith, refl));
         taken = declared_as (opt_source t) (taker (BlockArray n)) false false (replicate n (codes "BlockCall")) (block_array_type n) (in_blocks t n _ s (1, omega arith, refl));
-        by = taken_as (opt_source t) (taker (BlockArray n)) (unpack (block_array n)) true (in_blocks t n _ s (3, omega arith, refl));
+        makes = in_blocks t n _ s (2, omega arith, refl);
+        takes = in_blocks t n _ s (3, omega arith, refl);
+        whole = record { is_extern = true; body = body.Enum []; among = in_blocks t n _ s (0, omega arith, refl); is_opaque = refl };
       }
