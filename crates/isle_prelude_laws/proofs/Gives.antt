@@ -65,7 +65,7 @@ mutual
   gives_more more (a_made ty term es vs k all) = a_made ty term es vs k (all_more more all)
   gives_more more (a_call ty a es w vs k p all) = a_call ty a es w vs k (more w vs p) (all_more more all)
 
-  all_more : {env : Environment} {names : Names} {val : Values} {calls : Whole → Calling} {P Q : Allows} {es : Exprs} {vs : List Value} → ((w : Whole) (vs : List Value) → P w vs → Q w vs) → GivesAll env names val calls P es vs → GivesAll env names val calls Q es vs
+  pub all_more : {env : Environment} {names : Names} {val : Values} {calls : Whole → Calling} {P Q : Allows} {es : Exprs} {vs : List Value} → ((w : Whole) (vs : List Value) → P w vs → Q w vs) → GivesAll env names val calls P es vs → GivesAll env names val calls Q es vs
   all_more more gives_none = gives_none
   all_more more (gives_one e es v vs one rest) = gives_one e es v vs (gives_more more one) (all_more more rest)
 

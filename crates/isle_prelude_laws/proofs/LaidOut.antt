@@ -165,6 +165,7 @@ pub record IsLaidOut (t : Tables) (env : Environment) (i : Instruction) (term : 
   pub laid : IsLaid env (numbers (whole_of (opt_source t))) format i is_valued term pattern
   pub place : slice_get t.instructions laid.place.0 ≡ Some i
   pub opcodes : type_named (opt_source t) (codes "Opcode") ≡ Some laid.opcodes
+  pub many : length (parameters (manner_by is_valued) i) ≡ length laid.decl.arg_tys
 
 module _ (t : Tables) (env : Environment) (i : Instruction) (f : InstructionFormat) (b : Bool) (term : TermId) (supported : IsFirstUnsupported (rows t) None) (typed : Typed (opt_source t) env) (h : IsTaken t i f b) (number : term_named (terms (opt_source t)) i.name ≡ Some term) where
   abbrev own_params : List (List ℕ)
@@ -275,6 +276,7 @@ module _ (t : Tables) (env : Environment) (i : Instruction) (f : InstructionForm
         };
         place = at;
         opcodes = op_made.1;
+        many = params_many;
       }
 
 -- each instruction is laid out

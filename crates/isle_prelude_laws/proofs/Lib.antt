@@ -26,3 +26,5 @@ pub mod RoundTripLaws
 pub mod Gives
 pub mod Plan
 pub mod HonestExists
+pub mod CanGive
+pub mod PlanOut

@@ -55,7 +55,7 @@ form_there env term k tys fields (Some shape) is e long = record {
 }
 
 -- what typing says of a call of a made term
-makes_of : (env : Environment) (allowed : Allowed) (vars : List (TypeId × ℕ)) (ty : TypeId) (term : TermId) (es : Exprs) (k : IsVariantTerm env term) (o : Option Term) → slice_get env.terms term.0 ≡ o
+pub makes_of : (env : Environment) (allowed : Allowed) (vars : List (TypeId × ℕ)) (ty : TypeId) (term : TermId) (es : Exprs) (k : IsVariantTerm env term) (o : Option Term) → slice_get env.terms term.0 ≡ o
     → IsSomeAnd o (λ (c : Term). IsTermKind env allowed c c.kind × (c.ret_ty ≡ ty) × AreExprsOf env allowed vars c.arg_tys es) → MakesOf env term (count es)
 makes_of env allowed vars ty term es k None at h = absurd h
 makes_of env allowed vars ty term es k (Some c) at h =
@@ -63,7 +63,7 @@ makes_of env allowed vars ty term es k (Some c) at h =
     form_there env term k c.arg_tys (count es) (form env (MakesVariant k.ty k.variant)) refl (kind_formed env allowed c c.kind k.ty k.variant made h.0) (counted_exprs env allowed vars c.arg_tys es h.2)
 
 -- those of its arguments
-args_typed : (env : Environment) (allowed : Allowed) (vars : List (TypeId × ℕ)) (ty : TypeId) (es : Exprs) (o : Option Term) → IsSomeAnd o (λ (c : Term). IsTermKind env allowed c c.kind × (c.ret_ty ≡ ty) × AreExprsOf env allowed vars c.arg_tys es)
+pub args_typed : (env : Environment) (allowed : Allowed) (vars : List (TypeId × ℕ)) (ty : TypeId) (es : Exprs) (o : Option Term) → IsSomeAnd o (λ (c : Term). IsTermKind env allowed c c.kind × (c.ret_ty ≡ ty) × AreExprsOf env allowed vars c.arg_tys es)
     → (tys : List TypeId) × AreExprsOf env allowed vars tys es
 args_typed env allowed vars ty es None h = absurd h
 args_typed env allowed vars ty es (Some c) h = (c.arg_tys, h.2)

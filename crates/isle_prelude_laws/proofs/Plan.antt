@@ -1,5 +1,5 @@
 -- A meaning that answers each callee of an instruction by one answer, whatever the arguments.
-use Rattle.std.proofs.Common.{◌≡◌, ℕ, List, [], ◌∷◌, ◌++◌, Bool, true, false, cond, Option, Some, None, refl, sym, ap, ◌∙◌, subst, arith}
+use Rattle.std.proofs.Common.{◌≡◌, ℕ, ◌<◌, List, [], ◌∷◌, ◌++◌, Bool, true, false, cond, Option, Some, None, refl, sym, ap, ◌∙◌, subst, arith}
 use Rattle.std.specs.Prelude.{All, IsSomeAnd, find, codes, slice_index_or}
 use Rattle.std.specs.Str.{bytes_eq}
 use Rattle.std.proofs.lemmas.List.{append_cancel_right}
@@ -57,12 +57,12 @@ plan_value p SkeletonInst = p.own
 plan_value p (ValueArray n) = p.values
 plan_value p (BlockArray n) = p.blocks
 
--- what each whole of the plan is made of
+-- what each whole of the plan is made of; arrays are of several
 abbrev pub Planned : Plan → Allows
 Planned p ValuedInst vs = (p.is_valued ≡ true) × (vs ≡ p.own_parts)
 Planned p SkeletonInst vs = (p.is_valued ≡ false) × (vs ≡ p.own_parts)
-Planned p (ValueArray n) vs = (n ≡ p.value_count) × (vs ≡ p.value_parts)
-Planned p (BlockArray n) vs = (n ≡ p.block_count) × (vs ≡ p.block_parts)
+Planned p (ValueArray n) vs = (n ≡ p.value_count) × (vs ≡ p.value_parts) × (1 < n)
+Planned p (BlockArray n) vs = (n ≡ p.block_count) × (vs ≡ p.block_parts) × (1 < n)
 
 -- always this answer
 abbrev always_pure : List ℕ → Answer → PureAnswers
