@@ -27,4 +27,5 @@ pub mod Gives
 pub mod Plan
 pub mod HonestExists
 pub mod CanGive
+pub mod PartValues
 pub mod PlanOut

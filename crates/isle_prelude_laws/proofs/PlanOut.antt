@@ -1,130 +1,217 @@
 -- Each instruction of a supported table whose definitions are typed has a plan for all operands of its types.
-use Rattle.std.proofs.Common.{◌≡◌, ℕ, zero, suc, ◌+◌, ◌<◌, List, [], ◌∷◌, ◌++◌, length, map, Bool, true, false, cond, Option, Some, None, refl, sym, ap, ◌∙◌, subst, arith}
-use Rattle.std.specs.Prelude.{IsSomeAnd, option_and_then, slice_get}
-use Rattle.std.specs.Option.{option_map_or}
+use Rattle.std.proofs.Common.{◌≡◌, ℕ, zero, suc, ◌+◌, ◌<◌, List, [], ◌∷◌, ◌++◌, length, map, Bool, true, false, Option, Some, None, refl, sym, ap, ◌∙◌, subst, arith}
+use Rattle.std.specs.Prelude.{option_and_then, slice_get}
 use Rattle.isle_base.specs.declared.ids.TermId.{TermId}
 use Rattle.isle_base.specs.declared.ids.TypeId.{TypeId}
-use Rattle.isle_core.specs.declared.types.ReturnKind.TheVariants as return_kind
 use Rattle.isle_core.specs.declared.types.Term.{Term}
-use Rattle.isle_core.specs.declared.values.Callee.TheVariants.{External}
-use Rattle.isle_core.specs.Calling.{Calling, ByTurns, ByCases, kind_by, calling, extractor_kind, extracting}
 use Rattle.isle_core.specs.Expr as expr
 use Rattle.isle_core.specs.Expr.{Expr, Exprs}
 use Rattle.isle_core.specs.ExprType.{Allowed, IsExprOf}
 use Rattle.isle_core.specs.HasType.{HasType, HaveTypes}
 use Rattle.isle_core.specs.Match.{Names}
 use Rattle.isle_core.specs.Rule.{Environment}
-use Rattle.isle_core.specs.Terms.{sym_text, term_name}
 use Rattle.isle_core.specs.TypedVariables.{rule_typed}
-use Rattle.isle_core.specs.Value.{Value, Truth, Made}
-use Rattle.isle_core.proofs.OptionLaws.{some_same}
+use Rattle.isle_core.specs.Value.{Value, Truth}
 use Rattle.isle_ast.specs.Tree as tree
 use Rattle.isle_ast.specs.Views.{exprs_of}
-use Rattle.isle_declarations.specs.Signatures.{term_named}
 use Rattle.isle_declarations.specs.Symbols.{index_of}
-use Rattle.isle_declarations.specs.Terms.{terms}
 use Rattle.isle_declarations.proofs.SymbolLaws.{index_below}
 use Rattle.isle_meta.specs.InstructionRow.{is_value, is_block, is_raw_block}
 use Rattle.isle_meta.specs.Rows.{rows, IsFirstUnsupported}
 use Rattle.isle_meta.specs.declared.clif.Instruction.{Instruction}
 use Rattle.isle_meta.specs.declared.clif.InstructionFormat.{InstructionFormat}
 use Rattle.isle_meta.specs.declared.tables.Tables.{Tables}
-use Rattle.isle_prelude.specs.ClifFiles.{variable_exprs, call_on, counted_expr, data_term, opcode_term, data_expr, parameters}
+use Rattle.isle_prelude.specs.ClifFiles.{variable_exprs, call_on, counted_expr, data_term, opcode_term, data_expr, parameters, typed_first}
+use Rattle.isle_prelude.specs.InstructionParts.{right_side}
 use Rattle.isle_prelude.specs.Manners.{type_variable}
 use Rattle.isle_prelude.specs.Operands.{is_imm, names_of}
 use Rattle.isle_sema.specs.Typing.{Typed}
-use Rattle.isle_sema.proofs.TypedParts.{given_in}
 use Rattle.isle_sema.proofs.TypedTerms.{is_there}
-use Rattle.isle_terms.specs.TypeNames.{type_named}
 use Rattle.isle_terms.specs.Whole.{whole_of}
-use Rattle.isle_prelude_laws.specs.HonestMeaning.{Whole, ValuedInst, SkeletonInst, ValueArray, BlockArray, maker, taker}
+use Rattle.isle_prelude_laws.specs.HonestMeaning.{Whole, ValuedInst, SkeletonInst, ValueArray, BlockArray, maker}
 use Rattle.isle_prelude_laws.specs.RoundTrip.{opt_source, IsInstruction}
-use Rattle.isle_prelude_laws.proofs.Callable.{called_so, given_calling, given_extracting, opaque_value}
-use Rattle.isle_prelude_laws.proofs.CanGive.{CanGive, CanGiveAll, can_give_name, can_give_nothing, can_give_both, can_variables_give, only_variables_give, can_make_give, can_counted_give}
-use Rattle.isle_prelude_laws.proofs.GivenTerms.{given_term, given_number, given_name, makes_nothing}
-use Rattle.isle_prelude_laws.proofs.Gives.{Allows, Values, IsMaker, Gives, a_call, all_more}
+use Rattle.isle_prelude_laws.proofs.CanGive.{HasNames, CanGive, CanGiveAll, can_give_name, can_give_nothing, can_give_both, can_variables_give, only_variables_give, can_make_give, can_counted_give}
+use Rattle.isle_prelude_laws.proofs.Gives.{Allows, Values, IsMaker, Gives, a_call, GivesAll, all_more}
 use Rattle.isle_prelude_laws.proofs.HonestExists.{IsPlanFor}
 use Rattle.isle_prelude_laws.proofs.Laid.{manner_by, whole_by, HasWhole, IsLaid}
-use Rattle.isle_prelude_laws.proofs.LaidOut.{IsLaidOut, laid_out, one_term}
-use Rattle.isle_prelude_laws.proofs.PartTerms.{maker_func, maker_pure, taker_func, taker_multi, taker_sure, HasPair, pairs}
+use Rattle.isle_prelude_laws.proofs.LaidOut.{IsLaidOut, laid_out}
+use Rattle.isle_prelude_laws.proofs.Mirrored.{args_typed}
+use Rattle.isle_prelude_laws.proofs.NamedTrees.{Numbers, ExprsNamed}
+use Rattle.isle_prelude_laws.proofs.PartTerms.{HasPair, pairs}
+use Rattle.isle_prelude_laws.proofs.PartValues.{ValueOf, several, taker_called, whole_value, maker_is}
 use Rattle.isle_prelude_laws.proofs.PassedTrees.{numbers}
-use Rattle.isle_prelude_laws.proofs.Plan.{Plan, plan_value, Planned, maker_calling, taker_calling, taker_named}
+use Rattle.isle_prelude_laws.proofs.Plan.{Plan, plan_value, Planned, maker_calling}
 
--- ---- how the terms of parts are called
+-- ---- operands by their names
 
-makers_called : (w : Whole) → called_so (maker_pure w) (ByTurns (External (maker_func w)) return_kind.Plain) (ByCases (External (maker_func w)) return_kind.Plain) ≡ maker_calling w
-makers_called ValuedInst = refl
-makers_called SkeletonInst = refl
-makers_called (ValueArray n) = refl
-makers_called (BlockArray n) = refl
+value_or : Option Value → Value
+value_or None = Truth false
+value_or (Some v) = v
 
-takers_called : (w : Whole) → ByCases (External (taker_func w)) (extractor_kind (taker_multi w) (taker_sure w)) ≡ taker_calling w
-takers_called ValuedInst = refl
-takers_called SkeletonInst = refl
-takers_called (ValueArray n) = refl
-takers_called (BlockArray n) = refl
+-- the operand of a name
+operand_named : (params : List (List ℕ)) (operands : List Value) → List ℕ → Value
+operand_named params operands name = value_or (option_and_then (slice_get operands) (index_of params name))
 
--- a value of the whole's type, whatever term makes it
-abbrev ValueOf : Environment → (List ℕ → Option TermId) → Whole → Type 0
-ValueOf env number w = (v : Value) × ((a : TermId) (t : Term) → number (maker w) ≡ Some a → slice_get env.terms a.0 ≡ Some t → HasType env v t.ret_ty)
+names_held : (params : List (List ℕ)) (operands : List Value) (names : Names) → length operands ≡ length params → ((k : ℕ) → names k ≡ slice_get operands k) → (name : List ℕ) (k : ℕ) → index_of params name ≡ Some k → names k ≡ Some (operand_named params operands name)
+unfolding operand_named value_or
+names_held params operands names many are name k is =
+    let lt = index_below params name k is in
+    let at = is_there operands k (omega (arith, lt, many)) in
+    are k ∙ at.1 ∙ ap (λ o. Some (value_or o)) (sym at.1) ∙ ap (λ o. Some (value_or (option_and_then (slice_get operands) o))) (sym is)
 
--- a value for several, if there are several
-several : (Q : Value → Type 0) (n : ℕ) → (1 < n → (v : Value) × Q v) → (v : Value) × (1 < n → Q v)
-several Q zero f = (Truth false, λ h. absurd (omega (arith, h)))
-several Q (suc zero) f = (Truth false, λ h. absurd (omega (arith, h)))
-several Q (suc (suc n)) f = let r = f (omega arith) in (r.0, λ h. r.1)
+typed_many : (env : Environment) (vs : List Value) (tys : List TypeId) → HaveTypes env vs tys → length vs ≡ length tys
+typed_many env [] [] h = refl
+typed_many env (v ∷ vs) (ty ∷ tys) h = ap suc (typed_many env vs tys h.1)
+typed_many env [] (ty ∷ tys) h = absurd h
+typed_many env (v ∷ vs) [] h = absurd h
 
-module _ (t : Tables) (env : Environment) (i : Instruction) (f : InstructionFormat) (b : Bool) (supported : IsFirstUnsupported (rows t) None) (typed : Typed (opt_source t) env) (pair : (w : Whole) → HasWhole b i w → HasPair (opt_source t) w) where
-  maker_called : (w : Whole) → HasWhole b i w → (a : TermId) → numbers (whole_of (opt_source t)) (maker w) ≡ Some a → calling env a ≡ maker_calling w
-  maker_called w has a is =
-      let defs = opt_source t in
-      let g = given_in typed in
-      let p = pair w has in
-      let s = p.made.signature in
-      let k = given_term defs env s a g p.made.among (ap (term_named (terms defs)) p.made.named ∙ is) in
-      given_calling defs env s a (maker w) (maker_func w) g k p.made.own p.made.named p.makes
-      ∙ ap (λ x. called_so x (ByTurns (External (maker_func w)) (kind_by s.multi s.partial)) (ByCases (External (maker_func w)) (kind_by s.multi s.partial))) p.made.is_pure
-      ∙ ap (λ x. called_so (maker_pure w) (ByTurns (External (maker_func w)) (kind_by x s.partial)) (ByCases (External (maker_func w)) (kind_by x s.partial))) p.made.is_multi
-      ∙ ap (λ x. called_so (maker_pure w) (ByTurns (External (maker_func w)) (kind_by false x)) (ByCases (External (maker_func w)) (kind_by false x))) p.made.is_partial
-      ∙ makers_called w
+-- ---- arrays
 
-  taker_called : (w : Whole) → HasWhole b i w → (y : TermId) → term_name env y ≡ taker w → extracting env y ≡ taker_calling w
-  taker_called w has y named = by (slice_get env.terms y.0) refl
+-- the values of an instruction's parts
+record PartsPlan : Type 0 where
+  own : Value
+  values : Value
+  blocks : Value
+
+-- a plan with these parts
+abbrev plan_of : Bool → Instruction → (List ℕ → Value) → PartsPlan → List Value → Plan
+plan_of b i of_name v parts = record {
+  is_valued = b;
+  own = v.own;
+  own_parts = parts;
+  value_count = length (names_of is_value i);
+  values = v.values;
+  value_parts = map of_name (names_of is_value i);
+  block_count = length (names_of is_block i);
+  blocks = v.blocks;
+  block_parts = map of_name (names_of is_block i);
+}
+
+-- what arrays are made of, and nothing else
+abbrev Packed : Instruction → (List ℕ → Value) → Allows
+Packed i of_name ValuedInst vs = ⊥
+Packed i of_name SkeletonInst vs = ⊥
+Packed i of_name (ValueArray n) vs = (n ≡ length (names_of is_value i)) × (vs ≡ map of_name (names_of is_value i)) × (1 < n)
+Packed i of_name (BlockArray n) vs = (n ≡ length (names_of is_block i)) × (vs ≡ map of_name (names_of is_block i)) × (1 < n)
+
+packed_planned : (b : Bool) (i : Instruction) (of_name : List ℕ → Value) (v : PartsPlan) (parts : List Value) (w : Whole) (vs : List Value) → Packed i of_name w vs → Planned (plan_of b i of_name v parts) w vs
+packed_planned b i of_name v parts ValuedInst vs h = absurd h
+packed_planned b i of_name v parts SkeletonInst vs h = absurd h
+packed_planned b i of_name v parts (ValueArray n) vs h = h
+packed_planned b i of_name v parts (BlockArray n) vs h = h
+
+-- what is planned is made in the instruction's rule
+planned_whole : (b : Bool) (i : Instruction) (of_name : List ℕ → Value) (v : PartsPlan) (parts : List Value) (w : Whole) (vs : List Value) → Planned (plan_of b i of_name v parts) w vs → HasWhole b i w
+planned_whole b i of_name v parts ValuedInst vs h = h.0
+planned_whole b i of_name v parts SkeletonInst vs h = h.0
+planned_whole b i of_name v parts (ValueArray n) vs h = (h.0, h.2)
+planned_whole b i of_name v parts (BlockArray n) vs h = (h.0, h.2)
+
+own_whole : (b : Bool) (i : Instruction) → HasWhole b i (whole_by b)
+own_whole true i = refl
+own_whole false i = refl
+
+own_planned : (b : Bool) (i : Instruction) (of_name : List ℕ → Value) (v : PartsPlan) (parts : List Value) → Planned (plan_of b i of_name v parts) (whole_by b) parts
+own_planned true i of_name v parts = (refl, refl)
+own_planned false i of_name v parts = (refl, refl)
+
+own_value : (b : Bool) (i : Instruction) (of_name : List ℕ → Value) (v : PartsPlan) (parts : List Value) → plan_value (plan_of b i of_name v parts) (whole_by b) ≡ v.own
+own_value true i of_name v parts = refl
+own_value false i of_name v parts = refl
+
+-- ---- an instruction's data
+
+module _ (env : Environment) (number : Numbers) (f : InstructionFormat) (i : Instruction) (b : Bool) (term : TermId) (pattern : _) (laid : IsLaid env number f i b term pattern) (params : List (List ℕ)) (allowed : Allowed) (vars : List (TypeId × ℕ)) (of_name : List ℕ → Value) (val : Values)
+    (makes : (w : Whole) → HasWhole b i w → (a : TermId) → number (maker w) ≡ Some a → IsMaker env val (maker_calling w) a w) where
+  data_gives : CanGive env number params allowed vars of_name val maker_calling (Packed i of_name) (data_expr f i)
+  data_gives =
+      let raw = names_of is_raw_block i in
+      let imm = names_of is_imm i in
+      let values = names_of is_value i in
+      let blocks = names_of is_block i in
+      let P = Packed i of_name in
+      let more = variable_exprs raw ++ variable_exprs imm in
+      let tail = can_variables_give env number params allowed vars of_name val maker_calling P raw (variable_exprs imm) (only_variables_give env number params allowed vars of_name val maker_calling P imm) in
+      let block_es = counted_expr (maker (BlockArray (length blocks))) blocks ++ more in
+      let with_blocks = can_counted_give env number params allowed vars of_name val maker_calling P (BlockArray (length blocks)) blocks more (λ many. (makes (BlockArray (length blocks)) (refl, many), (refl, refl, many))) tail in
+      let with_values = can_counted_give env number params allowed vars of_name val maker_calling P (ValueArray (length values)) values block_es (λ many. (makes (ValueArray (length values)) (refl, many), (refl, refl, many))) with_blocks in
+      let value_es = counted_expr (maker (ValueArray (length values))) values ++ block_es in
+      let opcode = can_make_give env number params allowed vars of_name val maker_calling P (opcode_term i) tree.NoExpr (λ o is. record { ty = laid.opcodes; variant = laid.place; made = laid.opcode_made o is }) (can_give_nothing env number params allowed vars of_name val maker_calling P) in
+      can_make_give env number params allowed vars of_name val maker_calling P (data_term f) (exprs_of (call_on (opcode_term i) [] ∷ value_es)) laid.data_made
+      (can_give_both env number params allowed vars of_name val maker_calling P (call_on (opcode_term i) []) (exprs_of value_es) opcode with_values)
+
+  -- what the instruction is made of
+  args_give : CanGiveAll env number params allowed vars of_name val maker_calling (Packed i of_name) (exprs_of (typed_first (manner_by b).is_typed (tree.Name type_variable) (data_expr f i ∷ [])))
+  args_give = by b
     where
-      by : (o : Option Term) → slice_get env.terms y.0 ≡ o → extracting env y ≡ taker_calling w
-      by None at = absurd (taker_named w (sym named ∙ ap (λ o. option_map_or (λ (x : Term). sym_text env x.name) o []) at))
-      by (Some x) at =
-          let defs = opt_source t in
-          let g = given_in typed in
-          let p = pair w has in
-          let s = p.taken.signature in
-          let n = given_number defs env s g p.taken.among in
-          let k = given_term defs env s n.0 g p.taken.among n.1 in
-          let same = one_term defs env n.0 y k.decl x typed k.there at (given_name defs env s n.0 g k ∙ p.taken.named ∙ sym named) in
-          ap (extracting env) (sym same) ∙ given_extracting defs env s n.0 (taker w) (taker_func w) (taker_sure w) g k p.taken.own p.taken.named p.takes
-          ∙ ap (λ m. ByCases (External (taker_func w)) (extractor_kind m (taker_sure w))) p.taken.is_multi ∙ takers_called w
+      by : (c : Bool) → CanGiveAll env number params allowed vars of_name val maker_calling (Packed i of_name) (exprs_of (typed_first (manner_by c).is_typed (tree.Name type_variable) (data_expr f i ∷ [])))
+      by true =
+          can_give_both env number params allowed vars of_name val maker_calling (Packed i of_name) (tree.Name type_variable) (exprs_of (data_expr f i ∷ [])) (can_give_name env number params allowed vars of_name val maker_calling (Packed i of_name) type_variable)
+          (can_give_both env number params allowed vars of_name val maker_calling (Packed i of_name) (data_expr f i) tree.NoExpr data_gives (can_give_nothing env number params allowed vars of_name val maker_calling (Packed i of_name)))
+      by false = can_give_both env number params allowed vars of_name val maker_calling (Packed i of_name) (data_expr f i) tree.NoExpr data_gives (can_give_nothing env number params allowed vars of_name val maker_calling (Packed i of_name))
 
-  whole_value : (w : Whole) → HasWhole b i w → ValueOf env (numbers (whole_of (opt_source t))) w
-  whole_value w has =
-      let defs = opt_source t in
-      let g = given_in typed in
-      let p = pair w has in
-      let s = p.made.signature in
-      let n = given_number defs env s g p.made.among in
-      let k = given_term defs env s n.0 g p.made.among n.1 in
-      let v = opaque_value defs env s.ret k.decl.ret_ty g p.whole k.ret in
-      (v.0, λ a x is at.
-      let j = given_term defs env s a g p.made.among (ap (term_named (terms defs)) p.made.named ∙ is) in
-      let ty : k.decl.ret_ty ≡ j.decl.ret_ty = some_same k.decl.ret_ty j.decl.ret_ty (sym k.ret ∙ j.ret) in
-      let same : j.decl ≡ x = some_same j.decl x (sym j.there ∙ at) in
-      subst (HasType env v.0) (ty ∙ ap (λ (d : Term). d.ret_ty) same) v.1)
+-- ---- the plan
 
-  maker_is : (val : Values) (w : Whole) → HasWhole b i w → ((a : TermId) (x : Term) → numbers (whole_of (opt_source t)) (maker w) ≡ Some a → slice_get env.terms a.0 ≡ Some x → HasType env (val w) x.ret_ty) → (a : TermId) → numbers (whole_of (opt_source t)) (maker w) ≡ Some a
-      → IsMaker env val (maker_calling w) a w
-  maker_is val w has fits a is =
-      let defs = opt_source t in
-      let g = given_in typed in
-      let p = pair w has in
-      let s = p.made.signature in
-      let k = given_term defs env s a g p.made.among (ap (term_named (terms defs)) p.made.named ∙ is) in
-      record { made = makes_nothing k p.made.own; called = maker_called w has a is; named = given_name defs env s a g k ∙ p.made.named; decl = k.decl; there = k.there; typed = fits a k.decl is k.there }
+-- a value that all makers of a whole may give
+abbrev FitsMakers : Environment → Numbers → List ℕ → Value → Type 0
+FitsMakers env number name v = (a : TermId) (x : Term) → number name ≡ Some a → slice_get env.terms a.0 ≡ Some x → HasType env v x.ret_ty
+
+-- each value of the parts fits
+record PartsFit (env : Environment) (number : Numbers) (i : Instruction) (b : Bool) (v : PartsPlan) : Type 0 where
+  own : FitsMakers env number (maker (whole_by b)) v.own
+  values : 1 < length (names_of is_value i) → FitsMakers env number (maker (ValueArray (length (names_of is_value i)))) v.values
+  blocks : 1 < length (names_of is_block i) → FitsMakers env number (maker (BlockArray (length (names_of is_block i)))) v.blocks
+
+planned_fits : (env : Environment) (number : Numbers) (i : Instruction) (b : Bool) (v : PartsPlan) (of_name : List ℕ → Value) (parts : List Value) → PartsFit env number i b v → (w : Whole) → HasWhole b i w → FitsMakers env number (maker w) (plan_value (plan_of b i of_name v parts) w)
+planned_fits env number i b v of_name parts h ValuedInst has = subst (λ c. FitsMakers env number (maker (whole_by c)) v.own) has h.own
+planned_fits env number i b v of_name parts h SkeletonInst has = subst (λ c. FitsMakers env number (maker (whole_by c)) v.own) has h.own
+planned_fits env number i b v of_name parts h (ValueArray n) has =
+    subst (λ k. FitsMakers env number (maker (ValueArray k)) v.values) (sym has.0) (h.values (subst (λ k. 1 < k) has.0 has.1))
+planned_fits env number i b v of_name parts h (BlockArray n) has =
+    subst (λ k. FitsMakers env number (maker (BlockArray k)) v.blocks) (sym has.0) (h.blocks (subst (λ k. 1 < k) has.0 has.1))
+
+module _ (t : Tables) (env : Environment) (i : Instruction) (term : TermId) (supported : IsFirstUnsupported (rows t) None) (typed : Typed (opt_source t) env) (h : IsInstruction t env i term) (l : IsLaidOut t env i term) where
+  pair_there : (w : Whole) → HasWhole l.is_valued i w → HasPair (opt_source t) w
+  pair_there w has = pairs t supported i h.format h.among h.is h.listless l.is_valued w has
+
+  parts_planned : (v : PartsPlan) × PartsFit env (numbers (whole_of (opt_source t))) i l.is_valued v
+  parts_planned =
+      let number = numbers (whole_of (opt_source t)) in
+      let value = whole_value t env i l.format l.is_valued supported typed pair_there in
+      let own = value (whole_by l.is_valued) (own_whole l.is_valued i) in
+      let n = length (names_of is_value i) in
+      let k = length (names_of is_block i) in
+      let values = several (FitsMakers env number (maker (ValueArray n))) n (λ many. value (ValueArray n) (refl, many)) in
+      let blocks = several (FitsMakers env number (maker (BlockArray k))) k (λ many. value (BlockArray k) (refl, many)) in
+      (record { own = own.0; values = values.0; blocks = blocks.0 }, record { own = own.1; values = values.1; blocks = blocks.1 })
+
+  -- a plan for these operands
+  pub plan_out : (operands : List Value) → HaveTypes env operands l.laid.decl.arg_tys → (p : Plan) × IsPlanFor env term operands p
+  plan_out operands has_types =
+      let laid = l.laid in
+      let b = l.is_valued in
+      let number = numbers (whole_of (opt_source t)) in
+      let params = parameters (manner_by b) i in
+      let of_name = operand_named params operands in
+      let v = parts_planned in
+      let val = plan_value (plan_of b i of_name v.0 []) in
+      let makes = λ (w : Whole) (has : HasWhole b i w). maker_is t env i l.format b supported typed pair_there val w has (planned_fits env number i b v.0 of_name [] v.1 w has) in
+      let e = laid.right in
+      let shown : IsExprOf env laid.allowed (rule_typed laid.rule) laid.decl.ret_ty (expr.Term e.0 e.1 e.2) = subst (IsExprOf env laid.allowed (rule_typed laid.rule) laid.decl.ret_ty) e.3 laid.typed in
+      let args = args_typed env laid.allowed (rule_typed laid.rule) laid.decl.ret_ty e.2 (slice_get env.terms e.1.0) shown.1 in
+      let parts = args_give env number l.format i b term l.pattern laid params laid.allowed (rule_typed laid.rule) of_name val makes e.2 args.0 e.5 args.1 in
+      let p = plan_of b i of_name v.0 parts.0 in
+      let many = typed_many env operands laid.decl.arg_tys has_types in
+      (p, record {
+        rule = laid.rule;
+        rules = laid.rules;
+        tys = laid.decl.arg_tys;
+        plain = laid.plain;
+        many = many;
+        value = plan_value p (whole_by b);
+        gives = λ names are.
+            let held : HasNames env number params laid.allowed (rule_typed laid.rule) of_name val maker_calling (Packed i of_name) names = names_held params operands names (many ∙ sym l.many) are in
+            subst (λ (y : Expr). Gives env names (plan_value p) maker_calling (Planned p) y (plan_value p (whole_by b))) (sym e.3)
+            (a_call e.0 e.1 e.2 (whole_by b) parts.0 (makes (whole_by b) (own_whole b i) e.1 e.4) (own_planned b i of_name v.0 parts.0) (all_more (packed_planned b i of_name v.0 parts.0) (parts.1 names held)));
+        takes = λ w vs planned y named. taker_called t env i l.format b supported typed pair_there w (planned_whole b i of_name v.0 parts.0 w vs planned) y named;
+      })

@@ -3,6 +3,8 @@ use Rattle.std.proofs.Common.{◌≡◌, ℕ, List, Bool, true, false, Option, S
 use Rattle.std.specs.Prelude.{IsSomeAnd, slice_get}
 use Rattle.isle_base.specs.declared.ids.TermId.{TermId}
 use Rattle.isle_base.specs.declared.ids.VariantId.{VariantId}
+use Rattle.isle_core.specs.declared.types.Term.{Term}
+use Rattle.isle_core.specs.HasType.{HaveTypes}
 use Rattle.isle_core.specs.Meaning.{Meaning}
 use Rattle.isle_core.specs.Pattern.{Pattern}
 use Rattle.isle_core.specs.PatternType.{AreVariantsApart}
@@ -20,13 +22,16 @@ use Rattle.isle_sema.proofs.TypedParts.{given_in}
 use Rattle.isle_types.proofs.SoundTypes.{typed_names}
 use Rattle.isle_terms.specs.Whole.{whole_of}
 use Rattle.isle_prelude_laws.specs.HonestMeaning.{IsHonest}
-use Rattle.isle_prelude_laws.specs.RoundTrip.{opt_source, IsInstruction, result_type, IsMadeOf, BindsExactly, NeverMatches, IsReadBack, IsToldApart}
+use Rattle.isle_prelude_laws.specs.RoundTrip.{opt_source, IsInstruction, result_type, IsMadeOf, BindsExactly, NeverMatches, IsReadBack, IsToldApart, MayBeHonest}
+use Rattle.isle_prelude_laws.proofs.HonestExists.{plan_holds}
 use Rattle.isle_prelude_laws.proofs.Laid.{manner_by, IsLaid}
 use Rattle.isle_prelude_laws.proofs.LaidApart.{AreDifferent, laid_apart}
 use Rattle.isle_prelude_laws.proofs.LaidBack.{laid_back}
 use Rattle.isle_prelude_laws.proofs.LaidOut.{IsLaidOut, laid_out, one_term}
 use Rattle.isle_prelude_laws.proofs.NamedTrees.{Numbers}
 use Rattle.isle_prelude_laws.proofs.PassedTrees.{numbers}
+use Rattle.isle_prelude_laws.proofs.Plan.{planned}
+use Rattle.isle_prelude_laws.proofs.PlanOut.{plan_out}
 
 -- under an honest meaning the extractor of each instruction binds exactly the operands of which its constructor made the value
 pub instruction_read_back : (t : Tables) (env : Environment) (i : Instruction) (term : TermId) → IsFirstUnsupported (rows t) None → Typed (opt_source t) env → IsInstruction t env i term → IsReadBack t env term
@@ -65,3 +70,11 @@ instructions_told_apart t env i j term other supported typed h k same differ m o
     let variants = (typed_names (opt_source t) env g.types g.types_kept).variants in
     subst (λ (o : Option Pattern). IsSomeAnd o (NeverMatches env m v)) (sym two.whole)
     (laid_told env number one.format two.format i j one.is_valued two.is_valued term other one.pattern two.pattern valued one.laid two.laid (opcodes, places) variants m operands made v honest given)
+
+-- for all operands of its types a lawful honest meaning exists, under which its constructor makes a value
+pub instruction_may_be_honest : (t : Tables) (env : Environment) (i : Instruction) (term : TermId) → IsFirstUnsupported (rows t) None → Typed (opt_source t) env → IsInstruction t env i term → MayBeHonest env term
+instruction_may_be_honest t env i term supported typed h operands made has_types =
+    let l = laid_out t env i term supported typed h in
+    let own : HaveTypes env operands l.laid.decl.arg_tys = subst (λ (o : Option Term). IsSomeAnd o (λ (c : Term). HaveTypes env operands c.arg_tys)) l.laid.there has_types in
+    let p = plan_out t env i term supported typed h l operands own in
+    (planned p.0, plan_holds env term operands p.0 p.1 made)
