@@ -32,8 +32,10 @@ MakesThis env term ty variant = making env term ≡ MakesVariant ty variant
 -- at some place the second pattern asks for another variant than the first one
 mutual
   pub data Apart (env : Environment) : Pattern → Pattern → Type 0 where
-    other_made : (ty of made : TypeId) (a b : TermId) (ps qs : Patterns) (x y : VariantId) → MakesThis env a made x → MakesThis env b made y → (x ≡ y → ⊥) → Apart env (pattern.Term ty a ps) (pattern.Term of b qs)
-    made_within : (ty of : TypeId) (a b : TermId) (ps qs : Patterns) → IsVariantTerm env a → IsVariantTerm env b → SomeApart env ps qs → Apart env (pattern.Term ty a ps) (pattern.Term of b qs)
+    other_made : (ty of made : TypeId) (a b : TermId) (ps qs : Patterns) (x y : VariantId) → MakesThis env a made x → MakesThis env b made y
+        → (x ≡ y → ⊥) → Apart env (pattern.Term ty a ps) (pattern.Term of b qs)
+    made_within : (ty of : TypeId) (a b : TermId) (ps qs : Patterns) → IsVariantTerm env a → IsVariantTerm env b → SomeApart env ps qs
+        → Apart env (pattern.Term ty a ps) (pattern.Term of b qs)
     taken_within : (ty of : TypeId) (a : TermId) (ps qs : Patterns) → SomeApart env ps qs → Apart env (pattern.Term ty a ps) (pattern.Term of a qs)
 
   pub data SomeApart (env : Environment) : Patterns → Patterns → Type 0 where
@@ -43,7 +45,8 @@ mutual
 -- ---- variants
 
 -- what a variant's term takes apart
-taken_variant : (env : Environment) (m : Meaning) (term : TermId) (ty : TypeId) (variant : VariantId) (v : Value) (place : ℕ) → making env term ≡ MakesVariant ty variant
+taken_variant : (env : Environment) (m : Meaning) (term : TermId) (ty : TypeId) (variant : VariantId) (v : Value) (place : ℕ)
+    → making env term ≡ MakesVariant ty variant
     → taken_apart env m place (making env term) (extracting env term) v ≡ cond (is_made_by env (MakesVariant ty variant) v) (Some (parts v)) None
 taken_variant env m term ty variant v place h = ap (λ mk. taken_apart env m place mk (extracting env term) v) h
 
@@ -59,7 +62,8 @@ same_text : (a b : List ℕ) → bytes_eq a b ≡ true → a ≡ b
 same_text a b h = (bytes_eq-Decides a b).0 h
 
 -- two forms that one value is of have one name
-one_name : (env : Environment) (ty of : Sym) (x y : Option Sym) (v : Value) → is_named env ty x v ≡ true → is_named env of y v ≡ true → (sym_text env ty ≡ sym_text env of) × (option_map (sym_text env) x ≡ option_map (sym_text env) y)
+one_name : (env : Environment) (ty of : Sym) (x y : Option Sym) (v : Value) → is_named env ty x v ≡ true → is_named env of y v ≡ true
+    → (sym_text env ty ≡ sym_text env of) × (option_map (sym_text env) x ≡ option_map (sym_text env) y)
 one_name env ty of (Some x) (Some y) (Variant name label fs) h g =
     let s = both_true (bytes_eq name (sym_text env ty)) (bytes_eq label (sym_text env x)) h in
     let t = both_true (bytes_eq name (sym_text env of)) (bytes_eq label (sym_text env y)) g in
@@ -73,7 +77,8 @@ one_name env ty of x y (Truth b) h g = absurd cc
 one_name env ty of x y (Int name n) h g = absurd cc
 one_name env ty of x y (Opaque name n) h g = absurd cc
 
-forms_same : (env : Environment) (o q : Option Form) (v : Value) → is_of_form env o v ≡ true → is_of_form env q v ≡ true → (f : _) × (option_map (form_name env) o ≡ Some f) × (option_map (form_name env) q ≡ Some f)
+forms_same : (env : Environment) (o q : Option Form) (v : Value) → is_of_form env o v ≡ true → is_of_form env q v ≡ true
+    → (f : _) × (option_map (form_name env) o ≡ Some f) × (option_map (form_name env) q ≡ Some f)
 forms_same env None q v h g = absurd cc
 forms_same env (Some o) None v h g = absurd cc
 forms_same env (Some o) (Some q) v h g =
@@ -81,7 +86,8 @@ forms_same env (Some o) (Some q) v h g =
     (form_name env o, refl, ap Some (ap (λ (t : List ℕ). (t, option_map (sym_text env) q.variant)) (sym n.0) ∙ ap (λ (x : Option (List ℕ)). (sym_text env o.ty, x)) (sym n.1)))
 
 -- no value is of two variants of a type
-not_both : (env : Environment) (made : TypeId) (x y : VariantId) (v : Value) → AreVariantsApart env → (x ≡ y → ⊥) → is_made_by env (MakesVariant made x) v ≡ true → is_made_by env (MakesVariant made y) v ≡ true → ⊥
+not_both : (env : Environment) (made : TypeId) (x y : VariantId) (v : Value) → AreVariantsApart env → (x ≡ y → ⊥)
+    → is_made_by env (MakesVariant made x) v ≡ true → is_made_by env (MakesVariant made y) v ≡ true → ⊥
 not_both env made x y v variants apart h g =
     let f = forms_same env (form env (MakesVariant made x)) (form env (MakesVariant made y)) v h g in
     apart (variants made x y f.0 f.1 f.2)
@@ -94,7 +100,8 @@ none_then (Some a) f h = h a refl
 
 mutual
   -- whatever items are chosen and names are there
-  pub apart_none : {env : Environment} {m : Meaning} {all : Names} {p q : Pattern} {v : Value} → AreVariantsApart env → IsRead env m all p v → Apart env p q → (choice : Choice) (at : Path) (names : Names) → matches env m choice q at v names ≡ None
+  pub apart_none : {env : Environment} {m : Meaning} {all : Names} {p q : Pattern} {v : Value} → AreVariantsApart env → IsRead env m all p v
+      → Apart env p q → (choice : Choice) (at : Path) (names : Names) → matches env m choice q at v names ≡ None
   apart_none variants (at_variable ty x v is) apart choice at names = elim apart [ ]
   apart_none {env = env} {m = m} variants (at_term ty term ps v vs opens read) (other_made ty2 of made a b ps2 qs x y k j apart) choice at names =
       let here = if_there (is_made_by env (MakesVariant made x) v) (parts v) vs (sym (taken_variant env m term made x v 0 k) ∙ opens.first) in
@@ -110,7 +117,9 @@ mutual
       none_then (taken_apart env m (choice (Extracted term at)) (making env term) (extracting env term) v) (λ (ws : List Value). matches_parts env m choice (opening env term) qs 0 at ws names)
       (λ ws h. subst (λ (us : List Value). matches_parts env m choice (opening env term) qs 0 at us names ≡ None) (opens.only (choice (Extracted term at)) ws h) (some_none variants read inside choice (opening env term) 0 at names))
 
-  some_none : {env : Environment} {m : Meaning} {all : Names} {ps qs : Patterns} {vs : List Value} → AreVariantsApart env → AreRead env m all ps vs → SomeApart env ps qs → (choice : Choice) (o : Opening) (i : ℕ) (at : Path) (names : Names) → matches_parts env m choice o qs i at vs names ≡ None
+  some_none : {env : Environment} {m : Meaning} {all : Names} {ps qs : Patterns} {vs : List Value} → AreVariantsApart env → AreRead env m all ps vs
+      → SomeApart env ps qs → (choice : Choice) (o : Opening) (i : ℕ) (at : Path) (names : Names)
+      → matches_parts env m choice o qs i at vs names ≡ None
   some_none variants no_part apart choice o i at names = elim apart [ ]
   some_none {env = env} {m = m} variants (a_part p ps v vs one more) (first_apart p2 q ps2 qs apart) choice o i at names =
       ap (option_and_then (λ (mid : Names). matches_parts env m choice o qs (suc i) at vs mid)) (apart_none variants one apart choice (part_path o i at) names)

@@ -1,5 +1,5 @@
 -- How the external terms of typed definitions are called in their environment, and values of their opaque types.
-use Rattle.std.proofs.Common.{◌≡◌, ℕ, zero, suc, ◌+◌, ◌<◌, List, [], ◌∷◌, ◌++◌, length, map, Bool, true, false, cond, Option, Some, None, refl, sym, ap, ◌∙◌, subst, ⊎_elim, arith}
+use Rattle.std.proofs.Common.{◌≡◌, ℕ, suc, ◌+◌, List, [], ◌∷◌, ◌++◌, length, Bool, true, false, cond, Option, Some, None, refl, sym, ap, ◌∙◌, subst, ⊎_elim, arith}
 use Rattle.std.specs.Prelude.{Contains, IsSomeAnd, filter_map, find, is_some, option_map, pos, slice_get}
 use Rattle.std.specs.Int.{w128}
 use Rattle.std.specs.List.{AllByRecursion, IsDistinct, cons_option}
@@ -9,13 +9,11 @@ use Rattle.std.proofs.lemmas.Option.{slice_get-map}
 use Rattle.std.proofs.lemmas.Slice.Eq.{bytes_eq-Decides}
 use Rattle.isle_base.specs.declared.ids.TermId.{TermId}
 use Rattle.isle_base.specs.declared.ids.TypeId.{TypeId}
-use Rattle.isle_core.specs.declared.position.Pos.{Pos}
 use Rattle.isle_core.specs.declared.types.ConstructorKind.TheVariants as constructor
 use Rattle.isle_core.specs.declared.types.ExtractorKind.TheVariants as extractor
 use Rattle.isle_core.specs.declared.types.Term.{Term}
 use Rattle.isle_core.specs.declared.types.TermKind.{TermKind}
 use Rattle.isle_core.specs.declared.types.TermKind.TheVariants as kind
-use Rattle.isle_core.specs.declared.types.TypeDef.{TypeDef}
 use Rattle.isle_core.specs.declared.types.TypeEnv.{TypeEnv}
 use Rattle.isle_core.specs.declared.values.Callee.TheVariants.{External}
 use Rattle.isle_core.specs.Calling.{Calling, ByTurns, ByCases, kind_by, calling_of, calling, extractor_kind, extracting_of, extracting}
@@ -34,7 +32,7 @@ use Rattle.isle_declarations.specs.DeclaredTypes.{DeclaredType, type_of}
 use Rattle.isle_declarations.specs.Heads.{extern_terms}
 use Rattle.isle_declarations.specs.Names.{def_names}
 use Rattle.isle_declarations.specs.Signatures.{Signature, Extern, ExtractorDef, ByFunction, externs, extractors, rule_defs, extern_of, extractor_of, func_named, extractor_named, has_rule}
-use Rattle.isle_declarations.specs.Symbols.{index_of, sym_of, symbols}
+use Rattle.isle_declarations.specs.Symbols.{sym_of, symbols}
 use Rattle.isle_declarations.proofs.DeclaredNames.{text_of}
 use Rattle.isle_declarations.proofs.DistinctNames.{distinct_names}
 use Rattle.isle_sema.proofs.NamesApart.{types_apart, place_is}
@@ -55,7 +53,8 @@ use Rattle.isle_prelude_laws.proofs.SizesThere.{filter_there}
 
 -- ---- external constructors
 
-extern_apart : (name : List ℕ) (xs : List Extern) (x : Extern) → AllByRecursion (λ (n : List ℕ). bytes_eq name n ≡ false) (extern_terms xs) → Contains xs x → bytes_eq name x.term ≡ false
+extern_apart : (name : List ℕ) (xs : List Extern) (x : Extern) → AllByRecursion (λ (n : List ℕ). bytes_eq name n ≡ false) (extern_terms xs)
+    → Contains xs x → bytes_eq name x.term ≡ false
 extern_apart name [] x h c = absurd (none_contained x c)
 extern_apart name (y ∷ xs) x h c = ⊎_elim (λ (same : y ≡ x). subst (λ (z : Extern). bytes_eq name z.term ≡ false) same h.0) (λ there. extern_apart name xs x h.1 there) (contained_cases y xs x c)
 
@@ -69,11 +68,13 @@ extern_alone (y ∷ xs) x d c =
     (contained_cases y xs x c)
 
 -- the text of a function's symbol
-each_stands : (defs ds : List Def) (d : Def) → AllByRecursion (λ (x : Def). AllStand (symbols defs) (def_names x)) ds → Contains ds d → AllStand (symbols defs) (def_names d)
+each_stands : (defs ds : List Def) (d : Def) → AllByRecursion (λ (x : Def). AllStand (symbols defs) (def_names x)) ds → Contains ds d
+    → AllStand (symbols defs) (def_names d)
 each_stands defs [] d h c = absurd (none_contained d c)
 each_stands defs (x ∷ ds) d h c = ⊎_elim (λ (same : x ≡ d). subst (λ (y : Def). AllStand (symbols defs) (def_names y)) same h.0) (λ there. each_stands defs ds d h.1 there) (contained_cases x ds d c)
 
-text_is : (defs : List Def) (env : Environment) (name : List ℕ) → IsGivenIn defs env → Stands (symbols defs) name → sym_text env (sym_of (symbols defs) name) ≡ name
+text_is : (defs : List Def) (env : Environment) (name : List ℕ) → IsGivenIn defs env → Stands (symbols defs) name
+    → sym_text env (sym_of (symbols defs) name) ≡ name
 text_is defs env name g s = ap (λ (ts : TypeEnv). symbol_text ts (sym_of (symbols defs) name)) g.types ∙ text_of (symbols defs) name s.0 s.1
 
 -- a call by turns or by cases
@@ -82,7 +83,8 @@ called_so true turns cases = cases
 called_so false turns cases = turns
 
 -- how a term with an external constructor is called
-pub given_calling : (defs : List Def) (env : Environment) (s : Signature) (a : TermId) (name func : List ℕ) → IsGivenIn defs env → IsGivenTerm defs env s a → s.origin ≡ origin.Declared → s.term ≡ name → Contains defs (tree.ExternConstructor name func no_place)
+pub given_calling : (defs : List Def) (env : Environment) (s : Signature) (a : TermId) (name func : List ℕ) → IsGivenIn defs env
+    → IsGivenTerm defs env s a → s.origin ≡ origin.Declared → s.term ≡ name → Contains defs (tree.ExternConstructor name func no_place)
     → calling env a ≡ called_so s.pure (ByTurns (External func) (kind_by s.multi s.partial)) (ByCases (External func) (kind_by s.multi s.partial))
 given_calling defs env s a name func g k own named c =
     let w = whole_of defs in
@@ -110,7 +112,9 @@ given_calling defs env s a name func g k own named c =
     by false = refl
 
 -- how a term with an external extractor is called as one
-pub given_extracting : (defs : List Def) (env : Environment) (s : Signature) (a : TermId) (name func : List ℕ) (infallible : Bool) → IsGivenIn defs env → IsGivenTerm defs env s a → s.origin ≡ origin.Declared → s.term ≡ name → Contains defs (tree.ExternExtractor name func infallible no_place)
+pub given_extracting : (defs : List Def) (env : Environment) (s : Signature) (a : TermId) (name func : List ℕ) (infallible : Bool)
+    → IsGivenIn defs env → IsGivenTerm defs env s a → s.origin ≡ origin.Declared → s.term ≡ name
+    → Contains defs (tree.ExternExtractor name func infallible no_place)
     → extracting env a ≡ ByCases (External func) (extractor_kind s.multi infallible)
 given_extracting defs env s a name func infallible g k own named c =
     let w = whole_of defs in
@@ -144,13 +148,15 @@ record AtOnePlace {B C : Type 0} (bs : List B) (cs : List C) (b : B) (c : C) : T
   first : slice_get bs place ≡ Some b
   second : slice_get cs place ≡ Some c
 
-one_place_more : {B C : Type 0} (o : Option B) (q : Option C) (bs : List B) (cs : List C) (b : B) (c : C) → is_some o ≡ is_some q → AtOnePlace bs cs b c → AtOnePlace (cons_option o bs) (cons_option q cs) b c
+one_place_more : {B C : Type 0} (o : Option B) (q : Option C) (bs : List B) (cs : List C) (b : B) (c : C) → is_some o ≡ is_some q
+    → AtOnePlace bs cs b c → AtOnePlace (cons_option o bs) (cons_option q cs) b c
 one_place_more None None bs cs b c same h = h
 one_place_more (Some x) (Some y) bs cs b c same h = record { place = suc h.place; first = h.first; second = h.second }
 one_place_more None (Some y) bs cs b c same h = absurd cc
 one_place_more (Some x) None bs cs b c same h = absurd cc
 
-at_one_place : {A B C : Type 0} (f : A → Option B) (q : A → Option C) → ((d : A) → is_some (f d) ≡ is_some (q d)) → (ds : List A) (d : A) (b : B) (c : C) → Contains ds d → f d ≡ Some b → q d ≡ Some c → AtOnePlace (filter_map f ds) (filter_map q ds) b c
+at_one_place : {A B C : Type 0} (f : A → Option B) (q : A → Option C) → ((d : A) → is_some (f d) ≡ is_some (q d))
+    → (ds : List A) (d : A) (b : B) (c : C) → Contains ds d → f d ≡ Some b → q d ≡ Some c → AtOnePlace (filter_map f ds) (filter_map q ds) b c
 at_one_place f q same [] d b c among h k = absurd (none_contained d among)
 at_one_place f q same (e ∷ ds) d b c among h k =
     ⊎_elim
@@ -166,7 +172,9 @@ behind [] ys k = let at : 0 + k ≡ k = omega arith in ap (slice_get ys) at
 behind (x ∷ xs) ys k = let at : suc (length xs) + k ≡ suc (length xs + k) = omega arith in ap (slice_get (x ∷ xs ++ ys)) at ∙ behind xs ys k
 
 -- a type that is declared
-type_there : (defs : List Def) (env : Environment) (name : List ℕ) (is_extern : Bool) (b : AstBody) (ty : TypeId) → IsGivenIn defs env → Contains defs (tree.TypeDecl name is_extern false b no_place) → type_named defs name ≡ Some ty → slice_get env.types.types ty.0 ≡ Some (def_in defs name is_extern false b no_place)
+type_there : (defs : List Def) (env : Environment) (name : List ℕ) (is_extern : Bool) (b : AstBody) (ty : TypeId) → IsGivenIn defs env
+    → Contains defs (tree.TypeDecl name is_extern false b no_place) → type_named defs name ≡ Some ty
+    → slice_get env.types.types ty.0 ≡ Some (def_in defs name is_extern false b no_place)
 type_there defs env name is_extern b ty g c named =
     let d = tree.TypeDecl name is_extern false b no_place in
     let r = at_one_place type_of (type_def_in defs) (both_declare defs) defs d (record { name = name; body = b }) (def_in defs name is_extern false b no_place) c refl refl in
@@ -177,10 +185,12 @@ type_there defs env name is_extern b ty g c named =
     ap (λ (ts : TypeEnv). slice_get ts.types ty.0) g.types ∙ ap (λ (x : TypeId). slice_get (type_env_of defs).types x.0) (sym same) ∙ behind builtins (filter_map (type_def_in defs) defs) r.place ∙ r.second
 
 -- an opaque type has a value
-pub opaque_value : (defs : List Def) (env : Environment) (name : List ℕ) (ty : TypeId) → IsGivenIn defs env → IsOpaqueType defs name → type_named defs name ≡ Some ty → (v : Value) × HasType env v ty
+pub opaque_value : (defs : List Def) (env : Environment) (name : List ℕ) (ty : TypeId) → IsGivenIn defs env → IsOpaqueType defs name
+    → type_named defs name ≡ Some ty → (v : Value) × HasType env v ty
 opaque_value defs env name ty g o named = by o.is_extern o.body o.is_opaque (type_there defs env name o.is_extern o.body ty g o.among named)
   where
-    by : (is_extern : Bool) (b : AstBody) → IsOpaqueBody is_extern b → slice_get env.types.types ty.0 ≡ Some (def_in defs name is_extern false b no_place) → (v : Value) × HasType env v ty
+    by : (is_extern : Bool) (b : AstBody) → IsOpaqueBody is_extern b
+        → slice_get env.types.types ty.0 ≡ Some (def_in defs name is_extern false b no_place) → (v : Value) × HasType env v ty
     by is_extern (body.Primitive rust) free at =
         let v = Opaque (sym_text env (sym_of (symbols defs) rust)) (pos 0) in
         (v, subst (λ x. IsSomeAnd x (λ d. IsOfDef env d v)) (sym at) (refl, fits_signed_from_abs w128 (pos 0) (omega arith)))

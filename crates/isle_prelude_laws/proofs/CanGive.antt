@@ -1,9 +1,8 @@
 -- Texts of expressions whose trees give a value, each of their calls being planned.
-use Rattle.std.proofs.Common.{◌≡◌, ℕ, suc, ◌<◌, List, [], ◌∷◌, ◌++◌, length, map, Bool, true, false, Option, Some, None, refl, sym, ap, ◌∙◌, subst, arith}
-use Rattle.std.specs.Prelude.{IsSomeAnd, slice_get}
+use Rattle.std.proofs.Common.{◌≡◌, ℕ, ◌<◌, List, [], ◌∷◌, ◌++◌, length, map, Some, refl, sym, subst, arith}
+use Rattle.std.specs.Prelude.{slice_get}
 use Rattle.isle_base.specs.declared.ids.TermId.{TermId}
 use Rattle.isle_base.specs.declared.ids.TypeId.{TypeId}
-use Rattle.isle_base.specs.declared.ids.VarId.{VarId}
 use Rattle.isle_core.specs.Calling.{Calling}
 use Rattle.isle_core.specs.Expr as expr
 use Rattle.isle_core.specs.Expr.{Expr, Exprs, NoExpr, AnExpr}
@@ -69,7 +68,9 @@ module _ (env : Environment) (number : Numbers) (params : List (List ℕ)) (allo
   give_variables [] xs tys e typed all held = subst (λ (ys : Exprs). GivesAll env all val calls P ys []) (sym e) gives_none
   give_variables (name ∷ names) xs tys d typed all held = both tys (subst (AreExprsOf env allowed vars tys) d.2 typed) (λ ts h. give_variables names d.1 ts d.4 h all held)
     where
-      both : (tys : List TypeId) → AreExprsOf env allowed vars tys (AnExpr d.0 d.1) → ((ts : List TypeId) → AreExprsOf env allowed vars ts d.1 → GivesAll env all val calls P d.1 (map of_name names)) → GivesAll env all val calls P xs (of_name name ∷ map of_name names)
+      both : (tys : List TypeId) → AreExprsOf env allowed vars tys (AnExpr d.0 d.1)
+          → ((ts : List TypeId) → AreExprsOf env allowed vars ts d.1 → GivesAll env all val calls P d.1 (map of_name names))
+          → GivesAll env all val calls P xs (of_name name ∷ map of_name names)
       both [] h go = absurd h
       both (ty ∷ ts) h go = subst (λ (ys : Exprs). GivesAll env all val calls P ys (of_name name ∷ map of_name names)) (sym d.2) (gives_one d.0 d.1 (of_name name) (map of_name names) (give_name name d.0 d.3 all held) (go ts h.1))
 
@@ -82,7 +83,8 @@ module _ (env : Environment) (number : Numbers) (params : List (List ℕ)) (allo
   only_variables_give (name ∷ names) = can_give_both (tree.Name name) (exprs_of (variable_exprs names)) (can_give_name name) (only_variables_give names)
 
   -- a made term
-  pub can_make_give : (name : List ℕ) (es : tree.Exprs) → ((term : TermId) → number name ≡ Some term → IsVariantTerm env term) → CanGiveAll es → CanGive (tree.Call name es)
+  pub can_make_give : (name : List ℕ) (es : tree.Exprs) → ((term : TermId) → number name ≡ Some term → IsVariantTerm env term) → CanGiveAll es
+      → CanGive (tree.Call name es)
   can_make_give name es made inside x ty e typed =
       let shown : IsExprOf env allowed vars ty (expr.Term e.0 e.1 e.2) = subst (IsExprOf env allowed vars ty) e.3 typed in
       let args = args_typed env allowed vars ty e.2 (slice_get env.terms e.1.0) shown.1 in
@@ -92,17 +94,22 @@ module _ (env : Environment) (number : Numbers) (params : List (List ℕ)) (allo
       (v, λ names held. subst (λ (y : Expr). Gives env names val calls P y v) (sym e.3) (a_made e.0 e.1 e.2 parts.0 k (parts.1 names held)))
 
   -- a call on these values
-  pub give_call : (w : Whole) (es : tree.Exprs) (vs : List Value) → ((a : TermId) → number (maker w) ≡ Some a → IsMaker env val (calls w) a w) → P w vs → GiveThese es vs → (x : Expr) (ty : TypeId) → ExprNamed number params (tree.Call (maker w) es) x → IsExprOf env allowed vars ty x → GivesAlways x (val w)
+  pub give_call : (w : Whole) (es : tree.Exprs) (vs : List Value) → ((a : TermId) → number (maker w) ≡ Some a → IsMaker env val (calls w) a w)
+      → P w vs → GiveThese es vs → (x : Expr) (ty : TypeId) → ExprNamed number params (tree.Call (maker w) es) x → IsExprOf env allowed vars ty x
+      → GivesAlways x (val w)
   give_call w es vs makes planned inside x ty e typed names held =
       let shown : IsExprOf env allowed vars ty (expr.Term e.0 e.1 e.2) = subst (IsExprOf env allowed vars ty) e.3 typed in
       let args = args_typed env allowed vars ty e.2 (slice_get env.terms e.1.0) shown.1 in
       subst (λ (y : Expr). Gives env names val calls P y (val w)) (sym e.3) (a_call e.0 e.1 e.2 w vs (makes e.1 e.4) planned (inside e.2 args.0 e.5 args.1 names held))
 
-  pub can_call_give : (w : Whole) (es : tree.Exprs) (vs : List Value) → ((a : TermId) → number (maker w) ≡ Some a → IsMaker env val (calls w) a w) → P w vs → GiveThese es vs → CanGive (tree.Call (maker w) es)
+  pub can_call_give : (w : Whole) (es : tree.Exprs) (vs : List Value) → ((a : TermId) → number (maker w) ≡ Some a → IsMaker env val (calls w) a w)
+      → P w vs → GiveThese es vs → CanGive (tree.Call (maker w) es)
   can_call_give w es vs makes planned inside x ty e typed = (val w, give_call w es vs makes planned inside x ty e typed)
 
   -- values or blocks: nothing, one, or an array of them
-  pub can_counted_give : (w : Whole) (names : List (List ℕ)) (es : List tree.Expr) → (1 < length names → ((a : TermId) → number (maker w) ≡ Some a → IsMaker env val (calls w) a w) × P w (map of_name names)) → CanGiveAll (exprs_of es) → CanGiveAll (exprs_of (counted_expr (maker w) names ++ es))
+  pub can_counted_give : (w : Whole) (names : List (List ℕ)) (es : List tree.Expr)
+      → (1 < length names → ((a : TermId) → number (maker w) ≡ Some a → IsMaker env val (calls w) a w) × P w (map of_name names))
+      → CanGiveAll (exprs_of es) → CanGiveAll (exprs_of (counted_expr (maker w) names ++ es))
   can_counted_give w [] es makes more = more
   can_counted_give w (x ∷ []) es makes more = can_give_both (tree.Name x) (exprs_of es) (can_give_name x) more
   can_counted_give w (x ∷ y ∷ names) es makes more =

@@ -1,13 +1,11 @@
 -- What the terms of typed definitions are in their environment.
-use Rattle.std.proofs.Common.{◌≡◌, ℕ, List, [], ◌∷◌, ◌++◌, length, map, Option, Some, None, refl, sym, ap, ◌∙◌, subst}
-use Rattle.std.specs.Prelude.{Contains, slice_get, option_map, get_or}
+use Rattle.std.proofs.Common.{◌≡◌, ℕ, List, [], Some, sym, ap, ◌∙◌}
+use Rattle.std.specs.Prelude.{Contains, slice_get}
 use Rattle.std.specs.List.{IsDistinct}
 use Rattle.std.specs.Option.{option_map_or}
 use Rattle.std.specs.Str.{bytes_eq}
 use Rattle.std.proofs.lemmas.Option.{slice_get-get_or}
 use Rattle.isle_base.specs.declared.ids.TermId.{TermId}
-use Rattle.isle_base.specs.declared.ids.TypeId.{TypeId}
-use Rattle.isle_base.specs.declared.ids.VariantId.{VariantId}
 use Rattle.isle_core.specs.declared.types.Term.{Term}
 use Rattle.isle_core.specs.declared.types.TypeEnv.{TypeEnv}
 use Rattle.isle_core.specs.Making.{MakesVariant, MakesNothing, making_kind, making_of, making}
@@ -32,7 +30,6 @@ use Rattle.isle_terms.specs.TermPass.{types_named, term_from, kind_from}
 use Rattle.isle_terms.specs.TypeNames.{type_named}
 use Rattle.isle_terms.specs.Whole.{whole_of}
 use Rattle.isle_terms.proofs.MadeTerms.{term_made, term_is, all_at}
-use Rattle.isle_types.specs.TypeEnvironment.{type_env_of}
 
 -- the names of declared terms are apart
 pub signatures_apart : (defs : List Def) (env : Environment) → IsGivenIn defs env → IsDistinct bytes_eq (terms_of (signatures defs))
@@ -51,7 +48,8 @@ pub record IsGivenTerm (defs : List Def) (env : Environment) (s : Signature) (te
   pub ret : type_named defs s.ret ≡ Some decl.ret_ty
   pub is : term_from (whole_of defs) s decl.arg_tys decl.ret_ty ≡ decl
 
-pub given_term : (defs : List Def) (env : Environment) (s : Signature) (term : TermId) → IsGivenIn defs env → Contains (terms defs) s → term_named (terms defs) s.term ≡ Some term → IsGivenTerm defs env s term
+pub given_term : (defs : List Def) (env : Environment) (s : Signature) (term : TermId) → IsGivenIn defs env → Contains (terms defs) s
+    → term_named (terms defs) s.term ≡ Some term → IsGivenTerm defs env s term
 given_term defs env s term g c number =
     let w = whole_of defs in
     let alone = term_alone (terms defs) s (names_apart defs env g) c in
@@ -61,24 +59,28 @@ given_term defs env s term g c number =
     record { decl = t.term; there = t.there; at = at; args = is.args; ret = is.ret; is = is.is }
 
 -- the number of a signature
-pub given_number : (defs : List Def) (env : Environment) (s : Signature) → IsGivenIn defs env → Contains (terms defs) s → (term : TermId) × (term_named (terms defs) s.term ≡ Some term)
+pub given_number : (defs : List Def) (env : Environment) (s : Signature) → IsGivenIn defs env → Contains (terms defs) s
+    → (term : TermId) × (term_named (terms defs) s.term ≡ Some term)
 given_number defs env s g c =
     let lt = c.1 in
     (record { 0 = c.0 }, number_at defs env c.0 s g (slice_get-get_or (terms defs) c.0 s lt ∙ ap Some c.2))
 
 -- ---- what it makes
 
-pub makes_nothing : {defs : List Def} {env : Environment} {s : Signature} {term : TermId} → IsGivenTerm defs env s term → s.origin ≡ origin.Declared → making env term ≡ MakesNothing
+pub makes_nothing : {defs : List Def} {env : Environment} {s : Signature} {term : TermId} → IsGivenTerm defs env s term → s.origin ≡ origin.Declared
+    → making env term ≡ MakesNothing
 makes_nothing {defs = defs} {s = s} k declared =
     ap making_of k.there ∙ ap (λ (t : Term). making_kind t.kind) (sym k.is) ∙ ap (λ o. making_kind (kind_from (whole_of defs) s k.decl.ret_ty o)) declared
 
-pub makes_variant : {defs : List Def} {env : Environment} {s : Signature} {term : TermId} (n : ℕ) (k : IsGivenTerm defs env s term) → s.origin ≡ origin.Variant n → making env term ≡ MakesVariant k.decl.ret_ty (record { 0 = n })
+pub makes_variant : {defs : List Def} {env : Environment} {s : Signature} {term : TermId} (n : ℕ) (k : IsGivenTerm defs env s term)
+    → s.origin ≡ origin.Variant n → making env term ≡ MakesVariant k.decl.ret_ty (record { 0 = n })
 makes_variant {defs = defs} {s = s} n k variant =
     ap making_of k.there ∙ ap (λ (t : Term). making_kind t.kind) (sym k.is) ∙ ap (λ o. making_kind (kind_from (whole_of defs) s k.decl.ret_ty o)) variant
 
 -- ---- its name
 
-pub given_name : (defs : List Def) (env : Environment) (s : Signature) (term : TermId) → IsGivenIn defs env → IsGivenTerm defs env s term → term_name env term ≡ s.term
+pub given_name : (defs : List Def) (env : Environment) (s : Signature) (term : TermId) → IsGivenIn defs env → IsGivenTerm defs env s term
+    → term_name env term ≡ s.term
 given_name defs env s term g k =
     let among = all_at (λ (x : Signature). (n : ℕ) × (index_of (symbols defs) x.term ≡ Some n)) (terms defs) term.0 s (are_terms_among defs) k.at in
     ap (λ o. option_map_or (λ (t : Term). sym_text env t.name) o []) k.there
@@ -87,5 +89,6 @@ given_name defs env s term g k =
     ∙ text_of (symbols defs) s.term among.0 among.1
 
 -- two terms of one name are one
-pub same_term : (defs : List Def) (env : Environment) (a b : TermId) (name : List ℕ) → term_named (terms defs) name ≡ Some a → term_named (terms defs) name ≡ Some b → a ≡ b
+pub same_term : (defs : List Def) (env : Environment) (a b : TermId) (name : List ℕ) → term_named (terms defs) name ≡ Some a
+    → term_named (terms defs) name ≡ Some b → a ≡ b
 same_term defs env a b name h k = let e : Some a ≡ Some b = sym h ∙ k in cc

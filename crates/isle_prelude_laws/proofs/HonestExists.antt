@@ -1,38 +1,36 @@
 -- Under the meaning of a plan an instruction's constructor makes its value, lawfully and honestly.
-use Rattle.std.proofs.Common.{◌≡◌, ℕ, zero, suc, ◌+◌, ◌<◌, List, [], ◌∷◌, ◌++◌, length, Bool, true, false, cond, Option, Some, None, refl, sym, ap, ◌∙◌, subst, ⊎_elim, inl, arith}
+use Rattle.std.proofs.Common.{◌≡◌, ℕ, suc, ◌+◌, List, [], ◌∷◌, ◌++◌, length, false, cond, Option, Some, None, refl, sym, ap, ◌∙◌, subst, ⊎_elim, inl, arith}
 use Rattle.std.specs.Prelude.{◌==◌, Contains, IsSomeAnd, option_and_then, slice_get}
-use Rattle.std.specs.Option.{option_map_or}
 use Rattle.std.proofs.lemmas.List.{append-nil}
 use Rattle.isle_base.specs.declared.ids.TermId.{TermId}
 use Rattle.isle_base.specs.declared.ids.TypeId.{TypeId}
-use Rattle.isle_core.specs.declared.types.ReturnKind.TheVariants as return_kind
 use Rattle.isle_core.specs.declared.types.Term.{Term}
-use Rattle.isle_core.specs.Calling.{Calling, extracting}
+use Rattle.isle_core.specs.Calling.{extracting}
 use Rattle.isle_core.specs.CalledTerms.{Role, Constructor, CalledTerm, extracted_in, called_in_iflets, called_in, called_by, called}
 use Rattle.isle_core.specs.Choice.{Choice, first_items}
-use Rattle.isle_core.specs.Eval.{Answered, iflets_names}
-use Rattle.isle_core.specs.Having.{const_of}
+use Rattle.isle_core.specs.Eval.{iflets_names}
 use Rattle.isle_core.specs.Lawful.{CallingFits, result_types, called_as, RoleFits, CalledTermFits, IsLawful}
 use Rattle.isle_core.specs.Match.{Names, no_names, with, met, matches_all}
 use Rattle.isle_core.specs.Meaning.{Meaning}
 use Rattle.isle_core.specs.OccurringConstants.{TypedConstant, args_constants, iflets_constants, expr_constants, rule_constants, rules_constants}
-use Rattle.isle_core.specs.Outcome.{Value', rule_names, rule_value, IsHighest, prescription_of, Prescribed, one_rule}
-use Rattle.isle_core.specs.Pattern.{Pattern}
+use Rattle.isle_core.specs.Outcome.{rule_names, rule_value, IsHighest, prescription_of, one_rule}
 use Rattle.isle_core.specs.Rule.{Environment, Rule, rules_of}
-use Rattle.isle_core.specs.Terms.{sym_text, term_name}
+use Rattle.isle_core.specs.Terms.{term_name}
 use Rattle.isle_core.specs.Tests.{no_places, args_after, rule_places}
 use Rattle.isle_core.specs.Value.{Value, Made}
 use Rattle.isle_core.proofs.Contained.{head_contained, contained_cases, none_contained}
 use Rattle.isle_prelude_laws.specs.GivenCalls.{GivenCall, given_calls}
-use Rattle.isle_prelude_laws.specs.HonestMeaning.{Whole, maker, taker, gives_back, answer_to, IsTakenBack, IsHonest}
+use Rattle.isle_prelude_laws.specs.HonestMeaning.{Whole, taker, answer_to, IsTakenBack, IsHonest}
 use Rattle.isle_prelude_laws.specs.RoundTrip.{IsMadeOf, IsHonestlyMade}
-use Rattle.isle_prelude_laws.proofs.Gives.{IsMaker, Gives, IsAllowedCall, IsCalledMaker, ComesTo, comes_to, called_makers, no_constants}
+use Rattle.isle_prelude_laws.proofs.Gives.{Gives, IsAllowedCall, IsCalledMaker, ComesTo, comes_to, called_makers, no_constants}
 use Rattle.isle_prelude_laws.proofs.Operands.{variables_from, IsPlainRule, rule_operands, not_yet}
-use Rattle.isle_prelude_laws.proofs.Plan.{Plan, plan_value, Planned, maker_calling, taker_calling, planned, makers_answer, takers_answer, makers_fit, AreAlike, makers_alike}
+use Rattle.isle_prelude_laws.proofs.Plan.{Plan, plan_value, Planned, maker_calling, taker_calling, planned, makers_answer, takers_answer, makers_fit, makers_alike}
 
 -- ---- variables match as many values
 
-variables_match : (env : Environment) (m : Meaning) (choice : Choice) (i : ℕ) (tys : List TypeId) (vs : List Value) (before : Names) → length vs ≡ length tys → ((k : ℕ) → before (i + k) ≡ None) → (after : Names) × (matches_all env m choice (variables_from i tys) i vs before ≡ Some after)
+variables_match : (env : Environment) (m : Meaning) (choice : Choice) (i : ℕ) (tys : List TypeId) (vs : List Value) (before : Names)
+    → length vs ≡ length tys → ((k : ℕ) → before (i + k) ≡ None)
+    → (after : Names) × (matches_all env m choice (variables_from i tys) i vs before ≡ Some after)
 variables_match env m choice i [] [] before long none = (before, refl)
 variables_match env m choice i [] (v ∷ vs) before long none = absurd (omega (arith, long))
 variables_match env m choice i (ty ∷ tys) [] before long none = absurd (omega (arith, long))
@@ -118,7 +116,9 @@ module _ (env : Environment) (term : TermId) (operands : List Value) (p : Plan) 
       let calls = h.takes a.whole c.args a.allowed y (taken ∙ sym alike.taken) in
       ap (λ x. answer_to (planned p) x c.gave) calls ∙ ap (answer_to (planned p) (taker_calling a.whole)) a.gave ∙ takers_answer p a.whole c.args a.allowed ∙ ap Some (alike.back c.args)
 
-  comes : (names : Names) (made : List Made) → ((k : ℕ) → names k ≡ slice_get operands k) → ComesTo env (plan_value p) (Planned p) (rule_value env (planned p) h.rule names made) h.value (given_calls env (planned p) first_items h.rule.rhs names (rule_places env h.rule) 0 made)
+  comes : (names : Names) (made : List Made) → ((k : ℕ) → names k ≡ slice_get operands k)
+      → ComesTo env (plan_value p) (Planned p)
+      (rule_value env (planned p) h.rule names made) h.value (given_calls env (planned p) first_items h.rule.rhs names (rule_places env h.rule) 0 made)
   comes names made are = comes_to (h.gives names are) (planned p) (makers_answer p) first_items (rule_places env h.rule) 0 made
 
   plan_honest : (made : List Made) → IsHonest env (planned p) term operands made
@@ -133,10 +133,12 @@ module _ (env : Environment) (term : TermId) (operands : List Value) (p : Plan) 
 
   plan_matches : (names : Names) × (rule_names env (planned p) operands h.rule ≡ Some names)
   plan_matches =
-      let s = variables_match env (planned p) first_items 0 h.tys operands no_names h.many (λ k. refl) in
-      (s.0, ap (λ ps. option_and_then (iflets_names env (planned p) first_items h.rule.iflets (args_after env h.rule.args 0 no_places)) (matches_all env (planned p) first_items ps 0 operands no_names)) h.plain.args
-      ∙ ap (option_and_then (iflets_names env (planned p) first_items h.rule.iflets (args_after env h.rule.args 0 no_places))) s.1
-      ∙ ap (λ cs. iflets_names env (planned p) first_items cs (args_after env h.rule.args 0 no_places) s.0) h.plain.iflets)
+      let s = variables_match env (planned p) first_items 0 h.tys operands no_names h.many (λ k. refl) in (
+        s.0,
+        ap (λ ps. option_and_then (iflets_names env (planned p) first_items h.rule.iflets (args_after env h.rule.args 0 no_places)) (matches_all env (planned p) first_items ps 0 operands no_names)) h.plain.args
+            ∙ ap (option_and_then (iflets_names env (planned p) first_items h.rule.iflets (args_after env h.rule.args 0 no_places))) s.1
+            ∙ ap (λ cs. iflets_names env (planned p) first_items cs (args_after env h.rule.args 0 no_places) s.0) h.plain.iflets,
+      )
 
   plan_gives : (made : List Made) → IsMadeOf env (planned p) term operands made h.value
   plan_gives made =

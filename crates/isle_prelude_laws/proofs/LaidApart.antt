@@ -43,13 +43,15 @@ module _ (env : Environment) (number : Numbers) (params others : List (List ℕ)
       let apart : Apart env (pattern.Term p.0 p.1 p.2) (pattern.Term q.0 q.1 q.2) = subst (λ (t : TermId). Apart env (pattern.Term p.0 p.1 p.2) (pattern.Term q.0 t q.2)) same (taken_within p.0 q.0 p.1 p.2 q.2 (inside p.2 q.2 p.5 q.5)) in
       subst (λ (z : Pattern). Apart env x z) (sym q.3) (subst (λ (z : Pattern). Apart env z (pattern.Term q.0 q.1 q.2)) (sym p.3) apart)
 
-  variants_apart : (name other : List ℕ) (ps qs : tree.Patterns) → ((t : TermId) → number name ≡ Some t → IsVariantTerm env t) → ((t : TermId) → number other ≡ Some t → IsVariantTerm env t) → SomeAreApart ps qs
+  variants_apart : (name other : List ℕ) (ps qs : tree.Patterns) → ((t : TermId) → number name ≡ Some t → IsVariantTerm env t)
+      → ((t : TermId) → number other ≡ Some t → IsVariantTerm env t) → SomeAreApart ps qs
       → AreApart (tree.Term name ps) (tree.Term other qs)
   variants_apart name other ps qs k j inside x y p q =
       let apart : Apart env (pattern.Term p.0 p.1 p.2) (pattern.Term q.0 q.1 q.2) = made_within p.0 q.0 p.1 q.1 p.2 q.2 (k p.1 p.4) (j q.1 q.4) (inside p.2 q.2 p.5 q.5) in
       subst (λ (z : Pattern). Apart env x z) (sym q.3) (subst (λ (z : Pattern). Apart env z (pattern.Term q.0 q.1 q.2)) (sym p.3) apart)
 
-  opcodes_apart : (name other : List ℕ) (made : TypeId) (a b : VariantId) (ps qs : tree.Patterns) → ((t : TermId) → number name ≡ Some t → MakesThis env t made a) → ((t : TermId) → number other ≡ Some t → MakesThis env t made b) → (a ≡ b → ⊥)
+  opcodes_apart : (name other : List ℕ) (made : TypeId) (a b : VariantId) (ps qs : tree.Patterns)
+      → ((t : TermId) → number name ≡ Some t → MakesThis env t made a) → ((t : TermId) → number other ≡ Some t → MakesThis env t made b) → (a ≡ b → ⊥)
       → AreApart (tree.Term name ps) (tree.Term other qs)
   opcodes_apart name other made a b ps qs k j differ x y p q =
       let apart : Apart env (pattern.Term p.0 p.1 p.2) (pattern.Term q.0 q.1 q.2) = other_made p.0 q.0 made p.1 q.1 p.2 q.2 a b (k p.1 p.4) (j q.1 q.4) differ in
@@ -72,10 +74,12 @@ abbrev other_parts : InstructionFormat → Instruction → List tree.Pattern
 other_parts f i = value_patterns f.has_value_list i ++ (block_patterns i ++ (variables (names_of is_raw_block i) ++ variables (names_of is_imm i)))
 
 -- two instructions have different opcodes of one type
-abbrev pub AreDifferent : {env : Environment} {number : Numbers} {f g : InstructionFormat} {i j : Instruction} {a b : Bool} {term other : TermId} {p q : Pattern} → IsLaid env number f i a term p → IsLaid env number g j b other q → Type 0
+abbrev pub AreDifferent : {env : Environment} {number : Numbers} {f g : InstructionFormat} {i j : Instruction} {a b : Bool} {term other : TermId} {p q : Pattern}
+    → IsLaid env number f i a term p → IsLaid env number g j b other q → Type 0
 AreDifferent one two = (two.opcodes ≡ one.opcodes) × (one.place ≡ two.place → ⊥)
 
-data_apart : (env : Environment) (number : Numbers) (params others : List (List ℕ)) (f g : InstructionFormat) (i j : Instruction) (a b : Bool) (term other : TermId) (p q : Pattern) (one : IsLaid env number f i a term p) (two : IsLaid env number g j b other q)
+data_apart : (env : Environment) (number : Numbers) (params others : List (List ℕ)) (f g : InstructionFormat) (i j : Instruction) (a b : Bool)
+    (term other : TermId) (p q : Pattern) (one : IsLaid env number f i a term p) (two : IsLaid env number g j b other q)
     → AreDifferent one two → AreApart env number params others (data_pattern f i) (data_pattern g j)
 data_apart env number params others f g i j a b term other p q one two differ =
     variants_apart env number params others (data_term f) (data_term g) (patterns_of (term_over (opcode_term i) [] ∷ other_parts f i)) (patterns_of (term_over (opcode_term j) [] ∷ other_parts g j)) one.data_made two.data_made
@@ -83,7 +87,9 @@ data_apart env number params others f g i j a b term other p q one two differ =
     (opcodes_apart env number params others (opcode_term i) (opcode_term j) one.opcodes one.place two.place tree.NoPattern tree.NoPattern one.opcode_made
     (λ t is. subst (λ (ty : TypeId). MakesThis env t ty two.place) differ.0 (two.opcode_made t is)) differ.1))
 
-extractors_apart : (env : Environment) (number : Numbers) (params others : List (List ℕ)) (f g : InstructionFormat) (i j : Instruction) (is_valued : Bool) (term other : TermId) (p q : Pattern) (one : IsLaid env number f i is_valued term p) (two : IsLaid env number g j is_valued other q)
+extractors_apart : (env : Environment) (number : Numbers) (params others : List (List ℕ)) (f g : InstructionFormat) (i j : Instruction)
+    (is_valued : Bool) (term other : TermId) (p q : Pattern) (one : IsLaid env number f i is_valued term p)
+    (two : IsLaid env number g j is_valued other q)
     → AreDifferent one two → AreApart env number params others (template (manner_by is_valued) f i) (template (manner_by is_valued) g j)
 extractors_apart env number params others f g i j true term other p q one two differ =
     term_apart env number params others (taker (whole_by true)) (patterns_of (tree.Var type_variable ∷ data_pattern f i ∷ [])) (patterns_of (tree.Var type_variable ∷ data_pattern g j ∷ []))
@@ -94,7 +100,8 @@ extractors_apart env number params others f g i j false term other p q one two d
     (at_first env number params others (data_pattern f i) (data_pattern g j) tree.NoPattern tree.NoPattern (data_apart env number params others f g i j false false term other p q one two differ))
 
 -- what the constructor of the one makes isn't matched by the extractor of the other
-pub laid_apart : (env : Environment) (number : Numbers) (f g : InstructionFormat) (i j : Instruction) (is_valued : Bool) (term other : TermId) (p q : Pattern) (one : IsLaid env number f i is_valued term p) (two : IsLaid env number g j is_valued other q)
+pub laid_apart : (env : Environment) (number : Numbers) (f g : InstructionFormat) (i j : Instruction) (is_valued : Bool) (term other : TermId)
+    (p q : Pattern) (one : IsLaid env number f i is_valued term p) (two : IsLaid env number g j is_valued other q)
     → AreDifferent one two → AreVariantsApart env → (m : Meaning) (operands : List Value) (made : List Made) (v : Value) → IsHonest env m term operands made → IsMadeOf env m term operands made v → NeverMatches env m v q
 laid_apart env number f g i j is_valued term other p q one two differ variants m operands made v honest given =
     let r = laid_read env number f i is_valued term p one m operands made v honest given in

@@ -37,7 +37,9 @@ use Rattle.isle_prelude_laws.proofs.ReadNames.{IsRead, IsWithin, AreBound, read_
 
 module _ (env : Environment) (number : Numbers) (params : List (List ℕ)) (allowed : Allowed) (vars : List (TypeId × ℕ)) where
   -- variables
-  can_variables : (names : List (List ℕ)) (es : List tree.Expr) (ps : List tree.Pattern) → CanMirrorAll env number params allowed vars (exprs_of es) (patterns_of ps) → CanMirrorAll env number params allowed vars (exprs_of (variable_exprs names ++ es)) (patterns_of (variables names ++ ps))
+  can_variables : (names : List (List ℕ)) (es : List tree.Expr) (ps : List tree.Pattern)
+      → CanMirrorAll env number params allowed vars (exprs_of es) (patterns_of ps)
+      → CanMirrorAll env number params allowed vars (exprs_of (variable_exprs names ++ es)) (patterns_of (variables names ++ ps))
   can_variables [] es ps more = more
   can_variables (name ∷ names) es ps more = can_both env number params allowed vars (tree.Name name) (tree.Var name) (exprs_of (variable_exprs names ++ es)) (patterns_of (variables names ++ ps)) (can_name env number params allowed vars name) (can_variables names es ps more)
 
@@ -46,7 +48,8 @@ module _ (env : Environment) (number : Numbers) (params : List (List ℕ)) (allo
   only_variables (name ∷ names) = can_both env number params allowed vars (tree.Name name) (tree.Var name) (exprs_of (variable_exprs names)) (patterns_of (variables names)) (can_name env number params allowed vars name) (only_variables names)
 
   -- values or blocks: nothing, one, or an array of them
-  can_counted : (w : Whole) (names : List (List ℕ)) (es : List tree.Expr) (ps : List tree.Pattern) → (1 < length names → (a b : TermId) → number (maker w) ≡ Some a → number (taker w) ≡ Some b → IsPair env a b w)
+  can_counted : (w : Whole) (names : List (List ℕ)) (es : List tree.Expr) (ps : List tree.Pattern)
+      → (1 < length names → (a b : TermId) → number (maker w) ≡ Some a → number (taker w) ≡ Some b → IsPair env a b w)
       → CanMirrorAll env number params allowed vars (exprs_of es) (patterns_of ps) → CanMirrorAll env number params allowed vars (exprs_of (counted_expr (maker w) names ++ es)) (patterns_of (counted_pattern (taker w) names ++ ps))
   can_counted w [] es ps pair more = more
   can_counted w (x ∷ []) es ps pair more = can_both env number params allowed vars (tree.Name x) (tree.Var x) (exprs_of es) (patterns_of ps) (can_name env number params allowed vars x) more
@@ -56,7 +59,8 @@ module _ (env : Environment) (number : Numbers) (params : List (List ℕ)) (allo
       (can_take env number params allowed vars w (exprs_of (variable_exprs all)) (patterns_of (variables all)) (pair (omega arith)) (only_variables all)) more
 
 -- an instruction's data
-can_data : (env : Environment) (number : Numbers) (f : InstructionFormat) (i : Instruction) (is_valued : Bool) (term : TermId) (pattern : Pattern) (params : List (List ℕ)) (allowed : Allowed) (vars : List (TypeId × ℕ)) → IsLaid env number f i is_valued term pattern
+can_data : (env : Environment) (number : Numbers) (f : InstructionFormat) (i : Instruction) (is_valued : Bool) (term : TermId) (pattern : Pattern)
+    (params : List (List ℕ)) (allowed : Allowed) (vars : List (TypeId × ℕ)) → IsLaid env number f i is_valued term pattern
     → CanMirror env number params allowed vars (data_expr f i) (data_pattern f i)
 can_data env number f i is_valued term pattern params allowed vars laid =
     let raw = names_of is_raw_block i in
@@ -79,7 +83,8 @@ can_data env number f i is_valued term pattern params allowed vars laid =
     (can_both env number params allowed vars (call_on (opcode_term i) []) (term_over (opcode_term i) []) (exprs_of value_es) (patterns_of (listed false)) opcode with_values))
 
 -- the instruction's rule and its extractor
-can_whole : (env : Environment) (number : Numbers) (f : InstructionFormat) (i : Instruction) (is_valued : Bool) (term : TermId) (pattern : Pattern) (params : List (List ℕ)) (allowed : Allowed) (vars : List (TypeId × ℕ)) → IsLaid env number f i is_valued term pattern
+can_whole : (env : Environment) (number : Numbers) (f : InstructionFormat) (i : Instruction) (is_valued : Bool) (term : TermId) (pattern : Pattern)
+    (params : List (List ℕ)) (allowed : Allowed) (vars : List (TypeId × ℕ)) → IsLaid env number f i is_valued term pattern
     → CanMirror env number params allowed vars (right_side (maker (whole_by is_valued)) (manner_by is_valued) f i) (template (manner_by is_valued) f i)
 can_whole env number f i true term pattern params allowed vars laid =
     can_take env number params allowed vars ValuedInst (exprs_of (tree.Name type_variable ∷ data_expr f i ∷ [])) (patterns_of (tree.Var type_variable ∷ data_pattern f i ∷ [])) (laid.pair ValuedInst refl)
@@ -98,7 +103,9 @@ pub record IsReadOf (env : Environment) (m : Meaning) (pattern : Pattern) (v : V
   pub are : (k : ℕ) → all k ≡ slice_get operands k
   pub many : length operands ≡ length tys
 
-pub laid_read : (env : Environment) (number : Numbers) (f : InstructionFormat) (i : Instruction) (is_valued : Bool) (term : TermId) (pattern : Pattern) (laid : IsLaid env number f i is_valued term pattern) (m : Meaning) (operands : List Value) (made : List Made) (v : Value) → IsHonest env m term operands made → IsMadeOf env m term operands made v
+pub laid_read : (env : Environment) (number : Numbers) (f : InstructionFormat) (i : Instruction) (is_valued : Bool) (term : TermId)
+    (pattern : Pattern) (laid : IsLaid env number f i is_valued term pattern) (m : Meaning) (operands : List Value) (made : List Made) (v : Value)
+    → IsHonest env m term operands made → IsMadeOf env m term operands made v
     → IsReadOf env m pattern v operands laid.decl.arg_tys
 laid_read env number f i is_valued term pattern laid m operands made v honest given =
     let g = given_by v given.1 given.2 in
@@ -121,7 +128,8 @@ also_there (z ∷ xs) (y ∷ ys) zero x long h = (y, refl)
 also_there (z ∷ xs) (y ∷ ys) (suc k) x long h = also_there xs ys k x (omega (arith, long)) h
 
 -- what is bound, if each value has its variable in the pattern
-bound_exactly : (all after : Names) (vars : List (TypeId × ℕ)) (operands : List Value) (tys : List TypeId) → AreBound all no_names after vars → ((k : ℕ) → all k ≡ slice_get operands k) → length operands ≡ length tys
+bound_exactly : (all after : Names) (vars : List (TypeId × ℕ)) (operands : List Value) (tys : List TypeId) → AreBound all no_names after vars
+    → ((k : ℕ) → all k ≡ slice_get operands k) → length operands ≡ length tys
     → ((ty : TypeId) (n : ℕ) → slice_get tys n ≡ Some ty → Contains {X = TypeId × ℕ} vars (ty, n)) → (k : ℕ) → after k ≡ slice_get operands k
 bound_exactly all after vars operands tys b are many occurs k = by (slice_get operands k) refl
   where
@@ -134,7 +142,9 @@ bound_exactly all after vars operands tys b are many occurs k = by (slice_get op
     by (Some u) is = let t = also_there operands tys k u many is in b.bound t.0 k (occurs t.0 k t.1) ∙ are k
 
 -- what is bound is exactly the operands
-pub laid_back : (env : Environment) (number : Numbers) (f : InstructionFormat) (i : Instruction) (is_valued : Bool) (term : TermId) (pattern : Pattern) (laid : IsLaid env number f i is_valued term pattern) (m : Meaning) (operands : List Value) (made : List Made) (v : Value) → IsHonest env m term operands made → IsMadeOf env m term operands made v
+pub laid_back : (env : Environment) (number : Numbers) (f : InstructionFormat) (i : Instruction) (is_valued : Bool) (term : TermId)
+    (pattern : Pattern) (laid : IsLaid env number f i is_valued term pattern) (m : Meaning) (operands : List Value) (made : List Made) (v : Value)
+    → IsHonest env m term operands made → IsMadeOf env m term operands made v
     → BindsExactly env m v operands pattern
 laid_back env number f i is_valued term pattern laid m operands made v honest given =
     let r = laid_read env number f i is_valued term pattern laid m operands made v honest given in

@@ -1,9 +1,7 @@
 -- Each instruction of a supported table whose definitions are typed is laid out in their environment.
-use Rattle.std.proofs.Common.{◌≡◌, ℕ, zero, suc, ◌+◌, ◌<◌, List, [], ◌∷◌, ◌++◌, length, map, Bool, true, false, cond, Option, Some, None, refl, sym, ap, ◌∙◌, subst, arith}
+use Rattle.std.proofs.Common.{◌≡◌, ℕ, zero, suc, ◌<◌, List, [], length, map, Bool, true, false, Some, None, refl, sym, ap, ◌∙◌, subst, arith}
 use Rattle.std.specs.Prelude.{◌||◌, Contains, slice_get, codes, option_map, pos}
-use Rattle.std.specs.List.{IsDistinct}
 use Rattle.std.specs.Option.{option_map_or}
-use Rattle.std.specs.Str.{bytes_eq}
 use Rattle.std.proofs.lemmas.List.{length-map}
 use Rattle.std.proofs.lemmas.List.Elements.{All-contains}
 use Rattle.std.proofs.lemmas.Option.{slice_get-get_or, slice_get-map}
@@ -18,7 +16,6 @@ use Rattle.isle_core.specs.Terms.{sym_text, term_name}
 use Rattle.isle_core.specs.TypedVariables.{rule_typed}
 use Rattle.isle_core.proofs.Contained.{head_contained}
 use Rattle.isle_core.proofs.OptionLaws.{some_same}
-use Rattle.isle_ast.specs.Tree as tree
 use Rattle.isle_ast.specs.Tree.{Def}
 use Rattle.isle_declarations.specs.declared.terms.Origin.TheVariants as origin
 use Rattle.isle_declarations.specs.Signatures.{Signature, Template, ExtractorDef, ByFunction, ByTemplate, RuleDef, extractors, rule_defs, term_named}
@@ -28,7 +25,7 @@ use Rattle.isle_meta.specs.Rows.{rows, IsFirstUnsupported}
 use Rattle.isle_meta.specs.declared.clif.Instruction.{Instruction}
 use Rattle.isle_meta.specs.declared.clif.InstructionFormat.{InstructionFormat}
 use Rattle.isle_meta.specs.declared.tables.Tables.{Tables}
-use Rattle.isle_prelude.specs.ClifFiles.{declaration, extractor, making_rule, instruction_defs, opcode_term, data_term, parameters, parameter_types, variables}
+use Rattle.isle_prelude.specs.ClifFiles.{declaration, extractor, making_rule, instruction_defs, parameters, parameter_types, variables}
 use Rattle.isle_prelude.specs.InstructionParts.{right_side, template}
 use Rattle.isle_prelude.specs.Manners.{Manner, optimized, opt_manner}
 use Rattle.isle_sema.specs.Typing.{Typed}
@@ -56,24 +53,25 @@ use Rattle.isle_prelude_laws.proofs.GivenTerms.{signatures_apart, names_apart, I
 use Rattle.isle_prelude_laws.proofs.InstructionTexts.{HasNone, simple_right, over_template, plain_template}
 use Rattle.isle_prelude_laws.proofs.Laid.{manner_by, whole_by, HasWhole, IsLaid}
 use Rattle.isle_prelude_laws.proofs.Mirror.{IsPair}
-use Rattle.isle_prelude_laws.proofs.Mirrored.{IsVariantTerm}
 use Rattle.isle_prelude_laws.proofs.NamedTrees.{PatternNamed}
 use Rattle.isle_prelude_laws.proofs.OptConverters.{opt_converts}
 use Rattle.isle_prelude_laws.proofs.OptDefs.{term_there, extractor_there, rule_there, in_instruction, heads_apart, IsVariantOf, opcode_there, data_there}
-use Rattle.isle_prelude_laws.proofs.PartTerms.{taker_func, taker_sure, HasPair, taker_extracts, pairs}
+use Rattle.isle_prelude_laws.proofs.PartTerms.{taker_func, taker_sure, taker_extracts, pairs}
 use Rattle.isle_prelude_laws.proofs.PassedTrees.{numbers, pattern_named}
 use Rattle.isle_prelude_laws.proofs.RuleParts.{HasParts, given_parts}
 use Rattle.isle_prelude_laws.proofs.Unexpanded.{whole_same}
 
 -- ---- names of terms
 
-named_at : (env : Environment) (a : TermId) (t : Term) → slice_get env.terms a.0 ≡ Some t → slice_get (map (λ (x : Term). sym_text env x.name) env.terms) a.0 ≡ Some (term_name env a)
+named_at : (env : Environment) (a : TermId) (t : Term) → slice_get env.terms a.0 ≡ Some t
+    → slice_get (map (λ (x : Term). sym_text env x.name) env.terms) a.0 ≡ Some (term_name env a)
 named_at env a t h =
     slice_get-map (λ (x : Term). sym_text env x.name) env.terms a.0 ∙ ap (option_map (λ (x : Term). sym_text env x.name)) h
     ∙ ap Some (sym (ap (λ o. option_map_or (λ (x : Term). sym_text env x.name) o []) h))
 
 -- two terms of one name are one
-pub one_term : (defs : List Def) (env : Environment) (a b : TermId) (s t : Term) → Typed defs env → slice_get env.terms a.0 ≡ Some s → slice_get env.terms b.0 ≡ Some t → term_name env a ≡ term_name env b → a ≡ b
+pub one_term : (defs : List Def) (env : Environment) (a b : TermId) (s t : Term) → Typed defs env → slice_get env.terms a.0 ≡ Some s
+    → slice_get env.terms b.0 ≡ Some t → term_name env a ≡ term_name env b → a ≡ b
 one_term defs env a b s t typed h k same =
     let names = map (λ (x : Term). sym_text env x.name) env.terms in
     let apart = typed_names defs env typed in
@@ -105,7 +103,8 @@ own_extractor m f i = record { term = i.name; by = ByTemplate (own_template m f 
 abbrev own_rule : Bool → InstructionFormat → Instruction → RuleDef
 own_rule b f i = record { name = None; prio = pos 0; term = i.name; args = variables (parameters (manner_by b) i); iflets = []; rhs = right_side (maker (whole_by b)) (manner_by b) f i; pos = no_place }
 
-rule_in : (b : Bool) (f : InstructionFormat) (i : Instruction) → Contains (instruction_defs (Some (manner_by b)) f i) (making_rule (maker (whole_by b)) (manner_by b) f i)
+rule_in : (b : Bool) (f : InstructionFormat) (i : Instruction)
+    → Contains (instruction_defs (Some (manner_by b)) f i) (making_rule (maker (whole_by b)) (manner_by b) f i)
 rule_in true f i = (2, omega arith, refl)
 rule_in false f i = (2, omega arith, refl)
 
@@ -133,7 +132,8 @@ module _ (t : Tables) (i : Instruction) (f : InstructionFormat) (b : Bool) (h : 
   own_ruled = rule_there (opt_source t) (making_rule (maker (whole_by b)) (manner_by b) f i) (own_rule b f i) (own_there (making_rule (maker (whole_by b)) (manner_by b) f i) (rule_in b f i)) refl
 
 -- the number of the instruction's term
-own_number : (t : Tables) (env : Environment) (i : Instruction) (f : InstructionFormat) (b : Bool) (term : TermId) → Typed (opt_source t) env → IsTaken t i f b → term.0 < length env.terms → term_name env term ≡ i.name → term_named (terms (opt_source t)) i.name ≡ Some term
+own_number : (t : Tables) (env : Environment) (i : Instruction) (f : InstructionFormat) (b : Bool) (term : TermId) → Typed (opt_source t) env
+    → IsTaken t i f b → term.0 < length env.terms → term_name env term ≡ i.name → term_named (terms (opt_source t)) i.name ≡ Some term
 own_number t env i f b term typed h there named =
     let defs = opt_source t in
     let g = given_in typed in
@@ -148,7 +148,8 @@ own_number t env i f b term typed h there named =
 -- ---- its variants
 
 -- what a variant's term makes
-variant_made : {defs : List Def} {env : Environment} {name ty : List ℕ} {n : ℕ} (g : IsGivenIn defs env) (v : IsVariantOf defs name ty n) (a : TermId) → term_named (terms defs) name ≡ Some a
+variant_made : {defs : List Def} {env : Environment} {name ty : List ℕ} {n : ℕ} (g : IsGivenIn defs env) (v : IsVariantOf defs name ty n) (a : TermId)
+    → term_named (terms defs) name ≡ Some a
     → (of : TypeId) × (type_named defs ty ≡ Some of) × MakesThis env a of (record { 0 = n }) × (template_of (templates (whole_of defs)) a ≡ None)
 variant_made {defs = defs} {env = env} {n = n} g v a number =
     let k = given_term defs env v.signature a g v.among (ap (term_named (terms defs)) v.named ∙ number) in
@@ -178,7 +179,8 @@ module _ (t : Tables) (env : Environment) (i : Instruction) (f : InstructionForm
   own_alone = term_alone (terms (opt_source t)) (own_signature (manner_by b) i) (names_apart (opt_source t) env (given_in typed)) (own_declared t i f b h)
 
   -- the terms of its parts
-  pair_is : (w : Whole) → HasWhole b i w → (x y : TermId) → numbers (whole_of (opt_source t)) (maker w) ≡ Some x → numbers (whole_of (opt_source t)) (taker w) ≡ Some y → IsPair env x y w
+  pair_is : (w : Whole) → HasWhole b i w → (x y : TermId) → numbers (whole_of (opt_source t)) (maker w) ≡ Some x
+      → numbers (whole_of (opt_source t)) (taker w) ≡ Some y → IsPair env x y w
   pair_is w has x y is_x is_y =
       let defs = opt_source t in
       let g = given_in typed in
@@ -280,7 +282,8 @@ module _ (t : Tables) (env : Environment) (i : Instruction) (f : InstructionForm
       }
 
 -- each instruction is laid out
-pub laid_out : (t : Tables) (env : Environment) (i : Instruction) (term : TermId) → IsFirstUnsupported (rows t) None → Typed (opt_source t) env → IsInstruction t env i term → IsLaidOut t env i term
+pub laid_out : (t : Tables) (env : Environment) (i : Instruction) (term : TermId) → IsFirstUnsupported (rows t) None → Typed (opt_source t) env
+    → IsInstruction t env i term → IsLaidOut t env i term
 laid_out t env i term supported typed h =
     let m = valued_or i.value_results (i.can_trap || i.other_side_effects) in
     let taken : IsTaken t i h.format m.0 = record { among = h.among; is = h.is; listless = h.listless; manner = m.1 } in

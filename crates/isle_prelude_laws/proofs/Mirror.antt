@@ -55,8 +55,10 @@ pub record IsPair (env : Environment) (a b : TermId) (w : Whole) : Type 0 where
 mutual
   pub data Mirrors (env : Environment) : Expr → Pattern → Type 0 where
     same_variable : (ty of : TypeId) (x : VarId) → Mirrors env (expr.Var ty x) (pattern.Var of x)
-    same_made : (ty of : TypeId) (term : TermId) (es : Exprs) (ps : Patterns) → MakesOf env term (count es) → MirrorAll env es ps → Mirrors env (expr.Term ty term es) (pattern.Term of term ps)
-    made_taken : (ty of : TypeId) (a b : TermId) (es : Exprs) (ps : Patterns) (w : Whole) → IsPair env a b w → MirrorAll env es ps → Mirrors env (expr.Term ty a es) (pattern.Term of b ps)
+    same_made : (ty of : TypeId) (term : TermId) (es : Exprs) (ps : Patterns) → MakesOf env term (count es) → MirrorAll env es ps
+        → Mirrors env (expr.Term ty term es) (pattern.Term of term ps)
+    made_taken : (ty of : TypeId) (a b : TermId) (es : Exprs) (ps : Patterns) (w : Whole) → IsPair env a b w → MirrorAll env es ps
+        → Mirrors env (expr.Term ty a es) (pattern.Term of b ps)
 
   pub data MirrorAll (env : Environment) : Exprs → Patterns → Type 0 where
     no_mirror : MirrorAll env NoExpr NoPattern
@@ -71,7 +73,8 @@ record BothAnswered (first : Evaluated) (go : Value → List Made → EvaluatedA
   is : first ≡ Answered value between
   rest : go value between ≡ AllAnswered vs calls
 
-both_answered : (first : Evaluated) (go : Value → List Made → EvaluatedAll) (vs : List Value) (calls : List Made) → then_all first go ≡ AllAnswered vs calls → BothAnswered first go vs calls
+both_answered : (first : Evaluated) (go : Value → List Made → EvaluatedAll) (vs : List Value) (calls : List Made)
+    → then_all first go ≡ AllAnswered vs calls → BothAnswered first go vs calls
 both_answered (Answered v made) go vs calls h = record { value = v; between = made; is = refl; rest = h }
 both_answered (Failed made) go vs calls h = absurd cc
 
@@ -91,7 +94,8 @@ record AllFirst (all : EvaluatedAll) (go : List Value → List Made → Evaluate
   is : all ≡ AllAnswered values between
   rest : go values between ≡ Answered v calls
 
-all_first : (all : EvaluatedAll) (go : List Value → List Made → Evaluated) (v : Value) (calls : List Made) → then_one all go ≡ Answered v calls → AllFirst all go v calls
+all_first : (all : EvaluatedAll) (go : List Value → List Made → Evaluated) (v : Value) (calls : List Made) → then_one all go ≡ Answered v calls
+    → AllFirst all go v calls
 all_first (AllAnswered vs made) go v calls h = record { values = vs; between = made; is = refl; rest = h }
 all_first (OneFailed made) go v calls h = absurd cc
 
@@ -129,7 +133,8 @@ made_apart env m term fields vs k long place =
     ∙ ap (λ b. cond b (Some (parts v)) None) (ap (λ o. is_of_form env o (form_value env o vs)) k.is ∙ named_itself env k.shape vs)
     ∙ ap Some (ap (λ o. parts (form_value env o vs)) k.is ∙ form_parts env k.shape vs (k.many ∙ sym long))
 
-made_opens : (env : Environment) (m : Meaning) (term : TermId) (fields : ℕ) (vs : List Value) (k : MakesOf env term fields) → length vs ≡ fields → Opens env m term (made_value env (MakesVariant k.ty k.variant) vs) vs
+made_opens : (env : Environment) (m : Meaning) (term : TermId) (fields : ℕ) (vs : List Value) (k : MakesOf env term fields) → length vs ≡ fields
+    → Opens env m term (made_value env (MakesVariant k.ty k.variant) vs) vs
 made_opens env m term fields vs k long = record {
   first = made_apart env m term fields vs k long 0;
   only = λ place ws h. some_same vs ws (sym (made_apart env m term fields vs k long place) ∙ h);
@@ -156,7 +161,8 @@ extracted_back m (ByCases callee kind) v a place h = ap (results place) (some_sa
 extracted_back m (ByTurns callee kind) v a place h = absurd cc
 extracted_back m NoCall v a place h = absurd cc
 
-taken_opens : (env : Environment) (m : Meaning) (b : TermId) (v : Value) (vs : List Value) (w : Whole) → making env b ≡ MakesNothing → answer_to m (extracting env b) v ≡ Some (gives_back w vs) → Opens env m b v vs
+taken_opens : (env : Environment) (m : Meaning) (b : TermId) (v : Value) (vs : List Value) (w : Whole) → making env b ≡ MakesNothing
+    → answer_to m (extracting env b) v ≡ Some (gives_back w vs) → Opens env m b v vs
 taken_opens env m b v vs w none h = record {
   first = all 0 ∙ back_first w vs;
   only = λ place ws k. back_only w vs place ws (sym (all place) ∙ k);
@@ -175,7 +181,8 @@ made_is : (w v : Value) (made calls : List Made) → Answered w made ≡ Answere
 made_is w v made calls h = cc
 
 -- as many values as expressions
-as_many : (env : Environment) (m : Meaning) (choice : Choice) (es : Exprs) (names : Names) (places : Places) (n : ℕ) (made : List Made) (vs : List Value) (calls : List Made) → evaluated_all env m choice es names places n made ≡ AllAnswered vs calls → length vs ≡ count es
+as_many : (env : Environment) (m : Meaning) (choice : Choice) (es : Exprs) (names : Names) (places : Places) (n : ℕ) (made : List Made)
+    (vs : List Value) (calls : List Made) → evaluated_all env m choice es names places n made ≡ AllAnswered vs calls → length vs ≡ count es
 as_many env m choice NoExpr names places n made vs calls h = let none : [] ≡ vs = cc in ap length (sym none)
 as_many env m choice (AnExpr e es) names places n made vs calls h =
     let s = both_answered (evaluated env m choice e names places n made) (λ v after. before v (evaluated_all env m choice es names places (n + impure env e) after)) vs calls h in
@@ -183,7 +190,8 @@ as_many env m choice (AnExpr e es) names places n made vs calls h =
     ap length (sym t.whole) ∙ ap suc (as_many env m choice es names places (n + impure env e) s.between t.others calls t.is)
 
 -- the call that a term makes is among those given
-own_given : (a : TermId) (vs : List Value) (v : Value) (mk : Making) (all : EvaluatedAll) (result : Evaluated) (between calls : List Made) → mk ≡ MakesNothing → all ≡ AllAnswered vs between → result ≡ Answered v calls
+own_given : (a : TermId) (vs : List Value) (v : Value) (mk : Making) (all : EvaluatedAll) (result : Evaluated) (between calls : List Made)
+    → mk ≡ MakesNothing → all ≡ AllAnswered vs between → result ≡ Answered v calls
     → own_call mk a all result ≡ record { term = a; args = vs; gave = v } ∷ []
 own_given a vs v mk all result between calls none is gives =
     ap (λ x. own_call x a all result) none ∙ ap (λ x. call_on a x result) is ∙ ap (call_with a vs) gives
@@ -196,7 +204,9 @@ right_back env m xs ys h c k = h c (Contains-append_right xs ys c k)
 
 mutual
   -- what an expression gives is read by the pattern that mirrors it, if what its calls made is taken back
-  pub mirror_reads : {env : Environment} {e : Expr} {p : Pattern} → Mirrors env e p → (m : Meaning) (choice : Choice) (names : Names) (places : Places) (n : ℕ) (made : List Made) (v : Value) (calls : List Made) → evaluated env m choice e names places n made ≡ Answered v calls
+  pub mirror_reads : {env : Environment} {e : Expr} {p : Pattern} → Mirrors env e p
+      → (m : Meaning) (choice : Choice) (names : Names) (places : Places) (n : ℕ) (made : List Made) (v : Value) (calls : List Made)
+      → evaluated env m choice e names places n made ≡ Answered v calls
       → AreTakenBack env m (given_calls env m choice e names places n made) → IsRead env m names p v
   mirror_reads (same_variable ty of x) m choice names places n made v calls h back = at_variable of x v (named_is (names x.0) made v calls h)
   mirror_reads {env = env} (same_made ty of term es ps k parts) m choice names places n made v calls h back =
@@ -219,7 +229,9 @@ mutual
       at_term of b ps v s.values (taken_opens env m b v s.values w pair.taken taken)
       (all_read parts m choice names places n made s.values s.between s.is (left_back env m (all_given env m choice es names places n made) own back))
 
-  pub all_read : {env : Environment} {es : Exprs} {ps : Patterns} → MirrorAll env es ps → (m : Meaning) (choice : Choice) (names : Names) (places : Places) (n : ℕ) (made : List Made) (vs : List Value) (calls : List Made) → evaluated_all env m choice es names places n made ≡ AllAnswered vs calls
+  pub all_read : {env : Environment} {es : Exprs} {ps : Patterns} → MirrorAll env es ps
+      → (m : Meaning) (choice : Choice) (names : Names) (places : Places) (n : ℕ) (made : List Made) (vs : List Value) (calls : List Made)
+      → evaluated_all env m choice es names places n made ≡ AllAnswered vs calls
       → AreTakenBack env m (all_given env m choice es names places n made) → AreRead env m names ps vs
   all_read {env = env} no_mirror m choice names places n made vs calls h back = let none : [] ≡ vs = cc in subst (AreRead env m names NoPattern) none no_part
   all_read {env = env} (a_mirror e es p ps one more) m choice names places n made vs calls h back =

@@ -47,7 +47,8 @@ some_names : (a b : Names) → Some a ≡ Some b → a ≡ b
 some_names a b e = cc
 
 -- how the names of variables stand after as many values
-names_set : (env : Environment) (m : Meaning) (choice : Choice) (i : ℕ) (tys : List TypeId) (vs : List Value) (before after : Names) → ((k : ℕ) → before (i + k) ≡ None) → matches_all env m choice (variables_from i tys) i vs before ≡ Some after
+names_set : (env : Environment) (m : Meaning) (choice : Choice) (i : ℕ) (tys : List TypeId) (vs : List Value) (before after : Names)
+    → ((k : ℕ) → before (i + k) ≡ None) → matches_all env m choice (variables_from i tys) i vs before ≡ Some after
     → AreNames i vs before after × (length vs ≡ length tys)
 names_set env m choice i [] [] before after none h =
     let same : before ≡ after = some_names before after h in
@@ -71,7 +72,8 @@ names_set env m choice i (ty ∷ tys) (v ∷ vs) before after none h =
       ap suc r.1,
     )
   where
-    by : (i : ℕ) (v : Value) (vs : List Value) (before after : Names) → AreNames (suc i) vs (with before i v) after → (k : ℕ) → after (i + k) ≡ slice_get (v ∷ vs) k
+    by : (i : ℕ) (v : Value) (vs : List Value) (before after : Names) → AreNames (suc i) vs (with before i v) after → (k : ℕ)
+        → after (i + k) ≡ slice_get (v ∷ vs) k
     by i v vs before after r zero =
         let here : i + 0 ≡ i = omega arith in
         ap after here ∙ r.kept i (omega arith) ∙ ap (λ b. cond b (Some v) (before i)) (eqb_self i)
@@ -85,7 +87,8 @@ pub record IsPlainRule (r : Rule) (tys : List TypeId) : Type 0 where
   pub iflets : r.iflets ≡ []
 
 -- its names are its operands, and there are as many as types
-pub rule_operands : (env : Environment) (m : Meaning) (r : Rule) (tys : List TypeId) (operands : List Value) (names : Names) → IsPlainRule r tys → rule_names env m operands r ≡ Some names
+pub rule_operands : (env : Environment) (m : Meaning) (r : Rule) (tys : List TypeId) (operands : List Value) (names : Names) → IsPlainRule r tys
+    → rule_names env m operands r ≡ Some names
     → ((k : ℕ) → names k ≡ slice_get operands k) × (length operands ≡ length tys)
 rule_operands env m r tys operands names plain h =
     let s = names_set env m first_items 0 tys operands no_names names (λ k. refl) (matched h) in
@@ -94,7 +97,9 @@ rule_operands env m r tys operands names plain h =
     matched : rule_names env m operands r ≡ Some names → matches_all env m first_items (variables_from 0 tys) 0 operands no_names ≡ Some names
     matched h = by (matches_all env m first_items r.args 0 operands no_names) refl h
       where
-        by : (o : Option Names) → matches_all env m first_items r.args 0 operands no_names ≡ o → option_and_then (iflets_names env m first_items r.iflets (args_after env r.args 0 no_places)) o ≡ Some names → matches_all env m first_items (variables_from 0 tys) 0 operands no_names ≡ Some names
+        by : (o : Option Names) → matches_all env m first_items r.args 0 operands no_names ≡ o
+            → option_and_then (iflets_names env m first_items r.iflets (args_after env r.args 0 no_places)) o ≡ Some names
+            → matches_all env m first_items (variables_from 0 tys) 0 operands no_names ≡ Some names
         by None is k = absurd cc
         by (Some first) is k =
             let all : iflets_names env m first_items [] (args_after env r.args 0 no_places) first ≡ Some names = ap (λ cs. iflets_names env m first_items cs (args_after env r.args 0 no_places) first) (sym plain.iflets) ∙ k in
@@ -114,7 +119,8 @@ value_given : (e : Evaluated) (v : Value) → (prescription_of e).result ≡ Val
 value_given (Answered w calls) v h = let same : w ≡ v = cc in (calls, ap (λ u. Answered u calls) same)
 value_given (Failed calls) v h = absurd cc
 
-pub given_by : {env : Environment} {m : Meaning} {operands : List Value} {rules : List Rule} {made : List Made} {p : Prescription} (v : Value) → Prescribed env m operands rules return_kind.Plain made p → p.result ≡ Value' v → IsGivenBy env m operands rules made v
+pub given_by : {env : Environment} {m : Meaning} {operands : List Value} {rules : List Rule} {made : List Made} {p : Prescription} (v : Value)
+    → Prescribed env m operands rules return_kind.Plain made p → p.result ≡ Value' v → IsGivenBy env m operands rules made v
 given_by v (no_rule none) h = absurd cc
 given_by {env = env} {m = m} {made = made} v (one_rule r names highest) h =
     let g = value_given (rule_value env m r names made) v h in

@@ -48,7 +48,8 @@ common_converts t =
     (both_convert (arrays t.formats) (data_defs t.formats t.instructions)
     (both_convert (flat_map value_array_defs (value_array_sizes t.formats)) (flat_map block_array_defs (block_array_sizes t.formats)) (flat_converts value_array_defs (value_array_sizes t.formats) (λ n. refl)) (flat_converts block_array_defs (block_array_sizes t.formats) (λ n. refl))) refl)
 
-taken_converts : (results : ℕ) (has_effects : Bool) (f : InstructionFormat) (i : Instruction) → ConvertsNothing (instruction_defs (Some (optimized results has_effects)) f i)
+taken_converts : (results : ℕ) (has_effects : Bool) (f : InstructionFormat) (i : Instruction)
+    → ConvertsNothing (instruction_defs (Some (optimized results has_effects)) f i)
 taken_converts zero e f i = refl
 taken_converts (suc zero) false f i = refl
 taken_converts (suc zero) true f i = refl

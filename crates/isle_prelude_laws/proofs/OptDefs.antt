@@ -1,15 +1,14 @@
 -- What stands among the definitions of an optimizer.
-use Rattle.std.proofs.Common.{◌≡◌, ℕ, zero, suc, ◌+◌, ◌<◌, List, [], ◌∷◌, ◌++◌, length, map, Bool, true, false, Option, Some, None, refl, sym, ap, ◌∙◌, subst, ⊎_elim, arith}
+use Rattle.std.proofs.Common.{◌≡◌, ℕ, zero, suc, ◌+◌, List, [], ◌∷◌, ◌++◌, map, Bool, true, false, Option, Some, None, refl, sym, ap, ◌∙◌, subst, ⊎_elim, arith}
 use Rattle.std.specs.Prelude.{◌||◌, Contains, option_map, slice_get, codes}
 use Rattle.std.specs.List.{IsDistinct, flat_map, cons_option}
 use Rattle.std.specs.Str.{bytes_eq}
 use Rattle.std.proofs.lemmas.List.{map-append}
 use Rattle.std.proofs.lemmas.List.Elements.{Contains-append_left, Contains-append_right, filter_map-append}
-use Rattle.std.proofs.lemmas.Option.{slice_get-get_or, slice_get-map}
+use Rattle.std.proofs.lemmas.Option.{slice_get-map}
 use Rattle.isle_core.specs.declared.position.Pos.{Pos}
 use Rattle.isle_core.proofs.Contained.{head_contained, tail_contained, contained_cases, none_contained}
 use Rattle.isle_core.proofs.OptionLaws.{some_same}
-use Rattle.isle_ast.specs.Tree as tree
 use Rattle.isle_ast.specs.Tree.{Def}
 use Rattle.isle_ast.specs.declared.tree.AstVariant.{AstVariant}
 use Rattle.isle_declarations.specs.declared.terms.Origin.TheVariants as origin
@@ -22,7 +21,7 @@ use Rattle.isle_meta.specs.declared.clif.InstructionFormat.{InstructionFormat}
 use Rattle.isle_meta.specs.declared.tables.Tables.{Tables}
 use Rattle.isle_meta.specs.FormatRow.{all_fields}
 use Rattle.isle_prelude.specs.Arrays.{value_array_sizes, block_array_sizes, value_array_defs, block_array_defs, arrays}
-use Rattle.isle_prelude.specs.ClifFiles.{declaration, extractor, making_rule, instruction_defs, of_format, opt_defs}
+use Rattle.isle_prelude.specs.ClifFiles.{instruction_defs, of_format, opt_defs}
 use Rattle.isle_prelude.specs.CommonDefs.{imm_enum, imm_defs, common_defs}
 use Rattle.isle_prelude.specs.Declaring.{bare, primitive, extern_enum}
 use Rattle.isle_prelude.specs.Immediates.{plain_types, enum_types}
@@ -91,15 +90,18 @@ pub in_data : (t : Tables) (d : Def) → Contains (data_defs t.formats t.instruc
 in_data t d c = in_common t d (Contains-append_right (imm_defs (all_fields t.formats)) (arrays t.formats ++ data_defs t.formats t.instructions) d (Contains-append_right (arrays t.formats) (data_defs t.formats t.instructions) d c))
 
 -- those of an instruction
-pub in_instruction : (t : Tables) (i : Instruction) (f : InstructionFormat) (m : Manner) (d : Def) → Contains t.instructions i → slice_get t.formats i.format ≡ Some f → opt_manner f.has_value_list i ≡ Some m → Contains (instruction_defs (Some m) f i) d → Contains (opt_source t) d
+pub in_instruction : (t : Tables) (i : Instruction) (f : InstructionFormat) (m : Manner) (d : Def) → Contains t.instructions i
+    → slice_get t.formats i.format ≡ Some f → opt_manner f.has_value_list i ≡ Some m → Contains (instruction_defs (Some m) f i) d
+    → Contains (opt_source t) d
 in_instruction t i f m d among is taken c =
     in_opt t d (Contains-append_right (common_defs t) (instructions_of t) d
-      (flat_there (λ (j : Instruction). of_format opt_manner (slice_get t.formats j.format) j) t.instructions i d among
-          (subst (λ o. Contains (of_format opt_manner o i) d) (sym is) (subst (λ o. Contains (instruction_defs o f i) d) (sym taken) c))))
+    (flat_there (λ (j : Instruction). of_format opt_manner (slice_get t.formats j.format) j) t.instructions i d among
+    (subst (λ o. Contains (of_format opt_manner o i) d) (sym is) (subst (λ o. Contains (instruction_defs o f i) d) (sym taken) c))))
 
 -- ---- variants
 
-variant_there : (ty : List ℕ) (pos : Pos) (i k : ℕ) (vs : List AstVariant) (v : AstVariant) → slice_get vs k ≡ Some v → Contains (variant_signatures ty pos i vs) (made_signature (variant_term ty v.name) ty v.fields (origin.Variant (i + k)) pos)
+variant_there : (ty : List ℕ) (pos : Pos) (i k : ℕ) (vs : List AstVariant) (v : AstVariant) → slice_get vs k ≡ Some v
+    → Contains (variant_signatures ty pos i vs) (made_signature (variant_term ty v.name) ty v.fields (origin.Variant (i + k)) pos)
 variant_there ty pos i k [] v h = absurd cc
 variant_there ty pos i zero (w ∷ vs) v h =
     let first : AstVariant → ℕ → Signature = λ u n. made_signature (variant_term ty u.name) ty u.fields (origin.Variant n) pos in
@@ -119,7 +121,8 @@ pub record IsVariantOf (defs : List Def) (name ty : List ℕ) (k : ℕ) : Type 0
   pub ret : signature.ret ≡ ty
 
 -- the opcode of an instruction
-pub opcode_there : (t : Tables) (k : ℕ) (i : Instruction) → slice_get t.instructions k ≡ Some i → IsVariantOf (opt_source t) (codes "Opcode." ++ i.camel_name) (codes "Opcode") k
+pub opcode_there : (t : Tables) (k : ℕ) (i : Instruction) → slice_get t.instructions k ≡ Some i
+    → IsVariantOf (opt_source t) (codes "Opcode." ++ i.camel_name) (codes "Opcode") k
 opcode_there t k i at =
     let vs = map (λ (j : Instruction). bare j.camel_name) t.instructions in
     let d = extern_enum (codes "Opcode") vs in
@@ -134,7 +137,8 @@ opcode_there t k i at =
     }
 
 -- the data of a format
-pub data_there : (t : Tables) (k : ℕ) (f : InstructionFormat) → slice_get t.formats k ≡ Some f → IsVariantOf (opt_source t) (codes "InstructionData." ++ f.name) (codes "InstructionData") k
+pub data_there : (t : Tables) (k : ℕ) (f : InstructionFormat) → slice_get t.formats k ≡ Some f
+    → IsVariantOf (opt_source t) (codes "InstructionData." ++ f.name) (codes "InstructionData") k
 data_there t k f at =
     let vs = map format_variant t.formats in
     let d = extern_enum (codes "InstructionData") vs in
@@ -184,13 +188,15 @@ rules_are t =
     ∙ filter_map-append rule_of (common_defs t) (instructions_of t) ∙ ap (λ rs. rs ++ rule_defs (instructions_of t)) (common_rules t)
 
 -- a rule for each declaration
-taken_both : (results : ℕ) (has_effects : Bool) (f : InstructionFormat) (i : Instruction) → heads_of (rule_defs (instruction_defs (Some (optimized results has_effects)) f i)) ≡ terms_of (signatures (instruction_defs (Some (optimized results has_effects)) f i))
+taken_both : (results : ℕ) (has_effects : Bool) (f : InstructionFormat) (i : Instruction)
+    → heads_of (rule_defs (instruction_defs (Some (optimized results has_effects)) f i)) ≡ terms_of (signatures (instruction_defs (Some (optimized results has_effects)) f i))
 taken_both zero e f i = refl
 taken_both (suc zero) false f i = refl
 taken_both (suc zero) true f i = refl
 taken_both (suc (suc n)) e f i = refl
 
-format_both : (o : Option InstructionFormat) (i : Instruction) → heads_of (rule_defs (of_format opt_manner o i)) ≡ terms_of (signatures (of_format opt_manner o i))
+format_both : (o : Option InstructionFormat) (i : Instruction)
+    → heads_of (rule_defs (of_format opt_manner o i)) ≡ terms_of (signatures (of_format opt_manner o i))
 format_both None i = refl
 format_both (Some f) i = by f.has_value_list
   where
@@ -198,7 +204,8 @@ format_both (Some f) i = by f.has_value_list
     by true = refl
     by false = taken_both i.value_results (i.can_trap || i.other_side_effects) f i
 
-both_names : (fs : List InstructionFormat) (is : List Instruction) → heads_of (rule_defs (flat_map (λ (i : Instruction). of_format opt_manner (slice_get fs i.format) i) is)) ≡ terms_of (signatures (flat_map (λ (i : Instruction). of_format opt_manner (slice_get fs i.format) i) is))
+both_names : (fs : List InstructionFormat) (is : List Instruction)
+    → heads_of (rule_defs (flat_map (λ (i : Instruction). of_format opt_manner (slice_get fs i.format) i) is)) ≡ terms_of (signatures (flat_map (λ (i : Instruction). of_format opt_manner (slice_get fs i.format) i) is))
 both_names fs [] = refl
 both_names fs (i ∷ is) =
     let here = of_format opt_manner (slice_get fs i.format) i in

@@ -1,16 +1,6 @@
 -- The terms that make and take apart the parts of an instruction stand among the definitions of its table.
-use Rattle.std.proofs.Common.{◌≡◌, ℕ, zero, suc, ◌+◌, ◌<◌, List, [], ◌∷◌, ◌++◌, length, map, Bool, true, false, cond, Option, Some, None, refl, sym, ap, ◌∙◌, subst, arith}
-use Rattle.std.specs.Prelude.{◌||◌, Contains, IsSomeAnd, slice_get, codes, option_map, replicate}
-use Rattle.std.specs.List.{IsDistinct}
-use Rattle.std.specs.Str.{bytes_eq}
-use Rattle.std.proofs.lemmas.List.{length-map}
-use Rattle.std.proofs.lemmas.Option.{slice_get-get_or, slice_get-map}
-use Rattle.isle_base.specs.declared.ids.TermId.{TermId}
-use Rattle.isle_base.specs.declared.ids.TypeId.{TypeId}
-use Rattle.isle_core.specs.declared.types.Term.{Term}
-use Rattle.isle_core.specs.Pattern.{Pattern}
-use Rattle.isle_core.specs.Rule.{Environment}
-use Rattle.isle_core.specs.Terms.{sym_text, term_name}
+use Rattle.std.proofs.Common.{◌≡◌, ℕ, zero, suc, ◌<◌, List, [], ◌∷◌, length, Bool, true, false, Some, None, refl, sym, ◌∙◌, subst, arith}
+use Rattle.std.specs.Prelude.{Contains, slice_get, codes, replicate}
 use Rattle.isle_core.proofs.Contained.{head_contained, tail_contained}
 use Rattle.isle_core.proofs.OptionLaws.{some_same}
 use Rattle.isle_ast.specs.Tree as tree
@@ -18,7 +8,7 @@ use Rattle.isle_ast.specs.Tree.{Def}
 use Rattle.isle_ast.specs.declared.tree.AstBody.{AstBody}
 use Rattle.isle_ast.specs.declared.tree.AstBody.TheVariants as body
 use Rattle.isle_declarations.specs.declared.terms.Origin.TheVariants as origin
-use Rattle.isle_declarations.specs.Signatures.{Signature, ExtractorDef, ByFunction, ByTemplate, RuleDef, extractors, rule_defs, term_named}
+use Rattle.isle_declarations.specs.Signatures.{Signature, ByFunction, extractors}
 use Rattle.isle_declarations.specs.Terms.{terms}
 use Rattle.isle_meta.specs.Rows.{rows, IsFirstUnsupported}
 use Rattle.isle_meta.specs.InstructionRow.{is_value, is_block}
@@ -26,28 +16,13 @@ use Rattle.isle_meta.specs.declared.clif.Instruction.{Instruction}
 use Rattle.isle_meta.specs.declared.clif.InstructionFormat.{InstructionFormat}
 use Rattle.isle_meta.specs.declared.tables.Tables.{Tables}
 use Rattle.isle_prelude.specs.Arrays.{value_array_sizes, block_array_sizes}
-use Rattle.isle_prelude.specs.ClifFiles.{declaration, extractor, making_rule, instruction_defs, opcode_term, data_term, parameters}
-use Rattle.isle_prelude.specs.InstructionParts.{right_side, template}
-use Rattle.isle_prelude.specs.Manners.{Manner, optimized, opt_manner}
 use Rattle.isle_prelude.specs.NumberedNames.{value_array, value_array_ctor, value_array_type, block_array, block_array_type, pack, unpack}
 use Rattle.isle_prelude.specs.Operands.{names_of}
 use Rattle.isle_writing.specs.Erased.{no_place}
-use Rattle.isle_sema.specs.Typing.{Typed}
-use Rattle.isle_sema.specs.Templates.{templates}
-use Rattle.isle_sema.proofs.TypedParts.{IsGivenIn, given_in}
-use Rattle.isle_templates.specs.Substituted.{template_of}
-use Rattle.isle_terms.specs.TypeNames.{type_named}
-use Rattle.isle_terms.specs.Whole.{whole_of}
 use Rattle.isle_prelude_laws.specs.HonestMeaning.{Whole, ValuedInst, SkeletonInst, ValueArray, BlockArray, maker, taker}
-use Rattle.isle_prelude_laws.specs.RoundTrip.{opt_source, IsInstruction, extractor_pattern}
-use Rattle.isle_prelude_laws.proofs.Apart.{MakesThis}
-use Rattle.isle_prelude_laws.proofs.GivenTerms.{IsGivenTerm, given_term, given_number, given_name, makes_nothing, makes_variant}
-use Rattle.isle_prelude_laws.proofs.GivenTemplates.{by_function, by_making}
-use Rattle.isle_prelude_laws.proofs.Laid.{manner_by, whole_by, HasWhole, IsLaid}
-use Rattle.isle_prelude_laws.proofs.Mirror.{IsPair}
-use Rattle.isle_prelude_laws.proofs.Mirrored.{IsVariantTerm}
-use Rattle.isle_prelude_laws.proofs.OptDefs.{term_there, extractor_there, rule_there, in_types, in_terms, in_ctors, in_values, in_blocks, in_instruction, IsVariantOf, opcode_there, data_there}
-use Rattle.isle_prelude_laws.proofs.PassedTrees.{numbers}
+use Rattle.isle_prelude_laws.specs.RoundTrip.{opt_source}
+use Rattle.isle_prelude_laws.proofs.Laid.{HasWhole}
+use Rattle.isle_prelude_laws.proofs.OptDefs.{term_there, extractor_there, in_types, in_terms, in_ctors, in_values, in_blocks}
 use Rattle.isle_prelude_laws.proofs.SizesThere.{values_there, ctors_there, blocks_there}
 use Rattle.isle_prelude_laws.proofs.SupportedRows.{values_counted, blocks_counted, has_typevar}
 
@@ -122,12 +97,14 @@ pub record HasPair (defs : List Def) (w : Whole) : Type 0 where
   pub takes : Contains defs (tree.ExternExtractor (taker w) (taker_func w) (taker_sure w) no_place)
   pub whole : IsOpaqueType defs made.signature.ret
 
-abbrev declared_as : (defs : List Def) (term : List ℕ) (pure multi : Bool) (args : List (List ℕ)) (ret : List ℕ) → Contains defs (tree.Decl term pure multi false false args ret no_place) → IsDeclaredAs defs term pure multi
+abbrev declared_as : (defs : List Def) (term : List ℕ) (pure multi : Bool) (args : List (List ℕ)) (ret : List ℕ)
+    → Contains defs (tree.Decl term pure multi false false args ret no_place) → IsDeclaredAs defs term pure multi
 declared_as defs term pure multi args ret c =
     let s : Signature = record { term = term; pure = pure; multi = multi; partial = false; recursive = false; args = args; ret = ret; pos = no_place; origin = origin.Declared } in
     record { signature = s; among = term_there defs (tree.Decl term pure multi false false args ret no_place) s c (head_contained s []); named = refl; own = refl; is_pure = refl; is_multi = refl; is_partial = refl }
 
-pub taker_extracts : (defs : List Def) (w : Whole) → HasPair defs w → Contains (extractors defs) (record { term = taker w; by = ByFunction (taker_func w) (taker_sure w); pos = no_place })
+pub taker_extracts : (defs : List Def) (w : Whole) → HasPair defs w
+    → Contains (extractors defs) (record { term = taker w; by = ByFunction (taker_func w) (taker_sure w); pos = no_place })
 taker_extracts defs w p = extractor_there defs (tree.ExternExtractor (taker w) (taker_func w) (taker_sure w) no_place) _ p.takes refl
 
 -- what stands at a place is among all

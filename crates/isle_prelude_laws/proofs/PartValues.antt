@@ -1,58 +1,42 @@
 -- How the terms of an instruction's parts are called, and values of the types that they give.
-use Rattle.std.proofs.Common.{◌≡◌, ℕ, zero, suc, ◌+◌, ◌<◌, List, [], ◌∷◌, ◌++◌, length, map, Bool, true, false, cond, Option, Some, None, refl, sym, ap, ◌∙◌, subst, arith}
-use Rattle.std.specs.Prelude.{IsSomeAnd, option_and_then, slice_get}
+use Rattle.std.proofs.Common.{◌≡◌, ℕ, zero, suc, ◌<◌, List, [], Bool, false, Option, Some, None, refl, sym, ap, ◌∙◌, subst, arith}
+use Rattle.std.specs.Prelude.{slice_get}
 use Rattle.std.specs.Option.{option_map_or}
 use Rattle.isle_base.specs.declared.ids.TermId.{TermId}
-use Rattle.isle_base.specs.declared.ids.TypeId.{TypeId}
 use Rattle.isle_core.specs.declared.types.ReturnKind.TheVariants as return_kind
 use Rattle.isle_core.specs.declared.types.Term.{Term}
 use Rattle.isle_core.specs.declared.values.Callee.TheVariants.{External}
-use Rattle.isle_core.specs.Calling.{Calling, ByTurns, ByCases, kind_by, calling, extractor_kind, extracting}
-use Rattle.isle_core.specs.Expr as expr
-use Rattle.isle_core.specs.Expr.{Expr, Exprs}
-use Rattle.isle_core.specs.ExprType.{Allowed, IsExprOf}
-use Rattle.isle_core.specs.HasType.{HasType, HaveTypes}
-use Rattle.isle_core.specs.Match.{Names}
+use Rattle.isle_core.specs.Calling.{ByTurns, ByCases, kind_by, calling, extractor_kind, extracting}
+use Rattle.isle_core.specs.HasType.{HasType}
 use Rattle.isle_core.specs.Rule.{Environment}
 use Rattle.isle_core.specs.Terms.{sym_text, term_name}
-use Rattle.isle_core.specs.TypedVariables.{rule_typed}
-use Rattle.isle_core.specs.Value.{Value, Truth, Made}
+use Rattle.isle_core.specs.Value.{Value, Truth}
 use Rattle.isle_core.proofs.OptionLaws.{some_same}
-use Rattle.isle_ast.specs.Tree as tree
-use Rattle.isle_ast.specs.Views.{exprs_of}
 use Rattle.isle_declarations.specs.Signatures.{term_named}
-use Rattle.isle_declarations.specs.Symbols.{index_of}
 use Rattle.isle_declarations.specs.Terms.{terms}
-use Rattle.isle_declarations.proofs.SymbolLaws.{index_below}
-use Rattle.isle_meta.specs.InstructionRow.{is_value, is_block, is_raw_block}
 use Rattle.isle_meta.specs.Rows.{rows, IsFirstUnsupported}
 use Rattle.isle_meta.specs.declared.clif.Instruction.{Instruction}
 use Rattle.isle_meta.specs.declared.clif.InstructionFormat.{InstructionFormat}
 use Rattle.isle_meta.specs.declared.tables.Tables.{Tables}
-use Rattle.isle_prelude.specs.ClifFiles.{variable_exprs, call_on, counted_expr, data_term, opcode_term, data_expr, parameters}
-use Rattle.isle_prelude.specs.Manners.{type_variable}
-use Rattle.isle_prelude.specs.Operands.{is_imm, names_of}
 use Rattle.isle_sema.specs.Typing.{Typed}
 use Rattle.isle_sema.proofs.TypedParts.{given_in}
-use Rattle.isle_sema.proofs.TypedTerms.{is_there}
-use Rattle.isle_terms.specs.TypeNames.{type_named}
 use Rattle.isle_terms.specs.Whole.{whole_of}
 use Rattle.isle_prelude_laws.specs.HonestMeaning.{Whole, ValuedInst, SkeletonInst, ValueArray, BlockArray, maker, taker}
-use Rattle.isle_prelude_laws.specs.RoundTrip.{opt_source, IsInstruction}
+use Rattle.isle_prelude_laws.specs.RoundTrip.{opt_source}
 use Rattle.isle_prelude_laws.proofs.Callable.{called_so, given_calling, given_extracting, opaque_value}
-use Rattle.isle_prelude_laws.proofs.CanGive.{CanGive, CanGiveAll, can_give_name, can_give_nothing, can_give_both, can_variables_give, only_variables_give, can_make_give, can_counted_give}
 use Rattle.isle_prelude_laws.proofs.GivenTerms.{given_term, given_number, given_name, makes_nothing}
-use Rattle.isle_prelude_laws.proofs.Gives.{Allows, Values, IsMaker, Gives, a_call, all_more}
-use Rattle.isle_prelude_laws.proofs.HonestExists.{IsPlanFor}
-use Rattle.isle_prelude_laws.proofs.Laid.{manner_by, whole_by, HasWhole, IsLaid}
-use Rattle.isle_prelude_laws.proofs.LaidOut.{IsLaidOut, laid_out, one_term}
-use Rattle.isle_prelude_laws.proofs.PartTerms.{maker_func, maker_pure, taker_func, taker_multi, taker_sure, HasPair, pairs}
+use Rattle.isle_prelude_laws.proofs.Gives.{Values, IsMaker}
+use Rattle.isle_prelude_laws.proofs.Laid.{HasWhole}
+use Rattle.isle_prelude_laws.proofs.LaidOut.{one_term}
+use Rattle.isle_prelude_laws.proofs.PartTerms.{maker_func, maker_pure, taker_func, taker_multi, taker_sure, HasPair}
 use Rattle.isle_prelude_laws.proofs.PassedTrees.{numbers}
-use Rattle.isle_prelude_laws.proofs.Plan.{Plan, plan_value, Planned, maker_calling, taker_calling, taker_named}
+use Rattle.isle_prelude_laws.proofs.Plan.{maker_calling, taker_calling, taker_named}
 
 -- ---- how the terms of parts are called
 
-makers_called : (w : Whole) → called_so (maker_pure w) (ByTurns (External (maker_func w)) return_kind.Plain) (ByCases (External (maker_func w)) return_kind.Plain) ≡ maker_calling w
+makers_called : (w : Whole)
+    → called_so (maker_pure w) (ByTurns (External (maker_func w)) return_kind.Plain)
+    (ByCases (External (maker_func w)) return_kind.Plain) ≡ maker_calling w
 makers_called ValuedInst = refl
 makers_called SkeletonInst = refl
 makers_called (ValueArray n) = refl
@@ -112,14 +96,18 @@ module _ (t : Tables) (env : Environment) (i : Instruction) (f : InstructionForm
       let s = p.made.signature in
       let n = given_number defs env s g p.made.among in
       let k = given_term defs env s n.0 g p.made.among n.1 in
-      let v = opaque_value defs env s.ret k.decl.ret_ty g p.whole k.ret in
-      (v.0, λ a x is at.
-      let j = given_term defs env s a g p.made.among (ap (term_named (terms defs)) p.made.named ∙ is) in
-      let ty : k.decl.ret_ty ≡ j.decl.ret_ty = some_same k.decl.ret_ty j.decl.ret_ty (sym k.ret ∙ j.ret) in
-      let same : j.decl ≡ x = some_same j.decl x (sym j.there ∙ at) in
-      subst (HasType env v.0) (ty ∙ ap (λ (d : Term). d.ret_ty) same) v.1)
+      let v = opaque_value defs env s.ret k.decl.ret_ty g p.whole k.ret in (
+        v.0,
+        λ a x is at.
+            let j = given_term defs env s a g p.made.among (ap (term_named (terms defs)) p.made.named ∙ is) in
+            let ty : k.decl.ret_ty ≡ j.decl.ret_ty = some_same k.decl.ret_ty j.decl.ret_ty (sym k.ret ∙ j.ret) in
+            let same : j.decl ≡ x = some_same j.decl x (sym j.there ∙ at) in
+            subst (HasType env v.0) (ty ∙ ap (λ (d : Term). d.ret_ty) same) v.1,
+      )
 
-  pub maker_is : (val : Values) (w : Whole) → HasWhole b i w → ((a : TermId) (x : Term) → numbers (whole_of (opt_source t)) (maker w) ≡ Some a → slice_get env.terms a.0 ≡ Some x → HasType env (val w) x.ret_ty) → (a : TermId) → numbers (whole_of (opt_source t)) (maker w) ≡ Some a
+  pub maker_is : (val : Values) (w : Whole) → HasWhole b i w
+      → ((a : TermId) (x : Term) → numbers (whole_of (opt_source t)) (maker w) ≡ Some a → slice_get env.terms a.0 ≡ Some x → HasType env (val w) x.ret_ty)
+      → (a : TermId) → numbers (whole_of (opt_source t)) (maker w) ≡ Some a
       → IsMaker env val (maker_calling w) a w
   maker_is val w has fits a is =
       let defs = opt_source t in

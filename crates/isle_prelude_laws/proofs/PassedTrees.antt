@@ -1,5 +1,5 @@
 -- The trees that typing gives to names and terms, where nothing is converted, are of these names.
-use Rattle.std.proofs.Common.{◌≡◌, ℕ, suc, ◌+◌, List, [], ◌∷◌, ◌++◌, Bool, true, false, cond, Option, Some, None, refl, sym, ap, ◌∙◌, subst, arith}
+use Rattle.std.proofs.Common.{◌≡◌, ℕ, suc, ◌+◌, List, [], ◌∷◌, Bool, true, false, cond, Option, Some, None, refl, sym, ap, ◌∙◌, arith}
 use Rattle.std.specs.Prelude.{◌==◌, option_and_then, option_map}
 use Rattle.std.specs.Str.{bytes_eq}
 use Rattle.isle_base.specs.declared.ids.TermId.{TermId}
@@ -12,7 +12,7 @@ use Rattle.isle_core.specs.Pattern.{Pattern, Patterns, NoPattern, APattern}
 use Rattle.isle_core.specs.RuleViews.{patterns_of as core_patterns}
 use Rattle.isle_core.proofs.OptionLaws.{some_same}
 use Rattle.isle_ast.specs.Tree as tree
-use Rattle.isle_declarations.specs.Signatures.{Signature, term_named}
+use Rattle.isle_declarations.specs.Signatures.{term_named}
 use Rattle.isle_declarations.specs.Symbols.{index_of}
 use Rattle.isle_declarations.specs.Terms.{terms}
 use Rattle.isle_sema.specs.ExprPass.{local_tree, call_tree, expr_within, expr_before, known_type, expr_pass, exprs_pass}
@@ -20,7 +20,7 @@ use Rattle.isle_sema.specs.PatternPass.{variable_tree, term_tree, pattern_within
 use Rattle.isle_sema.proofs.ParameterScopes.{listed}
 use Rattle.isle_terms.specs.Converters.{Conversion, converters, converter_between, conversion}
 use Rattle.isle_terms.specs.Locals.{local_named}
-use Rattle.isle_terms.specs.Scope.{Local, Scope, found_in, met_by, met, typed_local, variable}
+use Rattle.isle_terms.specs.Scope.{Local, Scope, found_in, met_by, met, typed_local}
 use Rattle.isle_terms.specs.TermPass.{tree_before}
 use Rattle.isle_terms.specs.Whole.{Whole, termed, arg_types, ret_type}
 use Rattle.isle_prelude_laws.proofs.NamedTrees.{Numbers, ExprNamed, ExprsNamed, PatternNamed, PatternsNamed}
@@ -41,7 +41,8 @@ record ThreeThere {A B C D : Type 0} (f : A → B → C → D) (a : Option A) (b
   three_is : c ≡ Some three
   made : f one two three ≡ d
 
-three_there : {A B C D : Type 0} (f : A → B → C → D) (a : Option A) (b : Option B) (c : Option C) (d : D) → option_and_then (λ (x : A). option_and_then (λ (y : B). option_map (f x y) c) b) a ≡ Some d → ThreeThere f a b c d
+three_there : {A B C D : Type 0} (f : A → B → C → D) (a : Option A) (b : Option B) (c : Option C) (d : D)
+    → option_and_then (λ (x : A). option_and_then (λ (y : B). option_map (f x y) c) b) a ≡ Some d → ThreeThere f a b c d
 three_there f None b c d h = absurd cc
 three_there f (Some x) None c d h = absurd cc
 three_there f (Some x) (Some y) None d h = absurd cc
@@ -78,11 +79,15 @@ abbrev mutual
 abbrev pub AtPlaces : List (List ℕ) → List Local → Type 0
 AtPlaces params locals = (name : List ℕ) (l : Local) → local_named locals name ≡ Some l → index_of params name ≡ Some l.number
 
-variable_named : (params : List (List ℕ)) (name : List ℕ) (found : Option Local) (x : Expr) → ((l : Local) → found ≡ Some l → index_of params name ≡ Some l.number) → local_tree found ≡ Some x → (ty : TypeId) × (v : VarId) × (x ≡ expr.Var ty v) × (index_of params name ≡ Some v.0)
+variable_named : (params : List (List ℕ)) (name : List ℕ) (found : Option Local) (x : Expr)
+    → ((l : Local) → found ≡ Some l → index_of params name ≡ Some l.number) → local_tree found ≡ Some x
+    → (ty : TypeId) × (v : VarId) × (x ≡ expr.Var ty v) × (index_of params name ≡ Some v.0)
 variable_named params name None x at h = absurd cc
 variable_named params name (Some l) x at h = by l.ty h
   where
-    by : (o : Option TypeId) → option_map (λ (v : TypeId × VarId). expr.Var v.0 v.1) (option_map (λ (ty : TypeId). (ty, record { 0 = l.number })) o) ≡ Some x → (ty : TypeId) × (v : VarId) × (x ≡ expr.Var ty v) × (index_of params name ≡ Some v.0)
+    by : (o : Option TypeId)
+        → option_map (λ (v : TypeId × VarId). expr.Var v.0 v.1) (option_map (λ (ty : TypeId). (ty, record { 0 = l.number })) o) ≡ Some x
+        → (ty : TypeId) × (v : VarId) × (x ≡ expr.Var ty v) × (index_of params name ≡ Some v.0)
     by None k = absurd cc
     by (Some ty) k = (ty, record { 0 = l.number }, sym (some_same (expr.Var ty (record { 0 = l.number })) x k), at l refl)
 
@@ -100,7 +105,8 @@ both_there (Some e) (Some es) xs h = record { one = e; others = es; one_is = ref
 
 module _ (w : Whole) (none : converters w.defs ≡ []) (params : List (List ℕ)) (locals : List Local) (places : AtPlaces params locals) where
   mutual
-    pub expr_named : (next : ℕ) (expected : Option TypeId) (e : tree.Expr) (x : Expr) → IsSimple e → (expr_pass w locals next expected e).tree ≡ Some x → ExprNamed (numbers w) params e x
+    pub expr_named : (next : ℕ) (expected : Option TypeId) (e : tree.Expr) (x : Expr) → IsSimple e
+        → (expr_pass w locals next expected e).tree ≡ Some x → ExprNamed (numbers w) params e x
     expr_named next expected (tree.Name name) x simple h =
         let found = local_named locals name in
         variable_named params name found x (places name) (ap (λ by. expr_within w by (local_tree found)) (sym (unconverted w (known_type found) expected none)) ∙ h)
@@ -115,7 +121,8 @@ module _ (w : Whole) (none : converters w.defs ≡ []) (params : List (List ℕ)
     expr_named next expected (tree.Constant name) x simple h = absurd simple
     expr_named next expected (tree.Let lets inner) x simple h = absurd simple
 
-    exprs_named : (next : ℕ) (expected : List (Option TypeId)) (es : tree.Exprs) (xs : Exprs) → AreSimple es → (exprs_pass w locals next expected es).trees ≡ Some xs → ExprsNamed (numbers w) params es xs
+    exprs_named : (next : ℕ) (expected : List (Option TypeId)) (es : tree.Exprs) (xs : Exprs) → AreSimple es
+        → (exprs_pass w locals next expected es).trees ≡ Some xs → ExprsNamed (numbers w) params es xs
     exprs_named next expected tree.NoExpr xs simple h = sym (some_same NoExpr xs h)
     exprs_named next expected (tree.AnExpr e es) xs simple h =
         let first = expr_pass w locals next (first_expected expected) e in
@@ -149,7 +156,8 @@ first_listed j param types = record { name = param; ty = first_expected types; n
 abbrev pub IsFoundAt : Option Local → ℕ → Type 0
 IsFoundAt found n = (l : Local) × (found ≡ Some l) × (l.number ≡ n)
 
-later_place : (j k : ℕ) (first : Local) (b : Bool) (o : Option ℕ) (rest : Option Local) → b ≡ false → ((n : ℕ) → o ≡ Some n → IsFoundAt rest (suc j + n)) → option_map (λ (n : ℕ). n + 1) o ≡ Some k → IsFoundAt (cond b (Some first) rest) (j + k)
+later_place : (j k : ℕ) (first : Local) (b : Bool) (o : Option ℕ) (rest : Option Local) → b ≡ false
+    → ((n : ℕ) → o ≡ Some n → IsFoundAt rest (suc j + n)) → option_map (λ (n : ℕ). n + 1) o ≡ Some k → IsFoundAt (cond b (Some first) rest) (j + k)
 later_place j k first b None rest other go e = absurd cc
 later_place j k first b (Some n) rest other go e =
     let r = go n refl in
@@ -158,22 +166,27 @@ later_place j k first b (Some n) rest other go e =
     (r.0, ap (λ t. cond t (Some first) rest) other ∙ r.1, omega (arith, more, at))
 
 -- a parameter is found at its place
-pub listed_at_place : (params : List (List ℕ)) (types : List (Option TypeId)) (j k : ℕ) (name : List ℕ) → index_of params name ≡ Some k → IsFoundAt (found_in (listed j params types) name) (j + k)
+pub listed_at_place : (params : List (List ℕ)) (types : List (Option TypeId)) (j k : ℕ) (name : List ℕ) → index_of params name ≡ Some k
+    → IsFoundAt (found_in (listed j params types) name) (j + k)
 listed_at_place [] types j k name h = absurd cc
 listed_at_place (param ∷ params) types j k name h = by (λ n e. listed_at_place params (later_expected types) (suc j) n name e) (bytes_eq param name) refl h
   where
-    by : ((n : ℕ) → index_of params name ≡ Some n → IsFoundAt (found_in (listed (suc j) params (later_expected types)) name) (suc j + n)) → (b : Bool) → bytes_eq param name ≡ b → cond b (Some 0) (option_map (λ (n : ℕ). n + 1) (index_of params name)) ≡ Some k
+    by : ((n : ℕ) → index_of params name ≡ Some n → IsFoundAt (found_in (listed (suc j) params (later_expected types)) name) (suc j + n)) → (b : Bool)
+        → bytes_eq param name ≡ b → cond b (Some 0) (option_map (λ (n : ℕ). n + 1) (index_of params name)) ≡ Some k
         → IsFoundAt (cond (bytes_eq param name) (Some (first_listed j param types)) (found_in (listed (suc j) params (later_expected types)) name)) (j + k)
     by go true same e =
         let none : 0 ≡ k = some_same 0 k e in
         (first_listed j param types, ap (λ t. cond t (Some (first_listed j param types)) (found_in (listed (suc j) params (later_expected types)) name)) same, omega (arith, none))
     by go false other e = later_place j k (first_listed j param types) (bytes_eq param name) (index_of params name) (found_in (listed (suc j) params (later_expected types)) name) other go e
 
-typed_there : (params : List (List ℕ)) (name : List ℕ) (k : ℕ) (l : Local) (o : Option Local) (q : Pattern) → index_of params name ≡ Some k → l.number ≡ k → o ≡ Some l → option_map (λ (v : TypeId × VarId). pattern.Var v.0 v.1) (typed_local o) ≡ Some q
+typed_there : (params : List (List ℕ)) (name : List ℕ) (k : ℕ) (l : Local) (o : Option Local) (q : Pattern) → index_of params name ≡ Some k
+    → l.number ≡ k → o ≡ Some l → option_map (λ (v : TypeId × VarId). pattern.Var v.0 v.1) (typed_local o) ≡ Some q
     → (ty : TypeId) × (v : VarId) × (q ≡ pattern.Var ty v) × (index_of params name ≡ Some v.0)
 typed_there params name k l o q is number found h = by l.ty (ap (λ x. option_map (λ (v : TypeId × VarId). pattern.Var v.0 v.1) (typed_local x)) (sym found) ∙ h)
   where
-    by : (t : Option TypeId) → option_map (λ (v : TypeId × VarId). pattern.Var v.0 v.1) (option_map (λ (ty : TypeId). (ty, record { 0 = l.number })) t) ≡ Some q → (ty : TypeId) × (v : VarId) × (q ≡ pattern.Var ty v) × (index_of params name ≡ Some v.0)
+    by : (t : Option TypeId)
+        → option_map (λ (v : TypeId × VarId). pattern.Var v.0 v.1) (option_map (λ (ty : TypeId). (ty, record { 0 = l.number })) t) ≡ Some q
+        → (ty : TypeId) × (v : VarId) × (q ≡ pattern.Var ty v) × (index_of params name ≡ Some v.0)
     by None e = absurd cc
     by (Some ty) e = (ty, record { 0 = l.number }, sym (some_same (pattern.Var ty (record { 0 = l.number })) q e), is ∙ ap Some (sym number))
 
@@ -217,7 +230,8 @@ module _ (w : Whole) (none : converters w.defs ≡ []) (params : List (List ℕ)
         ap (λ s. (patterns_pass w (later_expected expected) s ps).scope) (pattern_same (first_expected expected) p over.0) ∙ patterns_same (later_expected expected) ps over.1
 
   mutual
-    pub pattern_named : (expected : Option TypeId) (p : tree.Pattern) (q : Pattern) → IsOver params p → (pattern_pass w expected scope p).tree ≡ Some q → PatternNamed (numbers w) params p q
+    pub pattern_named : (expected : Option TypeId) (p : tree.Pattern) (q : Pattern) → IsOver params p
+        → (pattern_pass w expected scope p).tree ≡ Some q → PatternNamed (numbers w) params p q
     pattern_named expected (tree.Var name) q over h =
         let f = found_there name over.0 over.1 in
         typed_there params name over.0 f.0 (found_in scope.variables name) q over.1 f.2 f.1 (ap (λ s. variable_tree s name) (sym (met_same name over.0 expected over.1)) ∙ h)
@@ -234,7 +248,8 @@ module _ (w : Whole) (none : converters w.defs ≡ []) (params : List (List ℕ)
     pattern_named expected (tree.Bind name inner) q over h = absurd over
     pattern_named expected (tree.And parts) q over h = absurd over
 
-    patterns_named : (expected : List (Option TypeId)) (ps : tree.Patterns) (qs : List Pattern) → AreOver params ps → (patterns_pass w expected scope ps).trees ≡ Some qs → PatternsNamed (numbers w) params ps (core_patterns qs)
+    patterns_named : (expected : List (Option TypeId)) (ps : tree.Patterns) (qs : List Pattern) → AreOver params ps
+        → (patterns_pass w expected scope ps).trees ≡ Some qs → PatternsNamed (numbers w) params ps (core_patterns qs)
     patterns_named expected tree.NoPattern qs over h = ap core_patterns (sym (some_same [] qs h))
     patterns_named expected (tree.APattern p ps) qs over h =
         let first = pattern_pass w (first_expected expected) scope p in

@@ -1,15 +1,14 @@
 -- A meaning that answers each callee of an instruction by one answer, whatever the arguments.
-use Rattle.std.proofs.Common.{◌≡◌, ℕ, ◌<◌, List, [], ◌∷◌, ◌++◌, Bool, true, false, cond, Option, Some, None, refl, sym, ap, ◌∙◌, subst, arith}
+use Rattle.std.proofs.Common.{◌≡◌, ℕ, ◌<◌, List, [], ◌∷◌, ◌++◌, Bool, true, false, cond, Option, Some, None, refl, sym, ap, ◌∙◌, subst}
 use Rattle.std.specs.Prelude.{All, IsSomeAnd, find, codes, slice_index_or}
 use Rattle.std.specs.Str.{bytes_eq}
 use Rattle.std.proofs.lemmas.List.{append_cancel_right}
 use Rattle.std.proofs.lemmas.List.Elements.{All-from_recursion}
 use Rattle.std.proofs.lemmas.Slice.Eq.{bytes_eq-Decides}
 use Rattle.isle_base.specs.declared.ids.TypeId.{TypeId}
-use Rattle.isle_core.specs.declared.types.ReturnKind.{ReturnKind}
 use Rattle.isle_core.specs.declared.types.ReturnKind.TheVariants as return_kind
 use Rattle.isle_core.specs.declared.values.Callee.{Callee}
-use Rattle.isle_core.specs.declared.values.Callee.TheVariants.{External, Internal}
+use Rattle.isle_core.specs.declared.values.Callee.TheVariants.{External}
 use Rattle.isle_core.specs.Calling.{Calling, ByTurns, ByCases}
 use Rattle.isle_core.specs.Eval.{Answered, answered, called_with}
 use Rattle.isle_core.specs.Answered.{answer_held}
@@ -18,7 +17,7 @@ use Rattle.isle_core.specs.Lawful.{Fits, all_turns, all_cases, CallingFits}
 use Rattle.isle_core.specs.Meaning.{PureAnswers, TurnAnswers, Meaning, turns_of, turn_at, times, same_values, cases_of, case, case_or, case_at}
 use Rattle.isle_core.specs.Rule.{Environment}
 use Rattle.isle_core.specs.Terms.{goes_to}
-use Rattle.isle_core.specs.Value.{Value, Answer, Plain, Found, Several, Made}
+use Rattle.isle_core.specs.Value.{Value, Answer, Plain, Made}
 use Rattle.isle_core.proofs.ListLaws.{not_both}
 use Rattle.isle_prelude.specs.NumberedNames.{value_array, value_array_ctor, block_array, pack, unpack}
 use Rattle.isle_prelude_laws.specs.HonestMeaning.{Whole, ValuedInst, SkeletonInst, ValueArray, BlockArray, maker, taker, gives_back, answer_to}
@@ -188,7 +187,9 @@ module _ (p : Plan) where
 
   -- ---- what is answered
 
-  turn_gives : (callee : Callee) (a : TurnAnswers) (v : Value) (place : ℕ) (vs : List Value) (made : List Made) → turns_of (planned p) callee ≡ Some a → a.turns ≡ [] → a.rest ≡ Plain (v ∷ []) → (after : List Made) × (called_with (planned p) place (ByTurns callee return_kind.Plain) vs made ≡ Answered v after)
+  turn_gives : (callee : Callee) (a : TurnAnswers) (v : Value) (place : ℕ) (vs : List Value) (made : List Made) → turns_of (planned p) callee ≡ Some a
+      → a.turns ≡ [] → a.rest ≡ Plain (v ∷ [])
+      → (after : List Made) × (called_with (planned p) place (ByTurns callee return_kind.Plain) vs made ≡ Answered v after)
   turn_gives callee a v place vs made h none rest =
       let after = made ++ record { callee = callee; args = vs } ∷ [] in
       (after, ap (λ o. answered place (answer_held (turn_at o (times callee made))) after) h ∙ ap (λ ts. answered place (answer_held (slice_index_or ts (times callee made) a.rest)) after) none ∙ ap (λ x. answered place (answer_held x) after) rest)
@@ -216,11 +217,14 @@ module _ (p : Plan) where
 
   -- ---- lawful answers
 
-  turns_fit : (env : Environment) (ret : TypeId) (name : List ℕ) (v : Value) → turns_of (planned p) (External name) ≡ Some (always_turn name (Plain (v ∷ []))) → HasType env v ret → CallingFits env (planned p) (ret ∷ []) (ByTurns (External name) return_kind.Plain)
+  turns_fit : (env : Environment) (ret : TypeId) (name : List ℕ) (v : Value)
+      → turns_of (planned p) (External name) ≡ Some (always_turn name (Plain (v ∷ []))) → HasType env v ret
+      → CallingFits env (planned p) (ret ∷ []) (ByTurns (External name) return_kind.Plain)
   turns_fit env ret name v h typed =
       subst (λ o. IsSomeAnd o (λ a. All (Fits env return_kind.Plain (ret ∷ [])) (all_turns a))) (sym h) (All-from_recursion (Fits env return_kind.Plain (ret ∷ [])) (Plain (v ∷ []) ∷ []) ((typed, tt), tt))
 
-  pub makers_fit : (env : Environment) (ret : TypeId) (w : Whole) (vs : List Value) → Planned p w vs → HasType env (plan_value p w) ret → CallingFits env (planned p) (ret ∷ []) (maker_calling w)
+  pub makers_fit : (env : Environment) (ret : TypeId) (w : Whole) (vs : List Value) → Planned p w vs → HasType env (plan_value p w) ret
+      → CallingFits env (planned p) (ret ∷ []) (maker_calling w)
   makers_fit env ret ValuedInst vs h typed = turns_fit env ret (maker (whole_by true)) p.own (subst (λ b. turns_of (planned p) (External (maker (whole_by b))) ≡ Some (always_turn (maker (whole_by b)) (Plain (p.own ∷ [])))) h.0 turns_own) typed
   makers_fit env ret SkeletonInst vs h typed = turns_fit env ret (maker (whole_by false)) p.own (subst (λ b. turns_of (planned p) (External (maker (whole_by b))) ≡ Some (always_turn (maker (whole_by b)) (Plain (p.own ∷ [])))) h.0 turns_own) typed
   makers_fit env ret (BlockArray n) vs h typed = turns_fit env ret (pack (block_array n)) p.blocks (subst (λ k. turns_of (planned p) (External (pack (block_array k))) ≡ Some (always_turn (pack (block_array k)) (Plain (p.blocks ∷ [])))) (sym h.0) turns_pack) typed

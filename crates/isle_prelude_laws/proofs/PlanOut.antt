@@ -1,5 +1,5 @@
 -- Each instruction of a supported table whose definitions are typed has a plan for all operands of its types.
-use Rattle.std.proofs.Common.{◌≡◌, ℕ, zero, suc, ◌+◌, ◌<◌, List, [], ◌∷◌, ◌++◌, length, map, Bool, true, false, Option, Some, None, refl, sym, ap, ◌∙◌, subst, arith}
+use Rattle.std.proofs.Common.{◌≡◌, ℕ, suc, ◌<◌, List, [], ◌∷◌, ◌++◌, length, map, Bool, true, false, Option, Some, None, refl, sym, ap, ◌∙◌, subst, arith}
 use Rattle.std.specs.Prelude.{option_and_then, slice_get}
 use Rattle.isle_base.specs.declared.ids.TermId.{TermId}
 use Rattle.isle_base.specs.declared.ids.TypeId.{TypeId}
@@ -22,7 +22,6 @@ use Rattle.isle_meta.specs.declared.clif.Instruction.{Instruction}
 use Rattle.isle_meta.specs.declared.clif.InstructionFormat.{InstructionFormat}
 use Rattle.isle_meta.specs.declared.tables.Tables.{Tables}
 use Rattle.isle_prelude.specs.ClifFiles.{variable_exprs, call_on, counted_expr, data_term, opcode_term, data_expr, parameters, typed_first}
-use Rattle.isle_prelude.specs.InstructionParts.{right_side}
 use Rattle.isle_prelude.specs.Manners.{type_variable}
 use Rattle.isle_prelude.specs.Operands.{is_imm, names_of}
 use Rattle.isle_sema.specs.Typing.{Typed}
@@ -31,14 +30,14 @@ use Rattle.isle_terms.specs.Whole.{whole_of}
 use Rattle.isle_prelude_laws.specs.HonestMeaning.{Whole, ValuedInst, SkeletonInst, ValueArray, BlockArray, maker}
 use Rattle.isle_prelude_laws.specs.RoundTrip.{opt_source, IsInstruction}
 use Rattle.isle_prelude_laws.proofs.CanGive.{HasNames, CanGive, CanGiveAll, can_give_name, can_give_nothing, can_give_both, can_variables_give, only_variables_give, can_make_give, can_counted_give}
-use Rattle.isle_prelude_laws.proofs.Gives.{Allows, Values, IsMaker, Gives, a_call, GivesAll, all_more}
+use Rattle.isle_prelude_laws.proofs.Gives.{Allows, Values, IsMaker, Gives, a_call, all_more}
 use Rattle.isle_prelude_laws.proofs.HonestExists.{IsPlanFor}
 use Rattle.isle_prelude_laws.proofs.Laid.{manner_by, whole_by, HasWhole, IsLaid}
-use Rattle.isle_prelude_laws.proofs.LaidOut.{IsLaidOut, laid_out}
+use Rattle.isle_prelude_laws.proofs.LaidOut.{IsLaidOut}
 use Rattle.isle_prelude_laws.proofs.Mirrored.{args_typed}
-use Rattle.isle_prelude_laws.proofs.NamedTrees.{Numbers, ExprsNamed}
+use Rattle.isle_prelude_laws.proofs.NamedTrees.{Numbers}
 use Rattle.isle_prelude_laws.proofs.PartTerms.{HasPair, pairs}
-use Rattle.isle_prelude_laws.proofs.PartValues.{ValueOf, several, taker_called, whole_value, maker_is}
+use Rattle.isle_prelude_laws.proofs.PartValues.{several, taker_called, whole_value, maker_is}
 use Rattle.isle_prelude_laws.proofs.PassedTrees.{numbers}
 use Rattle.isle_prelude_laws.proofs.Plan.{Plan, plan_value, Planned, maker_calling}
 
@@ -52,7 +51,9 @@ value_or (Some v) = v
 operand_named : (params : List (List ℕ)) (operands : List Value) → List ℕ → Value
 operand_named params operands name = value_or (option_and_then (slice_get operands) (index_of params name))
 
-names_held : (params : List (List ℕ)) (operands : List Value) (names : Names) → length operands ≡ length params → ((k : ℕ) → names k ≡ slice_get operands k) → (name : List ℕ) (k : ℕ) → index_of params name ≡ Some k → names k ≡ Some (operand_named params operands name)
+names_held : (params : List (List ℕ)) (operands : List Value) (names : Names) → length operands ≡ length params
+    → ((k : ℕ) → names k ≡ slice_get operands k) → (name : List ℕ) (k : ℕ) → index_of params name ≡ Some k
+    → names k ≡ Some (operand_named params operands name)
 unfolding operand_named value_or
 names_held params operands names many are name k is =
     let lt = index_below params name k is in
@@ -94,14 +95,16 @@ Packed i of_name SkeletonInst vs = ⊥
 Packed i of_name (ValueArray n) vs = (n ≡ length (names_of is_value i)) × (vs ≡ map of_name (names_of is_value i)) × (1 < n)
 Packed i of_name (BlockArray n) vs = (n ≡ length (names_of is_block i)) × (vs ≡ map of_name (names_of is_block i)) × (1 < n)
 
-packed_planned : (b : Bool) (i : Instruction) (of_name : List ℕ → Value) (v : PartsPlan) (parts : List Value) (w : Whole) (vs : List Value) → Packed i of_name w vs → Planned (plan_of b i of_name v parts) w vs
+packed_planned : (b : Bool) (i : Instruction) (of_name : List ℕ → Value) (v : PartsPlan) (parts : List Value) (w : Whole) (vs : List Value)
+    → Packed i of_name w vs → Planned (plan_of b i of_name v parts) w vs
 packed_planned b i of_name v parts ValuedInst vs h = absurd h
 packed_planned b i of_name v parts SkeletonInst vs h = absurd h
 packed_planned b i of_name v parts (ValueArray n) vs h = h
 packed_planned b i of_name v parts (BlockArray n) vs h = h
 
 -- what is planned is made in the instruction's rule
-planned_whole : (b : Bool) (i : Instruction) (of_name : List ℕ → Value) (v : PartsPlan) (parts : List Value) (w : Whole) (vs : List Value) → Planned (plan_of b i of_name v parts) w vs → HasWhole b i w
+planned_whole : (b : Bool) (i : Instruction) (of_name : List ℕ → Value) (v : PartsPlan) (parts : List Value) (w : Whole) (vs : List Value)
+    → Planned (plan_of b i of_name v parts) w vs → HasWhole b i w
 planned_whole b i of_name v parts ValuedInst vs h = h.0
 planned_whole b i of_name v parts SkeletonInst vs h = h.0
 planned_whole b i of_name v parts (ValueArray n) vs h = (h.0, h.2)
@@ -111,11 +114,13 @@ own_whole : (b : Bool) (i : Instruction) → HasWhole b i (whole_by b)
 own_whole true i = refl
 own_whole false i = refl
 
-own_planned : (b : Bool) (i : Instruction) (of_name : List ℕ → Value) (v : PartsPlan) (parts : List Value) → Planned (plan_of b i of_name v parts) (whole_by b) parts
+own_planned : (b : Bool) (i : Instruction) (of_name : List ℕ → Value) (v : PartsPlan) (parts : List Value)
+    → Planned (plan_of b i of_name v parts) (whole_by b) parts
 own_planned true i of_name v parts = (refl, refl)
 own_planned false i of_name v parts = (refl, refl)
 
-own_value : (b : Bool) (i : Instruction) (of_name : List ℕ → Value) (v : PartsPlan) (parts : List Value) → plan_value (plan_of b i of_name v parts) (whole_by b) ≡ v.own
+own_value : (b : Bool) (i : Instruction) (of_name : List ℕ → Value) (v : PartsPlan) (parts : List Value)
+    → plan_value (plan_of b i of_name v parts) (whole_by b) ≡ v.own
 own_value true i of_name v parts = refl
 own_value false i of_name v parts = refl
 
@@ -141,10 +146,13 @@ module _ (env : Environment) (number : Numbers) (f : InstructionFormat) (i : Ins
       (can_give_both env number params allowed vars of_name val maker_calling P (call_on (opcode_term i) []) (exprs_of value_es) opcode with_values)
 
   -- what the instruction is made of
-  args_give : CanGiveAll env number params allowed vars of_name val maker_calling (Packed i of_name) (exprs_of (typed_first (manner_by b).is_typed (tree.Name type_variable) (data_expr f i ∷ [])))
+  args_give : CanGiveAll env number params allowed vars of_name val maker_calling (Packed i of_name)
+      (exprs_of (typed_first (manner_by b).is_typed (tree.Name type_variable) (data_expr f i ∷ [])))
   args_give = by b
     where
-      by : (c : Bool) → CanGiveAll env number params allowed vars of_name val maker_calling (Packed i of_name) (exprs_of (typed_first (manner_by c).is_typed (tree.Name type_variable) (data_expr f i ∷ [])))
+      by : (c : Bool)
+          → CanGiveAll env number params allowed vars of_name val maker_calling (Packed i of_name)
+          (exprs_of (typed_first (manner_by c).is_typed (tree.Name type_variable) (data_expr f i ∷ [])))
       by true =
           can_give_both env number params allowed vars of_name val maker_calling (Packed i of_name) (tree.Name type_variable) (exprs_of (data_expr f i ∷ [])) (can_give_name env number params allowed vars of_name val maker_calling (Packed i of_name) type_variable)
           (can_give_both env number params allowed vars of_name val maker_calling (Packed i of_name) (data_expr f i) tree.NoExpr data_gives (can_give_nothing env number params allowed vars of_name val maker_calling (Packed i of_name)))
@@ -162,7 +170,8 @@ record PartsFit (env : Environment) (number : Numbers) (i : Instruction) (b : Bo
   values : 1 < length (names_of is_value i) → FitsMakers env number (maker (ValueArray (length (names_of is_value i)))) v.values
   blocks : 1 < length (names_of is_block i) → FitsMakers env number (maker (BlockArray (length (names_of is_block i)))) v.blocks
 
-planned_fits : (env : Environment) (number : Numbers) (i : Instruction) (b : Bool) (v : PartsPlan) (of_name : List ℕ → Value) (parts : List Value) → PartsFit env number i b v → (w : Whole) → HasWhole b i w → FitsMakers env number (maker w) (plan_value (plan_of b i of_name v parts) w)
+planned_fits : (env : Environment) (number : Numbers) (i : Instruction) (b : Bool) (v : PartsPlan) (of_name : List ℕ → Value) (parts : List Value)
+    → PartsFit env number i b v → (w : Whole) → HasWhole b i w → FitsMakers env number (maker w) (plan_value (plan_of b i of_name v parts) w)
 planned_fits env number i b v of_name parts h ValuedInst has = subst (λ c. FitsMakers env number (maker (whole_by c)) v.own) has h.own
 planned_fits env number i b v of_name parts h SkeletonInst has = subst (λ c. FitsMakers env number (maker (whole_by c)) v.own) has h.own
 planned_fits env number i b v of_name parts h (ValueArray n) has =
@@ -201,17 +210,19 @@ module _ (t : Tables) (env : Environment) (i : Instruction) (term : TermId) (sup
       let args = args_typed env laid.allowed (rule_typed laid.rule) laid.decl.ret_ty e.2 (slice_get env.terms e.1.0) shown.1 in
       let parts = args_give env number l.format i b term l.pattern laid params laid.allowed (rule_typed laid.rule) of_name val makes e.2 args.0 e.5 args.1 in
       let p = plan_of b i of_name v.0 parts.0 in
-      let many = typed_many env operands laid.decl.arg_tys has_types in
-      (p, record {
-        rule = laid.rule;
-        rules = laid.rules;
-        tys = laid.decl.arg_tys;
-        plain = laid.plain;
-        many = many;
-        value = plan_value p (whole_by b);
-        gives = λ names are.
-            let held : HasNames env number params laid.allowed (rule_typed laid.rule) of_name val maker_calling (Packed i of_name) names = names_held params operands names (many ∙ sym l.many) are in
-            subst (λ (y : Expr). Gives env names (plan_value p) maker_calling (Planned p) y (plan_value p (whole_by b))) (sym e.3)
-            (a_call e.0 e.1 e.2 (whole_by b) parts.0 (makes (whole_by b) (own_whole b i) e.1 e.4) (own_planned b i of_name v.0 parts.0) (all_more (packed_planned b i of_name v.0 parts.0) (parts.1 names held)));
-        takes = λ w vs planned y named. taker_called t env i l.format b supported typed pair_there w (planned_whole b i of_name v.0 parts.0 w vs planned) y named;
-      })
+      let many = typed_many env operands laid.decl.arg_tys has_types in (
+        p,
+        record {
+          rule = laid.rule;
+          rules = laid.rules;
+          tys = laid.decl.arg_tys;
+          plain = laid.plain;
+          many = many;
+          value = plan_value p (whole_by b);
+          gives = λ names are.
+              let held : HasNames env number params laid.allowed (rule_typed laid.rule) of_name val maker_calling (Packed i of_name) names = names_held params operands names (many ∙ sym l.many) are in
+              subst (λ (y : Expr). Gives env names (plan_value p) maker_calling (Planned p) y (plan_value p (whole_by b))) (sym e.3)
+              (a_call e.0 e.1 e.2 (whole_by b) parts.0 (makes (whole_by b) (own_whole b i) e.1 e.4) (own_planned b i of_name v.0 parts.0) (all_more (packed_planned b i of_name v.0 parts.0) (parts.1 names held)));
+          takes = λ w vs planned y named. taker_called t env i l.format b supported typed pair_there w (planned_whole b i of_name v.0 parts.0 w vs planned) y named;
+        },
+      )

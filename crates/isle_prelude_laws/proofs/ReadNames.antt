@@ -32,11 +32,13 @@ pub record Opens (env : Environment) (m : Meaning) (term : TermId) (v : Value) (
 mutual
   pub data IsRead (env : Environment) (m : Meaning) (all : Names) : Pattern → Value → Type 0 where
     at_variable : (ty : TypeId) (x : VarId) (v : Value) → all x.0 ≡ Some v → IsRead env m all (pattern.Var ty x) v
-    at_term : (ty : TypeId) (term : TermId) (ps : Patterns) (v : Value) (vs : List Value) → Opens env m term v vs → AreRead env m all ps vs → IsRead env m all (pattern.Term ty term ps) v
+    at_term : (ty : TypeId) (term : TermId) (ps : Patterns) (v : Value) (vs : List Value) → Opens env m term v vs → AreRead env m all ps vs
+        → IsRead env m all (pattern.Term ty term ps) v
 
   pub data AreRead (env : Environment) (m : Meaning) (all : Names) : Patterns → List Value → Type 0 where
     no_part : AreRead env m all NoPattern []
-    a_part : (p : Pattern) (ps : Patterns) (v : Value) (vs : List Value) → IsRead env m all p v → AreRead env m all ps vs → AreRead env m all (APattern p ps) (v ∷ vs)
+    a_part : (p : Pattern) (ps : Patterns) (v : Value) (vs : List Value) → IsRead env m all p v → AreRead env m all ps vs
+        → AreRead env m all (APattern p ps) (v ∷ vs)
 
 -- names with no other values than all of them have
 abbrev pub IsWithin : Names → Names → Type 0
@@ -71,12 +73,14 @@ eqb_self x = search rules
 with_there : (names : Names) (x : ℕ) (v : Value) → with names x v x ≡ Some v
 with_there names x v = ap (λ b. cond b (Some v) (names x)) (eqb_self x)
 
-one_variable : (all before after : Names) (of : TypeId) (x : ℕ) → after x ≡ all x → (ty : TypeId) (y : ℕ) → Contains {X = TypeId × ℕ} ((of, x) ∷ []) (ty, y) → after y ≡ all y
+one_variable : (all before after : Names) (of : TypeId) (x : ℕ) → after x ≡ all x → (ty : TypeId) (y : ℕ)
+    → Contains {X = TypeId × ℕ} ((of, x) ∷ []) (ty, y) → after y ≡ all y
 one_variable all before after of x h ty y c =
     ⊎_elim (λ (e : (of, x) ≡ (ty, y)). let same : x ≡ y = ap (λ (p : TypeId × ℕ). p.1) e in subst (λ z. after z ≡ all z) same h) (λ none. absurd (none_contained (ty, y) none)) (contained_cases (of, x) [] (ty, y) c)
 
 -- what a variable binds
-met_bound : (all names after : Names) (ty : TypeId) (x : ℕ) (v : Value) (o : Option Value) → names x ≡ o → all x ≡ Some v → IsWithin names all → met o x v names ≡ Some after → AreBound all names after ((ty, x) ∷ [])
+met_bound : (all names after : Names) (ty : TypeId) (x : ℕ) (v : Value) (o : Option Value) → names x ≡ o → all x ≡ Some v → IsWithin names all
+    → met o x v names ≡ Some after → AreBound all names after ((ty, x) ∷ [])
 met_bound all names after ty x v None none is within h =
     let same : with names x v ≡ after = some_same (with names x v) after h in
     subst (λ (a : Names). AreBound all names a ((ty, x) ∷ [])) same (record {
@@ -95,7 +99,8 @@ met_bound all names after ty x v (Some w) there is within h = by (same_value w v
         })
     by false e = absurd cc
 
-met_there : (all names : Names) (x : ℕ) (v : Value) (o : Option Value) → names x ≡ o → all x ≡ Some v → IsWithin names all → (after : Names) × (met o x v names ≡ Some after)
+met_there : (all names : Names) (x : ℕ) (v : Value) (o : Option Value) → names x ≡ o → all x ≡ Some v → IsWithin names all
+    → (after : Names) × (met o x v names ≡ Some after)
 met_there all names x v None none is within = (with names x v, refl)
 met_there all names x v (Some w) there is within =
     let same : w ≡ v = some_same w v (sym (within x w there) ∙ is) in
@@ -106,7 +111,8 @@ met_there all names x v (Some w) there is within =
 no_variable : (all before after : Names) (ty : TypeId) (x : ℕ) → Contains {X = TypeId × ℕ} [] (ty, x) → after x ≡ all x
 no_variable all before after ty x c = absurd (none_contained (ty, x) c)
 
-both_bound : (all before mid after : Names) (xs ys : List (TypeId × ℕ)) → AreBound all before mid xs → AreBound all mid after ys → AreBound all before after (xs ++ ys)
+both_bound : (all before mid after : Names) (xs ys : List (TypeId × ℕ)) → AreBound all before mid xs → AreBound all mid after ys
+    → AreBound all before after (xs ++ ys)
 both_bound all before mid after xs ys a b = record {
   within = b.within;
   keeps = λ k v h. b.keeps k v (a.keeps k v h);
@@ -133,7 +139,8 @@ halves (Some a) f result h = record { first = a; is = refl; rest = h }
 
 mutual
   -- whatever items are chosen, what the pattern binds is so
-  pub read_bound : {env : Environment} {m : Meaning} {all : Names} {p : Pattern} {v : Value} → IsRead env m all p v → (choice : Choice) (at : Path) (names after : Names) → IsWithin names all → matches env m choice p at v names ≡ Some after
+  pub read_bound : {env : Environment} {m : Meaning} {all : Names} {p : Pattern} {v : Value} → IsRead env m all p v
+      → (choice : Choice) (at : Path) (names after : Names) → IsWithin names all → matches env m choice p at v names ≡ Some after
       → AreBound all names after (typed_variables p)
   read_bound {all = all} (at_variable ty x v is) choice at names after within h = met_bound all names after ty x.0 v (names x.0) refl is within h
   read_bound {env = env} {m = m} {all = all} (at_term ty term ps v vs opens parts) choice at names after within h =
@@ -141,7 +148,9 @@ mutual
       let same : vs ≡ s.first = opens.only (choice (Extracted term at)) s.first s.is in
       all_bound parts choice (opening env term) 0 at names after within (subst (λ (ws : List Value). matches_parts env m choice (opening env term) ps 0 at ws names ≡ Some after) (sym same) s.rest)
 
-  pub all_bound : {env : Environment} {m : Meaning} {all : Names} {ps : Patterns} {vs : List Value} → AreRead env m all ps vs → (choice : Choice) (o : Opening) (i : ℕ) (at : Path) (names after : Names) → IsWithin names all → matches_parts env m choice o ps i at vs names ≡ Some after
+  pub all_bound : {env : Environment} {m : Meaning} {all : Names} {ps : Patterns} {vs : List Value} → AreRead env m all ps vs
+      → (choice : Choice) (o : Opening) (i : ℕ) (at : Path) (names after : Names) → IsWithin names all
+      → matches_parts env m choice o ps i at vs names ≡ Some after
       → AreBound all names after (typed_within ps)
   all_bound {all = all} no_part choice o i at names after within h =
       subst (λ (a : Names). AreBound all names a []) (some_same names after h) (record { within = within; keeps = λ k v q. q; bound = no_variable all names names })
@@ -153,13 +162,15 @@ mutual
 
 mutual
   -- with the first items the pattern matches
-  pub read_matches : {env : Environment} {m : Meaning} {all : Names} {p : Pattern} {v : Value} → IsRead env m all p v → (at : Path) (names : Names) → IsWithin names all → (after : Names) × (matches env m first_items p at v names ≡ Some after)
+  pub read_matches : {env : Environment} {m : Meaning} {all : Names} {p : Pattern} {v : Value} → IsRead env m all p v → (at : Path) (names : Names)
+      → IsWithin names all → (after : Names) × (matches env m first_items p at v names ≡ Some after)
   read_matches {all = all} (at_variable ty x v is) at names within = met_there all names x.0 v (names x.0) refl is within
   read_matches {env = env} {m = m} (at_term ty term ps v vs opens parts) at names within =
       let rest = all_match parts (opening env term) 0 at names within in
       (rest.0, ap (option_and_then (λ (ws : List Value). matches_parts env m first_items (opening env term) ps 0 at ws names)) opens.first ∙ rest.1)
 
-  pub all_match : {env : Environment} {m : Meaning} {all : Names} {ps : Patterns} {vs : List Value} → AreRead env m all ps vs → (o : Opening) (i : ℕ) (at : Path) (names : Names) → IsWithin names all
+  pub all_match : {env : Environment} {m : Meaning} {all : Names} {ps : Patterns} {vs : List Value} → AreRead env m all ps vs
+      → (o : Opening) (i : ℕ) (at : Path) (names : Names) → IsWithin names all
       → (after : Names) × (matches_parts env m first_items o ps i at vs names ≡ Some after)
   all_match no_part o i at names within = (names, refl)
   all_match {env = env} {m = m} (a_part p ps v vs one more) o i at names within =

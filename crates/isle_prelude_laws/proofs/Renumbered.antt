@@ -1,5 +1,5 @@
 -- A rule whose variables are numbered in order already stays as it is.
-use Rattle.std.proofs.Common.{◌≡◌, ℕ, zero, suc, ◌+◌, ◌<◌, List, [], ◌∷◌, ◌++◌, length, map, Bool, true, false, cond, Option, Some, None, refl, sym, ap, ◌∙◌, subst, arith}
+use Rattle.std.proofs.Common.{◌≡◌, ℕ, suc, ◌<◌, List, [], ◌∷◌, ◌++◌, length, map, Bool, true, false, cond, Option, Some, None, refl, sym, ap, ◌∙◌, subst, arith}
 use Rattle.std.specs.Prelude.{◌==◌, fold, flat_map, option_map, is_some}
 use Rattle.std.proofs.lemmas.Bool.{eqb-true}
 use Rattle.std.proofs.lemmas.List.{append-nil}
@@ -9,10 +9,10 @@ use Rattle.isle_core.specs.Expr as expr
 use Rattle.isle_core.specs.Expr.{Expr, Exprs, NoExpr, AnExpr, LetBindings, NoBinding, ABinding}
 use Rattle.isle_core.specs.Pattern as pattern
 use Rattle.isle_core.specs.Pattern.{Pattern}
-use Rattle.isle_core.specs.Rule.{Rule, IfLet}
+use Rattle.isle_core.specs.Rule.{Rule}
 use Rattle.isle_core.proofs.OptionLaws.{some_same}
 use Rattle.isle_templates.specs.Elaborated.{condition_expanded, rule_expanded, elaborated}
-use Rattle.isle_templates.specs.Renumbered.{bound_in, pattern_variables, condition_variables, rule_variables, place_of, joined, number_or, new_number, renamed, expr_renamed, exprs_renamed, bindings_renamed, condition_renamed, order_of, rule_renamed, renumbered}
+use Rattle.isle_templates.specs.Renumbered.{bound_in, pattern_variables, condition_variables, place_of, joined, number_or, new_number, renamed, expr_renamed, exprs_renamed, bindings_renamed, condition_renamed, order_of}
 use Rattle.isle_templates.specs.Substituted.{expanded, whole_templates}
 use Rattle.isle_prelude_laws.proofs.Operands.{variables_from, IsPlainRule}
 
@@ -34,7 +34,8 @@ place_below (y ∷ ys) x n h = by (λ m e. place_below ys x m e) (y == x) h
     by go true e = let same : 0 ≡ n = some_same 0 n e in omega (arith, same)
     by go false e = later go (place_of ys x) refl e
 
-place_at_end : (xs : List ℕ) (y x n : ℕ) → place_of (xs ++ y ∷ []) x ≡ Some n → (o : Option ℕ) → place_of xs x ≡ o → (is_some o ≡ true → o ≡ Some n) × (is_some o ≡ false → (n ≡ length xs) × (y == x ≡ true))
+place_at_end : (xs : List ℕ) (y x n : ℕ) → place_of (xs ++ y ∷ []) x ≡ Some n → (o : Option ℕ) → place_of xs x ≡ o
+    → (is_some o ≡ true → o ≡ Some n) × (is_some o ≡ false → (n ≡ length xs) × (y == x ≡ true))
 place_at_end [] y x n h None is = (λ e. absurd cc, λ e. by (y == x) refl h)
   where
     by : (b : Bool) → y == x ≡ b → cond b (Some 0) None ≡ Some n → (n ≡ 0) × (y == x ≡ true)
@@ -149,7 +150,8 @@ pub record IsSameRule (r x : Rule) (tys : List TypeId) : Type 0 where
   pub plain : IsPlainRule x tys
   pub rhs : x.rhs ≡ r.rhs
 
-pub plain_elaborated : (ts : List (Option Pattern)) (r : Rule) (tys : List TypeId) → IsPlainRule r tys → bound_in r.rhs ≡ [] → IsSameRule r (elaborated ts r) tys
+pub plain_elaborated : (ts : List (Option Pattern)) (r : Rule) (tys : List TypeId) → IsPlainRule r tys → bound_in r.rhs ≡ []
+    → IsSameRule r (elaborated ts r) tys
 plain_elaborated ts r tys plain none =
     let ws = whole_templates ts in
     let y = rule_expanded ws r in

@@ -1,5 +1,5 @@
 -- The round trip of instructions, over the environment of a supported table's definitions.
-use Rattle.std.proofs.Common.{◌≡◌, ℕ, List, Bool, true, false, Option, Some, None, refl, sym, ap, ◌∙◌, subst}
+use Rattle.std.proofs.Common.{◌≡◌, List, Bool, true, false, Option, None, refl, sym, ap, ◌∙◌, subst}
 use Rattle.std.specs.Prelude.{IsSomeAnd, slice_get}
 use Rattle.isle_base.specs.declared.ids.TermId.{TermId}
 use Rattle.isle_base.specs.declared.ids.VariantId.{VariantId}
@@ -9,7 +9,6 @@ use Rattle.isle_core.specs.Meaning.{Meaning}
 use Rattle.isle_core.specs.Pattern.{Pattern}
 use Rattle.isle_core.specs.PatternType.{AreVariantsApart}
 use Rattle.isle_core.specs.Rule.{Environment}
-use Rattle.isle_core.specs.Terms.{term_name}
 use Rattle.isle_core.specs.Value.{Value, Made}
 use Rattle.isle_core.proofs.OptionLaws.{some_same}
 use Rattle.isle_meta.specs.Rows.{rows, IsFirstUnsupported}
@@ -27,14 +26,15 @@ use Rattle.isle_prelude_laws.proofs.HonestExists.{plan_holds}
 use Rattle.isle_prelude_laws.proofs.Laid.{manner_by, IsLaid}
 use Rattle.isle_prelude_laws.proofs.LaidApart.{AreDifferent, laid_apart}
 use Rattle.isle_prelude_laws.proofs.LaidBack.{laid_back}
-use Rattle.isle_prelude_laws.proofs.LaidOut.{IsLaidOut, laid_out, one_term}
+use Rattle.isle_prelude_laws.proofs.LaidOut.{laid_out, one_term}
 use Rattle.isle_prelude_laws.proofs.NamedTrees.{Numbers}
 use Rattle.isle_prelude_laws.proofs.PassedTrees.{numbers}
 use Rattle.isle_prelude_laws.proofs.Plan.{planned}
 use Rattle.isle_prelude_laws.proofs.PlanOut.{plan_out}
 
 -- under an honest meaning the extractor of each instruction binds exactly the operands of which its constructor made the value
-pub instruction_read_back : (t : Tables) (env : Environment) (i : Instruction) (term : TermId) → IsFirstUnsupported (rows t) None → Typed (opt_source t) env → IsInstruction t env i term → IsReadBack t env term
+pub instruction_read_back : (t : Tables) (env : Environment) (i : Instruction) (term : TermId) → IsFirstUnsupported (rows t) None
+    → Typed (opt_source t) env → IsInstruction t env i term → IsReadBack t env term
 instruction_read_back t env i term supported typed h m operands made v honest given =
     let l = laid_out t env i term supported typed h in
     subst (λ (o : Option Pattern). IsSomeAnd o (BindsExactly env m v operands)) (sym l.whole) (laid_back env (numbers (whole_of (opt_source t))) l.format i l.is_valued term l.pattern l.laid m operands made v honest given)
@@ -47,7 +47,8 @@ one_manner true false h = absurd cc
 one_manner false true h = absurd cc
 
 -- of two instructions of one manner
-laid_told : (env : Environment) (number : Numbers) (f g : InstructionFormat) (i j : Instruction) (a b : Bool) (term other : TermId) (p q : Pattern) → b ≡ a → (one : IsLaid env number f i a term p) (two : IsLaid env number g j b other q) → AreDifferent one two → AreVariantsApart env
+laid_told : (env : Environment) (number : Numbers) (f g : InstructionFormat) (i j : Instruction) (a b : Bool) (term other : TermId) (p q : Pattern)
+    → b ≡ a → (one : IsLaid env number f i a term p) (two : IsLaid env number g j b other q) → AreDifferent one two → AreVariantsApart env
     → (m : Meaning) (operands : List Value) (made : List Made) (v : Value) → IsHonest env m term operands made → IsMadeOf env m term operands made v → NeverMatches env m v q
 laid_told env number f g i j true true term other p q same one two differ variants = laid_apart env number f g i j true term other p q one two differ variants
 laid_told env number f g i j false false term other p q same one two differ variants = laid_apart env number f g i j false term other p q one two differ variants
@@ -55,7 +56,8 @@ laid_told env number f g i j true false term other p q same one two differ varia
 laid_told env number f g i j false true term other p q same one two differ variants = absurd cc
 
 -- and there the extractor of no other instruction of that result type matches
-pub instructions_told_apart : (t : Tables) (env : Environment) (i j : Instruction) (term other : TermId) → IsFirstUnsupported (rows t) None → Typed (opt_source t) env → IsInstruction t env i term → IsInstruction t env j other → result_type i ≡ result_type j → (term ≡ other → ⊥)
+pub instructions_told_apart : (t : Tables) (env : Environment) (i j : Instruction) (term other : TermId) → IsFirstUnsupported (rows t) None
+    → Typed (opt_source t) env → IsInstruction t env i term → IsInstruction t env j other → result_type i ≡ result_type j → (term ≡ other → ⊥)
     → IsToldApart t env term other
 instructions_told_apart t env i j term other supported typed h k same differ m operands made v honest given =
     let g = given_in typed in
@@ -72,9 +74,10 @@ instructions_told_apart t env i j term other supported typed h k same differ m o
     (laid_told env number one.format two.format i j one.is_valued two.is_valued term other one.pattern two.pattern valued one.laid two.laid (opcodes, places) variants m operands made v honest given)
 
 -- for all operands of its types a lawful honest meaning exists, under which its constructor makes a value
-pub instruction_may_be_honest : (t : Tables) (env : Environment) (i : Instruction) (term : TermId) → IsFirstUnsupported (rows t) None → Typed (opt_source t) env → IsInstruction t env i term → MayBeHonest env term
-instruction_may_be_honest t env i term supported typed h operands made has_types =
+pub instruction_may_be_honest : (t : Tables) (env : Environment) (i : Instruction) (term : TermId) → IsFirstUnsupported (rows t) None
+    → Typed (opt_source t) env → IsInstruction t env i term → MayBeHonest env term
+instruction_may_be_honest t env i term supported typed h operands has_types =
     let l = laid_out t env i term supported typed h in
     let own : HaveTypes env operands l.laid.decl.arg_tys = subst (λ (o : Option Term). IsSomeAnd o (λ (c : Term). HaveTypes env operands c.arg_tys)) l.laid.there has_types in
     let p = plan_out t env i term supported typed h l operands own in
-    (planned p.0, plan_holds env term operands p.0 p.1 made)
+    (planned p.0, plan_holds env term operands p.0 p.1)

@@ -1,16 +1,15 @@
 -- The parts of a rule over variables alone, as an environment has it.
-use Rattle.std.proofs.Common.{◌≡◌, ℕ, zero, suc, ◌+◌, Bool, true, false, cond, List, [], ◌∷◌, ◌++◌, length, map, Option, Some, None, refl, sym, ap, ◌∙◌, subst, arith}
+use Rattle.std.proofs.Common.{◌≡◌, ℕ, suc, ◌+◌, Bool, true, false, cond, List, [], ◌∷◌, ◌++◌, length, map, Option, Some, None, refl, sym, ap, ◌∙◌, subst, arith}
 use Rattle.std.specs.Prelude.{option_map}
 use Rattle.std.specs.List.{AllByRecursion, IsDistinct}
 use Rattle.std.specs.Str.{bytes_eq}
 use Rattle.std.proofs.lemmas.Slice.Eq.{bytes_eq-Decides}
 use Rattle.isle_base.specs.declared.ids.TypeId.{TypeId}
 use Rattle.isle_base.specs.declared.ids.VarId.{VarId}
-use Rattle.isle_core.specs.Expr as expr
-use Rattle.isle_core.specs.Expr.{Expr, Exprs, NoExpr, AnExpr}
+use Rattle.isle_core.specs.Expr.{Expr, Exprs}
 use Rattle.isle_core.specs.Pattern as pattern
 use Rattle.isle_core.specs.Pattern.{Pattern}
-use Rattle.isle_core.specs.Rule.{Rule, IfLet}
+use Rattle.isle_core.specs.Rule.{Rule}
 use Rattle.isle_core.proofs.OptionLaws.{some_same}
 use Rattle.isle_ast.specs.Tree as tree
 use Rattle.isle_ast.specs.Views.{patterns_of as seen_patterns}
@@ -18,15 +17,13 @@ use Rattle.isle_declarations.specs.Signatures.{RuleDef}
 use Rattle.isle_declarations.specs.Symbols.{index_of}
 use Rattle.isle_prelude.specs.ClifFiles.{variables}
 use Rattle.isle_sema.specs.PatternPass.{first_expected, later_expected, pattern_pass, patterns_pass}
-use Rattle.isle_sema.specs.ExprPass.{expr_pass}
-use Rattle.isle_sema.specs.RulePass.{rule_pass, patterns_of, conditions_of, conditions_pass, right_side_of}
+use Rattle.isle_sema.specs.RulePass.{rule_pass, patterns_of, conditions_of, conditions_pass}
 use Rattle.isle_sema.specs.Templates.{params_met, templates}
 use Rattle.isle_sema.proofs.ParameterScopes.{listed, params_listed}
-use Rattle.isle_sema.proofs.RuleRoots.{IsRuleMade, rule_made}
-use Rattle.isle_templates.specs.Elaborated.{elaborated}
+use Rattle.isle_sema.proofs.RuleRoots.{rule_made}
 use Rattle.isle_templates.specs.Renumbered.{bound_in, all_bound_in}
 use Rattle.isle_terms.specs.Converters.{converters}
-use Rattle.isle_terms.specs.Locals.{of_patterns, local_named}
+use Rattle.isle_terms.specs.Locals.{of_patterns}
 use Rattle.isle_terms.specs.Scope.{Local, Scope, no_variables, found_in, met_by, met, typed_local}
 use Rattle.isle_terms.specs.Whole.{Whole, termed, arg_types, ret_type}
 use Rattle.isle_terms.proofs.LocalLaws.{latest_found}
@@ -34,7 +31,7 @@ use Rattle.isle_terms.proofs.ScopeLaws.{found_end}
 use Rattle.isle_prelude_laws.proofs.NamedTrees.{Numbers, ExprNamed, ExprsNamed}
 use Rattle.isle_prelude_laws.proofs.Operands.{variables_from, IsPlainRule}
 use Rattle.isle_prelude_laws.proofs.PassedTrees.{numbers, IsSimple, AtPlaces, listed_at_place, expr_named, trees_there}
-use Rattle.isle_prelude_laws.proofs.Renumbered.{IsSameRule, plain_elaborated}
+use Rattle.isle_prelude_laws.proofs.Renumbered.{plain_elaborated}
 
 -- ---- patterns
 
@@ -42,7 +39,8 @@ use Rattle.isle_prelude_laws.proofs.Renumbered.{IsSameRule, plain_elaborated}
 abbrev AreNew : List Local → List (List ℕ) → Type 0
 AreNew ls names = AllByRecursion (λ (name : List ℕ). found_in ls name ≡ None) names
 
-new_more : (ls : List Local) (l : Local) (names : List (List ℕ)) → AreNew ls names → AllByRecursion (λ (name : List ℕ). bytes_eq l.name name ≡ false) names → AreNew (ls ++ l ∷ []) names
+new_more : (ls : List Local) (l : Local) (names : List (List ℕ)) → AreNew ls names
+    → AllByRecursion (λ (name : List ℕ). bytes_eq l.name name ≡ false) names → AreNew (ls ++ l ∷ []) names
 new_more ls l [] h k = tt
 new_more ls l (name ∷ names) h k = (found_end ls l name h.0 ∙ ap (λ b. cond b (Some l) None) k.0, new_more ls l names h.1 k.1)
 
@@ -51,7 +49,9 @@ none_bound [] = tt
 none_bound (name ∷ names) = (refl, none_bound names)
 
 -- variables are numbered in a row
-variables_passed : (w : Whole) (names : List (List ℕ)) (tys : List TypeId) (scope : Scope) (qs : List Pattern) → IsDistinct bytes_eq names → AreNew scope.variables names → length names ≡ length tys → (patterns_pass w (map Some tys) scope (seen_patterns (variables names))).trees ≡ Some qs → qs ≡ variables_from scope.next tys
+variables_passed : (w : Whole) (names : List (List ℕ)) (tys : List TypeId) (scope : Scope) (qs : List Pattern) → IsDistinct bytes_eq names
+    → AreNew scope.variables names → length names ≡ length tys
+    → (patterns_pass w (map Some tys) scope (seen_patterns (variables names))).trees ≡ Some qs → qs ≡ variables_from scope.next tys
 unfolding IsDistinct
 variables_passed w [] [] scope qs apart new long h = sym (some_same [] qs h)
 variables_passed w [] (ty ∷ tys) scope qs apart new long h = absurd (omega (arith, long))
@@ -71,21 +71,25 @@ variables_passed w (name ∷ names) (ty ∷ tys) scope qs apart new long h =
     b.whole ∙ ap (λ q. q ∷ b.others) here ∙ ap (λ more. pattern.Var ty (record { 0 = scope.next }) ∷ more) (variables_passed w names tys mid b.others apart.1 (new_more scope.variables l names new.1 apart.0) (omega (arith, long)) others)
 
 -- they bind these parameters
-scope_passed : (w : Whole) (names : List (List ℕ)) (types : List (Option TypeId)) (scope : Scope) → (patterns_pass w types scope (seen_patterns (variables names))).scope ≡ params_met scope names types
+scope_passed : (w : Whole) (names : List (List ℕ)) (types : List (Option TypeId)) (scope : Scope)
+    → (patterns_pass w types scope (seen_patterns (variables names))).scope ≡ params_met scope names types
 scope_passed w [] types scope = refl
 scope_passed w (name ∷ names) types scope = scope_passed w names (later_expected types) (met scope name (first_expected types))
 
 -- ---- the right side
 
 -- a variable that is found among parameters has its name's place
-found_place : (params : List (List ℕ)) (types : List (Option TypeId)) (name : List ℕ) (l : Local) → found_in (listed 0 params types) name ≡ Some l → index_of params name ≡ Some l.number
+found_place : (params : List (List ℕ)) (types : List (Option TypeId)) (name : List ℕ) (l : Local) → found_in (listed 0 params types) name ≡ Some l
+    → index_of params name ≡ Some l.number
 found_place params types name l h = by (index_of params name) refl
   where
     absent : (ps : List (List ℕ)) (ts : List (Option TypeId)) (j : ℕ) → index_of ps name ≡ None → found_in (listed j ps ts) name ≡ None
     absent [] ts j none = refl
     absent (p ∷ ps) ts j none = first (bytes_eq p name) (λ e. absent ps (later_expected ts) (suc j) e) none
       where
-        first : (b : Bool) → (index_of ps name ≡ None → found_in (listed (suc j) ps (later_expected ts)) name ≡ None) → cond b (Some 0) (option_map (λ (n : ℕ). n + 1) (index_of ps name)) ≡ None → cond b (Some (record { name = p; ty = first_expected ts; number = j })) (found_in (listed (suc j) ps (later_expected ts)) name) ≡ None
+        first : (b : Bool) → (index_of ps name ≡ None → found_in (listed (suc j) ps (later_expected ts)) name ≡ None)
+            → cond b (Some 0) (option_map (λ (n : ℕ). n + 1) (index_of ps name)) ≡ None
+            → cond b (Some (record { name = p; ty = first_expected ts; number = j })) (found_in (listed (suc j) ps (later_expected ts)) name) ≡ None
         first true go e = absurd cc
         first false go e = go (empty (index_of ps name) e)
           where
@@ -122,7 +126,8 @@ pub record HasParts (w : Whole) (params : List (List ℕ)) (r : RuleDef) (x : Ru
   pub plain : IsPlainRule x tys
   pub rhs : ExprNamed (numbers w) params r.rhs x.rhs
 
-pub given_parts : (w : Whole) (i : ℕ) (params : List (List ℕ)) (r : RuleDef) (x : Rule) (tys : List TypeId) → converters w.defs ≡ [] → rule_pass w i r ≡ Some x → r.args ≡ variables params → r.iflets ≡ [] → IsSimple r.rhs → IsDistinct bytes_eq params
+pub given_parts : (w : Whole) (i : ℕ) (params : List (List ℕ)) (r : RuleDef) (x : Rule) (tys : List TypeId) → converters w.defs ≡ []
+    → rule_pass w i r ≡ Some x → r.args ≡ variables params → r.iflets ≡ [] → IsSimple r.rhs → IsDistinct bytes_eq params
     → length params ≡ length tys → arg_types w (termed w r.term) ≡ map Some tys → HasParts w params r x tys
 given_parts w i params r x tys none given args iflets simple apart long types =
     let m = rule_made w i r x given in

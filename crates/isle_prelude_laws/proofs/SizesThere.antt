@@ -1,5 +1,5 @@
 -- The sizes of arrays that instructions of a table use are among those that its file declares.
-use Rattle.std.proofs.Common.{◌≡◌, ℕ, zero, suc, ◌<◌, List, [], ◌∷◌, Bool, true, false, cond, Option, Some, None, Ordering, Less, Equal, Greater, refl, sym, ap, ◌∙◌, subst, ⊎_elim, arith}
+use Rattle.std.proofs.Common.{◌≡◌, ℕ, ◌<◌, List, [], ◌∷◌, Bool, true, false, cond, Option, Some, None, Ordering, Less, Equal, Greater, refl, sym, ap, ◌∙◌, subst, ⊎_elim, arith}
 use Rattle.std.specs.Prelude.{◌==◌, nat_lt, Contains, fold, filter_map}
 use Rattle.std.specs.BTreeSet.{insert_key}
 use Rattle.std.specs.List.{cons_option}
@@ -19,7 +19,8 @@ insert_keeps : (ks : List ℕ) (k x : ℕ) → Contains ks x → Contains (inser
 insert_keeps [] k x c = absurd (none_contained x c)
 insert_keeps (y ∷ ks) k x c = by (nat_cmp k y) (λ there. insert_keeps ks k x there)
   where
-    by : (o : Ordering) → (Contains ks x → Contains (insert_key nat_cmp ks k) x) → Contains (match_ordering o (k ∷ y ∷ ks) (y ∷ ks) (y ∷ insert_key nat_cmp ks k)) x
+    by : (o : Ordering) → (Contains ks x → Contains (insert_key nat_cmp ks k) x)
+        → Contains (match_ordering o (k ∷ y ∷ ks) (y ∷ ks) (y ∷ insert_key nat_cmp ks k)) x
     by Less go = tail_contained k (y ∷ ks) x c
     by Equal go = c
     by Greater go = ⊎_elim (λ (same : y ≡ x). subst (Contains (y ∷ insert_key nat_cmp ks k)) same (head_contained y (insert_key nat_cmp ks k))) (λ there. tail_contained y (insert_key nat_cmp ks k) x (go there)) (contained_cases y ks x c)
@@ -37,7 +38,8 @@ insert_there : (ks : List ℕ) (k : ℕ) → Contains (insert_key nat_cmp ks k) 
 insert_there [] k = head_contained k []
 insert_there (y ∷ ks) k = by (nat_cmp k y) refl (insert_there ks k)
   where
-    by : (o : Ordering) → nat_cmp k y ≡ o → Contains (insert_key nat_cmp ks k) k → Contains (match_ordering o (k ∷ y ∷ ks) (y ∷ ks) (y ∷ insert_key nat_cmp ks k)) k
+    by : (o : Ordering) → nat_cmp k y ≡ o → Contains (insert_key nat_cmp ks k) k
+        → Contains (match_ordering o (k ∷ y ∷ ks) (y ∷ ks) (y ∷ insert_key nat_cmp ks k)) k
     by Less e go = head_contained k (y ∷ ks)
     by Equal e go = subst (Contains (y ∷ ks)) (sym (equal_numbers k y e)) (head_contained y ks)
     by Greater e go = tail_contained y (insert_key nat_cmp ks k) k go
@@ -91,18 +93,20 @@ sized_there None n h = absurd (h refl)
 sized_there (Some k) n h = refl
 
 -- arrays of several values of a format that has no list
-pub values_there : (fs : List InstructionFormat) (f : InstructionFormat) → Contains fs f → f.has_value_list ≡ false → 1 < f.num_value_operands → (f.typevar_operand ≡ None → ⊥) → Contains (value_array_sizes fs) f.num_value_operands
+pub values_there : (fs : List InstructionFormat) (f : InstructionFormat) → Contains fs f → f.has_value_list ≡ false → 1 < f.num_value_operands
+    → (f.typevar_operand ≡ None → ⊥) → Contains (value_array_sizes fs) f.num_value_operands
 values_there fs f c listless many typed =
     ascending_there (filter_map value_array_size fs) f.num_value_operands
     (filter_there value_array_size fs f f.num_value_operands c
-      (ap (λ b. sized f.typevar_operand b (f.num_value_operands == 1) f.num_value_operands) listless ∙ ap (λ b. sized f.typevar_operand false b f.num_value_operands) (not_one f.num_value_operands many) ∙ sized_there f.typevar_operand f.num_value_operands typed))
+    (ap (λ b. sized f.typevar_operand b (f.num_value_operands == 1) f.num_value_operands) listless ∙ ap (λ b. sized f.typevar_operand false b f.num_value_operands) (not_one f.num_value_operands many) ∙ sized_there f.typevar_operand f.num_value_operands typed))
 
 -- and the terms that make them
 pub ctors_there : (t : Tables) (n : ℕ) → Contains (value_array_sizes t.formats) n → 1 < n → Contains (ctor_sizes t) n
 ctors_there t n c many = filter_there above_one (value_array_sizes t.formats) n n c (above n many)
 
 -- arrays of several blocks
-pub blocks_there : (fs : List InstructionFormat) (f : InstructionFormat) → Contains fs f → 1 < f.num_block_operands → Contains (block_array_sizes fs) f.num_block_operands
+pub blocks_there : (fs : List InstructionFormat) (f : InstructionFormat) → Contains fs f → 1 < f.num_block_operands
+    → Contains (block_array_sizes fs) f.num_block_operands
 blocks_there fs f c many =
     ascending_there (filter_map (λ (g : InstructionFormat). above_one g.num_block_operands) fs) f.num_block_operands
     (filter_there (λ (g : InstructionFormat). above_one g.num_block_operands) fs f f.num_block_operands c (above f.num_block_operands many))

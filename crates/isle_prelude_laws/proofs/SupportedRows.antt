@@ -1,11 +1,10 @@
 -- What supported tables say of an instruction and its format.
-use Rattle.std.proofs.Common.{◌≡◌, ◌⊎◌, ℕ, zero, suc, ◌<◌, List, [], ◌∷◌, ◌++◌, length, map, false, inl, inr, Option, Some, None, refl, sym, ap, ◌∙◌, subst, ⊎_elim, arith}
-use Rattle.std.specs.Prelude.{Contains, IsSomeAnd, count_by, filter, slice_get}
+use Rattle.std.proofs.Common.{◌≡◌, ℕ, ◌<◌, List, [], ◌∷◌, ◌++◌, length, false, inl, Some, None, refl, sym, ◌∙◌, subst, ⊎_elim, arith}
+use Rattle.std.specs.Prelude.{Contains, IsSomeAnd, filter, slice_get}
 use Rattle.std.proofs.lemmas.List.{length-map}
 use Rattle.std.proofs.lemmas.List.Elements.{Contains-append_left, Contains-append_right}
 use Rattle.std.proofs.lemmas.List.Sums.{length-filter}
 use Rattle.isle_core.proofs.Contained.{head_contained, tail_contained, contained_cases, none_contained}
-use Rattle.isle_meta.specs.FormatRow as format
 use Rattle.isle_meta.specs.InstructionRow as instruction
 use Rattle.isle_meta.specs.InstructionRow.{is_value, is_block, count_of}
 use Rattle.isle_meta.specs.Rows.{Row, OfFormat, OfInstruction, rows, format_rows, instruction_rows, machine_rows, Breaks, shapes, IsFirstShape, IsFirstUnsupported}
@@ -37,7 +36,8 @@ none_broken (r ∷ rs) row shape h c s b =
     (λ (later : IsFirstShape r shapes None × IsFirstUnsupported rs None). ⊎_elim (λ (same : r ≡ row). none_first row shapes shape (subst (λ (x : Row). IsFirstShape x shapes None) same later.0) s b) (λ there. none_broken rs row shape later.1 there s b) (contained_cases r rs row c))
     h
 
-format_row : (before fs : List InstructionFormat) (f : InstructionFormat) → Contains fs f → (earlier : List InstructionFormat) × Contains (format_rows before fs) (OfFormat earlier f)
+format_row : (before fs : List InstructionFormat) (f : InstructionFormat) → Contains fs f
+    → (earlier : List InstructionFormat) × Contains (format_rows before fs) (OfFormat earlier f)
 format_row before [] f c = absurd (none_contained f c)
 format_row before (g ∷ fs) f c =
     ⊎_elim
@@ -45,7 +45,8 @@ format_row before (g ∷ fs) f c =
     (λ there. let r = format_row (before ++ g ∷ []) fs f there in (r.0, tail_contained (OfFormat before g) (format_rows (before ++ g ∷ []) fs) (OfFormat r.0 f) r.1))
     (contained_cases g fs f c)
 
-instruction_row : (formats : List InstructionFormat) (before is : List Instruction) (i : Instruction) → Contains is i → (earlier : List Instruction) × Contains (instruction_rows formats before is) (OfInstruction formats earlier i)
+instruction_row : (formats : List InstructionFormat) (before is : List Instruction) (i : Instruction) → Contains is i
+    → (earlier : List Instruction) × Contains (instruction_rows formats before is) (OfInstruction formats earlier i)
 instruction_row formats before [] i c = absurd (none_contained i c)
 instruction_row formats before (j ∷ is) i c =
     ⊎_elim
@@ -55,7 +56,8 @@ instruction_row formats before (j ∷ is) i c =
 
 -- ---- what is supported
 
-of_format : (fs : List InstructionFormat) (i : Instruction) (f : InstructionFormat) (P : InstructionFormat → Type 0) → slice_get fs i.format ≡ Some f → P f → IsSomeAnd (slice_get fs i.format) P
+of_format : (fs : List InstructionFormat) (i : Instruction) (f : InstructionFormat) (P : InstructionFormat → Type 0) → slice_get fs i.format ≡ Some f
+    → P f → IsSomeAnd (slice_get fs i.format) P
 of_format fs i f P h p = subst (λ o. IsSomeAnd o P) (sym h) p
 
 equal_or : (a b : ℕ) → ((a ≡ b → ⊥) → ⊥) → a ≡ b

@@ -1,10 +1,8 @@
 -- A pattern that uses no template stays as it is.
-use Rattle.std.proofs.Common.{◌≡◌, ℕ, zero, suc, List, [], ◌∷◌, length, map, Option, Some, None, refl, sym, ap, ◌∙◌, subst}
+use Rattle.std.proofs.Common.{◌≡◌, ℕ, zero, suc, List, [], ◌∷◌, length, map, Option, Some, None, refl, sym, ap, ◌∙◌}
 use Rattle.std.specs.Prelude.{option_and_then, option_map, slice_get}
 use Rattle.std.proofs.lemmas.Option.{slice_get-map}
 use Rattle.isle_base.specs.declared.ids.TermId.{TermId}
-use Rattle.isle_base.specs.declared.ids.TypeId.{TypeId}
-use Rattle.isle_base.specs.declared.ids.VarId.{VarId}
 use Rattle.isle_core.specs.Pattern as pattern
 use Rattle.isle_core.specs.Pattern.{Pattern, Patterns, NoPattern, APattern}
 use Rattle.isle_core.specs.RuleViews.{patterns_of}
@@ -51,10 +49,12 @@ module _ (number : Numbers) (params : List (List ℕ)) (ts : List (Option Patter
 some_template : List (Option Pattern) → TermId → Option (Option Pattern)
 some_template ts term = slice_get ts term.0
 
-later_template : (f : Pattern → Pattern) (ts : List (Option Pattern)) (term : TermId) → template_of (map (option_map f) ts) term ≡ option_map f (template_of ts term)
+later_template : (f : Pattern → Pattern) (ts : List (Option Pattern)) (term : TermId)
+    → template_of (map (option_map f) ts) term ≡ option_map f (template_of ts term)
 later_template f ts term = ap (option_and_then (λ (t : Option Pattern). t)) (slice_get-map (option_map f) ts term.0) ∙ by (slice_get ts term.0)
   where
-    by : (o : Option (Option Pattern)) → option_and_then (λ (t : Option Pattern). t) (option_map (option_map f) o) ≡ option_map f (option_and_then (λ (t : Option Pattern). t) o)
+    by : (o : Option (Option Pattern))
+        → option_and_then (λ (t : Option Pattern). t) (option_map (option_map f) o) ≡ option_map f (option_and_then (λ (t : Option Pattern). t) o)
     by None = refl
     by (Some t) = refl
 
@@ -64,7 +64,8 @@ none_at ts zero term h = later_template _ ts term ∙ ap (option_map _) h
 none_at ts (suc depth) term h = later_template (expanded (templates_at ts depth)) ts term ∙ ap (option_map (expanded (templates_at ts depth))) h
 
 abbrev mutual
-  untemplated_at : (number : Numbers) (ts : List (Option Pattern)) (depth : ℕ) (p : tree.Pattern) → IsUntemplated number ts p → IsUntemplated number (templates_at ts depth) p
+  untemplated_at : (number : Numbers) (ts : List (Option Pattern)) (depth : ℕ) (p : tree.Pattern) → IsUntemplated number ts p
+      → IsUntemplated number (templates_at ts depth) p
   untemplated_at number ts depth (tree.Term name ps) h = (λ a is. none_at ts depth a (h.0 a is), all_untemplated number ts depth ps h.1)
   untemplated_at number ts depth (tree.Var name) h = tt
   untemplated_at number ts depth (tree.Int n) h = h
@@ -74,12 +75,14 @@ abbrev mutual
   untemplated_at number ts depth (tree.Bind name inner) h = h
   untemplated_at number ts depth (tree.And parts) h = h
 
-  all_untemplated : (number : Numbers) (ts : List (Option Pattern)) (depth : ℕ) (ps : tree.Patterns) → AreUntemplated number ts ps → AreUntemplated number (templates_at ts depth) ps
+  all_untemplated : (number : Numbers) (ts : List (Option Pattern)) (depth : ℕ) (ps : tree.Patterns) → AreUntemplated number ts ps
+      → AreUntemplated number (templates_at ts depth) ps
   all_untemplated number ts depth tree.NoPattern h = tt
   all_untemplated number ts depth (tree.APattern p ps) h = (untemplated_at number ts depth p h.0, all_untemplated number ts depth ps h.1)
 
 -- a template that uses no other is whole
-pub whole_same : (number : Numbers) (params : List (List ℕ)) (ts : List (Option Pattern)) (term : TermId) (p : tree.Pattern) (q : Pattern) → IsUntemplated number ts p → PatternNamed number params p q → template_of ts term ≡ Some q → template_of (whole_templates ts) term ≡ Some q
+pub whole_same : (number : Numbers) (params : List (List ℕ)) (ts : List (Option Pattern)) (term : TermId) (p : tree.Pattern) (q : Pattern)
+    → IsUntemplated number ts p → PatternNamed number params p q → template_of ts term ≡ Some q → template_of (whole_templates ts) term ≡ Some q
 whole_same number params [] term p q none h at = absurd cc
 whole_same number params (t ∷ ts) term p q none h at =
     let all = t ∷ ts in

@@ -56,17 +56,20 @@ abbrev mutual
       ++ own_call (making env term) term (evaluated_all env m choice es names places n made) (evaluated env m choice (Term ty term es) names places n made)
   given_calls env m choice (Let ty bindings inner) names places n made =
       bindings_given env m choice bindings names places n made
-      ++ after_names (bound env m choice bindings names places n made) (λ all calls. given_calls env m choice inner all (let_places env bindings places n) (n + impure_bindings env bindings) calls)
+      ++ after_names (bound env m choice bindings names places n made)
+      (λ all calls. given_calls env m choice inner all (let_places env bindings places n) (n + impure_bindings env bindings) calls)
 
   -- from left to right
   pub all_given : Environment → Meaning → Choice → Exprs → Names → Places → ℕ → List Made → List GivenCall
   all_given env m choice NoExpr names places n made = []
   all_given env m choice (AnExpr e es) names places n made =
-      given_calls env m choice e names places n made ++ after_value (evaluated env m choice e names places n made) (λ v calls. all_given env m choice es names places (n + impure env e) calls)
+      given_calls env m choice e names places n made
+      ++ after_value (evaluated env m choice e names places n made) (λ v calls. all_given env m choice es names places (n + impure env e) calls)
 
   -- those of the values of a `let`
   pub bindings_given : Environment → Meaning → Choice → LetBindings → Names → Places → ℕ → List Made → List GivenCall
   bindings_given env m choice NoBinding names places n made = []
   bindings_given env m choice (ABinding x ty e more) names places n made =
       given_calls env m choice e names places n made
-      ++ after_value (evaluated env m choice e names places n made) (λ v calls. bindings_given env m choice more (with names x.0 v) (with places x.0 (path env e places n)) (n + impure env e) calls)
+      ++ after_value (evaluated env m choice e names places n made)
+      (λ v calls. bindings_given env m choice more (with names x.0 v) (with places x.0 (path env e places n)) (n + impure env e) calls)

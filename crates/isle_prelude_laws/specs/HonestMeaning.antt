@@ -49,7 +49,9 @@ answer_to m NoCall v = None
 
 -- what the call made is taken apart into the call's arguments
 abbrev pub IsTakenBack : Environment → Meaning → GivenCall → Type 0
-IsTakenBack env m c = (w : Whole) (by : TermId) → term_name env c.term ≡ maker w → term_name env by ≡ taker w → answer_to m (extracting env by) c.gave ≡ Some (gives_back w c.args)
+IsTakenBack env m c =
+    (w : Whole) (by : TermId) → term_name env c.term ≡ maker w → term_name env by ≡ taker w
+    → answer_to m (extracting env by) c.gave ≡ Some (gives_back w c.args)
 
 -- so is what each of these calls made
 abbrev pub AreTakenBack : Environment → Meaning → List GivenCall → Type 0
@@ -58,4 +60,5 @@ AreTakenBack env m calls = (c : GivenCall) → Contains calls c → IsTakenBack 
 -- the meaning is honest on these operands: so is what the calls made that the term's constructor makes on them, after those made before
 abbrev pub IsHonest : Environment → Meaning → TermId → List Value → List Made → Type 0
 IsHonest env m term operands made =
-    (r : Rule) (names : Names) → IsHighest env m operands (rules_of env term) r names → AreTakenBack env m (given_calls env m first_items r.rhs names (rule_places env r) 0 made)
+    (r : Rule) (names : Names) → IsHighest env m operands (rules_of env term) r names
+    → AreTakenBack env m (given_calls env m first_items r.rhs names (rule_places env r) 0 made)

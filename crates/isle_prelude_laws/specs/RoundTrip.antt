@@ -59,7 +59,8 @@ IsMadeOf env m term operands made v = (p : Prescription) × Prescribed env m ope
 -- the pattern matches the value with the first item of each list, and with whatever items it matches, it binds exactly the operands
 pub record BindsExactly (env : Environment) (m : Meaning) (v : Value) (operands : List Value) (pattern : Pattern) : Type 0 where
   pub matched : (at : Path) → (names : Names) × (matches env m first_items pattern at v no_names ≡ Some names)
-  pub exact : (choice : Choice) (at : Path) (names : Names) → matches env m choice pattern at v no_names ≡ Some names → (k : ℕ) → names k ≡ slice_get operands k
+  pub exact : (choice : Choice) (at : Path) (names : Names) → matches env m choice pattern at v no_names ≡ Some names
+      → (k : ℕ) → names k ≡ slice_get operands k
 
 -- the pattern doesn't match the value, with whatever items
 abbrev pub NeverMatches : Environment → Meaning → Value → Pattern → Type 0
@@ -84,7 +85,8 @@ pub record IsHonestlyMade (env : Environment) (term : TermId) (operands : List V
   pub value : Value
   pub gives : IsMadeOf env m term operands made value
 
--- there is one for all operands of the term's types
+-- there is one for all operands of the term's types, whatever calls were made before
 abbrev pub MayBeHonest : Environment → TermId → Type 0
 MayBeHonest env term =
-    (operands : List Value) (made : List Made) → IsSomeAnd (slice_get env.terms term.0) (λ (c : Term). HaveTypes env operands c.arg_tys) → (m : Meaning) × IsHonestlyMade env term operands made m
+    (operands : List Value) → IsSomeAnd (slice_get env.terms term.0) (λ (c : Term). HaveTypes env operands c.arg_tys)
+    → (m : Meaning) × ((made : List Made) → IsHonestlyMade env term operands made m)
