@@ -168,7 +168,7 @@ mutual
 abbrev pub IsCalledMaker : Environment → Values → (Whole → Calling) → Allows → CalledTerm → Type 0
 IsCalledMaker env val calls P o = (w : Whole) × (vs : List Value) × P w vs × IsMaker env val (calls w) o.term w × (o.role ≡ Constructor)
 
-made_term : (o : Option Term) (ty : _) (variant : _) → making_of o ≡ MakesVariant ty variant → is_made_term o ≡ true
+pub made_term : (o : Option Term) (ty : _) (variant : _) → making_of o ≡ MakesVariant ty variant → is_made_term o ≡ true
 made_term None ty variant h = absurd cc
 made_term (Some t) ty variant h = by t.kind h
   where

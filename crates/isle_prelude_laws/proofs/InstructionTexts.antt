@@ -1,11 +1,9 @@
 -- The texts of an instruction: its rule and its extractor are of names and terms, over its parameters.
-use Rattle.std.proofs.Common.{◌≡◌, ℕ, ◌+◌, ◌<◌, List, [], ◌∷◌, ◌++◌, length, map, Bool, true, false, cond, Option, Some, None, refl, sym, ap, ◌∙◌, subst, ⊎_elim, arith}
+use Rattle.std.proofs.Common.{◌≡◌, ℕ, ◌+◌, ◌<◌, List, [], ◌∷◌, ◌++◌, length, map, Bool, true, false, cond, Some, refl, sym, ap, ◌∙◌, subst, ⊎_elim, arith}
 use Rattle.std.specs.Prelude.{Contains, filter, option_map}
 use Rattle.std.specs.List.{AllByRecursion}
 use Rattle.std.specs.Str.{bytes_eq}
 use Rattle.std.proofs.lemmas.Slice.Eq.{bytes_eq-Decides}
-use Rattle.isle_base.specs.declared.ids.TermId.{TermId}
-use Rattle.isle_core.specs.Pattern.{Pattern}
 use Rattle.isle_core.proofs.Contained.{head_contained, tail_contained, contained_cases, none_contained}
 use Rattle.isle_ast.specs.Tree as tree
 use Rattle.isle_ast.specs.Views.{patterns_of, exprs_of}
@@ -19,12 +17,10 @@ use Rattle.isle_prelude.specs.ClifFiles.{variables, variable_exprs, term_over, c
 use Rattle.isle_prelude.specs.InstructionParts.{right_side, template}
 use Rattle.isle_prelude.specs.Manners.{type_variable}
 use Rattle.isle_prelude.specs.Operands.{is_imm, names_of}
-use Rattle.isle_templates.specs.Substituted.{template_of}
 use Rattle.isle_prelude_laws.specs.HonestMeaning.{Whole, ValueArray, BlockArray, maker, taker}
 use Rattle.isle_prelude_laws.proofs.Laid.{manner_by, whole_by, HasWhole}
-use Rattle.isle_prelude_laws.proofs.NamedTrees.{Numbers}
+use Rattle.isle_prelude_laws.proofs.NamedTrees.{EachTerm, EachTerms}
 use Rattle.isle_prelude_laws.proofs.PassedTrees.{IsSimple, AreSimple, IsOver, AreOver}
-use Rattle.isle_prelude_laws.proofs.Unexpanded.{IsUntemplated, AreUntemplated}
 
 -- ---- right sides are simple
 
@@ -106,7 +102,7 @@ class_places params is (o ∷ os) h = by (is o.class) (class_places params is os
     by true rest = (h o (head_contained o os), rest)
     by false rest = rest
 
-named_operand : (os : List ClifOperand) (o : ClifOperand) → Contains os o → Contains (map (λ (x : ClifOperand). x.name) os) o.name
+pub named_operand : (os : List ClifOperand) (o : ClifOperand) → Contains os o → Contains (map (λ (x : ClifOperand). x.name) os) o.name
 named_operand [] o c = absurd (none_contained o c)
 named_operand (x ∷ os) o c =
     let names = map (λ (y : ClifOperand). y.name) os in
@@ -132,30 +128,26 @@ over_template true f i listless =
     (place_there params type_variable (head_contained type_variable (operand_names i)), (over_data params f i listless (λ o c. place_there params o.name (tail_contained type_variable (operand_names i) o.name (named_operand i.operands_in o c))), tt))
 over_template false f i listless = (over_data (operand_names i) f i listless (λ o c. place_there (operand_names i) o.name (named_operand i.operands_in o c)), tt)
 
--- ---- their terms have no template
+-- ---- their terms
 
-module _ (number : Numbers) (ts : List (Option Pattern)) where
-  -- no term of the name has a template
-  abbrev pub HasNone : List ℕ → Type 0
-  HasNone name = (a : TermId) → number name ≡ Some a → template_of ts a ≡ None
-
-  plain_both : (xs ys : List tree.Pattern) → AreUntemplated number ts (patterns_of xs) → AreUntemplated number ts (patterns_of ys)
-      → AreUntemplated number ts (patterns_of (xs ++ ys))
+module _ (G : List ℕ → Type 0) where
+  plain_both : (xs ys : List tree.Pattern) → EachTerms G (patterns_of xs) → EachTerms G (patterns_of ys)
+      → EachTerms G (patterns_of (xs ++ ys))
   plain_both [] ys h k = k
   plain_both (x ∷ xs) ys h k = (h.0, plain_both xs ys h.1 k)
 
-  plain_variables : (names : List (List ℕ)) → AreUntemplated number ts (patterns_of (variables names))
+  plain_variables : (names : List (List ℕ)) → EachTerms G (patterns_of (variables names))
   plain_variables [] = tt
   plain_variables (name ∷ names) = (tt, plain_variables names)
 
-  plain_counted : (array : List ℕ) (names : List (List ℕ)) → (1 < length names → HasNone array)
-      → AreUntemplated number ts (patterns_of (counted_pattern array names))
+  plain_counted : (array : List ℕ) (names : List (List ℕ)) → (1 < length names → G array)
+      → EachTerms G (patterns_of (counted_pattern array names))
   plain_counted array [] h = tt
   plain_counted array (x ∷ []) h = (tt, tt)
   plain_counted array (x ∷ y ∷ names) h = ((h (omega arith), plain_variables (x ∷ y ∷ names)), tt)
 
-  plain_data : (b : Bool) (f : InstructionFormat) (i : Instruction) → f.has_value_list ≡ false → HasNone (data_term f) → HasNone (opcode_term i)
-      → ((w : Whole) → HasWhole b i w → HasNone (taker w)) → IsUntemplated number ts (data_pattern f i)
+  plain_data : (b : Bool) (f : InstructionFormat) (i : Instruction) → f.has_value_list ≡ false → G (data_term f) → G (opcode_term i)
+      → ((w : Whole) → HasWhole b i w → G (taker w)) → EachTerm G (data_pattern f i)
   plain_data b f i listless held opcode takes =
       let blocks = counted_pattern (taker (BlockArray (length (names_of is_block i)))) (names_of is_block i) in
       let raw = variables (names_of is_raw_block i) in
@@ -164,11 +156,11 @@ module _ (number : Numbers) (ts : List (Option Pattern)) where
       let plain_rest = plain_both blocks (raw ++ imm) (plain_counted (taker (BlockArray (length (names_of is_block i)))) (names_of is_block i) (λ many. takes (BlockArray (length (names_of is_block i))) (refl, many)))
       (plain_both raw imm (plain_variables (names_of is_raw_block i)) (plain_variables (names_of is_imm i))) in (
         held,
-        subst (λ (c : Bool). AreUntemplated number ts (patterns_of (term_over (opcode_term i) [] ∷ (value_patterns c i ++ rest)))) (sym listless)
+        subst (λ (c : Bool). EachTerms G (patterns_of (term_over (opcode_term i) [] ∷ (value_patterns c i ++ rest)))) (sym listless)
             ((opcode, tt), plain_both (value_patterns false i) rest (plain_counted (taker (ValueArray (length (names_of is_value i)))) (names_of is_value i) (λ many. takes (ValueArray (length (names_of is_value i))) (refl, many))) plain_rest),
       )
 
-  pub plain_template : (b : Bool) (f : InstructionFormat) (i : Instruction) → f.has_value_list ≡ false → HasNone (data_term f)
-      → HasNone (opcode_term i) → ((w : Whole) → HasWhole b i w → HasNone (taker w)) → IsUntemplated number ts (template (manner_by b) f i)
+  pub plain_template : (b : Bool) (f : InstructionFormat) (i : Instruction) → f.has_value_list ≡ false → G (data_term f)
+      → G (opcode_term i) → ((w : Whole) → HasWhole b i w → G (taker w)) → EachTerm G (template (manner_by b) f i)
   plain_template true f i listless held opcode takes = (takes (whole_by true) refl, (tt, (plain_data true f i listless held opcode takes, tt)))
   plain_template false f i listless held opcode takes = (takes (whole_by false) refl, (plain_data false f i listless held opcode takes, tt))

@@ -1,7 +1,9 @@
 -- Each instruction of a supported table whose definitions are typed is laid out in their environment.
 use Rattle.std.proofs.Common.{◌≡◌, ℕ, zero, suc, ◌<◌, List, [], length, map, Bool, true, false, Some, None, refl, sym, ap, ◌∙◌, subst, arith}
 use Rattle.std.specs.Prelude.{◌||◌, Contains, slice_get, codes, option_map, pos}
+use Rattle.std.specs.List.{IsDistinct}
 use Rattle.std.specs.Option.{option_map_or}
+use Rattle.std.specs.Str.{bytes_eq}
 use Rattle.std.proofs.lemmas.List.{length-map}
 use Rattle.std.proofs.lemmas.List.Elements.{All-contains}
 use Rattle.std.proofs.lemmas.Option.{slice_get-get_or, slice_get-map}
@@ -40,6 +42,7 @@ use Rattle.isle_sema.proofs.TypedTemplates.{templates_typed}
 use Rattle.isle_sema.proofs.TypedTerms.{is_there, typed_names}
 use Rattle.isle_templates.specs.Substituted.{template_of}
 use Rattle.isle_templates.specs.TypedRule.{IsTypedRule}
+use Rattle.isle_terms.specs.TermPass.{types_named}
 use Rattle.isle_terms.specs.TypeNames.{type_named}
 use Rattle.isle_terms.specs.Whole.{whole_of, termed, arg_types, ret_type}
 use Rattle.isle_terms.proofs.MadeTerms.{types_are}
@@ -50,7 +53,7 @@ use Rattle.isle_prelude_laws.proofs.Apart.{MakesThis}
 use Rattle.isle_prelude_laws.proofs.GivenRules.{IsOnlyRule, given_rule}
 use Rattle.isle_prelude_laws.proofs.GivenTemplates.{AreParams, by_function, by_making, given_template, given_params}
 use Rattle.isle_prelude_laws.proofs.GivenTerms.{signatures_apart, names_apart, IsGivenTerm, given_term, given_number, given_name, makes_nothing, makes_variant}
-use Rattle.isle_prelude_laws.proofs.InstructionTexts.{HasNone, simple_right, over_template, plain_template}
+use Rattle.isle_prelude_laws.proofs.InstructionTexts.{simple_right, over_template, plain_template}
 use Rattle.isle_prelude_laws.proofs.Laid.{manner_by, whole_by, HasWhole, IsLaid}
 use Rattle.isle_prelude_laws.proofs.Mirror.{IsPair}
 use Rattle.isle_prelude_laws.proofs.NamedTrees.{PatternNamed}
@@ -59,7 +62,7 @@ use Rattle.isle_prelude_laws.proofs.OptDefs.{term_there, extractor_there, rule_t
 use Rattle.isle_prelude_laws.proofs.PartTerms.{taker_func, taker_sure, taker_extracts, pairs}
 use Rattle.isle_prelude_laws.proofs.PassedTrees.{numbers, pattern_named}
 use Rattle.isle_prelude_laws.proofs.RuleParts.{HasParts, given_parts}
-use Rattle.isle_prelude_laws.proofs.Unexpanded.{whole_same}
+use Rattle.isle_prelude_laws.proofs.Unexpanded.{HasNone, whole_same}
 
 -- ---- names of terms
 
@@ -167,6 +170,8 @@ pub record IsLaidOut (t : Tables) (env : Environment) (i : Instruction) (term : 
   pub place : slice_get t.instructions laid.place.0 ≡ Some i
   pub opcodes : type_named (opt_source t) (codes "Opcode") ≡ Some laid.opcodes
   pub many : length (parameters (manner_by is_valued) i) ≡ length laid.decl.arg_tys
+  pub args : types_named (opt_source t) (parameter_types (manner_by is_valued) i) ≡ Some laid.decl.arg_tys
+  pub apart : IsDistinct bytes_eq (parameters (manner_by is_valued) i)
 
 module _ (t : Tables) (env : Environment) (i : Instruction) (f : InstructionFormat) (b : Bool) (term : TermId) (supported : IsFirstUnsupported (rows t) None) (typed : Typed (opt_source t) env) (h : IsTaken t i f b) (number : term_named (terms (opt_source t)) i.name ≡ Some term) where
   abbrev own_params : List (List ℕ)
@@ -251,7 +256,7 @@ module _ (t : Tables) (env : Environment) (i : Instruction) (f : InstructionForm
       let op_number = given_number defs env op.signature g op.among in
       let op_made = variant_made g op op_number.0 (ap (term_named (terms defs)) (sym op.named) ∙ op_number.1) in
       let q = template_is in
-      let plain = plain_template (numbers w) (templates w) b f i h.listless (λ a is. (variant_made g held a is).3) (λ a is. (variant_made g op a is).3) none_taken in
+      let plain = plain_template (HasNone (numbers w) (templates w)) b f i h.listless (λ a is. (variant_made g held a is).3) (λ a is. (variant_made g op a is).3) none_taken in
       record {
         format = f;
         is_valued = b;
@@ -279,6 +284,8 @@ module _ (t : Tables) (env : Environment) (i : Instruction) (f : InstructionForm
         place = at;
         opcodes = op_made.1;
         many = params_many;
+        args = own_given.args;
+        apart = params_are.apart;
       }
 
 -- each instruction is laid out

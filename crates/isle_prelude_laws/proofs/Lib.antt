@@ -29,3 +29,6 @@ pub mod HonestExists
 pub mod CanGive
 pub mod PartValues
 pub mod PlanOut
+pub mod Extracted
+pub mod GivesTyped
+pub mod OperandTypes

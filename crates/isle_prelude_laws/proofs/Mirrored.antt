@@ -39,7 +39,7 @@ counted_exprs env allowed vars (ty ∷ tys) (AnExpr e es) h = ap suc (counted_ex
 counted_exprs env allowed vars [] (AnExpr e es) h = absurd h
 counted_exprs env allowed vars (ty ∷ tys) NoExpr h = absurd h
 
-kind_formed : (env : Environment) (allowed : Allowed) (c : Term) (k : TermKind) (ty : TypeId) (variant : VariantId)
+pub kind_formed : (env : Environment) (allowed : Allowed) (c : Term) (k : TermKind) (ty : TypeId) (variant : VariantId)
     → making_kind k ≡ MakesVariant ty variant → IsTermKind env allowed c k
     → option_map (form_types env) (form env (MakesVariant ty variant)) ≡ Some c.arg_tys
 kind_formed env allowed c (kind.Variant of number) ty variant h is = subst (λ mk. option_map (form_types env) (form env mk) ≡ Some c.arg_tys) h is.1

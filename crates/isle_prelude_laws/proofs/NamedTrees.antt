@@ -45,3 +45,19 @@ abbrev mutual
   pub PatternsNamed : Numbers → (params : List (List ℕ)) → tree.Patterns → Patterns → Type 0
   PatternsNamed number params tree.NoPattern qs = qs ≡ NoPattern
   PatternsNamed number params (tree.APattern p ps) qs = (r : Pattern) × (rs : Patterns) × (qs ≡ APattern r rs) × PatternNamed number params p r × PatternsNamed number params ps rs
+
+-- of the name of each term in a text this holds
+abbrev mutual
+  pub EachTerm : (List ℕ → Type 0) → tree.Pattern → Type 0
+  EachTerm G (tree.Term name ps) = G name × EachTerms G ps
+  EachTerm G (tree.Var name) = Unit {0}
+  EachTerm G (tree.Int n) = ⊥
+  EachTerm G (tree.Truth b) = ⊥
+  EachTerm G (tree.Const name) = ⊥
+  EachTerm G tree.Wildcard = ⊥
+  EachTerm G (tree.Bind name inner) = ⊥
+  EachTerm G (tree.And parts) = ⊥
+
+  pub EachTerms : (List ℕ → Type 0) → tree.Patterns → Type 0
+  EachTerms G tree.NoPattern = Unit {0}
+  EachTerms G (tree.APattern p ps) = EachTerm G p × EachTerms G ps

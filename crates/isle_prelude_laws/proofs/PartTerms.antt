@@ -89,6 +89,13 @@ taker_sure SkeletonInst = false
 taker_sure (ValueArray n) = true
 taker_sure (BlockArray n) = true
 
+-- the names of the types of what a whole is made of
+abbrev pub part_types : Whole → List (List ℕ)
+part_types ValuedInst = codes "Type" ∷ codes "InstructionData" ∷ []
+part_types SkeletonInst = codes "InstructionData" ∷ []
+part_types (ValueArray n) = replicate n (codes "Value")
+part_types (BlockArray n) = replicate n (codes "BlockCall")
+
 -- the terms of an instruction's parts: their declarations, the functions that they call, and the type of the whole
 pub record HasPair (defs : List Def) (w : Whole) : Type 0 where
   pub made : IsDeclaredAs defs (maker w) (maker_pure w) false
@@ -96,6 +103,8 @@ pub record HasPair (defs : List Def) (w : Whole) : Type 0 where
   pub makes : Contains defs (tree.ExternConstructor (maker w) (maker_func w) no_place)
   pub takes : Contains defs (tree.ExternExtractor (taker w) (taker_func w) (taker_sure w) no_place)
   pub whole : IsOpaqueType defs made.signature.ret
+  pub made_of : made.signature.args ≡ part_types w
+  pub taken_into : taken.signature.args ≡ part_types w
 
 abbrev declared_as : (defs : List Def) (term : List ℕ) (pure multi : Bool) (args : List (List ℕ)) (ret : List ℕ)
     → Contains defs (tree.Decl term pure multi false false args ret no_place) → IsDeclaredAs defs term pure multi
@@ -134,6 +143,8 @@ module _ (t : Tables) (supported : IsFirstUnsupported (rows t) None) (i : Instru
     makes = in_terms t _ (1, omega arith, refl);
     takes = in_terms t _ (5, omega arith, refl);
     whole = record { is_extern = false; body = body.Primitive (codes "Value"); among = in_types t _ (1, omega arith, refl); is_opaque = tt };
+    made_of = refl;
+    taken_into = refl;
   }
   pairs b SkeletonInst h = record {
     made = declared_as (opt_source t) (maker SkeletonInst) false false (codes "InstructionData" ∷ []) (codes "Inst") (in_terms t _ (2, omega arith, refl));
@@ -141,6 +152,8 @@ module _ (t : Tables) (supported : IsFirstUnsupported (rows t) None) (i : Instru
     makes = in_terms t _ (3, omega arith, refl);
     takes = in_terms t _ (7, omega arith, refl);
     whole = record { is_extern = false; body = body.Primitive (codes "Inst"); among = in_types t _ (2, omega arith, refl); is_opaque = tt };
+    made_of = refl;
+    taken_into = refl;
   }
   pairs b (ValueArray n) h =
       let s = value_size_there n h.0 h.1 in
@@ -150,6 +163,8 @@ module _ (t : Tables) (supported : IsFirstUnsupported (rows t) None) (i : Instru
         makes = in_ctors t n _ (ctors_there t n s h.1) (1, omega arith, refl);
         takes = in_values t n _ s (3, omega arith, refl);
         whole = record { is_extern = true; body = body.Enum []; among = in_values t n _ s (0, omega arith, refl); is_opaque = refl };
+        made_of = refl;
+        taken_into = refl;
       }
   pairs b (BlockArray n) h =
       let s = block_size_there n h.0 h.1 in
@@ -159,4 +174,6 @@ module _ (t : Tables) (supported : IsFirstUnsupported (rows t) None) (i : Instru
         makes = in_blocks t n _ s (2, omega arith, refl);
         takes = in_blocks t n _ s (3, omega arith, refl);
         whole = record { is_extern = true; body = body.Enum []; among = in_blocks t n _ s (0, omega arith, refl); is_opaque = refl };
+        made_of = refl;
+        taken_into = refl;
       }

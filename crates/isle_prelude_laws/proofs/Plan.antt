@@ -6,18 +6,19 @@ use Rattle.std.proofs.lemmas.List.{append_cancel_right}
 use Rattle.std.proofs.lemmas.List.Elements.{All-from_recursion}
 use Rattle.std.proofs.lemmas.Slice.Eq.{bytes_eq-Decides}
 use Rattle.isle_base.specs.declared.ids.TypeId.{TypeId}
+use Rattle.isle_core.specs.declared.types.ReturnKind.{ReturnKind}
 use Rattle.isle_core.specs.declared.types.ReturnKind.TheVariants as return_kind
 use Rattle.isle_core.specs.declared.values.Callee.{Callee}
 use Rattle.isle_core.specs.declared.values.Callee.TheVariants.{External}
 use Rattle.isle_core.specs.Calling.{Calling, ByTurns, ByCases}
 use Rattle.isle_core.specs.Eval.{Answered, answered, called_with}
 use Rattle.isle_core.specs.Answered.{answer_held}
-use Rattle.isle_core.specs.HasType.{HasType}
+use Rattle.isle_core.specs.HasType.{HasType, HaveTypes}
 use Rattle.isle_core.specs.Lawful.{Fits, all_turns, all_cases, CallingFits}
 use Rattle.isle_core.specs.Meaning.{PureAnswers, TurnAnswers, Meaning, turns_of, turn_at, times, same_values, cases_of, case, case_or, case_at}
 use Rattle.isle_core.specs.Rule.{Environment}
 use Rattle.isle_core.specs.Terms.{goes_to}
-use Rattle.isle_core.specs.Value.{Value, Answer, Plain, Made}
+use Rattle.isle_core.specs.Value.{Value, Answer, Plain, Found, Several, Made}
 use Rattle.isle_core.proofs.ListLaws.{not_both}
 use Rattle.isle_prelude.specs.NumberedNames.{value_array, value_array_ctor, block_array, pack, unpack}
 use Rattle.isle_prelude_laws.specs.HonestMeaning.{Whole, ValuedInst, SkeletonInst, ValueArray, BlockArray, maker, taker, gives_back, answer_to}
@@ -133,6 +134,21 @@ unpack_apart : (n k : ℕ) → bytes_eq (unpack (block_array n)) (unpack (value_
 unfolding block_array value_array
 unpack_apart n k = refl
 
+taker_maker : (b : Bool) → bytes_eq (taker (whole_by b)) (maker (whole_by b)) ≡ false
+taker_maker true = refl
+taker_maker false = refl
+
+taker_pack : (b : Bool) (n : ℕ) → bytes_eq (taker (whole_by b)) (pack (block_array n)) ≡ false
+taker_pack true n = refl
+taker_pack false n = refl
+
+unpack_maker : (b : Bool) (name : List ℕ) → bytes_eq (unpack name) (maker (whole_by b)) ≡ false
+unpack_maker true name = refl
+unpack_maker false name = refl
+
+unpack_pack : (name other : List ℕ) → bytes_eq (unpack name) (pack other) ≡ false
+unpack_pack name other = refl
+
 -- ---- what is found
 
 -- the first, or behind it
@@ -233,6 +249,45 @@ module _ (p : Plan) where
         (All-from_recursion (Fits env return_kind.Plain (ret ∷ [])) (Plain (p.values ∷ []) ∷ []) ((typed, tt), tt)),
     subst (λ k. turns_of (planned p) (External (value_array_ctor k)) ≡ None) (sym h.0) turns_none,
   )
+
+  -- what is taken by cases is taken by no turns
+  untaken : (name : List ℕ) → bytes_eq name (maker (whole_by p.is_valued)) ≡ false → bytes_eq name (pack (block_array p.block_count)) ≡ false
+      → turns_of (planned p) (External name) ≡ None
+  untaken name h k = find_later (of_turn name) (own_maker p) (block_packer p ∷ []) None h (find_later (of_turn name) (block_packer p) [] None k refl)
+
+  cases_fit : (env : Environment) (kind : ReturnKind) (tys : List TypeId) (name : List ℕ) (a : Answer)
+      → cases_of (planned p) (External name) ≡ Some (always_pure name a)
+      → turns_of (planned p) (External name) ≡ None → Fits env kind tys a → CallingFits env (planned p) tys (ByCases (External name) kind)
+  cases_fit env kind tys name a h none fits =
+      (subst (λ o. IsSomeAnd o (λ x. All (Fits env kind tys) (all_cases x))) (sym h) (All-from_recursion (Fits env kind tys) (a ∷ []) (fits, tt)), none)
+
+  own_fits : (env : Environment) (tys : List TypeId) (b : Bool) → p.is_valued ≡ b → HaveTypes env p.own_parts tys
+      → CallingFits env (planned p) tys (taker_calling (whole_by b))
+  own_fits env tys b is h = by b (subst (λ c. cases_of (planned p) (External (taker (whole_by c))) ≡ Some (always_pure (taker (whole_by c)) (gives_back (whole_by c) p.own_parts))) is cases_own)
+      (subst (λ c. turns_of (planned p) (External (taker (whole_by c))) ≡ None) is (untaken (taker (whole_by p.is_valued)) (taker_maker p.is_valued) (taker_pack p.is_valued p.block_count)))
+    where
+      by : (c : Bool)
+          → cases_of (planned p) (External (taker (whole_by c))) ≡ Some (always_pure (taker (whole_by c)) (gives_back (whole_by c) p.own_parts))
+          → turns_of (planned p) (External (taker (whole_by c))) ≡ None
+          → CallingFits env (planned p) tys (taker_calling (whole_by c))
+      by true found none = cases_fit env return_kind.Iterator tys (taker (whole_by true)) (Several (p.own_parts ∷ [])) found none (h, tt)
+      by false found none = cases_fit env return_kind.Option tys (taker (whole_by false)) (Found p.own_parts) found none h
+
+  -- the takers of planned wholes answer parts of these types
+  pub takers_fit : (env : Environment) (tys : List TypeId) (w : Whole) (vs : List Value) → Planned p w vs → HaveTypes env vs tys
+      → CallingFits env (planned p) tys (taker_calling w)
+  takers_fit env tys ValuedInst vs h typed = own_fits env tys true h.0 (subst (λ xs. HaveTypes env xs tys) h.1 typed)
+  takers_fit env tys SkeletonInst vs h typed = own_fits env tys false h.0 (subst (λ xs. HaveTypes env xs tys) h.1 typed)
+  takers_fit env tys (ValueArray n) vs h typed =
+      subst (λ k. CallingFits env (planned p) tys (ByCases (External (unpack (value_array k))) return_kind.Plain)) (sym h.0)
+      (cases_fit env return_kind.Plain tys (unpack (value_array p.value_count)) (Plain p.value_parts) cases_values
+      (untaken (unpack (value_array p.value_count)) (unpack_maker p.is_valued (value_array p.value_count)) (unpack_pack (value_array p.value_count) (block_array p.block_count)))
+      (subst (λ xs. HaveTypes env xs tys) h.1 typed))
+  takers_fit env tys (BlockArray n) vs h typed =
+      subst (λ k. CallingFits env (planned p) tys (ByCases (External (unpack (block_array k))) return_kind.Plain)) (sym h.0)
+      (cases_fit env return_kind.Plain tys (unpack (block_array p.block_count)) (Plain p.block_parts) cases_blocks
+      (untaken (unpack (block_array p.block_count)) (unpack_maker p.is_valued (block_array p.block_count)) (unpack_pack (block_array p.block_count) (block_array p.block_count)))
+      (subst (λ xs. HaveTypes env xs tys) h.1 typed))
 
 -- ---- terms of one name
 

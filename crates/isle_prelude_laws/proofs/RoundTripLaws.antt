@@ -1,10 +1,12 @@
 -- The round trip of instructions, over the environment of a supported table's definitions.
-use Rattle.std.proofs.Common.{◌≡◌, List, Bool, true, false, Option, None, refl, sym, ap, ◌∙◌, subst}
+use Rattle.std.proofs.Common.{◌≡◌, List, Bool, true, false, Option, None, refl, sym, ap, ◌∙◌, subst, inl, inr}
 use Rattle.std.specs.Prelude.{IsSomeAnd, slice_get}
 use Rattle.isle_base.specs.declared.ids.TermId.{TermId}
 use Rattle.isle_base.specs.declared.ids.VariantId.{VariantId}
 use Rattle.isle_core.specs.declared.types.Term.{Term}
+use Rattle.isle_core.specs.CalledTerms.{Extractor, is_made}
 use Rattle.isle_core.specs.HasType.{HaveTypes}
+use Rattle.isle_core.specs.Lawful.{RoleFits}
 use Rattle.isle_core.specs.Meaning.{Meaning}
 use Rattle.isle_core.specs.Pattern.{Pattern}
 use Rattle.isle_core.specs.PatternType.{AreVariantsApart}
@@ -15,13 +17,19 @@ use Rattle.isle_meta.specs.Rows.{rows, IsFirstUnsupported}
 use Rattle.isle_meta.specs.declared.clif.Instruction.{Instruction}
 use Rattle.isle_meta.specs.declared.clif.InstructionFormat.{InstructionFormat}
 use Rattle.isle_meta.specs.declared.tables.Tables.{Tables}
+use Rattle.isle_prelude.specs.ClifFiles.{parameters}
+use Rattle.isle_prelude.specs.InstructionParts.{template}
 use Rattle.isle_prelude.specs.Manners.{Manner}
 use Rattle.isle_sema.specs.Typing.{Typed}
 use Rattle.isle_sema.proofs.TypedParts.{given_in}
 use Rattle.isle_types.proofs.SoundTypes.{typed_names}
 use Rattle.isle_terms.specs.Whole.{whole_of}
 use Rattle.isle_prelude_laws.specs.HonestMeaning.{IsHonest}
-use Rattle.isle_prelude_laws.specs.RoundTrip.{opt_source, IsInstruction, result_type, IsMadeOf, BindsExactly, NeverMatches, IsReadBack, IsToldApart, MayBeHonest}
+use Rattle.isle_prelude_laws.specs.RoundTrip.{opt_source, IsInstruction, result_type, IsMadeOf, BindsExactly, NeverMatches, IsReadBack, IsToldApart, AnswersPattern, MayBeHonest}
+use Rattle.isle_prelude_laws.proofs.Extracted.{IsMadeOr, extracted_so}
+use Rattle.isle_prelude_laws.proofs.Gives.{made_term}
+use Rattle.isle_prelude_laws.proofs.InstructionTexts.{plain_template}
+use Rattle.isle_prelude_laws.proofs.Mirrored.{IsVariantTerm}
 use Rattle.isle_prelude_laws.proofs.HonestExists.{plan_holds}
 use Rattle.isle_prelude_laws.proofs.Laid.{manner_by, IsLaid}
 use Rattle.isle_prelude_laws.proofs.LaidApart.{AreDifferent, laid_apart}
@@ -73,11 +81,21 @@ instructions_told_apart t env i j term other supported typed h k same differ m o
     subst (λ (o : Option Pattern). IsSomeAnd o (NeverMatches env m v)) (sym two.whole)
     (laid_told env number one.format two.format i j one.is_valued two.is_valued term other one.pattern two.pattern valued one.laid two.laid (opcodes, places) variants m operands made v honest given)
 
+made_is : (env : Environment) (a : TermId) → IsVariantTerm env a → is_made env a ≡ true
+made_is env a k = made_term (slice_get env.terms a.0) k.ty k.variant k.made
+
 -- for all operands of its types a lawful honest meaning exists, under which its constructor makes a value
 pub instruction_may_be_honest : (t : Tables) (env : Environment) (i : Instruction) (term : TermId) → IsFirstUnsupported (rows t) None
-    → Typed (opt_source t) env → IsInstruction t env i term → MayBeHonest env term
+    → Typed (opt_source t) env → IsInstruction t env i term → MayBeHonest t env term
 instruction_may_be_honest t env i term supported typed h operands has_types =
     let l = laid_out t env i term supported typed h in
     let own : HaveTypes env operands l.laid.decl.arg_tys = subst (λ (o : Option Term). IsSomeAnd o (λ (c : Term). HaveTypes env operands c.arg_tys)) l.laid.there has_types in
     let p = plan_out t env i term supported typed h l operands own in
-    (planned p.0, plan_holds env term operands p.0 p.1)
+    let number = numbers (whole_of (opt_source t)) in
+    let fits : TermId → Type 0 = λ a. RoleFits env (planned p.0) a Extractor in
+    let each = plain_template (IsMadeOr env number fits) l.is_valued l.format i l.laid.listless (λ a is. inl (made_is env a (l.laid.data_made a is))) (λ a is. inl (made_is env a (record { ty = l.laid.opcodes; variant = l.laid.place; made = l.laid.opcode_made a is })))
+    (λ w has a is. inr (p.1.answers w has a is)) in
+    let answers : AnswersPattern env (planned p.0) l.pattern = λ o c.
+    let e = extracted_so env number (parameters (manner_by l.is_valued) i) fits (template (manner_by l.is_valued) l.format i) l.pattern each l.laid.taken o c in
+    subst (RoleFits env (planned p.0) o.term) (sym e.1) e.0 in
+    (planned p.0, plan_holds env term operands p.0 p.1.plan t (subst (λ (o : Option Pattern). IsSomeAnd o (AnswersPattern env (planned p.0))) (sym l.whole) answers))

@@ -8,23 +8,18 @@ use Rattle.isle_core.specs.Pattern.{Pattern, Patterns, NoPattern, APattern}
 use Rattle.isle_core.specs.RuleViews.{patterns_of}
 use Rattle.isle_ast.specs.Tree as tree
 use Rattle.isle_templates.specs.Substituted.{template_of, opened, expanded, all_expanded, templates_at, whole_templates}
-use Rattle.isle_prelude_laws.proofs.NamedTrees.{Numbers, PatternNamed, PatternsNamed}
+use Rattle.isle_prelude_laws.proofs.NamedTrees.{Numbers, PatternNamed, PatternsNamed, EachTerm, EachTerms}
+
+-- no term of the name has a template
+abbrev pub HasNone : Numbers → List (Option Pattern) → List ℕ → Type 0
+HasNone number ts name = (a : TermId) → number name ≡ Some a → template_of ts a ≡ None
 
 -- the terms of a text have no template
-abbrev mutual
-  pub IsUntemplated : Numbers → List (Option Pattern) → tree.Pattern → Type 0
-  IsUntemplated number ts (tree.Term name ps) = ((a : TermId) → number name ≡ Some a → template_of ts a ≡ None) × AreUntemplated number ts ps
-  IsUntemplated number ts (tree.Var name) = Unit {0}
-  IsUntemplated number ts (tree.Int n) = ⊥
-  IsUntemplated number ts (tree.Truth b) = ⊥
-  IsUntemplated number ts (tree.Const name) = ⊥
-  IsUntemplated number ts tree.Wildcard = ⊥
-  IsUntemplated number ts (tree.Bind name inner) = ⊥
-  IsUntemplated number ts (tree.And parts) = ⊥
+abbrev pub IsUntemplated : Numbers → List (Option Pattern) → tree.Pattern → Type 0
+IsUntemplated number ts p = EachTerm (HasNone number ts) p
 
-  pub AreUntemplated : Numbers → List (Option Pattern) → tree.Patterns → Type 0
-  AreUntemplated number ts tree.NoPattern = Unit {0}
-  AreUntemplated number ts (tree.APattern p ps) = IsUntemplated number ts p × AreUntemplated number ts ps
+abbrev pub AreUntemplated : Numbers → List (Option Pattern) → tree.Patterns → Type 0
+AreUntemplated number ts ps = EachTerms (HasNone number ts) ps
 
 module _ (number : Numbers) (params : List (List ℕ)) (ts : List (Option Pattern)) where
   mutual

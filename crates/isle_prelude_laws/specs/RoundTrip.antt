@@ -6,7 +6,8 @@ use Rattle.isle_core.specs.declared.types.ReturnKind.TheVariants as return_kind
 use Rattle.isle_core.specs.declared.types.Term.{Term}
 use Rattle.isle_core.specs.Choice.{Choice, first_items}
 use Rattle.isle_core.specs.HasType.{HaveTypes}
-use Rattle.isle_core.specs.Lawful.{IsLawful}
+use Rattle.isle_core.specs.CalledTerms.{CalledTerm, extracted_by}
+use Rattle.isle_core.specs.Lawful.{CalledTermFits, IsLawful}
 use Rattle.isle_core.specs.Match.{Names, no_names, matches}
 use Rattle.isle_core.specs.Meaning.{Meaning}
 use Rattle.isle_core.specs.Outcome.{Value', Prescription, Prescribed}
@@ -78,15 +79,20 @@ IsToldApart t env term other =
     (m : Meaning) (operands : List Value) (made : List Made) (v : Value) → IsHonest env m term operands made → IsMadeOf env m term operands made v
     → IsSomeAnd (extractor_pattern t other) (NeverMatches env m v)
 
--- a meaning that is lawful for the term and honest on these operands, under which its constructor makes a value of them
-pub record IsHonestlyMade (env : Environment) (term : TermId) (operands : List Value) (made : List Made) (m : Meaning) : Type 0 where
+-- the meaning answers each extractor that the pattern calls, with its kind and types
+abbrev pub AnswersPattern : Environment → Meaning → Pattern → Type 0
+AnswersPattern env m pattern = (o : CalledTerm) → Contains (extracted_by env pattern) o → CalledTermFits env m o
+
+-- a meaning that is lawful for the term, its extractor's pattern too, and honest on these operands, under which its constructor makes a value of them
+pub record IsHonestlyMade (t : Tables) (env : Environment) (term : TermId) (operands : List Value) (made : List Made) (m : Meaning) : Type 0 where
   pub lawful : IsLawful env term m
+  pub answers : IsSomeAnd (extractor_pattern t term) (AnswersPattern env m)
   pub honest : IsHonest env m term operands made
   pub value : Value
   pub gives : IsMadeOf env m term operands made value
 
 -- there is one for all operands of the term's types, whatever calls were made before
-abbrev pub MayBeHonest : Environment → TermId → Type 0
-MayBeHonest env term =
+abbrev pub MayBeHonest : Tables → Environment → TermId → Type 0
+MayBeHonest t env term =
     (operands : List Value) → IsSomeAnd (slice_get env.terms term.0) (λ (c : Term). HaveTypes env operands c.arg_tys)
-    → (m : Meaning) × ((made : List Made) → IsHonestlyMade env term operands made m)
+    → (m : Meaning) × ((made : List Made) → IsHonestlyMade t env term operands made m)
