@@ -87,8 +87,3 @@ given_name defs env s term g k =
     ∙ ap (λ (t : Term). sym_text env t.name) (sym k.is)
     ∙ ap (λ (ts : TypeEnv). symbol_text ts (sym_of (symbols defs) s.term)) g.types
     ∙ text_of (symbols defs) s.term among.0 among.1
-
--- two terms of one name are one
-pub same_term : (defs : List Def) (env : Environment) (a b : TermId) (name : List ℕ) → term_named (terms defs) name ≡ Some a
-    → term_named (terms defs) name ≡ Some b → a ≡ b
-same_term defs env a b name h k = let e : Some a ≡ Some b = sym h ∙ k in cc

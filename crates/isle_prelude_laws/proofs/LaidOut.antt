@@ -1,5 +1,5 @@
 -- Each instruction of a supported table whose definitions are typed is laid out in their environment.
-use Rattle.std.proofs.Common.{◌≡◌, ℕ, zero, suc, ◌<◌, List, [], length, map, Bool, true, false, Some, None, refl, sym, ap, ◌∙◌, subst, arith}
+use Rattle.std.proofs.Common.{◌≡◌, ℕ, zero, suc, ◌<◌, List, [], length, map, Bool, true, false, Some, None, refl, sym, ap, ◌∙◌, subst, arith, ◌∷◌}
 use Rattle.std.specs.Prelude.{◌||◌, Contains, slice_get, codes, option_map, pos}
 use Rattle.std.specs.List.{IsDistinct}
 use Rattle.std.specs.Option.{option_map_or}
@@ -82,6 +82,11 @@ one_term defs env a b s t typed h k same =
     let y = place_is names b.0 (term_name env b) apart (named_at env b t k) in
     let at : a.0 ≡ b.0 = some_same a.0 b.0 (sym x ∙ ap (index_of names) same ∙ y) in
     ap (λ (n : ℕ). let v : TermId = record { 0 = n } in v) at
+
+at_below : {X : Type 0} (xs : List X) (k : ℕ) (x : X) → slice_get xs k ≡ Some x → k < length xs
+at_below [] k x h = absurd cc
+at_below (y ∷ xs) zero x h = omega arith
+at_below (y ∷ xs) (suc k) x h = let rest = at_below xs k x h in omega (arith, rest)
 
 -- ---- an instruction's own term
 
@@ -295,3 +300,16 @@ laid_out t env i term supported typed h =
     let m = valued_or i.value_results (i.can_trap || i.other_side_effects) in
     let taken : IsTaken t i h.format m.0 = record { among = h.among; is = h.is; listless = h.listless; manner = m.1 } in
     lay_out t env i h.format m.0 term supported typed taken (own_number t env i h.format m.0 term typed taken h.there h.named)
+
+-- an instruction that the file takes has a term in an environment that its definitions give
+pub instruction_there : (t : Tables) (env : Environment) (i : Instruction) (f : InstructionFormat) → Typed (opt_source t) env
+    → Contains t.instructions i → slice_get t.formats i.format ≡ Some f → f.has_value_list ≡ false → (term : TermId) × IsInstruction t env i term
+instruction_there t env i f typed among is listless =
+    let m = valued_or i.value_results (i.can_trap || i.other_side_effects) in
+    let defs = opt_source t in
+    let g = given_in typed in
+    let s = own_signature (manner_by m.0) i in
+    let c = own_declared t i f m.0 (record { among = among; is = is; listless = listless; manner = m.1 }) in
+    let n = given_number defs env s g c in
+    let k = given_term defs env s n.0 g c n.1 in
+    (n.0, record { among = among; format = f; is = is; listless = listless; there = at_below env.terms n.0.0 k.decl k.there; named = given_name defs env s n.0 g k })

@@ -128,11 +128,6 @@ own_planned : (b : Bool) (i : Instruction) (of_name : List ℕ → Value) (v : P
 own_planned true i of_name v parts = (refl, refl)
 own_planned false i of_name v parts = (refl, refl)
 
-own_value : (b : Bool) (i : Instruction) (of_name : List ℕ → Value) (v : PartsPlan) (parts : List Value)
-    → plan_value (plan_of b i of_name v parts) (whole_by b) ≡ v.own
-own_value true i of_name v parts = refl
-own_value false i of_name v parts = refl
-
 -- ---- an instruction's data
 
 module _ (env : Environment) (number : Numbers) (f : InstructionFormat) (i : Instruction) (b : Bool) (term : TermId) (pattern : _) (laid : IsLaid env number f i b term pattern) (params : List (List ℕ)) (allowed : Allowed) (vars : List (TypeId × ℕ)) (of_name : List ℕ → Value) (val : Values)

@@ -34,6 +34,7 @@ use Rattle.isle_prelude_laws.proofs.HonestExists.{plan_holds}
 use Rattle.isle_prelude_laws.proofs.Laid.{manner_by, IsLaid}
 use Rattle.isle_prelude_laws.proofs.LaidApart.{AreDifferent, laid_apart}
 use Rattle.isle_prelude_laws.proofs.LaidBack.{laid_back}
+pub use Rattle.isle_prelude_laws.proofs.LaidOut.{instruction_there}
 use Rattle.isle_prelude_laws.proofs.LaidOut.{laid_out, one_term}
 use Rattle.isle_prelude_laws.proofs.NamedTrees.{Numbers}
 use Rattle.isle_prelude_laws.proofs.PassedTrees.{numbers}

@@ -41,9 +41,6 @@ module _ (number : Numbers) (params : List (List ℕ)) (ts : List (Option Patter
 
 -- ---- whole templates
 
-some_template : List (Option Pattern) → TermId → Option (Option Pattern)
-some_template ts term = slice_get ts term.0
-
 later_template : (f : Pattern → Pattern) (ts : List (Option Pattern)) (term : TermId)
     → template_of (map (option_map f) ts) term ≡ option_map f (template_of ts term)
 later_template f ts term = ap (option_and_then (λ (t : Option Pattern). t)) (slice_get-map (option_map f) ts term.0) ∙ by (slice_get ts term.0)
