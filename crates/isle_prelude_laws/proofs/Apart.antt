@@ -38,6 +38,7 @@ mutual
         → Apart env (pattern.Term ty a ps) (pattern.Term of b qs)
     taken_within : (ty of : TypeId) (a : TermId) (ps qs : Patterns) → SomeApart env ps qs → Apart env (pattern.Term ty a ps) (pattern.Term of a qs)
 
+  -- at some part
   pub data SomeApart (env : Environment) : Patterns → Patterns → Type 0 where
     first_apart : (p q : Pattern) (ps qs : Patterns) → Apart env p q → SomeApart env (APattern p ps) (APattern q qs)
     later_apart : (p q : Pattern) (ps qs : Patterns) → SomeApart env ps qs → SomeApart env (APattern p ps) (APattern q qs)

@@ -30,6 +30,7 @@ module _ (env : Environment) (number : Numbers) (params : List (List ℕ)) (allo
   abbrev pub GivesAlways : Expr → Value → Type 0
   GivesAlways x v = (names : Names) → HasNames names → Gives env names val calls P x v
 
+  -- so in order
   abbrev pub AllGiveAlways : Exprs → List Value → Type 0
   AllGiveAlways xs vs = (names : Names) → HasNames names → GivesAll env names val calls P xs vs
 
@@ -37,6 +38,7 @@ module _ (env : Environment) (number : Numbers) (params : List (List ℕ)) (allo
   abbrev pub CanGive : tree.Expr → Type 0
   CanGive e = (x : Expr) (ty : TypeId) → ExprNamed number params e x → IsExprOf env allowed vars ty x → (v : Value) × GivesAlways x v
 
+  -- so in order
   abbrev pub CanGiveAll : tree.Exprs → Type 0
   CanGiveAll es = (xs : Exprs) (tys : List TypeId) → ExprsNamed number params es xs → AreExprsOf env allowed vars tys xs → (vs : List Value) × AllGiveAlways xs vs
 

@@ -55,6 +55,7 @@ mutual
     a_call : (ty : TypeId) (a : TermId) (es : Exprs) (w : Whole) (vs : List Value) → IsMaker env val (calls w) a w → P w vs
         → GivesAll env names val calls P es vs → Gives env names val calls P (expr.Term ty a es) (val w)
 
+  -- values in order
   pub data GivesAll (env : Environment) (names : Names) (val : Values) (calls : Whole → Calling) (P : Allows) : Exprs → List Value → Type 0 where
     gives_none : GivesAll env names val calls P NoExpr []
     gives_one : (e : Expr) (es : Exprs) (v : Value) (vs : List Value) → Gives env names val calls P e v → GivesAll env names val calls P es vs
@@ -87,6 +88,7 @@ pub record IsAllowedCall (env : Environment) (val : Values) (P : Allows) (c : Gi
   pub named : term_name env c.term ≡ maker whole
   pub gave : c.gave ≡ val whole
 
+-- each of these calls did
 abbrev pub AreAllowed : Environment → Values → Allows → List GivenCall → Type 0
 AreAllowed env val P calls = (c : GivenCall) → Contains calls c → IsAllowedCall env val P c
 
@@ -96,6 +98,7 @@ pub record ComesTo (env : Environment) (val : Values) (P : Allows) (e : Evaluate
   pub is : e ≡ Answered v calls
   pub allowed : AreAllowed env val P given
 
+-- so of expressions in order
 record AllComeTo (env : Environment) (val : Values) (P : Allows) (e : EvaluatedAll) (vs : List Value) (given : List GivenCall) : Type 0 where
   calls : List Made
   is : e ≡ AllAnswered vs calls

@@ -34,6 +34,7 @@ module _ (env : Environment) (number : Numbers) (params others : List (List ℕ)
   abbrev AreApart : tree.Pattern → tree.Pattern → Type 0
   AreApart p q = (x y : Pattern) → PatternNamed number params p x → PatternNamed number others q y → Apart env x y
 
+  -- at some part
   abbrev SomeAreApart : tree.Patterns → tree.Patterns → Type 0
   SomeAreApart ps qs = (xs ys : Patterns) → PatternsNamed number params ps xs → PatternsNamed number others qs ys → SomeApart env xs ys
 

@@ -101,13 +101,15 @@ valued_or (suc (suc n)) e = (false, refl)
 abbrev own_signature : Manner → Instruction → Signature
 own_signature m i = record { term = i.name; pure = false; multi = false; partial = false; recursive = false; args = parameter_types m i; ret = m.ret; pos = no_place; origin = origin.Declared }
 
--- its template, its extractor and its rule
+-- its template
 abbrev own_template : Manner → InstructionFormat → Instruction → Template
 own_template m f i = record { params = parameters m i; pattern = template m f i }
 
+-- its extractor
 abbrev own_extractor : Manner → InstructionFormat → Instruction → ExtractorDef
 own_extractor m f i = record { term = i.name; by = ByTemplate (own_template m f i); pos = no_place }
 
+-- its rule
 abbrev own_rule : Bool → InstructionFormat → Instruction → RuleDef
 own_rule b f i = record { name = None; prio = pos 0; term = i.name; args = variables (parameters (manner_by b) i); iflets = []; rhs = right_side (maker (whole_by b)) (manner_by b) f i; pos = no_place }
 
@@ -165,6 +167,7 @@ variant_made {defs = defs} {env = env} {n = n} g v a number =
 
 -- ---- the instruction
 
+-- an instruction whose term is laid out in the environment, with its place among the opcodes
 pub record IsLaidOut (t : Tables) (env : Environment) (i : Instruction) (term : TermId) : Type 0 where
   pub format : InstructionFormat
   pub is_valued : Bool
@@ -179,6 +182,7 @@ pub record IsLaidOut (t : Tables) (env : Environment) (i : Instruction) (term : 
   pub apart : IsDistinct bytes_eq (parameters (manner_by is_valued) i)
 
 module _ (t : Tables) (env : Environment) (i : Instruction) (f : InstructionFormat) (b : Bool) (term : TermId) (supported : IsFirstUnsupported (rows t) None) (typed : Typed (opt_source t) env) (h : IsTaken t i f b) (number : term_named (terms (opt_source t)) i.name ≡ Some term) where
+  -- its parameters
   abbrev own_params : List (List ℕ)
   own_params = parameters (manner_by b) i
 

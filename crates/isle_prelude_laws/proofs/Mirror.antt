@@ -60,6 +60,7 @@ mutual
     made_taken : (ty of : TypeId) (a b : TermId) (es : Exprs) (ps : Patterns) (w : Whole) → IsPair env a b w → MirrorAll env es ps
         → Mirrors env (expr.Term ty a es) (pattern.Term of b ps)
 
+  -- part by part
   pub data MirrorAll (env : Environment) : Exprs → Patterns → Type 0 where
     no_mirror : MirrorAll env NoExpr NoPattern
     a_mirror : (e : Expr) (es : Exprs) (p : Pattern) (ps : Patterns) → Mirrors env e p → MirrorAll env es ps → MirrorAll env (AnExpr e es) (APattern p ps)
@@ -78,6 +79,7 @@ both_answered : (first : Evaluated) (go : Value → List Made → EvaluatedAll) 
 both_answered (Answered v made) go vs calls h = record { value = v; between = made; is = refl; rest = h }
 both_answered (Failed made) go vs calls h = absurd cc
 
+-- a value before others
 record ValueBefore (v : Value) (rest : EvaluatedAll) (vs : List Value) (calls : List Made) : Type 0 where
   others : List Value
   is : rest ≡ AllAnswered others calls
@@ -88,6 +90,7 @@ value_before v (AllAnswered ws made) vs calls h =
     let same : v ∷ ws ≡ vs = cc in let at : made ≡ calls = cc in record { others = ws; is = ap (AllAnswered ws) at; whole = same }
 value_before v (OneFailed made) vs calls h = absurd cc
 
+-- the steps of a term: its arguments first
 record AllFirst (all : EvaluatedAll) (go : List Value → List Made → Evaluated) (v : Value) (calls : List Made) : Type 0 where
   values : List Value
   between : List Made

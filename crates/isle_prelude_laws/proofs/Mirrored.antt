@@ -84,6 +84,7 @@ module _ (env : Environment) (number : Numbers) (params : List (List ℕ)) (allo
   abbrev pub CanMirror : tree.Expr → tree.Pattern → Type 0
   CanMirror e p = (x : Expr) (q : Pattern) (ty : TypeId) → ExprNamed number params e x → IsExprOf env allowed vars ty x → PatternNamed number params p q → Mirrors env x q
 
+  -- so in order
   abbrev pub CanMirrorAll : tree.Exprs → tree.Patterns → Type 0
   CanMirrorAll es ps = (xs : Exprs) (qs : Patterns) (tys : List TypeId) → ExprsNamed number params es xs → AreExprsOf env allowed vars tys xs → PatternsNamed number params ps qs → MirrorAll env xs qs
 

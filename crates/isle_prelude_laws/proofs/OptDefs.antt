@@ -55,6 +55,7 @@ rule_there ds d r c h = filter_there rule_of ds d r c h
 
 -- ---- the parts of the definitions
 
+-- those of instructions
 abbrev instructions_of : Tables → List Def
 instructions_of t = flat_map (λ (i : Instruction). of_format opt_manner (slice_get t.formats i.format) i) t.instructions
 

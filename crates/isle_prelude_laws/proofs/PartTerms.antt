@@ -51,38 +51,42 @@ pub record IsOpaqueType (defs : List Def) (name : List ℕ) : Type 0 where
   pub among : Contains defs (tree.TypeDecl name is_extern false body no_place)
   pub is_opaque : IsOpaqueBody is_extern body
 
--- what the maker of a whole calls, and whether it is pure
+-- what the maker of a whole calls
 abbrev pub maker_func : Whole → List ℕ
 maker_func ValuedInst = codes "make_inst"
 maker_func SkeletonInst = codes "make_skeleton_inst"
 maker_func (ValueArray n) = value_array_ctor n
 maker_func (BlockArray n) = pack (block_array n)
 
+-- whether it is pure
 abbrev pub maker_pure : Whole → Bool
 maker_pure ValuedInst = false
 maker_pure SkeletonInst = false
 maker_pure (ValueArray n) = true
 maker_pure (BlockArray n) = false
 
--- what its taker calls, the flags of its declaration, and whether it is infallible
+-- what its taker calls
 abbrev pub taker_func : Whole → List ℕ
 taker_func ValuedInst = codes "inst_data_value"
 taker_func SkeletonInst = codes "inst_data"
 taker_func (ValueArray n) = unpack (value_array n)
 taker_func (BlockArray n) = unpack (block_array n)
 
+-- the flags of its declaration
 abbrev pub taker_pure : Whole → Bool
 taker_pure ValuedInst = true
 taker_pure SkeletonInst = true
 taker_pure (ValueArray n) = false
 taker_pure (BlockArray n) = false
 
+-- whether it answers several times
 abbrev pub taker_multi : Whole → Bool
 taker_multi ValuedInst = true
 taker_multi SkeletonInst = false
 taker_multi (ValueArray n) = false
 taker_multi (BlockArray n) = false
 
+-- whether it always answers
 abbrev pub taker_sure : Whole → Bool
 taker_sure ValuedInst = false
 taker_sure SkeletonInst = false
@@ -106,6 +110,7 @@ pub record HasPair (defs : List Def) (w : Whole) : Type 0 where
   pub made_of : made.signature.args ≡ part_types w
   pub taken_into : taken.signature.args ≡ part_types w
 
+-- a declaration declares its term
 abbrev declared_as : (defs : List Def) (term : List ℕ) (pure multi : Bool) (args : List (List ℕ)) (ret : List ℕ)
     → Contains defs (tree.Decl term pure multi false false args ret no_place) → IsDeclaredAs defs term pure multi
 declared_as defs term pure multi args ret c =

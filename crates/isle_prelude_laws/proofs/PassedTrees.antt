@@ -91,6 +91,7 @@ variable_named params name (Some l) x at h = by l.ty h
     by None k = absurd cc
     by (Some ty) k = (ty, record { 0 = l.number }, sym (some_same (expr.Var ty (record { 0 = l.number })) x k), at l refl)
 
+-- the trees of an expression and of those after it
 record BothThere (first : Option Expr) (rest : Option Exprs) (xs : Exprs) : Type 0 where
   one : Expr
   others : Exprs
@@ -190,6 +191,7 @@ typed_there params name k l o q is number found h = by l.ty (ap (λ x. option_ma
     by None e = absurd cc
     by (Some ty) e = (ty, record { 0 = l.number }, sym (some_same (pattern.Var ty (record { 0 = l.number })) q e), is ∙ ap Some (sym number))
 
+-- the trees of a pattern and of those after it
 pub record TreesThere (first : Option Pattern) (rest : Option (List Pattern)) (qs : List Pattern) : Type 0 where
   pub one : Pattern
   pub others : List Pattern

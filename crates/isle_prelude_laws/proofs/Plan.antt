@@ -25,13 +25,14 @@ use Rattle.isle_prelude_laws.specs.HonestMeaning.{Whole, ValuedInst, SkeletonIns
 use Rattle.isle_prelude_laws.proofs.Gives.{Allows, Values, AnswersSo}
 use Rattle.isle_prelude_laws.proofs.Laid.{whole_by}
 
--- how the maker of each whole is called, and how its taker
+-- how the maker of each whole is called
 abbrev pub maker_calling : Whole → Calling
 maker_calling ValuedInst = ByTurns (External (codes "make_inst")) return_kind.Plain
 maker_calling SkeletonInst = ByTurns (External (codes "make_skeleton_inst")) return_kind.Plain
 maker_calling (ValueArray n) = ByCases (External (value_array_ctor n)) return_kind.Plain
 maker_calling (BlockArray n) = ByTurns (External (pack (block_array n))) return_kind.Plain
 
+-- how its taker is called
 abbrev pub taker_calling : Whole → Calling
 taker_calling ValuedInst = ByCases (External (codes "inst_data_value")) return_kind.Iterator
 taker_calling SkeletonInst = ByCases (External (codes "inst_data")) return_kind.Option
@@ -68,25 +69,31 @@ Planned p (BlockArray n) vs = (n ≡ p.block_count) × (vs ≡ p.block_parts) ×
 abbrev always_pure : List ℕ → Answer → PureAnswers
 always_pure name a = record { callee = External name; cases = []; rest = a }
 
+-- so by turns
 abbrev always_turn : List ℕ → Answer → TurnAnswers
 always_turn name a = record { callee = External name; turns = []; rest = a }
 
--- the answers of what takes the instruction apart, and of what packs and unpacks its values and its blocks
+-- what takes the instruction apart
 abbrev own_taker : Plan → PureAnswers
 own_taker p = always_pure (taker (whole_by p.is_valued)) (gives_back (whole_by p.is_valued) p.own_parts)
 
+-- what packs values
 abbrev value_packer : Plan → PureAnswers
 value_packer p = always_pure (value_array_ctor p.value_count) (Plain (p.values ∷ []))
 
+-- what unpacks values
 abbrev value_unpacker : Plan → PureAnswers
 value_unpacker p = always_pure (unpack (value_array p.value_count)) (Plain p.value_parts)
 
+-- what unpacks blocks
 abbrev block_unpacker : Plan → PureAnswers
 block_unpacker p = always_pure (unpack (block_array p.block_count)) (Plain p.block_parts)
 
+-- what makes the instruction
 abbrev own_maker : Plan → TurnAnswers
 own_maker p = always_turn (maker (whole_by p.is_valued)) (Plain (p.own ∷ []))
 
+-- what packs blocks
 abbrev block_packer : Plan → TurnAnswers
 block_packer p = always_turn (pack (block_array p.block_count)) (Plain (p.blocks ∷ []))
 
@@ -162,6 +169,7 @@ find_later test x xs o h k = ap (λ b. cond b (Some x) (find test xs)) h ∙ k
 abbrev of_turn : List ℕ → TurnAnswers → Bool
 of_turn name a = goes_to (External name) (Some a.callee)
 
+-- so of cases
 abbrev of_case : List ℕ → PureAnswers → Bool
 of_case name a = goes_to (External name) (Some a.callee)
 
@@ -291,6 +299,7 @@ module _ (p : Plan) where
 
 -- ---- terms of one name
 
+-- two wholes are taken apart by terms of one name, into the same
 pub record AreAlike (w x : Whole) : Type 0 where
   pub taken : taker w ≡ taker x
   pub back : (vs : List Value) → gives_back w vs ≡ gives_back x vs

@@ -35,6 +35,7 @@ mutual
     at_term : (ty : TypeId) (term : TermId) (ps : Patterns) (v : Value) (vs : List Value) → Opens env m term v vs → AreRead env m all ps vs
         → IsRead env m all (pattern.Term ty term ps) v
 
+  -- part by part
   pub data AreRead (env : Environment) (m : Meaning) (all : Names) : Patterns → List Value → Type 0 where
     no_part : AreRead env m all NoPattern []
     a_part : (p : Pattern) (ps : Patterns) (v : Value) (vs : List Value) → IsRead env m all p v → AreRead env m all ps vs

@@ -122,6 +122,7 @@ mutual
 
 -- ---- the rule
 
+-- a rule over variables of these types alone, whose right side is of these names
 pub record HasParts (w : Whole) (params : List (List ℕ)) (r : RuleDef) (x : Rule) (tys : List TypeId) : Type 0 where
   pub plain : IsPlainRule x tys
   pub rhs : ExprNamed (numbers w) params r.rhs x.rhs

@@ -18,6 +18,7 @@ HasNone number ts name = (a : TermId) → number name ≡ Some a → template_of
 abbrev pub IsUntemplated : Numbers → List (Option Pattern) → tree.Pattern → Type 0
 IsUntemplated number ts p = EachTerm (HasNone number ts) p
 
+-- so of texts in order
 abbrev pub AreUntemplated : Numbers → List (Option Pattern) → tree.Patterns → Type 0
 AreUntemplated number ts ps = EachTerms (HasNone number ts) ps
 
