@@ -13,7 +13,7 @@ use Rattle.isle_meta.specs.declared.clif.Instruction.{Instruction}
 use Rattle.isle_meta.specs.declared.clif.InstructionFormat.{InstructionFormat}
 use Rattle.isle_meta.specs.declared.tables.Tables.{Tables}
 use Rattle.isle_meta.specs.FormatRow.{all_fields}
-use Rattle.isle_meta.specs.NumericTerms.{numeric_terms}
+use Rattle.isle_numerics.specs.Definitions.{numeric_terms}
 use Rattle.isle_meta.specs.TableNames.{is_among, prelude_terms, is_array_constructor, is_array_term, is_reserved_term}
 use Rattle.isle_spelling.specs.Names.{is_numbered}
 use Rattle.isle_prelude.specs.Arrays.{value_array_sizes, block_array_sizes, value_array_defs, block_array_defs, above_one}
