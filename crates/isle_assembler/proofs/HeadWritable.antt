@@ -52,7 +52,7 @@ regs_named = names_one (codes "ValueRegs") (omega arith, refl) refl
 
 type_writable : AreWritable (outputs_type ∷ [])
 type_writable =
-    let inst = (inst_named, minst_named) in (
+    let inst : NamesOne (codes "inst") × NamesOne (codes "MInst") = (inst_named, minst_named) in (
       (
         (
           outputs_named,
@@ -77,7 +77,7 @@ output_word : (v : List ℕ) → IsPlain v → IsWord (codes "AssemblerOutputs."
 output_word v h = word_joined (codes "AssemblerOutputs.") v (omega arith, refl) h
 
 output_head : (v : List ℕ) → IsPlain v → pattern_head (codes "AssemblerOutputs." ++ v) ≡ Some (IsTerm (codes "AssemblerOutputs." ++ v))
-output_head v h = term_head (codes "AssemblerOutputs." ++ v) (output_word v h) refl refl
+output_head v h = term_head (codes "AssemblerOutputs." ++ v) refl refl
 
 emit_writable : (term variant x ret : List ℕ) → NamesOne term → IsPlain variant → IsVariable x → NamesOne ret → AreWritable (emit_defs term variant x ret)
 emit_writable term variant x ret t v y r =
@@ -88,8 +88,12 @@ emit_writable term variant x ret t v y r =
       (
         (
           (
-            tt, omega arith, t, ((output_word variant v, output_head variant v, (inst_variable.taken, (y.taken, tt))), tt), tt,
-            ((ignored, unit, (emit, call_head (codes "emit") emit refl refl, (inst_variable.made, tt)), tt), y.made),
+            tt,
+            omega arith,
+            t,
+            ((output_word variant v, output_head variant v, (inst_variable.taken, (y.taken, tt))), tt),
+            tt,
+            ((ignored, unit, (emit, call_head (codes "emit") refl refl, (inst_variable.made, tt)), tt), y.made),
           ),
           omega arith,
         ),
@@ -105,8 +109,12 @@ defer_writable =
       (
         (
           (
-            tt, omega arith, defer, ((output_word (codes "SideEffect") refl, output_head (codes "SideEffect") refl, (inst_variable.taken, tt)), tt), tt,
-            (given, call_head (codes "SideEffectNoResult.Inst") given refl refl, (inst_variable.made, tt)),
+            tt,
+            omega arith,
+            defer,
+            ((output_word (codes "SideEffect") refl, output_head (codes "SideEffect") refl, (inst_variable.taken, tt)), tt),
+            tt,
+            (given, call_head (codes "SideEffectNoResult.Inst") refl refl, (inst_variable.made, tt)),
           ),
           omega arith,
         ),
@@ -120,4 +128,7 @@ head_writable =
     let xmm = emit_writable (codes "emit_ret_xmm") (codes "RetXmm") (codes "xmm") (codes "Xmm") (names_one (codes "emit_ret_xmm") (omega arith, refl) refl) refl xmm_variable xmm_named in
     let regs =
     emit_writable (codes "emit_ret_value_regs") (codes "RetValueRegs") (codes "regs") (codes "ValueRegs") (names_one (codes "emit_ret_value_regs") (omega arith, refl) refl) refl regs_variable regs_named in
-    (type_writable.0, writable_joined _ _ gpr (writable_joined _ _ xmm (writable_joined _ _ regs defer_writable)))
+    let gprs = emit_defs (codes "emit_ret_gpr") (codes "RetGpr") (codes "gpr") (codes "Gpr") in
+    let xmms = emit_defs (codes "emit_ret_xmm") (codes "RetXmm") (codes "xmm") (codes "Xmm") in
+    let pairs = emit_defs (codes "emit_ret_value_regs") (codes "RetValueRegs") (codes "regs") (codes "ValueRegs") in
+    (type_writable.0, writable_joined gprs (xmms ++ (pairs ++ defer_defs)) gpr (writable_joined xmms (pairs ++ defer_defs) xmm (writable_joined pairs defer_defs regs defer_writable)))

@@ -1,4 +1,4 @@
-pub mod SeparatedLaws
+pub mod Appended
 pub mod TextLaws
 pub mod WordLaws
 pub mod TypeWords

@@ -2,8 +2,8 @@
 use Rattle.std.proofs.Common.{◌≡◌, ℕ, ◌+◌, ◌<◌, ◌≤◌, List, [], ◌∷◌, ◌++◌, length, get_or, take, drop, Bool, true, false, refl, sym, ap, ◌∙◌, subst, append_assoc, append-nil}
 use Rattle.std.specs.Prelude.{◌↔◌, ◌||◌, not, IsTrue, Contains}
 use Rattle.std.specs.BTreeSet.{BTreeSet}
-use Rattle.std.proofs.lemmas.List.{drop_more, take_more}
-use Rattle.std.proofs.Math.ListN.{drop_of_length-le, take_of_length-le}
+use Rattle.std.proofs.lemmas.List.{drop_more, take_all, take_more}
+use Rattle.std.proofs.Math.ListN.{drop_of_length-le}
 use denote.Ref.{Bor}
 use Rattle.isle_lawful_names.specs.NameSet.{HasNames}
 use Rattle.isle_meta.specs.TableNames.{is_among, repeats_after}
@@ -62,4 +62,4 @@ terms_told earlier terms n met found past s =
     sym (or_false found) ∙ ap (λ ys. found || repeats_after (earlier ++ take n terms) ys) (sym (drop_of_length-le terms past)) ∙ s.same
 
 pub terms_met : (earlier terms : List (List ℕ)) (n : ℕ) (met : BTreeSet (Bor (List ℕ))) (found : Bool) → length terms ≤ n → TermsFrom earlier terms n met found → HasNames (earlier ++ terms) met
-terms_met earlier terms n met found past s = subst (λ ts. HasNames (earlier ++ ts) met) (take_of_length-le terms past) s.known
+terms_met earlier terms n met found past s = subst (λ ts. HasNames (earlier ++ ts) met) (take_all n terms past) s.known

@@ -1,5 +1,5 @@
 -- What is told of instructions, and the first that isn't supported.
-use Rattle.std.proofs.Common.{◌≡◌, ℕ, ◌+◌, ◌<◌, ◌≤◌, List, [], ◌∷◌, ◌++◌, length, get_or, take, drop, Bool, true, false, Option, Some, None, cond, refl, sym, ap, ◌∙◌, subst, inl, inr, append_assoc, append-nil}
+use Rattle.std.proofs.Common.{◌≡◌, ℕ, zero, suc, ◌+◌, ◌<◌, ◌≤◌, List, [], ◌∷◌, ◌++◌, length, get_or, take, drop, Bool, true, false, Option, Some, None, cond, refl, sym, ap, ◌∙◌, subst, inl, inr, arith, map, append_assoc, append-nil}
 use Rattle.std.specs.Prelude.{◌↔◌, ◌⊎◌, ◌&&◌, ◌||◌, not, find, IsTrue}
 use Rattle.std.specs.List.{flat_map}
 use Rattle.std.specs.BTreeSet.{BTreeSet}
@@ -20,6 +20,16 @@ use Rattle.isle_assembler.specs.AssemblerRow as row
 use Rattle.isle_assembler.specs.AssemblerRows.{AssemblerBreaks, IsFirstShape, IsFirstUnsupported}
 use Rattle.isle_assembler.specs.TermNames.{is_left_out, row_terms}
 use Rattle.isle_assembler.specs.Told.{told, Tells}
+
+-- ---- tests
+
+-- two tests that are the same as two others
+pub both : {a b x y : Bool} → a ≡ x → b ≡ y → (a && b) ≡ (x && y)
+both e f = rw (e, f) refl
+
+-- a test that is turned, and another
+pub both_not : {a b x y : Bool} → a ≡ x → b ≡ y → (not a && b) ≡ (not x && y)
+both_not e f = rw (e, f) refl
 
 -- ---- the first shape
 
@@ -96,8 +106,10 @@ insts_on is k i faults old new lt e t none has s =
     record {
       known = subst (λ ns. HasNames ns new) (sym (terms_push (take k is) i) ∙ ap row.all_terms (before_more is k i lt e)) has;
       leads = λ found h. s.leads found (subst (λ gs. IsFirstUnsupported (take k is) gs found) (sym (left_split is k i lt e))
-          (inr (subst (λ o. IsFirstShape (take k is) i shapes o) (sym none) (tells_first faults (take k is) i t shapes),
-          subst (λ gs. IsFirstUnsupported gs (drop (k + 1) is) found) (sym (before_more is k i lt e)) h)));
+          (inr (
+            subst (λ o. IsFirstShape (take k is) i shapes o) (sym none) (tells_first faults (take k is) i t shapes),
+            subst (λ gs. IsFirstUnsupported gs (drop (k + 1) is) found) (sym (before_more is k i lt e)) h,
+          )));
     }
 
 pub insts_out : (is : List Inst) (k : ℕ) (i : Inst) (faults : Faults) (shape : Shape) (met : BTreeSet (Bor (List ℕ))) → k < length is → i ≡ get_or is k i
@@ -108,3 +120,14 @@ insts_out is k i faults shape met lt e t some s =
 
 pub insts_end : (is : List Inst) (k : ℕ) (met : BTreeSet (Bor (List ℕ))) → length is ≤ k → InstsFrom is k met → IsFirstUnsupported [] is None
 insts_end is k met past s = s.leads None (subst (λ gs. IsFirstUnsupported (take k is) gs None) (sym (drop_of_length-le is past)) refl)
+
+-- the terms at a place are those of the instruction there
+pub terms_at : (is : List Inst) (terms : List (List (List ℕ))) (k : ℕ) (i : Inst) (own : List (List ℕ)) → terms ≡ map row_terms is → k < length is → i ≡ get_or is k i → own ≡ get_or terms k own
+    → own ≡ row_terms i
+terms_at is terms k i own e lt at there =
+    there ∙ ap (λ ts. get_or ts k own) e ∙ get_or_map is k lt ∙ ap row_terms (sym at)
+  where
+    get_or_map : (is : List Inst) (k : ℕ) → k < length is → get_or (map row_terms is) k own ≡ row_terms (get_or is k i)
+    get_or_map [] k lt = absurd (omega (arith, lt))
+    get_or_map (x ∷ is) zero lt = refl
+    get_or_map (x ∷ is) (suc k) lt = get_or_map is k (omega (arith, lt))

@@ -155,10 +155,17 @@ made_rule_writable i c n =
     let word = identifier_plain i.name n.name in
     let raw = raw_is_term i.name word in
     let turned = conversion_term c in
-    let names = param_names (Made c) i in
-    ((tt, omega arith, (made_is_term c i.name word).named, variables_taken names (params_named (Made c) i n), tt,
-    (turned.named.0, turned.called, ((raw.named.0, raw.called, handed_made c (raw_operands i) (trap_names i.has_trap) (raw_kept i n) (trap_named i.has_trap)), tt))),
-    omega (arith, variables_flat names, handed_low c (raw_operands i) (trap_names i.has_trap)))
+    let names = param_names (Made c) i in (
+      (
+        tt,
+        omega arith,
+        (made_is_term c i.name word).named,
+        variables_taken names (params_named (Made c) i n),
+        tt,
+        (turned.named.0, turned.called, ((raw.named.0, raw.called, handed_made c (raw_operands i) (trap_names i.has_trap) (raw_kept i n) (trap_named i.has_trap)), tt)),
+      ),
+      omega (arith, variables_flat names, handed_low c (raw_operands i) (trap_names i.has_trap)),
+    )
 
 -- a call on the parameters
 call_made : (i : Inst) (c : Constructor) (name : List ℕ) → IsNamedInst i → IsPlain name → IsExpr (call_on (made_term c name) (param_names (Made c) i))
@@ -175,8 +182,10 @@ choice_writable i c (Some a) n h =
     let asked = feature_term a.feature feature in (
       ((term.named, param_types_named (choice_signature c a.feature) i, result_named c), omega arith),
       (
-        ((tt, omega arith, term.named, taken, ((tt, (asked.named.0, asked.called, tt)), tt), call_made i c a.name n (identifier_plain a.name h.0)),
-        omega (arith, variables_flat names, named_flat names)),
+        (
+          (tt, omega arith, term.named, taken, ((tt, (asked.named.0, asked.called, tt)), tt), call_made i c a.name n (identifier_plain a.name h.0)),
+          omega (arith, variables_flat names, named_flat names),
+        ),
         (((tt, omega arith, term.named, taken, tt, call_made i c i.name n word), omega (arith, variables_flat names, named_flat names)), tt),
       ),
     )

@@ -70,7 +70,6 @@ handed_are c i = handed_all c (raw_operands i) (trap_names i.has_trap)
 
 -- ---- declarations
 
-
 signature_is : (s : Signature) (i : Inst) (ret : List ℕ) → codes " (" ++ (spaced [] (param_types s i) ++ (codes ") " ++ (ret ++ codes ")\n"))) ≡ signature_text s i ret
 unfolding signature_text types_text
 signature_is s i ret = ap (λ z. codes " (" ++ (z ++ (codes ") " ++ (ret ++ codes ")\n")))) (spaced_first (param_types s i))
@@ -192,6 +191,7 @@ row_is i = one (is_left_out i)
         sym (append_assoc (def_text (raw_decl i)) (def_text (raw_maker i)) (def_texts (flat_map (constructor_defs i) (constructors i))))
         ∙ ap (λ z. z ++ def_texts (flat_map (constructor_defs i) (constructors i))) (raw_is i)
         ∙ ap (λ z. raw_text i ++ z) (each_is (constructor_defs i) (constructor_text i) (constructor_is i) (constructors i))
+
     one : (b : Bool) → def_texts (if b then [] else raw_decl i ∷ raw_maker i ∷ flat_map (constructor_defs i) (constructors i))
         ≡ (if b then [] else raw_text i ++ flat_map (constructor_text i) (constructors i))
     one true = refl

@@ -99,7 +99,7 @@ pub record IsTerm (w : List ℕ) : Type 0 where
 
 -- a word that doesn't begin as `let` does
 pub term_from : (w : List ℕ) → IsWord w → begins_symbol (slice_index w 0) ≡ true → is_let w ≡ false → IsTerm w
-term_from w h k l = record { named = names_one w h k; called = call_head w h k l }
+term_from w h k l = record { named = names_one w h k; called = call_head w k l }
 
 -- the term of an instruction
 pub x64_term : (w : List ℕ) → IsPlain w → IsTerm (codes "x64_" ++ w)

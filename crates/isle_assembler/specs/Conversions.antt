@@ -1,5 +1,5 @@
 -- How a method of the macro turns each operand into one of the assembler.
-use Rattle.std.specs.Prelude.{ℕ, List, [], ◌++◌, if◌then◌else◌, codes}
+use Rattle.std.specs.Prelude.{ℕ, List, [], ◌++◌, Bool, true, false, if◌then◌else◌, codes}
 use Rattle.isle_meta.specs.declared.machine.Mutability.{Mutability}
 use Rattle.isle_meta.specs.declared.machine.Mutability.TheVariants.{Read, ReadWrite, Write}
 use Rattle.isle_meta.specs.declared.machine.Operand.{Operand}
@@ -57,11 +57,16 @@ fixed_register class Write x = wrapped (codes "Fixed") (new_register class)
 unfoldable pub immediate : Operand → List ℕ
 immediate o = assembler ++ ((if o.sign_extended then codes "Simm" else codes "Imm") ++ (bits o ++ (codes "::new(" ++ (o.location ++ codes ")"))))
 
+-- what a method's name says of a place in memory that must be aligned
+abbrev pub aligned_word : Bool → List ℕ
+aligned_word true = codes "_aligned"
+aligned_word false = []
+
 -- a register or a place in memory
 unfoldable pub reg_mem : RegClass → Operand → List ℕ
 reg_mem class o =
     codes "self.convert_" ++ (class_word class ++ (codes "_mem_to_assembler_" ++ (access_word o.mutability ++ (codes "_"
-    ++ (class_word class ++ (codes "_mem" ++ ((if o.align then codes "_aligned" else []) ++ (codes "(" ++ (o.location ++ codes ")")))))))))
+    ++ (class_word class ++ (codes "_mem" ++ (aligned_word o.align ++ (codes "(" ++ (o.location ++ codes ")")))))))))
 
 -- a place in memory
 unfoldable pub memory : Operand → List ℕ

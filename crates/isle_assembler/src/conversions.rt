@@ -1,9 +1,10 @@
 //! How a method of the macro turns operands into those of the assembler.
 
 ghost use Rattle.std.specs.Prelude.{◌≡◌, ◌++◌, OnOk, string_bytes};
-ghost use Rattle.isle_assembler.specs.Conversions.{access_word, assembler, class_maker, class_word, converted, fixed_register};
-ghost use Rattle.isle_assembler.specs.Conversions.{immediate, memory, new_register, read_write, reg_mem, register, wrapped};
+ghost use Rattle.isle_assembler.specs.Conversions.{access_word, aligned_word, assembler, class_maker, class_word};
+ghost use Rattle.isle_assembler.specs.Conversions.{converted, fixed_register, immediate, memory, new_register, read_write, reg_mem, register, wrapped};
 
+use crate::pieces::push_piece;
 use crate::signature::{class_name, push_bits};
 use isle_meta::{Mutability, Operand, OperandKind, RegClass};
 use std::alloc::AllocError;
@@ -38,17 +39,15 @@ fn access_word(mutability: Mutability) -> &'static str
 }
 
 // Appends a new register of a class.
-#[tactic(auto, unfolding(crate::specs::Conversions::new_register))]
 fn push_new_register(text: &mut String, class: RegClass) -> Result<(), AllocError>
     ensures { OnOk result (string_bytes text.new ≡ string_bytes text.old ++ new_register class) }
 {
     text.push_str("self.temp_writable_")?;
     text.push_str(class_word(class))?;
-    text.push_str("()")
+    push_piece(text, "()")
 }
 
 // Appends a register that a method of this name turns into one that is read and written.
-#[tactic(auto, unfolding(crate::specs::Conversions::read_write))]
 fn push_read_write(
     text: &mut String,
     name: &str,
@@ -65,7 +64,7 @@ fn push_read_write(
     text.push_str(class_word(class))?;
     text.push_str("(")?;
     text.push_str(x)?;
-    text.push_str(")")
+    push_piece(text, ")")
 }
 
 // The assembler's type of registers of a class, as a function.
@@ -152,8 +151,14 @@ fn push_immediate(text: &mut String, operand: &Operand) -> Result<(), AllocError
     text.push_str(")")
 }
 
+// What a method's name says of a place in memory that must be aligned.
+fn aligned_word(align: bool) -> &'static str
+    ensures { result.now ≡ aligned_word align }
+{
+    if align { "_aligned" } else { "" }
+}
+
 // Appends a register or a place in memory.
-#[tactic(auto, unfolding(crate::specs::Conversions::reg_mem))]
 fn push_reg_mem(text: &mut String, class: RegClass, operand: &Operand) -> Result<(), AllocError>
     ensures { OnOk result
         (string_bytes text.new ≡ string_bytes text.old ++ reg_mem class operand.now) }
@@ -165,20 +170,19 @@ fn push_reg_mem(text: &mut String, class: RegClass, operand: &Operand) -> Result
     text.push_str("_")?;
     text.push_str(class_word(class))?;
     text.push_str("_mem")?;
-    text.push_str(if operand.align { "_aligned" } else { "" })?;
+    text.push_str(aligned_word(operand.align))?;
     text.push_str("(")?;
     text.push_str(operand.location.as_str())?;
-    text.push_str(")")
+    push_piece(text, ")")
 }
 
 // Appends a place in memory.
-#[tactic(auto, unfolding(crate::specs::Conversions::memory))]
 fn push_memory(text: &mut String, operand: &Operand) -> Result<(), AllocError>
     ensures { OnOk result (string_bytes text.new ≡ string_bytes text.old ++ memory operand.now) }
 {
     text.push_str("self.convert_amode_to_assembler_amode(")?;
     text.push_str(operand.location.as_str())?;
-    text.push_str(")")
+    push_piece(text, ")")
 }
 
 /// Appends an operand turned into one of the assembler. The only error is want of memory.

@@ -8,6 +8,7 @@ mod faults;
 pub mod gen_asm;
 mod methods;
 mod operands;
+mod pieces;
 mod returns;
 mod rows;
 mod rules;

@@ -8,6 +8,7 @@ ghost use Rattle.isle_assembler.specs.Methods.{row_method, rust_type, trap_argum
 
 use crate::conversions::{assembler, push_converted};
 use crate::operands::{is_raw, may_be_memory};
+use crate::pieces::push_piece;
 use crate::returns::push_given;
 use crate::signature::{push_gap, push_operand_type};
 use crate::term_names::{is_left_out, push_raw_term};
@@ -122,7 +123,6 @@ fn push_let_lines(text: &mut String, operands: &[Operand]) -> Result<(), AllocEr
 }
 
 // Appends the assembler's instruction.
-#[tactic(auto, unfolding(crate::specs::Methods::inst_line))]
 fn push_inst_line(text: &mut String, inst: &Inst) -> Result<(), AllocError>
     ensures { OnOk result (string_bytes text.new ≡ string_bytes text.old ++ inst_line inst.now) }
 {
@@ -133,7 +133,7 @@ fn push_inst_line(text: &mut String, inst: &Inst) -> Result<(), AllocError>
     text.push_str(inst.name.as_str())?;
     text.push_str("::new(")?;
     push_arguments(text, inst)?;
-    text.push_str(").into();\n")
+    push_piece(text, ").into();\n")
 }
 
 // Appends the instruction of the compiler around it.
@@ -146,7 +146,6 @@ fn push_outer_line(text: &mut String) -> Result<(), AllocError>
 }
 
 // Appends a method's name and parameters.
-#[tactic(auto, unfolding(crate::specs::Methods::head_line))]
 fn push_head_line(text: &mut String, inst: &Inst) -> Result<(), AllocError>
     ensures { OnOk result (string_bytes text.new ≡ string_bytes text.old ++ head_line inst.now) }
 {
@@ -154,7 +153,7 @@ fn push_head_line(text: &mut String, inst: &Inst) -> Result<(), AllocError>
     push_raw_term(text, inst.name.as_str())?;
     text.push_str("(&mut self, ")?;
     push_params(text, inst)?;
-    text.push_str(") -> AssemblerOutputs {\n")
+    push_piece(text, ") -> AssemblerOutputs {\n")
 }
 
 // Appends what a method gives, and its end.

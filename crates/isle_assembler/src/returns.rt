@@ -8,6 +8,7 @@ ghost use Rattle.isle_assembler.specs.Returns.{memory_arm, register_arm, two_reg
 
 use crate::conversions::{assembler, class_word};
 use crate::operands::{registers, written};
+use crate::pieces::push_piece;
 use crate::signature::class_name;
 use isle_meta::{Inst, Mutability, Operand, OperandKind, RegClass};
 use std::alloc::{AllocError, Global};
@@ -44,7 +45,6 @@ fn side_effect() -> &'static str
 }
 
 // Appends the instruction with the register of a class.
-#[tactic(auto, unfolding(crate::specs::Returns::with_register))]
 fn push_with_register(text: &mut String, class: RegClass) -> Result<(), AllocError>
     ensures { OnOk result (string_bytes text.new ≡ string_bytes text.old ++ with_register class) }
 {
@@ -52,7 +52,7 @@ fn push_with_register(text: &mut String, class: RegClass) -> Result<(), AllocErr
     text.push_str(class_name(class))?;
     text.push_str(" { inst, ")?;
     text.push_str(class_word(class))?;
-    text.push_str(" }")
+    push_piece(text, " }")
 }
 
 // Appends a register under the name of its class, and the instruction with it.
@@ -98,7 +98,6 @@ fn push_arm_begin(text: &mut String, class: RegClass) -> Result<(), AllocError>
 }
 
 // Appends the arm of a register.
-#[tactic(auto, unfolding(crate::specs::Returns::register_arm))]
 fn push_register_arm(
     text: &mut String,
     class: RegClass,
@@ -111,18 +110,17 @@ fn push_register_arm(
     text.push_str(class_name(class))?;
     text.push_str("(reg) => { ")?;
     push_bound_register(text, class, "reg", ".", mutability)?;
-    text.push_str(" }")
+    push_piece(text, " }")
 }
 
 // Appends the arm of a place in memory.
-#[tactic(auto, unfolding(crate::specs::Returns::memory_arm))]
 fn push_memory_arm(text: &mut String, class: RegClass) -> Result<(), AllocError>
     ensures { OnOk result (string_bytes text.new ≡ string_bytes text.old ++ memory_arm class) }
 {
     push_arm_begin(text, class)?;
     text.push_str("Mem(_) => { ")?;
     text.push_str(side_effect())?;
-    text.push_str(" }")
+    push_piece(text, " }")
 }
 
 // Appends a register or a place in memory.
@@ -140,7 +138,6 @@ fn push_one_place(text: &mut String, class: RegClass, x: &Operand) -> Result<(),
 }
 
 // Appends a register of two, under this name.
-#[tactic(auto, unfolding(crate::specs::Returns::bound_of_two))]
 fn push_bound_of_two(text: &mut String, name: &str, x: &Operand) -> Result<(), AllocError>
     ensures { OnOk result
         (string_bytes text.new ≡ string_bytes text.old ++ bound_of_two name.now x.now) }
@@ -151,7 +148,7 @@ fn push_bound_of_two(text: &mut String, name: &str, x: &Operand) -> Result<(), A
     text.push_str(x.location.as_str())?;
     text.push_str(".as_ref().")?;
     text.push_str(reached(x.mutability))?;
-    text.push_str(".to_reg(); ")
+    push_piece(text, ".to_reg(); ")
 }
 
 // Appends two registers.

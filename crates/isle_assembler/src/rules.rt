@@ -10,6 +10,7 @@ ghost use Rattle.isle_assembler.specs.RuleTexts.{outputs_text, row_text, rule_te
 
 use crate::constructor::Constructor;
 use crate::constructors::constructors_of;
+use crate::pieces::push_piece;
 use crate::signature::{Signature, push_handed, push_params, push_types};
 use crate::term_names::{is_left_out, push_choice_term, push_made_term, push_raw_term};
 use isle_meta::{Alternate, Inst};
@@ -34,7 +35,6 @@ fn push_signature(
 }
 
 // Appends the raw term.
-#[tactic(auto, unfolding(crate::specs::RuleTexts::raw_text))]
 fn push_raw(text: &mut String, inst: &Inst) -> Result<(), AllocError>
     ensures { OnOk result (string_bytes text.new ≡ string_bytes text.old ++ raw_text inst.now) }
 {
@@ -45,7 +45,7 @@ fn push_raw(text: &mut String, inst: &Inst) -> Result<(), AllocError>
     push_raw_term(text, inst.name.as_str())?;
     text.push_str(" ")?;
     push_raw_term(text, inst.name.as_str())?;
-    text.push_str(")\n")
+    push_piece(text, ")\n")
 }
 
 // Appends the declaration of a constructor's term.
@@ -60,7 +60,6 @@ fn push_made_decl(text: &mut String, inst: &Inst, c: Constructor) -> Result<(), 
 }
 
 // Appends the rule of a constructor's term.
-#[tactic(auto, unfolding(crate::specs::RuleTexts::made_rule_text))]
 fn push_made_rule(text: &mut String, inst: &Inst, c: Constructor) -> Result<(), AllocError>
     ensures { OnOk result
         (string_bytes text.new ≡ string_bytes text.old ++ made_rule_text inst.now c) }
@@ -73,7 +72,7 @@ fn push_made_rule(text: &mut String, inst: &Inst, c: Constructor) -> Result<(), 
     text.push_str(" (")?;
     push_raw_term(text, inst.name.as_str())?;
     push_handed(text, c, inst)?;
-    text.push_str(")))\n")
+    push_piece(text, ")))\n")
 }
 
 // The parameters of the term that takes an alternate.
@@ -133,7 +132,6 @@ fn push_choice_head(
 }
 
 // Appends the rule that takes the alternate.
-#[tactic(auto, unfolding(crate::specs::RuleTexts::alternate_rule_text))]
 fn push_alternate_rule(
     text: &mut String,
     inst: &Inst,
@@ -231,18 +229,16 @@ fn push_rows(alloc: Global, text: &mut String, insts: &[Inst]) -> Result<(), All
 }
 
 // Appends the type of what a raw term gives.
-#[tactic(auto, unfolding(crate::specs::RuleTexts::outputs_text))]
 fn push_outputs(text: &mut String) -> Result<(), AllocError>
     ensures { OnOk result (string_bytes text.new ≡ string_bytes text.old ++ outputs_text) }
 {
     text.push_str(
         "(type AssemblerOutputs (enum\n  (SideEffect (inst MInst))\n  (RetGpr (inst MInst) (gpr Gpr))\n  (RetXmm (inst MInst) (xmm Xmm))\n",
     )?;
-    text.push_str("  (RetValueRegs (inst MInst) (regs ValueRegs))))\n")
+    push_piece(text, "  (RetValueRegs (inst MInst) (regs ValueRegs))))\n")
 }
 
 // Appends the term that emits an instruction and gives its register.
-#[tactic(auto, unfolding(crate::specs::RuleTexts::emit_text))]
 fn push_emit(
     text: &mut String,
     term: &str,
@@ -266,22 +262,21 @@ fn push_emit(
     text.push_str(x)?;
     text.push_str(")) (let ((_ Unit (emit inst))) ")?;
     text.push_str(x)?;
-    text.push_str("))\n")
+    push_piece(text, "))\n")
 }
 
 // Appends the term that puts an instruction off.
-#[tactic(auto, unfolding(crate::specs::RuleTexts::defer_text))]
 fn push_defer(text: &mut String) -> Result<(), AllocError>
     ensures { OnOk result (string_bytes text.new ≡ string_bytes text.old ++ defer_text) }
 {
     text.push_str("(decl defer_side_effect (AssemblerOutputs) SideEffectNoResult)\n")?;
-    text.push_str(
+    push_piece(
+        text,
         "(rule (defer_side_effect (AssemblerOutputs.SideEffect inst)) (SideEffectNoResult.Inst inst))\n",
     )
 }
 
 // Appends the definitions with which the text begins.
-#[tactic(auto, unfolding(crate::specs::RuleTexts::head_text))]
 fn push_head(text: &mut String) -> Result<(), AllocError>
     ensures { OnOk result (string_bytes text.new ≡ string_bytes text.old ++ head_text) }
 {

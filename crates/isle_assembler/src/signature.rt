@@ -160,6 +160,7 @@ pub fn push_gap(text: &mut String, is_first: bool, between: &str) -> Result<(), 
 }
 
 /// Appends the types of a term's parameters, with blanks between them. The only error is want of memory.
+#[tactic(auto, unfolding(crate::specs::RuleTexts::types_text))]
 pub fn push_types(text: &mut String, signature: Signature, inst: &Inst) -> Result<(), AllocError>
     ensures { OnOk result
         (string_bytes text.new ≡ string_bytes text.old ++ types_text signature inst.now) }

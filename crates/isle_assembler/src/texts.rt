@@ -11,7 +11,7 @@ use std::alloc::Global;
 /// Returns the rules of an assembler: of each instruction whose mnemonic doesn't begin with `push` the term that Rust
 /// gives, and one term for each of its constructors. The text spells these definitions and no others. `Unsupported` has
 /// the first instruction that isn't supported, and the first shape that it breaks; `Memory` says that memory ran out.
-
+#[tactic(auto, using(crate::proofs::RulesSpelt::rules_spelt))]
 pub fn isle_text(alloc: Global, insts: &[Inst]) -> Result<String, TableFail>
     ensures { Gives (IsRuleText insts.now) insts.now result }
 {
