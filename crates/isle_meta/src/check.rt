@@ -28,8 +28,8 @@ fn unsupported_row<'t>(
     unsupported_instruction(alloc, formats, tables.instructions.as_slice())
 }
 
-// The refusal of a row.
-fn refused(alloc: Global, row: &str, shape: Shape) -> TableFail
+/// Gives the refusal of a row, or says that memory ran out.
+pub fn refused(alloc: Global, row: &str, shape: Shape) -> TableFail
     ensures { Refuses row.now shape result }
 {
     match Text::copied(alloc, row) {

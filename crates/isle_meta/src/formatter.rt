@@ -74,6 +74,15 @@ impl Formatter {
         Ok(())
     }
 
+    /// Appends a whole text as it stands, without blanks of the level. A refusal leaves all as it was.
+    pub fn push_text(&mut self, text: &str) -> Result<(), OutOfMemory>
+        ensures ok { OnOk result (self.new ≡ followed_by self.old text.now) }
+        ensures err { OnErr result (self.new ≡ self.old) }
+    {
+        self.text.push_str(text)?;
+        Ok(())
+    }
+
     /// Appends a line feed. A refusal leaves all as it was.
     pub fn empty_line(&mut self) -> Result<(), OutOfMemory>
         ensures ok { OnOk result (self.new ≡ followed_by self.old (10 ∷ [])) }

@@ -21,11 +21,13 @@ mod repeats;
 mod shapes;
 mod tables;
 
-pub use check::check_tables;
+pub use check::{check_tables, refused};
 pub use clif::{ClifOperand, ImmField, Instruction, InstructionFormat, OperandClass};
 pub use errors::{GenError, TableFail, Unsupported};
 pub use formatter::{Formatter, Language};
+pub use kept_names::are_all_identifiers;
 pub use machine::{Alternate, Inst, Mutability, Operand, OperandKind, RegClass};
 pub use pulley::PulleyInst;
+pub use repeats::has_repeat;
 pub use shapes::Shape;
 pub use tables::Tables;

@@ -1,0 +1,9 @@
+pub mod Appended
+pub mod TextLaws
+pub mod WordLaws
+pub mod TypeWords
+pub mod HeadWritable
+pub mod RulesWritable
+pub mod RepeatedTerms
+pub mod RowLaws
+pub mod RulesSpelt

@@ -1,0 +1,42 @@
+-- The rules' text of supported instructions spells their definitions and no others.
+use Rattle.std.proofs.Common.{◌≡◌, ℕ, List, [], ◌∷◌, ◌++◌, Bool, true, false, Option, Some, None, refl, ap, ◌∙◌, flat_map, codes}
+use Rattle.std.specs.Prelude.{if◌then◌else◌}
+use Rattle.isle_assembler.specs.declared.constructor.Constructor.{Constructor}
+use Rattle.isle_meta.specs.declared.machine.Alternate.{Alternate}
+use Rattle.isle_meta.specs.declared.machine.Inst.{Inst}
+use Rattle.isle_writing.specs.Spelt.{declare_flag}
+use Rattle.isle_writing.specs.Text.{def_texts}
+use Rattle.isle_writing.proofs.Joined.{no_flag_each, no_flag_joined}
+use Rattle.isle_writing.proofs.WrittenLaw.{written_spelt}
+use Rattle.isle_assembler.specs.AssemblerDefs.{assembler_defs, choice_defs, constructor_defs, raw_decl, raw_maker, row_defs}
+use Rattle.isle_assembler.specs.AssemblerRows.{IsFirstUnsupported}
+use Rattle.isle_assembler.specs.Constructors.{constructors}
+use Rattle.isle_assembler.specs.Generated.{IsRuleText}
+use Rattle.isle_assembler.specs.HeadDefs.{head_defs}
+use Rattle.isle_assembler.specs.RuleTexts.{rule_text}
+use Rattle.isle_assembler.specs.TermNames.{is_left_out}
+use Rattle.isle_assembler.proofs.RulesWritable.{assembler_writable}
+use Rattle.isle_assembler.proofs.TextLaws.{rules_are}
+
+-- ---- no term has the name of a flag
+
+choice_unflagged : (i : Inst) (c : Constructor) (o : Option Alternate) → declare_flag (choice_defs i c o) ≡ false
+choice_unflagged i c None = refl
+choice_unflagged i c (Some a) = refl
+
+row_unflagged : (i : Inst) → declare_flag (row_defs i) ≡ false
+row_unflagged i = one (is_left_out i)
+  where
+    one : (b : Bool) → declare_flag (if b then [] else raw_decl i ∷ raw_maker i ∷ flat_map (constructor_defs i) (constructors i)) ≡ false
+    one true = refl
+    one false = no_flag_each (constructor_defs i) (λ c. choice_unflagged i c i.alternate) (constructors i)
+
+unflagged : (is : List Inst) → declare_flag (assembler_defs is) ≡ false
+unflagged is = no_flag_joined head_defs (flat_map row_defs is) refl (no_flag_each row_defs row_unflagged is)
+
+-- ---- the text
+
+pub rules_spelt : (is : List Inst) (text : List ℕ) → IsFirstUnsupported [] is None → text ≡ rule_text is → IsRuleText is text
+rules_spelt is text h e =
+    let written = e ∙ rules_are is in
+    record { supported = h; written = written; spelt = (written_spelt text (assembler_defs is) (assembler_writable is h) written).named (unflagged is) }

@@ -1,0 +1,7 @@
+use Rattle.std.proofs.Common.{◌≡◌, ◌++◌, take, map, string_bytes}
+use Rattle.std.specs.List.{flat_map}
+use Rattle.isle_assembler.specs.Methods.{row_method}
+use Rattle.isle_assembler.proofs.methods.push_methods.Given as goal
+
+abbrev pub invariant-loop-inst : goal.invariant-loop-inst
+invariant-loop-inst l = string_bytes l.text ≡ string_bytes l.fn.text ++ flat_map row_method (take l.inst-index l.insts)

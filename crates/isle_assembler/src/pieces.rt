@@ -1,0 +1,12 @@
+//! A piece of a text.
+
+ghost use Rattle.std.specs.Prelude.{◌≡◌, ◌++◌, OnOk, string_bytes};
+
+use std::alloc::AllocError;
+
+/// Appends a piece. The only error is want of memory.
+pub fn push_piece(text: &mut String, piece: &str) -> Result<(), AllocError>
+    ensures { OnOk result (string_bytes text.new ≡ string_bytes text.old ++ piece.now) }
+{
+    text.push_str(piece)
+}

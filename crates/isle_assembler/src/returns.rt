@@ -1,0 +1,214 @@
+//! What a method of the macro gives.
+
+ghost use Rattle.std.specs.Prelude.{◌≡◌, ◌++◌, OnOk, string_bytes};
+ghost use Rattle.isle_assembler.specs.Operands.{lent};
+ghost use Rattle.isle_assembler.specs.Returns.{arm_begin, bound_of_two, bound_register, class_of, given, given_among, given_by};
+ghost use Rattle.isle_assembler.specs.Returns.{given_elsewhere, one_place, one_register, reached, side_effect};
+ghost use Rattle.isle_assembler.specs.Returns.{memory_arm, register_arm, two_registers, with_register};
+
+use crate::conversions::{assembler, class_word};
+use crate::operands::{registers, written};
+use crate::pieces::push_piece;
+use crate::signature::class_name;
+use isle_meta::{Inst, Mutability, Operand, OperandKind, RegClass};
+use std::alloc::{AllocError, Global};
+
+// How the register of an operand is reached.
+fn reached(mutability: Mutability) -> &'static str
+    ensures { result.now ≡ reached mutability }
+{
+    match mutability {
+        Mutability::Read => "",
+        Mutability::ReadWrite => "write.to_reg()",
+        Mutability::Write => "to_reg()",
+    }
+}
+
+// The class of an operand's register.
+fn class_of(kind: OperandKind) -> RegClass
+    ensures { result ≡ class_of kind }
+{
+    match kind {
+        OperandKind::Reg(class) => class,
+        OperandKind::FixedReg(class) => class,
+        OperandKind::RegMem(class) => class,
+        OperandKind::Imm | OperandKind::Mem => RegClass::Gpr,
+    }
+}
+
+// The instruction alone.
+#[tactic(auto, unfolding(crate::specs::Returns::side_effect))]
+fn side_effect() -> &'static str
+    ensures { result.now ≡ side_effect }
+{
+    "AssemblerOutputs::SideEffect { inst }"
+}
+
+// Appends the instruction with the register of a class.
+fn push_with_register(text: &mut String, class: RegClass) -> Result<(), AllocError>
+    ensures { OnOk result (string_bytes text.new ≡ string_bytes text.old ++ with_register class) }
+{
+    text.push_str("AssemblerOutputs::Ret")?;
+    text.push_str(class_name(class))?;
+    text.push_str(" { inst, ")?;
+    text.push_str(class_word(class))?;
+    push_piece(text, " }")
+}
+
+// Appends a register under the name of its class, and the instruction with it.
+#[tactic(auto, unfolding(crate::specs::Returns::bound_register))]
+fn push_bound_register(
+    text: &mut String,
+    class: RegClass,
+    place: &str,
+    access: &str,
+    mutability: Mutability,
+) -> Result<(), AllocError>
+    ensures { OnOk result
+        (string_bytes text.new
+        ≡ string_bytes text.old ++ bound_register class place.now access.now mutability) }
+{
+    text.push_str("let ")?;
+    text.push_str(class_word(class))?;
+    text.push_str(" = ")?;
+    text.push_str(place)?;
+    text.push_str(access)?;
+    text.push_str(reached(mutability))?;
+    text.push_str("; ")?;
+    push_with_register(text, class)
+}
+
+// Appends one register.
+fn push_one_register(text: &mut String, x: &Operand) -> Result<(), AllocError>
+    ensures { OnOk result (string_bytes text.new ≡ string_bytes text.old ++ one_register x.now) }
+{
+    let place = x.location.as_str();
+    push_bound_register(text, class_of(x.kind), place, ".as_ref().", x.mutability)
+}
+
+// Appends how an arm of a match over a place of this class begins, up to the pattern.
+#[tactic(auto, unfolding(crate::specs::Returns::arm_begin))]
+fn push_arm_begin(text: &mut String, class: RegClass) -> Result<(), AllocError>
+    ensures { OnOk result
+        (string_bytes text.new ≡ string_bytes text.old ++ arm_begin class) }
+{
+    text.push_str(assembler())?;
+    text.push_str(class_name(class))?;
+    text.push_str("Mem::")
+}
+
+// Appends the arm of a register.
+fn push_register_arm(
+    text: &mut String,
+    class: RegClass,
+    mutability: Mutability,
+) -> Result<(), AllocError>
+    ensures { OnOk result
+        (string_bytes text.new ≡ string_bytes text.old ++ register_arm class mutability) }
+{
+    push_arm_begin(text, class)?;
+    text.push_str(class_name(class))?;
+    text.push_str("(reg) => { ")?;
+    push_bound_register(text, class, "reg", ".", mutability)?;
+    push_piece(text, " }")
+}
+
+// Appends the arm of a place in memory.
+fn push_memory_arm(text: &mut String, class: RegClass) -> Result<(), AllocError>
+    ensures { OnOk result (string_bytes text.new ≡ string_bytes text.old ++ memory_arm class) }
+{
+    push_arm_begin(text, class)?;
+    text.push_str("Mem(_) => { ")?;
+    text.push_str(side_effect())?;
+    push_piece(text, " }")
+}
+
+// Appends a register or a place in memory.
+#[tactic(auto, unfolding(crate::specs::Returns::one_place))]
+fn push_one_place(text: &mut String, class: RegClass, x: &Operand) -> Result<(), AllocError>
+    ensures { OnOk result (string_bytes text.new ≡ string_bytes text.old ++ one_place class x.now) }
+{
+    text.push_str("match ")?;
+    text.push_str(x.location.as_str())?;
+    text.push_str(" { ")?;
+    push_register_arm(text, class, x.mutability)?;
+    text.push_str(" ")?;
+    push_memory_arm(text, class)?;
+    text.push_str(" }")
+}
+
+// Appends a register of two, under this name.
+fn push_bound_of_two(text: &mut String, name: &str, x: &Operand) -> Result<(), AllocError>
+    ensures { OnOk result
+        (string_bytes text.new ≡ string_bytes text.old ++ bound_of_two name.now x.now) }
+{
+    text.push_str("let ")?;
+    text.push_str(name)?;
+    text.push_str(" = ")?;
+    text.push_str(x.location.as_str())?;
+    text.push_str(".as_ref().")?;
+    text.push_str(reached(x.mutability))?;
+    push_piece(text, ".to_reg(); ")
+}
+
+// Appends two registers.
+#[tactic(auto, unfolding(crate::specs::Returns::two_registers))]
+fn push_two_registers(text: &mut String, x: &Operand, y: &Operand) -> Result<(), AllocError>
+    ensures { OnOk result
+        (string_bytes text.new ≡ string_bytes text.old ++ two_registers x.now y.now) }
+{
+    push_bound_of_two(text, "one", x)?;
+    push_bound_of_two(text, "two", y)?;
+    text.push_str("let regs = ValueRegs::two(one, two); ")?;
+    text.push_str("AssemblerOutputs::RetValueRegs { inst, regs }")
+}
+
+// Appends what one operand gives.
+fn push_given_by(text: &mut String, x: &Operand) -> Result<(), AllocError>
+    ensures { OnOk result (string_bytes text.new ≡ string_bytes text.old ++ given_by x.now.kind x.now) }
+{
+    match x.kind {
+        OperandKind::Imm => text.push_str(side_effect()),
+        OperandKind::Reg(_) => push_one_register(text, x),
+        OperandKind::FixedReg(_) => push_one_register(text, x),
+        OperandKind::RegMem(class) => push_one_place(text, class, x),
+        OperandKind::Mem => text.push_str(side_effect()),
+    }
+}
+
+// Appends what is given without a register.
+fn push_given_elsewhere(text: &mut String, written: &[&Operand]) -> Result<(), AllocError>
+    ensures { OnOk result
+        (string_bytes text.new ≡ string_bytes text.old ++ given_elsewhere (lent written.now)) }
+{
+    match written {
+        [] => text.push_str(side_effect()),
+        [x, ..] => push_given_by(text, x),
+    }
+}
+
+// Appends what is given, by the registers among the operands that are written, and all of these.
+fn push_given_among(
+    text: &mut String,
+    registers: &[&Operand],
+    written: &[&Operand],
+) -> Result<(), AllocError>
+    ensures { OnOk result
+        (string_bytes text.new
+        ≡ string_bytes text.old ++ given_among (lent registers.now) (lent written.now)) }
+{
+    match registers {
+        [] => push_given_elsewhere(text, written),
+        [x] => push_one_register(text, x),
+        [x, y, ..] => push_two_registers(text, x, y),
+    }
+}
+
+/// Appends what a method gives. The only error is want of memory.
+pub fn push_given(alloc: Global, text: &mut String, inst: &Inst) -> Result<(), AllocError>
+    ensures { OnOk result (string_bytes text.new ≡ string_bytes text.old ++ given inst.now) }
+{
+    let written = written(alloc, inst)?;
+    let registers = registers(alloc, written.as_slice())?;
+    push_given_among(text, registers.as_slice(), written.as_slice())
+}
