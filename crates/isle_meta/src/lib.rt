@@ -26,6 +26,7 @@ pub use clif::{ClifOperand, ImmField, Instruction, InstructionFormat, OperandCla
 pub use errors::{GenError, TableFail, Unsupported};
 pub use formatter::{Formatter, Language};
 pub use kept_names::are_all_identifiers;
+pub use layout::joined;
 pub use machine::{Alternate, Inst, Mutability, Operand, OperandKind, RegClass};
 pub use pulley::PulleyInst;
 pub use repeats::has_repeat;

@@ -1,6 +1,6 @@
 //! Texts that are written to files, in order.
 
-ghost use Rattle.std.specs.Prelude.{◌≡◌, ◌-◌, ◌^◌, ◌≤◌, ◌<◌, ◌++◌, ◌∷◌, Err, false, IfOk, OnOk, string_bytes};
+ghost use Rattle.std.specs.Prelude.{◌≡◌, ◌-◌, ◌^◌, ◌≤◌, ◌<◌, Err, false, OnOk};
 ghost use Rattle.isle_meta.specs.Layout.{joined_name};
 ghost use Rattle.isle_meta.specs.TableNames.{repeats};
 ghost use Rattle.isle_outside.specs.Directory.{Holds, KeepsEntries, KeepsOthers, Rose};
@@ -8,8 +8,8 @@ ghost use Rattle.isle_outside.specs.Failures.{is_fault};
 ghost use Rattle.isle_prelude_files.specs.Outputs.{AddsNoSeconds, CountsFault, Writes, files_of, names_of};
 
 use isle_core::{Dir, DirFault};
-use isle_meta::GenError;
-use std::alloc::{AllocError, Global};
+use isle_meta::{GenError, joined};
+use std::alloc::Global;
 
 /// A text that is to be written to the file of a name in a folder; an empty folder leaves the name as it is.
 #[derive(Clone, Copy)]
@@ -17,16 +17,6 @@ pub struct Output<'t> {
     pub folder: &'t str,
     pub name: &'t str,
     pub text: &'t str,
-}
-
-// Joins the name of a file to that of the folder, which isn't empty.
-fn joined(alloc: Global, folder: &str, name: &str) -> Result<String, AllocError>
-    ensures { IfOk result (λ path. string_bytes path ≡ folder.now ++ (47 ∷ name.now)) }
-{
-    let mut path = String::from_str(alloc, folder)?;
-    path.push_str("/")?;
-    path.push_str(name)?;
-    Ok(path)
 }
 
 // Writes one file.
