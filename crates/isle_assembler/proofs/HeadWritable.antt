@@ -2,8 +2,8 @@
 use Rattle.std.proofs.Common.{◌≡◌, ℕ, List, [], ◌∷◌, ◌++◌, true, Some, refl, arith, codes}
 use Rattle.std.specs.Prelude.{slice_index}
 use Rattle.isle_ast.specs.Tree as tree
-use Rattle.isle_grammar.specs.Grammar.{IsCall, IsTerm, expr_head, pattern_head}
-use Rattle.isle_lexer.specs.Word.{Plain, kind, symbol_kind}
+use Rattle.isle_grammar.specs.Grammar.{IsTerm, pattern_head}
+use Rattle.isle_lexer.specs.Word.{Plain, symbol_kind}
 use Rattle.isle_writing.specs.Writable.{AreWritable, IsExpr, IsPattern, IsPlain, IsWord, NamesOne}
 use Rattle.isle_writing.proofs.Joined.{writable_joined}
 use Rattle.isle_writing.proofs.Names.{begins_symbol, call_head, names_one, plain_name, plain_variable, term_head, word_joined}
@@ -124,11 +124,17 @@ defer_writable =
 
 pub head_writable : AreWritable head_defs
 head_writable =
-    let gpr = emit_writable (codes "emit_ret_gpr") (codes "RetGpr") (codes "gpr") (codes "Gpr") (names_one (codes "emit_ret_gpr") (omega arith, refl) refl) refl gpr_variable gpr_named in
-    let xmm = emit_writable (codes "emit_ret_xmm") (codes "RetXmm") (codes "xmm") (codes "Xmm") (names_one (codes "emit_ret_xmm") (omega arith, refl) refl) refl xmm_variable xmm_named in
+    let gpr = emit_writable (codes "emit_ret_gpr") (codes "RetGpr") (codes "gpr") (codes "Gpr")
+    (names_one (codes "emit_ret_gpr") (omega arith, refl) refl) refl gpr_variable gpr_named in
+    let xmm = emit_writable (codes "emit_ret_xmm") (codes "RetXmm") (codes "xmm") (codes "Xmm")
+    (names_one (codes "emit_ret_xmm") (omega arith, refl) refl) refl xmm_variable xmm_named in
     let regs =
-    emit_writable (codes "emit_ret_value_regs") (codes "RetValueRegs") (codes "regs") (codes "ValueRegs") (names_one (codes "emit_ret_value_regs") (omega arith, refl) refl) refl regs_variable regs_named in
+    emit_writable (codes "emit_ret_value_regs") (codes "RetValueRegs") (codes "regs") (codes "ValueRegs")
+    (names_one (codes "emit_ret_value_regs") (omega arith, refl) refl) refl regs_variable regs_named in
     let gprs = emit_defs (codes "emit_ret_gpr") (codes "RetGpr") (codes "gpr") (codes "Gpr") in
     let xmms = emit_defs (codes "emit_ret_xmm") (codes "RetXmm") (codes "xmm") (codes "Xmm") in
-    let pairs = emit_defs (codes "emit_ret_value_regs") (codes "RetValueRegs") (codes "regs") (codes "ValueRegs") in
-    (type_writable.0, writable_joined gprs (xmms ++ (pairs ++ defer_defs)) gpr (writable_joined xmms (pairs ++ defer_defs) xmm (writable_joined pairs defer_defs regs defer_writable)))
+    let pairs = emit_defs (codes "emit_ret_value_regs") (codes "RetValueRegs") (codes "regs") (codes "ValueRegs") in (
+      type_writable.0,
+      writable_joined gprs (xmms ++ (pairs ++ defer_defs)) gpr
+          (writable_joined xmms (pairs ++ defer_defs) xmm (writable_joined pairs defer_defs regs defer_writable)),
+    )

@@ -31,12 +31,14 @@ or_joined : (a b c : Bool) → ((a || b) || c) ≡ (a || (b || c))
 or_joined true b c = refl
 or_joined false b c = refl
 
-grown : (earlier terms : List (List ℕ)) (n : ℕ) (t : List ℕ) → n < length terms → t ≡ get_or terms n t → (earlier ++ take n terms) ++ t ∷ [] ≡ earlier ++ take (n + 1) terms
+grown : (earlier terms : List (List ℕ)) (n : ℕ) (t : List ℕ) → n < length terms → t ≡ get_or terms n t → (earlier ++ take n terms) ++ t ∷ []
+    ≡ earlier ++ take (n + 1) terms
 grown earlier terms n t lt at =
     append_assoc earlier (take n terms) (t ∷ [])
     ∙ ap (λ z. earlier ++ z) (ap (λ y. take n terms ++ y ∷ []) at ∙ sym (take_more terms n t lt))
 
-pub terms_on : (earlier terms : List (List ℕ)) (n : ℕ) (t : List ℕ) (old new : BTreeSet (Bor (List ℕ))) (found fresh : Bool) → n < length terms → t ≡ get_or terms n t
+pub terms_on : (earlier terms : List (List ℕ)) (n : ℕ) (t : List ℕ) (old new : BTreeSet (Bor (List ℕ))) (found fresh : Bool) → n < length terms → t
+    ≡ get_or terms n t
     → (IsTrue fresh ↔ (Contains (earlier ++ take n terms) t → ⊥)) → HasNames ((earlier ++ take n terms) ++ t ∷ []) new → TermsFrom earlier terms n old found
     → TermsFrom earlier terms (n + 1) new (found || not fresh)
 terms_on earlier terms n t old new found fresh lt at f has s =
@@ -57,9 +59,11 @@ or_false : (b : Bool) → (b || false) ≡ b
 or_false true = refl
 or_false false = refl
 
-pub terms_told : (earlier terms : List (List ℕ)) (n : ℕ) (met : BTreeSet (Bor (List ℕ))) (found : Bool) → length terms ≤ n → TermsFrom earlier terms n met found → found ≡ repeats_after earlier terms
+pub terms_told : (earlier terms : List (List ℕ)) (n : ℕ) (met : BTreeSet (Bor (List ℕ))) (found : Bool) → length terms ≤ n
+    → TermsFrom earlier terms n met found → found ≡ repeats_after earlier terms
 terms_told earlier terms n met found past s =
     sym (or_false found) ∙ ap (λ ys. found || repeats_after (earlier ++ take n terms) ys) (sym (drop_of_length-le terms past)) ∙ s.same
 
-pub terms_met : (earlier terms : List (List ℕ)) (n : ℕ) (met : BTreeSet (Bor (List ℕ))) (found : Bool) → length terms ≤ n → TermsFrom earlier terms n met found → HasNames (earlier ++ terms) met
+pub terms_met : (earlier terms : List (List ℕ)) (n : ℕ) (met : BTreeSet (Bor (List ℕ))) (found : Bool) → length terms ≤ n
+    → TermsFrom earlier terms n met found → HasNames (earlier ++ terms) met
 terms_met earlier terms n met found past s = subst (λ ts. HasNames (earlier ++ ts) met) (take_all n terms past) s.known

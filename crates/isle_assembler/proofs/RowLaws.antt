@@ -1,7 +1,6 @@
 -- What is told of instructions, and the first that isn't supported.
 use Rattle.std.proofs.Common.{◌≡◌, ℕ, zero, suc, ◌+◌, ◌<◌, ◌≤◌, List, [], ◌∷◌, ◌++◌, length, get_or, take, drop, Bool, true, false, Option, Some, None, cond, refl, sym, ap, ◌∙◌, subst, inl, inr, arith, map, append_assoc, append-nil}
 use Rattle.std.specs.Prelude.{◌↔◌, ◌⊎◌, ◌&&◌, ◌||◌, not, find, IsTrue}
-use Rattle.std.specs.List.{flat_map}
 use Rattle.std.specs.BTreeSet.{BTreeSet}
 use Rattle.std.proofs.lemmas.List.{drop_more, take_more}
 use Rattle.std.proofs.Math.ListN.{drop_of_length-le}
@@ -39,7 +38,8 @@ tells_first f before i t [] = refl
 tells_first f before i t (s ∷ ss) = one (told f s) refl (tells_first f before i t ss)
   where
     one : (b : Bool) → told f s ≡ b → IsFirstShape before i ss (find (told f) ss)
-        → (AssemblerBreaks before i s × (cond b (Some s) (find (told f) ss) ≡ Some s)) ⊎ ((AssemblerBreaks before i s → ⊥) × IsFirstShape before i ss (cond b (Some s) (find (told f) ss)))
+        → (AssemblerBreaks before i s × (cond b (Some s) (find (told f) ss) ≡ Some s)) ⊎
+        ((AssemblerBreaks before i s → ⊥) × IsFirstShape before i ss (cond b (Some s) (find (told f) ss)))
     one true e rest = inl ((t.each s).0 e, refl)
     one false e rest = inr (λ h. let k : told f s ≡ true = (t.each s).1 h in absurd cc, rest)
 
@@ -50,7 +50,8 @@ same_test : (a b : Bool) → a ≡ b → IsTrue a ↔ IsTrue b
 same_test a b e = (λ h. sym e ∙ h, λ h. e ∙ h)
 
 pub inst_told : (f : Faults) (before : List Inst) (i : Inst) (repeated_operand repeated_term : Bool) → (IsTrue f.bad_name ↔ row.BadName i)
-    → f.repeated_name ≡ (repeated_operand || repeated_term) → repeated_operand ≡ repeats (row.operand_names i) → repeated_term ≡ repeats_after (row.all_terms before) (row_terms i)
+    → f.repeated_name ≡ (repeated_operand || repeated_term) → repeated_operand ≡ repeats (row.operand_names i) → repeated_term
+    ≡ repeats_after (row.all_terms before) (row_terms i)
     → f.written_imm ≡ (not (is_left_out i) && row.has_written_imm i) → f.aligned_mem ≡ (not (is_left_out i) && row.has_aligned_mem i)
     → f.written_operands ≡ (not (is_left_out i) && row.has_no_constructor i) → f.implicit_operand ≡ (not (is_left_out i) && row.has_implicit_operand i)
     → f.alternate_without_xmm ≡ (not (is_left_out i) && row.has_alternate_without_xmm i) → Tells f before i
@@ -101,7 +102,8 @@ terms_push [] i = append-nil (row_terms i)
 terms_push (g ∷ is) i = ap (λ z. row_terms g ++ z) (terms_push is i) ∙ sym (append_assoc (row_terms g) (row.all_terms is) (row_terms i))
 
 pub insts_on : (is : List Inst) (k : ℕ) (i : Inst) (faults : Faults) (old new : BTreeSet (Bor (List ℕ))) → k < length is → i ≡ get_or is k i
-    → Tells faults (take k is) i → None ≡ find (told faults) shapes → HasNames (row.all_terms (take k is) ++ row_terms i) new → InstsFrom is k old → InstsFrom is (k + 1) new
+    → Tells faults (take k is) i → None ≡ find (told faults) shapes → HasNames (row.all_terms (take k is) ++ row_terms i) new → InstsFrom is k old
+    → InstsFrom is (k + 1) new
 insts_on is k i faults old new lt e t none has s =
     record {
       known = subst (λ ns. HasNames ns new) (sym (terms_push (take k is) i) ∙ ap row.all_terms (before_more is k i lt e)) has;
@@ -113,7 +115,8 @@ insts_on is k i faults old new lt e t none has s =
     }
 
 pub insts_out : (is : List Inst) (k : ℕ) (i : Inst) (faults : Faults) (shape : Shape) (met : BTreeSet (Bor (List ℕ))) → k < length is → i ≡ get_or is k i
-    → Tells faults (take k is) i → Some shape ≡ find (told faults) shapes → InstsFrom is k met → IsFirstUnsupported [] is (Some (record { row = i.name; shape = shape }))
+    → Tells faults (take k is) i → Some shape ≡ find (told faults) shapes → InstsFrom is k met
+    → IsFirstUnsupported [] is (Some (record { row = i.name; shape = shape }))
 insts_out is k i faults shape met lt e t some s =
     s.leads _ (subst (λ gs. IsFirstUnsupported (take k is) gs (Some (record { row = i.name; shape = shape }))) (sym (left_split is k i lt e))
     (inl (shape, subst (λ o. IsFirstShape (take k is) i shapes o) (sym some) (tells_first faults (take k is) i t shapes), refl)))
@@ -122,7 +125,8 @@ pub insts_end : (is : List Inst) (k : ℕ) (met : BTreeSet (Bor (List ℕ))) →
 insts_end is k met past s = s.leads None (subst (λ gs. IsFirstUnsupported (take k is) gs None) (sym (drop_of_length-le is past)) refl)
 
 -- the terms at a place are those of the instruction there
-pub terms_at : (is : List Inst) (terms : List (List (List ℕ))) (k : ℕ) (i : Inst) (own : List (List ℕ)) → terms ≡ map row_terms is → k < length is → i ≡ get_or is k i → own ≡ get_or terms k own
+pub terms_at : (is : List Inst) (terms : List (List (List ℕ))) (k : ℕ) (i : Inst) (own : List (List ℕ)) → terms ≡ map row_terms is → k < length is → i
+    ≡ get_or is k i → own ≡ get_or terms k own
     → own ≡ row_terms i
 terms_at is terms k i own e lt at there =
     there ∙ ap (λ ts. get_or ts k own) e ∙ get_or_map is k lt ∙ ap row_terms (sym at)

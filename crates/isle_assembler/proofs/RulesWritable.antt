@@ -1,6 +1,6 @@
 -- The definitions of supported instructions can be written.
-use Rattle.std.proofs.Common.{◌≡◌, ℕ, ◌≤◌, suc, List, [], ◌∷◌, ◌++◌, map, Bool, true, false, Option, Some, None, refl, ap, subst, arith, cond, flat_map, codes, inl, inr}
-use Rattle.std.specs.Prelude.{if◌then◌else◌, filter, max}
+use Rattle.std.proofs.Common.{◌≡◌, ℕ, ◌≤◌, List, [], ◌∷◌, ◌++◌, map, Bool, true, false, Option, Some, None, refl, arith, cond, flat_map, codes, inl, inr}
+use Rattle.std.specs.Prelude.{if◌then◌else◌, filter}
 use Rattle.std.specs.List.{AllByRecursion}
 use Rattle.isle_ast.specs.Tree.{Def, Expr}
 use Rattle.isle_ast.specs.Tree as tree
@@ -15,13 +15,13 @@ use Rattle.isle_meta.specs.declared.shapes.Shape.{Shape}
 use Rattle.isle_meta.specs.Rows.{shapes}
 use Rattle.isle_spelling.specs.Identifier.{IsIdentifier}
 use Rattle.isle_writing.specs.Height.{exprs_height, expr_height, patterns_height}
-use Rattle.isle_writing.specs.Writable.{AreExprs, ArePatterns, AreWritable, IsExpr, IsPlain, IsWritable, NamesOne}
+use Rattle.isle_writing.specs.Writable.{AreExprs, ArePatterns, AreWritable, IsExpr, IsPlain, IsWritable}
 use Rattle.isle_writing.proofs.Joined.{writable_each, writable_joined}
 use Rattle.isle_writing.proofs.Names.{plain_joined}
-use Rattle.isle_assembler.specs.AssemblerDefs.{all_handed, alternate_rule, assembler_defs, choice_decl, choice_defs, choice_signature, constructor_defs, handed, has_feature, made_decl, made_rule, raw_decl, raw_maker, row_defs, usual_rule}
+use Rattle.isle_assembler.specs.AssemblerDefs.{assembler_defs, choice_defs, choice_signature, constructor_defs, handed, made_decl, made_rule, raw_decl, raw_maker, row_defs}
 use Rattle.isle_assembler.specs.AssemblerRow.{alternate_names, row_names}
 use Rattle.isle_assembler.specs.AssemblerRows.{AssemblerBreaks, IsFirstShape, IsFirstUnsupported, unsupported}
-use Rattle.isle_assembler.specs.Constructors.{constructors, conversion, suffix, temporary}
+use Rattle.isle_assembler.specs.Constructors.{constructors, suffix, temporary}
 use Rattle.isle_assembler.specs.Declaring.{call_on, named, variables}
 use Rattle.isle_assembler.specs.HeadDefs.{head_defs}
 use Rattle.isle_assembler.specs.Operands.{locations, raw_operands}
@@ -59,7 +59,12 @@ unbroken before i (s ∷ ss) (inr h) = (h.0, unbroken before i ss h.1)
 named_inst : (before : List Inst) (i : Inst) → IsFirstShape before i shapes None → IsNamedInst i
 named_inst before i h =
     let all = stable_identifiers (row_names i) (unbroken before i shapes h).0 in
-    record { name = all.0; operands = front (locations i.operands) (alternate_names i.alternate) all.1; alternate = behind (locations i.operands) (alternate_names i.alternate) all.1 }
+    record {
+      name = all.0;
+      operands = front (locations i.operands) (alternate_names i.alternate) all.1;
+      alternate = behind (locations i.operands)
+          (alternate_names i.alternate) all.1;
+    }
 
 named_insts : (before is : List Inst) → IsFirstUnsupported before is None → AllByRecursion IsNamedInst is
 named_insts before [] h = tt
@@ -162,7 +167,19 @@ made_rule_writable i c n =
         (made_is_term c i.name word).named,
         variables_taken names (params_named (Made c) i n),
         tt,
-        (turned.named.0, turned.called, ((raw.named.0, raw.called, handed_made c (raw_operands i) (trap_names i.has_trap) (raw_kept i n) (trap_named i.has_trap)), tt)),
+        (
+          turned.named.0,
+          turned.called,
+          (
+            (
+              raw.named.0,
+              raw.called,
+              handed_made c (raw_operands i) (trap_names i.has_trap) (raw_kept i n)
+                  (trap_named i.has_trap),
+            ),
+            tt,
+          ),
+        ),
       ),
       omega (arith, variables_flat names, handed_low c (raw_operands i) (trap_names i.has_trap)),
     )
@@ -171,7 +188,8 @@ made_rule_writable i c n =
 call_made : (i : Inst) (c : Constructor) (name : List ℕ) → IsNamedInst i → IsPlain name → IsExpr (call_on (made_term c name) (param_names (Made c) i))
 call_made i c name n h = let t = made_is_term c name h in (t.named.0, t.called, named_made (param_names (Made c) i) (params_named (Made c) i n))
 
-choice_writable : (i : Inst) (c : Constructor) (o : Option Alternate) → IsNamedInst i → AllByRecursion IsIdentifier (alternate_names o) → AreWritable (choice_defs i c o)
+choice_writable : (i : Inst) (c : Constructor) (o : Option Alternate) → IsNamedInst i → AllByRecursion IsIdentifier (alternate_names o)
+    → AreWritable (choice_defs i c o)
 choice_writable i c None n h = tt
 choice_writable i c (Some a) n h =
     let word = identifier_plain i.name n.name in

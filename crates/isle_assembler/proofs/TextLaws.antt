@@ -53,11 +53,13 @@ params_named s i = names_joined (locations (taken s i)) (trap_names i.has_trap)
 -- ---- what is handed to a raw term
 
 handed_one : (b : Bool) (c : Constructor) (o : Operand) (z : List ℕ)
-    → codes " " ++ (expr_text (if b then tree.Name o.location else call_on (temporary c) []) ++ z) ≡ (if b then codes " " ++ o.location else temporary_text c) ++ z
+    → codes " " ++ (expr_text (if b then tree.Name o.location else call_on (temporary c) []) ++ z)
+    ≡ (if b then codes " " ++ o.location else temporary_text c) ++ z
 handed_one true c o z = refl
 handed_one false c o z = refl
 
-handed_all : (c : Constructor) (os : List Operand) (ns : List (List ℕ)) → exprs_text (exprs_of (map (handed c) os ++ named ns)) ≡ flat_map (handed_text c) os ++ names_text ns
+handed_all : (c : Constructor) (os : List Operand) (ns : List (List ℕ))
+    → exprs_text (exprs_of (map (handed c) os ++ named ns)) ≡ flat_map (handed_text c) os ++ names_text ns
 handed_all c [] ns = exprs_named ns
 handed_all c (o ∷ os) ns =
     handed_one (is_param c o) c o (exprs_text (exprs_of (map (handed c) os ++ named ns)))
@@ -70,11 +72,13 @@ handed_are c i = handed_all c (raw_operands i) (trap_names i.has_trap)
 
 -- ---- declarations
 
-signature_is : (s : Signature) (i : Inst) (ret : List ℕ) → codes " (" ++ (spaced [] (param_types s i) ++ (codes ") " ++ (ret ++ codes ")\n"))) ≡ signature_text s i ret
+signature_is : (s : Signature) (i : Inst) (ret : List ℕ)
+    → codes " (" ++ (spaced [] (param_types s i) ++ (codes ") " ++ (ret ++ codes ")\n"))) ≡ signature_text s i ret
 unfolding signature_text types_text
 signature_is s i ret = ap (λ z. codes " (" ++ (z ++ (codes ") " ++ (ret ++ codes ")\n")))) (spaced_first (param_types s i))
 
-decl_is : (term : List ℕ) (s : Signature) (i : Inst) (ret : List ℕ) → def_text (plain_decl term (param_types s i) ret) ≡ codes "(decl " ++ (term ++ signature_text s i ret)
+decl_is : (term : List ℕ) (s : Signature) (i : Inst) (ret : List ℕ)
+    → def_text (plain_decl term (param_types s i) ret) ≡ codes "(decl " ++ (term ++ signature_text s i ret)
 unfolding def_text
 decl_is term s i ret = ap (λ z. codes "(decl " ++ (term ++ z)) (signature_is s i ret)
 
@@ -105,7 +109,8 @@ call_split term args rest = append_assoc term (args ++ codes ")") rest ∙ ap (�
 
 -- a call of one call, and what follows it
 nested : (outer inner args rest : List ℕ)
-    → (outer ++ ((codes " " ++ ((codes "(" ++ (inner ++ (args ++ codes ")"))) ++ [])) ++ codes ")")) ++ rest ≡ outer ++ (codes " (" ++ (inner ++ (args ++ (codes "))" ++ rest))))
+    → (outer ++ ((codes " " ++ ((codes "(" ++ (inner ++ (args ++ codes ")"))) ++ [])) ++ codes ")")) ++ rest
+    ≡ outer ++ (codes " (" ++ (inner ++ (args ++ (codes "))" ++ rest))))
 nested outer inner args rest =
     call_split outer (codes " " ++ ((codes "(" ++ (inner ++ (args ++ codes ")"))) ++ [])) rest
     ∙ ap (λ z. outer ++ z) (ap (λ z. codes " " ++ (z ++ (codes ")" ++ rest))) (append-nil (codes "(" ++ (inner ++ (args ++ codes ")")))))
@@ -119,7 +124,8 @@ made_rule_is i c =
     ∙ ap (λ z. codes "(rule (" ++ (made_term c i.name ++ (z ++ (codes ") " ++ rest)))) (patterns_named (param_names (Made c) i) ∙ params_named (Made c) i)
     ∙ ap (λ z. codes "(rule (" ++ (made_term c i.name ++ (params_text (Made c) i ++ (codes ") (" ++ z))))
     (nested (conversion c) (raw_term i.name) (exprs_text (exprs_of (all_handed c i))) (codes ")\n"))
-    ∙ ap (λ z. codes "(rule (" ++ (made_term c i.name ++ (params_text (Made c) i ++ (codes ") (" ++ (conversion c ++ (codes " (" ++ (raw_term i.name ++ (z ++ codes ")))\n"))))))))
+    ∙ ap (λ z. codes "(rule (" ++ (made_term c i.name ++ (params_text (Made c) i ++ (codes ") ("
+    ++ (conversion c ++ (codes " (" ++ (raw_term i.name ++ (z ++ codes ")))\n"))))))))
     (handed_are c i)
 
 -- the right side of a rule that calls a term on the parameters
@@ -131,7 +137,8 @@ call_is i c name =
 
 -- the head of a rule of the term that takes an alternate, and what follows it
 choice_head_is : (i : Inst) (c : Constructor) (a : Alternate) (rest : List ℕ)
-    → (choice_term c i.name a.feature ++ (patterns_text (patterns_of (variables (param_names (Made c) i))) ++ codes ") ")) ++ rest ≡ choice_head_text i c a ++ rest
+    → (choice_term c i.name a.feature ++ (patterns_text (patterns_of (variables (param_names (Made c) i))) ++ codes ") ")) ++ rest
+    ≡ choice_head_text i c a ++ rest
 unfolding choice_head_text
 choice_head_is i c a rest =
     ap (λ z. (choice_term c i.name a.feature ++ (z ++ codes ") ")) ++ rest) (patterns_named (param_names (Made c) i) ∙ params_named (Made c) i)
@@ -151,11 +158,13 @@ alternate_rule_is i c a =
     ∙ ap (λ z. codes "(rule 1 (" ++ (choice_head_text i c a ++ z)) (feature_is a.feature call)
     ∙ ap (λ z. codes "(rule 1 (" ++ (choice_head_text i c a ++ (codes "(if-let true (has_" ++ (a.feature ++ (codes ")) " ++ z))))) (call_is i c a.name)
   where
-    feature_is : (feature rest : List ℕ) → ((codes "(if-let " ++ (codes "true" ++ (codes " " ++ ((codes "(" ++ ((codes "has_" ++ feature) ++ codes ")")) ++ codes ") ")))) ++ []) ++ rest
+    feature_is : (feature rest : List ℕ)
+        → ((codes "(if-let " ++ (codes "true" ++ (codes " " ++ ((codes "(" ++ ((codes "has_" ++ feature) ++ codes ")")) ++ codes ") ")))) ++ []) ++ rest
         ≡ codes "(if-let true (has_" ++ (feature ++ (codes ")) " ++ rest))
     feature_is feature rest =
         ap (λ z. codes "(if-let true (has_" ++ (z ++ rest)) (append-nil ((feature ++ codes ")") ++ codes ") "))
-        ∙ ap (λ z. codes "(if-let true (has_" ++ z) (append_assoc (feature ++ codes ")") (codes ") ") rest ∙ append_assoc feature (codes ")") (codes ") " ++ rest))
+        ∙ ap (λ z. codes "(if-let true (has_" ++ z)
+        (append_assoc (feature ++ codes ")") (codes ") ") rest ∙ append_assoc feature (codes ")") (codes ") " ++ rest))
 
 usual_rule_is : (i : Inst) (c : Constructor) (a : Alternate) → def_text (usual_rule i c a) ≡ usual_rule_text i c a
 unfolding def_text usual_rule_text
@@ -186,7 +195,8 @@ each_is f g h (x ∷ xs) = texts_joined (f x) (flat_map f xs) ∙ ap (λ z. z ++
 row_is : (i : Inst) → def_texts (row_defs i) ≡ row_text i
 row_is i = one (is_left_out i)
   where
-    taken_is : def_text (raw_decl i) ++ (def_text (raw_maker i) ++ def_texts (flat_map (constructor_defs i) (constructors i))) ≡ raw_text i ++ flat_map (constructor_text i) (constructors i)
+    taken_is : def_text (raw_decl i) ++ (def_text (raw_maker i) ++ def_texts (flat_map (constructor_defs i) (constructors i)))
+        ≡ raw_text i ++ flat_map (constructor_text i) (constructors i)
     taken_is =
         sym (append_assoc (def_text (raw_decl i)) (def_text (raw_maker i)) (def_texts (flat_map (constructor_defs i) (constructors i))))
         ∙ ap (λ z. z ++ def_texts (flat_map (constructor_defs i) (constructors i))) (raw_is i)

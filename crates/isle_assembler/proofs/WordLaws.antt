@@ -1,6 +1,6 @@
 -- Names of an assembler's instructions as words of rule texts.
 use Rattle.std.proofs.Common.{◌≡◌, ℕ, List, [], ◌∷◌, ◌++◌, Bool, true, false, refl, sym, ap, ◌∙◌, arith, codes}
-use Rattle.std.specs.Prelude.{◌&&◌, if◌then◌else◌, slice_index, Some}
+use Rattle.std.specs.Prelude.{if◌then◌else◌, slice_index, Some}
 use Rattle.std.specs.List.{AllByRecursion, list_all, list_any}
 use Rattle.std.specs.Str.{bytes_eq}
 use Rattle.std.proofs.lemmas.Bool.{and_parts, and_from}
@@ -11,8 +11,8 @@ use Rattle.isle_grammar.specs.Grammar.{IsCall, expr_head}
 use Rattle.isle_lexer.specs.Word.{Underscore, Truth, Plain, is_let, symbol_kind}
 use Rattle.isle_printer.specs.Token.{is_word_byte}
 use Rattle.isle_spelling.specs.Identifier.{IsIdentifier, begins, is_begin, kept_words, used_words}
-use Rattle.isle_writing.specs.Writable.{is_plain_byte, AreNames, IsExpr, IsPattern, IsPlain, IsWord, NamesOne}
-use Rattle.isle_writing.proofs.Names.{begins_symbol, call_head, names_one, plain_joined, plain_name, plain_variable, word_joined}
+use Rattle.isle_writing.specs.Writable.{is_plain_byte, IsExpr, IsPattern, IsPlain, IsWord, NamesOne}
+use Rattle.isle_writing.proofs.Names.{begins_symbol, call_head, names_one, plain_name, plain_variable, word_joined}
 
 -- ---- what isn't refused is so
 

@@ -1,5 +1,5 @@
 -- The shapes that an assembler's instructions break, and the first of them that isn't supported.
-use Rattle.std.specs.Prelude.{◌≡◌, ℕ, ◌⊎◌, List, [], ◌∷◌, ◌++◌, Option, Some, None}
+use Rattle.std.specs.Prelude.{◌≡◌, ◌⊎◌, List, [], ◌∷◌, ◌++◌, Option, Some, None}
 use Rattle.isle_meta.specs.declared.errors.Unsupported.{Unsupported}
 use Rattle.isle_meta.specs.declared.machine.Inst.{Inst}
 use Rattle.isle_meta.specs.declared.shapes.Shape.{Shape}

@@ -1,5 +1,5 @@
 -- What the check of an assembler's instructions answers.
-use Rattle.std.specs.Prelude.{ℕ, List, [], Some, None, Result, Ok, Err}
+use Rattle.std.specs.Prelude.{List, [], Some, None, Result, Ok, Err}
 use Rattle.isle_meta.specs.declared.errors.TableFail.{TableFail}
 use Rattle.isle_meta.specs.declared.errors.TableFail.TheVariants as fail
 use Rattle.isle_meta.specs.declared.machine.Inst.{Inst}

@@ -1,6 +1,5 @@
 -- The constructors of an instruction: what its terms give, by the operands that it writes.
 use Rattle.std.specs.Prelude.{ℕ, List, [], ◌∷◌, ◌++◌, Bool, true, false, ◌&&◌, ◌||◌, not, if◌then◌else◌, codes}
-use Rattle.std.specs.List.{list_any}
 use Rattle.isle_assembler.specs.declared.constructor.Constructor.{Constructor}
 use Rattle.isle_assembler.specs.declared.constructor.Constructor.TheVariants.{RetMemorySideEffect, NoReturnSideEffect, RetGpr, RetXmm, RetValueRegs, ProducesFlagsSideEffect, ConsumesFlagsReturnsGpr}
 use Rattle.isle_meta.specs.declared.machine.Inst.{Inst}

@@ -1,8 +1,8 @@
 -- The definitions with which the rules of an assembler begin, whatever its instructions are.
-use Rattle.std.specs.Prelude.{ℕ, pos, List, [], ◌∷◌, ◌++◌, None, false, codes}
+use Rattle.std.specs.Prelude.{ℕ, List, [], ◌∷◌, ◌++◌, false, codes}
 use Rattle.isle_ast.specs.Tree.{Def}
 use Rattle.isle_ast.specs.Tree as tree
-use Rattle.isle_ast.specs.Views.{patterns_of, exprs_of, lets_of}
+use Rattle.isle_ast.specs.Views.{lets_of}
 use Rattle.isle_ast.specs.declared.tree.AstBody.TheVariants as body
 use Rattle.isle_ast.specs.declared.tree.AstFields.TheVariants as fields
 use Rattle.isle_ast.specs.declared.tree.AstVariant.{AstVariant}

@@ -1,5 +1,5 @@
 -- The operands of an assembler's instructions: which are read, which are written, and which the term of an instruction takes.
-use Rattle.std.specs.Prelude.{ℕ, List, Bool, true, false, ◌||◌, map, filter, codes}
+use Rattle.std.specs.Prelude.{ℕ, List, Bool, true, false, ◌||◌, map, filter}
 use denote.Ref.{Bor}
 use Rattle.isle_meta.specs.declared.machine.Inst.{Inst}
 use Rattle.isle_meta.specs.declared.machine.Mutability.{Mutability}

@@ -7,7 +7,7 @@ use Rattle.isle_meta.specs.declared.machine.Operand.{Operand}
 use Rattle.isle_meta.specs.declared.machine.OperandKind.{OperandKind}
 use Rattle.isle_meta.specs.declared.machine.OperandKind.TheVariants.{Imm, Reg, FixedReg, RegMem, Mem}
 use Rattle.isle_meta.specs.declared.machine.RegClass.{RegClass}
-use Rattle.isle_meta.specs.declared.machine.RegClass.TheVariants.{Gpr, Xmm}
+use Rattle.isle_meta.specs.declared.machine.RegClass.TheVariants.{Gpr}
 use Rattle.isle_assembler.specs.Conversions.{assembler, class_word}
 use Rattle.isle_assembler.specs.Operands.{is_register, written_operands}
 use Rattle.isle_assembler.specs.Signatures.{class_name}

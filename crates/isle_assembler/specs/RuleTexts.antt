@@ -1,9 +1,9 @@
 -- The rules' text of an assembler as the code writes it, piece by piece. That it is the text of its definitions is a law.
-use Rattle.std.specs.Prelude.{ℕ, List, [], ◌∷◌, ◌++◌, Bool, true, false, Option, Some, None, if◌then◌else◌, codes}
+use Rattle.std.specs.Prelude.{ℕ, List, [], ◌++◌, true, Option, Some, None, if◌then◌else◌, codes}
 use Rattle.std.specs.List.{flat_map}
 use Rattle.isle_assembler.specs.declared.constructor.Constructor.{Constructor}
 use Rattle.isle_assembler.specs.declared.signature.Signature.{Signature}
-use Rattle.isle_assembler.specs.declared.signature.Signature.TheVariants.{Raw, Made, Unaligned}
+use Rattle.isle_assembler.specs.declared.signature.Signature.TheVariants.{Raw, Made}
 use Rattle.isle_meta.specs.declared.machine.Alternate.{Alternate}
 use Rattle.isle_meta.specs.declared.machine.Inst.{Inst}
 use Rattle.isle_meta.specs.declared.machine.Operand.{Operand}

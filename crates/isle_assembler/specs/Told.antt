@@ -1,6 +1,5 @@
 -- What the code tells of an instruction.
-use Rattle.std.specs.Prelude.{◌≡◌, ◌↔◌, ℕ, List, ◌++◌, Bool, false, not, map, Option, option_map, IsTrue}
-use Rattle.std.specs.List.{AllByRecursion}
+use Rattle.std.specs.Prelude.{◌↔◌, ℕ, List, ◌++◌, Bool, false, not, Option, option_map, IsTrue}
 use Rattle.std.specs.Option.{option_to_list}
 use denote.Ref.{Bor}
 use Rattle.isle_assembler.specs.declared.constructor.Constructor.{Constructor}

@@ -165,7 +165,9 @@ fn push_two_registers(text: &mut String, x: &Operand, y: &Operand) -> Result<(),
 
 // Appends what one operand gives.
 fn push_given_by(text: &mut String, x: &Operand) -> Result<(), AllocError>
-    ensures { OnOk result (string_bytes text.new ≡ string_bytes text.old ++ given_by x.now.kind x.now) }
+    ensures { OnOk result
+        (string_bytes text.new
+        ≡ string_bytes text.old ++ given_by x.now.kind x.now) }
 {
     match x.kind {
         OperandKind::Imm => text.push_str(side_effect()),

@@ -25,7 +25,8 @@ fn push_signature(
     ret: &str,
 ) -> Result<(), AllocError>
     ensures { OnOk result
-        (string_bytes text.new ≡ string_bytes text.old ++ signature_text signature inst.now ret.now) }
+        (string_bytes text.new
+        ≡ string_bytes text.old ++ signature_text signature inst.now ret.now) }
 {
     text.push_str(" (")?;
     push_types(text, signature, inst)?;
@@ -95,7 +96,8 @@ fn push_choice_decl(
     alternate: &Alternate,
 ) -> Result<(), AllocError>
     ensures { OnOk result
-        (string_bytes text.new ≡ string_bytes text.old ++ choice_decl_text inst.now c alternate.now) }
+        (string_bytes text.new
+        ≡ string_bytes text.old ++ choice_decl_text inst.now c alternate.now) }
 {
     let feature = alternate.feature.as_str();
     text.push_str("(decl ")?;
@@ -124,7 +126,8 @@ fn push_choice_head(
     alternate: &Alternate,
 ) -> Result<(), AllocError>
     ensures { OnOk result
-        (string_bytes text.new ≡ string_bytes text.old ++ choice_head_text inst.now c alternate.now) }
+        (string_bytes text.new
+        ≡ string_bytes text.old ++ choice_head_text inst.now c alternate.now) }
 {
     push_choice_term(text, c, inst.name.as_str(), alternate.feature.as_str())?;
     push_params(text, Signature::Made(c), inst)?;
@@ -159,7 +162,8 @@ fn push_usual_rule(
     alternate: &Alternate,
 ) -> Result<(), AllocError>
     ensures { OnOk result
-        (string_bytes text.new ≡ string_bytes text.old ++ usual_rule_text inst.now c alternate.now) }
+        (string_bytes text.new
+        ≡ string_bytes text.old ++ usual_rule_text inst.now c alternate.now) }
 {
     text.push_str("(rule (")?;
     push_choice_head(text, inst, c, alternate)?;

@@ -1,4 +1,4 @@
-use Rattle.std.proofs.Common.{◌≡◌, ◌++◌, ◌∷◌, [], take, subst}
+use Rattle.std.proofs.Common.{◌++◌, ◌∷◌, [], take, subst}
 use Rattle.std.specs.Prelude.{◌↔◌, IsTrue, Contains}
 use Rattle.isle_lawful_names.specs.NameSet.{HasNames}
 use Rattle.isle_assembler.proofs.RepeatedTerms.{terms_begin, terms_met, terms_on, terms_told}
@@ -16,7 +16,9 @@ loop-term-preserved c = λ earlier has.
     terms_on earlier c.args.terms.now c.loop-term.term-index c.term-item.result c.loop-term.met c.added.new.names c.loop-term.found c.in_ok-fresh.fresh c.loop-term-test.true c.term-item.is fresh more s
 
 pub returns-clause-told : goal.returns-clause-told
-returns-clause-told c = λ earlier has. terms_told earlier c.args.terms.now c.loop-term.term-index c.loop-term.met c.loop-term.found c.loop-term-test.false (c.loop-term.invariant earlier has)
+returns-clause-told c = λ earlier has. terms_told earlier c.args.terms.now c.loop-term.term-index c.loop-term.met c.loop-term.found c.loop-term-test.false
+    (c.loop-term.invariant earlier has)
 
 pub returns-clause-met : goal.returns-clause-met
-returns-clause-met c = λ earlier has. terms_met earlier c.args.terms.now c.loop-term.term-index c.loop-term.met c.loop-term.found c.loop-term-test.false (c.loop-term.invariant earlier has)
+returns-clause-met c = λ earlier has. terms_met earlier c.args.terms.now c.loop-term.term-index c.loop-term.met c.loop-term.found c.loop-term-test.false
+    (c.loop-term.invariant earlier has)

@@ -2,7 +2,6 @@ use Rattle.std.proofs.Common.{List, ℕ, [], ◌++◌, Some, take, ap, sym, subs
 use Rattle.isle_meta.specs.TableNames.{repeats_after}
 use Rattle.isle_assembler.specs.AssemblerRow.{all_terms}
 use Rattle.isle_assembler.specs.AssemblerRows.{IsFirstUnsupported}
-use Rattle.isle_assembler.specs.Told.{Tells}
 use Rattle.isle_assembler.proofs.RowLaws.{insts_on, insts_out, terms_at}
 use Rattle.isle_lawful_names.specs.NameSet.{HasNames}
 use Rattle.isle_assembler.proofs.rows.unsupported_among.Goals as goal

@@ -1,4 +1,4 @@
-use Rattle.std.proofs.Common.{◌≡◌, ◌++◌, ◌∙◌, ap, subst, OnOk, codes, string_bytes}
+use Rattle.std.proofs.Common.{◌≡◌, ◌++◌, ◌∙◌, subst, OnOk, codes, string_bytes}
 use Rattle.isle_assembler.specs.RuleTexts.{defer_text, emit_text, head_text, outputs_text}
 use Rattle.isle_assembler.proofs.Appended.{more}
 use Rattle.isle_assembler.proofs.rules.push_head.Goals as goal

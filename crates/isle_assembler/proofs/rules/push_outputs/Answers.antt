@@ -1,4 +1,4 @@
-use Rattle.std.proofs.Common.{◌≡◌, ◌++◌, ◌∙◌, ap, subst, OnOk, codes, string_bytes}
+use Rattle.std.proofs.Common.{◌≡◌, subst, OnOk, codes, string_bytes}
 use Rattle.isle_assembler.specs.RuleTexts.{outputs_text}
 use Rattle.isle_assembler.proofs.Appended.{more}
 use Rattle.isle_assembler.proofs.rules.push_outputs.Goals as goal
