@@ -1,0 +1,17 @@
+pub mod Words
+pub mod BinaryParts
+pub mod Skipped
+pub mod Operands
+pub mod Operations
+pub mod Results
+pub mod PulleyRow
+pub mod PulleyRows
+pub mod RuleFile
+pub mod Names
+pub mod Display
+pub mod Visits
+pub mod Emission
+pub mod RustText
+pub mod Generated
+pub mod Pieces
+pub mod Told
