@@ -9,8 +9,8 @@ use Rattle.isle_outside.specs.Directory.{Contents}
 use Rattle.isle_prelude_files.specs.Made.{of_table}
 use Rattle.isle_prelude_files.specs.Outputs.{CountsFault, File, KeepsAllBut, Writes}
 use Rattle.isle_pulley.specs.Generated.{WritesRows}
-use Rattle.isle_pulley.specs.PulleyRows.{IsFirstOf}
-use Rattle.isle_pulley.specs.Told.{ChecksRows}
+use Rattle.isle_pulley_rows.specs.PulleyRows.{IsFirstOf}
+use Rattle.isle_pulley_rows.specs.Told.{ChecksRows}
 
 none_but : (old : Option Contents) → KeepsAllBut [] old old
 none_but None = refl

@@ -14,7 +14,7 @@ use Rattle.isle_printer.specs.Token.{is_word_byte}
 use Rattle.isle_spelling.specs.Identifier.{IsIdentifier, begins, is_begin, kept_words, used_words}
 use Rattle.isle_writing.specs.Writable.{is_plain_byte, IsExpr, IsPattern, IsPlain, IsWord, NamesOne}
 use Rattle.isle_writing.proofs.Names.{begins_symbol, call_head, names_one, plain_name, plain_variable, word_joined}
-use Rattle.isle_pulley.specs.Names.{temporary, written}
+use Rattle.isle_pulley.specs.Places.{temporary, written}
 
 -- ---- what isn't refused is so
 

@@ -4,8 +4,8 @@ use Rattle.std.proofs.lemmas.List.{drop_more}
 use denote.Ref.{Bor}
 use Rattle.isle_meta.specs.TableNames.{texts}
 use Rattle.isle_writing.specs.Text.{spaced}
-use Rattle.isle_pulley.specs.declared.operand.Operand.{Operand}
-use Rattle.isle_pulley.specs.declared.operand.Operand.TheVariants.{Normal, Writable, Binop, Trap}
+use Rattle.isle_pulley_rows.specs.declared.operand.Operand.{Operand}
+use Rattle.isle_pulley_rows.specs.declared.operand.Operand.TheVariants.{Normal, Writable, Binop, Trap}
 use Rattle.isle_pulley.specs.Display.{format_text, format_texts}
 use Rattle.isle_pulley.specs.Pieces.{name_behind, operand_piece, operands_piece}
 

@@ -4,13 +4,13 @@ use Rattle.isle_ast.specs.Tree.{Expr, Lets}
 use Rattle.isle_ast.specs.Tree as tree
 use Rattle.isle_ast.specs.Views.{patterns_of}
 use Rattle.isle_writing.specs.Text.{def_text, def_texts, expr_text, field_text, lets_text, named_text, patterns_text, variant_text, variants_text}
-use Rattle.isle_pulley.specs.declared.operand.Operand.{Operand}
-use Rattle.isle_pulley.specs.declared.operand.Operand.TheVariants.{Normal, Writable, Binop, Trap}
-use Rattle.isle_pulley.specs.declared.operation.Operation.{Operation}
-use Rattle.isle_pulley.specs.Names.{written}
-use Rattle.isle_pulley.specs.Operands.{Field}
+use Rattle.isle_pulley_rows.specs.declared.operand.Operand.{Operand}
+use Rattle.isle_pulley_rows.specs.declared.operand.Operand.TheVariants.{Normal, Writable, Binop, Trap}
+use Rattle.isle_pulley_rows.specs.declared.operation.Operation.{Operation}
+use Rattle.isle_pulley.specs.Places.{written}
+use Rattle.isle_pulley_rows.specs.Operands.{Field}
 use Rattle.isle_pulley.specs.Pieces.{arguments_piece, effect_head, emitted_head, pair_tail, places_piece, type_head, body_piece, declaration_piece, emitted_piece, fields_piece, file_piece, inst_piece, operation_piece, place_piece, rule_piece, type_piece, variant_line, variant_piece}
-use Rattle.isle_pulley.specs.Results.{results}
+use Rattle.isle_pulley_rows.specs.Results.{results}
 use Rattle.isle_pulley.specs.RuleFile.{argument_names, body_of, declaration, emitted, file_defs, inst_fields, named, operation_defs, placed, raw_inst, raw_inst_type, rule_of, variant_of}
 
 -- ---- the type of instructions

@@ -21,19 +21,20 @@ use Rattle.isle_writing.specs.Writable.{AreExprs, AreFields, AreNames, ArePatter
 use Rattle.isle_writing.proofs.Joined.{no_flag_each}
 use Rattle.isle_writing.proofs.Names.{names_one}
 use Rattle.isle_writing.proofs.WrittenLaw.{written_spelt}
-use Rattle.isle_pulley.specs.declared.operand.Operand.{Operand}
-use Rattle.isle_pulley.specs.declared.operand.Operand.TheVariants.{Normal, Writable, Binop, Trap}
-use Rattle.isle_pulley.specs.declared.operation.Operation.{Operation}
-use Rattle.isle_pulley.specs.BinaryParts.{before_end, binary, of_inner, of_rest, split, with_first, with_second, with_third}
-use Rattle.isle_pulley.specs.Names.{names_of, operand_names, operand_types, temporary, types_of}
-use Rattle.isle_pulley.specs.Operands.{Field, field_operand, has_trap, operands, plain_operand, read_type, trap_operand}
-use Rattle.isle_pulley.specs.Operations.{operation_of, operations, operations_of}
-use Rattle.isle_pulley.specs.PulleyRow as row
-use Rattle.isle_pulley.specs.PulleyRows.{IsFirstBroken, IsFirstOf, IsFirstRefused, PulleyBreaks}
-use Rattle.isle_pulley.specs.Results.{results}
+use Rattle.isle_pulley_rows.specs.declared.operand.Operand.{Operand}
+use Rattle.isle_pulley_rows.specs.declared.operand.Operand.TheVariants.{Normal, Writable, Binop, Trap}
+use Rattle.isle_pulley_rows.specs.declared.operation.Operation.{Operation}
+use Rattle.isle_pulley_rows.specs.BinaryParts.{before_end, binary, of_inner, of_rest, split, with_first, with_second, with_third}
+use Rattle.isle_pulley_rows.specs.Names.{names_of, operand_names, operand_types, types_of}
+use Rattle.isle_pulley.specs.Places.{temporary}
+use Rattle.isle_pulley_rows.specs.Operands.{Field, field_operand, has_trap, operands, plain_operand, read_type, trap_operand}
+use Rattle.isle_pulley_rows.specs.Operations.{operation_of, operations, operations_of}
+use Rattle.isle_pulley_rows.specs.PulleyRow as row
+use Rattle.isle_pulley_rows.specs.PulleyRows.{IsFirstBroken, IsFirstOf, IsFirstRefused, PulleyBreaks}
+use Rattle.isle_pulley_rows.specs.Results.{results}
 use Rattle.isle_pulley.specs.RuleFile.{answer_type, bare_call, body_of, call_on, declaration, file_defs, inst_fields, inst_names, named, operation_defs, param_names, param_types, pulley_defs, raw_inst, raw_inst_type, rule_of, variables, variant_of}
-use Rattle.isle_pulley.specs.Skipped.{is_skipped, kept}
-use Rattle.isle_pulley.specs.Words.{begins_with}
+use Rattle.isle_pulley_rows.specs.Skipped.{is_skipped, kept}
+use Rattle.isle_pulley_rows.specs.Words.{begins_with}
 use Rattle.isle_pulley.proofs.NameLaws.{IsCaller, caller_from, identifier_name, identifier_named, identifier_variable, instruction_calls, stable_identifiers, temporary_calls, term_named, written_named}
 
 -- ---- all of a list

@@ -2,10 +2,10 @@
 use Rattle.std.specs.Prelude.{ℕ, List, [], ◌∷◌, ◌++◌, Bool, true, false, ◌&&◌, not, if◌then◌else◌, codes}
 use Rattle.std.specs.List.{flat_map}
 use Rattle.std.specs.Str.{bytes_eq}
-use Rattle.isle_pulley.specs.declared.operand.Operand.{Operand}
-use Rattle.isle_pulley.specs.declared.operand.Operand.TheVariants.{Normal, Writable, Binop, Trap}
-use Rattle.isle_pulley.specs.declared.operation.Operation.{Operation}
-use Rattle.isle_pulley.specs.Words.{is_register}
+use Rattle.isle_pulley_rows.specs.declared.operand.Operand.{Operand}
+use Rattle.isle_pulley_rows.specs.declared.operand.Operand.TheVariants.{Normal, Writable, Binop, Trap}
+use Rattle.isle_pulley_rows.specs.declared.operation.Operation.{Operation}
+use Rattle.isle_pulley_rows.specs.Words.{is_register}
 
 -- ---- PAT: the variables that an arm binds, all of its operands
 

@@ -1,9 +1,9 @@
 -- The third item of the Rust text: how an instruction is put into the buffer of machine code.
 use Rattle.std.specs.Prelude.{ℕ, List, [], ◌++◌, codes}
 use Rattle.std.specs.List.{flat_map}
-use Rattle.isle_pulley.specs.declared.operand.Operand.{Operand}
-use Rattle.isle_pulley.specs.declared.operand.Operand.TheVariants.{Normal, Writable, Binop, Trap}
-use Rattle.isle_pulley.specs.declared.operation.Operation.{Operation}
+use Rattle.isle_pulley_rows.specs.declared.operand.Operand.{Operand}
+use Rattle.isle_pulley_rows.specs.declared.operand.Operand.TheVariants.{Normal, Writable, Binop, Trap}
+use Rattle.isle_pulley_rows.specs.declared.operation.Operation.{Operation}
 use Rattle.isle_pulley.specs.Display.{arm_head, arm_opening, listed, pattern_text}
 use Rattle.isle_pulley.specs.Visits.{match_tail}
 

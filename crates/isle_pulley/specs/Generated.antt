@@ -11,8 +11,8 @@ use Rattle.isle_prelude_files.specs.Outputs.{File, Writes}
 use Rattle.isle_writing.specs.Spelt.{SpellsOnly}
 use Rattle.isle_writing.specs.Text.{def_texts}
 use Rattle.isle_pulley.specs.Display.{display_item}
-use Rattle.isle_pulley.specs.Operations.{operations}
-use Rattle.isle_pulley.specs.PulleyRows.{IsFirstOf}
+use Rattle.isle_pulley_rows.specs.Operations.{operations}
+use Rattle.isle_pulley_rows.specs.PulleyRows.{IsFirstOf}
 use Rattle.isle_pulley.specs.RuleFile.{pulley_defs}
 use Rattle.isle_pulley.specs.RustText.{pulley_rust}
 

@@ -3,11 +3,11 @@ use Rattle.std.specs.Prelude.{ℕ, List, [], ◌∷◌, ◌++◌, if◌then◌el
 use Rattle.std.specs.List.{flat_map}
 use Rattle.isle_ast.specs.Views.{exprs_of}
 use Rattle.isle_writing.specs.Text.{exprs_text, named_text, spaced}
-use Rattle.isle_pulley.specs.declared.operand.Operand.{Operand}
-use Rattle.isle_pulley.specs.declared.operand.Operand.TheVariants.{Normal, Writable, Binop, Trap}
-use Rattle.isle_pulley.specs.declared.operation.Operation.{Operation}
-use Rattle.isle_pulley.specs.Names.{temporary, written}
-use Rattle.isle_pulley.specs.Results.{is_written, results}
+use Rattle.isle_pulley_rows.specs.declared.operand.Operand.{Operand}
+use Rattle.isle_pulley_rows.specs.declared.operand.Operand.TheVariants.{Normal, Writable, Binop, Trap}
+use Rattle.isle_pulley_rows.specs.declared.operation.Operation.{Operation}
+use Rattle.isle_pulley.specs.Places.{temporary, written}
+use Rattle.isle_pulley_rows.specs.Results.{is_written, results}
 use Rattle.isle_pulley.specs.RuleFile.{answer_type, inst_fields, inst_names, param_types, variables}
 
 -- ---- the type of instructions

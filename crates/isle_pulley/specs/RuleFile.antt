@@ -10,13 +10,13 @@ use Rattle.isle_ast.specs.declared.tree.AstFields.TheVariants as fields
 use Rattle.isle_ast.specs.declared.tree.AstVariant.{AstVariant}
 use Rattle.isle_meta.specs.declared.pulley.PulleyInst.{PulleyInst}
 use Rattle.isle_writing.specs.Erased.{no_place}
-use Rattle.isle_pulley.specs.declared.operand.Operand.{Operand}
-use Rattle.isle_pulley.specs.declared.operand.Operand.TheVariants.{Normal, Writable, Binop, Trap}
-use Rattle.isle_pulley.specs.declared.operation.Operation.{Operation}
-use Rattle.isle_pulley.specs.Names.{written, temporary}
-use Rattle.isle_pulley.specs.Operands.{Field}
-use Rattle.isle_pulley.specs.Operations.{operations}
-use Rattle.isle_pulley.specs.Results.{results}
+use Rattle.isle_pulley_rows.specs.declared.operand.Operand.{Operand}
+use Rattle.isle_pulley_rows.specs.declared.operand.Operand.TheVariants.{Normal, Writable, Binop, Trap}
+use Rattle.isle_pulley_rows.specs.declared.operation.Operation.{Operation}
+use Rattle.isle_pulley.specs.Places.{written, temporary}
+use Rattle.isle_pulley_rows.specs.Operands.{Field}
+use Rattle.isle_pulley_rows.specs.Operations.{operations}
+use Rattle.isle_pulley_rows.specs.Results.{results}
 
 -- ---- the type of instructions
 

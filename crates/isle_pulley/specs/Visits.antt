@@ -2,11 +2,11 @@
 use Rattle.std.specs.Prelude.{ℕ, List, [], ◌∷◌, ◌++◌, Bool, ◌&&◌, ◌||◌, not, codes}
 use Rattle.std.specs.List.{flat_map}
 use Rattle.isle_meta.specs.TableNames.{is_among}
-use Rattle.isle_pulley.specs.declared.operand.Operand.{Operand}
-use Rattle.isle_pulley.specs.declared.operand.Operand.TheVariants.{Normal, Writable, Binop, Trap}
-use Rattle.isle_pulley.specs.declared.operation.Operation.{Operation}
+use Rattle.isle_pulley_rows.specs.declared.operand.Operand.{Operand}
+use Rattle.isle_pulley_rows.specs.declared.operand.Operand.TheVariants.{Normal, Writable, Binop, Trap}
+use Rattle.isle_pulley_rows.specs.declared.operation.Operation.{Operation}
 use Rattle.isle_pulley.specs.Display.{arm_head, is_set, listed, where_true}
-use Rattle.isle_pulley.specs.Words.{begins_with, is_register}
+use Rattle.isle_pulley_rows.specs.Words.{begins_with, is_register}
 
 -- the operations that save or restore a frame tell of its registers by themselves
 unfoldable pub is_frame : List ℕ → Bool

@@ -6,12 +6,10 @@ ghost use Rattle.isle_pulley.specs.Display.{arm_head, arm_opening, comma, displa
 ghost use Rattle.isle_pulley.specs.Display.{display_item, display_tail, form_end, format_text, format_texts};
 ghost use Rattle.isle_pulley.specs.Display.{is_set as is_set_of, local_text, pattern_text, read_local, shown};
 ghost use Rattle.isle_pulley.specs.Display.{where_true, write_head, write_tail, write_text, written_local};
-ghost use Rattle.isle_pulley.specs.Words.{is_register as names_register};
+ghost use Rattle.isle_pulley_rows.specs.Words.{is_register as names_register};
 
-use crate::operand::Operand;
-use crate::operation::Operation;
 use crate::pieces::{push_around, push_listed};
-use crate::words::is_register;
+use isle_pulley_rows::{Operand, Operation, is_register};
 use std::alloc::AllocError;
 
 /// Tells whether the type is the set of upper registers.

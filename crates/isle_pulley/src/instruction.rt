@@ -5,12 +5,11 @@ ghost use Rattle.std.specs.List.{flat_map};
 ghost use Rattle.isle_pulley.specs.Pieces.{emitted_piece, fields_piece, inst_piece, name_behind, operand_piece};
 ghost use Rattle.isle_pulley.specs.Pieces.{emitted_head, operands_piece, place_piece, type_head, type_piece};
 ghost use Rattle.isle_pulley.specs.Pieces.{variant_line, variant_piece};
-ghost use Rattle.isle_pulley.specs.Names.{written};
+ghost use Rattle.isle_pulley.specs.Places.{written};
 ghost use Rattle.isle_writing.specs.Text.{field_text};
 
-use crate::operand::Operand;
-use crate::operation::Operation;
 use crate::pieces::{push_around, push_temporary, push_two, push_written};
+use isle_pulley_rows::{Operand, Operation};
 use std::alloc::{AllocError, Global};
 
 // Appends a field and its type, after a blank.

@@ -2,23 +2,12 @@
 //! visits and emits its instructions.
 #![tactic(auto)]
 
-mod answers;
-mod binary;
-mod check;
 mod display;
 mod emission;
-mod faults;
-mod fields;
-mod gathered;
 mod instruction;
-mod names;
-mod operand;
-mod operation;
 mod parameters;
 mod pieces;
 pub mod pulley;
-mod refused;
 mod rules;
 mod texts;
 mod visits;
-mod words;

@@ -7,8 +7,8 @@ ghost use Rattle.isle_pulley.specs.RuleFile.{argument_types, param_types as type
 ghost use Rattle.isle_meta.specs.TableNames.{texts};
 ghost use Rattle.isle_writing.specs.Text.{spaced};
 
-use crate::operand::Operand;
 use crate::pieces::push_two;
+use isle_pulley_rows::Operand;
 use std::alloc::{AllocError, Global};
 
 // Puts the types of the arguments that an operand gives behind types.

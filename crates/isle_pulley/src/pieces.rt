@@ -2,7 +2,7 @@
 
 ghost use Rattle.std.specs.Prelude.{◌≡◌, ◌++◌, OnOk, string_bytes};
 ghost use Rattle.isle_pulley.specs.Display.{listed, where_true};
-ghost use Rattle.isle_pulley.specs.Names.{temporary, written};
+ghost use Rattle.isle_pulley.specs.Places.{temporary, written};
 
 use std::alloc::{AllocError, Global};
 
@@ -50,7 +50,7 @@ pub fn push_where(text: &mut String, stands: bool, word: &str) -> Result<(), All
 }
 
 /// Appends the type of a place that is written. The only error is want of memory.
-#[tactic(auto, unfolding(crate::specs::Names::written))]
+#[tactic(auto, unfolding(crate::specs::Places::written))]
 pub fn push_written(text: &mut String, ty: &str) -> Result<(), AllocError>
     ensures { OnOk result (string_bytes text.new ≡ string_bytes text.old ++ written ty.now) }
 {
@@ -58,7 +58,7 @@ pub fn push_written(text: &mut String, ty: &str) -> Result<(), AllocError>
 }
 
 /// Appends the term that makes such a place for a while. The only error is want of memory.
-#[tactic(auto, unfolding(crate::specs::Names::temporary))]
+#[tactic(auto, unfolding(crate::specs::Places::temporary))]
 pub fn push_temporary(alloc: Global, text: &mut String, ty: &str) -> Result<(), AllocError>
     ensures { OnOk result (string_bytes text.new ≡ string_bytes text.old ++ temporary ty.now) }
 {

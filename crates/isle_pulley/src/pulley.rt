@@ -7,11 +7,11 @@ ghost use Rattle.isle_prelude_files.specs.Outputs.{AddsNoSeconds, CountsFault, W
 ghost use Rattle.isle_pulley.specs.Generated.{AppendsDisplay, GivesRules, GivesRust, WritesRows};
 ghost use Rattle.isle_pulley.specs.Generated.{rule_file, rust_file};
 
-use crate::refused::check_rows;
 use crate::texts::{display_of, rules_of, rust_of};
 use isle_core::Dir;
 use isle_meta::{GenError, PulleyInst, TableFail};
 use isle_prelude_files::{Output, write_files};
+use isle_pulley_rows::check_rows;
 use std::alloc::Global;
 
 /// Appends to the text the first item of the Rust text, which shows instructions. `Unsupported` has the first row that

@@ -8,10 +8,9 @@ ghost use Rattle.isle_pulley.specs.Pieces.{effect_head, head_piece, pair_piece, 
 ghost use Rattle.isle_pulley.specs.Pieces.{rule_piece, signature_piece};
 ghost use Rattle.isle_pulley.specs.RuleFile.{answer_type};
 
-use crate::answers::results;
 use crate::instruction::{push_emitted, push_inst, push_place, push_type};
-use crate::operation::Operation;
 use crate::parameters::{param_types, push_arguments, push_spaced};
+use isle_pulley_rows::{Operation, results};
 use std::alloc::{AllocError, Global};
 
 // What a term with results of these types gives.

@@ -2,16 +2,16 @@
 
 ghost use Rattle.std.specs.Prelude.{◌≡◌, IfOk, string_bytes};
 ghost use Rattle.isle_pulley.specs.Display.{display_item};
-ghost use Rattle.isle_pulley.specs.Operations.{operations as operations_in};
+ghost use Rattle.isle_pulley_rows.specs.Operations.{operations as operations_in};
 ghost use Rattle.isle_pulley.specs.RuleFile.{pulley_defs};
 ghost use Rattle.isle_pulley.specs.RustText.{pulley_rust};
 ghost use Rattle.isle_writing.specs.Text.{def_texts};
 
 use crate::display::push_display;
 use crate::emission::rust_items;
-use crate::gathered::operations;
 use crate::rules::rule_file;
 use isle_meta::PulleyInst;
+use isle_pulley_rows::operations;
 use std::alloc::{AllocError, Global};
 
 /// Returns the rule text. The only error is want of memory.

@@ -1,6 +1,6 @@
 use Rattle.std.proofs.Common.{◌≡◌, ◌++◌, ◌∙◌, subst, codes, string_bytes}
 use Rattle.std.specs.Prelude.{OnOk}
-use Rattle.isle_pulley.specs.Names.{temporary}
+use Rattle.isle_pulley.specs.Places.{temporary}
 use Rattle.isle_pulley.proofs.pieces.push_temporary.Goals as goal
 
 pub returns : goal.returns

@@ -1,5 +1,0 @@
-use Rattle.isle_pulley.proofs.WordLaws.{split_is}
-use Rattle.isle_pulley.proofs.binary.split.Goals as goal
-
-pub returns : goal.returns
-returns c = split_is c.args.text.now c.split_once.result c.split_once.ensures.cases

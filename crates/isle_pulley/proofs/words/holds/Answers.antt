@@ -1,5 +1,0 @@
-use Rattle.isle_pulley.proofs.WordLaws.{contains_is}
-use Rattle.isle_pulley.proofs.words.holds.Goals as goal
-
-pub returns : goal.returns
-returns c = contains_is c.args.word.now c.args.text.now c.contains.result c.requires c.contains.ensures.cases
