@@ -1,0 +1,2 @@
+//! An optimizer's prelude and the file of its instructions are valid input: definitions and laws, without code.
+#![tactic(auto)]

@@ -1,0 +1,3 @@
+pub mod GivenCalls
+pub mod HonestMeaning
+pub mod RoundTrip
