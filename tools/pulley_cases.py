@@ -8,6 +8,9 @@
     tools/pulley_cases.py program         a program of Rattle that has these rows, and writes what the crate makes of them
     tools/pulley_cases.py compare FILE    holds what that program wrote against this script
 
+The program is the root `src/main.rt` of a scratch crate over `anyhow`, `isle_core`, `isle_meta` and `isle_pulley` in a copy of the repository;
+`rt try` runs it there before anything is proved. What `rt try` itself says before and behind may stand in the file.
+
 Nothing here is read from the crate: `crates/isle_pulley/README.md` has the same rules in words. Where the two differ one of them is wrong.
 """
 import re
@@ -264,7 +267,10 @@ def program():
         lists.append((f"REFUSED_{at}", [*before, one]))
     consts = "\n".join(f"const {name}: &[Given] = &[{', '.join(row(one) for one in given)}];" for name, given in lists)
     calls = "\n    ".join(f"said(&rt, REFUSED_{at})?;" for at in range(len(REFUSED)))
-    return f"""use anyhow::Result;
+    return f"""//! Rows of Pulley, and what comes of them.
+#![tactic(auto)]
+
+use anyhow::Result;
 use isle_core::{{List, Text}};
 use isle_meta::{{PulleyInst, TableFail}};
 use isle_pulley::pulley::{{generate_raw_inst_display, isle_text, rust_text}};
@@ -324,7 +330,7 @@ fn main(rt: HostRuntime) -> Result<()> {{
 
 
 def compare(written):
-    parts = written.split("--\n")
+    parts = written[written.find("(type RawInst"):].split("--\n")
     wrong = 0
     if len(parts) != 4:
         print(f"{len(parts)} parts in place of 4")
