@@ -1,0 +1,5 @@
+mod RuleLaws
+mod PieceLaws
+mod NameLaws
+mod RuleWritable
+mod FileLaws

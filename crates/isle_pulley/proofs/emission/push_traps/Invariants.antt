@@ -1,0 +1,7 @@
+use Rattle.std.proofs.Common.{◌≡◌, ◌++◌, take, string_bytes}
+use Rattle.std.specs.List.{flat_map}
+use Rattle.isle_pulley.specs.Emission.{trap_text}
+use Rattle.isle_pulley.proofs.emission.push_traps.Given as goal
+
+abbrev pub invariant-loop-operand : goal.invariant-loop-operand
+invariant-loop-operand l = string_bytes l.text ≡ string_bytes l.fn.text ++ flat_map trap_text (take l.operand-index l.operands)

@@ -1,0 +1,7 @@
+use Rattle.std.proofs.Common.{◌≡◌, ◌++◌, take, string_bytes}
+use Rattle.std.specs.List.{flat_map}
+use Rattle.isle_pulley.specs.Pieces.{operation_piece}
+use Rattle.isle_pulley.proofs.rules.push_all.Given as goal
+
+abbrev pub invariant-loop-op : goal.invariant-loop-op
+invariant-loop-op l = string_bytes l.text ≡ string_bytes l.fn.text ++ flat_map operation_piece (take l.op-index l.ops)

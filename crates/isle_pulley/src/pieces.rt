@@ -1,0 +1,67 @@
+//! Pieces of both texts.
+
+ghost use Rattle.std.specs.Prelude.{◌≡◌, ◌++◌, OnOk, string_bytes};
+ghost use Rattle.isle_pulley.specs.Display.{listed, where_true};
+ghost use Rattle.isle_pulley.specs.Places.{temporary, written};
+
+use std::alloc::{AllocError, Global};
+
+/// Appends two words. The only error is want of memory.
+pub fn push_two(text: &mut String, first: &str, second: &str) -> Result<(), AllocError>
+    ensures { OnOk result
+        (string_bytes text.new ≡ string_bytes text.old ++ (first.now ++ second.now)) }
+{
+    text.push_str(first)?;
+    text.push_str(second)
+}
+
+/// Appends this, a name, and this. The only error is want of memory.
+pub fn push_around(
+    text: &mut String,
+    before: &str,
+    name: &str,
+    after: &str,
+) -> Result<(), AllocError>
+    ensures { OnOk result
+        (string_bytes text.new
+        ≡ string_bytes text.old ++ (before.now ++ (name.now ++ after.now))) }
+{
+    text.push_str(before)?;
+    text.push_str(name)?;
+    text.push_str(after)
+}
+
+/// Appends a name and a comma. The only error is want of memory.
+pub fn push_listed(text: &mut String, name: &str) -> Result<(), AllocError>
+    ensures { OnOk result (string_bytes text.new ≡ string_bytes text.old ++ listed name.now) }
+{
+    push_two(text, name, ", ")
+}
+
+/// Appends a word, if it is to stand there. The only error is want of memory.
+pub fn push_where(text: &mut String, stands: bool, word: &str) -> Result<(), AllocError>
+    ensures { OnOk result
+        (string_bytes text.new ≡ string_bytes text.old ++ where_true stands word.now) }
+{
+    if stands {
+        text.push_str(word)?;
+    }
+    Ok(())
+}
+
+/// Appends the type of a place that is written. The only error is want of memory.
+#[tactic(auto, unfolding(crate::specs::Places::written))]
+pub fn push_written(text: &mut String, ty: &str) -> Result<(), AllocError>
+    ensures { OnOk result (string_bytes text.new ≡ string_bytes text.old ++ written ty.now) }
+{
+    push_two(text, "Writable", ty)
+}
+
+/// Appends the term that makes such a place for a while. The only error is want of memory.
+#[tactic(auto, unfolding(crate::specs::Places::temporary))]
+pub fn push_temporary(alloc: Global, text: &mut String, ty: &str) -> Result<(), AllocError>
+    ensures { OnOk result (string_bytes text.new ≡ string_bytes text.old ++ temporary ty.now) }
+{
+    let lower = ty.to_ascii_lowercase(alloc)?;
+    push_two(text, "temp_writable_", lower.as_str())
+}

@@ -1,0 +1,10 @@
+pub mod Words
+pub mod BinaryParts
+pub mod Skipped
+pub mod Operands
+pub mod Operations
+pub mod Results
+pub mod Names
+pub mod PulleyRow
+pub mod PulleyRows
+pub mod Told
