@@ -174,14 +174,16 @@ def tables():
     for has_list in [False, True]:
         for values in range(4):
             for blocks in range(3):
-                at = values + blocks
-                typevar = 0 if values and not (values == 3 and has_list) else None
-                made = Format("First", has_list, values, blocks, at % 2, some[at % 4], typevar)
-                plain = Format("Second", False, 2, 0, 0, [imm64] if at % 3 == 0 else [], 1)
-                insts = [Inst("one", "One", made, results=at % 3, trap=at % 5 == 1, effect=at % 4 == 2),
-                         Inst("two", "Two", plain, results=1 + at % 2), Inst("move", "Move", made, results=1)]
-                kind = "a list after" if has_list else "no list,"
-                yield f"{kind} {values} values, {blocks} blocks", [made, plain], insts
+                for turn in range(2):
+                    at = values + blocks + turn
+                    imms = some[at % 4]
+                    typevar = 0 if values and not (values == 3 and has_list) else None
+                    made = Format("First", has_list, values, blocks, at % 2, imms, typevar)
+                    plain = Format("Second", False, 2, 0, 0, [imm64] if at % 3 == 0 else [], 1)
+                    insts = [Inst("one", "One", made, results=at % 3, trap=at % 5 == 1, effect=at % 4 == 2),
+                             Inst("two", "Two", plain, results=1 + at % 2), Inst("move", "Move", made, results=1)]
+                    kind = "a list after" if has_list else "no list,"
+                    yield f"{kind} {values} values, {blocks} blocks, {at % 2} raw, {len(imms)} immediates", [made, plain], insts
 
 
 def main():
