@@ -1,20 +1,24 @@
 -- The first shape that is told.
-use Rattle.std.proofs.Common.{◌≡◌, List, [], ◌∷◌, ◌++◌, Bool, true, false, Option, Some, None, refl, cond, inl, inr}
-use Rattle.std.specs.Prelude.{◌↔◌, ◌⊎◌, find, not, IsTrue}
+use Rattle.std.proofs.Common.{◌≡◌, List, [], ◌∷◌, ◌++◌, Bool, true, false, Option, Some, None, refl, cond, sym, subst}
+use Rattle.std.specs.Prelude.{◌↔◌, find, not, IsTrue}
 use Rattle.isle_meta.specs.declared.faults.Faults.{Faults}
 use Rattle.isle_meta.specs.declared.shapes.Shape.{Shape}
 use Rattle.isle_meta.specs.declared.shapes.Shape.TheVariants.{BadName, RepeatedName, ReservedName, TyOperand, FormatIndex, ValueCount, BlockCount, RawBlockCount, ImmCount, ImmType, ImmShape, NoVarargs, NoTypevar, WrittenImm, AlignedMem, WrittenOperands, ImplicitOperand, AlternateWithoutXmm, BinaryOperands, Results, FieldType}
-use Rattle.isle_meta.specs.Rows.{Row, Breaks, shapes, IsFirstShape}
+use Rattle.isle_meta.specs.FirstRow.{shapes, IsFirstShape}
 use Rattle.isle_meta.specs.Told.{told, Tells}
+use Rattle.isle_meta.proofs.FirstRows.{told_first}
 
--- the first shape that is told is the first that the row breaks
-pub tells_first : (f : Faults) (row : Row) → Tells f row → (ss : List Shape) → IsFirstShape row ss (find (told f) ss)
-tells_first f row t [] = refl
-tells_first f row t (s ∷ ss) = one (told f s) refl (tells_first f row t ss)
-  where
-    one : (b : Bool) → told f s ≡ b → IsFirstShape row ss (find (told f) ss) → (Breaks row s × (cond b (Some s) (find (told f) ss) ≡ Some s)) ⊎ ((Breaks row s → ⊥) × IsFirstShape row ss (cond b (Some s) (find (told f) ss)))
-    one true e rest = inl ((t.each s).0 e, refl)
-    one false e rest = inr (λ h. let k : told f s ≡ true = (t.each s).1 h in absurd cc, rest)
+-- the first shape that is told is the first that is broken
+pub tells_first : (f : Faults) (Broken : Shape → Type 0) → Tells f Broken → IsFirstShape Broken shapes (find (told f) shapes)
+tells_first f Broken t = told_first (told f) Broken t.each shapes
+
+-- if one is told, it is the first
+pub one_told : (f : Faults) (Broken : Shape → Type 0) (shape : Shape) → Tells f Broken → Some shape ≡ find (told f) shapes → IsFirstShape Broken shapes (Some shape)
+one_told f Broken shape t e = subst (λ o. IsFirstShape Broken shapes o) (sym e) (tells_first f Broken t)
+
+-- if none is, none is broken
+pub no_shape : (f : Faults) (Broken : Shape → Type 0) → Tells f Broken → None ≡ find (told f) shapes → IsFirstShape Broken shapes None
+no_shape f Broken t e = subst (λ o. IsFirstShape Broken shapes o) (sym e) (tells_first f Broken t)
 
 -- what is not found is not found further on
 past : (b : Bool) (x : Shape) (rest : Option Shape) → None ≡ cond b (Some x) rest → None ≡ rest

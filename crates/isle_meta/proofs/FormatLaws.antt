@@ -16,24 +16,22 @@ use Rattle.isle_meta.specs.declared.shapes.Shape.{Shape}
 use Rattle.isle_meta.specs.declared.shapes.Shape.TheVariants.{BadName, RepeatedName, ReservedName, TyOperand, FormatIndex, ValueCount, BlockCount, RawBlockCount, ImmCount, ImmType, ImmShape, NoVarargs, NoTypevar, WrittenImm, AlignedMem, WrittenOperands, ImplicitOperand, AlternateWithoutXmm, BinaryOperands, Results, FieldType}
 use Rattle.isle_meta.specs.FormatRow as format
 use Rattle.isle_meta.specs.KnownTypes.{KnowsTypes}
-use Rattle.isle_meta.specs.Rows.{OfFormat, Breaks, shapes, format_rows, IsFirstShape, IsFirstUnsupported}
+use Rattle.isle_meta.specs.ClifRows.{FormatBreaks, IsFirstFormat}
+use Rattle.isle_meta.specs.FirstRow.{shapes, unsupported}
 use Rattle.isle_meta.specs.Told.{told, Tells}
-use Rattle.isle_meta.proofs.FirstLaws.{tells_first}
-
--- a shape that nothing breaks
-pub never : IsTrue false ↔ ⊥
-never = (λ e. cc, λ h. absurd h)
+use Rattle.isle_meta.proofs.FirstLaws.{no_shape, one_told}
+use Rattle.isle_meta.proofs.FirstRows.{LeadsFrom, front_more, leads_begin, leads_end, leads_on, leads_out, never}
 
 -- what is told of a format
 pub format_told : (before : List InstructionFormat) (f : InstructionFormat) (bad repeated reserved blocks raw shape typevar : Bool) → (IsTrue bad ↔ format.BadName f) → (IsTrue repeated ↔ format.RepeatedName before f) → (IsTrue reserved ↔ format.ReservedName f)
     → (IsTrue blocks ↔ format.BlockCount f) → (IsTrue raw ↔ format.RawBlockCount f) → (IsTrue shape ↔ format.ImmShape before f) → (IsTrue typevar ↔ format.NoTypevar f)
-    → Tells (record { bad_name = bad; repeated_name = repeated; reserved_name = reserved; ty_operand = false; format_index = false; value_count = false; block_count = blocks; raw_block_count = raw; imm_count = false; imm_type = false; imm_shape = shape; no_varargs = false; no_typevar = typevar }) (OfFormat before f)
+    → Tells (record { bad_name = bad; repeated_name = repeated; reserved_name = reserved; ty_operand = false; format_index = false; value_count = false; block_count = blocks; raw_block_count = raw; imm_count = false; imm_type = false; imm_shape = shape; no_varargs = false; no_typevar = typevar }) (FormatBreaks before f)
 format_told before f bad repeated reserved blocks raw shape typevar a b c d e g h = record { each = each }
   where
     faults : Faults
     faults = record { bad_name = bad; repeated_name = repeated; reserved_name = reserved; ty_operand = false; format_index = false; value_count = false; block_count = blocks; raw_block_count = raw; imm_count = false; imm_type = false; imm_shape = shape; no_varargs = false; no_typevar = typevar }
 
-    each : (s : Shape) → IsTrue (told faults s) ↔ Breaks (OfFormat before f) s
+    each : (s : Shape) → IsTrue (told faults s) ↔ FormatBreaks before f s
     each BadName = a
     each RepeatedName = b
     each ReservedName = c
@@ -65,40 +63,30 @@ fields_push (g ∷ fs) f = ap (λ ys. g.imm_fields ++ ys) (fields_push fs f) ∙
 pub record FormatsFrom (fs : List InstructionFormat) (i : ℕ) (names : BTreeSet (Bor (List ℕ))) (types : BTreeMap (Bor (List ℕ)) (Bor ImmField)) : Type 0 where
   pub known : HasNames (format.own_names (take i fs)) names
   pub shaped : KnowsTypes (format.all_fields (take i fs)) types
-  pub leads : (found : Option Unsupported) → IsFirstUnsupported (format_rows (take i fs) (drop i fs)) found → IsFirstUnsupported (format_rows [] fs) found
+  pub leads : LeadsFrom (λ (f : InstructionFormat). f.name) FormatBreaks [] fs i
 
 pub formats_begin : (fs : List InstructionFormat) (names : BTreeSet (Bor (List ℕ))) (types : BTreeMap (Bor (List ℕ)) (Bor ImmField)) → names.keys ≡ [] → types.entries ≡ [] → FormatsFrom fs 0 names types
-formats_begin fs names types e k = record { known = none_there names e; shaped = λ name values. rw k refl; leads = λ found h. h }
-
--- how the rows that are left begin
-rows_split : (fs : List InstructionFormat) (i : ℕ) (f : InstructionFormat) → i < length fs → f ≡ get_or fs i f → format_rows (take i fs) (drop i fs) ≡ OfFormat (take i fs) f ∷ format_rows (take (i + 1) fs) (drop (i + 1) fs)
-rows_split fs i f lt is =
-    ap (format_rows (take i fs)) (drop_more fs i f lt)
-    ∙ ap (λ g. OfFormat (take i fs) g ∷ format_rows (take i fs ++ g ∷ []) (drop (i + 1) fs)) (sym is)
-    ∙ ap (λ gs. OfFormat (take i fs) f ∷ format_rows gs (drop (i + 1) fs)) (ap (λ g. take i fs ++ g ∷ []) is ∙ sym (take_more fs i f lt))
-
-before_more : (fs : List InstructionFormat) (i : ℕ) (f : InstructionFormat) → i < length fs → f ≡ get_or fs i f → take i fs ++ f ∷ [] ≡ take (i + 1) fs
-before_more fs i f lt is = ap (λ g. take i fs ++ g ∷ []) is ∙ sym (take_more fs i f lt)
+formats_begin fs names types e k = record { known = none_there names e; shaped = λ name values. rw k refl; leads = leads_begin (λ (f : InstructionFormat). f.name) FormatBreaks [] fs }
 
 names_push : (fs : List InstructionFormat) (f : InstructionFormat) → format.own_names (fs ++ f ∷ []) ≡ format.own_names fs ++ f.name ∷ []
 names_push [] f = refl
 names_push (g ∷ fs) f = ap (λ ys. g.name ∷ ys) (names_push fs f)
 
 pub formats_on : (fs : List InstructionFormat) (i : ℕ) (f : InstructionFormat) (faults : Faults) (oldn newn : BTreeSet (Bor (List ℕ))) (oldt newt : BTreeMap (Bor (List ℕ)) (Bor ImmField)) → i < length fs → f ≡ get_or fs i f
-    → Tells faults (OfFormat (take i fs) f) → None ≡ find (told faults) shapes → HasNames (format.own_names (take i fs) ++ f.name ∷ []) newn → KnowsTypes (format.all_fields (take i fs) ++ f.imm_fields) newt
+    → Tells faults (FormatBreaks (take i fs) f) → None ≡ find (told faults) shapes → HasNames (format.own_names (take i fs) ++ f.name ∷ []) newn → KnowsTypes (format.all_fields (take i fs) ++ f.imm_fields) newt
     → FormatsFrom fs i oldn oldt → FormatsFrom fs (i + 1) newn newt
 formats_on fs i f faults oldn newn oldt newt lt is t none has shaped s =
+    let more = front_more (λ (f : InstructionFormat). f.name) FormatBreaks [] fs i f lt is in
     record {
-      known = subst (λ ns. HasNames ns newn) (sym (names_push (take i fs) f) ∙ ap format.own_names (before_more fs i f lt is)) has;
-      shaped = subst (λ ys. KnowsTypes ys newt) (sym (fields_push (take i fs) f) ∙ ap format.all_fields (before_more fs i f lt is)) shaped;
-      leads = λ found h. s.leads found (subst (λ rs. IsFirstUnsupported rs found) (sym (rows_split fs i f lt is)) (inr (subst (λ o. IsFirstShape (OfFormat (take i fs) f) shapes o) (sym none) (tells_first faults (OfFormat (take i fs) f) t shapes), h)));
+      known = subst (λ ns. HasNames ns newn) (sym (names_push (take i fs) f) ∙ ap format.own_names more) has;
+      shaped = subst (λ ys. KnowsTypes ys newt) (sym (fields_push (take i fs) f) ∙ ap format.all_fields more) shaped;
+      leads = leads_on (λ (f : InstructionFormat). f.name) FormatBreaks [] fs i f lt is (no_shape faults (FormatBreaks (take i fs) f) t none) s.leads;
     }
 
 pub formats_out : (fs : List InstructionFormat) (i : ℕ) (f : InstructionFormat) (faults : Faults) (shape : Shape) (names : BTreeSet (Bor (List ℕ))) (types : BTreeMap (Bor (List ℕ)) (Bor ImmField)) → i < length fs → f ≡ get_or fs i f
-    → Tells faults (OfFormat (take i fs) f) → Some shape ≡ find (told faults) shapes → FormatsFrom fs i names types → IsFirstUnsupported (format_rows [] fs) (Some (record { row = f.name; shape = shape }))
+    → Tells faults (FormatBreaks (take i fs) f) → Some shape ≡ find (told faults) shapes → FormatsFrom fs i names types → IsFirstFormat fs (Some (unsupported f.name shape))
 formats_out fs i f faults shape names types lt is t some s =
-    s.leads _ (subst (λ rs. IsFirstUnsupported rs (Some (record { row = f.name; shape = shape }))) (sym (rows_split fs i f lt is))
-    (inl (shape, subst (λ o. IsFirstShape (OfFormat (take i fs) f) shapes o) (sym some) (tells_first faults (OfFormat (take i fs) f) t shapes), refl)))
+    leads_out (λ (f : InstructionFormat). f.name) FormatBreaks [] fs i f shape lt is (one_told faults (FormatBreaks (take i fs) f) shape t some) s.leads
 
-pub formats_end : (fs : List InstructionFormat) (i : ℕ) (names : BTreeSet (Bor (List ℕ))) (types : BTreeMap (Bor (List ℕ)) (Bor ImmField)) → length fs ≤ i → FormatsFrom fs i names types → IsFirstUnsupported (format_rows [] fs) None
-formats_end fs i names types past s = s.leads None (subst (λ gs. IsFirstUnsupported (format_rows (take i fs) gs) None) (sym (drop_of_length-le fs past)) refl)
+pub formats_end : (fs : List InstructionFormat) (i : ℕ) (names : BTreeSet (Bor (List ℕ))) (types : BTreeMap (Bor (List ℕ)) (Bor ImmField)) → length fs ≤ i → FormatsFrom fs i names types → IsFirstFormat fs None
+formats_end fs i names types past s = leads_end (λ (f : InstructionFormat). f.name) FormatBreaks [] fs i past s.leads

@@ -17,10 +17,11 @@ use Rattle.isle_meta.specs.declared.shapes.Shape.{Shape}
 use Rattle.isle_meta.specs.declared.shapes.Shape.TheVariants.{BadName, RepeatedName, ReservedName, TyOperand, FormatIndex, ValueCount, BlockCount, RawBlockCount, ImmCount, ImmType, ImmShape, NoVarargs, NoTypevar, WrittenImm, AlignedMem, WrittenOperands, ImplicitOperand, AlternateWithoutXmm, BinaryOperands, Results, FieldType}
 use Rattle.isle_meta.specs.InstructionRow as row
 use Rattle.isle_meta.specs.Misfits.{Compares, ComparesIn, TellsNames}
-use Rattle.isle_meta.specs.Rows.{OfInstruction, Breaks, shapes, instruction_rows, IsFirstShape, IsFirstUnsupported}
+use Rattle.isle_meta.specs.ClifRows.{InstructionBreaks, IsFirstInstruction}
+use Rattle.isle_meta.specs.FirstRow.{shapes, unsupported}
 use Rattle.isle_meta.specs.Told.{told, Tells}
-use Rattle.isle_meta.proofs.FirstLaws.{tells_first}
-use Rattle.isle_meta.proofs.FormatLaws.{never}
+use Rattle.isle_meta.proofs.FirstLaws.{no_shape, one_told}
+use Rattle.isle_meta.proofs.FirstRows.{LeadsFrom, front_more, leads_begin, leads_end, leads_on, leads_out, never}
 
 -- ---- beside the format
 
@@ -69,13 +70,13 @@ differ_none (t ∷ ts) = refl
 -- ---- an instruction
 
 pub instruction_told : (formats : List InstructionFormat) (before : List Instruction) (i : Instruction) (n : NameFaults) (m : Misfits) (missing : Bool) → TellsNames n before i → ComparesIn m formats i → (IsTrue missing ↔ row.FormatIndex formats i)
-    → Tells (record { bad_name = n.bad; repeated_name = n.repeated; reserved_name = n.reserved; ty_operand = m.ty_operand; format_index = missing; value_count = m.value_count; block_count = m.block_count; raw_block_count = m.raw_block_count; imm_count = m.imm_count; imm_type = m.imm_type; imm_shape = false; no_varargs = m.no_varargs; no_typevar = false }) (OfInstruction formats before i)
+    → Tells (record { bad_name = n.bad; repeated_name = n.repeated; reserved_name = n.reserved; ty_operand = m.ty_operand; format_index = missing; value_count = m.value_count; block_count = m.block_count; raw_block_count = m.raw_block_count; imm_count = m.imm_count; imm_type = m.imm_type; imm_shape = false; no_varargs = m.no_varargs; no_typevar = false }) (InstructionBreaks formats before i)
 instruction_told formats before i n m missing names c index = record { each = each }
   where
     faults : Faults
     faults = record { bad_name = n.bad; repeated_name = n.repeated; reserved_name = n.reserved; ty_operand = m.ty_operand; format_index = missing; value_count = m.value_count; block_count = m.block_count; raw_block_count = m.raw_block_count; imm_count = m.imm_count; imm_type = m.imm_type; imm_shape = false; no_varargs = m.no_varargs; no_typevar = false }
 
-    each : (s : Shape) → IsTrue (told faults s) ↔ Breaks (OfInstruction formats before i) s
+    each : (s : Shape) → IsTrue (told faults s) ↔ InstructionBreaks formats before i s
     each BadName = names.bad
     each RepeatedName = names.repeated
     each ReservedName = names.reserved
@@ -104,20 +105,10 @@ instruction_told formats before i n m missing names c index = record { each = ea
 pub record InstructionsFrom (formats : List InstructionFormat) (is : List Instruction) (k : ℕ) (names camels : BTreeSet (Bor (List ℕ))) : Type 0 where
   pub known : HasNames (row.own_names (take k is)) names
   pub cased : HasNames (row.camel_names (take k is)) camels
-  pub leads : (found : Option Unsupported) → IsFirstUnsupported (instruction_rows formats (take k is) (drop k is)) found → IsFirstUnsupported (instruction_rows formats [] is) found
+  pub leads : LeadsFrom (λ (i : Instruction). i.name) (InstructionBreaks formats) [] is k
 
 pub instructions_begin : (formats : List InstructionFormat) (is : List Instruction) (names camels : BTreeSet (Bor (List ℕ))) → names.keys ≡ [] → camels.keys ≡ [] → InstructionsFrom formats is 0 names camels
-instructions_begin formats is names camels e k = record { known = none_there names e; cased = none_there camels k; leads = λ found h. h }
-
-before_more : (is : List Instruction) (k : ℕ) (i : Instruction) → k < length is → i ≡ get_or is k i → take k is ++ i ∷ [] ≡ take (k + 1) is
-before_more is k i lt e = ap (λ g. take k is ++ g ∷ []) e ∙ sym (take_more is k i lt)
-
-rows_split : (formats : List InstructionFormat) (is : List Instruction) (k : ℕ) (i : Instruction) → k < length is → i ≡ get_or is k i
-    → instruction_rows formats (take k is) (drop k is) ≡ OfInstruction formats (take k is) i ∷ instruction_rows formats (take (k + 1) is) (drop (k + 1) is)
-rows_split formats is k i lt e =
-    ap (instruction_rows formats (take k is)) (drop_more is k i lt)
-    ∙ ap (λ g. OfInstruction formats (take k is) g ∷ instruction_rows formats (take k is ++ g ∷ []) (drop (k + 1) is)) (sym e)
-    ∙ ap (λ gs. OfInstruction formats (take k is) i ∷ instruction_rows formats gs (drop (k + 1) is)) (before_more is k i lt e)
+instructions_begin formats is names camels e k = record { known = none_there names e; cased = none_there camels k; leads = leads_begin (λ (i : Instruction). i.name) (InstructionBreaks formats) [] is }
 
 names_push : (is : List Instruction) (i : Instruction) → row.own_names (is ++ i ∷ []) ≡ row.own_names is ++ i.name ∷ []
 names_push [] i = refl
@@ -128,20 +119,20 @@ camels_push [] i = refl
 camels_push (g ∷ is) i = ap (λ ys. g.camel_name ∷ ys) (camels_push is i)
 
 pub instructions_on : (formats : List InstructionFormat) (is : List Instruction) (k : ℕ) (i : Instruction) (faults : Faults) (oldn newn oldc newc : BTreeSet (Bor (List ℕ))) → k < length is → i ≡ get_or is k i
-    → Tells faults (OfInstruction formats (take k is) i) → None ≡ find (told faults) shapes → HasNames (row.own_names (take k is) ++ i.name ∷ []) newn → HasNames (row.camel_names (take k is) ++ i.camel_name ∷ []) newc
+    → Tells faults (InstructionBreaks formats (take k is) i) → None ≡ find (told faults) shapes → HasNames (row.own_names (take k is) ++ i.name ∷ []) newn → HasNames (row.camel_names (take k is) ++ i.camel_name ∷ []) newc
     → InstructionsFrom formats is k oldn oldc → InstructionsFrom formats is (k + 1) newn newc
 instructions_on formats is k i faults oldn newn oldc newc lt e t none has cased s =
+    let more = front_more (λ (i : Instruction). i.name) (InstructionBreaks formats) [] is k i lt e in
     record {
-      known = subst (λ ns. HasNames ns newn) (sym (names_push (take k is) i) ∙ ap row.own_names (before_more is k i lt e)) has;
-      cased = subst (λ ns. HasNames ns newc) (sym (camels_push (take k is) i) ∙ ap row.camel_names (before_more is k i lt e)) cased;
-      leads = λ found h. s.leads found (subst (λ rs. IsFirstUnsupported rs found) (sym (rows_split formats is k i lt e)) (inr (subst (λ o. IsFirstShape (OfInstruction formats (take k is) i) shapes o) (sym none) (tells_first faults (OfInstruction formats (take k is) i) t shapes), h)));
+      known = subst (λ ns. HasNames ns newn) (sym (names_push (take k is) i) ∙ ap row.own_names more) has;
+      cased = subst (λ ns. HasNames ns newc) (sym (camels_push (take k is) i) ∙ ap row.camel_names more) cased;
+      leads = leads_on (λ (i : Instruction). i.name) (InstructionBreaks formats) [] is k i lt e (no_shape faults (InstructionBreaks formats (take k is) i) t none) s.leads;
     }
 
 pub instructions_out : (formats : List InstructionFormat) (is : List Instruction) (k : ℕ) (i : Instruction) (faults : Faults) (shape : Shape) (names camels : BTreeSet (Bor (List ℕ))) → k < length is → i ≡ get_or is k i
-    → Tells faults (OfInstruction formats (take k is) i) → Some shape ≡ find (told faults) shapes → InstructionsFrom formats is k names camels → IsFirstUnsupported (instruction_rows formats [] is) (Some (record { row = i.name; shape = shape }))
+    → Tells faults (InstructionBreaks formats (take k is) i) → Some shape ≡ find (told faults) shapes → InstructionsFrom formats is k names camels → IsFirstInstruction formats is (Some (unsupported i.name shape))
 instructions_out formats is k i faults shape names camels lt e t some s =
-    s.leads _ (subst (λ rs. IsFirstUnsupported rs (Some (record { row = i.name; shape = shape }))) (sym (rows_split formats is k i lt e))
-    (inl (shape, subst (λ o. IsFirstShape (OfInstruction formats (take k is) i) shapes o) (sym some) (tells_first faults (OfInstruction formats (take k is) i) t shapes), refl)))
+    leads_out (λ (i : Instruction). i.name) (InstructionBreaks formats) [] is k i shape lt e (one_told faults (InstructionBreaks formats (take k is) i) shape t some) s.leads
 
-pub instructions_end : (formats : List InstructionFormat) (is : List Instruction) (k : ℕ) (names camels : BTreeSet (Bor (List ℕ))) → length is ≤ k → InstructionsFrom formats is k names camels → IsFirstUnsupported (instruction_rows formats [] is) None
-instructions_end formats is k names camels past s = s.leads None (subst (λ gs. IsFirstUnsupported (instruction_rows formats (take k is) gs) None) (sym (drop_of_length-le is past)) refl)
+pub instructions_end : (formats : List InstructionFormat) (is : List Instruction) (k : ℕ) (names camels : BTreeSet (Bor (List ℕ))) → length is ≤ k → InstructionsFrom formats is k names camels → IsFirstInstruction formats is None
+instructions_end formats is k names camels past s = leads_end (λ (i : Instruction). i.name) (InstructionBreaks formats) [] is k past s.leads

@@ -1,9 +1,10 @@
 pub mod RepeatLaws
+pub mod RepeatedTerms
 pub mod ShortNameLaws
 pub mod NumberedLaws
 pub mod ImmediateLaws
+pub mod FirstRows
 pub mod FirstLaws
 pub mod FormatLaws
 pub mod InstructionLaws
-pub mod CheckLaws
 pub mod ReservedLaws

@@ -1,16 +1,15 @@
--- What the check of tables answers.
-use Rattle.std.specs.Prelude.{◌≡◌, ℕ, List, Some, None, Result, Ok, Err}
+-- What a check of rows answers.
+use Rattle.std.specs.Prelude.{◌≡◌, ℕ, List, Option, Some, None, Result, Ok, Err}
 use Rattle.isle_meta.specs.declared.errors.TableFail.{TableFail}
 use Rattle.isle_meta.specs.declared.errors.TableFail.TheVariants as fail
+use Rattle.isle_meta.specs.declared.errors.Unsupported.{Unsupported}
 use Rattle.isle_meta.specs.declared.shapes.Shape.{Shape}
-use Rattle.isle_meta.specs.declared.tables.Tables.{Tables}
-use Rattle.isle_meta.specs.Rows.{rows, IsFirstUnsupported}
 
 -- nothing if each row is supported, and else the first that isn't, with its first shape; want of memory is left open
-abbrev pub Checks : Tables → Result (Unit {0}) TableFail → Type 0
-Checks t (Ok done) = IsFirstUnsupported (rows t) None
-Checks t (Err (fail.Unsupported found)) = IsFirstUnsupported (rows t) (Some found)
-Checks t (Err fail.Memory) = Unit {0}
+abbrev pub Checks : (First : Option Unsupported → Type 0) → Result (Unit {0}) TableFail → Type 0
+Checks First (Ok done) = First None
+Checks First (Err (fail.Unsupported found)) = First (Some found)
+Checks First (Err fail.Memory) = Unit {0}
 
 -- a row is refused for a shape, or memory ran out
 abbrev pub Refuses : (row : List ℕ) → Shape → TableFail → Type 0

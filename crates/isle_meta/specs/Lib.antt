@@ -6,6 +6,7 @@ pub mod KnownTypes
 pub mod FormatRow
 pub mod InstructionRow
 pub mod Misfits
-pub mod Rows
+pub mod FirstRow
+pub mod ClifRows
 pub mod Told
 pub mod Checked

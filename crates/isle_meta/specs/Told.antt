@@ -5,7 +5,6 @@ use Rattle.isle_meta.specs.declared.errors.Unsupported.{Unsupported}
 use Rattle.isle_meta.specs.declared.faults.Faults.{Faults}
 use Rattle.isle_meta.specs.declared.shapes.Shape.{Shape}
 use Rattle.isle_meta.specs.declared.shapes.Shape.TheVariants.{BadName, RepeatedName, ReservedName, TyOperand, FormatIndex, ValueCount, BlockCount, RawBlockCount, ImmCount, ImmType, ImmShape, NoVarargs, NoTypevar, WrittenImm, AlignedMem, WrittenOperands, ImplicitOperand, AlternateWithoutXmm, BinaryOperands, Results, FieldType}
-use Rattle.isle_meta.specs.Rows.{Row, Breaks}
 
 -- whether the row is told to break the shape
 abbrev pub told : Faults → Shape → Bool
@@ -31,9 +30,9 @@ told f BinaryOperands = false
 told f Results = false
 told f FieldType = false
 
--- just the shapes that the row breaks are told
-pub record Tells (f : Faults) (row : Row) : Type 0 where
-  pub each : (shape : Shape) → IsTrue (told f shape) ↔ Breaks row shape
+-- just the shapes that are broken are told
+pub record Tells (f : Faults) (Broken : Shape → Type 0) : Type 0 where
+  pub each : (shape : Shape) → IsTrue (told f shape) ↔ Broken shape
 
 -- a row as it is found: its name, and its shape
 abbrev pub Found : Type 0

@@ -10,7 +10,7 @@ ghost use Rattle.isle_meta.specs.declared.clif.InstructionFormat.{InstructionFor
 ghost use Rattle.isle_meta.specs.FormatRow as Format;
 ghost use Rattle.isle_meta.specs.Immediates.{type_of};
 ghost use Rattle.isle_meta.specs.KnownTypes.{KnowsTypes};
-ghost use Rattle.isle_meta.specs.Rows.{OfFormat, format_rows, IsFirstUnsupported};
+ghost use Rattle.isle_meta.specs.ClifRows.{FormatBreaks, IsFirstFormat};
 ghost use Rattle.isle_meta.specs.TableNames.{is_among, repeats, texts, IsImmediateType};
 ghost use Rattle.isle_meta.specs.Told.{found_row, Tells};
 
@@ -207,7 +207,7 @@ fn format_faults<'t>(
 ) -> Result<Faults, AllocError>
     ensures told { (before : List Row) → HasNames (Format.own_names before) names.old
         → KnowsTypes (Format.all_fields before) types.old
-        → IfOk result (λ faults. Tells faults (OfFormat before format.now)) }
+        → IfOk result (λ faults. Tells faults (FormatBreaks before format.now)) }
     ensures names { (before : List Row) → HasNames (Format.own_names before) names.old
         → OnOk result (HasNames (Format.own_names before ++ format.now.name ∷ []) names.new) }
     ensures types { (before : List Row) → KnowsTypes (Format.all_fields before) types.old
@@ -240,8 +240,7 @@ pub fn unsupported_format<'t>(
     alloc: Global,
     formats: &'t [InstructionFormat],
 ) -> Result<Option<(&'t str, Shape)>, AllocError>
-    ensures { IfOk result (λ found.
-        IsFirstUnsupported (format_rows [] formats.now) (found_row found)) }
+    ensures { IfOk result (λ found. IsFirstFormat formats.now (found_row found)) }
 {
     let mut names = BTreeSet::new(alloc);
     let mut types = BTreeMap::new(alloc);

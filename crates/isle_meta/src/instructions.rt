@@ -6,7 +6,7 @@ ghost use Rattle.isle_meta.specs.declared.clif.Instruction.{Instruction as Instr
 ghost use Rattle.isle_meta.specs.InstructionRow as Row;
 ghost use Rattle.isle_meta.specs.Misfits.{TellsNames};
 ghost use Rattle.isle_numerics.specs.Definitions.{numeric_terms};
-ghost use Rattle.isle_meta.specs.Rows.{OfInstruction, instruction_rows, IsFirstUnsupported};
+ghost use Rattle.isle_meta.specs.ClifRows.{InstructionBreaks, IsFirstInstruction};
 ghost use Rattle.isle_meta.specs.TableNames.{is_among, repeats};
 ghost use Rattle.isle_meta.specs.Told.{found_row, Tells};
 
@@ -112,7 +112,7 @@ fn instruction_faults(
     named: NameFaults,
 ) -> Result<Faults, AllocError>
     ensures { (before : List InstructionOf) → TellsNames named before instruction.now
-        → IfOk result (λ faults. Tells faults (OfInstruction formats.now before instruction.now)) }
+        → IfOk result (λ faults. Tells faults (InstructionBreaks formats.now before instruction.now)) }
 {
     let misfits = misfits_among(alloc, formats, instruction)?;
     Ok(Faults {
@@ -142,7 +142,7 @@ fn unsupported_among<'t>(
 ) -> Result<Option<(&'t str, Shape)>, AllocError>
     requires { HasNames numeric_terms numeric.now }
     ensures { IfOk result (λ found.
-        IsFirstUnsupported (instruction_rows formats.now [] instructions.now) (found_row found)) }
+        IsFirstInstruction formats.now instructions.now (found_row found)) }
 {
     let mut names = BTreeSet::new(alloc);
     let mut camels = BTreeSet::new(alloc);
@@ -164,7 +164,7 @@ pub fn unsupported_instruction<'t>(
     instructions: &'t [Instruction],
 ) -> Result<Option<(&'t str, Shape)>, AllocError>
     ensures { IfOk result (λ found.
-        IsFirstUnsupported (instruction_rows formats.now [] instructions.now) (found_row found)) }
+        IsFirstInstruction formats.now instructions.now (found_row found)) }
 {
     let terms = numeric_names(alloc)?;
     let numeric = name_set(alloc, terms.as_slice())?;

@@ -1,5 +1,5 @@
-//! Records of instruction tables, a formatter of generated texts, and the check that says which row of a table isn't
-//! supported.
+//! Records of instruction tables, a formatter of generated texts, and the search for the first format or instruction
+//! that isn't supported.
 #![tactic(auto)]
 
 mod check;
@@ -21,14 +21,16 @@ mod repeats;
 mod shapes;
 mod tables;
 
-pub use check::{check_tables, refused};
+pub use check::checked;
 pub use clif::{ClifOperand, ImmField, Instruction, InstructionFormat, OperandClass};
 pub use errors::{GenError, TableFail, Unsupported};
+pub use formats::unsupported_format;
 pub use formatter::{Formatter, Language};
+pub use instructions::unsupported_instruction;
 pub use kept_names::are_all_identifiers;
 pub use layout::joined;
 pub use machine::{Alternate, Inst, Mutability, Operand, OperandKind, RegClass};
 pub use pulley::PulleyInst;
-pub use repeats::has_repeat;
+pub use repeats::{has_repeat, has_repeated_term};
 pub use shapes::Shape;
 pub use tables::Tables;

@@ -1,7 +1,7 @@
 use Rattle.isle_meta.proofs.FormatLaws.{formats_on, formats_out}
 use Rattle.isle_meta.proofs.FirstLaws.{no_shape_told}
 use Rattle.std.proofs.Common.{ℕ, List, [], take, subst, sym, Some}
-use Rattle.isle_meta.specs.Rows.{format_rows, IsFirstUnsupported}
+use Rattle.isle_meta.specs.ClifRows.{IsFirstFormat}
 use Rattle.isle_meta.proofs.formats.unsupported_format.Goals as goal
 
 pub returns-in-Some : goal.returns-in-Some
@@ -9,7 +9,7 @@ returns-in-Some c =
     let s = c.loop-format.invariant in
     let h = formats_out c.args.formats.now c.loop-format.format-index c.format-item.result c.in_ok-faults.faults c.in-Some.shape c.loop-format.names c.loop-format.types c.loop-format-test.true c.format-item.is
     (c.in_ok-faults.ensures.told _ s.known s.shaped) c.in-Some.ensures s in
-    subst (λ (name : List ℕ). IsFirstUnsupported (format_rows [] c.args.formats.now) (Some (record { row = name; shape = c.in-Some.shape }))) (sym c.as_str.ensures) h
+    subst (λ (name : List ℕ). IsFirstFormat c.args.formats.now (Some (record { row = name; shape = c.in-Some.shape }))) (sym c.as_str.ensures) h
 
 pub loop-format-preserved : goal.loop-format-preserved
 loop-format-preserved c =

@@ -1,5 +1,5 @@
 use Rattle.std.proofs.Common.{ℕ, List, [], take, subst, sym, Some}
-use Rattle.isle_meta.specs.Rows.{instruction_rows, IsFirstUnsupported}
+use Rattle.isle_meta.specs.ClifRows.{IsFirstInstruction}
 use Rattle.isle_meta.proofs.InstructionLaws.{instructions_on, instructions_out}
 use Rattle.isle_meta.proofs.instructions.unsupported_among.Goals as goal
 
@@ -9,7 +9,7 @@ returns-in-Some c =
     let before = take c.loop-instruction.instruction-index c.args.instructions.now in
     let h = instructions_out c.args.formats.now c.args.instructions.now c.loop-instruction.instruction-index c.instruction-item.result c.in_ok-faults.faults c.in-Some.shape c.loop-instruction.names c.loop-instruction.camels
     c.loop-instruction-test.true c.instruction-item.is (c.in_ok-faults.ensures before (c.in_ok-named.ensures.told before s.known s.cased)) c.in-Some.ensures s in
-    subst (λ (name : List ℕ). IsFirstUnsupported (instruction_rows c.args.formats.now [] c.args.instructions.now) (Some (record { row = name; shape = c.in-Some.shape }))) (sym c.as_str.ensures) h
+    subst (λ (name : List ℕ). IsFirstInstruction c.args.formats.now c.args.instructions.now (Some (record { row = name; shape = c.in-Some.shape }))) (sym c.as_str.ensures) h
 
 pub loop-instruction-preserved : goal.loop-instruction-preserved
 loop-instruction-preserved c =
