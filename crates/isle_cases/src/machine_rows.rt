@@ -95,17 +95,19 @@ pub fn inst(words: &mut Words<'_>) -> Result<Inst, Slip> {
     Ok(inst)
 }
 
-// Words by single blanks, up to the end of their list.
+// Words by single blanks, up to the end of their list; `_` is an empty one.
 fn joined(words: &mut Words<'_>) -> Result<String, Slip> {
     let mut text = String::new(words.alloc);
-    for _ in 0..words.len() {
+    for k in 0..words.len() {
         if words.takes(")") {
             break;
         }
-        if !text.is_empty() {
+        if k > 0 {
             text.push_str(" ")?;
         }
-        text.push_str(words.take())?;
+        if !words.takes("_") {
+            text.push_str(words.take())?;
+        }
     }
     Ok(text)
 }

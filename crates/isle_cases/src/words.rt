@@ -60,9 +60,11 @@ impl<'t> Words<'t> {
         }
     }
 
-    /// Takes a word as a text.
+    /// Takes a word as a text; `''` is an empty one.
     pub fn text(&mut self) -> Result<Text, Slip> {
-        Ok(Text::copied(self.alloc, self.take())?)
+        let word = self.take();
+        let text = if word == "''" { "" } else { word };
+        Ok(Text::copied(self.alloc, text)?)
     }
 
     /// Takes the number of a list that begins with this word.
