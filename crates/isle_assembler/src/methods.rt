@@ -119,7 +119,6 @@ fn push_let_lines(text: &mut String, operands: &[Operand]) -> Result<(), AllocEr
 }
 
 // Appends the assembler's instruction.
-#[tactic(auto, unfolding(crate::specs::Methods::inst_line))]
 fn push_inst_line(text: &mut String, inst: &Inst) -> Result<(), AllocError>
     ensures { OnOk result (string_bytes text.new ≡ string_bytes text.old ++ inst_line inst.now) }
 {
@@ -135,7 +134,7 @@ fn push_inst_line(text: &mut String, inst: &Inst) -> Result<(), AllocError>
         ],
     )?;
     push_arguments(text, inst)?;
-    text.push_str(").into();\n")
+    push_piece(text, ").into();\n")
 }
 
 // Appends the instruction of the compiler around it.

@@ -133,7 +133,6 @@ fn push_choice_head(
 }
 
 // Appends the rule that takes the alternate.
-#[tactic(auto, unfolding(crate::specs::RuleTexts::alternate_rule_text))]
 fn push_alternate_rule(
     text: &mut String,
     inst: &Inst,
