@@ -4,6 +4,4 @@ pub mod WordLaws
 pub mod TypeWords
 pub mod HeadWritable
 pub mod RulesWritable
-pub mod RepeatedTerms
-pub mod RowLaws
 pub mod RulesSpelt

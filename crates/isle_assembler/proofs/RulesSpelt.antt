@@ -1,19 +1,19 @@
 -- The rules' text of supported instructions spells their definitions and no others.
 use Rattle.std.proofs.Common.{◌≡◌, ℕ, List, [], ◌∷◌, Bool, true, false, Option, Some, None, refl, ◌∙◌, flat_map}
 use Rattle.std.specs.Prelude.{if◌then◌else◌}
-use Rattle.isle_assembler.specs.declared.constructor.Constructor.{Constructor}
+use Rattle.isle_assembler_rows.specs.declared.constructor.Constructor.{Constructor}
 use Rattle.isle_meta.specs.declared.machine.Alternate.{Alternate}
 use Rattle.isle_meta.specs.declared.machine.Inst.{Inst}
 use Rattle.isle_writing.specs.Spelt.{declare_flag}
 use Rattle.isle_writing.proofs.Joined.{no_flag_each, no_flag_joined}
 use Rattle.isle_writing.proofs.WrittenLaw.{written_spelt}
 use Rattle.isle_assembler.specs.AssemblerDefs.{assembler_defs, choice_defs, constructor_defs, raw_decl, raw_maker, row_defs}
-use Rattle.isle_assembler.specs.AssemblerRows.{IsFirstUnsupported}
-use Rattle.isle_assembler.specs.Constructors.{constructors}
+use Rattle.isle_assembler_rows.specs.AssemblerRows.{IsFirstUnsupported}
+use Rattle.isle_assembler_rows.specs.Constructors.{constructors}
 use Rattle.isle_assembler.specs.Generated.{IsRuleText}
 use Rattle.isle_assembler.specs.HeadDefs.{head_defs}
 use Rattle.isle_assembler.specs.RuleTexts.{rule_text}
-use Rattle.isle_assembler.specs.TermNames.{is_left_out}
+use Rattle.isle_assembler_rows.specs.TermNames.{is_left_out}
 use Rattle.isle_assembler.proofs.RulesWritable.{assembler_writable}
 use Rattle.isle_assembler.proofs.TextLaws.{rules_are}
 

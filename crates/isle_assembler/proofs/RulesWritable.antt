@@ -5,28 +5,28 @@ use Rattle.std.specs.List.{AllByRecursion}
 use Rattle.isle_ast.specs.Tree.{Def, Expr}
 use Rattle.isle_ast.specs.Tree as tree
 use Rattle.isle_ast.specs.Views.{exprs_of, patterns_of}
-use Rattle.isle_assembler.specs.declared.constructor.Constructor.{Constructor}
+use Rattle.isle_assembler_rows.specs.declared.constructor.Constructor.{Constructor}
 use Rattle.isle_assembler.specs.declared.signature.Signature.{Signature}
 use Rattle.isle_assembler.specs.declared.signature.Signature.TheVariants.{Raw, Made}
 use Rattle.isle_meta.specs.declared.machine.Alternate.{Alternate}
 use Rattle.isle_meta.specs.declared.machine.Inst.{Inst}
 use Rattle.isle_meta.specs.declared.machine.Operand.{Operand}
 use Rattle.isle_meta.specs.declared.shapes.Shape.{Shape}
-use Rattle.isle_meta.specs.Rows.{shapes}
+use Rattle.isle_meta.specs.FirstRow.{shapes}
 use Rattle.isle_spelling.specs.Identifier.{IsIdentifier}
 use Rattle.isle_writing.specs.Height.{exprs_height, expr_height, patterns_height}
 use Rattle.isle_writing.specs.Writable.{AreExprs, ArePatterns, AreWritable, IsExpr, IsPlain, IsWritable}
 use Rattle.isle_writing.proofs.Joined.{writable_each, writable_joined}
 use Rattle.isle_writing.proofs.Names.{plain_joined}
 use Rattle.isle_assembler.specs.AssemblerDefs.{assembler_defs, choice_defs, choice_signature, constructor_defs, handed, made_decl, made_rule, raw_decl, raw_maker, row_defs}
-use Rattle.isle_assembler.specs.AssemblerRow.{alternate_names, row_names}
-use Rattle.isle_assembler.specs.AssemblerRows.{AssemblerBreaks, IsFirstShape, IsFirstUnsupported, unsupported}
-use Rattle.isle_assembler.specs.Constructors.{constructors, suffix, temporary}
+use Rattle.isle_assembler_rows.specs.AssemblerRow.{alternate_names, row_names}
+use Rattle.isle_assembler_rows.specs.AssemblerRows.{AssemblerBreaks, IsFirstShape, IsFirstUnsupported, unsupported}
+use Rattle.isle_assembler_rows.specs.Constructors.{constructors, suffix, temporary}
 use Rattle.isle_assembler.specs.Declaring.{call_on, named, variables}
 use Rattle.isle_assembler.specs.HeadDefs.{head_defs}
-use Rattle.isle_assembler.specs.Operands.{locations, raw_operands}
-use Rattle.isle_assembler.specs.Signatures.{is_param, param_names, taken, takes, trap_names}
-use Rattle.isle_assembler.specs.TermNames.{choice_term, is_left_out, made_term, raw_term}
+use Rattle.isle_assembler_rows.specs.Operands.{locations, raw_operands, trap_names}
+use Rattle.isle_assembler.specs.Signatures.{is_param, param_names, taken, takes}
+use Rattle.isle_assembler_rows.specs.TermNames.{choice_term, is_left_out, made_term, raw_term}
 use Rattle.isle_assembler.proofs.HeadWritable.{head_writable}
 use Rattle.isle_assembler.proofs.TypeWords.{conversion_term, outputs_named, param_types_named, result_named, suffix_plain, temporary_term}
 use Rattle.isle_assembler.proofs.WordLaws.{IsTerm, feature_term, identifier_name, identifier_plain, identifier_variable, stable_identifiers, x64_term}

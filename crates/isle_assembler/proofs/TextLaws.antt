@@ -5,7 +5,7 @@ use Rattle.std.specs.List.{flat_map}
 use Rattle.isle_ast.specs.Tree.{Def, Expr}
 use Rattle.isle_ast.specs.Tree as tree
 use Rattle.isle_ast.specs.Views.{exprs_of, patterns_of}
-use Rattle.isle_assembler.specs.declared.constructor.Constructor.{Constructor}
+use Rattle.isle_assembler_rows.specs.declared.constructor.Constructor.{Constructor}
 use Rattle.isle_assembler.specs.declared.signature.Signature.{Signature}
 use Rattle.isle_assembler.specs.declared.signature.Signature.TheVariants.{Raw, Made}
 use Rattle.isle_meta.specs.declared.machine.Alternate.{Alternate}
@@ -15,14 +15,14 @@ use Rattle.isle_printer.specs.Number.{numeral}
 use Rattle.isle_writing.specs.Text.{def_text, def_texts, expr_text, exprs_text, patterns_text, spaced}
 use Rattle.isle_writing.proofs.WrittenLaw.{texts_joined}
 use Rattle.isle_assembler.specs.AssemblerDefs.{alternate_rule, all_handed, assembler_defs, choice_decl, choice_defs, choice_signature, constructor_defs, handed, made_decl, made_rule, raw_decl, raw_maker, row_defs, usual_rule}
-use Rattle.isle_assembler.specs.Constructors.{constructors, conversion, result_type, temporary}
+use Rattle.isle_assembler_rows.specs.Constructors.{constructors, conversion, result_type, temporary}
 use Rattle.isle_assembler.specs.Declaring.{call_on, named, plain_decl, variables}
 use Rattle.isle_assembler.specs.HeadDefs.{head_defs}
 use Rattle.isle_assembler.specs.Methods.{separated}
-use Rattle.isle_assembler.specs.Operands.{locations, raw_operands}
+use Rattle.isle_assembler_rows.specs.Operands.{locations, raw_operands, trap_names}
 use Rattle.isle_assembler.specs.RuleTexts.{all_handed_text, alternate_rule_text, call_text, choice_decl_text, choice_head_text, choice_text, constructor_text, defer_text, emit_text, handed_text, head_text, made_decl_text, made_rule_text, names_text, outputs_text, params_text, raw_text, row_text, rule_text, signature_text, temporary_text, types_text, usual_rule_text}
-use Rattle.isle_assembler.specs.Signatures.{is_param, param_names, param_types, taken, trap_names}
-use Rattle.isle_assembler.specs.TermNames.{choice_term, is_left_out, made_term, raw_term}
+use Rattle.isle_assembler.specs.Signatures.{is_param, param_names, param_types, taken}
+use Rattle.isle_assembler_rows.specs.TermNames.{choice_term, is_left_out, made_term, raw_term}
 
 -- ---- names and types
 

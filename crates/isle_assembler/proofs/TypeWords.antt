@@ -1,8 +1,8 @@
 -- The types of operands, and the terms of constructors, as words of rule texts.
 use Rattle.std.proofs.Common.{ℕ, List, [], ◌∷◌, ◌++◌, map, Bool, true, false, refl, arith, codes}
 use Rattle.std.specs.Prelude.{◌&&◌, if◌then◌else◌}
-use Rattle.isle_assembler.specs.declared.constructor.Constructor.{Constructor}
-use Rattle.isle_assembler.specs.declared.constructor.Constructor.TheVariants.{RetMemorySideEffect, NoReturnSideEffect, RetGpr, RetXmm, RetValueRegs, ProducesFlagsSideEffect, ConsumesFlagsReturnsGpr}
+use Rattle.isle_assembler_rows.specs.declared.constructor.Constructor.{Constructor}
+use Rattle.isle_assembler_rows.specs.declared.constructor.Constructor.TheVariants.{RetMemorySideEffect, NoReturnSideEffect, RetGpr, RetXmm, RetValueRegs, ProducesFlagsSideEffect, ConsumesFlagsReturnsGpr}
 use Rattle.isle_assembler.specs.declared.signature.Signature.{Signature}
 use Rattle.isle_assembler.specs.declared.signature.Signature.TheVariants.{Raw, Made, Unaligned}
 use Rattle.isle_meta.specs.declared.machine.Inst.{Inst}
@@ -14,7 +14,7 @@ use Rattle.isle_meta.specs.declared.machine.RegClass.TheVariants.{Gpr, Xmm}
 use Rattle.isle_printer.specs.Number.{numeral}
 use Rattle.isle_writing.specs.Writable.{AreNames, IsPlain, NamesOne}
 use Rattle.isle_writing.proofs.Names.{names_one, numeral_plain, plain_joined, word_joined}
-use Rattle.isle_assembler.specs.Constructors.{conversion, is_in_memory, place_type, result_type, suffix, temporary}
+use Rattle.isle_assembler_rows.specs.Constructors.{conversion, is_in_memory, place_type, result_type, suffix, temporary}
 use Rattle.isle_assembler.specs.Signatures.{class_name, operand_type, param_types, taken, trap_types, type_by, type_in}
 use Rattle.isle_assembler.proofs.WordLaws.{IsTerm, term_from}
 

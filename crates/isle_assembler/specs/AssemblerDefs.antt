@@ -6,18 +6,18 @@ use Rattle.isle_ast.specs.Tree.{Def, Expr, IfLet}
 use Rattle.isle_ast.specs.Tree as tree
 use Rattle.isle_ast.specs.Views.{exprs_of}
 use Rattle.isle_writing.specs.Erased.{no_place}
-use Rattle.isle_assembler.specs.declared.constructor.Constructor.{Constructor}
+use Rattle.isle_assembler_rows.specs.declared.constructor.Constructor.{Constructor}
 use Rattle.isle_assembler.specs.declared.signature.Signature.{Signature}
 use Rattle.isle_assembler.specs.declared.signature.Signature.TheVariants.{Raw, Made, Unaligned}
 use Rattle.isle_meta.specs.declared.machine.Alternate.{Alternate}
 use Rattle.isle_meta.specs.declared.machine.Inst.{Inst}
 use Rattle.isle_meta.specs.declared.machine.Operand.{Operand}
-use Rattle.isle_assembler.specs.Constructors.{constructors, conversion, result_type, temporary}
+use Rattle.isle_assembler_rows.specs.Constructors.{constructors, conversion, result_type, temporary}
 use Rattle.isle_assembler.specs.Declaring.{call_on, made_by_itself, named, plain_decl, plain_rule, variables}
 use Rattle.isle_assembler.specs.HeadDefs.{head_defs}
-use Rattle.isle_assembler.specs.Operands.{raw_operands}
-use Rattle.isle_assembler.specs.Signatures.{is_param, param_names, param_types, trap_names}
-use Rattle.isle_assembler.specs.TermNames.{choice_term, is_left_out, made_term, raw_term}
+use Rattle.isle_assembler_rows.specs.Operands.{raw_operands, trap_names}
+use Rattle.isle_assembler.specs.Signatures.{is_param, param_names, param_types}
+use Rattle.isle_assembler_rows.specs.TermNames.{choice_term, is_left_out, made_term, raw_term}
 
 -- ---- the raw term
 

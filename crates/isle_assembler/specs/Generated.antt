@@ -7,7 +7,7 @@ use Rattle.isle_meta.specs.Layout.{Layout, followed_by}
 use Rattle.isle_writing.specs.Spelt.{SpellsOnly}
 use Rattle.isle_writing.specs.Text.{def_texts}
 use Rattle.isle_assembler.specs.AssemblerDefs.{assembler_defs}
-use Rattle.isle_assembler.specs.AssemblerRows.{IsFirstUnsupported}
+use Rattle.isle_assembler_rows.specs.AssemblerRows.{IsFirstUnsupported}
 use Rattle.isle_assembler.specs.Methods.{assembler_methods}
 
 -- each instruction is supported, and the text is that of their rules, which spells these definitions and no others

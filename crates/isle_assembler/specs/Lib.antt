@@ -1,16 +1,9 @@
-pub mod Operands
-pub mod Constructors
 pub mod Signatures
-pub mod TermNames
 pub mod Declaring
 pub mod HeadDefs
 pub mod AssemblerDefs
 pub mod Conversions
 pub mod Returns
 pub mod Methods
-pub mod AssemblerRow
-pub mod AssemblerRows
-pub mod Checked
 pub mod Generated
 pub mod RuleTexts
-pub mod Told

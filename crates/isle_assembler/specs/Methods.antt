@@ -4,10 +4,10 @@ use Rattle.std.specs.List.{flat_map}
 use Rattle.isle_meta.specs.declared.machine.Inst.{Inst}
 use Rattle.isle_meta.specs.declared.machine.Operand.{Operand}
 use Rattle.isle_assembler.specs.Conversions.{assembler, converted}
-use Rattle.isle_assembler.specs.Operands.{may_be_memory, raw_operands}
+use Rattle.isle_assembler_rows.specs.Operands.{may_be_memory, raw_operands}
 use Rattle.isle_assembler.specs.Returns.{given}
 use Rattle.isle_assembler.specs.Signatures.{operand_type}
-use Rattle.isle_assembler.specs.TermNames.{is_left_out, raw_term}
+use Rattle.isle_assembler_rows.specs.TermNames.{is_left_out, raw_term}
 
 -- ---- lists with something between
 

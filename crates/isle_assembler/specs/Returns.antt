@@ -9,7 +9,7 @@ use Rattle.isle_meta.specs.declared.machine.OperandKind.TheVariants.{Imm, Reg, F
 use Rattle.isle_meta.specs.declared.machine.RegClass.{RegClass}
 use Rattle.isle_meta.specs.declared.machine.RegClass.TheVariants.{Gpr}
 use Rattle.isle_assembler.specs.Conversions.{assembler, class_word}
-use Rattle.isle_assembler.specs.Operands.{is_register, written_operands}
+use Rattle.isle_assembler_rows.specs.Operands.{is_register, written_operands}
 use Rattle.isle_assembler.specs.Signatures.{class_name}
 
 -- how the register of an operand is reached, by what is done with this operand; one that is only read gives none

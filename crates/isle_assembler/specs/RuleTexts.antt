@@ -1,18 +1,18 @@
 -- The rules' text of an assembler as the code writes it, piece by piece. That it is the text of its definitions is a law.
 use Rattle.std.specs.Prelude.{ℕ, List, [], ◌++◌, true, Option, Some, None, if◌then◌else◌, codes}
 use Rattle.std.specs.List.{flat_map}
-use Rattle.isle_assembler.specs.declared.constructor.Constructor.{Constructor}
+use Rattle.isle_assembler_rows.specs.declared.constructor.Constructor.{Constructor}
 use Rattle.isle_assembler.specs.declared.signature.Signature.{Signature}
 use Rattle.isle_assembler.specs.declared.signature.Signature.TheVariants.{Raw, Made}
 use Rattle.isle_meta.specs.declared.machine.Alternate.{Alternate}
 use Rattle.isle_meta.specs.declared.machine.Inst.{Inst}
 use Rattle.isle_meta.specs.declared.machine.Operand.{Operand}
 use Rattle.isle_assembler.specs.AssemblerDefs.{choice_signature}
-use Rattle.isle_assembler.specs.Constructors.{constructors, conversion, result_type, temporary}
+use Rattle.isle_assembler_rows.specs.Constructors.{constructors, conversion, result_type, temporary}
 use Rattle.isle_assembler.specs.Methods.{separated}
-use Rattle.isle_assembler.specs.Operands.{locations, raw_operands}
-use Rattle.isle_assembler.specs.Signatures.{is_param, param_types, taken, trap_names}
-use Rattle.isle_assembler.specs.TermNames.{choice_term, is_left_out, made_term, raw_term}
+use Rattle.isle_assembler_rows.specs.Operands.{locations, raw_operands, trap_names}
+use Rattle.isle_assembler.specs.Signatures.{is_param, param_types, taken}
+use Rattle.isle_assembler_rows.specs.TermNames.{choice_term, is_left_out, made_term, raw_term}
 
 -- ---- parameters
 

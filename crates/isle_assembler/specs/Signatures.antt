@@ -1,6 +1,6 @@
 -- The parameters of an instruction's terms, and their types in rules.
 use Rattle.std.specs.Prelude.{ℕ, List, [], ◌∷◌, ◌++◌, Bool, true, false, ◌&&◌, ◌||◌, map, filter, if◌then◌else◌, codes}
-use Rattle.isle_assembler.specs.declared.constructor.Constructor.{Constructor}
+use Rattle.isle_assembler_rows.specs.declared.constructor.Constructor.{Constructor}
 use Rattle.isle_assembler.specs.declared.signature.Signature.{Signature}
 use Rattle.isle_assembler.specs.declared.signature.Signature.TheVariants.{Raw, Made, Unaligned}
 use Rattle.isle_meta.specs.declared.machine.Inst.{Inst}
@@ -10,8 +10,8 @@ use Rattle.isle_meta.specs.declared.machine.OperandKind.TheVariants.{Imm, Reg, F
 use Rattle.isle_meta.specs.declared.machine.RegClass.{RegClass}
 use Rattle.isle_meta.specs.declared.machine.RegClass.TheVariants.{Gpr, Xmm}
 use Rattle.isle_printer.specs.Number.{numeral}
-use Rattle.isle_assembler.specs.Constructors.{is_in_memory, place_type}
-use Rattle.isle_assembler.specs.Operands.{is_raw, is_read, is_reg_mem, is_written, locations}
+use Rattle.isle_assembler_rows.specs.Constructors.{is_in_memory, place_type}
+use Rattle.isle_assembler_rows.specs.Operands.{is_raw, is_read, is_reg_mem, is_written, locations, trap_names}
 
 -- ---- types of operands
 
@@ -76,12 +76,7 @@ type_in Raw o = operand_type true o
 type_in (Made c) o = param_type c true o
 type_in (Unaligned c) o = param_type c false o
 
--- the name of the trap's code, of an instruction that may trap
-abbrev pub trap_names : (has_trap : Bool) → List (List ℕ)
-trap_names true = codes "trap" ∷ []
-trap_names false = []
-
--- its type
+-- the type of the trap's code, of an instruction that may trap
 abbrev pub trap_types : (has_trap : Bool) → List (List ℕ)
 trap_types true = codes "TrapCode" ∷ []
 trap_types false = []

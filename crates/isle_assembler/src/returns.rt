@@ -1,15 +1,15 @@
 //! What a method of the macro gives.
 
-ghost use Rattle.std.specs.Prelude.{◌≡◌, ◌++◌, OnOk, string_bytes};
-ghost use Rattle.isle_assembler.specs.Operands.{lent};
+ghost use Rattle.std.specs.Prelude.{◌≡◌, ◌++◌, IfOk, OnOk, string_bytes};
+ghost use Rattle.isle_assembler_rows.specs.Operands.{lent};
 ghost use Rattle.isle_assembler.specs.Returns.{arm_begin, bound_of_two, bound_register, class_of, given, given_among, given_by};
-ghost use Rattle.isle_assembler.specs.Returns.{given_elsewhere, one_place, one_register, reached, side_effect};
+ghost use Rattle.isle_assembler.specs.Returns.{given_elsewhere, one_place, one_register, reached, registers, side_effect};
 ghost use Rattle.isle_assembler.specs.Returns.{memory_arm, register_arm, two_registers, with_register};
 
 use crate::conversions::{assembler, class_word};
-use crate::operands::{registers, written};
 use crate::pieces::push_piece;
 use crate::signature::class_name;
+use isle_assembler_rows::{is_register, written};
 use isle_meta::{Inst, Mutability, Operand, OperandKind, RegClass};
 use std::alloc::{AllocError, Global};
 
@@ -204,6 +204,22 @@ fn push_given_among(
         [x] => push_one_register(text, x),
         [x, y, ..] => push_two_registers(text, x, y),
     }
+}
+
+// The registers among operands.
+fn registers<'t>(
+    alloc: Global,
+    operands: &[&'t Operand],
+) -> Result<Vec<&'t Operand>, AllocError>
+    ensures { IfOk result (λ found. lent found.items ≡ registers (lent operands.now)) }
+{
+    let mut found = Vec::new(alloc);
+    for operand in operands {
+        if is_register(operand.kind) {
+            found.push(*operand)?;
+        }
+    }
+    Ok(found)
 }
 
 /// Appends what a method gives. The only error is want of memory.

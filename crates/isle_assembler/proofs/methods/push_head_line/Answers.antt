@@ -1,6 +1,6 @@
 use Rattle.std.proofs.Common.{◌≡◌, ◌++◌, ◌∙◌, ap, subst, OnOk, codes, string_bytes}
 use Rattle.isle_assembler.specs.Methods.{head_line, listed, params}
-use Rattle.isle_assembler.specs.TermNames.{raw_term}
+use Rattle.isle_assembler_rows.specs.TermNames.{raw_term}
 use Rattle.isle_assembler.proofs.Appended.{more}
 use Rattle.isle_assembler.proofs.methods.push_head_line.Goals as goal
 

@@ -1,7 +1,7 @@
 use Rattle.std.proofs.Common.{◌≡◌, ◌++◌, drop, map, true, string_bytes, codes}
 use Rattle.std.specs.Prelude.{filter}
 use Rattle.isle_assembler.specs.Methods.{param, separated, trap_params}
-use Rattle.isle_assembler.specs.Operands.{is_raw}
+use Rattle.isle_assembler_rows.specs.Operands.{is_raw}
 use Rattle.isle_assembler.proofs.methods.push_params.Given as goal
 
 abbrev pub invariant-loop-operand : goal.invariant-loop-operand

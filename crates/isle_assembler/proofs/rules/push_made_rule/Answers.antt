@@ -1,8 +1,8 @@
 use Rattle.std.proofs.Common.{◌≡◌, ◌++◌, ◌∙◌, ap, subst, OnOk, codes, string_bytes}
 use Rattle.isle_assembler.specs.declared.signature.Signature.TheVariants.{Made}
-use Rattle.isle_assembler.specs.Constructors.{conversion}
+use Rattle.isle_assembler_rows.specs.Constructors.{conversion}
 use Rattle.isle_assembler.specs.RuleTexts.{all_handed_text, made_rule_text, params_text}
-use Rattle.isle_assembler.specs.TermNames.{made_term, raw_term}
+use Rattle.isle_assembler_rows.specs.TermNames.{made_term, raw_term}
 use Rattle.isle_assembler.proofs.Appended.{more}
 use Rattle.isle_assembler.proofs.rules.push_made_rule.Goals as goal
 

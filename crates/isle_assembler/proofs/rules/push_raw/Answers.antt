@@ -1,7 +1,7 @@
 use Rattle.std.proofs.Common.{◌≡◌, ◌++◌, ◌∙◌, ap, subst, OnOk, codes, string_bytes}
 use Rattle.isle_assembler.specs.declared.signature.Signature.TheVariants.{Raw}
 use Rattle.isle_assembler.specs.RuleTexts.{raw_text, signature_text}
-use Rattle.isle_assembler.specs.TermNames.{raw_term}
+use Rattle.isle_assembler_rows.specs.TermNames.{raw_term}
 use Rattle.isle_assembler.proofs.Appended.{more}
 use Rattle.isle_assembler.proofs.rules.push_raw.Goals as goal
 

@@ -1,6 +1,6 @@
 use Rattle.std.proofs.Common.{◌≡◌, ◌++◌, take, string_bytes}
 use Rattle.std.specs.Prelude.{filter}
-use Rattle.isle_assembler.specs.Operands.{locations}
+use Rattle.isle_assembler_rows.specs.Operands.{locations}
 use Rattle.isle_assembler.specs.RuleTexts.{names_text}
 use Rattle.isle_assembler.specs.Signatures.{takes}
 use Rattle.isle_assembler.proofs.signature.push_operands.Given as goal

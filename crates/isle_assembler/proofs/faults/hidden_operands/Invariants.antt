@@ -1,8 +1,0 @@
-use Rattle.std.proofs.Common.{◌≡◌, take}
-use Rattle.std.specs.Prelude.{filter}
-use Rattle.isle_assembler.specs.AssemblerRow.{is_hidden}
-use Rattle.isle_assembler.specs.Operands.{lent}
-use Rattle.isle_assembler.proofs.faults.hidden_operands.Given as goal
-
-abbrev pub invariant-loop-operand : goal.invariant-loop-operand
-invariant-loop-operand l = lent l.found.items ≡ filter is_hidden (take l.operand-index l.operands)
