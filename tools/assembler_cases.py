@@ -1,17 +1,10 @@
 #!/usr/bin/env python3
-"""Prints what the two texts of an assembler should hold for rows of all kinds, and compares given texts with it.
+"""Prints cases of the two texts of an assembler, over rows of all kinds and over rows that aren't supported.
 
-    tools/assembler_cases.py rules             the rules, one definition a line
-    tools/assembler_cases.py methods           the tokens of the Rust text, one method a line
-    tools/assembler_cases.py rows              the rows, one a line
-    tools/assembler_cases.py program           Rattle code that makes the rows
-    tools/assembler_cases.py compare FILE      FILE holds the rules, a line `====`, and the Rust text
+    tools/assembler_cases.py > crates/isle_cases/data/prelude_assembler.cases
 
-What is wanted is worked out here from the tables of the assembler's terms alone, apart from the code.
+What is wanted is worked out here from the tables of the assembler's terms alone, by the rules that `docs/LANGUAGE.md` tells.
 """
-import re
-import sys
-
 LIBRARY = "cranelift_assembler_x64"
 
 
@@ -40,6 +33,11 @@ class Op:
             return f"{self.cls}Mem{'Aligned' if self.align and aligned else ''}{self.bits}"
         return self.cls
 
+    def row(self):
+        cls = self.cls.lower()
+        kind = {"imm": "imm", "mem": "mem", "reg": cls, "fixed": f"fixed-{cls}", "regmem": f"{cls}-mem"}[self.kind]
+        return f"({self.location} {self.bits} {kind} {self.how}{' signed' if self.signed else ''}{' align' if self.align else ''})"
+
     def rust(self):
         return ("&" if self.kind in ("regmem", "mem") else "") + self.type()
 
@@ -48,6 +46,12 @@ class Row:
     def __init__(self, name, ops, reads=False, writes=False, trap=False, alternate=None, mnemonic="op"):
         self.name, self.ops, self.reads, self.writes = name, ops, reads, writes
         self.trap, self.alternate, self.mnemonic = trap, alternate, mnemonic
+
+    def row(self):
+        says = [word for word, stands in (("reads", self.reads), ("writes", self.writes), ("trap", self.trap)) if stands]
+        if self.alternate:
+            says.append("(alt {} {})".format(*self.alternate))
+        return f"(x64 {' '.join([self.mnemonic, self.name, '(' + ' '.join(op.row() for op in self.ops) + ')', *says])})"
 
 
 # ---- the rows
@@ -73,13 +77,18 @@ def imm(location, bits, signed=False):
     return Op(location, bits, "imm", "r", signed=signed)
 
 
-def rows():
+def groups():
+    """Rows by what they write."""
     found = []
 
-    def row(*words, **named):
-        found.append(Row(f"r{len(found)}", list(words), **named))
+    def group(name):
+        found.append((name, []))
 
-    # nothing is written
+    def row(*words, **named):
+        rows = found[-1][1]
+        rows.append(Row(f"r{len(rows)}", list(words), **named))
+
+    group("nothing is written")
     row()
     row(writes=True)
     row(reads=True)
@@ -89,7 +98,7 @@ def rows():
     row(regmem("a", "r"), imm("i", 32, True), writes=True, trap=True)
     row(mem("m", "r"))
     row(fixed("a", "r"), fixed("b", "r", "Xmm"), imm("i", 16), imm("j", 64, True))
-    # a vector register
+    group("a vector register")
     row(reg("x", "w", "Xmm"), regmem("y", "r", "Xmm", 128, True))
     row(reg("x", "rw", "Xmm"), regmem("y", "r", "Xmm", 128, True), alternate=("vadd", "avx"))
     row(reg("x", "rw", "Xmm"), regmem("y", "r", "Xmm", 32), alternate=("vadd", "avx2"), trap=True)
@@ -97,7 +106,7 @@ def rows():
     row(fixed("x", "rw", "Xmm"), reg("y", "r", "Xmm"))
     row(reg("x", "w", "Xmm"), mem("m", "r", 128), alternate=("vmov", "avx"))
     row(reg("x", "w", "Xmm"), reg("a", "r"), writes=True)
-    # a general register
+    group("a general register")
     row(reg("a", "w"))
     row(reg("a", "rw"), imm("i", 8, True))
     row(reg("a", "w"), regmem("b", "r", bits=32), trap=True)
@@ -108,34 +117,34 @@ def rows():
     row(fixed("a", "rw"), imm("i", 32), reads=True, writes=True)
     row(reg("a", "w"), regmem("x", "r", "Xmm", 64, True), reads=True, alternate=("vread", "avx"))
     row(reg("a", "w"), mem("m", "r"), reads=True, trap=True)
-    # a place in memory
+    group("a place in memory")
     row(mem("m", "w"), reg("a", "r"))
     row(mem("m", "rw"), imm("i", 8))
     row(mem("m", "w", 128), reg("x", "r", "Xmm"), alternate=("vst", "avx"))
     row(mem("m", "rw"), reg("a", "r"), writes=True, trap=True)
-    # a vector register or a place in memory
+    group("a vector register or a place in memory")
     row(regmem("x", "w", "Xmm", 128), reg("y", "r", "Xmm"))
     row(regmem("x", "rw", "Xmm", 128, True), reg("y", "r", "Xmm"), alternate=("vst", "avx"))
     row(regmem("x", "w", "Xmm", 128, True), reg("y", "r", "Xmm"), alternate=("vst", "avx"), trap=True)
     row(regmem("x", "w", "Xmm", 64), reg("y", "r", "Xmm"), alternate=("vst", "avx512f"))
-    # a general register or a place in memory
+    group("a general register or a place in memory")
     row(regmem("a", "rw", bits=32), reg("b", "r", bits=32))
     row(regmem("a", "w", bits=8), reg("x", "r", "Xmm"), imm("i", 8), alternate=("vext", "avx"))
     row(regmem("a", "rw", bits=16, align=True), imm("i", 16), trap=True)
     row(regmem("a", "w", bits=8), reads=True)
     row(regmem("a", "rw", bits=8), reg("b", "r"), reads=True, trap=True)
     row(regmem("a", "rw", bits=64), reads=True, writes=True)
-    # two registers
+    group("two registers")
     row(reg("a", "w"), reg("b", "w"))
     row(reg("a", "rw"), fixed("b", "w"))
     row(fixed("a", "w"), reg("b", "rw", "Xmm"))
     row(fixed("a", "rw"), fixed("b", "rw"), regmem("c", "r"), trap=True)
     row(reg("x", "w", "Xmm"), reg("y", "rw", "Xmm"), alternate=("vtwo", "avx"))
-    # a general register, then a place in memory
+    group("a general register, then a place in memory")
     row(reg("a", "w"), mem("m", "rw"))
     row(reg("a", "rw"), mem("m", "rw"))
     row(reg("a", "rw"), mem("m", "rw"), writes=True, trap=True)
-    # what may be a place in memory, then a general register
+    group("what may be a place in memory, then a general register")
     row(mem("m", "rw"), reg("a", "w"))
     row(mem("m", "rw"), reg("a", "rw"), trap=True)
     row(mem("m", "rw"), fixed("a", "rw"))
@@ -144,11 +153,11 @@ def rows():
     row(regmem("b", "w", bits=32), reg("a", "rw"))
     row(regmem("x", "rw", "Xmm", 128, True), reg("a", "w"), alternate=("vboth", "avx"))
     row(regmem("x", "w", "Xmm", 128), fixed("a", "rw"))
-    # two fixed registers and a place in memory
+    group("two fixed registers and a place in memory")
     row(fixed("a", "rw"), fixed("b", "rw"), mem("m", "rw"))
     row(fixed("a", "w"), fixed("b", "rw"), mem("m", "rw"), fixed("c", "r"), fixed("d", "r"), trap=True)
     row(fixed("a", "rw", "Xmm"), fixed("b", "w"), mem("m", "rw"), alternate=("vthree", "sse"))
-    # rows that are left out
+    group("rows that are left out")
     row(reg("a", "r"), mnemonic="pushq")
     row(Op("i", 32, "imm", "w"), mnemonic="push")
     return found
@@ -297,74 +306,78 @@ def method(row):
             f"let inst = MInst::External {{ inst }}; {given(row)} }}")
 
 
-def macro():
-    methods = [method(row) for row in rows() if not left_out(row)]
+def macro(rows):
+    methods = [method(row) for row in rows if not left_out(row)]
     return ["#[doc(hidden)] macro_rules! isle_assembler_methods { () => {", *methods, "}; }"]
 
 
-# ---- what is printed and compared
+# ---- rows that aren't supported
+
+GOOD = Row("good", [reg("a", "rw"), regmem("b", "r")], alternate=None)
 
 
-def rule_tokens(text):
-    return re.findall(r"[()]|[^\s()]+", text)
+def refused():
+    """What is wrong, the rows before, the row, and its shape."""
+    def row(*words, name="bad", **named):
+        return Row(name, list(words), **named)
+
+    wide = regmem("x", "r", "Xmm", 128)
+    yield "a name that Rust keeps", [], row(name="loop"), "BadName"
+    yield "a name with a mark", [], row(name="a-b"), "BadName"
+    yield "a location that Rust keeps", [], row(reg("fn", "r")), "BadName"
+    yield "a location that begins with a digit", [], row(reg("8a", "r")), "BadName"
+    yield "an alternate's name", [], row(reg("x", "rw", "Xmm"), alternate=("v-add", "avx")), "BadName"
+    yield "an alternate's feature", [], row(reg("x", "rw", "Xmm"), alternate=("vadd", "type")), "BadName"
+    yield "a name of a row that is left out", [], row(name="a-b", mnemonic="push"), "BadName"
+    yield "one operand twice", [], row(reg("a", "r"), reg("a", "rw")), "RepeatedName"
+    yield "an operand that is named as the trap's code", [], row(reg("trap", "r"), trap=True), "RepeatedName"
+    yield "a name twice", [row(name="bad")], row(reg("a", "r")), "RepeatedName"
+    yield "a term in memory", [row(regmem("a", "rw"), name="bad")], row(name="bad_mem"), "RepeatedName"
+    yield "a raw term", [row()], row(name="bad_raw"), "RepeatedName"
+    yield "a term by a feature", [row(reg("x", "rw", "Xmm"), alternate=("vadd", "avx"))], row(name="bad_or_avx"), "RepeatedName"
+    yield "an immediate that is written", [], row(Op("i", 8, "imm", "w")), "WrittenImm"
+    yield "an immediate that is read and written", [], row(reg("a", "rw"), Op("i", 8, "imm", "rw")), "WrittenImm"
+    yield "a place in memory that is aligned", [], row(Op("m", 64, "mem", "r", align=True)), "AlignedMem"
+    yield "three registers are written", [], row(reg("a", "w"), reg("b", "w"), reg("c", "w")), "WrittenOperands"
+    yield "a vector register is written and flags are read", [], row(reg("x", "w", "Xmm"), reads=True), "WrittenOperands"
+    yield "memory is written and flags are read", [], row(mem("m", "w"), reads=True), "WrittenOperands"
+    yield "two registers are written and flags are read", [], row(reg("a", "w"), reg("b", "w"), reads=True), "WrittenOperands"
+    yield "a vector register, then memory", [], row(reg("x", "w", "Xmm"), mem("m", "w")), "WrittenOperands"
+    yield "a fixed register, then memory", [], row(fixed("a", "w"), mem("m", "rw")), "WrittenOperands"
+    yield "memory, then a vector register", [], row(mem("m", "rw"), reg("x", "w", "Xmm")), "WrittenOperands"
+    yield "two places in memory", [], row(mem("m", "w"), regmem("a", "w")), "WrittenOperands"
+    yield "a fixed register, a register, memory", [], row(fixed("a", "w"), reg("b", "w"), mem("m", "rw")), "WrittenOperands"
+    yield "memory that isn't read, beside a register", [], row(reg("a", "w"), mem("m", "w")), "ImplicitOperand"
+    yield "two that aren't read", [], row(regmem("a", "w"), mem("m", "w"), reg("b", "w")), "WrittenOperands"
+    yield "memory that isn't read, before a register", [], row(mem("m", "w"), reg("a", "rw")), "ImplicitOperand"
+    yield "an alternate without a vector register", [], row(reg("a", "rw"), alternate=("vadd", "avx")), "AlternateWithoutXmm"
+    yield "an alternate without operands", [], row(alternate=("vadd", "avx")), "AlternateWithoutXmm"
+    yield "an immediate before an alternate", [], row(wide, Op("i", 8, "imm", "w"), alternate=("vadd", "avx")), "WrittenImm"
 
 
-def rust_tokens(text):
-    return re.findall(r"\w+|->|=>|::|[^\s\w]", text)
+# ---- what is printed
 
 
-def code():
-    """Rattle code with a function that makes the rows."""
-    kinds = {"imm": "Imm", "mem": "Mem", "reg": "Reg", "fixed": "FixedReg", "regmem": "RegMem"}
-    hows = {"r": "Read", "w": "Write", "rw": "ReadWrite"}
-    truth = {True: "true", False: "false"}
-    lines = []
-    for row in rows():
-        lines.append("    operands = Vec::new(alloc);")
-        for op in row.ops:
-            kind = "OperandKind::" + kinds[op.kind] + (f"(RegClass::{op.cls})" if op.cls else "")
-            lines.append(f'    operands.push(operand(alloc, "{op.location}", {op.bits}, {kind}, Mutability::{hows[op.how]}, '
-                         f"{truth[op.signed]}, {truth[op.align]})?)?;")
-        other = 'None' if row.alternate is None else 'Some(alternate(alloc, "{}", "{}")?)'.format(*row.alternate)
-        lines.append(f'    insts.push(inst(alloc, "{row.mnemonic}", "{row.name}", operands, {truth[row.reads]}, {truth[row.writes]}, '
-                     f"{truth[row.trap]}, {other})?)?;")
-    return "\n".join(lines)
-
-
-def rules():
-    return head() + [line for row in rows() for line in rules_of(row)]
-
-
-def compared(name):
-    given_rules, _, given_rust = open(name, encoding="utf-8").read().partition("====\n")
-    faults = 0
+def rules(rows):
     # a rule without a priority has that of 0
-    plain = [line.replace("(rule 0 ", "(rule ", 1) for line in rules()]
-    for what, wanted, found in (("rules", rule_tokens(" ".join(plain)), rule_tokens(given_rules)),
-                                ("methods", rust_tokens(" ".join(macro())), rust_tokens(given_rust))):
-        if wanted == found:
-            print(f"{what}: {len(wanted)} tokens, all as wanted")
-            continue
-        faults += 1
-        at = next((n for n, (a, b) in enumerate(zip(wanted, found)) if a != b), min(len(wanted), len(found)))
-        print(f"{what} differ at token {at}\nwanted: {' '.join(wanted[max(0, at - 12):at + 12])}\nfound:  {' '.join(found[max(0, at - 12):at + 12])}")
-    return faults
+    return head() + [line.replace("(rule 0 ", "(rule ", 1) for row in rows for line in rules_of(row)]
+
+
+def block(lines):
+    return "".join(f"| {line}\n" for line in lines)
 
 
 def main():
-    words = sys.argv[1:]
-    if len(words) == 2 and words[0] == "compare":
-        sys.exit(1 if compared(words[1]) else 0)
-    told = {
-        "rules": lambda: "\n".join(rules()),
-        "methods": lambda: "\n".join(" ".join(rust_tokens(line)) for line in macro()),
-        "rows": lambda: "\n".join(f"{row.name} {row.mnemonic} {len(row.ops)} {' '.join(constructors(row)) if not left_out(row) else '-'}" for row in rows()),
-        "program": code,
-    }
-    if len(words) != 1 or words[0] not in told:
-        print(__doc__, file=sys.stderr)
-        sys.exit(2)
-    print(told[words[0]]())
+    print("# The two texts of an assembler over rows of all kinds, and rows that aren't supported, by tools/assembler_cases.py.\n")
+    for name, rows in groups():
+        given = block([row.row() for row in rows])
+        print(f"= rules: {name}\n$ prelude assembler\ntables\n{given}tokens\n{block(rules(rows))}")
+        print(f"= Rust: {name}\n$ prelude assembler-rust\ntables\n{given}tokens\n{block(macro(rows))}")
+    for name, before, row, shape in refused():
+        told = f"status 4\nerr isle: unsupported {row.name}: {shape}\\n\nfails dir 1\n"
+        print(f"= refused: {name}\n$ prelude assembler\ntables\n{block([one.row() for one in [*before, row]])}{told}")
+        print(f"= refused after a good row: {name}\n$ prelude assembler-rust\ntables\n{block([one.row() for one in [GOOD, *before, row]])}{told}")
 
 
-main()
+if __name__ == "__main__":
+    main()

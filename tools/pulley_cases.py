@@ -1,20 +1,11 @@
 #!/usr/bin/env python3
-"""Rows of Pulley's interpreter with the rule text and the Rust tokens that they give, worked out apart from the crate.
+"""Prints cases of the two texts of Pulley's operations, over rows of all kinds and over rows that aren't supported.
 
-    tools/pulley_cases.py rows            the rows, one a line: snake name, name, and each field with its type, by tabs
-    tools/pulley_cases.py rules           the rule text of all rows, its tokens by single blanks
-    tools/pulley_cases.py rust            the Rust text of all rows, its tokens by single blanks
-    tools/pulley_cases.py refused         rows that are refused, each after earlier rows, with the shape: by tabs
-    tools/pulley_cases.py program         a program of Rattle that has these rows, and writes what the crate makes of them
-    tools/pulley_cases.py compare FILE    holds what that program wrote against this script
+    tools/pulley_cases.py > crates/isle_cases/data/prelude_pulley.cases
 
-The program is the root `src/main.rt` of a scratch crate over `anyhow`, `isle_core`, `isle_meta` and `isle_pulley` in a copy of the repository;
-`rt try` runs it there before anything is proved. What `rt try` itself says before and behind may stand in the file.
-
-Nothing here is read from the crate: `crates/isle_pulley/README.md` has the same rules in words. Where the two differ one of them is wrong.
+What is wanted is worked out here from the rows alone, by the rules that `docs/LANGUAGE.md` tells.
 """
 import re
-import sys
 
 X, F, S = "XReg", "FReg", "UpperRegSet < XReg >"
 
@@ -140,13 +131,13 @@ def operands(name, fields):
     return found
 
 
-def rows(kept=True):
-    return [(snake, name, operands(name, fields)) for snake, name, fields in ROWS if not is_skipped(name)]
+def made(rows):
+    return [(snake, name, operands(name, fields)) for snake, name, fields in rows if not is_skipped(name)]
 
 
-def rules():
+def rules(rows):
     variants, defs = [], []
-    for snake, name, ops in rows():
+    for snake, name, ops in made(rows):
         fields, types, args, insts, results = [], [], [], [], []
         for op in ops:
             if op[0] == "normal":
@@ -174,7 +165,7 @@ def rules():
             answer, body = "ValueRegs", f"(let ({lets} (_ Unit (emit {raw}))) (value_regs dst1 dst2))"
         defs.append(f"(decl pulley_{snake} ({' '.join(types)}) {answer})")
         defs.append(f"(rule (pulley_{snake} {' '.join(args)}) {body})")
-    return "\n".join([f"(type RawInst (enum {' '.join(variants)}))", *defs])
+    return [f"(type RawInst (enum {' '.join(variants)}))", *defs]
 
 
 def is_register(ty):
@@ -234,9 +225,9 @@ def emit_arm(snake, name, ops, pat):
     return f"RawInst::{name} {{ {pat} }} => {{ {trap} pulley_interpreter::encode::{snake}(sink, {args}) }}"
 
 
-def rust():
+def rust(rows):
     shown, visited, emitted = "", "", ""
-    for snake, name, ops in rows():
+    for snake, name, ops in made(rows):
         pat, arm = display_arm(snake, name, ops)
         shown += arm
         visited += visit_arm(name, ops)
@@ -247,137 +238,80 @@ pub fn get_operands(inst: &mut RawInst, collector: &mut impl OperandVisitor) {{ 
 pub fn emit<P>(inst: &RawInst, sink: &mut MachBuffer<InstAndKind<P>>) where P: PulleyTargetKind, {{ match *inst {{ {emitted} }} }}"""
 
 
-def rule_tokens(text):
-    return re.findall(r"[()]|[^()\s]+", text)
+def spelt(ty):
+    """A type as the notation of rows has it."""
+    binary = re.fullmatch(r"BinaryOperands < (.*) >", ty)
+    if binary and all(re.fullmatch(r"\w+", part) for part in binary.group(1).split(", ")):
+        return f"(binary {' '.join(binary.group(1).split(', '))})"
+    if ty == S:
+        return "(upper)"
+    if re.fullmatch(r"\w+", ty):
+        return ty
+    return "(words " + " ".join(word or "_" for word in ty.split(" ")) + ")"
 
 
-def rust_tokens(text):
-    return re.findall(r"\"(?:[^\"\\]|\\.)*\"|'\w+|\w+|[^\w\s]", text)
+def written(row, kind="op"):
+    snake, name, fields = row
+    said = "".join(f" ({field} {spelt(ty)})" for field, ty in fields)
+    return f"({kind} {snake} {name or chr(39) * 2}{said})"
 
 
-def program():
-    """A program that writes the crate's answers: its texts, and a line for each row that is to be refused."""
-    def row(one):
-        snake, name, fields = one
-        inner = ", ".join(f'("{field}", "{ty}")' for field, ty in fields)
-        return f'Given {{ snake: "{snake}", name: "{name}", fields: &[{inner}] }}'
-
-    lists = [("ROWS", ROWS)]
-    for at, (before, one, _) in enumerate(REFUSED):
-        lists.append((f"REFUSED_{at}", [*before, one]))
-    consts = "\n".join(f"const {name}: &[Given] = &[{', '.join(row(one) for one in given)}];" for name, given in lists)
-    calls = "\n    ".join(f"said(&rt, REFUSED_{at})?;" for at in range(len(REFUSED)))
-    return f"""//! Rows of Pulley, and what comes of them.
-#![tactic(auto)]
-
-use anyhow::Result;
-use isle_core::{{List, Text}};
-use isle_meta::{{PulleyInst, TableFail}};
-use isle_pulley::pulley::{{generate_raw_inst_display, isle_text, rust_text}};
-use std::alloc::Global;
-use std::rt::HostRuntime;
-
-struct Given {{
-    snake: &'static str,
-    name: &'static str,
-    fields: &'static [(&'static str, &'static str)],
-}}
-
-{consts}
-
-fn made(alloc: Global, given: &[Given]) -> Result<Vec<PulleyInst>> {{
-    let mut rows = Vec::new(alloc);
-    for one in given {{
-        let mut fields = Vec::new(alloc);
-        for field in one.fields {{
-            fields.push((Text::copied(alloc, field.0)?, Text::copied(alloc, field.1)?))?;
-        }}
-        rows.push(PulleyInst {{
-            snake_name: Text::copied(alloc, one.snake)?,
-            name: Text::copied(alloc, one.name)?,
-            fields: List::new(fields),
-        }})?;
-    }}
-    Ok(rows)
-}}
-
-fn said(rt: &HostRuntime, given: &[Given]) -> Result<()> {{
-    let rows = made(rt.alloc(), given)?;
-    match isle_text(rt.alloc(), &[], rows.as_slice()) {{
-        Ok(_) => println!(rt; "none")?,
-        Err(TableFail::Unsupported(found)) => println!(rt; "{{}} {{:?}}", found.row.as_str(), found.shape)?,
-        Err(TableFail::Memory) => println!(rt; "memory")?,
-    }}
-    Ok(())
-}}
-
-fn main(rt: HostRuntime) -> Result<()> {{
-    let rows = made(rt.alloc(), ROWS)?;
-    if let Ok(text) = isle_text(rt.alloc(), rows.as_slice(), &[]) {{
-        println!(rt; "{{text}}--")?;
-    }}
-    if let Ok(text) = rust_text(rt.alloc(), rows.as_slice(), &[]) {{
-        println!(rt; "{{text}}--")?;
-    }}
-    let mut text = String::from_str(rt.alloc(), "x")?;
-    if let Ok(()) = generate_raw_inst_display(rt.alloc(), &mut text, &[], &[]) {{
-        println!(rt; "{{text}}--")?;
-    }}
-    {calls}
-    Ok(())
-}}
-"""
+def block(lines):
+    return "".join(f"| {line}\n" for line in lines)
 
 
-def compare(written):
-    parts = written[written.find("(type RawInst"):].split("--\n")
-    wrong = 0
-    if len(parts) != 4:
-        print(f"{len(parts)} parts in place of 4")
-        return 1
-    for what, got, want, tokens in (("rules", parts[0], rules(), rule_tokens), ("Rust", parts[1], rust(), rust_tokens)):
-        got, want = tokens(got), tokens(want)
-        for at, (one, other) in enumerate(zip(got, want)):
-            if one != other:
-                print(f"{what}: token {at}: {' '.join(got[at - 5:at + 5])}   wanted {' '.join(want[at - 5:at + 5])}")
-                wrong += 1
-                break
-        if len(got) != len(want):
-            print(f"{what}: {len(got)} tokens in place of {len(want)}")
-            wrong += 1
-    empty = ("x impl<'a> std::fmt::Display for RawInstDisplay<'a> { fn fmt(&self, f: &mut std::fmt::Formatter<'_>)"
-             " -> std::fmt::Result { let inst = self.0; match inst { } } }")
-    if rust_tokens(parts[2].replace("ximpl", "x impl")) != rust_tokens(empty):
-        print("the item without arms differs")
-        wrong += 1
-    for (_, row, shape), line in zip(REFUSED, parts[3].splitlines()):
-        want = f"{row[1]} {shape}" if shape else "none"
-        if line != want:
-            print(f"{row}: {line} in place of {want}")
-            wrong += 1
-    print(f"{len(rows())} rows, {len(REFUSED)} refusals: {wrong} differ")
-    return 1 if wrong else 0
+def told(name, shape):
+    return f"status 4\nerr isle: unsupported {name}: {shape}\\n\nfails dir 1\n"
+
+
+def texts(name, ops, extended):
+    """Cases of both texts of these rows."""
+    given = block([written(row) for row in ops] + [written(row, "ext-op") for row in extended])
+    tables = f"tables\n{given}" if given else ""
+    print(f"= rules: {name}\n$ prelude pulley\n{tables}tokens\n{block(rules(ops + extended))}")
+    print(f"= Rust: {name}\n$ prelude pulley-rust\n{tables}tokens\n{block(rust(ops + extended).splitlines())}")
+
+
+def across_lists():
+    """Cases of names that repeat across lists, or don't."""
+    form = "(format Plain (values 0) (blocks 0) (raw 0))"
+    for what, first, row, name in (
+        ("an assembler's term and an instruction", "(inst x64_bad X64Bad Plain (in) (out 0))", "(x64 op bad ())", "bad"),
+        ("a raw term and an instruction", "(inst x64_bad_raw X64Bad Plain (in) (out 0))", "(x64 op bad ())", "bad"),
+        ("an operation's term and an instruction", "(inst pulley_bad PulleyBad Plain (in) (out 0))", "(op bad Bad)", "Bad"),
+        ("an extended operation's term and an instruction", "(inst pulley_bad PulleyBad Plain (in) (out 0))", "(ext-op bad Bad)", "Bad"),
+    ):
+        for kind in ("clif-lower", "assembler", "pulley-rust"):
+            print(f"= {what}: prelude {kind}\n$ prelude {kind}\ntables\n{block([form, first, row])}{told(name, 'RepeatedName')}")
+    for what, first, row in (
+        ("an assembler's row that is left out and an instruction", "(inst x64_bad X64Bad Plain (in) (out 0))", "(x64 push bad ())"),
+        ("a skipped operation and an instruction", "(inst pulley_bad PulleyBad Plain (in) (out 0))", "(op bad Jump)"),
+        ("an operation named as an assembler's row", "(x64 op bad ())", "(op bad Bad)"),
+    ):
+        print(f"= supported: {what}\n$ prelude clif-lower\ntables\n{block([form, first, row])}holds\n| (type Block extern (enum))\n")
+    for kind in ("clif-opt", "clif-lower", "assembler", "assembler-rust", "pulley", "pulley-rust"):
+        for row, name, shape in (("(x64 op bad ((i 8 imm w)))", "bad", "WrittenImm"), ("(ext-op bad Bad (x fn))", "Bad", "FieldType")):
+            print(f"= whole tables are checked: prelude {kind}, {shape}\n$ prelude {kind}\ntables\n{block([row])}{told(name, shape)}")
+    for kind in ("numerics", "numerics-rust"):
+        print(f"= no tables are checked: prelude {kind}\n$ prelude {kind}\ntables\n| (op bad Bad (x fn))\nlines 0 nothing\n")
 
 
 def main():
-    words = sys.argv[1:]
-    if words == ["rows"]:
-        for snake, name, fields in ROWS:
-            print("\t".join([snake, name, *(part for field in fields for part in field)]))
-    elif words == ["rules"]:
-        print(" ".join(rule_tokens(rules())))
-    elif words == ["rust"]:
-        print(" ".join(rust_tokens(rust())))
-    elif words == ["refused"]:
-        for before, row, shape in REFUSED:
-            print("\t".join([str(before), str(row), str(shape)]))
-    elif words == ["program"]:
-        print(program(), end="")
-    elif len(words) == 2 and words[0] == "compare":
-        sys.exit(compare(open(words[1], encoding="utf-8").read()))
-    else:
-        print(__doc__, file=sys.stderr)
-        sys.exit(2)
+    print("# The two texts of Pulley's operations over rows of all kinds, rows that aren't supported, and names that repeat across lists, by tools/pulley_cases.py.\n")
+    texts("no rows", [], [])
+    for at in range(0, len(ROWS), 8):
+        texts(f"rows {at + 1} to {min(at + 8, len(ROWS))}", ROWS[at:at + 5], ROWS[at + 5:at + 8])
+    texts("all rows", ROWS[:30], ROWS[30:])
+    for at, (before, row, shape) in enumerate(REFUSED, 1):
+        if shape is None:
+            texts(f"supported {at}", before, [row])
+            continue
+        ending = told(row[1], shape)
+        print(f"= refused {at}, of the first list: {shape}\n$ prelude pulley\ntables\n{block([written(one) for one in [*before, row]])}{ending}")
+        good = [written(one) for one in [("good", "Good", [("dst", X), ("src", F)]), *before]]
+        print(f"= refused {at}, of the second list after good rows: {shape}\n$ prelude pulley-rust\ntables\n{block([*good, written(row, 'ext-op')])}{ending}")
+    across_lists()
 
 
-main()
+if __name__ == "__main__":
+    main()

@@ -9,6 +9,7 @@ mod items;
 mod judged;
 mod library_calls;
 mod literals;
+mod machine_rows;
 mod numeric_rows;
 mod parts;
 mod report;
@@ -22,6 +23,7 @@ mod tokens;
 mod topics;
 mod wanted;
 mod weights;
+mod words;
 
 use report::Report;
 use slip::Slip;

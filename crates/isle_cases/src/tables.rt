@@ -1,96 +1,13 @@
 //! Tables of instructions, as cases write their rows.
 
+use crate::machine_rows::{inst, operation};
 use crate::slip::Slip;
-use crate::spelling::number;
+use crate::words::{Words, row_words};
 use isle_core::{List, Text};
-use isle_meta::{ClifOperand, ImmField, Instruction, InstructionFormat, OperandClass, Tables};
-use std::alloc::{AllocError, Global};
-
-/// Words and parentheses, and how many of them are read.
-#[derive(Drop)]
-struct Words<'t> {
-    alloc: Global,
-    words: Vec<&'t str>,
-    next: usize,
-}
-
-impl<'t> Words<'t> {
-    // The next word, if there is one.
-    fn peek(&self) -> &'t str {
-        match self.words.get(self.next) {
-            Some(word) => *word,
-            None => "",
-        }
-    }
-
-    // Takes the next word.
-    fn take(&mut self) -> &'t str {
-        let word = self.peek();
-        self.next = self.next.saturating_add(1);
-        word
-    }
-
-    // Takes the next word, if it is this one.
-    fn takes(&mut self, word: &str) -> bool {
-        let is = self.peek() == word;
-        if is {
-            self.next = self.next.saturating_add(1);
-        }
-        is
-    }
-
-    // Takes this word.
-    fn expect(&mut self, word: &str) -> Result<(), Slip> {
-        if self.takes(word) {
-            Ok(())
-        } else {
-            Err(Slip::Table)
-        }
-    }
-
-    // Takes a word as a text.
-    fn text(&mut self) -> Result<Text, Slip> {
-        Ok(Text::copied(self.alloc, self.take())?)
-    }
-
-    // Takes the number of a list that begins with this word.
-    fn counted(&mut self, word: &str) -> Result<usize, Slip> {
-        self.expect("(")?;
-        self.expect(word)?;
-        let count = number(self.take())?;
-        self.expect(")")?;
-        Ok(count)
-    }
-}
-
-// Appends a piece between blanks: its parentheses, and what they stand around.
-fn push_piece<'t>(words: &mut Vec<&'t str>, piece: &'t str) -> Result<(), AllocError> {
-    let closed = piece.trim_start_matches('(');
-    for _ in closed.len()..piece.len() {
-        words.push("(")?;
-    }
-    let word = closed.trim_end_matches(')');
-    if !word.is_empty() {
-        words.push(word)?;
-    }
-    for _ in word.len()..closed.len() {
-        words.push(")")?;
-    }
-    Ok(())
-}
-
-// The words of a text.
-fn words_of(alloc: Global, text: &str) -> Result<Words<'_>, Slip> {
-    let mut words = Vec::new(alloc);
-    for piece in text.split_whitespace() {
-        push_piece(&mut words, piece)?;
-    }
-    Ok(Words {
-        alloc,
-        words,
-        next: 0,
-    })
-}
+use isle_meta::{
+    ClifOperand, ImmField, Inst, Instruction, InstructionFormat, OperandClass, PulleyInst, Tables,
+};
+use std::alloc::Global;
 
 // The values of an immediate, if there are any.
 fn values(words: &mut Words<'_>) -> Result<Option<List<Text>>, Slip> {
@@ -99,7 +16,7 @@ fn values(words: &mut Words<'_>) -> Result<Option<List<Text>>, Slip> {
     }
     words.expect("one-of")?;
     let mut values = Vec::new(words.alloc);
-    for _ in 0..words.words.len() {
+    for _ in 0..words.len() {
         if words.takes(")") {
             break;
         }
@@ -124,7 +41,7 @@ fn imm(words: &mut Words<'_>) -> Result<ImmField, Slip> {
 // The immediates of a format, and the end of its row.
 fn imms(words: &mut Words<'_>) -> Result<List<ImmField>, Slip> {
     let mut imms = Vec::new(words.alloc);
-    for _ in 0..words.words.len() {
+    for _ in 0..words.len() {
         if words.takes(")") {
             break;
         }
@@ -148,8 +65,8 @@ fn format(words: &mut Words<'_>) -> Result<InstructionFormat, Slip> {
 
 // The operand of the controlling type, if it is said.
 fn typevar(words: &mut Words<'_>) -> Result<Option<usize>, Slip> {
-    match words.words.get(words.next.saturating_add(1)) {
-        Some(word) if *word == "typevar" => Ok(Some(words.counted("typevar")?)),
+    match words.second() {
+        Some(word) if word == "typevar" => Ok(Some(words.counted("typevar")?)),
         Some(_) | None => Ok(None),
     }
 }
@@ -176,7 +93,7 @@ fn operands(words: &mut Words<'_>) -> Result<List<ClifOperand>, Slip> {
     let mut operands = Vec::new(words.alloc);
     words.expect("(")?;
     words.expect("in")?;
-    for _ in 0..words.words.len() {
+    for _ in 0..words.len() {
         if words.takes(")") {
             break;
         }
@@ -213,27 +130,51 @@ fn instruction(words: &mut Words<'_>, formats: &[InstructionFormat]) -> Result<I
     Ok(made)
 }
 
-/// Reads the rows of tables: of formats, and of instructions after their formats.
+/// The rows that are read so far.
+#[derive(Drop)]
+struct Rows {
+    formats: Vec<InstructionFormat>,
+    instructions: Vec<Instruction>,
+    x64: Vec<Inst>,
+    ops: Vec<PulleyInst>,
+    extended_ops: Vec<PulleyInst>,
+}
+
+// Reads a row after its parenthesis.
+fn read_row(words: &mut Words<'_>, rows: &mut Rows) -> Result<(), Slip> {
+    match words.take() {
+        "format" => rows.formats.push(format(words)?)?,
+        "inst" => rows.instructions.push(instruction(words, rows.formats.as_slice())?)?,
+        "x64" => rows.x64.push(inst(words)?)?,
+        "op" => rows.ops.push(operation(words)?)?,
+        "ext-op" => rows.extended_ops.push(operation(words)?)?,
+        _ => return Err(Slip::Table),
+    }
+    Ok(())
+}
+
+/// Reads the rows of tables: of formats, of instructions after their formats, and of machines.
 pub fn tables_of(alloc: Global, text: &str) -> Result<Tables, Slip> {
-    let mut words = words_of(alloc, text)?;
-    let mut formats = Vec::new(alloc);
-    let mut instructions = Vec::new(alloc);
-    for _ in 0..words.words.len() {
+    let mut words = row_words(alloc, text)?;
+    let mut rows = Rows {
+        formats: Vec::new(alloc),
+        instructions: Vec::new(alloc),
+        x64: Vec::new(alloc),
+        ops: Vec::new(alloc),
+        extended_ops: Vec::new(alloc),
+    };
+    for _ in 0..words.len() {
         if !words.takes("(") {
             break;
         }
-        match words.take() {
-            "format" => formats.push(format(&mut words)?)?,
-            "inst" => instructions.push(instruction(&mut words, formats.as_slice())?)?,
-            _ => return Err(Slip::Table),
-        }
+        read_row(&mut words, &mut rows)?;
     }
     words.expect("")?;
     Ok(Tables {
-        formats: List::new(formats),
-        instructions: List::new(instructions),
-        x64: List::new(Vec::new(alloc)),
-        ops: List::new(Vec::new(alloc)),
-        extended_ops: List::new(Vec::new(alloc)),
+        formats: List::new(rows.formats),
+        instructions: List::new(rows.instructions),
+        x64: List::new(rows.x64),
+        ops: List::new(rows.ops),
+        extended_ops: List::new(rows.extended_ops),
     })
 }

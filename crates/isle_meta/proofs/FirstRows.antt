@@ -1,8 +1,10 @@
 -- The first row that isn't supported, found row by row.
-use Rattle.std.proofs.Common.{◌≡◌, ℕ, ◌+◌, ◌<◌, ◌≤◌, List, [], ◌∷◌, ◌++◌, length, get_or, take, drop, Bool, true, false, Option, Some, None, cond, refl, sym, ap, ◌∙◌, subst, append_assoc, append-nil, inl, inr}
-use Rattle.std.specs.Prelude.{◌↔◌, ◌⊎◌, find, IsTrue}
+use Rattle.std.proofs.Common.{◌≡◌, ℕ, ◌+◌, ◌<◌, ◌≤◌, List, [], ◌∷◌, ◌++◌, length, get_or, take, drop, Bool, true, false, Option, Some, None, cond, refl, sym, ap, ◌∙◌, subst, append_assoc, append-nil, inl, inr, ⊎_elim}
+use Rattle.std.specs.Prelude.{◌↔◌, ◌⊎◌, find, Contains, IsTrue}
+use Rattle.std.specs.List.{AllByRecursion}
 use Rattle.std.proofs.lemmas.List.{drop_more, take_more}
 use Rattle.std.proofs.Math.ListN.{drop_of_length-le}
+use Rattle.isle_core.proofs.Contained.{contained_cases, none_contained}
 use Rattle.isle_meta.specs.declared.errors.Unsupported.{Unsupported}
 use Rattle.isle_meta.specs.declared.shapes.Shape.{Shape}
 use Rattle.isle_meta.specs.FirstRow.{shapes, unsupported, FirstOf, IsFirstRow, IsFirstShape}
@@ -22,6 +24,28 @@ told_first told Broken each (s ∷ ss) = one (told s) refl (told_first told Brok
         → (Broken s × (cond b (Some s) (find told ss) ≡ Some s)) ⊎ ((Broken s → ⊥) × IsFirstShape Broken ss (cond b (Some s) (find told ss)))
     one true e rest = inl ((each s).0 e, refl)
     one false e rest = inr (λ h. let k : told s ≡ true = (each s).1 h in absurd cc, rest)
+
+-- a shape that is the first isn't none
+pub shape_apart : (Broken : Shape → Type 0) (ss : List Shape) (shape : Shape) → IsFirstShape Broken ss (Some shape) → IsFirstShape Broken ss None → ⊥
+shape_apart Broken [] shape h k = let same : Some shape ≡ None = h in absurd cc
+shape_apart Broken (s ∷ ss) shape h (inl k) = let same : None ≡ Some s = k.1 in absurd cc
+shape_apart Broken (s ∷ ss) shape (inl h) (inr k) = k.0 h.0
+shape_apart Broken (s ∷ ss) shape (inr h) (inr k) = shape_apart Broken ss shape h.1 k.1
+
+-- none of these shapes is broken
+abbrev pub BreaksNone : (Broken : Shape → Type 0) → List Shape → Type 0
+BreaksNone Broken ss = AllByRecursion (λ (shape : Shape). Broken shape → ⊥) ss
+
+pub none_broken : (Broken : Shape → Type 0) (ss : List Shape) → IsFirstShape Broken ss None → BreaksNone Broken ss
+none_broken Broken [] h = tt
+none_broken Broken (s ∷ ss) (inl h) = let e : None ≡ Some s = h.1 in absurd cc
+none_broken Broken (s ∷ ss) (inr h) = (h.0, none_broken Broken ss h.1)
+
+-- nor is one among them
+pub not_broken : (Broken : Shape → Type 0) (ss : List Shape) (shape : Shape) → BreaksNone Broken ss → Contains ss shape → Broken shape → ⊥
+not_broken Broken [] shape h c b = none_contained shape c
+not_broken Broken (s ∷ ss) shape h c b =
+    ⊎_elim (λ (same : s ≡ shape). h.0 (subst Broken (sym same) b)) (λ there. not_broken Broken ss shape h.1 there b) (contained_cases s ss shape c)
 
 -- ---- row by row
 
@@ -71,3 +95,33 @@ module _ {R : Type 0} (name_of : R → List ℕ) (Breaks : List R → R → Shap
   first_after before (x ∷ xs) ys found (inl h) k = let e : None ≡ Some (unsupported (name_of x) h.0) = h.2 in absurd cc
   first_after before (x ∷ xs) ys found (inr h) k =
       inr (h.0, first_after (before ++ x ∷ []) xs ys found h.1 (subst (λ bs. IsFirstRow name_of Breaks bs ys found) (sym (append_assoc before (x ∷ []) xs)) k))
+
+  -- ---- rows that are all supported
+
+  -- what is so of each row that breaks no shape is so of these
+  pub each_row : (P : R → Type 0) → ((before : List R) (r : R) → BreaksNone (Breaks before r) shapes → P r) → (before rs : List R)
+      → IsFirstRow name_of Breaks before rs None → AllByRecursion P rs
+  each_row P one before [] h = tt
+  each_row P one before (r ∷ rs) (inl h) = let e : None ≡ Some (unsupported (name_of r) h.0) = h.2 in absurd cc
+  each_row P one before (r ∷ rs) (inr h) = (one before r (none_broken (Breaks before r) shapes h.0), each_row P one (before ++ r ∷ []) rs h.1)
+
+  -- one of them breaks no shape after some of them
+  pub row_there : (before rs : List R) (r : R) → IsFirstRow name_of Breaks before rs None → Contains rs r → (earlier : List R) × BreaksNone (Breaks earlier r) shapes
+  row_there before [] r h c = absurd (none_contained r c)
+  row_there before (x ∷ rs) r (inl h) c = let e : None ≡ Some (unsupported (name_of x) h.0) = h.2 in absurd cc
+  row_there before (x ∷ rs) r (inr h) c =
+      ⊎_elim (λ (same : x ≡ r). (before, subst (λ (y : R). BreaksNone (Breaks before y) shapes) same (none_broken (Breaks before x) shapes h.0)))
+      (λ there. row_there (before ++ x ∷ []) rs r h.1 there) (contained_cases x rs r c)
+
+  -- a row that is the first isn't none
+  pub row_apart : (before rs : List R) (found : Unsupported) → IsFirstRow name_of Breaks before rs (Some found) → IsFirstRow name_of Breaks before rs None → ⊥
+  row_apart before [] found h k = let same : Some found ≡ None = h in absurd cc
+  row_apart before (r ∷ rs) found h (inl k) = let same : None ≡ Some (unsupported (name_of r) k.0) = k.2 in absurd cc
+  row_apart before (r ∷ rs) found (inl h) (inr k) = shape_apart (Breaks before r) shapes h.0 h.1 k.0
+  row_apart before (r ∷ rs) found (inr h) (inr k) = row_apart (before ++ r ∷ []) rs found h.1 k.1
+
+-- of two searches
+pub of_two_apart : (First Second : Option Unsupported → Type 0) (found : Unsupported) → (First (Some found) → First None → ⊥) → (Second (Some found) → Second None → ⊥)
+    → FirstOf First Second (Some found) → FirstOf First Second None → ⊥
+of_two_apart First Second found first second (inl h) k = first h k.0
+of_two_apart First Second found first second (inr h) k = second h.1 k.1

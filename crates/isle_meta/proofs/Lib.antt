@@ -5,6 +5,7 @@ pub mod NumberedLaws
 pub mod ImmediateLaws
 pub mod FirstRows
 pub mod FirstLaws
+pub mod CheckLaws
 pub mod FormatLaws
 pub mod InstructionLaws
 pub mod ReservedLaws

@@ -1,8 +1,6 @@
 //! What a search for the first row that isn't supported comes to.
 
-ghost use Rattle.std.specs.Prelude.{Option};
-ghost use Rattle.isle_meta.specs.declared.errors.Unsupported.{Unsupported as Row};
-ghost use Rattle.isle_meta.specs.Checked.{Checks, Refuses};
+ghost use Rattle.isle_meta.specs.Checked.{Answers, Refuses};
 ghost use Rattle.isle_meta.specs.Told.{found_row};
 
 use crate::errors::{TableFail, Unsupported};
@@ -23,8 +21,7 @@ fn refused(alloc: Global, row: &str, shape: Shape) -> TableFail
 /// Answers what a search for the first row that isn't supported found: `Unsupported` has the row's name and the first
 /// shape that it breaks, `Memory` says that memory ran out.
 pub fn checked(alloc: Global, found: Option<(&str, Shape)>) -> Result<(), TableFail>
-    ensures { (First : Option Row → Type 0) → First (found_row found.entry)
-        → Checks First result }
+    ensures { Answers (found_row found.entry) result }
 {
     match found {
         Some((row, shape)) => Err(refused(alloc, row, shape)),

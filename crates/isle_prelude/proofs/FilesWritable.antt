@@ -1,13 +1,13 @@
 -- The files of supported tables can be written, so their texts spell their definitions.
-use Rattle.std.proofs.Common.{◌≡◌, ℕ, List, ◌++◌, Bool, Option, None}
+use Rattle.std.proofs.Common.{◌≡◌, ℕ, List, ◌++◌, Bool, Option}
 use Rattle.std.specs.Prelude.{slice_get}
 use Rattle.std.specs.List.{AllByRecursion}
 use Rattle.isle_ast.specs.Tree.{Def}
 use Rattle.isle_meta.specs.declared.clif.Instruction.{Instruction}
 use Rattle.isle_meta.specs.declared.tables.Tables.{Tables}
 use Rattle.isle_meta.specs.FormatRow.{all_fields}
-use Rattle.isle_meta.specs.Rows.{rows, IsFirstUnsupported}
 use Rattle.isle_spelling.specs.Identifier.{IsIdentifier}
+use Rattle.isle_table_check.specs.SupportedTables.{AreSupported}
 use Rattle.isle_prelude.specs.Arrays.{arrays}
 use Rattle.isle_prelude.specs.ClifFiles.{file_defs, lower_defs, of_format, opt_defs}
 use Rattle.isle_prelude.specs.CommonDefs.{common_defs, imm_defs}
@@ -35,7 +35,7 @@ common_writable t h =
     (data_writable t.formats t.instructions h.formats camels))
 
 -- a file of supported tables
-pub file_writable : (manner : Bool → Instruction → Option Manner) (t : Tables) → AreManners manner → IsFirstUnsupported (rows t) None
+pub file_writable : (manner : Bool → Instruction → Option Manner) (t : Tables) → AreManners manner → AreSupported t
     → AreWritable (file_defs manner t)
 file_writable manner t w h =
     let named : AreNamed t = tables_named t h in
@@ -44,11 +44,11 @@ file_writable manner t w h =
     (λ i n. instruction_writable manner t.formats i w named.formats n) t.instructions named.instructions)
 
 -- that of an optimizer
-pub opt_writable : (t : Tables) → IsFirstUnsupported (rows t) None → AreWritable (opt_defs t)
+pub opt_writable : (t : Tables) → AreSupported t → AreWritable (opt_defs t)
 opt_writable t h = file_writable opt_manner t opt_manners h
 
 -- that of lowering
-pub lower_writable : (t : Tables) → IsFirstUnsupported (rows t) None → AreWritable (lower_defs t)
+pub lower_writable : (t : Tables) → AreSupported t → AreWritable (lower_defs t)
 lower_writable t h = file_writable lower_manner t lower_manners h
 
 -- ---- what their texts spell
@@ -58,7 +58,7 @@ manners_of file.Opt = opt_manners
 manners_of file.Lower = lower_manners
 
 -- the text of a file of supported tables
-pub file_spelt : (file : InstructionFile) (t : Tables) (text : List ℕ) → IsFirstUnsupported (rows t) None → text ≡ def_texts (file_defs (file_manner file) t)
+pub file_spelt : (file : InstructionFile) (t : Tables) (text : List ℕ) → AreSupported t → text ≡ def_texts (file_defs (file_manner file) t)
     → IsTextOf t (file_defs (file_manner file) t) text
 file_spelt file t text h e =
     record {

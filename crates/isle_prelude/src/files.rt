@@ -14,7 +14,8 @@ use crate::immediates::push_imm_defs;
 use crate::instruction_data::push_data_defs;
 use crate::instructions::push_instruction;
 use crate::manners::{InstructionFile, file_manner};
-use isle_meta::{Instruction, InstructionFormat, TableFail, Tables, check_tables};
+use isle_meta::{Instruction, InstructionFormat, TableFail, Tables};
+use isle_table_check::check_tables;
 use std::alloc::{AllocError, Global};
 
 // Appends the types of formats' immediates.

@@ -5,7 +5,7 @@ use Rattle.std.proofs.lemmas.List.{map-append}
 use Rattle.isle_ast.specs.Tree.{Def}
 use Rattle.isle_codegen.specs.Source.{Source}
 use Rattle.isle_meta.specs.declared.tables.Tables.{Tables}
-use Rattle.isle_meta.specs.Rows.{rows, IsFirstUnsupported}
+use Rattle.isle_table_check.specs.SupportedTables.{AreSupported}
 use Rattle.isle_writing.specs.Erased.{erased, all_erased}
 use Rattle.isle_prelude_accepted.specs.Accepted.{SpellParts, IsPreludeAccepted}
 use Rattle.isle_prelude_accepted.specs.Plain.{ArePlain}
@@ -24,7 +24,7 @@ sources file (text ∷ texts) (ds ∷ parts) h =
     (first.0 ++ rest.0, (first.0, rest.0, first.1, rest.1, refl), map-append erased first.0 rest.0 ∙ ap₂ (λ x y. x ++ y) first.2 rest.2 ∙ sym (map-append erased ds all))
 
 -- they are accepted
-pub prelude_accepted : (t : Tables) → IsFirstUnsupported (rows t) None → ArePlain t → IsPreludeAccepted t
+pub prelude_accepted : (t : Tables) → AreSupported t → ArePlain t → IsPreludeAccepted t
 prelude_accepted t supported plain printed texts parts files spelt together =
     let found = sources 0 texts parts spelt in
     let env = prelude_lawful t supported plain printed found.0 files (found.2 ∙ ap all_erased together) in

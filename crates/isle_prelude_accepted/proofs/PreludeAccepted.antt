@@ -10,7 +10,7 @@ use Rattle.isle_meta.specs.declared.clif.Instruction.{Instruction}
 use Rattle.isle_meta.specs.declared.clif.InstructionFormat.{InstructionFormat}
 use Rattle.isle_meta.specs.declared.tables.Tables.{Tables}
 use Rattle.isle_meta.specs.FormatRow.{all_fields}
-use Rattle.isle_meta.specs.Rows.{rows, IsFirstUnsupported}
+use Rattle.isle_table_check.specs.SupportedTables as tables
 use Rattle.isle_prelude.specs.Arrays.{value_array_sizes, block_array_sizes, value_array_defs, block_array_defs, arrays}
 use Rattle.isle_prelude.specs.ClifFiles.{making, instruction_defs, of_format, opt_defs}
 use Rattle.isle_prelude.specs.CommonDefs.{imm_enum, imm_defs, common_defs}
@@ -141,6 +141,6 @@ module _ (t : Tables) (s : AreSupported t) (plain : ArePlain t) where
   }
 
 -- supported and plain tables give a lawful environment
-pub prelude_lawful : (t : Tables) → IsFirstUnsupported (rows t) None → ArePlain t → IsPreludeLawful t
+pub prelude_lawful : (t : Tables) → tables.AreSupported t → ArePlain t → IsPreludeLawful t
 prelude_lawful t supported plain printed defs files same =
     simple_lawful defs (subst AreSimple (sym (same ∙ same_without (prelude_defs t) (all_placeless t))) (prelude_simple t (tables_supported t supported) plain)) printed files

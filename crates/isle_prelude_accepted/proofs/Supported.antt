@@ -18,8 +18,11 @@ use Rattle.isle_meta.specs.InstructionRow as instruction
 use Rattle.isle_meta.specs.InstructionRow.{operand_names, count_of, is_value, is_varargs, is_block, is_raw_block, imm_types, types_differ}
 use Rattle.isle_meta.specs.InstructionRow.{takes_type_to_optimize, takes_type_to_lower}
 use Rattle.isle_meta.specs.Immediates.{type_of, are_misshapen}
-use Rattle.isle_meta.specs.Rows.{Row, OfFormat, OfInstruction, Breaks, shapes, rows, format_rows, instruction_rows, machine_rows, IsFirstShape, IsFirstUnsupported}
+use Rattle.isle_meta.specs.ClifRows.{FormatBreaks, InstructionBreaks}
+use Rattle.isle_meta.specs.FirstRow.{shapes, IsFirstRow}
 use Rattle.isle_meta.specs.TableNames.{is_among, repeats_after, repeats, IsImmediateType, IsTermName, is_reserved_term}
+use Rattle.isle_meta.proofs.FirstRows.{BreaksNone, none_broken}
+use Rattle.isle_table_check.specs.SupportedTables as tables
 use Rattle.isle_prelude_accepted.proofs.Has.{Has, AreApart, has_front, has_back, own_bytes}
 
 -- ---- what can't fail
@@ -102,19 +105,6 @@ apart_after earlier (name ∷ names) h =
 pub none_repeated : (names : List (List ℕ)) → repeats names ≡ false → AreApart names
 none_repeated names h = (apart_after [] names h).0
 
--- ---- rows
-
-no_shapes : (row : Row) (ss : List Shape) → IsFirstShape row ss None → AllByRecursion (λ s. Breaks row s → ⊥) ss
-no_shapes row [] h = tt
-no_shapes row (s ∷ ss) (inl h) = absurd (let e : None ≡ Some s = h.1 in cc)
-no_shapes row (s ∷ ss) (inr h) = (h.0, no_shapes row ss h.1)
-
-each_row : (rs : List Row) (row : Row) → IsFirstUnsupported rs None → Has rs row → AllByRecursion (λ s. Breaks row s → ⊥) shapes
-each_row [] row h i = absurd i
-each_row (r ∷ rs) row (inl h) i = absurd (let e : None ≡ Some _ = h.2 in cc)
-each_row (r ∷ rs) row (inr h) (inl e) = no_shapes row shapes (subst (λ x. IsFirstShape x shapes None) e h.0)
-each_row (r ∷ rs) row (inr h) (inr i) = each_row rs row h.1 i
-
 -- ---- formats
 
 -- a format breaks no shape, after those before it
@@ -131,7 +121,7 @@ pub record IsSupportedFormat (before : List InstructionFormat) (f : InstructionF
 at_most : (n m : ℕ) → (m < n → ⊥) → n ≤ m
 at_most n m h = ⊎_elim (λ e. e.1) (λ e. absurd (h e.1)) (leb_tells n m)
 
-format_sound : (before : List InstructionFormat) (f : InstructionFormat) → AllByRecursion (λ s. Breaks (OfFormat before f) s → ⊥) shapes → IsSupportedFormat before f
+format_sound : (before : List InstructionFormat) (f : InstructionFormat) → BreaksNone (FormatBreaks before f) shapes → IsSupportedFormat before f
 format_sound before f h =
     let repeated = or_parts (is_among f.name (format.own_names before)) (repeats (field_names f)) (stable_false _ h.1.0) in
     record {
@@ -185,7 +175,7 @@ none_above zero h = refl
 none_above (suc n) h = absurd (h (omega arith))
 
 instruction_sound : (formats : List InstructionFormat) (before : List Instruction) (i : Instruction)
-    → AllByRecursion (λ s. Breaks (OfInstruction formats before i) s → ⊥) shapes
+    → BreaksNone (InstructionBreaks formats before i) shapes
     → IsSupportedInstruction formats before i
 instruction_sound formats before i h =
     let f = found_below formats i.format h.1.1.1.1.0 in
@@ -227,19 +217,19 @@ AreSupportedInstructions formats before (i ∷ is) = IsSupportedInstruction form
 
 -- ---- tables
 
-formats_sound : (before fs : List InstructionFormat) → ((row : Row) → Has (format_rows before fs) row → AllByRecursion (λ s. Breaks row s → ⊥) shapes)
-    → AreSupportedFormats before fs
+formats_sound : (before fs : List InstructionFormat) → IsFirstRow (λ (f : InstructionFormat). f.name) FormatBreaks before fs None → AreSupportedFormats before fs
 unfolding AreSupportedFormats
 formats_sound before [] h = tt
-formats_sound before (f ∷ fs) h = (format_sound before f (h (OfFormat before f) (inl refl)), formats_sound (before ++ f ∷ []) fs (λ row i. h row (inr i)))
+formats_sound before (f ∷ fs) (inl h) = absurd (let e : None ≡ Some _ = h.2 in cc)
+formats_sound before (f ∷ fs) (inr h) = (format_sound before f (none_broken (FormatBreaks before f) shapes h.0), formats_sound (before ++ f ∷ []) fs h.1)
 
 instructions_sound : (formats : List InstructionFormat) (before is : List Instruction)
-    → ((row : Row) → Has (instruction_rows formats before is) row → AllByRecursion (λ s. Breaks row s → ⊥) shapes)
-    → AreSupportedInstructions formats before is
+    → IsFirstRow (λ (i : Instruction). i.name) (InstructionBreaks formats) before is None → AreSupportedInstructions formats before is
 unfolding AreSupportedInstructions
 instructions_sound formats before [] h = tt
-instructions_sound formats before (i ∷ is) h =
-    (instruction_sound formats before i (h (OfInstruction formats before i) (inl refl)), instructions_sound formats (before ++ i ∷ []) is (λ row k. h row (inr k)))
+instructions_sound formats before (i ∷ is) (inl h) = absurd (let e : None ≡ Some _ = h.2 in cc)
+instructions_sound formats before (i ∷ is) (inr h) =
+    (instruction_sound formats before i (none_broken (InstructionBreaks formats before i) shapes h.0), instructions_sound formats (before ++ i ∷ []) is h.1)
 
 -- the rows of formats and of instructions are supported
 pub record AreSupported (t : Tables) : Type 0 where
@@ -247,11 +237,9 @@ pub record AreSupported (t : Tables) : Type 0 where
   pub instructions : AreSupportedInstructions t.formats [] t.instructions
 
 -- supported tables have such rows
-pub tables_supported : (t : Tables) → IsFirstUnsupported (rows t) None → AreSupported t
+pub tables_supported : (t : Tables) → tables.AreSupported t → AreSupported t
 tables_supported t h =
-    let later = instruction_rows t.formats [] t.instructions ++ machine_rows t in
     record {
-      formats = formats_sound [] t.formats (λ row i. each_row (rows t) row h (has_front (format_rows [] t.formats) later row i));
-      instructions = instructions_sound t.formats [] t.instructions
-          (λ row i. each_row (rows t) row h (has_back (format_rows [] t.formats) later row (has_front (instruction_rows t.formats [] t.instructions) (machine_rows t) row i)));
+      formats = formats_sound [] t.formats h.0;
+      instructions = instructions_sound t.formats [] t.instructions h.1.0;
     }

@@ -1,7 +1,7 @@
 -- What the making of the four texts answers, and the files that are made of them.
 use Rattle.std.specs.Prelude.{◌≡◌, ℕ, List, [], ◌∷◌, Some, None, Result, Ok, Err, string_bytes}
 use Rattle.isle_meta.specs.Layout.{joined_name}
-use Rattle.isle_meta.specs.Rows.{rows, IsFirstUnsupported}
+use Rattle.isle_table_check.specs.SupportedTables.{AreSupported, IsFirstUnsupported}
 use Rattle.isle_meta.specs.declared.errors.GenError.{GenError}
 use Rattle.isle_meta.specs.declared.errors.GenError.TheVariants as gen
 use Rattle.isle_meta.specs.declared.errors.TableFail.{TableFail}
@@ -24,8 +24,8 @@ pub record AreTexts (t : Tables) (texts : Texts) : Type 0 where
 
 -- all rows are supported, and these are the texts; or the first row that isn't supported; or memory ran out, and nothing was written
 abbrev pub MakesTexts : Tables → Result Texts GenError → Type 0
-MakesTexts t (Ok texts) = IsFirstUnsupported (rows t) None × AreTexts t texts
-MakesTexts t (Err (gen.Unsupported found)) = IsFirstUnsupported (rows t) (Some found)
+MakesTexts t (Ok texts) = AreSupported t × AreTexts t texts
+MakesTexts t (Err (gen.Unsupported found)) = IsFirstUnsupported t (Some found)
 MakesTexts t (Err (gen.Dir n)) = ⊥
 MakesTexts t (Err (gen.Memory n)) = n ≡ 0
 

@@ -1,7 +1,7 @@
 -- The four files of preludes that are made from tables.
 use Rattle.std.specs.Prelude.{◌≡◌, ℕ, List, [], ◌∷◌, Option, Some, None, Result, Ok, Err}
 use Rattle.isle_meta.specs.Layout.{joined_name}
-use Rattle.isle_meta.specs.Rows.{rows, IsFirstUnsupported}
+use Rattle.isle_table_check.specs.SupportedTables.{AreSupported, IsFirstUnsupported}
 use Rattle.isle_meta.specs.declared.errors.GenError.{GenError}
 use Rattle.isle_meta.specs.declared.errors.GenError.TheVariants as gen
 use Rattle.isle_meta.specs.declared.tables.Tables.{Tables}
@@ -24,7 +24,7 @@ prelude_files folder numerics methods opt lower t =
 -- what their writing leaves and answers. All rows are supported, and it is that of these files; or a row isn't, and all files are as before.
 -- Memory may run out before that is known, and then none was written
 abbrev pub WritesPreludes : Tables → List File → (old new : Option Contents) → Result ℕ GenError → Type 0
-WritesPreludes t files old new (Ok n) = IsFirstUnsupported (rows t) None × Writes files old new (Ok n)
-WritesPreludes t files old new (Err (gen.Unsupported found)) = IsFirstUnsupported (rows t) (Some found) × (new ≡ old)
-WritesPreludes t files old new (Err (gen.Dir n)) = IsFirstUnsupported (rows t) None × Writes files old new (Err (gen.Dir n))
+WritesPreludes t files old new (Ok n) = AreSupported t × Writes files old new (Ok n)
+WritesPreludes t files old new (Err (gen.Unsupported found)) = IsFirstUnsupported t (Some found) × (new ≡ old)
+WritesPreludes t files old new (Err (gen.Dir n)) = AreSupported t × Writes files old new (Err (gen.Dir n))
 WritesPreludes t files old new (Err (gen.Memory n)) = Writes files old new (Err (gen.Memory n))

@@ -23,7 +23,7 @@ use Rattle.isle_declarations.specs.declared.terms.Origin.TheVariants as origin
 use Rattle.isle_declarations.specs.Signatures.{Signature, Template, ExtractorDef, ByFunction, ByTemplate, RuleDef, extractors, rule_defs, term_named}
 use Rattle.isle_declarations.specs.Symbols.{index_of}
 use Rattle.isle_declarations.specs.Terms.{terms}
-use Rattle.isle_meta.specs.Rows.{rows, IsFirstUnsupported}
+use Rattle.isle_table_check.specs.SupportedTables.{AreSupported}
 use Rattle.isle_meta.specs.declared.clif.Instruction.{Instruction}
 use Rattle.isle_meta.specs.declared.clif.InstructionFormat.{InstructionFormat}
 use Rattle.isle_meta.specs.declared.tables.Tables.{Tables}
@@ -181,7 +181,7 @@ pub record IsLaidOut (t : Tables) (env : Environment) (i : Instruction) (term : 
   pub args : types_named (opt_source t) (parameter_types (manner_by is_valued) i) ≡ Some laid.decl.arg_tys
   pub apart : IsDistinct bytes_eq (parameters (manner_by is_valued) i)
 
-module _ (t : Tables) (env : Environment) (i : Instruction) (f : InstructionFormat) (b : Bool) (term : TermId) (supported : IsFirstUnsupported (rows t) None) (typed : Typed (opt_source t) env) (h : IsTaken t i f b) (number : term_named (terms (opt_source t)) i.name ≡ Some term) where
+module _ (t : Tables) (env : Environment) (i : Instruction) (f : InstructionFormat) (b : Bool) (term : TermId) (supported : AreSupported t) (typed : Typed (opt_source t) env) (h : IsTaken t i f b) (number : term_named (terms (opt_source t)) i.name ≡ Some term) where
   -- its parameters
   abbrev own_params : List (List ℕ)
   own_params = parameters (manner_by b) i
@@ -298,7 +298,7 @@ module _ (t : Tables) (env : Environment) (i : Instruction) (f : InstructionForm
       }
 
 -- each instruction is laid out
-pub laid_out : (t : Tables) (env : Environment) (i : Instruction) (term : TermId) → IsFirstUnsupported (rows t) None → Typed (opt_source t) env
+pub laid_out : (t : Tables) (env : Environment) (i : Instruction) (term : TermId) → AreSupported t → Typed (opt_source t) env
     → IsInstruction t env i term → IsLaidOut t env i term
 laid_out t env i term supported typed h =
     let m = valued_or i.value_results (i.can_trap || i.other_side_effects) in

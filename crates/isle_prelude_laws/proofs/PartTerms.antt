@@ -10,7 +10,7 @@ use Rattle.isle_ast.specs.declared.tree.AstBody.TheVariants as body
 use Rattle.isle_declarations.specs.declared.terms.Origin.TheVariants as origin
 use Rattle.isle_declarations.specs.Signatures.{Signature, ByFunction, extractors}
 use Rattle.isle_declarations.specs.Terms.{terms}
-use Rattle.isle_meta.specs.Rows.{rows, IsFirstUnsupported}
+use Rattle.isle_table_check.specs.SupportedTables.{AreSupported}
 use Rattle.isle_meta.specs.InstructionRow.{is_value, is_block}
 use Rattle.isle_meta.specs.declared.clif.Instruction.{Instruction}
 use Rattle.isle_meta.specs.declared.clif.InstructionFormat.{InstructionFormat}
@@ -127,7 +127,7 @@ contained_at [] i x h = cc
 contained_at (y ∷ xs) zero x h = subst (Contains (y ∷ xs)) (some_same y x h) (head_contained y xs)
 contained_at (y ∷ xs) (suc i) x h = tail_contained y xs x (contained_at xs i x h)
 
-module _ (t : Tables) (supported : IsFirstUnsupported (rows t) None) (i : Instruction) (f : InstructionFormat) (among : Contains t.instructions i) (is : slice_get t.formats i.format ≡ Some f) (listless : f.has_value_list ≡ false) where
+module _ (t : Tables) (supported : AreSupported t) (i : Instruction) (f : InstructionFormat) (among : Contains t.instructions i) (is : slice_get t.formats i.format ≡ Some f) (listless : f.has_value_list ≡ false) where
   value_size_there : (n : ℕ) → n ≡ length (names_of is_value i) → 1 < n → Contains (value_array_sizes t.formats) n
   value_size_there n e many =
       let c = contained_at t.formats i.format f is in

@@ -14,7 +14,7 @@ use Rattle.isle_core.specs.Value.{Value, Truth}
 use Rattle.isle_core.proofs.OptionLaws.{some_same}
 use Rattle.isle_declarations.specs.Signatures.{term_named}
 use Rattle.isle_declarations.specs.Terms.{terms}
-use Rattle.isle_meta.specs.Rows.{rows, IsFirstUnsupported}
+use Rattle.isle_table_check.specs.SupportedTables.{AreSupported}
 use Rattle.isle_meta.specs.declared.clif.Instruction.{Instruction}
 use Rattle.isle_meta.specs.declared.clif.InstructionFormat.{InstructionFormat}
 use Rattle.isle_meta.specs.declared.tables.Tables.{Tables}
@@ -58,7 +58,7 @@ several Q zero f = (Truth false, λ h. absurd (omega (arith, h)))
 several Q (suc zero) f = (Truth false, λ h. absurd (omega (arith, h)))
 several Q (suc (suc n)) f = let r = f (omega arith) in (r.0, λ h. r.1)
 
-module _ (t : Tables) (env : Environment) (i : Instruction) (f : InstructionFormat) (b : Bool) (supported : IsFirstUnsupported (rows t) None) (typed : Typed (opt_source t) env) (pair : (w : Whole) → HasWhole b i w → HasPair (opt_source t) w) where
+module _ (t : Tables) (env : Environment) (i : Instruction) (f : InstructionFormat) (b : Bool) (supported : AreSupported t) (typed : Typed (opt_source t) env) (pair : (w : Whole) → HasWhole b i w → HasPair (opt_source t) w) where
   maker_called : (w : Whole) → HasWhole b i w → (a : TermId) → numbers (whole_of (opt_source t)) (maker w) ≡ Some a → calling env a ≡ maker_calling w
   maker_called w has a is =
       let defs = opt_source t in

@@ -32,7 +32,7 @@ use Rattle.isle_ast.specs.Views.{exprs_of}
 use Rattle.isle_declarations.specs.Symbols.{index_of}
 use Rattle.isle_declarations.proofs.SymbolLaws.{index_below}
 use Rattle.isle_meta.specs.InstructionRow.{is_value, is_block, is_raw_block}
-use Rattle.isle_meta.specs.Rows.{rows, IsFirstUnsupported}
+use Rattle.isle_table_check.specs.SupportedTables.{AreSupported}
 use Rattle.isle_meta.specs.declared.clif.Instruction.{Instruction}
 use Rattle.isle_meta.specs.declared.clif.InstructionFormat.{InstructionFormat}
 use Rattle.isle_meta.specs.declared.tables.Tables.{Tables}
@@ -231,7 +231,7 @@ whole_parts defs env i b tys operands named apart typed v parts own (BlockArray 
       λ of is. array_typed defs env of_name names (codes "BlockCall") of (ap (λ k. types_named defs (replicate k (codes "BlockCall"))) (sym has.0) ∙ is) (λ ty at. class_typed defs env i b tys operands named apart typed is_block (codes "BlockCall") ty block_class at),
     )
 
-module _ (t : Tables) (env : Environment) (i : Instruction) (term : TermId) (supported : IsFirstUnsupported (rows t) None) (typed : Typed (opt_source t) env) (h : IsInstruction t env i term) (l : IsLaidOut t env i term) where
+module _ (t : Tables) (env : Environment) (i : Instruction) (term : TermId) (supported : AreSupported t) (typed : Typed (opt_source t) env) (h : IsInstruction t env i term) (l : IsLaidOut t env i term) where
   pair_there : (w : Whole) → HasWhole l.is_valued i w → HasPair (opt_source t) w
   pair_there w has = pairs t supported i h.format h.among h.is h.listless l.is_valued w has
 

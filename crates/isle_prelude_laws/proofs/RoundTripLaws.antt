@@ -13,7 +13,7 @@ use Rattle.isle_core.specs.PatternType.{AreVariantsApart}
 use Rattle.isle_core.specs.Rule.{Environment}
 use Rattle.isle_core.specs.Value.{Value, Made}
 use Rattle.isle_core.proofs.OptionLaws.{some_same}
-use Rattle.isle_meta.specs.Rows.{rows, IsFirstUnsupported}
+use Rattle.isle_table_check.specs.SupportedTables.{AreSupported}
 use Rattle.isle_meta.specs.declared.clif.Instruction.{Instruction}
 use Rattle.isle_meta.specs.declared.clif.InstructionFormat.{InstructionFormat}
 use Rattle.isle_meta.specs.declared.tables.Tables.{Tables}
@@ -42,7 +42,7 @@ use Rattle.isle_prelude_laws.proofs.Plan.{planned}
 use Rattle.isle_prelude_laws.proofs.PlanOut.{plan_out}
 
 -- under an honest meaning the extractor of each instruction binds exactly the operands of which its constructor made the value
-pub instruction_read_back : (t : Tables) (env : Environment) (i : Instruction) (term : TermId) → IsFirstUnsupported (rows t) None
+pub instruction_read_back : (t : Tables) (env : Environment) (i : Instruction) (term : TermId) → AreSupported t
     → Typed (opt_source t) env → IsInstruction t env i term → IsReadBack t env term
 instruction_read_back t env i term supported typed h m operands made v honest given =
     let l = laid_out t env i term supported typed h in
@@ -65,7 +65,7 @@ laid_told env number f g i j true false term other p q same one two differ varia
 laid_told env number f g i j false true term other p q same one two differ variants = absurd cc
 
 -- and there the extractor of no other instruction of that result type matches
-pub instructions_told_apart : (t : Tables) (env : Environment) (i j : Instruction) (term other : TermId) → IsFirstUnsupported (rows t) None
+pub instructions_told_apart : (t : Tables) (env : Environment) (i j : Instruction) (term other : TermId) → AreSupported t
     → Typed (opt_source t) env → IsInstruction t env i term → IsInstruction t env j other → result_type i ≡ result_type j → (term ≡ other → ⊥)
     → IsToldApart t env term other
 instructions_told_apart t env i j term other supported typed h k same differ m operands made v honest given =
@@ -86,7 +86,7 @@ made_is : (env : Environment) (a : TermId) → IsVariantTerm env a → is_made e
 made_is env a k = made_term (slice_get env.terms a.0) k.ty k.variant k.made
 
 -- for all operands of its types a lawful honest meaning exists, under which its constructor makes a value
-pub instruction_may_be_honest : (t : Tables) (env : Environment) (i : Instruction) (term : TermId) → IsFirstUnsupported (rows t) None
+pub instruction_may_be_honest : (t : Tables) (env : Environment) (i : Instruction) (term : TermId) → AreSupported t
     → Typed (opt_source t) env → IsInstruction t env i term → MayBeHonest t env term
 instruction_may_be_honest t env i term supported typed h operands has_types =
     let l = laid_out t env i term supported typed h in

@@ -65,6 +65,7 @@ fn unsupported_row<'t>(
 /// Looks for the first row that isn't supported: formats, instructions, then the rows of the assembler and of the
 /// interpreter (`specs/SupportedTables.antt`). `Unsupported` gives its name and the first shape that it breaks,
 /// `Memory` says that memory ran out.
+#[tactic(auto, using(isle_meta::proofs::CheckLaws::found_checks))]
 pub fn check_tables(alloc: Global, tables: &Tables) -> Result<(), TableFail>
     ensures { Checks (IsFirstUnsupported tables.now) result }
 {

@@ -18,7 +18,7 @@ use Rattle.isle_top.specs.Job.{Around, surroundings, IsReply}
 use Rattle.isle_top.specs.Jobs.{job_of, running_job}
 use Rattle.isle_top.specs.RunLine.{GivesLines, run_inputs, run_job}
 use Rattle.isle_top.specs.SampleLine.{sample_source, AreCounts, FailsToCount}
-use Rattle.isle_top.specs.PreludeLine.{is_written, IsPrelude, FailsToWrite}
+use Rattle.isle_top.specs.PreludeLine.{IsPrelude, FailsToWrite}
 use Rattle.isle_top.proofs.Tries.{none_tried}
 
 -- the lines of a run of a file
@@ -62,10 +62,10 @@ sample_fails tables request size around result is h = subst (λ q. IfErr result 
 
 -- the text of a prelude
 pub prelude_replies : {E : Type 0} (tables : Tables) (request : Request) (kind : Kind) (files : Option Contents) (counts : Counts) (result : Result (String Global) E) → request ≡ Prelude kind
-    → IfOk result (λ text. is_written kind ≡ true) → IfOk result (λ text. IsPrelude tables kind (string_bytes text)) → IfOk result (λ text. IsReply (job_of tables request) (surroundings files counts counts) (string_bytes text))
-prelude_replies tables request kind files counts (Ok text) is built gives =
-    subst (λ q. IsReply (job_of tables q) (surroundings files counts counts) (string_bytes text)) (sym is) (record { built = built; gives = gives; tried = none_tried counts })
-prelude_replies tables request kind files counts (Err e) is built gives = tt
+    → IfOk result (λ text. IsPrelude tables kind (string_bytes text)) → IfOk result (λ text. IsReply (job_of tables request) (surroundings files counts counts) (string_bytes text))
+prelude_replies tables request kind files counts (Ok text) is gives =
+    subst (λ q. IsReply (job_of tables q) (surroundings files counts counts) (string_bytes text)) (sym is) (record { built = refl; gives = gives; tried = none_tried counts })
+prelude_replies tables request kind files counts (Err e) is gives = tt
 
 -- why there is none
 pub prelude_fails : {T : Type 0} (tables : Tables) (request : Request) (kind : Kind) (around : Around) (result : Result T Refusal) → request ≡ Prelude kind → IfErr result (FailsToWrite tables kind) → IfErr result (λ e. (job_of tables request).fails e around)

@@ -22,7 +22,8 @@ use Rattle.isle_command_line.specs.declared.commands.Kind.{Kind}
 use Rattle.isle_command_line.specs.declared.commands.Kind.TheVariants as kind
 use Rattle.isle_command_line.specs.declared.commands.Source.{Source}
 use Rattle.isle_command_line.specs.declared.commands.Source.TheVariants as source
-use Rattle.isle_meta.specs.Rows.{Row, rows, shapes, unsupported, IsFirstShape, IsFirstUnsupported}
+use Rattle.isle_table_check.specs.SupportedTables.{AreSupported}
+use Rattle.isle_table_check.proofs.TableLaws.{unsupported_apart}
 use Rattle.isle_meta.specs.declared.errors.Unsupported.{Unsupported}
 use Rattle.isle_meta.specs.declared.shapes.Shape.{Shape}
 use Rattle.isle_meta.specs.declared.tables.Tables.{Tables}
@@ -41,7 +42,7 @@ use Rattle.isle_top.specs.Jobs.{job_of, running_job}
 use Rattle.isle_top.specs.CompileLine.{AreValid, compile_job}
 use Rattle.isle_top.specs.RunLine.{answers_names, run_inputs, IsAnswersText, IsValidRun, FailsToRun, of_trial, unread, no_lines, memory, run_job}
 use Rattle.isle_top.specs.SampleLine.{FailsToCount, sample_source, sample_job}
-use Rattle.isle_top.specs.PreludeLine.{AreSupported, MayBeWritten, FailsByRows, FailsToWrite}
+use Rattle.isle_top.specs.PreludeLine.{MayBeWritten, FailsByRows, FailsToWrite}
 use Rattle.isle_top.specs.Statuses.{IsOfJob}
 use Rattle.isle_top.specs.Texts.{not_built}
 use Rattle.isle_top.specs.Wants.{IsWant}
@@ -157,22 +158,9 @@ only_want_count n (refusal.Run e) h = absurd h
 
 -- ---- a line that writes a prelude
 
--- the rows that a shape is broken by aren't all supported
-no_shape : (row : Row) (shapes : List Shape) (shape : Shape) → IsFirstShape row shapes (Some shape) → IsFirstShape row shapes None → ⊥
-no_shape row [] shape h k = let same : Some shape ≡ None = h in absurd cc
-no_shape row (s ∷ ss) shape h (inl k) = let same : None ≡ Some s = k.1 in absurd cc
-no_shape row (s ∷ ss) shape (inl h) (inr k) = k.0 h.0
-no_shape row (s ∷ ss) shape (inr h) (inr k) = no_shape row ss shape h.1 k.1
-
-none_unsupported : (rs : List Row) (found : Unsupported) → IsFirstUnsupported rs (Some found) → IsFirstUnsupported rs None → ⊥
-none_unsupported [] found h k = let same : Some found ≡ None = h in absurd cc
-none_unsupported (r ∷ rs) found h (inl k) = let same : None ≡ Some (unsupported r k.0) = k.2 in absurd cc
-none_unsupported (r ∷ rs) found (inl h) (inr k) = no_shape r shapes h.0 h.1 k.0
-none_unsupported (r ∷ rs) found (inr h) (inr k) = none_unsupported rs found h.1 k.1
-
 only_want_rows : (t : Tables) (e : Refusal) → AreSupported t → FailsByRows t e → IsWant e
 only_want_rows t refusal.NotYet v h = absurd h
-only_want_rows t (refusal.Tables found) v h = none_unsupported (rows t) found h v
+only_want_rows t (refusal.Tables found) v h = absurd (unsupported_apart t found h v)
 only_want_rows t (refusal.Files e) v h = h
 only_want_rows t (refusal.Run e) v h = absurd h
 
@@ -181,10 +169,10 @@ only_want_prelude t kind.Numerics e v h = h
 only_want_prelude t kind.NumericsRust e v h = h
 only_want_prelude t kind.ClifOpt e v h = only_want_rows t e v h
 only_want_prelude t kind.ClifLower e v h = only_want_rows t e v h
-only_want_prelude t kind.Assembler e v h = absurd v
-only_want_prelude t kind.AssemblerRust e v h = absurd v
-only_want_prelude t kind.Pulley e v h = absurd v
-only_want_prelude t kind.PulleyRust e v h = absurd v
+only_want_prelude t kind.Assembler e v h = only_want_rows t e v h
+only_want_prelude t kind.AssemblerRust e v h = only_want_rows t e v h
+only_want_prelude t kind.Pulley e v h = only_want_rows t e v h
+only_want_prelude t kind.PulleyRust e v h = only_want_rows t e v h
 
 -- ---- lines
 
@@ -272,10 +260,10 @@ told_prelude job t kind.Numerics e h = told_want job e h
 told_prelude job t kind.NumericsRust e h = told_want job e h
 told_prelude job t kind.ClifOpt e h = told_rows job t e h
 told_prelude job t kind.ClifLower e h = told_rows job t e h
-told_prelude job t kind.Assembler e h = told_not_built job e h
-told_prelude job t kind.AssemblerRust e h = told_not_built job e h
-told_prelude job t kind.Pulley e h = told_not_built job e h
-told_prelude job t kind.PulleyRust e h = told_not_built job e h
+told_prelude job t kind.Assembler e h = told_rows job t e h
+told_prelude job t kind.AssemblerRust e h = told_rows job t e h
+told_prelude job t kind.Pulley e h = told_rows job t e h
+told_prelude job t kind.PulleyRust e h = told_rows job t e h
 
 -- what is known of a line that is not answered is there
 pub of_job : (tables : Tables) (request : Request) (e : Refusal) (around : Around) → (job_of tables request).fails e around → IsOfJob (job_of tables request) e

@@ -8,7 +8,7 @@ help_text =
     codes "  isle compile [OPTION..] NAME..\n      Compiles rule files and writes the Rust text of their terms.\n      isle compile examples/constants.isle\n" ++ (
     codes "  isle build [OPTION..] UNIT\n      Builds a unit from its preludes and its files (not yet).\n      isle build opt\n" ++ (
     codes "  isle run [--trace] [OPTION..] SOURCE TERM VALUES [--answers FILE]\n      Runs the function of a term of a rule file at the values, and writes how it ends and what it calls.\n      FILE says what calls answer. Of SOURCE, unit: and a unit's name is not yet there, nor is --trace.\n      isle run examples/calls.isle lower_sum '()' --answers examples/calls.answers\n" ++ (
-    codes "  isle prelude KIND\n      Writes a prelude: rules, or Rust for them. KIND is numerics, numerics-rust, clif-opt or clif-lower; assembler,\n      assembler-rust, pulley and pulley-rust are not yet there.\n      isle prelude clif-opt\n" ++ (
+    codes "  isle prelude KIND\n      Writes a prelude: rules, or Rust for them. KIND is numerics, numerics-rust, clif-opt, clif-lower,\n      assembler, assembler-rust, pulley or pulley-rust.\n      isle prelude clif-opt\n" ++ (
     codes "  isle units\n      Lists the units (not yet).\n      isle units\n" ++ (
     codes "  isle isa TARGET\n      Writes what a target has (not yet).\n      isle isa x86\n" ++ (
     codes "  isle sample N\n      Compiles a sample of N terms, 1 to 10000, and writes how many functions, rules and matches it has.\n      isle sample 8\n" ++ (

@@ -21,8 +21,8 @@ pub fn help() -> &'static str
 \x20     FILE says what calls answer. Of SOURCE, unit: and a unit's name is not yet there, nor is --trace.\n\
 \x20     isle run examples/calls.isle lower_sum '()' --answers examples/calls.answers\n\
 \x20 isle prelude KIND\n\
-\x20     Writes a prelude: rules, or Rust for them. KIND is numerics, numerics-rust, clif-opt or clif-lower; assembler,\n\
-\x20     assembler-rust, pulley and pulley-rust are not yet there.\n\
+\x20     Writes a prelude: rules, or Rust for them. KIND is numerics, numerics-rust, clif-opt, clif-lower,\n\
+\x20     assembler, assembler-rust, pulley or pulley-rust.\n\
 \x20     isle prelude clif-opt\n\
 \x20 isle units\n\
 \x20     Lists the units (not yet).\n\

@@ -1,11 +1,17 @@
 //! The text of a prelude.
 
-ghost use Rattle.std.specs.Prelude.{◌≡◌, List, true, false, Err, IfOk, IfErr};
+ghost use Rattle.std.specs.Prelude.{◌≡◌, List, IfOk, IfErr};
 ghost use Rattle.std.specs.String.{string_bytes};
+ghost use Rattle.isle_assembler.specs.AssemblerDefs.{assembler_defs};
+ghost use Rattle.isle_assembler.specs.Methods.{assembler_methods};
 ghost use Rattle.isle_ast.specs.Tree.{Def};
 ghost use Rattle.isle_meta.specs.declared.tables.Tables.{Tables as Rows};
 ghost use Rattle.isle_prelude.specs.Generated.{Generates, IsTextOf};
-ghost use Rattle.isle_top.specs.PreludeLine.{is_written, IsPrelude, FailsByRows, FailsToWrite};
+ghost use Rattle.isle_pulley.specs.RuleFile.{pulley_defs};
+ghost use Rattle.isle_pulley.specs.RustText.{pulley_rust};
+ghost use Rattle.isle_table_check.specs.SupportedTables.{AreSupported};
+ghost use Rattle.isle_top.specs.PreludeLine.{AreRulesOf, FailsByRows, FailsToWrite, IsPrelude};
+ghost use Rattle.isle_top.specs.PreludeLine.{IsRustOf};
 
 use crate::refusal::Refusal;
 use isle_codegen::FileError;
@@ -14,6 +20,7 @@ use isle_meta::{TableFail, Tables};
 use isle_numeric_methods::numerics_rust;
 use isle_numeric_text::numerics_isle;
 use isle_prelude::{gen_lower, gen_opt};
+use isle_table_check::check_tables;
 use std::alloc::Global;
 
 // A text that is made of rows, or why it isn't written.
@@ -30,21 +37,76 @@ fn by_rows(text: Result<String, TableFail>) -> Result<String, Refusal>
     }
 }
 
+// Checks the tables: each row is supported, or nothing is made of them.
+fn checked(alloc: Global, tables: &Tables) -> Result<(), Refusal>
+    ensures ok { IfOk result (λ done. AreSupported tables.now) }
+    ensures err { IfErr result (FailsByRows tables.now) }
+{
+    match check_tables(alloc, tables) {
+        Ok(()) => Ok(()),
+        Err(TableFail::Unsupported(found)) => Err(Refusal::Tables(found)),
+        Err(TableFail::Memory) => Err(Refusal::Files(FileError::Memory)),
+    }
+}
+
+// The rules of the assembler.
+fn assembler(alloc: Global, tables: &Tables) -> Result<String, Refusal>
+    ensures ok { IfOk result (λ text.
+        AreRulesOf tables.now (assembler_defs tables.now.x64) (string_bytes text)) }
+    ensures err { IfErr result (FailsByRows tables.now) }
+{
+    checked(alloc, tables)?;
+    Ok(isle_assembler::rules_of(alloc, tables.x64.as_slice())?)
+}
+
+// The Rust text of the assembler.
+fn assembler_rust(alloc: Global, tables: &Tables) -> Result<String, Refusal>
+    ensures ok { IfOk result (λ text.
+        IsRustOf tables.now (assembler_methods tables.now.x64) (string_bytes text)) }
+    ensures err { IfErr result (FailsByRows tables.now) }
+{
+    checked(alloc, tables)?;
+    Ok(isle_assembler::methods_of(alloc, tables.x64.as_slice())?)
+}
+
+// The rules of the interpreter.
+fn pulley(alloc: Global, tables: &Tables) -> Result<String, Refusal>
+    ensures ok { IfOk result (λ text.
+        AreRulesOf tables.now (pulley_defs tables.now.ops tables.now.extended_ops)
+        (string_bytes text)) }
+    ensures err { IfErr result (FailsByRows tables.now) }
+{
+    checked(alloc, tables)?;
+    let (ops, extended) = (tables.ops.as_slice(), tables.extended_ops.as_slice());
+    Ok(isle_pulley::rules_of(alloc, ops, extended)?)
+}
+
+// The Rust text of the interpreter.
+fn pulley_rust(alloc: Global, tables: &Tables) -> Result<String, Refusal>
+    ensures ok { IfOk result (λ text.
+        IsRustOf tables.now (pulley_rust tables.now.ops tables.now.extended_ops)
+        (string_bytes text)) }
+    ensures err { IfErr result (FailsByRows tables.now) }
+{
+    checked(alloc, tables)?;
+    let (ops, extended) = (tables.ops.as_slice(), tables.extended_ops.as_slice());
+    Ok(isle_pulley::rust_of(alloc, ops, extended)?)
+}
+
 /// Writes the prelude of a kind over tables, and returns its text (`specs/PreludeLine.antt`). The only refusals are
-/// want of memory, a row that isn't supported, and that the prelude isn't built.
+/// want of memory and, of a kind that is made of rows, the first row of the tables that isn't supported.
 pub fn preluded(alloc: Global, tables: &Tables, kind: Kind) -> Result<String, Refusal>
-    ensures built { IfOk result (λ text. is_written kind ≡ true) }
     ensures ok { IfOk result (λ text. IsPrelude tables.now kind (string_bytes text)) }
     ensures err { IfErr result (FailsToWrite tables.now kind) }
-    ensures not_built { is_written kind ≡ false → result ≡ Err Refusal.NotYet }
 {
     match kind {
         Kind::Numerics => Ok(numerics_isle(alloc)?),
         Kind::NumericsRust => Ok(numerics_rust(alloc)?),
         Kind::ClifOpt => by_rows(gen_opt(alloc, tables)),
         Kind::ClifLower => by_rows(gen_lower(alloc, tables)),
-        Kind::Assembler | Kind::AssemblerRust | Kind::Pulley | Kind::PulleyRust => {
-            Err(Refusal::NotYet)
-        }
+        Kind::Assembler => assembler(alloc, tables),
+        Kind::AssemblerRust => assembler_rust(alloc, tables),
+        Kind::Pulley => pulley(alloc, tables),
+        Kind::PulleyRust => pulley_rust(alloc, tables),
     }
 }

@@ -48,7 +48,7 @@ returns-in-Sample-clause-complete g c = λ valid calm.
 pub returns-in-Prelude-clause-ok : goal.returns-in-Prelude-clause-ok
 returns-in-Prelude-clause-ok g c =
     let is : seen_command c.args.line.now.command.now ≡ Prelude c.in-Prelude.kind = search rules in
-    prelude_replies c.args.line.now.tables.now (seen_command c.args.line.now.command.now) c.in-Prelude.kind (g.D.Dir.files c.args.dir.now) (g.D.Dir.counts c.args.dir.now) c.preluded.result is c.preluded.ensures.built c.preluded.ensures.ok
+    prelude_replies c.args.line.now.tables.now (seen_command c.args.line.now.command.now) c.in-Prelude.kind (g.D.Dir.files c.args.dir.now) (g.D.Dir.counts c.args.dir.now) c.preluded.result is c.preluded.ensures.ok
 
 pub returns-in-Prelude-clause-err : goal.returns-in-Prelude-clause-err
 returns-in-Prelude-clause-err g c =

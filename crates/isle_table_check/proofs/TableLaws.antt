@@ -1,0 +1,28 @@
+-- Tables are supported, or they have a first row that isn't.
+use Rattle.std.proofs.Common.{ℕ, List, [], ◌++◌, Some, None}
+use Rattle.isle_assembler_rows.specs.AssemblerRows.{AssemblerBreaks, IsFirstInst}
+use Rattle.isle_meta.specs.declared.clif.Instruction.{Instruction}
+use Rattle.isle_meta.specs.declared.clif.InstructionFormat.{InstructionFormat}
+use Rattle.isle_meta.specs.declared.errors.Unsupported.{Unsupported}
+use Rattle.isle_meta.specs.declared.machine.Inst.{Inst}
+use Rattle.isle_meta.specs.declared.pulley.PulleyInst.{PulleyInst}
+use Rattle.isle_meta.specs.declared.tables.Tables.{Tables}
+use Rattle.isle_meta.specs.ClifRows.{FormatBreaks, InstructionBreaks, IsFirstFormat, IsFirstInstruction}
+use Rattle.isle_meta.specs.InstructionRow.{own_names}
+use Rattle.isle_meta.proofs.FirstRows.{of_two_apart, row_apart}
+use Rattle.isle_pulley_rows.specs.PulleyRows.{PulleyBreaks, IsFirstOperation}
+use Rattle.isle_table_check.specs.SupportedTables.{AreSupported, IsFirstMachineRow, IsFirstUnsupported}
+
+machine_apart : (t : Tables) (found : Unsupported) → IsFirstMachineRow t (Some found) → IsFirstMachineRow t None → ⊥
+machine_apart t found =
+    let names : List (List ℕ) = own_names t.instructions in
+    of_two_apart (IsFirstInst names t.x64) (IsFirstOperation names t.ops t.extended_ops) found
+    (row_apart (λ (i : Inst). i.name) (AssemblerBreaks names) [] t.x64 found)
+    (row_apart (λ (r : PulleyInst). r.name) (PulleyBreaks names) [] (t.ops ++ t.extended_ops) found)
+
+-- tables with a row that isn't supported aren't supported
+pub unsupported_apart : (t : Tables) (found : Unsupported) → IsFirstUnsupported t (Some found) → AreSupported t → ⊥
+unsupported_apart t found =
+    of_two_apart (IsFirstFormat t.formats) _ found (row_apart (λ (f : InstructionFormat). f.name) FormatBreaks [] t.formats found)
+    (of_two_apart (IsFirstInstruction t.formats t.instructions) (IsFirstMachineRow t) found
+    (row_apart (λ (i : Instruction). i.name) (InstructionBreaks t.formats) [] t.instructions found) (machine_apart t found))
