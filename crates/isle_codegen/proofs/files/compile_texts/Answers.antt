@@ -2,7 +2,7 @@ use Rattle.std.proofs.Common.{subst}
 use Rattle.isle_ast.specs.Views.{defs as seen}
 use Rattle.isle_codegen.specs.Causes.{IsUncompiled}
 use Rattle.isle_codegen.proofs.Refusals.{of_defs}
-use Rattle.isle_codegen.proofs.files.compiled.Goals as goal
+use Rattle.isle_codegen.proofs.files.compile_texts.Goals as goal
 
 pub returns-clause-err : goal.returns-clause-err
 returns-clause-err c =
