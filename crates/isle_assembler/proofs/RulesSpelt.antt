@@ -4,18 +4,16 @@ use Rattle.std.specs.Prelude.{if◌then◌else◌}
 use Rattle.isle_assembler_rows.specs.declared.constructor.Constructor.{Constructor}
 use Rattle.isle_meta.specs.declared.machine.Alternate.{Alternate}
 use Rattle.isle_meta.specs.declared.machine.Inst.{Inst}
-use Rattle.isle_writing.specs.Spelt.{declare_flag}
+use Rattle.isle_writing.specs.Spelt.{declare_flag, SpellsOnly}
+use Rattle.isle_writing.specs.Text.{def_texts}
 use Rattle.isle_writing.proofs.Joined.{no_flag_each, no_flag_joined}
 use Rattle.isle_writing.proofs.WrittenLaw.{written_spelt}
 use Rattle.isle_assembler.specs.AssemblerDefs.{assembler_defs, choice_defs, constructor_defs, raw_decl, raw_maker, row_defs}
-use Rattle.isle_assembler_rows.specs.AssemblerRows.{IsFirstUnsupported}
+use Rattle.isle_assembler_rows.specs.AssemblerRows.{IsFirstInst}
 use Rattle.isle_assembler_rows.specs.Constructors.{constructors}
-use Rattle.isle_assembler.specs.Generated.{IsRuleText}
 use Rattle.isle_assembler.specs.HeadDefs.{head_defs}
-use Rattle.isle_assembler.specs.RuleTexts.{rule_text}
 use Rattle.isle_assembler_rows.specs.TermNames.{is_left_out}
 use Rattle.isle_assembler.proofs.RulesWritable.{assembler_writable}
-use Rattle.isle_assembler.proofs.TextLaws.{rules_are}
 
 -- ---- no term has the name of a flag
 
@@ -35,7 +33,6 @@ unflagged is = no_flag_joined head_defs (flat_map row_defs is) refl (no_flag_eac
 
 -- ---- the text
 
-pub rules_spelt : (is : List Inst) (text : List ℕ) → IsFirstUnsupported [] is None → text ≡ rule_text is → IsRuleText is text
-rules_spelt is text h e =
-    let written = e ∙ rules_are is in
-    record { supported = h; written = written; spelt = (written_spelt text (assembler_defs is) (assembler_writable is h) written).named (unflagged is) }
+pub rules_spelt : (earlier : List (List ℕ)) (is : List Inst) (text : List ℕ) → IsFirstInst earlier is None → text ≡ def_texts (assembler_defs is)
+    → SpellsOnly text (assembler_defs is)
+rules_spelt earlier is text h e = (written_spelt text (assembler_defs is) (assembler_writable earlier is h) e).named (unflagged is)

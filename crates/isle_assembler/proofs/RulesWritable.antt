@@ -11,16 +11,15 @@ use Rattle.isle_assembler.specs.declared.signature.Signature.TheVariants.{Raw, M
 use Rattle.isle_meta.specs.declared.machine.Alternate.{Alternate}
 use Rattle.isle_meta.specs.declared.machine.Inst.{Inst}
 use Rattle.isle_meta.specs.declared.machine.Operand.{Operand}
-use Rattle.isle_meta.specs.declared.shapes.Shape.{Shape}
-use Rattle.isle_meta.specs.FirstRow.{shapes}
+use Rattle.isle_meta.proofs.FirstRows.{each_row}
 use Rattle.isle_spelling.specs.Identifier.{IsIdentifier}
 use Rattle.isle_writing.specs.Height.{exprs_height, expr_height, patterns_height}
 use Rattle.isle_writing.specs.Writable.{AreExprs, ArePatterns, AreWritable, IsExpr, IsPlain, IsWritable}
 use Rattle.isle_writing.proofs.Joined.{writable_each, writable_joined}
 use Rattle.isle_writing.proofs.Names.{plain_joined}
 use Rattle.isle_assembler.specs.AssemblerDefs.{assembler_defs, choice_defs, choice_signature, constructor_defs, handed, made_decl, made_rule, raw_decl, raw_maker, row_defs}
-use Rattle.isle_assembler_rows.specs.AssemblerRow.{alternate_names, row_names}
-use Rattle.isle_assembler_rows.specs.AssemblerRows.{AssemblerBreaks, IsFirstShape, IsFirstUnsupported, unsupported}
+use Rattle.isle_assembler_rows.specs.AssemblerRow.{alternate_names, row_names, BadName}
+use Rattle.isle_assembler_rows.specs.AssemblerRows.{AssemblerBreaks, IsFirstInst}
 use Rattle.isle_assembler_rows.specs.Constructors.{constructors, suffix, temporary}
 use Rattle.isle_assembler.specs.Declaring.{call_on, named, variables}
 use Rattle.isle_assembler.specs.HeadDefs.{head_defs}
@@ -29,7 +28,8 @@ use Rattle.isle_assembler.specs.Signatures.{is_param, param_names, taken, takes}
 use Rattle.isle_assembler_rows.specs.TermNames.{choice_term, is_left_out, made_term, raw_term}
 use Rattle.isle_assembler.proofs.HeadWritable.{head_writable}
 use Rattle.isle_assembler.proofs.TypeWords.{conversion_term, outputs_named, param_types_named, result_named, suffix_plain, temporary_term}
-use Rattle.isle_assembler.proofs.WordLaws.{IsTerm, feature_term, identifier_name, identifier_plain, identifier_variable, stable_identifiers, x64_term}
+use Rattle.isle_assembler.proofs.WordLaws.{feature_term, x64_term}
+use Rattle.isle_meta.proofs.NameWords.{IsTerm, identifier_name, identifier_plain, identifier_variable, stable_identifiers}
 
 -- ---- names of instructions
 
@@ -51,14 +51,10 @@ joined : (xs ys : List (List ℕ)) → AllByRecursion IsIdentifier xs → AllByR
 joined [] ys h k = k
 joined (x ∷ xs) ys h k = (h.0, joined xs ys h.1 k)
 
-unbroken : (before : List Inst) (i : Inst) (ss : List Shape) → IsFirstShape before i ss None → AllByRecursion (λ (s : Shape). AssemblerBreaks before i s → ⊥) ss
-unbroken before i [] h = tt
-unbroken before i (s ∷ ss) (inl h) = let e : None ≡ Some s = h.1 in absurd cc
-unbroken before i (s ∷ ss) (inr h) = (h.0, unbroken before i ss h.1)
-
-named_inst : (before : List Inst) (i : Inst) → IsFirstShape before i shapes None → IsNamedInst i
-named_inst before i h =
-    let all = stable_identifiers (row_names i) (unbroken before i shapes h).0 in
+-- an instruction that breaks no shape
+named_inst : (i : Inst) → (BadName i → ⊥) → IsNamedInst i
+named_inst i h =
+    let all = stable_identifiers (row_names i) h in
     record {
       name = all.0;
       operands = front (locations i.operands) (alternate_names i.alternate) all.1;
@@ -66,10 +62,9 @@ named_inst before i h =
           (alternate_names i.alternate) all.1;
     }
 
-named_insts : (before is : List Inst) → IsFirstUnsupported before is None → AllByRecursion IsNamedInst is
-named_insts before [] h = tt
-named_insts before (i ∷ is) (inl h) = let e : None ≡ Some (unsupported i h.0) = h.2 in absurd cc
-named_insts before (i ∷ is) (inr h) = (named_inst before i h.0, named_insts (before ++ i ∷ []) is h.1)
+-- supported instructions
+named_insts : (earlier : List (List ℕ)) (is : List Inst) → IsFirstInst earlier is None → AllByRecursion IsNamedInst is
+named_insts earlier is h = each_row (λ (i : Inst). i.name) (AssemblerBreaks earlier) IsNamedInst (λ before i none. named_inst i none.0) [] is h
 
 -- ---- parameters
 
@@ -222,5 +217,5 @@ rows_writable : (is : List Inst) → AllByRecursion IsNamedInst is → AreWritab
 rows_writable [] h = tt
 rows_writable (i ∷ is) h = writable_joined (row_defs i) (flat_map row_defs is) (row_writable i h.0) (rows_writable is h.1)
 
-pub assembler_writable : (is : List Inst) → IsFirstUnsupported [] is None → AreWritable (assembler_defs is)
-assembler_writable is h = writable_joined head_defs (flat_map row_defs is) head_writable (rows_writable is (named_insts [] is h))
+pub assembler_writable : (earlier : List (List ℕ)) (is : List Inst) → IsFirstInst earlier is None → AreWritable (assembler_defs is)
+assembler_writable earlier is h = writable_joined head_defs (flat_map row_defs is) head_writable (rows_writable is (named_insts earlier is h))

@@ -16,7 +16,7 @@ use Rattle.isle_writing.specs.Writable.{AreNames, IsPlain, NamesOne}
 use Rattle.isle_writing.proofs.Names.{names_one, numeral_plain, plain_joined, word_joined}
 use Rattle.isle_assembler_rows.specs.Constructors.{conversion, is_in_memory, place_type, result_type, suffix, temporary}
 use Rattle.isle_assembler.specs.Signatures.{class_name, operand_type, param_types, taken, trap_types, type_by, type_in}
-use Rattle.isle_assembler.proofs.WordLaws.{IsTerm, term_from}
+use Rattle.isle_meta.proofs.NameWords.{IsTerm, term_from}
 
 -- ---- words that are written out
 

@@ -1,3 +1,4 @@
+pub mod Pieces
 pub mod Signatures
 pub mod Declaring
 pub mod HeadDefs

@@ -4,21 +4,21 @@ ghost use Rattle.std.specs.Prelude.{◌≡◌, ◌++◌, OnOk, string_bytes};
 ghost use Rattle.isle_assembler.specs.Conversions.{access_word, aligned_word, assembler, class_maker, class_word};
 ghost use Rattle.isle_assembler.specs.Conversions.{converted, fixed_register, immediate, memory, new_register, read_write, reg_mem, register, wrapped};
 
-use crate::pieces::push_piece;
+use crate::pieces::push_pieces;
 use crate::signature::{class_name, push_bits};
 use isle_meta::{Mutability, Operand, OperandKind, RegClass};
 use std::alloc::AllocError;
 
 /// Returns the crate of the assembler's types.
 #[tactic(auto, unfolding(crate::specs::Conversions::assembler))]
-pub fn assembler() -> &'static str
+pub fn assembler<'w>() -> &'w str
     ensures { result.now ≡ assembler }
 {
     "cranelift_assembler_x64::"
 }
 
 /// Returns a class of registers as it stands in names of methods.
-pub fn class_word(class: RegClass) -> &'static str
+pub fn class_word<'w>(class: RegClass) -> &'w str
     ensures { result.now ≡ class_word class }
 {
     match class {
@@ -28,7 +28,7 @@ pub fn class_word(class: RegClass) -> &'static str
 }
 
 // What is done with an operand, in names of methods.
-fn access_word(mutability: Mutability) -> &'static str
+fn access_word<'w>(mutability: Mutability) -> &'w str
     ensures { result.now ≡ access_word mutability }
 {
     match mutability {
@@ -38,16 +38,19 @@ fn access_word(mutability: Mutability) -> &'static str
     }
 }
 
-// Appends a new register of a class.
-fn push_new_register(text: &mut String, class: RegClass) -> Result<(), AllocError>
-    ensures { OnOk result (string_bytes text.new ≡ string_bytes text.old ++ new_register class) }
+// A new register of a class.
+#[tactic(auto, unfolding(crate::specs::Conversions::new_register))]
+fn new_register<'w>(class: RegClass) -> &'w str
+    ensures { result.now ≡ new_register class }
 {
-    text.push_str("self.temp_writable_")?;
-    text.push_str(class_word(class))?;
-    push_piece(text, "()")
+    match class {
+        RegClass::Gpr => "self.temp_writable_gpr()",
+        RegClass::Xmm => "self.temp_writable_xmm()",
+    }
 }
 
 // Appends a register that a method of this name turns into one that is read and written.
+#[tactic(auto, unfolding(crate::specs::Conversions::read_write))]
 fn push_read_write(
     text: &mut String,
     name: &str,
@@ -57,19 +60,25 @@ fn push_read_write(
     ensures { OnOk result
         (string_bytes text.new ≡ string_bytes text.old ++ read_write name.now class x.now) }
 {
-    text.push_str("self.convert_")?;
-    text.push_str(class_word(class))?;
-    text.push_str("_to_assembler_")?;
-    text.push_str(name)?;
-    text.push_str(class_word(class))?;
-    text.push_str("(")?;
-    text.push_str(x)?;
-    push_piece(text, ")")
+    let class = class_word(class);
+    push_pieces(
+        text,
+        &[
+            "self.convert_",
+            class,
+            "_to_assembler_",
+            name,
+            class,
+            "(",
+            x,
+            ")",
+        ],
+    )
 }
 
 // The assembler's type of registers of a class, as a function.
 #[tactic(auto, unfolding(crate::specs::Conversions::class_maker))]
-fn class_maker(class: RegClass) -> &'static str
+fn class_maker<'w>(class: RegClass) -> &'w str
     ensures { result.now ≡ class_maker class }
 {
     match class {
@@ -84,24 +93,7 @@ fn push_wrapped(text: &mut String, name: &str, inner: &str) -> Result<(), AllocE
     ensures { OnOk result
         (string_bytes text.new ≡ string_bytes text.old ++ wrapped name.now inner.now) }
 {
-    text.push_str(assembler())?;
-    text.push_str(name)?;
-    text.push_str("(")?;
-    text.push_str(inner)?;
-    text.push_str(")")
-}
-
-// Appends a new register wrapped into the assembler's type.
-#[tactic(auto, unfolding(crate::specs::Conversions::wrapped))]
-fn push_wrapped_new(text: &mut String, name: &str, class: RegClass) -> Result<(), AllocError>
-    ensures { OnOk result
-        (string_bytes text.new ≡ string_bytes text.old ++ wrapped name.now (new_register class)) }
-{
-    text.push_str(assembler())?;
-    text.push_str(name)?;
-    text.push_str("(")?;
-    push_new_register(text, class)?;
-    text.push_str(")")
+    push_pieces(text, &[assembler(), name, "(", inner, ")"])
 }
 
 // Appends a register.
@@ -117,7 +109,7 @@ fn push_register(
     match mutability {
         Mutability::Read => push_wrapped(text, class_maker(class), x),
         Mutability::ReadWrite => push_read_write(text, "read_write_", class, x),
-        Mutability::Write => push_wrapped_new(text, class_maker(class), class),
+        Mutability::Write => push_wrapped(text, class_maker(class), new_register(class)),
     }
 }
 
@@ -134,7 +126,7 @@ fn push_fixed_register(
     match mutability {
         Mutability::Read => push_wrapped(text, "Fixed", x),
         Mutability::ReadWrite => push_read_write(text, "fixed_read_write_", class, x),
-        Mutability::Write => push_wrapped_new(text, "Fixed", class),
+        Mutability::Write => push_wrapped(text, "Fixed", new_register(class)),
     }
 }
 
@@ -146,43 +138,50 @@ fn push_immediate(text: &mut String, operand: &Operand) -> Result<(), AllocError
     text.push_str(assembler())?;
     text.push_str(if operand.sign_extended { "Simm" } else { "Imm" })?;
     push_bits(text, operand)?;
-    text.push_str("::new(")?;
-    text.push_str(operand.location.as_str())?;
-    text.push_str(")")
+    push_pieces(text, &["::new(", operand.location.as_str(), ")"])
 }
 
 // What a method's name says of a place in memory that must be aligned.
-fn aligned_word(align: bool) -> &'static str
+fn aligned_word<'w>(align: bool) -> &'w str
     ensures { result.now ≡ aligned_word align }
 {
     if align { "_aligned" } else { "" }
 }
 
 // Appends a register or a place in memory.
+#[tactic(auto, unfolding(crate::specs::Conversions::reg_mem))]
 fn push_reg_mem(text: &mut String, class: RegClass, operand: &Operand) -> Result<(), AllocError>
     ensures { OnOk result
         (string_bytes text.new ≡ string_bytes text.old ++ reg_mem class operand.now) }
 {
-    text.push_str("self.convert_")?;
-    text.push_str(class_word(class))?;
-    text.push_str("_mem_to_assembler_")?;
-    text.push_str(access_word(operand.mutability))?;
-    text.push_str("_")?;
-    text.push_str(class_word(class))?;
-    text.push_str("_mem")?;
-    text.push_str(aligned_word(operand.align))?;
-    text.push_str("(")?;
-    text.push_str(operand.location.as_str())?;
-    push_piece(text, ")")
+    push_pieces(
+        text,
+        &[
+            "self.convert_",
+            class_word(class),
+            "_mem_to_assembler_",
+            access_word(operand.mutability),
+            "_",
+            class_word(class),
+            "_mem",
+            aligned_word(operand.align),
+            "(",
+            operand.location.as_str(),
+            ")",
+        ],
+    )
 }
 
 // Appends a place in memory.
+#[tactic(auto, unfolding(crate::specs::Conversions::memory))]
 fn push_memory(text: &mut String, operand: &Operand) -> Result<(), AllocError>
     ensures { OnOk result (string_bytes text.new ≡ string_bytes text.old ++ memory operand.now) }
 {
-    text.push_str("self.convert_amode_to_assembler_amode(")?;
-    text.push_str(operand.location.as_str())?;
-    push_piece(text, ")")
+    let place = operand.location.as_str();
+    push_pieces(
+        text,
+        &["self.convert_amode_to_assembler_amode(", place, ")"],
+    )
 }
 
 /// Appends an operand turned into one of the assembler. The only error is want of memory.

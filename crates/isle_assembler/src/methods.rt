@@ -7,11 +7,10 @@ ghost use Rattle.isle_assembler.specs.Methods.{line_begin, listed, macro_head, m
 ghost use Rattle.isle_assembler.specs.Methods.{row_method, rust_type, trap_argument};
 
 use crate::conversions::{assembler, push_converted};
-use crate::operands::{is_raw, may_be_memory};
-use crate::pieces::push_piece;
+use crate::pieces::{push_piece, push_pieces};
 use crate::returns::push_given;
 use crate::signature::{push_gap, push_operand_type};
-use crate::term_names::{is_left_out, push_raw_term};
+use isle_assembler_rows::{is_left_out, is_raw, may_be_memory, push_raw_term};
 use isle_meta::{Inst, Operand};
 use std::alloc::{AllocError, Global};
 
@@ -29,8 +28,7 @@ fn push_rust_type(text: &mut String, operand: &Operand) -> Result<(), AllocError
 fn push_param(text: &mut String, operand: &Operand) -> Result<(), AllocError>
     ensures { OnOk result (string_bytes text.new ≡ string_bytes text.old ++ param operand.now) }
 {
-    text.push_str(operand.location.as_str())?;
-    text.push_str(": ")?;
+    push_pieces(text, &[operand.location.as_str(), ": "])?;
     push_rust_type(text, operand)
 }
 
@@ -59,8 +57,7 @@ fn push_params(text: &mut String, inst: &Inst) -> Result<(), AllocError>
 fn push_argument(text: &mut String, operand: &Operand) -> Result<(), AllocError>
     ensures { OnOk result (string_bytes text.new ≡ string_bytes text.old ++ argument operand.now) }
 {
-    text.push_str(operand.location.as_str())?;
-    text.push_str(".clone()")
+    push_pieces(text, &[operand.location.as_str(), ".clone()"])
 }
 
 // Appends the trap's code as an argument.
@@ -68,8 +65,7 @@ fn push_argument(text: &mut String, operand: &Operand) -> Result<(), AllocError>
 fn push_trap_argument(text: &mut String) -> Result<(), AllocError>
     ensures { OnOk result (string_bytes text.new ≡ string_bytes text.old ++ trap_argument) }
 {
-    text.push_str(assembler())?;
-    text.push_str("TrapCode(trap.as_raw())")
+    push_pieces(text, &[assembler(), "TrapCode(trap.as_raw())"])
 }
 
 // Appends the arguments of the assembler's function.
@@ -92,7 +88,7 @@ fn push_arguments(text: &mut String, inst: &Inst) -> Result<(), AllocError>
 
 // How a line of a method's body begins.
 #[tactic(auto, unfolding(crate::specs::Methods::line_begin))]
-fn line_begin() -> &'static str
+fn line_begin<'w>() -> &'w str
     ensures { result.now ≡ line_begin }
 {
     "            "
@@ -103,10 +99,10 @@ fn line_begin() -> &'static str
 fn push_let_line(text: &mut String, operand: &Operand) -> Result<(), AllocError>
     ensures { OnOk result (string_bytes text.new ≡ string_bytes text.old ++ let_line operand.now) }
 {
-    text.push_str(line_begin())?;
-    text.push_str("let ")?;
-    text.push_str(operand.location.as_str())?;
-    text.push_str(" = ")?;
+    push_pieces(
+        text,
+        &[line_begin(), "let ", operand.location.as_str(), " = "],
+    )?;
     push_converted(text, operand)?;
     text.push_str(";\n")
 }
@@ -123,17 +119,23 @@ fn push_let_lines(text: &mut String, operands: &[Operand]) -> Result<(), AllocEr
 }
 
 // Appends the assembler's instruction.
+#[tactic(auto, unfolding(crate::specs::Methods::inst_line))]
 fn push_inst_line(text: &mut String, inst: &Inst) -> Result<(), AllocError>
     ensures { OnOk result (string_bytes text.new ≡ string_bytes text.old ++ inst_line inst.now) }
 {
-    text.push_str(line_begin())?;
-    text.push_str("let inst = ")?;
-    text.push_str(assembler())?;
-    text.push_str("inst::")?;
-    text.push_str(inst.name.as_str())?;
-    text.push_str("::new(")?;
+    push_pieces(
+        text,
+        &[
+            line_begin(),
+            "let inst = ",
+            assembler(),
+            "inst::",
+            inst.name.as_str(),
+            "::new(",
+        ],
+    )?;
     push_arguments(text, inst)?;
-    push_piece(text, ").into();\n")
+    text.push_str(").into();\n")
 }
 
 // Appends the instruction of the compiler around it.
@@ -141,8 +143,10 @@ fn push_inst_line(text: &mut String, inst: &Inst) -> Result<(), AllocError>
 fn push_outer_line(text: &mut String) -> Result<(), AllocError>
     ensures { OnOk result (string_bytes text.new ≡ string_bytes text.old ++ outer_line) }
 {
-    text.push_str(line_begin())?;
-    text.push_str("let inst = MInst::External { inst };\n")
+    push_pieces(
+        text,
+        &[line_begin(), "let inst = MInst::External { inst };\n"],
+    )
 }
 
 // Appends a method's name and parameters.
@@ -214,9 +218,10 @@ fn macro_tail() -> &'static str
     "    };\n}\n"
 }
 
-/// Gives the Rust text of an assembler of these instructions. The only error is want of memory.
+/// Returns the Rust text of an assembler: a macro that writes the method of each term which Rust gives. The only error
+/// is want of memory.
 #[tactic(auto, unfolding(crate::specs::Methods::assembler_methods))]
-pub fn assembler_methods(alloc: Global, insts: &[Inst]) -> Result<String, AllocError>
+pub fn methods_of(alloc: Global, insts: &[Inst]) -> Result<String, AllocError>
     ensures { IfOk result (λ text. string_bytes text ≡ assembler_methods insts.now) }
 {
     let mut text = String::from_str(alloc, macro_head())?;

@@ -6,15 +6,15 @@ ghost use Rattle.isle_assembler.specs.Returns.{arm_begin, bound_of_two, bound_re
 ghost use Rattle.isle_assembler.specs.Returns.{given_elsewhere, one_place, one_register, reached, registers, side_effect};
 ghost use Rattle.isle_assembler.specs.Returns.{memory_arm, register_arm, two_registers, with_register};
 
-use crate::conversions::{assembler, class_word};
-use crate::pieces::push_piece;
+use crate::conversions::class_word;
+use crate::pieces::push_pieces;
 use crate::signature::class_name;
 use isle_assembler_rows::{is_register, written};
 use isle_meta::{Inst, Mutability, Operand, OperandKind, RegClass};
 use std::alloc::{AllocError, Global};
 
 // How the register of an operand is reached.
-fn reached(mutability: Mutability) -> &'static str
+fn reached<'w>(mutability: Mutability) -> &'w str
     ensures { result.now ≡ reached mutability }
 {
     match mutability {
@@ -38,21 +38,21 @@ fn class_of(kind: OperandKind) -> RegClass
 
 // The instruction alone.
 #[tactic(auto, unfolding(crate::specs::Returns::side_effect))]
-fn side_effect() -> &'static str
+fn side_effect<'w>() -> &'w str
     ensures { result.now ≡ side_effect }
 {
     "AssemblerOutputs::SideEffect { inst }"
 }
 
-// Appends the instruction with the register of a class.
-fn push_with_register(text: &mut String, class: RegClass) -> Result<(), AllocError>
-    ensures { OnOk result (string_bytes text.new ≡ string_bytes text.old ++ with_register class) }
+// The instruction with the register of a class.
+#[tactic(auto, unfolding(crate::specs::Returns::with_register))]
+fn with_register<'w>(class: RegClass) -> &'w str
+    ensures { result.now ≡ with_register class }
 {
-    text.push_str("AssemblerOutputs::Ret")?;
-    text.push_str(class_name(class))?;
-    text.push_str(" { inst, ")?;
-    text.push_str(class_word(class))?;
-    push_piece(text, " }")
+    match class {
+        RegClass::Gpr => "AssemblerOutputs::RetGpr { inst, gpr }",
+        RegClass::Xmm => "AssemblerOutputs::RetXmm { inst, xmm }",
+    }
 }
 
 // Appends a register under the name of its class, and the instruction with it.
@@ -68,14 +68,20 @@ fn push_bound_register(
         (string_bytes text.new
         ≡ string_bytes text.old ++ bound_register class place.now access.now mutability) }
 {
-    text.push_str("let ")?;
-    text.push_str(class_word(class))?;
-    text.push_str(" = ")?;
-    text.push_str(place)?;
-    text.push_str(access)?;
-    text.push_str(reached(mutability))?;
-    text.push_str("; ")?;
-    push_with_register(text, class)
+    let name = class_word(class);
+    push_pieces(
+        text,
+        &[
+            "let ",
+            name,
+            " = ",
+            place,
+            access,
+            reached(mutability),
+            "; ",
+        ],
+    )?;
+    text.push_str(with_register(class))
 }
 
 // Appends one register.
@@ -86,18 +92,19 @@ fn push_one_register(text: &mut String, x: &Operand) -> Result<(), AllocError>
     push_bound_register(text, class_of(x.kind), place, ".as_ref().", x.mutability)
 }
 
-// Appends how an arm of a match over a place of this class begins, up to the pattern.
-#[tactic(auto, unfolding(crate::specs::Returns::arm_begin))]
-fn push_arm_begin(text: &mut String, class: RegClass) -> Result<(), AllocError>
-    ensures { OnOk result
-        (string_bytes text.new ≡ string_bytes text.old ++ arm_begin class) }
+// How an arm of a match over a place of this class begins, up to the pattern.
+#[tactic(auto, unfolding(crate::specs::Returns::arm_begin, crate::specs::Conversions::assembler))]
+fn arm_begin<'w>(class: RegClass) -> &'w str
+    ensures { result.now ≡ arm_begin class }
 {
-    text.push_str(assembler())?;
-    text.push_str(class_name(class))?;
-    text.push_str("Mem::")
+    match class {
+        RegClass::Gpr => "cranelift_assembler_x64::GprMem::",
+        RegClass::Xmm => "cranelift_assembler_x64::XmmMem::",
+    }
 }
 
 // Appends the arm of a register.
+#[tactic(auto, unfolding(crate::specs::Returns::register_arm))]
 fn push_register_arm(
     text: &mut String,
     class: RegClass,
@@ -106,21 +113,20 @@ fn push_register_arm(
     ensures { OnOk result
         (string_bytes text.new ≡ string_bytes text.old ++ register_arm class mutability) }
 {
-    push_arm_begin(text, class)?;
-    text.push_str(class_name(class))?;
-    text.push_str("(reg) => { ")?;
+    push_pieces(text, &[arm_begin(class), class_name(class), "(reg) => { "])?;
     push_bound_register(text, class, "reg", ".", mutability)?;
-    push_piece(text, " }")
+    text.push_str(" }")
 }
 
 // Appends the arm of a place in memory.
+#[tactic(auto, unfolding(crate::specs::Returns::memory_arm))]
 fn push_memory_arm(text: &mut String, class: RegClass) -> Result<(), AllocError>
     ensures { OnOk result (string_bytes text.new ≡ string_bytes text.old ++ memory_arm class) }
 {
-    push_arm_begin(text, class)?;
-    text.push_str("Mem(_) => { ")?;
-    text.push_str(side_effect())?;
-    push_piece(text, " }")
+    push_pieces(
+        text,
+        &[arm_begin(class), "Mem(_) => { ", side_effect(), " }"],
+    )
 }
 
 // Appends a register or a place in memory.
@@ -128,9 +134,7 @@ fn push_memory_arm(text: &mut String, class: RegClass) -> Result<(), AllocError>
 fn push_one_place(text: &mut String, class: RegClass, x: &Operand) -> Result<(), AllocError>
     ensures { OnOk result (string_bytes text.new ≡ string_bytes text.old ++ one_place class x.now) }
 {
-    text.push_str("match ")?;
-    text.push_str(x.location.as_str())?;
-    text.push_str(" { ")?;
+    push_pieces(text, &["match ", x.location.as_str(), " { "])?;
     push_register_arm(text, class, x.mutability)?;
     text.push_str(" ")?;
     push_memory_arm(text, class)?;
@@ -138,17 +142,23 @@ fn push_one_place(text: &mut String, class: RegClass, x: &Operand) -> Result<(),
 }
 
 // Appends a register of two, under this name.
+#[tactic(auto, unfolding(crate::specs::Returns::bound_of_two))]
 fn push_bound_of_two(text: &mut String, name: &str, x: &Operand) -> Result<(), AllocError>
     ensures { OnOk result
         (string_bytes text.new ≡ string_bytes text.old ++ bound_of_two name.now x.now) }
 {
-    text.push_str("let ")?;
-    text.push_str(name)?;
-    text.push_str(" = ")?;
-    text.push_str(x.location.as_str())?;
-    text.push_str(".as_ref().")?;
-    text.push_str(reached(x.mutability))?;
-    push_piece(text, ".to_reg(); ")
+    push_pieces(
+        text,
+        &[
+            "let ",
+            name,
+            " = ",
+            x.location.as_str(),
+            ".as_ref().",
+            reached(x.mutability),
+            ".to_reg(); ",
+        ],
+    )
 }
 
 // Appends two registers.
@@ -159,8 +169,13 @@ fn push_two_registers(text: &mut String, x: &Operand, y: &Operand) -> Result<(),
 {
     push_bound_of_two(text, "one", x)?;
     push_bound_of_two(text, "two", y)?;
-    text.push_str("let regs = ValueRegs::two(one, two); ")?;
-    text.push_str("AssemblerOutputs::RetValueRegs { inst, regs }")
+    push_pieces(
+        text,
+        &[
+            "let regs = ValueRegs::two(one, two); ",
+            "AssemblerOutputs::RetValueRegs { inst, regs }",
+        ],
+    )
 }
 
 // Appends what one operand gives.
@@ -207,10 +222,7 @@ fn push_given_among(
 }
 
 // The registers among operands.
-fn registers<'t>(
-    alloc: Global,
-    operands: &[&'t Operand],
-) -> Result<Vec<&'t Operand>, AllocError>
+fn registers<'t>(alloc: Global, operands: &[&'t Operand]) -> Result<Vec<&'t Operand>, AllocError>
     ensures { IfOk result (λ found. lent found.items ≡ registers (lent operands.now)) }
 {
     let mut found = Vec::new(alloc);

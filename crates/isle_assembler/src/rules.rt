@@ -8,11 +8,11 @@ ghost use Rattle.isle_assembler.specs.RuleTexts.{alternate_rule_text, call_text,
 ghost use Rattle.isle_assembler.specs.RuleTexts.{constructor_text, defer_text, emit_text, head_text, made_decl_text, made_rule_text, raw_text};
 ghost use Rattle.isle_assembler.specs.RuleTexts.{outputs_text, row_text, rule_text, signature_text, usual_rule_text};
 
-use crate::constructor::Constructor;
-use crate::constructors::constructors_of;
-use crate::pieces::push_piece;
+use crate::pieces::{push_piece, push_pieces};
 use crate::signature::{Signature, push_handed, push_params, push_types};
-use crate::term_names::{is_left_out, push_choice_term, push_made_term, push_raw_term};
+use isle_assembler_rows::{
+    Constructor, constructors_of, is_left_out, push_choice_term, push_made_term, push_raw_term,
+};
 use isle_meta::{Alternate, Inst};
 use std::alloc::{AllocError, Global};
 
@@ -30,9 +30,7 @@ fn push_signature(
 {
     text.push_str(" (")?;
     push_types(text, signature, inst)?;
-    text.push_str(") ")?;
-    text.push_str(ret)?;
-    text.push_str(")\n")
+    push_pieces(text, &[") ", ret, ")\n"])
 }
 
 // Appends the raw term.
@@ -135,6 +133,7 @@ fn push_choice_head(
 }
 
 // Appends the rule that takes the alternate.
+#[tactic(auto, unfolding(crate::specs::RuleTexts::alternate_rule_text))]
 fn push_alternate_rule(
     text: &mut String,
     inst: &Inst,
@@ -147,9 +146,10 @@ fn push_alternate_rule(
 {
     text.push_str("(rule 1 (")?;
     push_choice_head(text, inst, c, alternate)?;
-    text.push_str("(if-let true (has_")?;
-    text.push_str(alternate.feature.as_str())?;
-    text.push_str(")) ")?;
+    push_pieces(
+        text,
+        &["(if-let true (has_", alternate.feature.as_str(), ")) "],
+    )?;
     push_call(text, inst, c, alternate.name.as_str())
 }
 
@@ -233,16 +233,22 @@ fn push_rows(alloc: Global, text: &mut String, insts: &[Inst]) -> Result<(), All
 }
 
 // Appends the type of what a raw term gives.
+#[tactic(auto, unfolding(crate::specs::RuleTexts::outputs_text))]
 fn push_outputs(text: &mut String) -> Result<(), AllocError>
     ensures { OnOk result (string_bytes text.new ≡ string_bytes text.old ++ outputs_text) }
 {
-    text.push_str(
-        "(type AssemblerOutputs (enum\n  (SideEffect (inst MInst))\n  (RetGpr (inst MInst) (gpr Gpr))\n  (RetXmm (inst MInst) (xmm Xmm))\n",
-    )?;
-    push_piece(text, "  (RetValueRegs (inst MInst) (regs ValueRegs))))\n")
+    push_pieces(
+        text,
+        &[
+            "(type AssemblerOutputs (enum\n  (SideEffect (inst MInst))\n",
+            "  (RetGpr (inst MInst) (gpr Gpr))\n  (RetXmm (inst MInst) (xmm Xmm))\n",
+            "  (RetValueRegs (inst MInst) (regs ValueRegs))))\n",
+        ],
+    )
 }
 
 // Appends the term that emits an instruction and gives its register.
+#[tactic(auto, unfolding(crate::specs::RuleTexts::emit_text))]
 fn push_emit(
     text: &mut String,
     term: &str,
@@ -254,29 +260,37 @@ fn push_emit(
         (string_bytes text.new
         ≡ string_bytes text.old ++ emit_text term.now variant.now x.now ret.now) }
 {
-    text.push_str("(decl ")?;
-    text.push_str(term)?;
-    text.push_str(" (AssemblerOutputs) ")?;
-    text.push_str(ret)?;
-    text.push_str(")\n(rule (")?;
-    text.push_str(term)?;
-    text.push_str(" (AssemblerOutputs.")?;
-    text.push_str(variant)?;
-    text.push_str(" inst ")?;
-    text.push_str(x)?;
-    text.push_str(")) (let ((_ Unit (emit inst))) ")?;
-    text.push_str(x)?;
-    push_piece(text, "))\n")
+    push_pieces(
+        text,
+        &[
+            "(decl ",
+            term,
+            " (AssemblerOutputs) ",
+            ret,
+            ")\n(rule (",
+            term,
+            " (AssemblerOutputs.",
+            variant,
+            " inst ",
+            x,
+            ")) (let ((_ Unit (emit inst))) ",
+            x,
+            "))\n",
+        ],
+    )
 }
 
 // Appends the term that puts an instruction off.
+#[tactic(auto, unfolding(crate::specs::RuleTexts::defer_text))]
 fn push_defer(text: &mut String) -> Result<(), AllocError>
     ensures { OnOk result (string_bytes text.new ≡ string_bytes text.old ++ defer_text) }
 {
-    text.push_str("(decl defer_side_effect (AssemblerOutputs) SideEffectNoResult)\n")?;
-    push_piece(
+    push_pieces(
         text,
-        "(rule (defer_side_effect (AssemblerOutputs.SideEffect inst)) (SideEffectNoResult.Inst inst))\n",
+        &[
+            "(decl defer_side_effect (AssemblerOutputs) SideEffectNoResult)\n",
+            "(rule (defer_side_effect (AssemblerOutputs.SideEffect inst)) (SideEffectNoResult.Inst inst))\n",
+        ],
     )
 }
 

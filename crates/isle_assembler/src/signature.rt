@@ -8,8 +8,7 @@ ghost use Rattle.isle_assembler.specs.RuleTexts.{all_handed_text, handed_text, n
 ghost use Rattle.isle_assembler.specs.Signatures.{alignment, bits, class_name, imm_type, is_param, is_written_reg_mem};
 ghost use Rattle.isle_assembler.specs.Signatures.{operand_type, param_type, reg_mem_type, takes, type_in};
 
-use crate::constructor::Constructor;
-use crate::operands::{is_raw, is_read, is_reg_mem, is_written};
+use isle_assembler_rows::{Constructor, is_raw, is_read, is_reg_mem, is_written};
 use isle_meta::{Inst, Operand, OperandKind, RegClass};
 use isle_printer::push_numeral;
 use std::alloc::AllocError;
@@ -24,7 +23,7 @@ pub enum Signature {
 }
 
 /// Returns the type of a class of registers.
-pub fn class_name(class: RegClass) -> &'static str
+pub fn class_name<'w>(class: RegClass) -> &'w str
     ensures { result.now ≡ class_name class }
 {
     match class {

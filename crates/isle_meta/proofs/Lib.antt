@@ -9,3 +9,4 @@ pub mod CheckLaws
 pub mod FormatLaws
 pub mod InstructionLaws
 pub mod ReservedLaws
+pub mod NameWords
