@@ -31,6 +31,10 @@ PulleyBreaks earlier before r BinaryOperands = row.BinaryOperands r
 PulleyBreaks earlier before r Results = row.Results r
 PulleyBreaks earlier before r FieldType = row.FieldType r
 
+-- the first of these rows that isn't supported after terms of these names, or that all are
+abbrev pub IsFirstAfter : (earlier : List (List ℕ)) → List PulleyInst → Option Unsupported → Type 0
+IsFirstAfter earlier rows found = IsFirstRow (λ (row : PulleyInst). row.name) (PulleyBreaks earlier) [] rows found
+
 -- the first operation that isn't supported after terms of these names, or that all are: those of the first list come before those of the second
 abbrev pub IsFirstOperation : (earlier : List (List ℕ)) → (ops extended : List PulleyInst) → Option Unsupported → Type 0
-IsFirstOperation earlier ops extended found = IsFirstRow (λ (row : PulleyInst). row.name) (PulleyBreaks earlier) [] (ops ++ extended) found
+IsFirstOperation earlier ops extended found = IsFirstAfter earlier (ops ++ extended) found

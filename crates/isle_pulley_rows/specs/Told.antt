@@ -1,5 +1,5 @@
 -- What the code tells of a row.
-use Rattle.std.specs.Prelude.{◌≡◌, ◌↔◌, List, Bool, false, map, IsTrue}
+use Rattle.std.specs.Prelude.{◌≡◌, ◌↔◌, ℕ, List, Bool, false, map, IsTrue}
 use Rattle.isle_meta.specs.declared.pulley.PulleyInst.{PulleyInst}
 use Rattle.isle_meta.specs.declared.shapes.Shape.{Shape}
 use Rattle.isle_meta.specs.declared.shapes.Shape.TheVariants.{BadName, RepeatedName, ReservedName, TyOperand, FormatIndex, ValueCount, BlockCount, RawBlockCount, ImmCount, ImmType, ImmShape, NoVarargs, NoTypevar, WrittenImm, AlignedMem, WrittenOperands, ImplicitOperand, AlternateWithoutXmm, BinaryOperands, Results, FieldType}
@@ -35,6 +35,18 @@ told f FieldType = f.field_type
 pub record Tells (f : Faults) (Broken : Shape → Type 0) : Type 0 where
   pub each : (shape : Shape) → IsTrue (told f shape) ↔ Broken shape
 
--- rows beside their terms, as the code makes them
+-- a row and its terms
+abbrev pub TermsOf : Type 0
+TermsOf = PulleyInst × List (List ℕ)
+
+-- what the code has of a row and its terms
+abbrev pub as_made : Termed → TermsOf
+as_made t = (t.row.now, t.terms)
+
+-- a row and the terms that it has
+abbrev pub as_meant : PulleyInst → TermsOf
+as_meant row = (row, row_terms row)
+
+-- just these rows, each beside its terms
 abbrev pub AreTermed : List Termed → List PulleyInst → Type 0
-AreTermed ts rows = map (λ (t : Termed). (t.row.now, t.terms)) ts ≡ map (λ (row : PulleyInst). (row, row_terms row)) rows
+AreTermed ts rows = map as_made ts ≡ map as_meant rows

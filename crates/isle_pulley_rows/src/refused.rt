@@ -6,12 +6,12 @@ ghost use Rattle.isle_meta.specs.Checked.{Checks};
 ghost use Rattle.isle_meta.specs.TableNames.{texts};
 ghost use Rattle.isle_meta.specs.Told.{found_row};
 ghost use Rattle.isle_meta.specs.declared.pulley.PulleyInst.{PulleyInst as Row};
-ghost use Rattle.isle_pulley_rows.specs.PulleyRows.{IsFirstOperation};
-ghost use Rattle.isle_pulley_rows.specs.Told.{AreTermed, IsFirst};
+ghost use Rattle.isle_pulley_rows.specs.PulleyRows.{IsFirstAfter, IsFirstOperation};
+ghost use Rattle.isle_pulley_rows.specs.Told.{AreTermed};
 
 use crate::check::row_faults;
 use crate::faults::first_shape;
-use crate::terms::{Termed, termed};
+use crate::terms::{Termed, with_terms};
 use isle_lawful_names::added;
 use isle_meta::{PulleyInst, Shape, TableFail, checked, has_repeated_term};
 use std::alloc::{AllocError, Global};
@@ -35,7 +35,7 @@ fn unsupported_among<'t>(
     rows: &[Termed<'t>],
 ) -> Result<Option<(&'t str, Shape)>, AllocError>
     ensures { (own : List Row) → AreTermed rows.now own
-        → IfOk result (λ found. IsFirst (texts earlier.now) own (found_row found)) }
+        → IfOk result (λ found. IsFirstAfter (texts earlier.now) own (found_row found)) }
 {
     let mut met = BTreeSet::new(alloc);
     add_names(&mut met, earlier)?;
@@ -60,7 +60,7 @@ pub fn unsupported_operation<'t>(
     ensures { IfOk result (λ found.
         IsFirstOperation (texts earlier.now) ops.now extended.now (found_row found)) }
 {
-    let rows = termed(alloc, ops, extended)?;
+    let rows = with_terms(alloc, ops, extended)?;
     unsupported_among(alloc, earlier, rows.as_slice())
 }
 

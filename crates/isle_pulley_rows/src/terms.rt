@@ -58,7 +58,7 @@ fn push_termed<'t>(
 }
 
 /// Returns the rows of two lists with their terms, in order. The only error is want of memory.
-pub fn termed<'t>(
+pub fn with_terms<'t>(
     alloc: Global,
     ops: &'t [PulleyInst],
     extended: &'t [PulleyInst],
