@@ -60,15 +60,14 @@ fn push_read_write(
     ensures { OnOk result
         (string_bytes text.new ≡ string_bytes text.old ++ read_write name.now class x.now) }
 {
-    let class = class_word(class);
     push_pieces(
         text,
         &[
             "self.convert_",
-            class,
+            class_word(class),
             "_to_assembler_",
             name,
-            class,
+            class_word(class),
             "(",
             x,
             ")",

@@ -68,12 +68,11 @@ fn push_bound_register(
         (string_bytes text.new
         ≡ string_bytes text.old ++ bound_register class place.now access.now mutability) }
 {
-    let name = class_word(class);
     push_pieces(
         text,
         &[
             "let ",
-            name,
+            class_word(class),
             " = ",
             place,
             access,
