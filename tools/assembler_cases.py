@@ -3,7 +3,7 @@
 
     tools/assembler_cases.py > crates/isle_cases/data/prelude_assembler.cases
 
-What is wanted is worked out here from the tables of the assembler's terms alone, by the rules that `docs/LANGUAGE.md` tells.
+What is wanted is worked out here from the tables of the assembler's terms alone, by the rules that `crates/isle_assembler/README.md` tells.
 """
 LIBRARY = "cranelift_assembler_x64"
 

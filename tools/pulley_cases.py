@@ -3,7 +3,7 @@
 
     tools/pulley_cases.py > crates/isle_cases/data/prelude_pulley.cases
 
-What is wanted is worked out here from the rows alone, by the rules that `docs/LANGUAGE.md` tells.
+What is wanted is worked out here from the rows alone, by the rules that `crates/isle_pulley/README.md` and `crates/isle_pulley_rows/README.md` tell.
 """
 import re
 

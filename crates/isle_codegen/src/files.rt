@@ -38,7 +38,7 @@ pub fn from_files<D: Dir>(
         ≤ (D.counts dir.old).given + (2 ^ 24 + 1) * length inputs.now }
 {
     match Files::from_paths(alloc, dir, inputs, options.prefixes.as_slice()) {
-        Ok(files) => match compiled(alloc, &files, options) {
+        Ok(files) => match compile_texts(alloc, &files, options) {
             Ok(text) => Ok(text),
             Err(fail) => Err(fail.with_files(files)),
         },
@@ -47,8 +47,13 @@ pub fn from_files<D: Dir>(
     }
 }
 
-// The text of the program of the definitions that the files' texts spell. There are as many names as texts.
-fn compiled(alloc: Global, files: &Files, options: &CodegenOptions) -> Result<String, CompileError>
+/// Compiles texts that are read: returns the text of the program of the definitions that the files' texts spell. There
+/// are as many names as texts. Its errors are those of `from_files`, without what reading gives.
+pub fn compile_texts(
+    alloc: Global,
+    files: &Files,
+    options: &CodegenOptions,
+) -> Result<String, CompileError>
     requires count { length files.now.file_texts ≡ length files.now.file_names }
     ensures header { IfOk result (λ text. HasHeader files.now.file_names (string_bytes text)) }
     ensures ok { IfOk result (λ text. CompilesTo options.now files.now (string_bytes text)) }

@@ -7,12 +7,31 @@ ghost use Rattle.isle_codegen.specs.Emission.{ArePlaced};
 ghost use Rattle.isle_codegen.specs.LawfulEnvironment.{MayBeEmitted};
 ghost use Rattle.isle_codegen.specs.Header.{header, HasHeader};
 ghost use Rattle.isle_codegen.specs.Headline.{IsText};
+ghost use Rattle.isle_codegen.specs.Names.{are_file_names};
+ghost use Rattle.isle_target.specs.Reading.{SpellsOnly};
+ghost use Rattle.isle_tree.specs.Views.{program};
+ghost use Rattle.isle_tree.specs.WellFormed.{IsWellFormed};
 
 use crate::tree::codegen_tree;
 use isle_core::{CodegenOptions, Files, OutOfMemory, RuleSet, TermEnv, TermId, Text, TypeEnv};
 use isle_printer::push_comment;
 use isle_target::print_program;
+use isle_tree::Program;
 use std::alloc::Global;
+
+/// Writes the text of a program: the header comment, which names the files, and the program's print. The text spells
+/// this program and no other. The only error is want of memory.
+pub fn program_text(alloc: Global, names: &[Text], tree: &Program) -> Result<String, OutOfMemory>
+    requires names { are_file_names names.now ≡ true }
+    requires well_formed { IsWellFormed (program tree.now) }
+    ensures header { IfOk result (λ text. HasHeader names.now (string_bytes text)) }
+    ensures spells { IfOk result (λ text. SpellsOnly (string_bytes text) (program tree.now)) }
+{
+    let print = print_program(alloc, tree)?;
+    let mut text = header(alloc, names)?;
+    text.push_str(print.as_str())?;
+    Ok(text)
+}
 
 /// Writes the text of an environment's program: the header comment, which names the files, and the print of
 /// `codegen_tree`, whose conditions are its own. The only error is want of memory.
@@ -32,9 +51,7 @@ pub fn codegen(
         IsText options.now files.now (environment typeenv.now termenv.now) (string_bytes text)) }
 {
     let tree = codegen_tree(alloc, files, typeenv, termenv, terms, options)?;
-    let print = print_program(alloc, &tree)?;
-    let mut text = header(alloc, files.file_names.as_slice())?;
-    text.push_str(print.as_str())?;
+    let text = program_text(alloc, files.file_names.as_slice(), &tree)?;
     Ok(text)
 }
 

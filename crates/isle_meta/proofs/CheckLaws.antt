@@ -1,5 +1,5 @@
 -- What a search found, and what a check answers.
-use Rattle.std.proofs.Common.{◌≡◌, Option, Some, None, Result, Ok, Err, subst}
+use Rattle.std.proofs.Common.{Option, Result, Ok, Err, subst}
 use Rattle.isle_meta.specs.Checked.{Answers, Checks}
 use Rattle.isle_meta.specs.declared.errors.TableFail.{TableFail}
 use Rattle.isle_meta.specs.declared.errors.TableFail.TheVariants as fail

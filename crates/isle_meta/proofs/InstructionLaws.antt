@@ -1,15 +1,12 @@
 -- What is told of instructions, and the first that isn't supported.
-use Rattle.std.proofs.Common.{◌≡◌, ℕ, ◌+◌, ◌<◌, ◌≤◌, List, [], ◌∷◌, ◌++◌, length, get_or, take, drop, Bool, false, Option, Some, None, refl, sym, ap, ◌∙◌, subst, inl, inr}
+use Rattle.std.proofs.Common.{◌≡◌, ℕ, ◌+◌, ◌<◌, ◌≤◌, List, [], ◌∷◌, ◌++◌, length, get_or, take, Bool, false, Option, Some, None, refl, sym, ap, ◌∙◌, subst}
 use Rattle.std.specs.Prelude.{◌↔◌, ◌&&◌, ◌||◌, find, slice_get, IsTrue, IsSomeAnd}
 use Rattle.std.specs.BTreeSet.{BTreeSet}
-use Rattle.std.proofs.lemmas.List.{drop_more, take_more}
-use Rattle.std.proofs.Math.ListN.{drop_of_length-le}
 use denote.Ref.{Bor}
 use Rattle.isle_lawful_names.specs.NameSet.{HasNames}
 use Rattle.isle_lawful_names.proofs.NameSteps.{none_there}
 use Rattle.isle_meta.specs.declared.clif.Instruction.{Instruction}
 use Rattle.isle_meta.specs.declared.clif.InstructionFormat.{InstructionFormat}
-use Rattle.isle_meta.specs.declared.errors.Unsupported.{Unsupported}
 use Rattle.isle_meta.specs.declared.faults.Faults.{Faults}
 use Rattle.isle_meta.specs.declared.instructions.NameFaults.{NameFaults}
 use Rattle.isle_meta.specs.declared.misfits.Misfits.{Misfits}

@@ -1,5 +1,5 @@
 -- The shapes that formats and instructions break, and the first that isn't supported.
-use Rattle.std.specs.Prelude.{ℕ, List, [], Option}
+use Rattle.std.specs.Prelude.{List, [], Option}
 use Rattle.isle_meta.specs.declared.clif.Instruction.{Instruction}
 use Rattle.isle_meta.specs.declared.clif.InstructionFormat.{InstructionFormat}
 use Rattle.isle_meta.specs.declared.errors.Unsupported.{Unsupported}

@@ -1,7 +1,8 @@
 mod AllLaws
 mod AscendingLaws
-mod CamelLaws
 mod DataLaws
+mod DataTexts
+mod FileTexts
 pub mod FilesWritable
 mod FirstLaws
 mod FixedNames
@@ -15,4 +16,5 @@ pub mod PreludeWritable
 mod SizeLaws
 mod SupportedLaws
 mod TextLaws
+mod TypeTexts
 mod TypesWritable

@@ -15,7 +15,7 @@ pub mod InstructionParts
 pub mod FileManners
 pub mod DataParts
 pub mod Kinds
-pub mod TermNames
-pub mod ArrayTypes
 pub mod Sizes
 pub mod FirstFields
+pub mod TypePieces
+pub mod TermPieces

@@ -1,22 +1,19 @@
 //! The arrays that instructions hold their operands in.
 
-ghost use Rattle.std.specs.Prelude.{◌≡◌, ◌++◌, [], IfOk, OnOk, string_bytes, replicate};
+ghost use Rattle.std.specs.Prelude.{◌≡◌, ◌++◌, IfOk, OnOk, string_bytes};
 ghost use Rattle.std.specs.List.{flat_map};
-ghost use Rattle.isle_prelude.specs.Arrays.{above_one, array_defs, arrays, block_array_defs, block_array_sizes};
-ghost use Rattle.isle_prelude.specs.Arrays.{value_array_defs, value_array_size, value_array_sizes};
-ghost use Rattle.isle_prelude.specs.Declaring.{always_taken_by, extern_enum, made_by, plain_decl};
-ghost use Rattle.isle_prelude.specs.NumberedNames.{pack, unpack};
+ghost use Rattle.isle_prelude.specs.Arrays.{above_one, block_array_sizes, value_array_size, value_array_sizes};
 ghost use Rattle.isle_prelude.specs.Sizes.{with_size};
-ghost use Rattle.isle_writing.specs.Text.{def_text, def_texts};
+ghost use Rattle.isle_prelude.specs.TypePieces.{array_decl_piece, array_piece, array_type_piece, arrays_piece};
+ghost use Rattle.isle_prelude.specs.TypePieces.{block_array_piece, empty_tail, function_piece, item_piece};
+ghost use Rattle.isle_prelude.specs.TypePieces.{items_piece, made_head, taken_head, value_array_piece};
 
-use crate::declaring::{push_always_taken_by, push_extern_enum, push_made_by, push_plain_decl};
-use crate::numbered_names::{block_array, block_array_type, joined, value_array, value_array_type};
-use isle_core::{List, Name};
+use crate::pieces::{push_then_numbered, push_two};
 use isle_meta::InstructionFormat;
 use std::alloc::{AllocError, Global};
 use std::collections::BTreeSet;
 
-// An array: its term, its type, what it holds, and how many.
+// An array: how its term and its type begin, in front of the size, what it holds, and how many.
 #[derive(Drop)]
 struct Array<'t> {
     term: &'t str,
@@ -86,90 +83,164 @@ fn block_array_sizes(
     Ok(sizes)
 }
 
-// A name so many times.
-fn repeated<'t>(alloc: Global, item: &'t str, n: usize) -> Result<Vec<Name<'t>>, AllocError>
-    ensures { IfOk result (λ names. names.items ≡ replicate n item.now) }
+// Appends an item behind so many others, with a blank between them.
+fn push_item(text: &mut String, before: usize, item: &str) -> Result<(), AllocError>
+    ensures { OnOk result
+        (string_bytes text.new ≡ string_bytes text.old ++ item_piece before item.now) }
 {
-    let mut names = Vec::new(alloc);
-    for _index in 0..n {
-        names.push(Name::new(item))?;
+    match before {
+        0 => text.push_str(item),
+        _ => push_two(text, " ", item),
     }
-    Ok(names)
 }
 
-// Appends the type of an array and the declaration of its term.
-fn push_declared(alloc: Global, text: &mut String, array: &Array<'_>) -> Result<(), AllocError>
+// Appends an item so many times, with blanks between them.
+fn push_items(text: &mut String, n: usize, item: &str) -> Result<(), AllocError>
+    ensures { OnOk result
+        (string_bytes text.new ≡ string_bytes text.old ++ items_piece n item.now) }
+{
+    for index in 0..n {
+        push_item(text, index, item)?;
+    }
+    Ok(())
+}
+
+// How the type of an array ends.
+#[tactic(auto, unfolding(crate::specs::TypePieces::empty_tail))]
+fn empty_tail() -> &'static str
+    ensures { result.now ≡ empty_tail }
+{
+    " extern (enum))\n"
+}
+
+// Appends the type of an array.
+fn push_array_type(text: &mut String, array: &Array<'_>) -> Result<(), AllocError>
+    ensures { OnOk result
+        (string_bytes text.new
+        ≡ string_bytes text.old ++ array_type_piece array.now.array_type.now array.now.size) }
+{
+    push_then_numbered(text, "(type ", array.array_type, array.size)?;
+    text.push_str(empty_tail())
+}
+
+// Appends the declaration of an array's term.
+fn push_array_decl(text: &mut String, array: &Array<'_>) -> Result<(), AllocError>
     ensures { OnOk result
         (string_bytes text.new
         ≡ string_bytes text.old
-        ++ (def_text (extern_enum array.now.array_type.now [])
-        ++ def_text (plain_decl array.now.term.now (replicate array.now.size array.now.item.now)
-        array.now.array_type.now))) }
+        ++ array_decl_piece array.now.term.now array.now.array_type.now array.now.item.now
+        array.now.size) }
 {
-    push_extern_enum(text, array.array_type, List::new(Vec::new(alloc)))?;
-    let items = repeated(alloc, array.item, array.size)?;
-    push_plain_decl(text, array.term, List::new(items), array.array_type)
+    push_then_numbered(text, "(decl ", array.term, array.size)?;
+    text.push_str(" (")?;
+    push_items(text, array.size, array.item)?;
+    push_then_numbered(text, ") ", array.array_type, array.size)?;
+    text.push_str(")\n")
 }
 
-// Appends what packs an array and takes it apart.
-fn push_packed(alloc: Global, text: &mut String, term: &str) -> Result<(), AllocError>
+// What stands before a term that a function makes.
+#[tactic(auto, unfolding(crate::specs::TypePieces::made_head))]
+fn made_head() -> &'static str
+    ensures { result.now ≡ made_head }
+{
+    "(extern constructor "
+}
+
+// What stands before a term that a function always takes apart.
+#[tactic(auto, unfolding(crate::specs::TypePieces::taken_head))]
+fn taken_head() -> &'static str
+    ensures { result.now ≡ taken_head }
+{
+    "(extern extractor infallible "
+}
+
+// Appends a function for an array's term.
+fn push_function(
+    text: &mut String,
+    head: &str,
+    before: &str,
+    array: &Array<'_>,
+) -> Result<(), AllocError>
     ensures { OnOk result
         (string_bytes text.new
         ≡ string_bytes text.old
-        ++ (def_text (made_by term.now (pack term.now))
-        ++ def_text (always_taken_by term.now (unpack term.now)))) }
+        ++ function_piece head.now before.now array.now.term.now array.now.size) }
 {
-    let pack = joined(alloc, "pack_", term)?;
-    push_made_by(text, term, pack.as_str())?;
-    let unpack = joined(alloc, "unpack_", term)?;
-    push_always_taken_by(text, term, unpack.as_str())
+    push_then_numbered(text, head, array.term, array.size)?;
+    push_then_numbered(text, before, array.term, array.size)?;
+    text.push_str(")\n")
 }
 
 // Appends an array.
-fn push_array(alloc: Global, text: &mut String, array: &Array<'_>) -> Result<(), AllocError>
+#[tactic(auto, unfolding(crate::specs::TypePieces::array_piece))]
+fn push_array(text: &mut String, array: &Array<'_>) -> Result<(), AllocError>
     ensures { OnOk result
         (string_bytes text.new
         ≡ string_bytes text.old
-        ++ def_texts (array_defs array.now.term.now array.now.array_type.now array.now.item.now
-        array.now.size)) }
+        ++ array_piece array.now.term.now array.now.array_type.now array.now.item.now
+        array.now.size) }
 {
-    push_declared(alloc, text, array)?;
-    push_packed(alloc, text, array.term)
+    push_array_type(text, array)?;
+    push_array_decl(text, array)?;
+    push_function(text, made_head(), " pack_", array)?;
+    push_function(text, taken_head(), " unpack_", array)
 }
 
 // Appends an array of so many values.
-fn push_value_array(alloc: Global, text: &mut String, size: usize) -> Result<(), AllocError>
+#[tactic(auto, unfolding(crate::specs::TypePieces::value_array_piece))]
+fn push_value_array(text: &mut String, size: usize) -> Result<(), AllocError>
     ensures { OnOk result
-        (string_bytes text.new ≡ string_bytes text.old ++ def_texts (value_array_defs size)) }
+        (string_bytes text.new ≡ string_bytes text.old ++ value_array_piece size) }
 {
-    let term = value_array(alloc, size)?;
-    let array_type = value_array_type(alloc, size)?;
     let array = Array {
-        term: term.as_str(),
-        array_type: array_type.as_str(),
+        term: "value_array_",
+        array_type: "ValueArray",
         item: "Value",
         size,
     };
-    push_array(alloc, text, &array)
+    push_array(text, &array)
 }
 
 // Appends an array of so many blocks with their arguments.
-fn push_block_array(alloc: Global, text: &mut String, size: usize) -> Result<(), AllocError>
+#[tactic(auto, unfolding(crate::specs::TypePieces::block_array_piece))]
+fn push_block_array(text: &mut String, size: usize) -> Result<(), AllocError>
     ensures { OnOk result
-        (string_bytes text.new ≡ string_bytes text.old ++ def_texts (block_array_defs size)) }
+        (string_bytes text.new ≡ string_bytes text.old ++ block_array_piece size) }
 {
-    let term = block_array(alloc, size)?;
-    let array_type = block_array_type(alloc, size)?;
     let array = Array {
-        term: term.as_str(),
-        array_type: array_type.as_str(),
+        term: "block_array_",
+        array_type: "BlockArray",
         item: "BlockCall",
         size,
     };
-    push_array(alloc, text, &array)
+    push_array(text, &array)
 }
 
-// Appends arrays of values.
+// Appends arrays of values of these sizes.
+fn push_value_sizes(text: &mut String, sizes: &BTreeSet<usize>) -> Result<(), AllocError>
+    ensures { OnOk result
+        (string_bytes text.new
+        ≡ string_bytes text.old ++ flat_map value_array_piece sizes.now.keys) }
+{
+    for size in sizes {
+        push_value_array(text, *size)?;
+    }
+    Ok(())
+}
+
+// Appends arrays of blocks of these sizes.
+fn push_block_sizes(text: &mut String, sizes: &BTreeSet<usize>) -> Result<(), AllocError>
+    ensures { OnOk result
+        (string_bytes text.new
+        ≡ string_bytes text.old ++ flat_map block_array_piece sizes.now.keys) }
+{
+    for size in sizes {
+        push_block_array(text, *size)?;
+    }
+    Ok(())
+}
+
+// Appends the arrays of values that the instructions of formats use.
 fn push_value_arrays(
     alloc: Global,
     text: &mut String,
@@ -177,17 +248,13 @@ fn push_value_arrays(
 ) -> Result<(), AllocError>
     ensures { OnOk result
         (string_bytes text.new
-        ≡ string_bytes text.old
-        ++ def_texts (flat_map value_array_defs (value_array_sizes formats.now))) }
+        ≡ string_bytes text.old ++ flat_map value_array_piece (value_array_sizes formats.now)) }
 {
     let sizes = value_array_sizes(alloc, formats)?;
-    for size in &sizes {
-        push_value_array(alloc, text, *size)?;
-    }
-    Ok(())
+    push_value_sizes(text, &sizes)
 }
 
-// Appends arrays of blocks.
+// Appends the arrays of blocks that the instructions of formats use.
 fn push_block_arrays(
     alloc: Global,
     text: &mut String,
@@ -195,14 +262,10 @@ fn push_block_arrays(
 ) -> Result<(), AllocError>
     ensures { OnOk result
         (string_bytes text.new
-        ≡ string_bytes text.old
-        ++ def_texts (flat_map block_array_defs (block_array_sizes formats.now))) }
+        ≡ string_bytes text.old ++ flat_map block_array_piece (block_array_sizes formats.now)) }
 {
     let sizes = block_array_sizes(alloc, formats)?;
-    for size in &sizes {
-        push_block_array(alloc, text, *size)?;
-    }
-    Ok(())
+    push_block_sizes(text, &sizes)
 }
 
 /// Appends all arrays that the instructions of formats use. The only error is want of memory.
@@ -212,7 +275,7 @@ pub fn push_arrays(
     formats: &[InstructionFormat],
 ) -> Result<(), AllocError>
     ensures { OnOk result
-        (string_bytes text.new ≡ string_bytes text.old ++ def_texts (arrays formats.now)) }
+        (string_bytes text.new ≡ string_bytes text.old ++ arrays_piece formats.now) }
 {
     push_value_arrays(alloc, text, formats)?;
     push_block_arrays(alloc, text, formats)

@@ -20,24 +20,13 @@ pub fn put<'t>(names: &mut BTreeSet<&'t str>, name: &'t str) -> Result<(), Alloc
     Ok(())
 }
 
-/// Returns the names of a set, in ascending order. The only error is want of memory.
-pub fn in_order<'t>(alloc: Global, names: &BTreeSet<&'t str>) -> Result<Vec<&'t str>, AllocError>
-    ensures { IfOk result (λ found. lent found.items ≡ lent names.now.keys) }
-{
-    let mut found = Vec::new(alloc);
-    for name in names {
-        found.push(*name)?;
-    }
-    Ok(found)
-}
-
 /// Returns names in ascending order, each once. The only error is want of memory.
-pub fn ascending<'t>(alloc: Global, given: &'t [Text]) -> Result<Vec<&'t str>, AllocError>
-    ensures { IfOk result (λ found. lent found.items ≡ ascending given.now) }
+pub fn ascending<'t>(alloc: Global, given: &'t [Text]) -> Result<BTreeSet<&'t str>, AllocError>
+    ensures { IfOk result (λ found. lent found.keys ≡ ascending given.now) }
 {
     let mut names = BTreeSet::new(alloc);
     for name in given {
         put(&mut names, name.as_str())?;
     }
-    in_order(alloc, &names)
+    Ok(names)
 }

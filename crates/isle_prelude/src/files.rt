@@ -1,17 +1,19 @@
 //! The two files of instructions.
 
-ghost use Rattle.std.specs.Prelude.{◌≡◌, ◌++◌, IfOk, OnOk, slice_get, string_bytes};
+ghost use Rattle.std.specs.Prelude.{◌≡◌, ◌++◌, IfOk, OnOk, string_bytes};
+ghost use Rattle.std.specs.List.{flat_map};
 ghost use Rattle.isle_meta.specs.FormatRow.{all_fields};
-ghost use Rattle.isle_prelude.specs.ClifFiles.{file_defs, instruction_defs, lower_defs, of_format, opt_defs};
-ghost use Rattle.isle_prelude.specs.CommonDefs.{imm_defs};
-ghost use Rattle.isle_prelude.specs.FileManners.{common_of, file_manner, rows_defs};
+ghost use Rattle.isle_prelude.specs.ClifFiles.{file_defs, lower_defs, opt_defs};
+ghost use Rattle.isle_prelude.specs.FileManners.{file_case, file_manner};
 ghost use Rattle.isle_prelude.specs.Generated.{Generates};
+ghost use Rattle.isle_prelude.specs.TermPieces.{file_piece, instruction_piece, row_piece};
+ghost use Rattle.isle_prelude.specs.TypePieces.{common_piece, imm_piece};
 ghost use Rattle.isle_writing.specs.Text.{def_texts};
 
 use crate::arrays::push_arrays;
 use crate::fields::all_fields;
-use crate::immediates::push_imm_defs;
-use crate::instruction_data::push_data_defs;
+use crate::immediates::push_imm_types;
+use crate::instruction_data::push_data_types;
 use crate::instructions::push_instruction;
 use crate::manners::{InstructionFile, file_manner};
 use isle_meta::{Instruction, InstructionFormat, TableFail, Tables};
@@ -25,11 +27,10 @@ fn push_field_types(
     formats: &[InstructionFormat],
 ) -> Result<(), AllocError>
     ensures { OnOk result
-        (string_bytes text.new
-        ≡ string_bytes text.old ++ def_texts (imm_defs (all_fields formats.now))) }
+        (string_bytes text.new ≡ string_bytes text.old ++ imm_piece (all_fields formats.now)) }
 {
     let fields = all_fields(alloc, formats)?;
-    push_imm_defs(alloc, text, fields.as_slice())
+    push_imm_types(alloc, text, fields.as_slice())
 }
 
 // Appends the definitions with which both files begin.
@@ -41,16 +42,15 @@ fn push_common(
 ) -> Result<(), AllocError>
     ensures { OnOk result
         (string_bytes text.new
-        ≡ string_bytes text.old ++ def_texts (common_of formats.now instructions.now)) }
+        ≡ string_bytes text.old ++ common_piece formats.now instructions.now) }
 {
     push_field_types(alloc, text, formats)?;
     push_arrays(alloc, text, formats)?;
-    push_data_defs(alloc, text, formats, instructions)
+    push_data_types(text, formats, instructions)
 }
 
 // Appends an instruction of this format, if the file takes it.
 fn push_of_format(
-    alloc: Global,
     text: &mut String,
     file: InstructionFile,
     format: &InstructionFormat,
@@ -59,18 +59,18 @@ fn push_of_format(
     ensures { OnOk result
         (string_bytes text.new
         ≡ string_bytes text.old
-        ++ def_texts (instruction_defs (file_manner file format.now.has_value_list instruction.now)
-        format.now instruction.now)) }
+        ++ instruction_piece (file_case file format.now.has_value_list instruction.now)
+        format.now instruction.now) }
 {
     match file_manner(file, format.has_value_list, instruction) {
-        Some(manner) => push_instruction(alloc, text, manner, format, instruction),
+        Some(manner) => push_instruction(text, manner, format, instruction),
         None => Ok(()),
     }
 }
 
 // Appends an instruction, if its format is there and the file takes it.
+#[tactic(auto, unfolding(crate::specs::TermPieces::row_piece))]
 fn push_row(
-    alloc: Global,
     text: &mut String,
     file: InstructionFile,
     formats: &[InstructionFormat],
@@ -78,19 +78,16 @@ fn push_row(
 ) -> Result<(), AllocError>
     ensures { OnOk result
         (string_bytes text.new
-        ≡ string_bytes text.old
-        ++ def_texts (of_format (file_manner file)
-        (slice_get formats.now instruction.now.format) instruction.now)) }
+        ≡ string_bytes text.old ++ row_piece file formats.now instruction.now) }
 {
     match formats.get(instruction.format) {
-        Some(format) => push_of_format(alloc, text, file, format, instruction),
+        Some(format) => push_of_format(text, file, format, instruction),
         None => Ok(()),
     }
 }
 
 // Appends instructions.
 fn push_rows(
-    alloc: Global,
     text: &mut String,
     file: InstructionFile,
     formats: &[InstructionFormat],
@@ -98,10 +95,10 @@ fn push_rows(
 ) -> Result<(), AllocError>
     ensures { OnOk result
         (string_bytes text.new
-        ≡ string_bytes text.old ++ def_texts (rows_defs file formats.now instructions.now)) }
+        ≡ string_bytes text.old ++ flat_map (row_piece file formats.now) instructions.now) }
 {
     for instruction in instructions {
-        push_row(alloc, text, file, formats, instruction)?;
+        push_row(text, file, formats, instruction)?;
     }
     Ok(())
 }
@@ -116,12 +113,10 @@ fn push_file(
 ) -> Result<(), AllocError>
     ensures { OnOk result
         (string_bytes text.new
-        ≡ string_bytes text.old
-        ++ def_texts (common_of formats.now instructions.now
-        ++ rows_defs file formats.now instructions.now)) }
+        ≡ string_bytes text.old ++ file_piece file formats.now instructions.now) }
 {
     push_common(alloc, text, formats, instructions)?;
-    push_rows(alloc, text, file, formats, instructions)
+    push_rows(text, file, formats, instructions)
 }
 
 // The text of a file.

@@ -12,7 +12,7 @@ use crate::ascending::ascending;
 use crate::paths::short_name;
 use isle_meta::ImmField;
 use std::alloc::{AllocError, Global};
-use std::collections::BTreeMap;
+use std::collections::{BTreeMap, BTreeSet};
 
 // Notes an immediate, unless one of its type is there.
 fn note_first<'t>(
@@ -45,12 +45,12 @@ pub fn first_fields<'t>(
 }
 
 // The values of an immediate, in ascending order.
-fn field_values(alloc: Global, field: &ImmField) -> Result<Vec<&str>, AllocError>
-    ensures { IfOk result (λ values. lent values.items ≡ ascending (values_of field.now)) }
+fn field_values(alloc: Global, field: &ImmField) -> Result<BTreeSet<&str>, AllocError>
+    ensures { IfOk result (λ values. lent values.keys ≡ ascending (values_of field.now)) }
 {
     match &field.values {
         Some(values) => ascending(alloc, values.as_slice()),
-        None => Ok(Vec::new(alloc)),
+        None => Ok(BTreeSet::new(alloc)),
     }
 }
 
@@ -60,12 +60,12 @@ pub fn type_values<'t>(
     alloc: Global,
     types: &BTreeMap<&'t str, &'t ImmField>,
     name: &str,
-) -> Result<Vec<&'t str>, AllocError>
+) -> Result<BTreeSet<&'t str>, AllocError>
     ensures { (fields : List FieldRow) → HasFirsts fields types.now
-        → IfOk result (λ values. lent values.items ≡ enum_values fields name.now) }
+        → IfOk result (λ values. lent values.keys ≡ enum_values fields name.now) }
 {
     match types.get(name) {
         Some(field) => field_values(alloc, field),
-        None => Ok(Vec::new(alloc)),
+        None => Ok(BTreeSet::new(alloc)),
     }
 }

@@ -1,18 +1,17 @@
 //! The types of immediates, each once, in ascending order.
 
-ghost use Rattle.std.specs.Prelude.{◌≡◌, ◌++◌, IfOk, OnOk, string_bytes, map, List};
+ghost use Rattle.std.specs.Prelude.{◌≡◌, ◌++◌, IfOk, OnOk, string_bytes, List};
+ghost use Rattle.std.specs.List.{flat_map};
 ghost use Rattle.isle_meta.specs.declared.clif.ImmField.{ImmField as FieldRow};
-ghost use Rattle.isle_prelude.specs.CommonDefs.{imm_defs, imm_enum};
-ghost use Rattle.isle_prelude.specs.Declaring.{primitive};
 ghost use Rattle.isle_prelude.specs.FirstFields.{HasFirsts};
 ghost use Rattle.isle_prelude.specs.Immediates.{enum_types, is_enum, plain_types};
 ghost use Rattle.isle_prelude.specs.Lent.{lent};
-ghost use Rattle.isle_writing.specs.Text.{def_text, def_texts};
+ghost use Rattle.isle_prelude.specs.TypePieces.{imm_enum_piece, imm_piece, primitive_piece};
 
-use crate::ascending::{in_order, put};
-use crate::declaring::{push_bare_enum, push_primitive};
+use crate::ascending::put;
 use crate::first_fields::{first_fields, type_values};
 use crate::paths::short_name;
+use crate::types::{push_bare_enum, push_primitive};
 use isle_meta::ImmField;
 use std::alloc::{AllocError, Global};
 use std::collections::{BTreeMap, BTreeSet};
@@ -25,8 +24,8 @@ fn is_enum(field: &ImmField) -> bool
 }
 
 // The types of immediates that are no enums.
-fn plain_types<'t>(alloc: Global, fields: &[&'t ImmField]) -> Result<Vec<&'t str>, AllocError>
-    ensures { IfOk result (λ types. lent types.items ≡ plain_types (lent fields.now)) }
+fn plain_types<'t>(alloc: Global, fields: &[&'t ImmField]) -> Result<BTreeSet<&'t str>, AllocError>
+    ensures { IfOk result (λ types. lent types.keys ≡ plain_types (lent fields.now)) }
 {
     let mut types = BTreeSet::new(alloc);
     for field in fields {
@@ -34,12 +33,12 @@ fn plain_types<'t>(alloc: Global, fields: &[&'t ImmField]) -> Result<Vec<&'t str
             put(&mut types, short_name(field.rust_type.as_str()))?;
         }
     }
-    in_order(alloc, &types)
+    Ok(types)
 }
 
 // The types of immediates that are enums.
-fn enum_types<'t>(alloc: Global, fields: &[&'t ImmField]) -> Result<Vec<&'t str>, AllocError>
-    ensures { IfOk result (λ types. lent types.items ≡ enum_types (lent fields.now)) }
+fn enum_types<'t>(alloc: Global, fields: &[&'t ImmField]) -> Result<BTreeSet<&'t str>, AllocError>
+    ensures { IfOk result (λ types. lent types.keys ≡ enum_types (lent fields.now)) }
 {
     let mut types = BTreeSet::new(alloc);
     for field in fields {
@@ -47,14 +46,14 @@ fn enum_types<'t>(alloc: Global, fields: &[&'t ImmField]) -> Result<Vec<&'t str>
             put(&mut types, short_name(field.rust_type.as_str()))?;
         }
     }
-    in_order(alloc, &types)
+    Ok(types)
 }
 
 // Appends primitive types.
-fn push_primitives(text: &mut String, names: &[&str]) -> Result<(), AllocError>
+fn push_primitives(text: &mut String, names: &BTreeSet<&str>) -> Result<(), AllocError>
     ensures { OnOk result
         (string_bytes text.new
-        ≡ string_bytes text.old ++ def_texts (map primitive (lent names.now))) }
+        ≡ string_bytes text.old ++ flat_map primitive_piece (lent names.now.keys)) }
 {
     for name in names {
         push_primitive(text, name)?;
@@ -70,10 +69,10 @@ fn push_imm_enum<'t>(
     name: &'t str,
 ) -> Result<(), AllocError>
     ensures { (fields : List FieldRow) → HasFirsts fields types.now → OnOk result
-        (string_bytes text.new ≡ string_bytes text.old ++ def_text (imm_enum fields name.now)) }
+        (string_bytes text.new ≡ string_bytes text.old ++ imm_enum_piece fields name.now) }
 {
     let values = type_values(alloc, types, name)?;
-    push_bare_enum(alloc, text, name, values.as_slice())
+    push_bare_enum(text, name, &values)
 }
 
 // Appends the enums of these types.
@@ -81,11 +80,11 @@ fn push_imm_enums<'t>(
     alloc: Global,
     text: &mut String,
     types: &BTreeMap<&'t str, &'t ImmField>,
-    names: &[&'t str],
+    names: &BTreeSet<&'t str>,
 ) -> Result<(), AllocError>
     ensures { (fields : List FieldRow) → HasFirsts fields types.now → OnOk result
         (string_bytes text.new
-        ≡ string_bytes text.old ++ def_texts (map (imm_enum fields) (lent names.now))) }
+        ≡ string_bytes text.old ++ flat_map (imm_enum_piece fields) (lent names.now.keys)) }
 {
     for name in names {
         push_imm_enum(alloc, text, types, name)?;
@@ -102,11 +101,11 @@ fn push_enum_types<'t>(
     ensures { OnOk result
         (string_bytes text.new
         ≡ string_bytes text.old
-        ++ def_texts (map (imm_enum (lent fields.now)) (enum_types (lent fields.now)))) }
+        ++ flat_map (imm_enum_piece (lent fields.now)) (enum_types (lent fields.now))) }
 {
     let types = first_fields(alloc, fields)?;
     let names = enum_types(alloc, fields)?;
-    push_imm_enums(alloc, text, &types, names.as_slice())
+    push_imm_enums(alloc, text, &types, &names)
 }
 
 // Appends the types of immediates that are no enums.
@@ -117,20 +116,20 @@ fn push_plain_types(
 ) -> Result<(), AllocError>
     ensures { OnOk result
         (string_bytes text.new
-        ≡ string_bytes text.old ++ def_texts (map primitive (plain_types (lent fields.now)))) }
+        ≡ string_bytes text.old ++ flat_map primitive_piece (plain_types (lent fields.now))) }
 {
     let names = plain_types(alloc, fields)?;
-    push_primitives(text, names.as_slice())
+    push_primitives(text, &names)
 }
 
 /// Appends the types of immediates. The only error is want of memory.
-pub fn push_imm_defs(
+pub fn push_imm_types(
     alloc: Global,
     text: &mut String,
     fields: &[&ImmField],
 ) -> Result<(), AllocError>
     ensures { OnOk result
-        (string_bytes text.new ≡ string_bytes text.old ++ def_texts (imm_defs (lent fields.now))) }
+        (string_bytes text.new ≡ string_bytes text.old ++ imm_piece (lent fields.now)) }
 {
     push_plain_types(alloc, text, fields)?;
     push_primitive(text, "MemFlagsData")?;

@@ -1,249 +1,203 @@
 //! What instructions are as values of rules: an opcode, operands and immediates, by their format.
 
-ghost use Rattle.std.specs.Prelude.{◌≡◌, ◌++◌, ◌∷◌, [], IfOk, OnOk, string_bytes, map, codes};
-ghost use Rattle.isle_meta.specs.declared.clif.Instruction.{Instruction as InstructionRow};
-ghost use Rattle.isle_meta.specs.InstructionRow.{camel_names};
-ghost use Rattle.isle_prelude.specs.ArrayTypes.{array_types};
-ghost use Rattle.isle_prelude.specs.Declaring.{bare, extern_enum};
-ghost use Rattle.isle_prelude.specs.InstructionData.{block_fields, data_defs, format_fields, format_variant};
-ghost use Rattle.isle_prelude.specs.InstructionData.{imm_field, raw_block_fields, value_fields};
-ghost use Rattle.isle_prelude.specs.Lent.{lent};
-ghost use Rattle.isle_prelude.specs.NumberedNames.{block_array_type, value_array_type};
-ghost use Rattle.isle_writing.specs.Text.{def_text, def_texts};
+ghost use Rattle.std.specs.Prelude.{◌≡◌, ◌++◌, OnOk, string_bytes, codes, []};
+ghost use Rattle.std.specs.List.{flat_map};
+ghost use Rattle.isle_prelude.specs.TypePieces.{block_fields_piece, data_types_piece, enum_piece, fields_piece};
+ghost use Rattle.isle_prelude.specs.TypePieces.{format_line, imm_field_piece, numbered, opcode_field};
+ghost use Rattle.isle_prelude.specs.TypePieces.{opcode_line, raw_block_piece, value_fields_piece};
+ghost use Rattle.isle_writing.specs.Text.{field_text};
 
-use crate::declaring::{push_bare_enum, push_extern_enum};
-use crate::numbered_names::{block_array_type, value_array_type};
 use crate::paths::short_name;
-use isle_ast::{AstFields, AstVariant};
-use isle_core::{List, Name, Text};
+use crate::pieces::{push_around, push_then_numbered, push_two};
+use crate::types::{push_bare_line, push_enum_head};
 use isle_meta::{ImmField, Instruction, InstructionFormat};
-use std::alloc::{AllocError, Global};
+use std::alloc::AllocError;
 
-// The types of formats' arrays.
-#[derive(Drop)]
-struct ArrayTypes {
-    values: Text,
-    blocks: Text,
-}
-
-// The types of a format's arrays.
-fn array_types_of(alloc: Global, format: &InstructionFormat) -> Result<ArrayTypes, AllocError>
-    ensures { IfOk result (λ types. types ≡ array_types format.now) }
-{
-    let values = value_array_type(alloc, format.num_value_operands)?;
-    let blocks = block_array_type(alloc, format.num_block_operands)?;
-    Ok(ArrayTypes { values, blocks })
-}
-
-// The types of formats' arrays.
-fn all_array_types(
-    alloc: Global,
-    formats: &[InstructionFormat],
-) -> Result<Vec<ArrayTypes>, AllocError>
-    ensures { IfOk result (λ types. types.items ≡ map array_types formats.now) }
-{
-    let mut types = Vec::new(alloc);
-    for format in formats {
-        types.push(array_types_of(alloc, format)?)?;
-    }
-    Ok(types)
-}
-
-// Puts a field with its type behind fields.
-fn push_field<'t>(
-    fields: &mut Vec<(Name<'t>, Name<'t>)>,
-    member: &'t str,
-    ty: &'t str,
-) -> Result<(), AllocError>
+// Appends a field and its type, after a blank.
+fn push_field(text: &mut String, member: &str, ty: &str) -> Result<(), AllocError>
     ensures { OnOk result
-        (fields.new.items ≡ fields.old.items ++ (member.now, ty.now) ∷ []) }
+        (string_bytes text.new ≡ string_bytes text.old ++ field_text member.now ty.now) }
 {
-    fields.push((Name::new(member), Name::new(ty)))?;
-    Ok(())
+    push_around(text, " (", member, " ")?;
+    push_two(text, ty, ")")
 }
 
-// Puts the field of a format's values behind fields.
-fn push_value_fields<'t>(
-    fields: &mut Vec<(Name<'t>, Name<'t>)>,
-    format: &'t InstructionFormat,
-    array_type: &'t str,
-) -> Result<(), AllocError>
-    requires { array_type.now ≡ value_array_type format.now.num_value_operands }
-    ensures { OnOk result
-        (fields.new.items
-        ≡ fields.old.items
-        ++ value_fields format.now.has_value_list format.now.num_value_operands) }
-{
-    if format.has_value_list {
-        return push_field(fields, "args", "ValueList");
-    }
-    match format.num_value_operands {
-        0 => Ok(()),
-        1 => push_field(fields, "arg", "Value"),
-        _ => push_field(fields, "args", array_type),
-    }
-}
-
-// Puts the field of a format's blocks behind fields.
-fn push_block_fields<'t>(
-    fields: &mut Vec<(Name<'t>, Name<'t>)>,
-    count: usize,
-    array_type: &'t str,
-) -> Result<(), AllocError>
-    requires { array_type.now ≡ block_array_type count }
-    ensures { OnOk result (fields.new.items ≡ fields.old.items ++ block_fields count) }
-{
-    match count {
-        0 => Ok(()),
-        1 => push_field(fields, "destination", "BlockCall"),
-        _ => push_field(fields, "blocks", array_type),
-    }
-}
-
-// Puts the field of a block without arguments behind fields.
-fn push_raw_block_fields<'t>(
-    fields: &mut Vec<(Name<'t>, Name<'t>)>,
-    count: usize,
-) -> Result<(), AllocError>
-    ensures { OnOk result (fields.new.items ≡ fields.old.items ++ raw_block_fields count) }
-{
-    if count == 0 {
-        return Ok(());
-    }
-    push_field(fields, "block", "Block")
-}
-
-// Puts the fields of immediates behind fields.
-fn push_imm_fields<'t>(
-    fields: &mut Vec<(Name<'t>, Name<'t>)>,
-    given: &'t [ImmField],
-) -> Result<(), AllocError>
-    ensures { OnOk result (fields.new.items ≡ fields.old.items ++ map imm_field given.now) }
-{
-    for field in given {
-        push_field(
-            fields,
-            field.member.as_str(),
-            short_name(field.rust_type.as_str()),
-        )?;
-    }
-    Ok(())
-}
-
-// The fields of a format's instructions.
-fn format_fields<'t>(
-    alloc: Global,
-    format: &'t InstructionFormat,
-    types: &'t ArrayTypes,
-) -> Result<Vec<(Name<'t>, Name<'t>)>, AllocError>
-    requires { types.now ≡ array_types format.now }
-    ensures { IfOk result (λ fields. fields.items ≡ format_fields format.now) }
-{
-    let mut fields = Vec::new(alloc);
-    push_field(&mut fields, "opcode", "Opcode")?;
-    push_value_fields(&mut fields, format, types.values.as_str())?;
-    push_block_fields(
-        &mut fields,
-        format.num_block_operands,
-        types.blocks.as_str(),
-    )?;
-    push_raw_block_fields(&mut fields, format.num_raw_block_operands)?;
-    push_imm_fields(&mut fields, format.imm_fields.as_slice())?;
-    Ok(fields)
-}
-
-// The variant of a format.
-fn format_variant<'t>(
-    alloc: Global,
-    format: &'t InstructionFormat,
-    types: &'t ArrayTypes,
-) -> Result<AstVariant<'t>, AllocError>
-    requires { types.now ≡ array_types format.now }
-    ensures { IfOk result (λ variant. variant ≡ format_variant format.now) }
-{
-    let fields = format_fields(alloc, format, types)?;
-    Ok(AstVariant {
-        name: Name::new(format.name.as_str()),
-        fields: AstFields::Named(List::new(fields)),
-    })
-}
-
-// The variants of formats.
-fn format_variants<'t>(
-    alloc: Global,
-    formats: &'t [InstructionFormat],
-    types: &'t [ArrayTypes],
-) -> Result<Vec<AstVariant<'t>>, AllocError>
-    requires { types.now ≡ map array_types formats.now }
-    ensures { IfOk result (λ variants. variants.items ≡ map format_variant formats.now) }
-{
-    let mut variants = Vec::new(alloc);
-    let mut index = 0;
-    for format in formats {
-        variants.push(format_variant(alloc, format, &types[index])?)?;
-        index += 1;
-    }
-    Ok(variants)
-}
-
-// Appends the type of instructions' data.
-fn push_data_type(
-    alloc: Global,
-    text: &mut String,
-    formats: &[InstructionFormat],
-) -> Result<(), AllocError>
+// Appends the field of an array of so many things, whose type begins so, after a blank.
+fn push_array_field(text: &mut String, member: &str, head: &str, n: usize) -> Result<(), AllocError>
     ensures { OnOk result
         (string_bytes text.new
-        ≡ string_bytes text.old
-        ++ def_text (extern_enum (codes "InstructionData") (map format_variant formats.now))) }
+        ≡ string_bytes text.old ++ field_text member.now (numbered head.now n)) }
 {
-    let types = all_array_types(alloc, formats)?;
-    let variants = format_variants(alloc, formats, types.as_slice())?;
-    push_extern_enum(text, "InstructionData", List::new(variants))
+    push_two(text, " (", member)?;
+    push_then_numbered(text, " ", head, n)?;
+    text.push_str(")")
 }
 
-// The names of instructions in camel case.
-fn camel_names<'t>(
-    alloc: Global,
-    instructions: &'t [Instruction],
-) -> Result<Vec<&'t str>, AllocError>
-    ensures { IfOk result (λ names. lent names.items ≡ camel_names instructions.now) }
+// Appends the field of a format's values.
+fn push_value_fields(text: &mut String, has_list: bool, n: usize) -> Result<(), AllocError>
+    ensures { OnOk result
+        (string_bytes text.new ≡ string_bytes text.old ++ value_fields_piece has_list n) }
 {
-    let mut names = Vec::new(alloc);
-    for instruction in instructions {
-        names.push(instruction.camel_name.as_str())?;
+    if has_list {
+        return push_field(text, "args", "ValueList");
     }
-    Ok(names)
+    match n {
+        0 => Ok(()),
+        1 => push_field(text, "arg", "Value"),
+        _ => push_array_field(text, "args", "ValueArray", n),
+    }
+}
+
+// Appends the field of a format's blocks.
+fn push_block_fields(text: &mut String, n: usize) -> Result<(), AllocError>
+    ensures { OnOk result
+        (string_bytes text.new ≡ string_bytes text.old ++ block_fields_piece n) }
+{
+    match n {
+        0 => Ok(()),
+        1 => push_field(text, "destination", "BlockCall"),
+        _ => push_array_field(text, "blocks", "BlockArray", n),
+    }
+}
+
+// Appends the field of a block without arguments.
+fn push_raw_block(text: &mut String, n: usize) -> Result<(), AllocError>
+    ensures { OnOk result (string_bytes text.new ≡ string_bytes text.old ++ raw_block_piece n) }
+{
+    if n == 0 {
+        return Ok(());
+    }
+    push_field(text, "block", "Block")
+}
+
+// Appends the field of an immediate.
+fn push_imm_field(text: &mut String, field: &ImmField) -> Result<(), AllocError>
+    ensures { OnOk result
+        (string_bytes text.new ≡ string_bytes text.old ++ imm_field_piece field.now) }
+{
+    push_field(
+        text,
+        field.member.as_str(),
+        short_name(field.rust_type.as_str()),
+    )
+}
+
+// Appends the fields of immediates.
+fn push_imm_fields(text: &mut String, fields: &[ImmField]) -> Result<(), AllocError>
+    ensures { OnOk result
+        (string_bytes text.new ≡ string_bytes text.old ++ flat_map imm_field_piece fields.now) }
+{
+    for field in fields {
+        push_imm_field(text, field)?;
+    }
+    Ok(())
+}
+
+// Appends the fields of a format's instructions beside the opcode.
+fn push_fields(text: &mut String, format: &InstructionFormat) -> Result<(), AllocError>
+    ensures { OnOk result
+        (string_bytes text.new ≡ string_bytes text.old ++ fields_piece format.now) }
+{
+    push_value_fields(text, format.has_value_list, format.num_value_operands)?;
+    push_block_fields(text, format.num_block_operands)?;
+    push_raw_block(text, format.num_raw_block_operands)?;
+    push_imm_fields(text, format.imm_fields.as_slice())
+}
+
+// The field of the opcode.
+#[tactic(auto, unfolding(crate::specs::TypePieces::opcode_field))]
+fn opcode_field() -> &'static str
+    ensures { result.now ≡ opcode_field }
+{
+    " (opcode Opcode)"
+}
+
+// Appends the variant of a format, on a line of its own.
+#[tactic(auto, unfolding(crate::specs::TypePieces::format_line))]
+fn push_format_line(text: &mut String, format: &InstructionFormat) -> Result<(), AllocError>
+    ensures { OnOk result
+        (string_bytes text.new ≡ string_bytes text.old ++ format_line format.now) }
+{
+    push_around(text, "\n  (", format.name.as_str(), opcode_field())?;
+    push_fields(text, format)?;
+    text.push_str(")")
+}
+
+// Appends the variants of formats, each on a line of its own.
+fn push_format_lines(text: &mut String, formats: &[InstructionFormat]) -> Result<(), AllocError>
+    ensures { OnOk result
+        (string_bytes text.new ≡ string_bytes text.old ++ flat_map format_line formats.now) }
+{
+    for format in formats {
+        push_format_line(text, format)?;
+    }
+    Ok(())
+}
+
+// Appends the opcode of an instruction, on a line of its own.
+#[tactic(auto, unfolding(crate::specs::TypePieces::opcode_line))]
+fn push_opcode_line(text: &mut String, instruction: &Instruction) -> Result<(), AllocError>
+    ensures { OnOk result
+        (string_bytes text.new ≡ string_bytes text.old ++ opcode_line instruction.now) }
+{
+    push_bare_line(text, instruction.camel_name.as_str())
+}
+
+// Appends the opcodes of instructions, each on a line of its own.
+fn push_opcode_lines(text: &mut String, instructions: &[Instruction]) -> Result<(), AllocError>
+    ensures { OnOk result
+        (string_bytes text.new ≡ string_bytes text.old ++ flat_map opcode_line instructions.now) }
+{
+    for instruction in instructions {
+        push_opcode_line(text, instruction)?;
+    }
+    Ok(())
+}
+
+// Appends the type of blocks.
+fn push_blocks_type(text: &mut String) -> Result<(), AllocError>
+    ensures { OnOk result
+        (string_bytes text.new ≡ string_bytes text.old ++ enum_piece (codes "Block") []) }
+{
+    push_enum_head(text, "Block")?;
+    text.push_str("))\n")
 }
 
 // Appends the type of opcodes.
-fn push_opcodes(
-    alloc: Global,
-    text: &mut String,
-    instructions: &[Instruction],
-) -> Result<(), AllocError>
+fn push_opcodes(text: &mut String, instructions: &[Instruction]) -> Result<(), AllocError>
     ensures { OnOk result
         (string_bytes text.new
         ≡ string_bytes text.old
-        ++ def_text (extern_enum (codes "Opcode")
-        (map (λ (i : InstructionRow). bare i.camel_name) instructions.now))) }
+        ++ enum_piece (codes "Opcode") (flat_map opcode_line instructions.now)) }
 {
-    let names = camel_names(alloc, instructions)?;
-    push_bare_enum(alloc, text, "Opcode", names.as_slice())
+    push_enum_head(text, "Opcode")?;
+    push_opcode_lines(text, instructions)?;
+    text.push_str("))\n")
+}
+
+// Appends the type of instructions' data.
+fn push_data_type(text: &mut String, formats: &[InstructionFormat]) -> Result<(), AllocError>
+    ensures { OnOk result
+        (string_bytes text.new
+        ≡ string_bytes text.old
+        ++ enum_piece (codes "InstructionData") (flat_map format_line formats.now)) }
+{
+    push_enum_head(text, "InstructionData")?;
+    push_format_lines(text, formats)?;
+    text.push_str("))\n")
 }
 
 /// Appends the types of blocks, opcodes and instructions' data. The only error is want of memory.
-pub fn push_data_defs(
-    alloc: Global,
+pub fn push_data_types(
     text: &mut String,
     formats: &[InstructionFormat],
     instructions: &[Instruction],
 ) -> Result<(), AllocError>
     ensures { OnOk result
         (string_bytes text.new
-        ≡ string_bytes text.old ++ def_texts (data_defs formats.now instructions.now)) }
+        ≡ string_bytes text.old ++ data_types_piece formats.now instructions.now) }
 {
-    push_extern_enum(text, "Block", List::new(Vec::new(alloc)))?;
-    push_opcodes(alloc, text, instructions)?;
-    push_data_type(alloc, text, formats)
+    push_blocks_type(text)?;
+    push_opcodes(text, instructions)?;
+    push_data_type(text, formats)
 }

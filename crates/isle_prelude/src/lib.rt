@@ -1,10 +1,10 @@
-//! Files of instruction sets as rules see them.
+//! Files of instruction sets as rules see them. No definition is made in memory: its text is appended piece by piece, and
+//! laws say that the pieces are the text of the definitions.
 #![tactic(auto)]
 
 mod arrays;
 mod ascending;
-mod declaring;
-mod expressions;
+mod data;
 mod fields;
 mod files;
 mod first_fields;
@@ -12,10 +12,9 @@ mod immediates;
 mod instruction_data;
 mod instructions;
 mod manners;
-mod numbered_names;
 mod operands;
 mod paths;
-mod patterns;
-mod term_names;
+mod pieces;
+mod types;
 
 pub use files::{gen_lower, gen_opt};

@@ -1,8 +1,9 @@
 //! How a file takes an instruction apart, and makes it.
 
 ghost use Rattle.std.specs.Prelude.{◌≡◌, option_map};
-ghost use Rattle.isle_prelude.specs.Manners.{lower_manner, opt_manner};
-ghost use Rattle.isle_prelude.specs.FileManners.{file_manner, manner};
+ghost use Rattle.isle_prelude.specs.FileManners.{file_case, is_typed, lower_case, making_begin, opt_case};
+ghost use Rattle.isle_prelude.specs.FileManners.{plain_maker, plain_taker, ret_of, taking_begin, typed_maker};
+ghost use Rattle.isle_prelude.specs.FileManners.{typed_taker, untyped_taker};
 
 use isle_meta::Instruction;
 
@@ -28,10 +29,50 @@ pub enum Manner {
     Lowered,
 }
 
+// The extractor of data, and the type of the result.
+#[tactic(auto, unfolding(crate::specs::FileManners::typed_taker))]
+fn typed_taker() -> &'static str
+    ensures { result.now ≡ typed_taker }
+{
+    "(inst_data_value ty "
+}
+
+// The extractor of data, whatever the type.
+#[tactic(auto, unfolding(crate::specs::FileManners::untyped_taker))]
+fn untyped_taker() -> &'static str
+    ensures { result.now ≡ untyped_taker }
+{
+    "(inst_data_value _ "
+}
+
+// The extractor of data alone.
+#[tactic(auto, unfolding(crate::specs::FileManners::plain_taker))]
+fn plain_taker() -> &'static str
+    ensures { result.now ≡ plain_taker }
+{
+    "(inst_data "
+}
+
+// The term that makes an instruction of data, and the type of the result.
+#[tactic(auto, unfolding(crate::specs::FileManners::typed_maker))]
+fn typed_maker() -> &'static str
+    ensures { result.now ≡ typed_maker }
+{
+    "(make_inst ty "
+}
+
+// The term that makes an instruction of data alone.
+#[tactic(auto, unfolding(crate::specs::FileManners::plain_maker))]
+fn plain_maker() -> &'static str
+    ensures { result.now ≡ plain_maker }
+{
+    "(make_skeleton_inst "
+}
+
 impl Manner {
     /// Returns the type of the instruction's term.
     pub fn ret(self) -> &'static str
-        ensures { result.now ≡ (manner self).ret }
+        ensures { result.now ≡ ret_of self }
     {
         match self {
             Manner::Valued => "Value",
@@ -41,7 +82,7 @@ impl Manner {
 
     /// Tells whether the first argument is the type of the result.
     pub fn is_typed(self) -> bool
-        ensures { result ≡ (manner self).is_typed }
+        ensures { result ≡ is_typed self }
     {
         match self {
             Manner::Valued | Manner::LoweredTyped => true,
@@ -49,23 +90,24 @@ impl Manner {
         }
     }
 
-    /// Returns the extractor of the instruction's data.
-    pub fn taker(self) -> &'static str
-        ensures { result.now ≡ (manner self).taker }
+    /// Returns what stands in front of the instruction's data in its extractor.
+    pub fn taking_begin(self) -> &'static str
+        ensures { result.now ≡ taking_begin self }
     {
         match self {
-            Manner::Valued | Manner::LoweredTyped | Manner::Lowered => "inst_data_value",
-            Manner::Skeleton => "inst_data",
+            Manner::Valued | Manner::LoweredTyped => typed_taker(),
+            Manner::Skeleton => plain_taker(),
+            Manner::Lowered => untyped_taker(),
         }
     }
 
-    /// Returns the term that makes the instruction of its data, if there is one.
-    pub fn maker(self) -> Option<&'static str>
-        ensures { option_map (λ maker. maker.now) result ≡ (manner self).maker }
+    /// Returns what stands in front of the data in the rule that makes the instruction, if there is one.
+    pub fn making_begin(self) -> Option<&'static str>
+        ensures { option_map (λ begin. begin.now) result ≡ making_begin self }
     {
         match self {
-            Manner::Valued => Some("make_inst"),
-            Manner::Skeleton => Some("make_skeleton_inst"),
+            Manner::Valued => Some(typed_maker()),
+            Manner::Skeleton => Some(plain_maker()),
             Manner::LoweredTyped | Manner::Lowered => None,
         }
     }
@@ -73,7 +115,7 @@ impl Manner {
 
 // How an optimizer takes an instruction; one with a list of values is left out.
 fn opt_manner(has_list: bool, instruction: &Instruction) -> Option<Manner>
-    ensures { option_map manner result ≡ opt_manner has_list instruction.now }
+    ensures { result ≡ opt_case has_list instruction.now }
 {
     if has_list {
         return None;
@@ -89,7 +131,7 @@ fn opt_manner(has_list: bool, instruction: &Instruction) -> Option<Manner>
 
 // How lowering takes an instruction.
 fn lower_manner(has_list: bool, instruction: &Instruction) -> Option<Manner>
-    ensures { option_map manner result ≡ lower_manner has_list instruction.now }
+    ensures { result ≡ lower_case has_list instruction.now }
 {
     if has_list || instruction.value_results == 0 {
         return Some(Manner::Lowered);
@@ -103,7 +145,7 @@ pub fn file_manner(
     has_list: bool,
     instruction: &Instruction,
 ) -> Option<Manner>
-    ensures { option_map manner result ≡ file_manner file has_list instruction.now }
+    ensures { result ≡ file_case file has_list instruction.now }
 {
     match file {
         InstructionFile::Opt => opt_manner(has_list, instruction),

@@ -1,11 +1,13 @@
 //! The operands of an instruction, by kind.
 
-ghost use Rattle.std.specs.Prelude.{◌≡◌, ◌++◌, OnOk};
+ghost use Rattle.std.specs.Prelude.{◌≡◌, ◌++◌, OnOk, string_bytes};
+ghost use Rattle.isle_meta.specs.InstructionRow.{count_of, is_block, is_value};
 ghost use Rattle.isle_prelude.specs.Kinds.{is_of};
-ghost use Rattle.isle_prelude.specs.Lent.{lent};
-ghost use Rattle.isle_prelude.specs.Operands.{names_of, operand_type};
+ghost use Rattle.isle_prelude.specs.Operands.{operand_type};
+ghost use Rattle.isle_prelude.specs.TermPieces.{kind_piece};
 
 use crate::paths::short_name;
+use crate::pieces::push_two;
 use isle_meta::{Instruction, OperandClass};
 use std::alloc::AllocError;
 
@@ -45,18 +47,37 @@ fn is_of(kind: Kind, class: &OperandClass) -> bool
     }
 }
 
-/// Puts the names of an instruction's operands of a kind behind names, in order. The only error is want of memory.
-pub fn push_names<'t>(
-    names: &mut Vec<&'t str>,
-    kind: Kind,
-    instruction: &'t Instruction,
-) -> Result<(), AllocError>
+/// Counts the values among an instruction's operands.
+pub fn count_values(instruction: &Instruction) -> usize
+    ensures { result ≡ count_of is_value instruction.now }
+{
+    let operands = instruction.operands_in.as_slice();
+    operands
+        .iter()
+        .filter(|o| is_of(Kind::Value, &o.class))
+        .count()
+}
+
+/// Counts the blocks with their arguments among an instruction's operands.
+pub fn count_blocks(instruction: &Instruction) -> usize
+    ensures { result ≡ count_of is_block instruction.now }
+{
+    let operands = instruction.operands_in.as_slice();
+    operands
+        .iter()
+        .filter(|o| is_of(Kind::Block, &o.class))
+        .count()
+}
+
+/// Appends the names of an instruction's operands of a kind, each after a blank. The only error is want of memory.
+pub fn push_kind(text: &mut String, kind: Kind, instruction: &Instruction) -> Result<(), AllocError>
     ensures { OnOk result
-        (lent names.new.items ≡ lent names.old.items ++ names_of (is_of kind) instruction.now) }
+        (string_bytes text.new
+        ≡ string_bytes text.old ++ kind_piece (is_of kind) instruction.now) }
 {
     for operand in instruction.operands_in.as_slice() {
         if is_of(kind, &operand.class) {
-            names.push(operand.name.as_str())?;
+            push_two(text, " ", operand.name.as_str())?;
         }
     }
     Ok(())

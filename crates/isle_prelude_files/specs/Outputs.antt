@@ -1,11 +1,11 @@
 -- What the writing of files in order leaves, and what it answers.
-use Rattle.std.specs.Prelude.{◌≡◌, ℕ, ◌+◌, ◌<◌, ◌≤◌, List, length, take, map, max, false, Option, Some, None, IsSomeAnd, Result, Ok, Err}
+use Rattle.std.specs.Prelude.{◌≡◌, ℕ, ◌+◌, ◌-◌, ◌^◌, ◌<◌, ◌≤◌, List, length, take, map, max, false, Option, Some, None, IsSomeAnd, Result, Ok, Err}
 use Rattle.std.specs.List.{AllByRecursion}
 use Rattle.isle_meta.specs.Layout.{joined_name}
 use Rattle.isle_meta.specs.TableNames.{is_among}
 use Rattle.isle_meta.specs.declared.errors.GenError.{GenError}
 use Rattle.isle_meta.specs.declared.errors.GenError.TheVariants as gen
-use Rattle.isle_outside.specs.Directory.{Contents, Holds, Rose, bytes_of, entries_of}
+use Rattle.isle_outside.specs.Directory.{Contents, Counts, Holds, Rose, bytes_of, entries_of}
 use Rattle.isle_prelude_files.specs.declared.writing.Output.{Output}
 
 -- a file that is to be written: the name that it gets, and its text
@@ -58,6 +58,15 @@ CountsFault (Ok n) before after = after ≡ before
 CountsFault (Err (gen.Unsupported found)) before after = after ≡ before
 CountsFault (Err (gen.Dir n)) before after = Rose before after
 CountsFault (Err (gen.Memory n)) before after = after ≡ before
+
+-- how a directory's counts go on: that of faults as the answer says, never down, and where it stands at its limit it stays; nothing was looked
+-- up, and no bytes were given
+pub record KeepsCounts (answer : Result ℕ GenError) (old new : Counts) : Type 0 where
+  pub faults : CountsFault answer old.faults new.faults
+  pub later : old.faults ≤ new.faults
+  pub stays : old.faults ≡ 2 ^ 64 - 1 → new.faults ≡ 2 ^ 64 - 1
+  pub finds : new.finds ≡ old.finds
+  pub given : new.given ≡ old.given
 
 -- no name joins a second entry of it
 abbrev pub AddsNoSeconds : (old new : Option Contents) → Type 0

@@ -1,10 +1,10 @@
 //! The names of the four files.
 
-ghost use Rattle.std.specs.Prelude.{◌≡◌, ◌-◌, ◌^◌, ◌≤◌, false};
+ghost use Rattle.std.specs.Prelude.{◌≡◌, false};
 ghost use Rattle.isle_meta.specs.Layout.{joined_name};
 ghost use Rattle.isle_meta.specs.TableNames.{repeats};
 ghost use Rattle.isle_prelude_files.specs.Made.{files_with, given_names};
-ghost use Rattle.isle_prelude_files.specs.Outputs.{AddsNoSeconds, CountsFault, Writes, file_of};
+ghost use Rattle.isle_prelude_files.specs.Outputs.{AddsNoSeconds, KeepsCounts, Writes, file_of};
 ghost use Rattle.isle_prelude_files.specs.PreludeFiles.{WritesPreludes, prelude_files};
 
 use crate::texts::{Texts, made_texts};
@@ -41,12 +41,7 @@ impl Names<'_> {
         ensures files { Writes (files_with self.now texts.now) (D.files dir.old) (D.files dir.new)
             result }
         ensures entries { AddsNoSeconds (D.files dir.old) (D.files dir.new) }
-        ensures faults { CountsFault result (D.counts dir.old).faults (D.counts dir.new).faults }
-        ensures later { (D.counts dir.old).faults ≤ (D.counts dir.new).faults }
-        ensures stays { (D.counts dir.old).faults ≡ 2 ^ 64 - 1
-            → (D.counts dir.new).faults ≡ 2 ^ 64 - 1 }
-        ensures finds { (D.counts dir.new).finds ≡ (D.counts dir.old).finds }
-        ensures given { (D.counts dir.new).given ≡ (D.counts dir.old).given }
+        ensures counts { KeepsCounts result (D.counts dir.old) (D.counts dir.new) }
     {
         let numerics = self.output(self.numerics, texts.numerics.as_str());
         let methods = self.output(self.methods, texts.methods.as_str());
@@ -68,12 +63,7 @@ impl Names<'_> {
             self.now.opt.now self.now.lower.now tables.now)
             (D.files dir.old) (D.files dir.new) result }
         ensures entries { AddsNoSeconds (D.files dir.old) (D.files dir.new) }
-        ensures faults { CountsFault result (D.counts dir.old).faults (D.counts dir.new).faults }
-        ensures later { (D.counts dir.old).faults ≤ (D.counts dir.new).faults }
-        ensures stays { (D.counts dir.old).faults ≡ 2 ^ 64 - 1
-            → (D.counts dir.new).faults ≡ 2 ^ 64 - 1 }
-        ensures finds { (D.counts dir.new).finds ≡ (D.counts dir.old).finds }
-        ensures given { (D.counts dir.new).given ≡ (D.counts dir.old).given }
+        ensures counts { KeepsCounts result (D.counts dir.old) (D.counts dir.new) }
     {
         match made_texts(alloc, tables) {
             Ok(texts) => self.write(alloc, &texts, dir),

@@ -1,8 +1,8 @@
 //! The files of preludes, made from tables and written.
 
-ghost use Rattle.std.specs.Prelude.{◌≡◌, ◌-◌, ◌^◌, ◌≤◌, ◌∷◌, [], false};
+ghost use Rattle.std.specs.Prelude.{◌≡◌, ◌∷◌, [], false};
 ghost use Rattle.isle_meta.specs.TableNames.{repeats};
-ghost use Rattle.isle_prelude_files.specs.Outputs.{AddsNoSeconds, CountsFault};
+ghost use Rattle.isle_prelude_files.specs.Outputs.{AddsNoSeconds, KeepsCounts};
 ghost use Rattle.isle_prelude_files.specs.PreludeFiles.{WritesPreludes, prelude_files};
 
 use crate::names::Names;
@@ -36,12 +36,7 @@ pub fn generate<D: Dir>(
         isle_opt_filename.now isle_lower_filename.now tables.now)
         (D.files dir.old) (D.files dir.new) result }
     ensures entries { AddsNoSeconds (D.files dir.old) (D.files dir.new) }
-    ensures faults { CountsFault result (D.counts dir.old).faults (D.counts dir.new).faults }
-    ensures later { (D.counts dir.old).faults ≤ (D.counts dir.new).faults }
-    ensures stays { (D.counts dir.old).faults ≡ 2 ^ 64 - 1
-        → (D.counts dir.new).faults ≡ 2 ^ 64 - 1 }
-    ensures finds { (D.counts dir.new).finds ≡ (D.counts dir.old).finds }
-    ensures given { (D.counts dir.new).given ≡ (D.counts dir.old).given }
+    ensures counts { KeepsCounts result (D.counts dir.old) (D.counts dir.new) }
 {
     let names = Names {
         numerics: isle_numerics_filename,

@@ -5,7 +5,7 @@ ghost use Rattle.isle_meta.specs.Layout.{joined_name};
 ghost use Rattle.isle_meta.specs.TableNames.{repeats};
 ghost use Rattle.isle_outside.specs.Directory.{Holds, KeepsEntries, KeepsOthers, Rose};
 ghost use Rattle.isle_outside.specs.Failures.{is_fault};
-ghost use Rattle.isle_prelude_files.specs.Outputs.{AddsNoSeconds, CountsFault, Writes, files_of, names_of};
+ghost use Rattle.isle_prelude_files.specs.Outputs.{AddsNoSeconds, KeepsCounts, Writes, files_of, names_of};
 
 use isle_core::{Dir, DirFault};
 use isle_meta::{GenError, joined};
@@ -59,12 +59,7 @@ pub fn write_files<D: Dir>(
     requires { repeats (names_of (files_of outputs.now)) ≡ false }
     ensures files { Writes (files_of outputs.now) (D.files dir.old) (D.files dir.new) result }
     ensures entries { AddsNoSeconds (D.files dir.old) (D.files dir.new) }
-    ensures faults { CountsFault result (D.counts dir.old).faults (D.counts dir.new).faults }
-    ensures later { (D.counts dir.old).faults ≤ (D.counts dir.new).faults }
-    ensures stays { (D.counts dir.old).faults ≡ 2 ^ 64 - 1
-        → (D.counts dir.new).faults ≡ 2 ^ 64 - 1 }
-    ensures finds { (D.counts dir.new).finds ≡ (D.counts dir.old).finds }
-    ensures given { (D.counts dir.new).given ≡ (D.counts dir.old).given }
+    ensures counts { KeepsCounts result (D.counts dir.old) (D.counts dir.new) }
 {
     let mut written = 0;
     for output in outputs {

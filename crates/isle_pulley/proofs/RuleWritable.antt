@@ -9,10 +9,9 @@ use Rattle.isle_ast.specs.Tree as tree
 use Rattle.isle_ast.specs.Views.{exprs_of, patterns_of}
 use Rattle.isle_ast.specs.declared.tree.AstVariant.{AstVariant}
 use Rattle.isle_core.specs.Printed.{after_prefix}
-use Rattle.isle_meta.specs.declared.errors.Unsupported.{Unsupported}
 use Rattle.isle_meta.specs.declared.pulley.PulleyInst.{PulleyInst}
 use Rattle.isle_meta.specs.declared.shapes.Shape.{Shape}
-use Rattle.isle_meta.specs.Rows.{shapes}
+use Rattle.isle_meta.specs.FirstRow.{shapes, unsupported, IsFirstRow, IsFirstShape}
 use Rattle.isle_spelling.specs.Identifier.{IsIdentifier}
 use Rattle.isle_writing.specs.Height.{expr_height, exprs_height, patterns_height}
 use Rattle.isle_writing.specs.Spelt.{SpellsOnly, declare_flag}
@@ -30,7 +29,7 @@ use Rattle.isle_pulley.specs.Places.{temporary}
 use Rattle.isle_pulley_rows.specs.Operands.{Field, field_operand, has_trap, operands, plain_operand, read_type, trap_operand}
 use Rattle.isle_pulley_rows.specs.Operations.{operation_of, operations, operations_of}
 use Rattle.isle_pulley_rows.specs.PulleyRow as row
-use Rattle.isle_pulley_rows.specs.PulleyRows.{IsFirstBroken, IsFirstOf, IsFirstRefused, PulleyBreaks}
+use Rattle.isle_pulley_rows.specs.PulleyRows.{IsFirstOperation, PulleyBreaks}
 use Rattle.isle_pulley_rows.specs.Results.{results}
 use Rattle.isle_pulley.specs.RuleFile.{answer_type, bare_call, body_of, call_on, declaration, file_defs, inst_fields, inst_names, named, operation_defs, param_names, param_types, pulley_defs, raw_inst, raw_inst_type, rule_of, variables, variant_of}
 use Rattle.isle_pulley_rows.specs.Skipped.{is_skipped, kept}
@@ -157,17 +156,16 @@ pub record IsNamedOperation (op : Operation) : Type 0 where
   pub operands : AllByRecursion (λ (o : Operand). IsNamed o) op.operands
 
 -- a row breaks none of the shapes
-abbrev IsSupported : (before : List PulleyInst) → PulleyInst → Type 0
-IsSupported before r = AllByRecursion (λ (shape : Shape). PulleyBreaks before r shape → ⊥) shapes
+abbrev IsSupported : (earlier : List (List ℕ)) → (before : List PulleyInst) → PulleyInst → Type 0
+IsSupported earlier before r = AllByRecursion (λ (shape : Shape). PulleyBreaks earlier before r shape → ⊥) shapes
 
-none_broken : (before : List PulleyInst) (r : PulleyInst) (ss : List Shape) → IsFirstBroken (PulleyBreaks before r) ss None
-    → AllByRecursion (λ (shape : Shape). PulleyBreaks before r shape → ⊥) ss
-none_broken before r [] h = tt
-none_broken before r (s ∷ ss) (inl h) = let e : None ≡ Some s = h.1 in absurd cc
-none_broken before r (s ∷ ss) (inr h) = (h.0, none_broken before r ss h.1)
+none_broken : (Broken : Shape → Type 0) (ss : List Shape) → IsFirstShape Broken ss None → AllByRecursion (λ (shape : Shape). Broken shape → ⊥) ss
+none_broken Broken [] h = tt
+none_broken Broken (s ∷ ss) (inl h) = let e : None ≡ Some s = h.1 in absurd cc
+none_broken Broken (s ∷ ss) (inr h) = (h.0, none_broken Broken ss h.1)
 
-operation_named : (before : List PulleyInst) (r : PulleyInst) → IsSupported before r → is_skipped r ≡ false → IsNamedOperation (operation_of r)
-operation_named before r h kept_so =
+operation_named : (earlier : List (List ℕ)) (before : List PulleyInst) (r : PulleyInst) → IsSupported earlier before r → is_skipped r ≡ false → IsNamedOperation (operation_of r)
+operation_named earlier before r h kept_so =
     let names : AllByRecursion IsIdentifier (row.row_names r) = stable_identifiers (row.row_names r) h.0 in
     let types : AllByRecursion IsIdentifier (operand_types (operands r)) =
     stable_identifiers (operand_types (operands r)) (λ no. h.1.1.1.1.1.1.1.1.1.1.1.1.1.1.1.1.1.1.1.1.0 (kept_so, no)) in
@@ -182,15 +180,12 @@ one_kept : (b : Bool) (r : PulleyInst) (rs : List PulleyInst) → (b ≡ false �
 one_kept true r rs h k = k
 one_kept false r rs h k = (h refl, k)
 
--- a row with its shape
-abbrev as_refused : PulleyInst → Shape → Unsupported
-as_refused r shape = record { row = r.name; shape = shape }
-
-rows_named : (before rs : List PulleyInst) → IsFirstRefused before rs None → AllByRecursion (λ (op : Operation). IsNamedOperation op) (operations_of rs)
-rows_named before [] h = tt
-rows_named before (r ∷ rs) (inl h) = let e : None ≡ Some (as_refused r h.0) = h.2 in absurd cc
-rows_named before (r ∷ rs) (inr h) =
-    one_kept (is_skipped r) r rs (λ e. operation_named before r (none_broken before r shapes h.0) e) (rows_named (before ++ r ∷ []) rs h.1)
+rows_named : (earlier : List (List ℕ)) (before rs : List PulleyInst) → IsFirstRow (λ (r : PulleyInst). r.name) (PulleyBreaks earlier) before rs None
+    → AllByRecursion (λ (op : Operation). IsNamedOperation op) (operations_of rs)
+rows_named earlier before [] h = tt
+rows_named earlier before (r ∷ rs) (inl h) = let e : None ≡ Some (unsupported r.name h.0) = h.2 in absurd cc
+rows_named earlier before (r ∷ rs) (inr h) =
+    one_kept (is_skipped r) r rs (λ e. operation_named earlier before r (none_broken (PulleyBreaks earlier before r) shapes h.0) e) (rows_named earlier (before ++ r ∷ []) rs h.1)
 
 -- ---- the type of instructions
 
@@ -362,8 +357,9 @@ operations_writable (op ∷ ops) h = (declaration_writable op h.0, (rule_writabl
 no_flag : (ops : List Operation) → declare_flag (file_defs ops) ≡ false
 no_flag ops = no_flag_each operation_defs (λ op. refl) ops
 
--- the text of supported rows spells their definitions
-pub rules_spell : (ops extended : List PulleyInst) (text : List ℕ) → IsFirstOf ops extended None → text ≡ def_texts (pulley_defs ops extended) → SpellsOnly text (pulley_defs ops extended)
-rules_spell ops extended text h e =
-    let named_all : AllByRecursion (λ (op : Operation). IsNamedOperation op) (operations ops extended) = rows_named [] (ops ++ extended) h in
+-- the text of supported rows spells their definitions, whatever terms come before theirs
+pub rules_spell : (earlier : List (List ℕ)) (ops extended : List PulleyInst) (text : List ℕ) → IsFirstOperation earlier ops extended None → text ≡ def_texts (pulley_defs ops extended)
+    → SpellsOnly text (pulley_defs ops extended)
+rules_spell earlier ops extended text h e =
+    let named_all : AllByRecursion (λ (op : Operation). IsNamedOperation op) (operations ops extended) = rows_named earlier [] (ops ++ extended) h in
     (written_spelt text (pulley_defs ops extended) (type_writable (operations ops extended) named_all, operations_writable (operations ops extended) named_all) e).named (no_flag (operations ops extended))

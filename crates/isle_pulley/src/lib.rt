@@ -11,3 +11,5 @@ pub mod pulley;
 mod rules;
 mod texts;
 mod visits;
+
+pub use texts::{rules_of, rust_of};

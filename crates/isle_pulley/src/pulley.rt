@@ -1,9 +1,9 @@
 //! The texts of Pulley's operations, and their files.
 
-ghost use Rattle.std.specs.Prelude.{◌≡◌, ◌-◌, ◌^◌, ◌≤◌, ◌∷◌, [], string_bytes};
+ghost use Rattle.std.specs.Prelude.{◌≡◌, ◌∷◌, [], string_bytes};
 ghost use Rattle.isle_meta.specs.Layout.{joined_name};
 ghost use Rattle.isle_prelude_files.specs.Made.{of_table};
-ghost use Rattle.isle_prelude_files.specs.Outputs.{AddsNoSeconds, CountsFault, Writes};
+ghost use Rattle.isle_prelude_files.specs.Outputs.{AddsNoSeconds, KeepsCounts, Writes};
 ghost use Rattle.isle_pulley.specs.Generated.{AppendsDisplay, GivesRules, GivesRust, WritesRows};
 ghost use Rattle.isle_pulley.specs.Generated.{rule_file, rust_file};
 
@@ -37,7 +37,6 @@ pub fn generate_raw_inst_display(
 
 /// Returns the rule text: the type of instructions, and of each row that isn't skipped a term and its rule. It spells
 /// these definitions and no others. Its errors are those of `generate_raw_inst_display`.
-#[tactic(auto, using(crate::proofs::RuleWritable::rules_spell))]
 pub fn isle_text(
     alloc: Global,
     ops: &[PulleyInst],
@@ -91,12 +90,7 @@ fn write_text<D: Dir>(
     ensures files { Writes ((joined_name folder.now name.now, text.now) ∷ [])
         (D.files dir.old) (D.files dir.new) result }
     ensures entries { AddsNoSeconds (D.files dir.old) (D.files dir.new) }
-    ensures faults { CountsFault result (D.counts dir.old).faults (D.counts dir.new).faults }
-    ensures later { (D.counts dir.old).faults ≤ (D.counts dir.new).faults }
-    ensures stays { (D.counts dir.old).faults ≡ 2 ^ 64 - 1
-        → (D.counts dir.new).faults ≡ 2 ^ 64 - 1 }
-    ensures finds { (D.counts dir.new).finds ≡ (D.counts dir.old).finds }
-    ensures given { (D.counts dir.new).given ≡ (D.counts dir.old).given }
+    ensures counts { KeepsCounts result (D.counts dir.old) (D.counts dir.new) }
 {
     write_files(alloc, &[Output { folder, name, text }], dir)
 }
@@ -117,12 +111,7 @@ pub fn generate_isle<D: Dir>(
         (rule_file out_dir.now filename.now ops.now extended.now)
         (D.files dir.old) (D.files dir.new) result }
     ensures entries { AddsNoSeconds (D.files dir.old) (D.files dir.new) }
-    ensures faults { CountsFault result (D.counts dir.old).faults (D.counts dir.new).faults }
-    ensures later { (D.counts dir.old).faults ≤ (D.counts dir.new).faults }
-    ensures stays { (D.counts dir.old).faults ≡ 2 ^ 64 - 1
-        → (D.counts dir.new).faults ≡ 2 ^ 64 - 1 }
-    ensures finds { (D.counts dir.new).finds ≡ (D.counts dir.old).finds }
-    ensures given { (D.counts dir.new).given ≡ (D.counts dir.old).given }
+    ensures counts { KeepsCounts result (D.counts dir.old) (D.counts dir.new) }
 {
     match isle_text(alloc, ops, extended) {
         Ok(text) => write_text(alloc, out_dir, filename, text.as_str(), dir),
@@ -143,12 +132,7 @@ pub fn generate_rust<D: Dir>(
         (rust_file out_dir.now filename.now ops.now extended.now)
         (D.files dir.old) (D.files dir.new) result }
     ensures entries { AddsNoSeconds (D.files dir.old) (D.files dir.new) }
-    ensures faults { CountsFault result (D.counts dir.old).faults (D.counts dir.new).faults }
-    ensures later { (D.counts dir.old).faults ≤ (D.counts dir.new).faults }
-    ensures stays { (D.counts dir.old).faults ≡ 2 ^ 64 - 1
-        → (D.counts dir.new).faults ≡ 2 ^ 64 - 1 }
-    ensures finds { (D.counts dir.new).finds ≡ (D.counts dir.old).finds }
-    ensures given { (D.counts dir.new).given ≡ (D.counts dir.old).given }
+    ensures counts { KeepsCounts result (D.counts dir.old) (D.counts dir.new) }
 {
     match rust_text(alloc, ops, extended) {
         Ok(text) => write_text(alloc, out_dir, filename, text.as_str(), dir),

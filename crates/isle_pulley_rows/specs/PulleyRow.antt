@@ -1,15 +1,15 @@
 -- What isn't supported of a row: a predicate for each shape that a row may break.
-use Rattle.std.specs.Prelude.{◌≡◌, ℕ, ◌<◌, List, ◌∷◌, length, Bool, false, ◌&&◌, ◌||◌, not, is_some, map, IsTrue, codes}
-use Rattle.std.specs.List.{AllByRecursion, list_any}
+use Rattle.std.specs.Prelude.{◌≡◌, ℕ, ◌<◌, List, [], ◌∷◌, ◌++◌, length, Bool, false, ◌&&◌, ◌||◌, not, is_some, if◌then◌else◌, map, IsTrue, codes}
+use Rattle.std.specs.List.{AllByRecursion, flat_map, list_any}
 use Rattle.std.specs.Str.{bytes_eq}
 use Rattle.isle_meta.specs.declared.pulley.PulleyInst.{PulleyInst}
-use Rattle.isle_meta.specs.TableNames.{is_among, repeats}
+use Rattle.isle_meta.specs.TableNames.{repeats, repeats_after}
 use Rattle.isle_spelling.specs.Identifier.{IsIdentifier}
 use Rattle.isle_pulley_rows.specs.BinaryParts.{binary}
 use Rattle.isle_pulley_rows.specs.Names.{operand_names, operand_types}
 use Rattle.isle_pulley_rows.specs.Operands.{Field, operands}
 use Rattle.isle_pulley_rows.specs.Results.{results}
-use Rattle.isle_pulley_rows.specs.Skipped.{is_skipped, kept}
+use Rattle.isle_pulley_rows.specs.Skipped.{is_skipped}
 
 -- ---- names
 
@@ -21,17 +21,25 @@ field_names fields = map (λ (f : Field). f.0) fields
 abbrev pub row_names : PulleyInst → List (List ℕ)
 row_names row = row.snake_name ∷ row.name ∷ field_names row.fields
 
--- the names in words of rows
-abbrev pub snake_names : List PulleyInst → List (List ℕ)
-snake_names rows = map (λ (row : PulleyInst). row.snake_name) rows
+-- ---- terms
 
--- their names in one
-abbrev pub own_names : List PulleyInst → List (List ℕ)
-own_names rows = map (λ (row : PulleyInst). row.name) rows
+-- the term of a row
+abbrev pub own_term : PulleyInst → List ℕ
+own_term row = codes "pulley_" ++ row.snake_name
 
--- a term of the row is that of an earlier one: a skipped row has none
-abbrev pub repeats_term : (before : List PulleyInst) → PulleyInst → Bool
-repeats_term before row = not (is_skipped row) && (is_among row.snake_name (snake_names (kept before)) || is_among row.name (own_names (kept before)))
+-- the term of the instruction that it makes
+abbrev pub instruction_term : PulleyInst → List ℕ
+instruction_term row = codes "RawInst." ++ row.name
+
+-- the terms of a row: its own, and the instruction that it makes; a skipped row has none
+abbrev pub row_terms : PulleyInst → List (List ℕ)
+row_terms row = if is_skipped row then [] else own_term row ∷ instruction_term row ∷ []
+
+-- the terms of rows, in order
+abbrev pub all_terms : List PulleyInst → List (List ℕ)
+all_terms rows = flat_map row_terms rows
+
+-- ---- names within a row
 
 -- two fields or two operands of the row have one name
 abbrev pub repeats_part : PulleyInst → Bool
@@ -49,9 +57,9 @@ is_misnamed f = bytes_eq f.0 (codes "operands") && not (is_some (binary f.1))
 abbrev pub BadName : PulleyInst → Type 0
 BadName row = AllByRecursion IsIdentifier (row_names row) → ⊥
 
--- one of its terms is an earlier row's, or two of its fields or operands have one name
-abbrev pub RepeatedName : (before : List PulleyInst) → PulleyInst → Type 0
-RepeatedName before row = IsTrue (repeats_term before row || repeats_part row)
+-- one of its terms is an earlier one, or two of its fields or operands have one name
+abbrev pub RepeatedName : (earlier : List (List ℕ)) → (before : List PulleyInst) → PulleyInst → Type 0
+RepeatedName earlier before row = IsTrue (repeats_after (earlier ++ all_terms before) (row_terms row) || repeats_part row)
 
 -- the field `operands` has another type than one of binary operands
 abbrev pub BinaryOperands : PulleyInst → Type 0

@@ -1,48 +1,40 @@
 -- Which shapes a row breaks after those before it, and the first row that isn't supported.
-use Rattle.std.specs.Prelude.{◌≡◌, ◌⊎◌, List, [], ◌∷◌, ◌++◌, Option, Some, None}
+use Rattle.std.specs.Prelude.{ℕ, List, [], ◌++◌, Option}
 use Rattle.isle_meta.specs.declared.errors.Unsupported.{Unsupported}
 use Rattle.isle_meta.specs.declared.pulley.PulleyInst.{PulleyInst}
 use Rattle.isle_meta.specs.declared.shapes.Shape.{Shape}
 use Rattle.isle_meta.specs.declared.shapes.Shape.TheVariants.{BadName, RepeatedName, ReservedName, TyOperand, FormatIndex, ValueCount, BlockCount, RawBlockCount, ImmCount, ImmType, ImmShape, NoVarargs, NoTypevar, WrittenImm, AlignedMem, WrittenOperands, ImplicitOperand, AlternateWithoutXmm, BinaryOperands, Results, FieldType}
-use Rattle.isle_meta.specs.Rows.{shapes}
+use Rattle.isle_meta.specs.FirstRow.{IsFirstRow}
 use Rattle.isle_pulley_rows.specs.PulleyRow as row
 
--- the shapes that a row breaks, after those before it; its terms begin with `pulley_`, as none does that is reserved
-abbrev pub PulleyBreaks : (before : List PulleyInst) → PulleyInst → Shape → Type 0
-PulleyBreaks before r BadName = row.BadName r
-PulleyBreaks before r RepeatedName = row.RepeatedName before r
-PulleyBreaks before r ReservedName = ⊥
-PulleyBreaks before r TyOperand = ⊥
-PulleyBreaks before r FormatIndex = ⊥
-PulleyBreaks before r ValueCount = ⊥
-PulleyBreaks before r BlockCount = ⊥
-PulleyBreaks before r RawBlockCount = ⊥
-PulleyBreaks before r ImmCount = ⊥
-PulleyBreaks before r ImmType = ⊥
-PulleyBreaks before r ImmShape = ⊥
-PulleyBreaks before r NoVarargs = ⊥
-PulleyBreaks before r NoTypevar = ⊥
-PulleyBreaks before r WrittenImm = ⊥
-PulleyBreaks before r AlignedMem = ⊥
-PulleyBreaks before r WrittenOperands = ⊥
-PulleyBreaks before r ImplicitOperand = ⊥
-PulleyBreaks before r AlternateWithoutXmm = ⊥
-PulleyBreaks before r BinaryOperands = row.BinaryOperands r
-PulleyBreaks before r Results = row.Results r
-PulleyBreaks before r FieldType = row.FieldType r
+-- the shapes that a row breaks, after earlier terms and the rows before it; its terms begin with `pulley_`, as none does that is reserved
+abbrev pub PulleyBreaks : (earlier : List (List ℕ)) → (before : List PulleyInst) → PulleyInst → Shape → Type 0
+PulleyBreaks earlier before r BadName = row.BadName r
+PulleyBreaks earlier before r RepeatedName = row.RepeatedName earlier before r
+PulleyBreaks earlier before r ReservedName = ⊥
+PulleyBreaks earlier before r TyOperand = ⊥
+PulleyBreaks earlier before r FormatIndex = ⊥
+PulleyBreaks earlier before r ValueCount = ⊥
+PulleyBreaks earlier before r BlockCount = ⊥
+PulleyBreaks earlier before r RawBlockCount = ⊥
+PulleyBreaks earlier before r ImmCount = ⊥
+PulleyBreaks earlier before r ImmType = ⊥
+PulleyBreaks earlier before r ImmShape = ⊥
+PulleyBreaks earlier before r NoVarargs = ⊥
+PulleyBreaks earlier before r NoTypevar = ⊥
+PulleyBreaks earlier before r WrittenImm = ⊥
+PulleyBreaks earlier before r AlignedMem = ⊥
+PulleyBreaks earlier before r WrittenOperands = ⊥
+PulleyBreaks earlier before r ImplicitOperand = ⊥
+PulleyBreaks earlier before r AlternateWithoutXmm = ⊥
+PulleyBreaks earlier before r BinaryOperands = row.BinaryOperands r
+PulleyBreaks earlier before r Results = row.Results r
+PulleyBreaks earlier before r FieldType = row.FieldType r
 
--- the first of these shapes that is broken, or that none is
-abbrev pub IsFirstBroken : (Shape → Type 0) → List Shape → Option Shape → Type 0
-IsFirstBroken Broken [] found = found ≡ None
-IsFirstBroken Broken (shape ∷ more) found = (Broken shape × (found ≡ Some shape)) ⊎ ((Broken shape → ⊥) × IsFirstBroken Broken more found)
+-- the first of these rows that isn't supported after terms of these names, or that all are
+abbrev pub IsFirstAfter : (earlier : List (List ℕ)) → List PulleyInst → Option Unsupported → Type 0
+IsFirstAfter earlier rows found = IsFirstRow (λ (row : PulleyInst). row.name) (PulleyBreaks earlier) [] rows found
 
--- the first of these rows that breaks a shape, by its name, with the first that it breaks, or that none breaks one
-abbrev pub IsFirstRefused : (before rows : List PulleyInst) → Option Unsupported → Type 0
-IsFirstRefused before [] found = found ≡ None
-IsFirstRefused before (r ∷ more) found =
-    ((shape : Shape) × IsFirstBroken (PulleyBreaks before r) shapes (Some shape) × (found ≡ Some (record { row = r.name; shape = shape })))
-    ⊎ (IsFirstBroken (PulleyBreaks before r) shapes None × IsFirstRefused (before ++ r ∷ []) more found)
-
--- the first row of two lists that isn't supported: those of the first one come before those of the second
-abbrev pub IsFirstOf : (ops extended : List PulleyInst) → Option Unsupported → Type 0
-IsFirstOf ops extended found = IsFirstRefused [] (ops ++ extended) found
+-- the first operation that isn't supported after terms of these names, or that all are: those of the first list come before those of the second
+abbrev pub IsFirstOperation : (earlier : List (List ℕ)) → (ops extended : List PulleyInst) → Option Unsupported → Type 0
+IsFirstOperation earlier ops extended found = IsFirstAfter earlier (ops ++ extended) found

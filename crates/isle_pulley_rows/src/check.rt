@@ -1,38 +1,34 @@
 //! The shapes that rows break.
 
-ghost use Rattle.std.specs.Prelude.{◌≡◌, ◌↔◌, ◌++◌, ◌∷◌, [], List, IfOk, OnOk, IsTrue};
+ghost use Rattle.std.specs.Prelude.{◌≡◌, ◌↔◌, ◌++◌, List, ℕ, IfOk, IsTrue};
 ghost use Rattle.std.specs.List.{list_any};
-ghost use Rattle.isle_lawful_names.specs.NameSet.{HasNames};
 ghost use Rattle.isle_meta.specs.declared.pulley.PulleyInst.{PulleyInst as Row};
-ghost use Rattle.isle_meta.specs.TableNames.{repeats};
+ghost use Rattle.isle_meta.specs.TableNames.{repeats, repeats_after};
 ghost use Rattle.isle_pulley_rows.specs.Names.{operand_names as names_in};
 ghost use Rattle.isle_pulley_rows.specs.Operands.{operands as operands_of};
 ghost use Rattle.isle_pulley_rows.specs.PulleyRow.{BadName, BinaryOperands, FieldType, Results};
-ghost use Rattle.isle_pulley_rows.specs.PulleyRow.{field_names as names_of_fields, is_misnamed, own_names};
-ghost use Rattle.isle_pulley_rows.specs.PulleyRow.{repeats_part, repeats_term, snake_names};
-ghost use Rattle.isle_pulley_rows.specs.Skipped.{kept};
-ghost use Rattle.isle_pulley_rows.specs.Told.{Tells, TellsOwn};
+ghost use Rattle.isle_pulley_rows.specs.PulleyRow.{all_terms, row_terms};
+ghost use Rattle.isle_pulley_rows.specs.PulleyRow.{field_names as names_of_fields, is_misnamed};
+ghost use Rattle.isle_pulley_rows.specs.PulleyRow.{repeats_part};
+ghost use Rattle.isle_pulley_rows.specs.PulleyRows.{PulleyBreaks};
+ghost use Rattle.isle_pulley_rows.specs.Told.{Tells};
 
 use crate::answers::results;
 use crate::binary::binary;
 use crate::faults::Faults;
 use crate::fields::{is_skipped, operands};
-use crate::names::{
-    are_identifiers, field_names, has_repeat, operand_names, operand_types, row_names,
-};
+use crate::names::{field_names, operand_names, operand_types, row_names};
 use crate::operand::Operand;
 use isle_core::Text;
-use isle_lawful_names::added;
-use isle_meta::PulleyInst;
+use isle_meta::{PulleyInst, are_all_identifiers, has_repeat};
 use std::alloc::{AllocError, Global};
-use std::collections::BTreeSet;
 
 // Whether one of its names is no identifier.
 fn has_bad_name(alloc: Global, row: &PulleyInst) -> Result<bool, AllocError>
     ensures { IfOk result (λ bad. IsTrue bad ↔ BadName row.now) }
 {
     let names = row_names(alloc, row)?;
-    let lawful = are_identifiers(names.as_slice());
+    let lawful = are_all_identifiers(names.as_slice());
     Ok(!lawful)
 }
 
@@ -119,73 +115,31 @@ fn breaks_types(alloc: Global, row: &PulleyInst, given: &[Operand<'_>]) -> Resul
         return Ok(false);
     }
     let types = operand_types(alloc, given)?;
-    let lawful = are_identifiers(types.as_slice());
+    let lawful = are_all_identifiers(types.as_slice());
     Ok(!lawful)
 }
 
-// The shapes that a row breaks by itself.
-fn own_faults(alloc: Global, row: &PulleyInst) -> Result<Faults, AllocError>
-    ensures { IfOk result (λ faults. TellsOwn faults row.now) }
+/// Returns the shapes that a row breaks, of whose terms it is known whether one repeats an earlier one. The only error
+/// is want of memory.
+pub fn row_faults(
+    alloc: Global,
+    row: &PulleyInst,
+    repeated_term: bool,
+) -> Result<Faults, AllocError>
+    ensures { (earlier : List (List ℕ)) → (before : List Row)
+        → repeated_term ≡ repeats_after (earlier ++ all_terms before) (row_terms row.now)
+        → IfOk result (λ faults. Tells faults (PulleyBreaks earlier before row.now)) }
 {
-    let found = operands(alloc, row)?;
+    let given = operands(alloc, row)?;
     let bad_name = has_bad_name(alloc, row)?;
-    let repeated_name = repeats_part(alloc, row, found.as_slice())?;
-    let results = breaks_results(alloc, row, found.as_slice())?;
-    let field_type = breaks_types(alloc, row, found.as_slice())?;
+    let repeated_part = repeats_part(alloc, row, given.as_slice())?;
+    let results = breaks_results(alloc, row, given.as_slice())?;
+    let field_type = breaks_types(alloc, row, given.as_slice())?;
     Ok(Faults {
         bad_name,
-        repeated_name,
+        repeated_name: repeated_term | repeated_part,
         binary_operands: breaks_binary(row),
         results,
         field_type,
-    })
-}
-
-// Whether one of its terms is among earlier ones, to which they are added. A skipped row has none.
-fn repeats_term<'t>(
-    row: &'t PulleyInst,
-    snakes: &mut BTreeSet<&'t str>,
-    names: &mut BTreeSet<&'t str>,
-) -> Result<bool, AllocError>
-    ensures told { (before : List Row) → HasNames (snake_names (kept before)) snakes.old
-        → HasNames (own_names (kept before)) names.old
-        → IfOk result (λ found. found ≡ repeats_term before row.now) }
-    ensures snakes { (before : List Row) → HasNames (snake_names (kept before)) snakes.old
-        → OnOk result (HasNames (snake_names (kept (before ++ row.now ∷ []))) snakes.new) }
-    ensures names { (before : List Row) → HasNames (own_names (kept before)) names.old
-        → OnOk result (HasNames (own_names (kept (before ++ row.now ∷ []))) names.new) }
-{
-    if is_skipped(row) {
-        return Ok(false);
-    }
-    let fresh = added(snakes, row.snake_name.as_str())?;
-    let new = added(names, row.name.as_str())?;
-    Ok(!fresh | !new)
-}
-
-/// Returns the shapes that a row breaks, after earlier ones whose terms are known. Its own are added. The only error is
-/// want of memory.
-pub fn row_faults<'t>(
-    alloc: Global,
-    row: &'t PulleyInst,
-    snakes: &mut BTreeSet<&'t str>,
-    names: &mut BTreeSet<&'t str>,
-) -> Result<Faults, AllocError>
-    ensures told { (before : List Row) → HasNames (snake_names (kept before)) snakes.old
-        → HasNames (own_names (kept before)) names.old
-        → IfOk result (λ faults. Tells faults before row.now) }
-    ensures snakes { (before : List Row) → HasNames (snake_names (kept before)) snakes.old
-        → OnOk result (HasNames (snake_names (kept (before ++ row.now ∷ []))) snakes.new) }
-    ensures names { (before : List Row) → HasNames (own_names (kept before)) names.old
-        → OnOk result (HasNames (own_names (kept (before ++ row.now ∷ []))) names.new) }
-{
-    let own = own_faults(alloc, row)?;
-    let repeated = repeats_term(row, snakes, names)?;
-    Ok(Faults {
-        bad_name: own.bad_name,
-        repeated_name: repeated | own.repeated_name,
-        binary_operands: own.binary_operands,
-        results: own.results,
-        field_type: own.field_type,
     })
 }

@@ -1,7 +1,7 @@
 //! Which shapes a row breaks.
 
 ghost use Rattle.std.specs.Prelude.{◌≡◌, find};
-ghost use Rattle.isle_meta.specs.Rows.{shapes};
+ghost use Rattle.isle_meta.specs.FirstRow.{shapes};
 ghost use Rattle.isle_pulley_rows.specs.Told.{told};
 
 use isle_meta::Shape;

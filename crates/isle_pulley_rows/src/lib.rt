@@ -11,11 +11,12 @@ mod names;
 mod operand;
 mod operation;
 mod refused;
+mod terms;
 mod words;
 
 pub use answers::results;
 pub use gathered::operations;
 pub use operand::Operand;
 pub use operation::Operation;
-pub use refused::check_rows;
+pub use refused::{check_rows, unsupported_operation};
 pub use words::{begins_with, is_register};

@@ -1,20 +1,15 @@
 //! The names of rows.
 
-ghost use Rattle.std.specs.Prelude.{◌≡◌, ◌↔◌, ◌++◌, IfOk, OnOk, IsTrue};
-ghost use Rattle.std.specs.List.{AllByRecursion};
-ghost use Rattle.isle_spelling.specs.Identifier.{IsIdentifier};
-ghost use Rattle.isle_meta.specs.TableNames.{repeats, texts};
+ghost use Rattle.std.specs.Prelude.{◌≡◌, ◌++◌, IfOk, OnOk};
+ghost use Rattle.isle_meta.specs.TableNames.{texts};
 ghost use Rattle.isle_pulley_rows.specs.Names.{operand_names as names_in, operand_types as types_in};
 ghost use Rattle.isle_pulley_rows.specs.Names.{names_of, types_of};
 ghost use Rattle.isle_pulley_rows.specs.PulleyRow.{field_names as names_of_fields, row_names as names_of_row};
 
 use crate::operand::Operand;
 use isle_core::Text;
-use isle_lawful_names::added;
 use isle_meta::PulleyInst;
-use isle_spelling::is_identifier;
 use std::alloc::{AllocError, Global};
-use std::collections::BTreeSet;
 
 // Puts the names of fields behind names.
 fn push_field_names<'t>(
@@ -115,30 +110,4 @@ pub fn operand_types<'t>(
         push_types(&mut types, operand)?;
     }
     Ok(types)
-}
-
-/// Tells whether all names are identifiers.
-pub fn are_identifiers(names: &[&str]) -> bool
-    ensures { IsTrue result ↔ AllByRecursion IsIdentifier (texts names.now) }
-{
-    for name in names {
-        if !is_identifier(name) {
-            return false;
-        }
-    }
-    true
-}
-
-/// Tells whether a name stands among these twice. The only error is want of memory.
-pub fn has_repeat(alloc: Global, names: &[&str]) -> Result<bool, AllocError>
-    ensures { IfOk result (λ found. found ≡ repeats (texts names.now)) }
-{
-    let mut met = BTreeSet::new(alloc);
-    for name in names {
-        let fresh = added(&mut met, name)?;
-        if !fresh {
-            return Ok(true);
-        }
-    }
-    Ok(false)
 }

@@ -1,68 +1,67 @@
 //! The first row that isn't supported.
 
-ghost use Rattle.std.specs.Prelude.{◌≡◌, ◌++◌, List, IfOk, OnOk, Option, Some, None, Result, Ok, Err};
+ghost use Rattle.std.specs.Prelude.{◌≡◌, ◌++◌, List, ℕ, [], IfOk, OnOk};
 ghost use Rattle.isle_lawful_names.specs.NameSet.{HasNames};
-ghost use Rattle.isle_meta.specs.Checked.{Refuses};
+ghost use Rattle.isle_meta.specs.Checked.{Checks};
+ghost use Rattle.isle_meta.specs.TableNames.{texts};
+ghost use Rattle.isle_meta.specs.Told.{found_row};
 ghost use Rattle.isle_meta.specs.declared.pulley.PulleyInst.{PulleyInst as Row};
-ghost use Rattle.isle_pulley_rows.specs.PulleyRow.{own_names, snake_names};
-ghost use Rattle.isle_pulley_rows.specs.PulleyRows.{IsFirstOf, IsFirstRefused};
-ghost use Rattle.isle_pulley_rows.specs.Skipped.{kept};
-ghost use Rattle.isle_pulley_rows.specs.Told.{ChecksRows, found_row, is_none_found};
+ghost use Rattle.isle_pulley_rows.specs.PulleyRows.{IsFirstAfter, IsFirstOperation};
+ghost use Rattle.isle_pulley_rows.specs.Told.{AreTermed};
 
 use crate::check::row_faults;
 use crate::faults::first_shape;
-use isle_core::Text;
-use isle_meta::{PulleyInst, Shape, TableFail, Unsupported};
+use crate::terms::{Termed, with_terms};
+use isle_lawful_names::added;
+use isle_meta::{PulleyInst, Shape, TableFail, checked, has_repeated_term};
 use std::alloc::{AllocError, Global};
 use std::collections::BTreeSet;
 
-// The first of rows that isn't supported, after earlier ones whose terms are known; if there is none, theirs are added.
+// Puts names into a set.
+fn add_names<'n>(met: &mut BTreeSet<&'n str>, names: &[&'n str]) -> Result<(), AllocError>
+    ensures { (earlier : List (List ℕ)) → HasNames earlier met.old
+        → OnOk result (HasNames (earlier ++ texts names.now) met.new) }
+{
+    for name in names {
+        added(met, name)?;
+    }
+    Ok(())
+}
+
+// The first of rows that isn't supported, after terms of these names; the terms of each are known.
 fn unsupported_among<'t>(
     alloc: Global,
-    rows: &'t [PulleyInst],
-    snakes: &mut BTreeSet<&'t str>,
-    names: &mut BTreeSet<&'t str>,
+    earlier: &[&str],
+    rows: &[Termed<'t>],
 ) -> Result<Option<(&'t str, Shape)>, AllocError>
-    ensures { (before : List Row) → HasNames (snake_names (kept before)) snakes.old
-        → HasNames (own_names (kept before)) names.old
-        → IfOk result (λ found. IsFirstRefused before rows.now (found_row found)
-        × (is_none_found found → HasNames (snake_names (kept (before ++ rows.now))) snakes.new
-        × HasNames (own_names (kept (before ++ rows.now))) names.new)) }
+    ensures { (own : List Row) → AreTermed rows.now own
+        → IfOk result (λ found. IsFirstAfter (texts earlier.now) own (found_row found)) }
 {
-    for row in rows {
-        let faults = row_faults(alloc, row, snakes, names)?;
+    let mut met = BTreeSet::new(alloc);
+    add_names(&mut met, earlier)?;
+    for termed in rows {
+        let repeated = has_repeated_term(termed.terms.as_slice(), &mut met)?;
+        let faults = row_faults(alloc, termed.row, repeated)?;
         if let Some(shape) = first_shape(&faults) {
-            return Ok(Some((row.name.as_str(), shape)));
+            return Ok(Some((termed.row.name.as_str(), shape)));
         }
     }
     Ok(None)
 }
 
-// The first of two lists of rows that isn't supported.
-fn unsupported<'t>(
+/// Returns the name of the first operation that breaks a shape, and the first shape that it breaks; `earlier` has the
+/// names of terms of other rows. The only error is want of memory.
+pub fn unsupported_operation<'t>(
     alloc: Global,
+    earlier: &[&str],
     ops: &'t [PulleyInst],
     extended: &'t [PulleyInst],
 ) -> Result<Option<(&'t str, Shape)>, AllocError>
-    ensures { IfOk result (λ found. IsFirstOf ops.now extended.now (found_row found)) }
+    ensures { IfOk result (λ found.
+        IsFirstOperation (texts earlier.now) ops.now extended.now (found_row found)) }
 {
-    let mut snakes = BTreeSet::new(alloc);
-    let mut names = BTreeSet::new(alloc);
-    let found = unsupported_among(alloc, ops, &mut snakes, &mut names)?;
-    if found.is_some() {
-        return Ok(found);
-    }
-    unsupported_among(alloc, extended, &mut snakes, &mut names)
-}
-
-// The refusal of a row.
-fn refusal(alloc: Global, row: &str, shape: Shape) -> TableFail
-    ensures { Refuses row.now shape result }
-{
-    match Text::copied(alloc, row) {
-        Ok(row) => TableFail::Unsupported(Unsupported { row, shape }),
-        Err(_) => TableFail::Memory,
-    }
+    let rows = with_terms(alloc, ops, extended)?;
+    unsupported_among(alloc, earlier, rows.as_slice())
 }
 
 /// Looks for the first row that isn't supported, among `ops` and then among `extended`. `Unsupported` gives its name and
@@ -72,11 +71,8 @@ pub fn check_rows(
     ops: &[PulleyInst],
     extended: &[PulleyInst],
 ) -> Result<(), TableFail>
-    ensures { ChecksRows ops.now extended.now result }
+    ensures { Checks (IsFirstOperation [] ops.now extended.now) result }
 {
-    let found = unsupported(alloc, ops, extended)?;
-    match found {
-        Some((row, shape)) => Err(refusal(alloc, row, shape)),
-        None => Ok(()),
-    }
+    let found = unsupported_operation(alloc, &[], ops, extended)?;
+    checked(alloc, found)
 }

@@ -54,7 +54,7 @@ types_found env term id t requested there =
     ap (λ (o : Option TermId). option_map_or (arg_types env) o []) requested ∙ ap (λ (o : Option Term). option_map_or (λ (t : Term). t.arg_tys) o []) there
 
 -- the arguments of a run have the types of the term
-types_fit : (files : Files) (env : Environment) (types : List TypeItem) (term : List ℕ) (ws : Writtens) (f : Function) (h : Found files env term (with_rules env) f) → AreNamed types (type_names f.params) (args_given env term ws) → HaveTypes env (args_given env term ws) h.declared.term.arg_tys
+pub types_fit : (files : Files) (env : Environment) (types : List TypeItem) (term : List ℕ) (ws : Writtens) (f : Function) (h : Found files env term (with_rules env) f) → AreNamed types (type_names f.params) (args_given env term ws) → HaveTypes env (args_given env term ws) h.declared.term.arg_tys
 types_fit files env types term ws f h named =
     let tys = types_found env term h.id h.declared.term h.requested h.declared.found in
     let names = subst (λ ps. AreNamed types (type_names ps) (args_given env term ws)) h.declared.of_term.params named in

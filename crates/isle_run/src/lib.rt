@@ -9,5 +9,7 @@ mod run_fail;
 mod shown;
 mod trials;
 
+pub use outcome::{Compiled, outcome_under};
+pub use program::args_given;
 pub use run_fail::RunFail;
 pub use trials::{TrialFail, trial};

@@ -88,7 +88,8 @@ fn under_forms(
     Ok(outcome)
 }
 
-/// Runs the function under the answers that a text spells.
+/// Runs the function of a term under the answers that a text spells. It is refused as `IsRunRefused` in
+/// `specs/NoLines.antt` says, or memory ran out.
 pub fn outcome_under(
     alloc: Global,
     compiled: &Compiled<'_>,

@@ -21,8 +21,9 @@ use isle_tree::Program;
 use isle_values::Written;
 use std::alloc::Global;
 
-// The arguments: the values at the types of the term that has rules and this name.
-fn args_given(
+/// Returns the arguments: the values at the types of the term that has rules and this name; without such a term there
+/// are no types. The only error is want of memory.
+pub fn args_given(
     alloc: Global,
     checked: &Checked,
     term: &str,

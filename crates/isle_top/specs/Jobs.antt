@@ -2,11 +2,12 @@
 use Rattle.std.specs.Prelude.{◌≡◌, ℕ, List, Bool, true, false}
 use Rattle.isle_command_line.specs.Request.{Request, Running, Help, Version, Compile, Build, Prelude, Units, Isa, Sample, Run}
 use Rattle.isle_command_line.specs.Lines.{LineS}
-use Rattle.isle_command_line.specs.Views.{seen_run}
+use Rattle.isle_command_line.specs.Views.{seen_command, seen_run}
 use Rattle.isle_command_line.specs.declared.commands.RunLine.{RunLine}
 use Rattle.isle_command_line.specs.declared.commands.Source.{Source}
 use Rattle.isle_command_line.specs.declared.commands.Source.TheVariants as source
 use Rattle.isle_meta.specs.declared.tables.Tables.{Tables}
+use Rattle.isle_top.specs.declared.asked.Asked.{Asked}
 use Rattle.isle_top.specs.About.{help_text, version_text}
 use Rattle.isle_top.specs.Job.{Job}
 use Rattle.isle_top.specs.Texts.{text_job, not_built}
@@ -44,6 +45,10 @@ job_of tables Units = not_built
 job_of tables (Isa target) = not_built
 job_of tables (Sample size) = sample_job size
 job_of tables (Run r) = running_job r.trace r.source r
+
+-- a line as contracts see it
+abbrev pub job_asked : Asked → Job
+job_asked line = job_of line.tables.now (seen_command line.command.now)
 
 -- the words ask for this, and for nothing else
 pub record Asks (words : List (List ℕ)) (request : Request) : Type 0 where

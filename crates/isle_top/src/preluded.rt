@@ -44,7 +44,7 @@ fn checked(alloc: Global, tables: &Tables) -> Result<(), Refusal>
 {
     match check_tables(alloc, tables) {
         Ok(()) => Ok(()),
-        Err(TableFail::Unsupported(found)) => Err(Refusal::Tables(found)),
+        Err(TableFail::Unsupported(first)) => Err(Refusal::Tables(first)),
         Err(TableFail::Memory) => Err(Refusal::Files(FileError::Memory)),
     }
 }

@@ -3,9 +3,8 @@
 ghost use Rattle.std.specs.Prelude.{◌≡◌, ◌≤◌, false, Err, IfOk, IfErr, ◌+◌, ◌*◌, ◌^◌, length, ◌-◌};
 ghost use Rattle.std.specs.String.{string_bytes};
 ghost use Rattle.isle_outside.specs.Directory.{Rose};
-ghost use Rattle.isle_command_line.specs.Views.{seen_command};
 ghost use Rattle.isle_top.specs.Job.{surroundings, IsReply};
-ghost use Rattle.isle_top.specs.Jobs.{job_of, job_of_run};
+ghost use Rattle.isle_top.specs.Jobs.{job_asked, job_of_run};
 ghost use Rattle.isle_top.specs.SampleLine.{sample_source, AreCounts, FailsToCount};
 ghost use Rattle.isle_top.specs.Wants.{IsWant};
 
@@ -26,20 +25,20 @@ pub fn reply<D: Dir>(alloc: Global, line: &Asked<'_>, dir: &mut D) -> Result<Str
     ensures ok { let around = surroundings (D.files dir.old) (D.counts dir.old) (D.counts dir.new)
         in
         IfOk result (λ text.
-        IsReply (job_of line.now.tables.now (seen_command line.now.command.now)) around (string_bytes text)) }
+        IsReply (job_asked line.now) around (string_bytes text)) }
     ensures err { let around = surroundings (D.files dir.old) (D.counts dir.old) (D.counts dir.new)
         in
-        IfErr result (λ e. (job_of line.now.tables.now (seen_command line.now.command.now)).fails e around) }
-    ensures not_built { (job_of line.now.tables.now (seen_command line.now.command.now)).built ≡ false
+        IfErr result (λ e. (job_asked line.now).fails e around) }
+    ensures not_built { (job_asked line.now).built ≡ false
         → result ≡ Err Refusal.NotYet }
-    ensures untried { (job_of line.now.tables.now (seen_command line.now.command.now)).reads ≡ false → dir.new ≡ dir.old }
-    ensures complete { (job_of line.now.tables.now (seen_command line.now.command.now)).valid (D.files dir.old)
+    ensures untried { (job_asked line.now).reads ≡ false → dir.new ≡ dir.old }
+    ensures complete { (job_asked line.now).valid (D.files dir.old)
         → (Rose (D.counts dir.old).faults (D.counts dir.new).faults → ⊥) → IfErr result IsWant }
     ensures files { D.files dir.new ≡ D.files dir.old }
     ensures later { (D.counts dir.old).faults ≤ (D.counts dir.new).faults }
     ensures stays { (D.counts dir.old).faults ≡ 2 ^ 64 - 1
         → (D.counts dir.new).faults ≡ 2 ^ 64 - 1 }
-    ensures given { let names = (job_of line.now.tables.now (seen_command line.now.command.now)).inputs in
+    ensures given { let names = (job_asked line.now).inputs in
         (D.counts dir.new).given ≤ (D.counts dir.old).given + (2 ^ 24 + 1) * length names }
 {
     match line.command {

@@ -6,7 +6,7 @@ ghost use Rattle.isle_command_line.specs.Request.{Request, Compile};
 ghost use Rattle.isle_command_line.specs.Lines.{LineS};
 ghost use Rattle.isle_command_line.specs.Views.{seen_command};
 ghost use Rattle.isle_top.specs.Job.{surroundings, TookReply, TookPartOfReply};
-ghost use Rattle.isle_top.specs.Jobs.{Asks, job_of};
+ghost use Rattle.isle_top.specs.Jobs.{Asks, job_asked, job_of};
 ghost use Rattle.isle_top.specs.Lines.{Wrote};
 ghost use Rattle.isle_top.specs.Statuses.{IsNoLine, Says};
 
@@ -124,27 +124,28 @@ fn run_command<D: Dir, O: Sink, E: Sink>(
     ensures done { let around = surroundings (D.files dir.old) (D.counts dir.old) (D.counts dir.new)
         in
         result.0 ≡ 0 → (O.faults out.new ≡ O.faults out.old)
-        × TookReply (job_of line.now.tables.now (seen_command line.now.command.now)) around (O.taken out.old) (O.taken out.new) }
+        × TookReply (job_asked line.now) around (O.taken out.old) (O.taken out.new) }
     ensures part { let around = surroundings (D.files dir.old) (D.counts dir.old) (D.counts dir.new)
         in
         result.0 ≡ 11 → Rose (O.faults out.old) (O.faults out.new)
-        × TookPartOfReply (job_of line.now.tables.now (seen_command line.now.command.now)) around (O.taken out.old)
+        × TookPartOfReply (job_asked line.now) around (O.taken out.old)
         (O.taken out.new) }
     ensures untouched { result.0 ≢ 0 → result.0 ≢ 11 → out.new ≡ out.old }
     ensures says { let around = surroundings (D.files dir.old) (D.counts dir.old) (D.counts dir.new)
         in
         let wrote = Wrote (E.taken err.old) (E.taken err.new) (E.faults err.old) (E.faults err.new) in
-        Says line.now.tables.now (λ a. a ≡ seen_command line.now.command.now) ⊥ around (err.new ≡ err.old) wrote result.0 }
-    ensures not_built { (job_of line.now.tables.now (seen_command line.now.command.now)).built ≡ false → result.0 ≡ 14 }
-    ensures untried { (job_of line.now.tables.now (seen_command line.now.command.now)).reads ≡ false → dir.new ≡ dir.old }
-    ensures complete { (job_of line.now.tables.now (seen_command line.now.command.now)).valid (D.files dir.old)
+        Says line.now.tables.now (λ a. a ≡ seen_command line.now.command.now) ⊥ around
+        (err.new ≡ err.old) wrote result.0 }
+    ensures not_built { (job_asked line.now).built ≡ false → result.0 ≡ 14 }
+    ensures untried { (job_asked line.now).reads ≡ false → dir.new ≡ dir.old }
+    ensures complete { (job_asked line.now).valid (D.files dir.old)
         → (Rose (D.counts dir.old).faults (D.counts dir.new).faults → ⊥)
         → (result.0 ≡ 0) ⊎ (result.0 ≡ 11) ⊎ (result.0 ≡ 12) }
     ensures files { D.files dir.new ≡ D.files dir.old }
     ensures later { (D.counts dir.old).faults ≤ (D.counts dir.new).faults }
     ensures out_later { O.faults out.old ≤ O.faults out.new }
     ensures err_later { E.faults err.old ≤ E.faults err.new }
-    ensures given { let names = (job_of line.now.tables.now (seen_command line.now.command.now)).inputs in
+    ensures given { let names = (job_asked line.now).inputs in
         (D.counts dir.new).given ≤ (D.counts dir.old).given + (2 ^ 24 + 1) * length names }
 {
     match reply(alloc, line, dir) {

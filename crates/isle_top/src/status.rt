@@ -2,9 +2,8 @@
 
 ghost use Rattle.std.specs.Prelude.{◌≡◌, ◌⊎◌, ◌≤◌, [], Some};
 ghost use Rattle.isle_codegen.specs.Errors.{HavePlaces};
-ghost use Rattle.isle_command_line.specs.Views.{seen_command};
 ghost use Rattle.isle_top.specs.Errors.{error_status, errors_status};
-ghost use Rattle.isle_top.specs.Jobs.{job_of};
+ghost use Rattle.isle_top.specs.Jobs.{job_asked};
 ghost use Rattle.isle_top.specs.Lines.{Wrote, memory_line};
 ghost use Rattle.isle_top.specs.Statuses.{IsOfJob, Tells, TellsErrors, TellsRun, Ends};
 
@@ -20,9 +19,9 @@ use isle_core::{Error, Errors, Sink, write_all};
 use isle_run::RunFail;
 use std::alloc::Global;
 
-/// The status of a run: 0 done, 2 the words are no line, 4 a row of tables is not supported, 5 an input was not read, 6 to 9 errors are in the inputs (of
-/// parsing, of typing, of rules, of recursion), 10 a name may not be emitted, 11 the output failed, 12 memory ran out,
-/// 13 a term is not run, 14 what is asked for is not built.
+/// The status of a run: 0 done, 2 the words are no line, 4 a row of tables is not supported, 5 an input was not read,
+/// 6 to 9 errors are in the inputs (of parsing, of typing, of rules, of recursion), 10 a name may not be emitted, 11 the
+/// output failed, 12 memory ran out, 13 a term is not run, 14 what is asked for is not built.
 #[derive(Clone, Copy, Debug, PartialEq, Eq)]
 pub struct Exit(pub u8);
 
@@ -94,7 +93,7 @@ fn tell_run<E: Sink>(err: &mut E, line: &Asked<'_>, fail: RunFail) -> Exit
     ensures later { E.faults err.old ≤ E.faults err.new }
     ensures told { let wrote = Wrote (E.taken err.old) (E.taken err.new)
         (E.faults err.old) (E.faults err.new) in
-        TellsRun (job_of line.now.tables.now (seen_command line.now.command.now)) wrote result.0 fail }
+        TellsRun (job_asked line.now) wrote result.0 fail }
 {
     match fail {
         RunFail::NoTerm => {
@@ -120,11 +119,11 @@ fn tell_run<E: Sink>(err: &mut E, line: &Asked<'_>, fail: RunFail) -> Exit
 /// Writes the lines of a refusal, as far as the sink takes them, and returns its status (`specs/Statuses.antt`). Only
 /// the lines of errors take memory; if it doesn't hold them the status is 12.
 pub fn refuse<E: Sink>(alloc: Global, err: &mut E, line: &Asked<'_>, refusal: &Refusal) -> Exit
-    requires { IsOfJob (job_of line.now.tables.now (seen_command line.now.command.now)) refusal.now }
+    requires { IsOfJob (job_asked line.now) refusal.now }
     ensures later { E.faults err.old ≤ E.faults err.new }
     ensures ends { let wrote = Wrote (E.taken err.old) (E.taken err.new)
         (E.faults err.old) (E.faults err.new) in
-        Ends (job_of line.now.tables.now (seen_command line.now.command.now)) wrote result.0 refusal.now }
+        Ends (job_asked line.now) wrote result.0 refusal.now }
 {
     match refusal {
         Refusal::NotYet => {

@@ -7,15 +7,15 @@ use Rattle.isle_codegen.specs.Causes.{printed, IsRefusal}
 use Rattle.isle_codegen.proofs.Refusals.{of_read, read_cause}
 use Rattle.isle_codegen.proofs.files.from_files.Goals as goal
 
-pub returns-in-Ok-compiled-clause-ok : goal.returns-in-Ok-compiled-clause-ok
-returns-in-Ok-compiled-clause-ok g c = record {
+pub returns-in-Ok-compile_texts-clause-ok : goal.returns-in-Ok-compile_texts-clause-ok
+returns-in-Ok-compile_texts-clause-ok g c = record {
   source = c.in-Ok.files;
   read = record {
     named = c.in-Ok.ensures.names ∙ ap (λ ps. map (shown ps) (bytes_each c.args.inputs.now)) c.as_slice.ensures;
     read = c.in-Ok.ensures.texts;
   };
-  compiles = c.in-Ok-compiled.ensures.ok;
-  header = c.in-Ok-compiled.ensures.header;
+  compiles = c.in-Ok-compile_texts.ensures.ok;
+  header = c.in-Ok-compile_texts.ensures.header;
 }
 
 pub returns-in-Err-clause-err : goal.returns-in-Err-clause-err

@@ -1,6 +1,6 @@
 use Rattle.isle_meta.proofs.FormatLaws.{formats_on, formats_out}
 use Rattle.isle_meta.proofs.FirstLaws.{no_shape_told}
-use Rattle.std.proofs.Common.{ℕ, List, [], take, subst, sym, Some}
+use Rattle.std.proofs.Common.{ℕ, List, take, subst, sym, Some}
 use Rattle.isle_meta.specs.ClifRows.{IsFirstFormat}
 use Rattle.isle_meta.proofs.formats.unsupported_format.Goals as goal
 

@@ -1,4 +1,4 @@
-use Rattle.std.proofs.Common.{ℕ, List, [], take, subst, sym, Some}
+use Rattle.std.proofs.Common.{ℕ, List, take, subst, sym, Some}
 use Rattle.isle_meta.specs.ClifRows.{IsFirstInstruction}
 use Rattle.isle_meta.proofs.InstructionLaws.{instructions_on, instructions_out}
 use Rattle.isle_meta.proofs.instructions.unsupported_among.Goals as goal
