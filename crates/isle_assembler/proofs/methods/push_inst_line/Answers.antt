@@ -19,11 +19,11 @@ returns c =
     ∙ ap (λ u. t0 ++ front u c.assembler.result.now c.as_str.result.now) c.line_begin.ensures
     ∙ ap (λ v. t0 ++ front line_begin v c.as_str.result.now) c.assembler.ensures
     ∙ ap (λ w. t0 ++ front line_begin assembler w) c.as_str.ensures in
-    subst (λ z. OnOk c.push_piece.result (string_bytes c.push_piece.new.text ≡ z))
+    subst (λ z. OnOk c.push_pieces-2.result (string_bytes c.push_pieces-2.new.text ≡ z))
     (more t1 t2 (listed (arguments c.args.inst.now)) b3 c.in_ok-push_arguments.ensures
     ∙ more t0 t1 (front line_begin assembler name) b2 begun
     ∙ ap (λ z. t0 ++ z)
     (append_assoc line_begin (codes "let inst = " ++ (assembler ++ (codes "inst::" ++ (name ++ codes "::new(")))) b2
     ∙ ap (λ z. line_begin ++ (codes "let inst = " ++ z))
     (append_assoc assembler (codes "inst::" ++ (name ++ codes "::new(")) b2 ∙ ap (λ z. assembler ++ (codes "inst::" ++ z)) (append_assoc name (codes "::new(") b2))))
-    c.push_piece.ensures
+    c.push_pieces-2.ensures

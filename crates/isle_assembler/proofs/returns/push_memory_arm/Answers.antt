@@ -1,5 +1,5 @@
 use Rattle.std.proofs.Common.{◌≡◌, ℕ, List, ◌++◌, subst, OnOk, codes, string_bytes}
-use Rattle.isle_assembler.specs.Returns.{arm_begin, memory_arm, side_effect}
+use Rattle.isle_assembler.specs.Returns.{arm_begin, memory_arm}
 use Rattle.isle_assembler.proofs.returns.push_memory_arm.Goals as goal
 
 pub returns : goal.returns
