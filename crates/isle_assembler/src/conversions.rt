@@ -5,7 +5,7 @@ ghost use Rattle.isle_assembler.specs.Conversions.{access_word, aligned_word, as
 ghost use Rattle.isle_assembler.specs.Conversions.{converted, fixed_register, immediate, memory, new_register, read_write, reg_mem, register, wrapped};
 
 use crate::pieces::push_pieces;
-use crate::signature::{class_name, push_bits};
+use crate::signature::push_bits;
 use isle_meta::{Mutability, Operand, OperandKind, RegClass};
 use std::alloc::AllocError;
 
