@@ -1,0 +1,6 @@
+pub mod MarkLaws
+pub mod ReachLaws
+pub mod PlaceLaws
+pub mod IsaLaws
+pub mod GroupLaws
+pub mod SizeLaws

@@ -32,9 +32,13 @@ setting_line s = line_of s.name s.kind where
 abbrev pub name_at : List Setting → ℕ → List ℕ
 name_at settings place = unwrap_or (option_map (λ (s : Setting). s.name) (slice_get settings place)) []
 
+-- that name behind a blank
+abbrev pub spaced_name : List Setting → ℕ → List ℕ
+spaced_name settings place = spaced (name_at settings place)
+
 -- the line of a preset that reaches these flags
 abbrev pub preset_line : List Setting → Preset → (flags : List ℕ) → List ℕ
-preset_line settings p flags = codes "preset " ++ (p.name ++ (flat_map (λ flag. spaced (name_at settings flag)) flags ++ line_end))
+preset_line settings p flags = codes "preset " ++ (p.name ++ (flat_map (spaced_name settings) flags ++ line_end))
 
 -- the lines of presets, the first of which stands at this place: each with the flags that it reaches
 abbrev pub ArePresetLines : SettingGroup → ℕ → List Preset → List ℕ → Type 0

@@ -5,7 +5,7 @@ ghost use Rattle.std.specs.List.{flat_map};
 ghost use denote.Ref.{Bor};
 ghost use Rattle.isle_settings.specs.Groups.{settings_of};
 ghost use Rattle.isle_settings.specs.PresetClosure.{AreReached, IsWellFormed};
-ghost use Rattle.isle_settings.specs.TargetLines.{ArePresetLines, IsGroupText, line_end, name_at, preset_line, setting_line, spaced, truth};
+ghost use Rattle.isle_settings.specs.TargetLines.{ArePresetLines, IsGroupText, line_end, name_at, preset_line, setting_line, spaced, spaced_name, truth};
 
 use crate::building::settings_of;
 use crate::group::{Preset, Setting, SettingGroup, SettingKind};
@@ -81,6 +81,18 @@ fn name_at(settings: &[Setting], place: usize) -> &str
     }
 }
 
+// Appends the names of flags, each behind a blank.
+fn push_flags(text: &mut String, settings: &[Setting], flags: &[usize]) -> Result<(), AllocError>
+    ensures { OnOk result
+        (string_bytes text.new
+        ≡ string_bytes text.old ++ flat_map (spaced_name settings.now) flags.now) }
+{
+    for flag in flags {
+        push_spaced(text, name_at(settings, *flag))?;
+    }
+    Ok(())
+}
+
 // Appends the line of a preset that reaches these flags.
 fn push_preset(
     text: &mut String,
@@ -94,9 +106,7 @@ fn push_preset(
 {
     text.push_str("preset ")?;
     text.push_str(preset.name.as_str())?;
-    for flag in flags {
-        push_spaced(text, name_at(settings, *flag))?;
-    }
+    push_flags(text, settings, flags)?;
     text.push_str("\n")
 }
 

@@ -6,8 +6,8 @@ use Rattle.std.specs.Str.{bytes_eq}
 use Rattle.isle_core.specs.Inputs.{IsTried}
 use Rattle.isle_meta.specs.Layout.{joined_name}
 use Rattle.isle_outside.specs.Directory.{Contents, Counts, Rose, bytes_of, directly_in, is_folder}
-use Rattle.isle_units.specs.declared.paths.PathsError.{PathsError}
-use Rattle.isle_units.specs.declared.paths.PathsError.TheVariants as error
+use Rattle.isle_units.specs.declared.paths_error.PathsError.{PathsError}
+use Rattle.isle_units.specs.declared.paths_error.PathsError.TheVariants as error
 
 -- a name ends in `.isle` after at least one byte
 abbrev pub is_isle_name : List ℕ → Bool
@@ -46,3 +46,26 @@ FailsPaths (error.Absent index) files inputs before after =
     (index < length inputs) × IsTried (index + 1) before after × (after.faults ≡ before.faults) × IfSome files (λ fs. IsFirstAbsent fs inputs index)
 FailsPaths error.Dir files inputs before after = Rose before.faults after.faults
 FailsPaths error.Memory files inputs before after = after.faults ≡ before.faults
+
+-- ---- one input, as private functions see it
+
+-- to paths those of an input were added
+abbrev pub AddsPaths : Option Contents → (input : List ℕ) → (old new : List (List ℕ)) → Type 0
+AddsPaths files input old new = (own : List (List ℕ)) × (new ≡ old ++ own) × IfSome files (λ fs. ArePathsOf fs input own)
+
+-- to paths those of the files in a folder were added
+abbrev pub AddsFolder : Option Contents → (folder : List ℕ) → (old new : List (List ℕ)) → Type 0
+AddsFolder files folder old new = (own : List (List ℕ)) × (new ≡ old ++ own) × IfSome files (λ fs. AreInFolder fs folder own)
+
+-- why the files of a folder have no paths
+abbrev pub FailsFolder : PathsError → Counts → Counts → Type 0
+FailsFolder (error.Absent index) before after = ⊥
+FailsFolder error.Dir before after = Rose before.faults after.faults
+FailsFolder error.Memory before after = after.faults ≡ before.faults
+
+-- why the input at a place has no paths
+abbrev pub FailsInput : PathsError → Option Contents → (index : ℕ) → (input : List ℕ) → Counts → Counts → Type 0
+FailsInput (error.Absent found) files index input before after =
+    (found ≡ index) × (after.faults ≡ before.faults) × IfSome files (λ fs. IsAbsent fs input)
+FailsInput error.Dir files index input before after = Rose before.faults after.faults
+FailsInput error.Memory files index input before after = after.faults ≡ before.faults

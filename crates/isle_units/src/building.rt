@@ -14,7 +14,23 @@ use isle_core::{List, OutOfMemory, Text};
 use std::alloc::{AllocError, Global};
 
 // Names, each joined to a folder.
-fn joined_all(
+fn joined_names(
+    alloc: Global,
+    folder: &str,
+    names: &[&'static str],
+) -> Result<Vec<String>, AllocError>
+    ensures { IfOk result (λ paths.
+        bytes_each paths.items ≡ map (joined_name folder.now) (texts_of names.now)) }
+{
+    let mut paths = Vec::new(alloc);
+    for name in names {
+        paths.push(joined_to(alloc, folder, name)?)?;
+    }
+    Ok(paths)
+}
+
+// The same as texts.
+fn joined_texts(
     alloc: Global,
     folder: &str,
     names: &[&'static str],
@@ -40,8 +56,8 @@ fn unit_of(
     Ok(IsleCompilation {
         name: Text::copied(alloc, row.name)?,
         output: Text::new(joined_to(alloc, gen_dir, row.output)?),
-        tracked_inputs: joined_all(alloc, sources, row.tracked)?,
-        untracked_inputs: joined_all(alloc, gen_dir, row.untracked)?,
+        tracked_inputs: joined_texts(alloc, sources, row.tracked)?,
+        untracked_inputs: joined_texts(alloc, gen_dir, row.untracked)?,
     })
 }
 
@@ -90,9 +106,6 @@ pub fn shared_isle_lower_paths(
 ) -> Result<Vec<String>, OutOfMemory>
     ensures { IfOk result (λ paths. bytes_each paths.items ≡ lower_paths codegen_crate_dir.now) }
 {
-    let mut paths = Vec::new(alloc);
-    for name in &LOWER_NAMES {
-        paths.push(joined_to(alloc, codegen_crate_dir, name)?)?;
-    }
+    let paths = joined_names(alloc, codegen_crate_dir, &LOWER_NAMES)?;
     Ok(paths)
 }

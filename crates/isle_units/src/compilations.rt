@@ -18,7 +18,8 @@ impl IsleCompilations {
     pub fn lookup(&self, name: &str) -> Option<&IsleCompilation>
         ensures { option_copied result ≡ first_named name.now self.now }
     {
-        for unit in self.items.as_slice() {
+        let items = self.items.as_slice();
+        for unit in items {
             if unit.name.as_str() == name {
                 return Some(unit);
             }

@@ -6,11 +6,12 @@ mod compilation;
 mod compilations;
 mod joining;
 mod paths;
+mod paths_error;
 mod rows;
 mod text;
 
 pub use building::{get_isle_compilations, shared_isle_lower_paths};
 pub use compilation::IsleCompilation;
 pub use compilations::IsleCompilations;
-pub use paths::PathsError;
+pub use paths_error::PathsError;
 pub use text::units_text;
