@@ -1,8 +1,9 @@
 -- Each group is well formed: its presets name settings that are there, and presets before them.
-use Rattle.std.proofs.Common.{◌≡◌, ◌⊎◌, ⊎_elim, ℕ, zero, suc, ◌+◌, ◌<◌, List, [], ◌∷◌, Bool, true, false, length, map, Some, refl, sym, ap, subst, arith}
-use Rattle.std.specs.Prelude.{◌&&◌, Contains, nat_lt, slice_get}
-use Rattle.std.specs.List.{list_all}
+use Rattle.std.proofs.Common.{◌≡◌, ⊎_elim, ℕ, zero, suc, ◌+◌, List, [], ◌∷◌, Bool, true, false, length, Result, Ok, Err, refl, ◌∙◌, subst, arith}
+use Rattle.std.specs.Prelude.{◌&&◌, Contains, IfOk, nat_lt}
+use Rattle.std.proofs.lemmas.Bool.{ltb-true}
 use Rattle.isle_core.proofs.Contained.{contained_cases, none_contained}
+use Rattle.isle_outside.specs.declared.errors.OutOfMemory.{OutOfMemory}
 use Rattle.isle_settings.specs.Arm64.{arm64}
 use Rattle.isle_settings.specs.Groups.{settings_of}
 use Rattle.isle_settings.specs.PresetClosure.{HasItem, IsLawfulItem, IsWellFormed}
@@ -34,19 +35,19 @@ abbrev lawful_presets : (settings place : ℕ) → List Preset → Bool
 lawful_presets settings place [] = true
 lawful_presets settings place (p ∷ presets) = lawful_items settings place p.items && lawful_presets settings (place + 1) presets
 
-both : {a b : Bool} → a && b ≡ true → (a ≡ true) × (b ≡ true)
-both {true} {true} e = (refl, refl)
-both {true} {false} e = absurd cc
-both {false} {b} e = absurd cc
+both : (a b : Bool) → a && b ≡ true → (a ≡ true) × (b ≡ true)
+both true true e = (refl, refl)
+both true false e = absurd cc
+both false b e = absurd cc
 
 item_passes : (settings place : ℕ) (it : PresetItem) → lawful_item settings place it ≡ true → IsLawfulItem settings place it
-item_passes settings place (item.Flag flag) e = omega (arith, e)
-item_passes settings place (item.Preset named) e = omega (arith, e)
+item_passes settings place (item.Flag flag) e = ltb-true flag settings e
+item_passes settings place (item.Preset named) e = ltb-true named place e
 
 items_pass : (settings place : ℕ) (items : List PresetItem) → lawful_items settings place items ≡ true → (it : PresetItem) → Contains items it → IsLawfulItem settings place it
 items_pass settings place [] e it c = absurd (none_contained it c)
 items_pass settings place (first ∷ items) e it c =
-    let h = both e in
+    let h = both (lawful_item settings place first) (lawful_items settings place items) e in
     ⊎_elim (λ (same : first ≡ it). subst (λ x. IsLawfulItem settings place x) same (item_passes settings place first h.0))
     (λ (d : Contains items it). items_pass settings place items h.1 it d) (contained_cases first items it c)
 
@@ -54,8 +55,8 @@ presets_pass : (settings place : ℕ) (presets : List Preset) → lawful_presets
     → (k n : ℕ) → n ≡ place + k → (it : PresetItem) → HasItem presets k it → IsLawfulItem settings n it
 presets_pass settings place [] e k n same it h = absurd h
 presets_pass settings place (p ∷ presets) e zero n same it h =
-    let at : place ≡ n = omega (arith, same) in subst (λ m. IsLawfulItem settings m it) at (items_pass settings place p.items (both e).0 it h)
-presets_pass settings place (p ∷ presets) e (suc k) n same it h = presets_pass settings (place + 1) presets (both e).1 k n (omega (arith, same)) it h
+    let at : place ≡ n = omega (arith, same) in subst (λ m. IsLawfulItem settings m it) at (items_pass settings place p.items (both (lawful_items settings place p.items) (lawful_presets settings (place + 1) presets) e).0 it h)
+presets_pass settings place (p ∷ presets) e (suc k) n same it h = presets_pass settings (place + 1) presets (both (lawful_items settings place p.items) (lawful_presets settings (place + 1) presets) e).1 k n (omega (arith, same)) it h
 
 passes : (group : SettingGroup) → lawful_presets (length group.settings) 0 group.presets ≡ true → IsWellFormed group
 passes group e = record { items = λ place it h. presets_pass (length group.settings) 0 group.presets e place place (omega arith) it h }
@@ -90,3 +91,8 @@ all_well_formed isa.S390x = passes s390x s390x_passes
 all_well_formed isa.Riscv64 = passes riscv64 riscv64_passes
 all_well_formed isa.Pulley32 = passes pulley pulley_passes
 all_well_formed isa.Pulley64 = passes pulley pulley_passes
+
+-- a group that is that of a table is well formed
+pub group_lawful : (r : Result SettingGroup OutOfMemory) (target : Isa) (made group : SettingGroup) → IfOk r (λ g. g ≡ made) → made ≡ group → group ≡ settings_of target → IfOk r (λ g. IsWellFormed g)
+group_lawful (Ok g) target made group h e f = rw (h ∙ e ∙ f) (all_well_formed target)
+group_lawful (Err x) target made group h e f = tt

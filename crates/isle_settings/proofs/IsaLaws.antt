@@ -1,5 +1,5 @@
 -- The name of a target is that of no other, and each target stands in the list once.
-use Rattle.std.proofs.Common.{◌≡◌, ℕ, zero, suc, Option, Some, refl, sym, ap}
+use Rattle.std.proofs.Common.{◌≡◌, ℕ, zero, suc, Some, refl, sym, ap}
 use Rattle.std.specs.Prelude.{slice_get}
 use Rattle.isle_settings.specs.Isas.{isa_name, isa_named, isas}
 use Rattle.isle_settings.specs.declared.isa.Isa.{Isa}

@@ -4,3 +4,4 @@ pub mod PlaceLaws
 pub mod IsaLaws
 pub mod GroupLaws
 pub mod SizeLaws
+pub mod LineLaws

@@ -1,10 +1,15 @@
 -- What is marked after the items of a preset have set their marks.
-use Rattle.std.proofs.Common.{◌≡◌, ◌⊎◌, inl, inr, ⊎_elim, ℕ, zero, suc, ◌<◌, List, [], ◌∷◌, Bool, true, set, length, Some, refl, sym, ap, subst, arith}
-use Rattle.std.specs.Prelude.{Contains, slice_get}
+use Rattle.std.proofs.Common.{◌≡◌, ◌⊎◌, inl, inr, ⊎_elim, ℕ, zero, suc, ◌<◌, List, [], ◌∷◌, Bool, true, set, get_or, length, refl, sym, ap, subst, arith}
+use Rattle.std.specs.Prelude.{Contains}
+use Rattle.std.proofs.lemmas.List.Elements.{Contains-get_or}
 use Rattle.isle_core.proofs.Contained.{head_contained, tail_contained, contained_cases, none_contained}
-use Rattle.isle_settings.specs.Marks.{HasMark, IsMarked, with_flags, with_presets}
+use Rattle.isle_settings.specs.Marks.{IsMarked, with_flags, with_presets}
 use Rattle.isle_settings.specs.declared.group.PresetItem.{PresetItem}
 use Rattle.isle_settings.specs.declared.group.PresetItem.TheVariants as item
+
+-- an item that is read is there
+pub item_here : (items : List PresetItem) (i : ℕ) (d it : PresetItem) → i < length items → get_or items i d ≡ it → Contains items it
+item_here items i d it lt e = subst (λ x. Contains items x) e (Contains-get_or items i d lt)
 
 -- ---- one mark
 
@@ -60,15 +65,13 @@ flags_stay (item.Preset n ∷ items) marks p h = flags_stay items marks p h
 
 pub flags_set : (items : List PresetItem) (marks : List Bool) (p : ℕ) → p < length marks → Contains items (item.Flag p) → IsMarked (with_flags items marks) p
 flags_set [] marks p lt c = absurd (none_contained (item.Flag p) c)
-flags_set (item.Flag f ∷ items) marks p lt c = ⊎_elim here behind (contained_cases (item.Flag f) items (item.Flag p) c)
+flags_set (item.Flag f ∷ items) marks p lt c =
+    let same : length (set marks f true) ≡ length marks = set_length marks f in
+    ⊎_elim here (λ (d : Contains items (item.Flag p)). flags_set items (set marks f true) p (omega (arith, same)) d) (contained_cases (item.Flag f) items (item.Flag p) c)
   where
     here : item.Flag f ≡ item.Flag p → IsMarked (with_flags items (set marks f true)) p
     here e = let same : f ≡ p = cc in
         flags_stay items (set marks f true) p (subst (λ q. IsMarked (set marks q true) p) (sym same) (set_marked marks p lt))
-
-    behind : Contains items (item.Flag p) → IsMarked (with_flags items (set marks f true)) p
-    behind d = let same : length (set marks f true) ≡ length marks = set_length marks f in
-        flags_set items (set marks f true) p (omega arith) d
 flags_set (item.Preset n ∷ items) marks p lt c = ⊎_elim other (λ (d : Contains items (item.Flag p)). flags_set items marks p lt d) (contained_cases (item.Preset n) items (item.Flag p) c)
   where
     other : item.Preset n ≡ item.Flag p → IsMarked (with_flags items marks) p
@@ -98,15 +101,13 @@ presets_stay (item.Flag f ∷ items) marks p h = presets_stay items marks p h
 
 pub presets_set : (items : List PresetItem) (marks : List Bool) (p : ℕ) → p < length marks → Contains items (item.Preset p) → IsMarked (with_presets items marks) p
 presets_set [] marks p lt c = absurd (none_contained (item.Preset p) c)
-presets_set (item.Preset n ∷ items) marks p lt c = ⊎_elim here behind (contained_cases (item.Preset n) items (item.Preset p) c)
+presets_set (item.Preset n ∷ items) marks p lt c =
+    let same : length (set marks n true) ≡ length marks = set_length marks n in
+    ⊎_elim here (λ (d : Contains items (item.Preset p)). presets_set items (set marks n true) p (omega (arith, same)) d) (contained_cases (item.Preset n) items (item.Preset p) c)
   where
     here : item.Preset n ≡ item.Preset p → IsMarked (with_presets items (set marks n true)) p
     here e = let same : n ≡ p = cc in
         presets_stay items (set marks n true) p (subst (λ q. IsMarked (set marks q true) p) (sym same) (set_marked marks p lt))
-
-    behind : Contains items (item.Preset p) → IsMarked (with_presets items (set marks n true)) p
-    behind d = let same : length (set marks n true) ≡ length marks = set_length marks n in
-        presets_set items (set marks n true) p (omega arith) d
 presets_set (item.Flag f ∷ items) marks p lt c = ⊎_elim other (λ (d : Contains items (item.Preset p)). presets_set items marks p lt d) (contained_cases (item.Flag f) items (item.Preset p) c)
   where
     other : item.Flag f ≡ item.Preset p → IsMarked (with_presets items marks) p

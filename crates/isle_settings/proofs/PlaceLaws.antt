@@ -1,11 +1,14 @@
 -- The marked places, in order: those that are marked, ascending.
-use Rattle.std.proofs.Common.{◌≡◌, ◌⊎◌, inl, inr, ⊎_elim, ℕ, zero, suc, ◌+◌, ◌<◌, ◌≤◌, List, [], ◌∷◌, Bool, true, false, length, get_or, Some, refl, sym, ap, subst, ◌∙◌, arith}
-use Rattle.std.specs.Prelude.{◌↔◌, Contains, slice_get}
+use Rattle.std.proofs.Common.{◌≡◌, ⊎_elim, ℕ, zero, suc, ◌+◌, ◌<◌, List, [], ◌∷◌, Bool, true, false, get_or, Result, Ok, Err, Vec, Global, refl, sym, ap, subst, ◌∙◌, arith}
+use Rattle.std.specs.Prelude.{◌↔◌, Contains, IfOk}
 use Rattle.std.specs.List.{All, AllPairs}
 use Rattle.std.proofs.lemmas.List.Elements.{Contains-get_or}
 use Rattle.std.proofs.lemmas.List.Kept.{AllPairs-cons}
 use Rattle.isle_core.proofs.Contained.{head_contained, tail_contained, contained_cases, none_contained}
+use Rattle.isle_outside.specs.declared.errors.OutOfMemory.{OutOfMemory}
 use Rattle.isle_settings.specs.Marks.{IsMarked, marked_from}
+use Rattle.isle_settings.specs.PresetClosure.{AreReached, Reaches}
+use Rattle.isle_settings.specs.declared.group.SettingGroup.{SettingGroup}
 
 -- a place among them is marked
 pub place_marked : (marks : List Bool) (k p : ℕ) → Contains (marked_from k marks) p → (i : ℕ) × (p ≡ k + i) × IsMarked marks i
@@ -36,3 +39,19 @@ pub places_ascend : (marks : List Bool) (k : ℕ) → AllPairs (λ (a b : ℕ). 
 places_ascend [] k = λ i j d lt within. absurd (omega arith)
 places_ascend (true ∷ marks) k = AllPairs-cons (λ (a b : ℕ). a < b) k (marked_from (k + 1) marks) (later marks k) (places_ascend marks (k + 1))
 places_ascend (false ∷ marks) k = places_ascend marks (k + 1)
+
+-- the marked places are those that a preset reaches, where the marks are
+are_reached : (group : SettingGroup) (preset : ℕ) (marks : List Bool) → ((flag : ℕ) → IsMarked marks flag ↔ Reaches group.presets preset flag) → AreReached group preset (marked_from 0 marks)
+are_reached group preset marks h = record {
+  exact = λ flag. (
+    λ (c : Contains (marked_from 0 marks) flag). let f = place_marked marks 0 flag c in let same : f.0 ≡ flag = omega (arith, f.1) in (h flag).0 (subst (λ n. IsMarked marks n) same f.2),
+    λ (r : Reaches group.presets preset flag). marked_place marks 0 flag flag (omega arith) ((h flag).1 r),
+  );
+  ascending = places_ascend marks 0;
+}
+
+-- so of a list of them that is made
+pub places_reached : (r : Result (Vec ℕ Global) OutOfMemory) (group : SettingGroup) (preset : ℕ) (marks now : List Bool) → IfOk r (λ places. places.items ≡ marked_from 0 now) → now ≡ marks
+    → ((flag : ℕ) → IsMarked marks flag ↔ Reaches group.presets preset flag) → IfOk r (λ flags. AreReached group preset flags.items)
+places_reached (Ok v) group preset marks now h e k = subst (λ xs. AreReached group preset xs) (sym (h ∙ ap (marked_from 0) e)) (are_reached group preset marks k)
+places_reached (Err x) group preset marks now h e k = tt

@@ -1,23 +1,31 @@
 -- For riscv64 the preset of vectors of at least so many bits enables the flags of that size and of the smaller ones, and no others.
-use Rattle.std.proofs.Common.{◌≡◌, ◌⊎◌, inl, inr, ⊎_elim, ℕ, zero, suc, ◌+◌, ◌*◌, ◌^◌, ◌<◌, ◌≤◌, List, [], ◌∷◌, ◌++◌, Option, Some, None, refl, sym, ap, ◌∙◌, ◌≢◌, subst, arith}
-use Rattle.std.specs.Prelude.{◌↔◌, Contains, IsSomeAnd, codes, decimal, option_map, slice_get}
+use Rattle.std.proofs.Common.{◌≡◌, ◌⊎◌, inl, inr, ⊎_elim, ℕ, zero, suc, ◌+◌, ◌<◌, ◌≤◌, List, [], ◌∷◌, ◌++◌, get_or, Option, Some, None, refl, sym, ap, ◌≢◌, subst, arith}
+use Rattle.std.specs.Prelude.{◌↔◌, Contains, IsSomeAnd, codes, slice_get}
 use Rattle.isle_core.proofs.Contained.{contained_cases, head_contained, none_contained, tail_contained}
 use Rattle.isle_settings.specs.PresetClosure.{HasItem, Reaches, of_its_own, through}
 use Rattle.isle_settings.specs.Riscv64.{riscv64}
+use Rattle.isle_settings.specs.Settings.{words}
 use Rattle.isle_settings.specs.TargetLines.{name_at}
 use Rattle.isle_settings.specs.declared.group.Preset.{Preset}
 use Rattle.isle_settings.specs.declared.group.PresetItem.{PresetItem}
 use Rattle.isle_settings.specs.declared.group.PresetItem.TheVariants as item
 
+-- two numbers are one, or not
+same_or_not : (a b : ℕ) → (a ≡ b) ⊎ (a ≢ b)
+same_or_not zero zero = inl refl
+same_or_not zero (suc b) = inr (omega arith)
+same_or_not (suc a) zero = inr (omega arith)
+same_or_not (suc a) (suc b) = ⊎_elim (λ (e : a ≡ b). inl (ap suc e)) (λ (n : a ≢ b). inr (omega (arith, n))) (same_or_not a b)
+
 -- ---- names
 
--- the size of a number: 32 bits, 64, and so on, doubling
-abbrev pub size : ℕ → ℕ
-size k = 32 * 2 ^ k
+-- what the sizes are called, doubling from one to the next
+abbrev pub size_names : List (List ℕ)
+size_names = words (codes "zvl32b zvl64b zvl128b zvl256b zvl512b zvl1024b zvl2048b zvl4096b zvl8192b zvl16384b zvl32768b zvl65536b")
 
--- what a size is called
+-- what the size of a number is called
 abbrev pub size_name : ℕ → List ℕ
-size_name k = codes "zvl" ++ (decimal (size k) ++ codes "b")
+size_name k = get_or size_names k []
 
 -- the flags of sizes stand behind twenty-one others
 pub flag_named : (k : ℕ) → k < 12 → name_at riscv64.settings (21 + k) ≡ codes "has_" ++ size_name k
@@ -126,7 +134,7 @@ module _ (presets : List Preset) (at : (k : ℕ) → k < 12 → IsSomeAnd (slice
   reached_back k flag lt low high = pick k lt high (cases k)
     where
       cases : (n : ℕ) → (flag ≡ 21 + n) ⊎ (flag ≢ 21 + n)
-      cases n = omega arith
+      cases n = same_or_not flag (21 + n)
 
       pick : (n : ℕ) → n < 12 → flag ≤ 21 + n → (flag ≡ 21 + n) ⊎ (flag ≢ 21 + n) → Reaches presets (1 + n) flag
       pick n less most (inl e) = subst (λ f. Reaches presets (1 + n) f) (sym e) (of_its_own (of_items (size_name n) (size_items n) (slice_get presets (1 + n)) (item.Flag (21 + n)) (at n less) (has_flag n)))

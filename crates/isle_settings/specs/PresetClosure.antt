@@ -1,5 +1,5 @@
 -- Which flags a preset enables: its own, and those that the earlier presets enable which it names.
-use Rattle.std.specs.Prelude.{◌≡◌, ℕ, ◌<◌, ◌↔◌, List, length, IsSomeAnd, slice_get}
+use Rattle.std.specs.Prelude.{ℕ, ◌<◌, ◌↔◌, List, length, IsSomeAnd, slice_get}
 use Rattle.std.specs.List.{Contains, AllPairs}
 use Rattle.isle_settings.specs.declared.group.PresetItem.{PresetItem}
 use Rattle.isle_settings.specs.declared.group.PresetItem.TheVariants as item

@@ -1,5 +1,5 @@
 -- The text of a group of settings, line by line.
-use Rattle.std.specs.Prelude.{◌≡◌, ℕ, ◌+◌, ◌<◌, List, [], ◌∷◌, ◌++◌, Bool, true, false, codes, unwrap_or, option_map, slice_get}
+use Rattle.std.specs.Prelude.{◌≡◌, ℕ, ◌+◌, List, [], ◌∷◌, ◌++◌, Bool, true, false, codes, unwrap_or, option_map, slice_get}
 use Rattle.std.specs.List.{flat_map}
 use Rattle.isle_settings.specs.PresetClosure.{AreReached}
 use Rattle.isle_settings.specs.declared.group.Preset.{Preset}

@@ -50,7 +50,7 @@ fn reached(alloc: Global, group: &SettingGroup, preset: usize) -> Result<Vec<boo
         ↔ Reaches group.now.presets preset flag) }
 {
     let mut flags = vec![in alloc; false; group.settings.as_slice().len()]?;
-    let mut presets = vec![in alloc; false; preset + 1]?;
+    let mut presets = vec![in alloc; false; group.presets.as_slice().len()]?;
     presets[preset] = true;
     mark_all(group.presets.as_slice(), &mut presets, &mut flags);
     Ok(flags)
