@@ -1,5 +1,5 @@
 -- The rules' text of supported instructions spells their definitions and no others.
-use Rattle.std.proofs.Common.{◌≡◌, ℕ, List, [], ◌∷◌, Bool, true, false, Option, Some, None, refl, ◌∙◌, flat_map}
+use Rattle.std.proofs.Common.{◌≡◌, ℕ, List, [], ◌∷◌, Bool, true, false, Option, Some, None, refl, flat_map}
 use Rattle.std.specs.Prelude.{if◌then◌else◌}
 use Rattle.isle_assembler_rows.specs.declared.constructor.Constructor.{Constructor}
 use Rattle.isle_meta.specs.declared.machine.Alternate.{Alternate}

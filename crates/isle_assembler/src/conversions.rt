@@ -5,7 +5,7 @@ ghost use Rattle.isle_assembler.specs.Conversions.{access_word, aligned_word, as
 ghost use Rattle.isle_assembler.specs.Conversions.{converted, fixed_register, immediate, memory, new_register, read_write, reg_mem, register, wrapped};
 
 use crate::pieces::push_pieces;
-use crate::signature::{class_name, push_bits};
+use crate::signature::push_bits;
 use isle_meta::{Mutability, Operand, OperandKind, RegClass};
 use std::alloc::AllocError;
 
@@ -50,7 +50,6 @@ fn new_register<'w>(class: RegClass) -> &'w str
 }
 
 // Appends a register that a method of this name turns into one that is read and written.
-#[tactic(auto, unfolding(crate::specs::Conversions::read_write))]
 fn push_read_write(
     text: &mut String,
     name: &str,
@@ -148,7 +147,6 @@ fn aligned_word<'w>(align: bool) -> &'w str
 }
 
 // Appends a register or a place in memory.
-#[tactic(auto, unfolding(crate::specs::Conversions::reg_mem))]
 fn push_reg_mem(text: &mut String, class: RegClass, operand: &Operand) -> Result<(), AllocError>
     ensures { OnOk result
         (string_bytes text.new ≡ string_bytes text.old ++ reg_mem class operand.now) }
@@ -172,7 +170,6 @@ fn push_reg_mem(text: &mut String, class: RegClass, operand: &Operand) -> Result
 }
 
 // Appends a place in memory.
-#[tactic(auto, unfolding(crate::specs::Conversions::memory))]
 fn push_memory(text: &mut String, operand: &Operand) -> Result<(), AllocError>
     ensures { OnOk result (string_bytes text.new ≡ string_bytes text.old ++ memory operand.now) }
 {

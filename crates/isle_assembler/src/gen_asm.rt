@@ -1,7 +1,5 @@
 //! The texts of an assembler, appended to a formatter.
 
-ghost use Rattle.std.specs.Prelude.{◌≡◌, string_bytes};
-ghost use Rattle.isle_meta.specs.Layout.{Layout, followed_by};
 ghost use Rattle.isle_assembler.specs.Generated.{Appends, IsMacroText, IsRuleText};
 
 use crate::texts::{isle_text, rust_text};

@@ -3,11 +3,11 @@
 ghost use Rattle.std.specs.Prelude.{◌≡◌, ◌++◌, IfOk, OnOk, string_bytes};
 ghost use Rattle.std.specs.List.{flat_map};
 ghost use Rattle.isle_assembler.specs.Methods.{argument, arguments, assembler_methods, head_line, inst_line, last_lines, let_line};
-ghost use Rattle.isle_assembler.specs.Methods.{line_begin, listed, macro_head, macro_tail, method, outer_line, param, params};
+ghost use Rattle.isle_assembler.specs.Methods.{line_begin, listed, macro_head, macro_tail, outer_line, param, params};
 ghost use Rattle.isle_assembler.specs.Methods.{row_method, rust_type, trap_argument};
 
 use crate::conversions::{assembler, push_converted};
-use crate::pieces::{push_piece, push_pieces};
+use crate::pieces::push_pieces;
 use crate::returns::push_given;
 use crate::signature::{push_gap, push_operand_type};
 use isle_assembler_rows::{is_left_out, is_raw, may_be_memory, push_raw_term};
@@ -119,7 +119,6 @@ fn push_let_lines(text: &mut String, operands: &[Operand]) -> Result<(), AllocEr
 }
 
 // Appends the assembler's instruction.
-#[tactic(auto, unfolding(crate::specs::Methods::inst_line))]
 fn push_inst_line(text: &mut String, inst: &Inst) -> Result<(), AllocError>
     ensures { OnOk result (string_bytes text.new ≡ string_bytes text.old ++ inst_line inst.now) }
 {
@@ -135,7 +134,7 @@ fn push_inst_line(text: &mut String, inst: &Inst) -> Result<(), AllocError>
         ],
     )?;
     push_arguments(text, inst)?;
-    text.push_str(").into();\n")
+    push_pieces(text, &[").into();\n"])
 }
 
 // Appends the instruction of the compiler around it.
@@ -157,7 +156,7 @@ fn push_head_line(text: &mut String, inst: &Inst) -> Result<(), AllocError>
     push_raw_term(text, inst.name.as_str())?;
     text.push_str("(&mut self, ")?;
     push_params(text, inst)?;
-    push_piece(text, ") -> AssemblerOutputs {\n")
+    push_pieces(text, &[") -> AssemblerOutputs {\n"])
 }
 
 // Appends what a method gives, and its end.
@@ -170,25 +169,18 @@ fn push_last_lines(alloc: Global, text: &mut String, inst: &Inst) -> Result<(), 
     text.push_str("\n        }\n")
 }
 
-// Appends the method of an instruction.
-fn push_method(alloc: Global, text: &mut String, inst: &Inst) -> Result<(), AllocError>
-    ensures { OnOk result (string_bytes text.new ≡ string_bytes text.old ++ method inst.now) }
-{
-    push_head_line(text, inst)?;
-    push_let_lines(text, inst.operands.as_slice())?;
-    push_inst_line(text, inst)?;
-    push_outer_line(text)?;
-    push_last_lines(alloc, text, inst)
-}
-
 // Appends the method of an instruction, unless it is left out.
-fn push_row_method(alloc: Global, text: &mut String, inst: &Inst) -> Result<(), AllocError>
+fn push_method(alloc: Global, text: &mut String, inst: &Inst) -> Result<(), AllocError>
     ensures { OnOk result (string_bytes text.new ≡ string_bytes text.old ++ row_method inst.now) }
 {
     if is_left_out(inst) {
         return Ok(());
     }
-    push_method(alloc, text, inst)
+    push_head_line(text, inst)?;
+    push_let_lines(text, inst.operands.as_slice())?;
+    push_inst_line(text, inst)?;
+    push_outer_line(text)?;
+    push_last_lines(alloc, text, inst)
 }
 
 // Appends the methods of instructions.
@@ -197,7 +189,7 @@ fn push_methods(alloc: Global, text: &mut String, insts: &[Inst]) -> Result<(), 
         (string_bytes text.new ≡ string_bytes text.old ++ flat_map row_method insts.now) }
 {
     for inst in insts {
-        push_row_method(alloc, text, inst)?;
+        push_method(alloc, text, inst)?;
     }
     Ok(())
 }

@@ -5,13 +5,6 @@ ghost use Rattle.isle_assembler.specs.Pieces.{joined};
 
 use std::alloc::AllocError;
 
-/// Appends a piece. The only error is want of memory.
-pub fn push_piece(text: &mut String, piece: &str) -> Result<(), AllocError>
-    ensures { OnOk result (string_bytes text.new ≡ string_bytes text.old ++ piece.now) }
-{
-    text.push_str(piece)
-}
-
 /// Appends pieces, one after another. The only error is want of memory.
 pub fn push_pieces(text: &mut String, pieces: &[&str]) -> Result<(), AllocError>
     ensures { OnOk result (string_bytes text.new ≡ string_bytes text.old ++ joined pieces.now) }

@@ -118,7 +118,6 @@ fn push_register_arm(
 }
 
 // Appends the arm of a place in memory.
-#[tactic(auto, unfolding(crate::specs::Returns::memory_arm))]
 fn push_memory_arm(text: &mut String, class: RegClass) -> Result<(), AllocError>
     ensures { OnOk result (string_bytes text.new ≡ string_bytes text.old ++ memory_arm class) }
 {

@@ -8,7 +8,7 @@ ghost use Rattle.isle_assembler.specs.RuleTexts.{alternate_rule_text, call_text,
 ghost use Rattle.isle_assembler.specs.RuleTexts.{constructor_text, defer_text, emit_text, head_text, made_decl_text, made_rule_text, raw_text};
 ghost use Rattle.isle_assembler.specs.RuleTexts.{outputs_text, row_text, rule_text, signature_text, usual_rule_text};
 
-use crate::pieces::{push_piece, push_pieces};
+use crate::pieces::push_pieces;
 use crate::signature::{Signature, push_handed, push_params, push_types};
 use isle_assembler_rows::{
     Constructor, constructors_of, is_left_out, push_choice_term, push_made_term, push_raw_term,
@@ -44,7 +44,7 @@ fn push_raw(text: &mut String, inst: &Inst) -> Result<(), AllocError>
     push_raw_term(text, inst.name.as_str())?;
     text.push_str(" ")?;
     push_raw_term(text, inst.name.as_str())?;
-    push_piece(text, ")\n")
+    push_pieces(text, &[")\n"])
 }
 
 // Appends the declaration of a constructor's term.
@@ -71,7 +71,7 @@ fn push_made_rule(text: &mut String, inst: &Inst, c: Constructor) -> Result<(), 
     text.push_str(" (")?;
     push_raw_term(text, inst.name.as_str())?;
     push_handed(text, c, inst)?;
-    push_piece(text, ")))\n")
+    push_pieces(text, &[")))\n"])
 }
 
 // The parameters of the term that takes an alternate.
@@ -133,7 +133,6 @@ fn push_choice_head(
 }
 
 // Appends the rule that takes the alternate.
-#[tactic(auto, unfolding(crate::specs::RuleTexts::alternate_rule_text))]
 fn push_alternate_rule(
     text: &mut String,
     inst: &Inst,

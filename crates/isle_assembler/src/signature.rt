@@ -5,7 +5,7 @@ ghost use Rattle.std.specs.List.{flat_map};
 ghost use Rattle.isle_assembler.specs.Methods.{gap};
 ghost use Rattle.isle_assembler_rows.specs.Operands.{is_raw, locations, trap_names};
 ghost use Rattle.isle_assembler.specs.RuleTexts.{all_handed_text, handed_text, names_text, params_text, temporary_text, types_text};
-ghost use Rattle.isle_assembler.specs.Signatures.{alignment, bits, class_name, imm_type, is_param, is_written_reg_mem};
+ghost use Rattle.isle_assembler.specs.Signatures.{alignment, bits, class_name, imm_type, is_param};
 ghost use Rattle.isle_assembler.specs.Signatures.{operand_type, param_type, reg_mem_type, takes, type_in};
 
 use isle_assembler_rows::{Constructor, is_raw, is_read, is_reg_mem, is_written};
@@ -100,13 +100,6 @@ fn is_param(c: Constructor, operand: &Operand) -> bool
     is_raw(operand) && (c.is_in_memory() || is_read(operand.mutability))
 }
 
-// An operand that is written, and may lie in a register or in memory.
-fn is_written_reg_mem(operand: &Operand) -> bool
-    ensures { result ≡ is_written_reg_mem operand.now }
-{
-    is_written(operand.mutability) && is_reg_mem(operand.kind)
-}
-
 // Appends the type of a parameter of a constructor's term.
 fn push_param_type(
     text: &mut String,
@@ -117,7 +110,7 @@ fn push_param_type(
     ensures { OnOk result
         (string_bytes text.new ≡ string_bytes text.old ++ param_type c keeps operand.now) }
 {
-    if is_written_reg_mem(operand) {
+    if is_written(operand.mutability) && is_reg_mem(operand.kind) {
         text.push_str(c.place_type())
     } else {
         push_operand_type(text, keeps, operand)

@@ -1,5 +1,5 @@
 -- What is told of instructions, and the first that isn't supported.
-use Rattle.std.proofs.Common.{◌≡◌, ℕ, zero, suc, ◌+◌, ◌<◌, ◌≤◌, List, [], ◌∷◌, ◌++◌, length, get_or, take, drop, Bool, true, false, Option, Some, None, refl, sym, ap, ◌∙◌, subst, arith, map, append_assoc, append-nil}
+use Rattle.std.proofs.Common.{◌≡◌, ℕ, zero, suc, ◌+◌, ◌<◌, ◌≤◌, List, [], ◌∷◌, ◌++◌, length, get_or, take, Bool, Some, None, refl, sym, ap, ◌∙◌, subst, arith, map, append_assoc, append-nil}
 use Rattle.std.specs.Prelude.{◌↔◌, ◌&&◌, ◌||◌, not, find, IsTrue}
 use Rattle.std.specs.BTreeSet.{BTreeSet}
 use denote.Ref.{Bor}

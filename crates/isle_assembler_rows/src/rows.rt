@@ -1,6 +1,6 @@
 //! The first instruction that isn't supported.
 
-ghost use Rattle.std.specs.Prelude.{◌≡◌, ◌++◌, List, ℕ, [], IfOk, OnOk, map};
+ghost use Rattle.std.specs.Prelude.{◌≡◌, [], IfOk, OnOk, map};
 ghost use Rattle.isle_lawful_names.specs.NameSet.{HasNames};
 ghost use Rattle.isle_meta.specs.TableNames.{texts};
 ghost use Rattle.isle_meta.specs.Told.{found_row};

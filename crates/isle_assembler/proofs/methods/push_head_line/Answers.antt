@@ -16,9 +16,9 @@ returns c =
     let b4 = listed (params c.args.inst.now) ++ b5 in
     let b3 = codes "(&mut self, " ++ b4 in
     let b2 = raw_term c.args.inst.now.name ++ b3 in
-    subst (λ z. OnOk c.push_piece.result (string_bytes c.push_piece.new.text ≡ z))
+    subst (λ z. OnOk c.push_pieces.result (string_bytes c.push_pieces.new.text ≡ z))
     (more t3 t4 (listed (params c.args.inst.now)) b5 c.in_ok-push_params.ensures
     ∙ more t2 t3 (codes "(&mut self, ") b4 c.in_ok-push_str-2.ensures.bytes
     ∙ more t1 t2 (raw_term c.args.inst.now.name) b3 (c.in_ok-push_raw_term.ensures ∙ ap (λ z. t1 ++ raw_term z) c.as_str.ensures)
     ∙ more t0 t1 (codes "        fn ") b2 c.in_ok-push_str.ensures.bytes)
-    c.push_piece.ensures
+    c.push_pieces.ensures

@@ -26,7 +26,7 @@ returns c =
     let b4 = codes ") (" ++ b5 in
     let b3 = params_text (Made c.args.c) c.args.inst.now ++ b4 in
     let b2 = made_term c.args.c c.args.inst.now.name ++ b3 in
-    subst (λ z. OnOk c.push_piece.result (string_bytes c.push_piece.new.text ≡ z))
+    subst (λ z. OnOk c.push_pieces.result (string_bytes c.push_pieces.new.text ≡ z))
     (more t7 t8 (all_handed_text c.args.c c.args.inst.now) b9 c.in_ok-push_handed.ensures
     ∙ more t6 t7 (raw_term c.args.inst.now.name) b8 (c.in_ok-push_raw_term.ensures ∙ ap (λ z. t6 ++ raw_term z) c.as_str-2.ensures)
     ∙ more t5 t6 (codes " (") b7 c.in_ok-push_str-4.ensures.bytes
@@ -35,4 +35,4 @@ returns c =
     ∙ more t2 t3 (params_text (Made c.args.c) c.args.inst.now) b4 c.in_ok-push_params.ensures
     ∙ more t1 t2 (made_term c.args.c c.args.inst.now.name) b3 (c.in_ok-push_made_term.ensures ∙ ap (λ z. t1 ++ made_term c.args.c z) c.as_str.ensures)
     ∙ more t0 t1 (codes "(rule (") b2 c.in_ok-push_str.ensures.bytes)
-    c.push_piece.ensures
+    c.push_pieces.ensures

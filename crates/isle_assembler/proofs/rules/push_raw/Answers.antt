@@ -23,7 +23,7 @@ returns c =
     let b4 = codes "(extern constructor " ++ b5 in
     let b3 = signature_text Raw c.args.inst.now (codes "AssemblerOutputs") ++ b4 in
     let b2 = raw_term c.args.inst.now.name ++ b3 in
-    subst (λ z. OnOk c.push_piece.result (string_bytes c.push_piece.new.text ≡ z))
+    subst (λ z. OnOk c.push_pieces.result (string_bytes c.push_pieces.new.text ≡ z))
     (more t6 t7 (raw_term c.args.inst.now.name) b8 (c.in_ok-push_raw_term-3.ensures ∙ ap (λ z. t6 ++ raw_term z) c.as_str-3.ensures)
     ∙ more t5 t6 (codes " ") b7 c.in_ok-push_str-3.ensures.bytes
     ∙ more t4 t5 (raw_term c.args.inst.now.name) b6 (c.in_ok-push_raw_term-2.ensures ∙ ap (λ z. t4 ++ raw_term z) c.as_str-2.ensures)
@@ -31,4 +31,4 @@ returns c =
     ∙ more t2 t3 (signature_text Raw c.args.inst.now (codes "AssemblerOutputs")) b4 c.in_ok-push_signature.ensures
     ∙ more t1 t2 (raw_term c.args.inst.now.name) b3 (c.in_ok-push_raw_term.ensures ∙ ap (λ z. t1 ++ raw_term z) c.as_str.ensures)
     ∙ more t0 t1 (codes "(decl ") b2 c.in_ok-push_str.ensures.bytes)
-    c.push_piece.ensures
+    c.push_pieces.ensures

@@ -1,4 +1,4 @@
-use Rattle.std.proofs.Common.{List, ℕ, [], ◌++◌, Some, take, ap, sym, subst, ◌∙◌}
+use Rattle.std.proofs.Common.{List, ℕ, ◌++◌, Some, take, ap, sym, subst, ◌∙◌}
 use Rattle.isle_lawful_names.specs.NameSet.{HasNames}
 use Rattle.isle_meta.specs.FirstRow.{unsupported}
 use Rattle.isle_meta.specs.TableNames.{repeats_after, texts}
