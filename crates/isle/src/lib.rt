@@ -11,3 +11,4 @@ pub mod runtime;
 pub mod sema;
 pub mod syntax;
 pub mod target;
+pub mod units;

@@ -7,6 +7,7 @@ use crate::literals::push_literals;
 use crate::samples::push_samples;
 use crate::signatures::push_signatures;
 use crate::slip::Slip;
+use crate::targets::push_targets;
 use crate::weights::push_weights;
 use std::alloc::{AllocError, Global};
 
@@ -29,6 +30,7 @@ pub fn hold_calls(alloc: Global, wanted: &str, told: &mut String) -> Result<(), 
     let mut lines = String::new(alloc);
     push_calls(alloc, &mut lines)?;
     push_generators(alloc, &mut lines)?;
+    push_targets(alloc, &mut lines)?;
     if lines.as_str() == wanted {
         return Ok(());
     }

@@ -19,6 +19,7 @@ mod signatures;
 mod slip;
 mod spelling;
 mod tables;
+mod targets;
 mod tokens;
 mod topics;
 mod wanted;

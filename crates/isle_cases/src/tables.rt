@@ -144,7 +144,9 @@ struct Rows {
 fn read_row(words: &mut Words<'_>, rows: &mut Rows) -> Result<(), Slip> {
     match words.take() {
         "format" => rows.formats.push(format(words)?)?,
-        "inst" => rows.instructions.push(instruction(words, rows.formats.as_slice())?)?,
+        "inst" => rows
+            .instructions
+            .push(instruction(words, rows.formats.as_slice())?)?,
         "x64" => rows.x64.push(inst(words)?)?,
         "op" => rows.ops.push(operation(words)?)?,
         "ext-op" => rows.extended_ops.push(operation(words)?)?,

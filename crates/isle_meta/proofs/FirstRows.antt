@@ -55,7 +55,6 @@ LeadsFrom name_of Breaks before rs k =
     (found : Option Unsupported) → IsFirstRow name_of Breaks (before ++ take k rs) (drop k rs) found → IsFirstRow name_of Breaks before rs found
 
 module _ {R : Type 0} (name_of : R → List ℕ) (Breaks : List R → R → Shape → Type 0) where
-
   pub leads_begin : (before rs : List R) → LeadsFrom name_of Breaks before rs 0
   leads_begin before rs found h = subst (λ bs. IsFirstRow name_of Breaks bs rs found) (append-nil before) h
 

@@ -25,7 +25,10 @@ pub fn has_repeat(alloc: Global, names: &[&str]) -> Result<bool, AllocError>
 
 /// Tells whether one of the terms is among the earlier ones, whose names `met` has, or repeats one before it. They are
 /// added to `met`. The only error is want of memory.
-pub fn has_repeated_term<'t>(terms: &'t [Text], met: &mut BTreeSet<&'t str>) -> Result<bool, AllocError>
+pub fn has_repeated_term<'t>(
+    terms: &'t [Text],
+    met: &mut BTreeSet<&'t str>,
+) -> Result<bool, AllocError>
     ensures told { (earlier : List (List ℕ)) → HasNames earlier met.old
         → IfOk result (λ found. found ≡ repeats_after earlier terms.now) }
     ensures met { (earlier : List (List ℕ)) → HasNames earlier met.old

@@ -1,5 +1,5 @@
 -- The pieces of instructions are the texts of their definitions, and so is a file.
-use Rattle.std.proofs.Common.{◌≡◌, ℕ, zero, suc, List, [], ◌∷◌, ◌++◌, Bool, true, false, Option, Some, None, refl, sym, ap, ap₂, ◌∙◌, append_assoc, append-nil, codes}
+use Rattle.std.proofs.Common.{◌≡◌, ℕ, zero, suc, List, [], ◌++◌, Bool, true, false, Option, Some, None, refl, sym, ap, ap₂, ◌∙◌, append_assoc, append-nil, codes}
 use Rattle.std.specs.Prelude.{◌||◌, option_map, slice_get}
 use Rattle.isle_ast.specs.Views.{patterns_of}
 use Rattle.isle_meta.specs.declared.clif.Instruction.{Instruction}
@@ -7,7 +7,7 @@ use Rattle.isle_meta.specs.declared.clif.InstructionFormat.{InstructionFormat}
 use Rattle.isle_meta.specs.declared.tables.Tables.{Tables}
 use Rattle.isle_prelude.specs.ClifFiles.{data_expr, data_pattern, declaration, extractor, file_defs, instruction_defs, making, of_format, operand_names, typed_first, variables}
 use Rattle.isle_prelude.specs.CommonDefs.{common_defs}
-use Rattle.isle_prelude.specs.FileManners.{file_case, file_manner, lowered_case, making_begin, manner, optimized_case, plain_maker, plain_taker, taking_begin, typed_maker, typed_taker, untyped_taker}
+use Rattle.isle_prelude.specs.FileManners.{file_case, file_manner, lowered_case, making_begin, manner, optimized_case, plain_maker, plain_taker, typed_maker, typed_taker, untyped_taker}
 use Rattle.isle_prelude.specs.InstructionParts.{names_in, taken_defs}
 use Rattle.isle_prelude.specs.Manners.{by_results, optimized, type_variable}
 use Rattle.isle_prelude.specs.TermPieces.{data_piece, declaration_piece, extractor_begin, extractor_piece, file_piece, head_piece, instruction_piece, making_piece, of_format_piece, row_piece, rule_begin, taken_piece, type_piece}

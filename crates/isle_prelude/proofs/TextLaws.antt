@@ -1,5 +1,5 @@
 -- Steps of loops that append pieces.
-use Rattle.std.proofs.Common.{◌≡◌, ℕ, ◌+◌, ◌<◌, List, ◌∷◌, ◌++◌, length, get_or, drop, refl, sym, ap, ◌∙◌, append_assoc, codes}
+use Rattle.std.proofs.Common.{◌≡◌, ℕ, ◌+◌, ◌<◌, List, ◌∷◌, ◌++◌, length, get_or, drop, sym, ap, ◌∙◌, append_assoc, codes}
 use Rattle.std.proofs.lemmas.List.{drop_more}
 use Rattle.isle_meta.specs.declared.clif.ClifOperand.{ClifOperand}
 use Rattle.isle_prelude.specs.InstructionParts.{operand_types}

@@ -1,5 +1,5 @@
 -- The texts of types and arrays, piece by piece, as the code appends them.
-use Rattle.std.specs.Prelude.{ℕ, zero, suc, List, [], ◌∷◌, ◌++◌, Bool, true, false, codes}
+use Rattle.std.specs.Prelude.{ℕ, zero, suc, List, [], ◌++◌, Bool, true, false, codes}
 use Rattle.std.specs.List.{flat_map}
 use Rattle.isle_meta.specs.declared.clif.ImmField.{ImmField}
 use Rattle.isle_meta.specs.declared.clif.Instruction.{Instruction}

@@ -12,6 +12,7 @@ use Rattle.isle_core.specs.Printed.{after_prefix}
 use Rattle.isle_meta.specs.declared.pulley.PulleyInst.{PulleyInst}
 use Rattle.isle_meta.specs.declared.shapes.Shape.{Shape}
 use Rattle.isle_meta.specs.FirstRow.{shapes, unsupported, IsFirstRow, IsFirstShape}
+use Rattle.isle_meta.proofs.NameWords.{identifier_name, identifier_named, identifier_variable, stable_identifiers}
 use Rattle.isle_spelling.specs.Identifier.{IsIdentifier}
 use Rattle.isle_writing.specs.Height.{expr_height, exprs_height, patterns_height}
 use Rattle.isle_writing.specs.Spelt.{SpellsOnly, declare_flag}
@@ -34,7 +35,7 @@ use Rattle.isle_pulley_rows.specs.Results.{results}
 use Rattle.isle_pulley.specs.RuleFile.{answer_type, bare_call, body_of, call_on, declaration, file_defs, inst_fields, inst_names, named, operation_defs, param_names, param_types, pulley_defs, raw_inst, raw_inst_type, rule_of, variables, variant_of}
 use Rattle.isle_pulley_rows.specs.Skipped.{is_skipped, kept}
 use Rattle.isle_pulley_rows.specs.Words.{begins_with}
-use Rattle.isle_pulley.proofs.NameLaws.{IsCaller, caller_from, identifier_name, identifier_named, identifier_variable, instruction_calls, stable_identifiers, temporary_calls, term_named, written_named}
+use Rattle.isle_pulley.proofs.NameLaws.{IsCaller, caller_from, instruction_calls, temporary_calls, term_named, written_named}
 
 -- ---- all of a list
 

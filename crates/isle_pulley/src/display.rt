@@ -1,6 +1,6 @@
 //! The first item of the Rust text: how an instruction is shown.
 
-ghost use Rattle.std.specs.Prelude.{◌≡◌, ◌++◌, ◌&&◌, OnOk, not, codes, string_bytes, true};
+ghost use Rattle.std.specs.Prelude.{◌≡◌, ◌++◌, ◌&&◌, OnOk, not, string_bytes, true};
 ghost use Rattle.std.specs.List.{flat_map};
 ghost use Rattle.isle_pulley.specs.Display.{arm_head, arm_opening, comma, display_arm, display_head};
 ghost use Rattle.isle_pulley.specs.Display.{display_item, display_tail, form_end, format_text, format_texts};

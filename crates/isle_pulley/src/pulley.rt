@@ -15,8 +15,8 @@ use isle_pulley_rows::check_rows;
 use std::alloc::Global;
 
 /// Appends to the text the first item of the Rust text, which shows instructions. `Unsupported` has the first row that
-/// isn't supported, among `ops` and then among `extended`, and the first shape that it breaks; `Memory` says that memory
-/// ran out. After both the text is as before.
+/// isn't supported, among `ops` and then among `extended`, and the first shape that it breaks; `Memory` says that
+/// memory ran out. After both the text is as before.
 pub fn generate_raw_inst_display(
     alloc: Global,
     rust: &mut String,
@@ -95,10 +95,10 @@ fn write_text<D: Dir>(
     write_files(alloc, &[Output { folder, name, text }], dir)
 }
 
-/// Makes the rule text, writes it to the file of the name in the folder, and returns that one file was written; an empty
-/// folder leaves the name as it is. `Unsupported` has the first row that isn't supported and the first shape that it
-/// breaks; then nothing was written. `Dir` says that the directory failed, and then the file may hold anything; `Memory`
-/// that memory ran out.
+/// Makes the rule text, writes it to the file of the name in the folder, and returns that one file was written; an
+/// empty folder leaves the name as it is. `Unsupported` has the first row that isn't supported and the first shape that
+/// it breaks; then nothing was written. `Dir` says that the directory failed, and then the file may hold anything;
+/// `Memory` that memory ran out.
 pub fn generate_isle<D: Dir>(
     alloc: Global,
     filename: &str,

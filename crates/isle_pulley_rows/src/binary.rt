@@ -1,6 +1,6 @@
 //! The types of binary operands.
 
-ghost use Rattle.std.specs.Prelude.{◌≡◌, ◌∷◌, List, ℕ, option_map};
+ghost use Rattle.std.specs.Prelude.{◌≡◌, List, ℕ, option_map};
 ghost use Rattle.std.specs.Option.{option_copied};
 ghost use denote.Ref.{Bor};
 ghost use Rattle.isle_core.specs.Printed.{after_prefix};

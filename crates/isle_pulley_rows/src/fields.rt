@@ -1,8 +1,8 @@
 //! The operands of rows.
 
 ghost use Rattle.std.specs.Prelude.{◌≡◌, ◌++◌, IfOk, OnOk, map};
-ghost use Rattle.isle_pulley_rows.specs.Operands.{field_operand, has_trap as traps, has_trapping_address, operands as operands_of};
-ghost use Rattle.isle_pulley_rows.specs.Operands.{plain_operand, read_type, trap_operand};
+ghost use Rattle.isle_pulley_rows.specs.Operands.{field_operand, has_trap as traps, has_trapping_address};
+ghost use Rattle.isle_pulley_rows.specs.Operands.{operands as operands_of, plain_operand, read_type, trap_operand};
 ghost use Rattle.isle_pulley_rows.specs.Skipped.{is_skipped as skips};
 
 use crate::binary::binary;

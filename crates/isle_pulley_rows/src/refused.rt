@@ -1,6 +1,6 @@
 //! The first row that isn't supported.
 
-ghost use Rattle.std.specs.Prelude.{◌≡◌, ◌++◌, List, ℕ, [], IfOk, OnOk};
+ghost use Rattle.std.specs.Prelude.{◌++◌, List, ℕ, [], IfOk, OnOk};
 ghost use Rattle.isle_lawful_names.specs.NameSet.{HasNames};
 ghost use Rattle.isle_meta.specs.Checked.{Checks};
 ghost use Rattle.isle_meta.specs.TableNames.{texts};
@@ -64,8 +64,8 @@ pub fn unsupported_operation<'t>(
     unsupported_among(alloc, earlier, rows.as_slice())
 }
 
-/// Looks for the first row that isn't supported, among `ops` and then among `extended`. `Unsupported` gives its name and
-/// the first shape that it breaks, `Memory` says that memory ran out.
+/// Looks for the first row that isn't supported, among `ops` and then among `extended`. `Unsupported` gives its name
+/// and the first shape that it breaks, `Memory` says that memory ran out.
 pub fn check_rows(
     alloc: Global,
     ops: &[PulleyInst],

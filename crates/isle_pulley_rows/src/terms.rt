@@ -1,6 +1,6 @@
 //! The terms of rows.
 
-ghost use Rattle.std.specs.Prelude.{◌≡◌, ◌++◌, IfOk, OnOk, map, codes, string_bytes};
+ghost use Rattle.std.specs.Prelude.{◌≡◌, ◌++◌, IfOk, OnOk};
 ghost use Rattle.isle_meta.specs.declared.pulley.PulleyInst.{PulleyInst as Row};
 ghost use Rattle.isle_pulley_rows.specs.PulleyRow.{row_terms};
 ghost use Rattle.isle_pulley_rows.specs.Told.{AreTermed};

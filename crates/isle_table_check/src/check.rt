@@ -8,8 +8,9 @@ ghost use Rattle.isle_meta.specs.Told.{found_row};
 ghost use Rattle.isle_table_check.specs.SupportedTables.{IsFirstMachineRow, IsFirstUnsupported};
 
 use isle_assembler_rows::unsupported_inst;
-use isle_meta::{Instruction, Shape, TableFail, Tables};
-use isle_meta::{checked, unsupported_format, unsupported_instruction};
+use isle_meta::{
+    Instruction, Shape, TableFail, Tables, checked, unsupported_format, unsupported_instruction,
+};
 use isle_pulley_rows::unsupported_operation;
 use std::alloc::{AllocError, Global};
 

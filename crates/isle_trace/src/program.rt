@@ -46,8 +46,13 @@ pub fn of_program(
         termenv: &checked.termenv,
         program: tree,
     };
-    let outcome = match outcome_under(alloc, &compiled, asked.term, args.as_slice(), asked.answers)
-    {
+    let outcome = match outcome_under(
+        alloc,
+        &compiled,
+        asked.term,
+        args.as_slice(),
+        asked.answers,
+    ) {
         Ok(outcome) => outcome,
         Err(e) => return Err(e),
     };

@@ -1,0 +1,12 @@
+pub mod Isas
+pub mod Settings
+pub mod X86
+pub mod Arm64
+pub mod S390x
+pub mod Riscv64
+pub mod Pulley
+pub mod Groups
+pub mod PresetClosure
+pub mod Marks
+pub mod TargetLines
+pub mod Rows

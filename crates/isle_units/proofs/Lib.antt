@@ -1,0 +1,4 @@
+pub mod PathLaws
+pub mod LookupLaws
+pub mod UnitLaws
+pub mod FolderLaws
