@@ -131,6 +131,22 @@ fn file_text(alloc: Global, file: InstructionFile, tables: &Tables) -> Result<St
     Ok(text)
 }
 
+/// Returns the file of an optimizer's instructions, whether the rows of the tables are supported or not (`opt_defs` of
+/// `specs/ClifFiles.antt`). The only error is want of memory.
+pub fn opt_of(alloc: Global, tables: &Tables) -> Result<String, AllocError>
+    ensures { IfOk result (λ text. string_bytes text ≡ def_texts (opt_defs tables.now)) }
+{
+    file_text(alloc, InstructionFile::Opt, tables)
+}
+
+/// Returns the file of lowering's instructions, whether the rows of the tables are supported or not (`lower_defs` of
+/// `specs/ClifFiles.antt`). The only error is want of memory.
+pub fn lower_of(alloc: Global, tables: &Tables) -> Result<String, AllocError>
+    ensures { IfOk result (λ text. string_bytes text ≡ def_texts (lower_defs tables.now)) }
+{
+    file_text(alloc, InstructionFile::Lower, tables)
+}
+
 // The text of a file, if each row of the tables is supported.
 #[tactic(auto, using(crate::proofs::FilesWritable::file_spelt))]
 fn generated(alloc: Global, file: InstructionFile, tables: &Tables) -> Result<String, TableFail>

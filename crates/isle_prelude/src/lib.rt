@@ -17,4 +17,4 @@ mod paths;
 mod pieces;
 mod types;
 
-pub use files::{gen_lower, gen_opt};
+pub use files::{gen_lower, gen_opt, lower_of, opt_of};

@@ -1,0 +1,2 @@
+mod SourceLaws
+mod FailureLaws

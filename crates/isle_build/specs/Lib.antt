@@ -1,0 +1,4 @@
+pub mod GeneratedFiles
+pub mod UnitSource
+pub mod Built
+pub mod Parts
