@@ -18,6 +18,7 @@ pub record AreValid (options : CodegenOptions) (names : List (List ℕ)) (files 
 -- why the files of the names give no text
 abbrev pub FailsToCompile : CodegenOptions → List (List ℕ) → Refusal → Around → Type 0
 FailsToCompile options names refusal.NotYet around = ⊥
+FailsToCompile options names refusal.NoUnit around = ⊥
 FailsToCompile options names (refusal.Tables found) around = ⊥
 FailsToCompile options names (refusal.Files e) around = HasCause e options around.files names around.before around.after
 FailsToCompile options names (refusal.Run e) around = ⊥
@@ -29,6 +30,7 @@ compile_job options names = record {
   reads = true;
   inputs = names;
   asked = [];
+  unit = [];
   valid = λ files. IsSomeAnd files (AreValid options names);
   gives = IsCompiled options names;
   fails = FailsToCompile options names;

@@ -15,13 +15,14 @@ pub record Around : Type 0 where
 abbrev pub surroundings : Option Contents → (before after : Counts) → Around
 surroundings files before after = record { files = files; before = before; after = after }
 
--- what a line is: whether it is built, and whether it reads files; the names of its inputs in the order in which they are read, and the name
--- that it asks for beside them; when the files are valid for it; which texts answer it; and why it isn't answered
+-- what a line is: whether it is built, and whether it reads files; the names of its inputs in the order in which they are read, the name that it
+-- asks for beside them, and that of its unit, if it has one; when the files are valid for it; which texts answer it; and why it isn't answered
 pub record Job : Type 1 where
   pub built : Bool
   pub reads : Bool
   pub inputs : List (List ℕ)
   pub asked : List ℕ
+  pub unit : List ℕ
   pub valid : Option Contents → Type 0
   pub gives : Option Contents → List ℕ → Type 0
   pub fails : Refusal → Around → Type 0

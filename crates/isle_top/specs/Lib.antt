@@ -1,8 +1,11 @@
 pub mod About
 pub mod Job
+pub mod Sourcing
 pub mod Wants
 pub mod Texts
 pub mod CompileLine
+pub mod Built
+pub mod BuildLine
 pub mod RunLine
 pub mod SampleLine
 pub mod PreludeLine

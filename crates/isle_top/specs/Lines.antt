@@ -34,6 +34,14 @@ unread_line name why = unread_head ++ (map masked name ++ cause_end why)
 abbrev pub not_yet_line : List ℕ
 not_yet_line = line (codes "isle: not yet")
 
+-- what stands before the name of a unit that isn't listed
+unfoldable pub no_unit_head : List ℕ
+no_unit_head = codes "isle: no unit "
+
+-- no unit has the name
+abbrev pub no_unit_line : List ℕ → List ℕ
+no_unit_line unit = no_unit_head ++ (map masked unit ++ codes "\n")
+
 -- the output failed
 abbrev pub write_fault_line : List ℕ
 write_fault_line = line (codes "isle: write fault")

@@ -52,6 +52,7 @@ IsPrelude t kind.PulleyRust text = IsRustOf t (pulley_rust t.ops t.extended_ops)
 -- why a text that is made of rows isn't: one isn't supported, and it is the first, with its first shape; or memory ran out
 abbrev pub FailsByRows : Tables → Refusal → Type 0
 FailsByRows t refusal.NotYet = ⊥
+FailsByRows t refusal.NoUnit = ⊥
 FailsByRows t (refusal.Tables found) = IsFirstUnsupported t (Some found)
 FailsByRows t (refusal.Files e) = IsWant (refusal.Files e)
 FailsByRows t (refusal.Run e) = ⊥
@@ -74,6 +75,7 @@ prelude_job t k = record {
   reads = false;
   inputs = [];
   asked = [];
+  unit = [];
   valid = λ files. MayBeWritten t k;
   gives = λ files text. IsPrelude t k text;
   fails = λ e around. FailsToWrite t k e;

@@ -38,6 +38,7 @@ pub record AreCounts (source : FileTexts) (lines : List ℕ) : Type 0 where
 -- why there are none: the sample gives no program
 abbrev pub FailsToCount : ℕ → Refusal → Type 0
 FailsToCount n refusal.NotYet = ⊥
+FailsToCount n refusal.NoUnit = ⊥
 FailsToCount n (refusal.Tables found) = ⊥
 FailsToCount n (refusal.Files e) = IsRefusal e (codes "sample" ∷ []) (sample n ∷ [])
 FailsToCount n (refusal.Run e) = ⊥
@@ -49,6 +50,7 @@ sample_job n = record {
   reads = false;
   inputs = [];
   asked = [];
+  unit = [];
   valid = λ files. Unit {0};
   gives = λ files lines. AreCounts (sample_source n) lines;
   fails = λ e around. FailsToCount n e;

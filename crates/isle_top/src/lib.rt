@@ -2,9 +2,10 @@
 #![tactic(auto)]
 
 mod about;
+mod answers;
 mod asked;
+mod built;
 mod compiled;
-mod inputs;
 mod job;
 mod lines;
 mod preluded;
@@ -14,6 +15,7 @@ mod refusal;
 mod reply;
 mod run;
 mod sampled;
+mod source;
 mod status;
 
 pub use program_tables::sample_tables;

@@ -9,6 +9,8 @@ use std::alloc::{AllocError, AllocFailed};
 pub enum Refusal {
     /// The line is not built.
     NotYet,
+    /// No unit has the name.
+    NoUnit,
     /// The row of tables that isn't supported.
     Tables(Unsupported),
     /// What is wrong with the files that it reads; or want of memory.
