@@ -11,7 +11,7 @@ use Rattle.isle_command_line.specs.Words.{is_name}
 use Rattle.isle_command_line.specs.Lines as choice
 use Rattle.isle_command_line.specs.Lines.{Choice, ChoiceS, no_allow, log, split, threshold, max_returns, prefixed, ChoicesS, no_choice, a_choice, AreOnce, options_of, kind_word, LineS, AnswersS, traced}
 use Rattle.isle_command_line.specs.Reading as reading
-use Rattle.isle_command_line.specs.Reading.{named, sourced, valued, optional, is_trace, is_answers, nothing_given, given_more, chosen, counted, with_limit, request, sized, next, onward, read, asks, first, mark, kind_of, count, size, parts}
+use Rattle.isle_command_line.specs.Reading.{named, sourced, valued, optional, is_trace, is_answers, nothing_given, given_more, chosen, counted, with_limit, request, targeted, sized, next, onward, read, asks, first, mark, kind_of, count, size, parts}
 use Rattle.isle_command_line.specs.Request.{Request}
 use Rattle.isle_command_line.specs.declared.commands.Source.{Source}
 use Rattle.isle_command_line.specs.declared.state.GivenOptions.{GivenOptions}
@@ -115,7 +115,7 @@ complete (choice.compile cs us name names ss once good) =
 complete (choice.build cs us unit ss once good) = ap request_of (read_given ss once verb.Build unit [] good)
 complete (choice.prelude k) = ap (λ r. request_of (onward (request r) (λ t. Some t))) (kind_again k)
 complete choice.units = refl
-complete (choice.isa target) = refl
+complete (choice.isa target w is) = ap (λ r. request_of (onward (targeted r) (λ t. Some t))) is
 complete (choice.sample n w is) = ap (λ r. request_of (onward (sized r) (λ t. Some t))) (size_again w n is)
 complete (choice.run t cs us s from m x vs a last ss once is good spells la) =
     ap request_of (read_run t ss from (m ∷ x ∷ last) (source_named is)

@@ -3,8 +3,11 @@ use Rattle.std.proofs.Common.{◌≡◌, ℕ, ◌+◌, List, [], ◌∷◌, ◌+
 use Rattle.std.specs.Prelude.{codes, IsSome, IsOkUnless}
 use Rattle.std.proofs.lemmas.List.{take-append-drop}
 use Rattle.isle_core.specs.declared.options.CodegenOptions.{CodegenOptions}
+use Rattle.isle_settings.specs.Isas.{isa_named}
+use Rattle.isle_settings.specs.declared.isa.Isa.TheVariants as isa
 use Rattle.isle_values.specs.Written.{NoValue}
 use Rattle.isle_values.proofs.Spelt.{empty_list}
+use Rattle.isle_command_line.specs.Targets.{target_of}
 use Rattle.isle_command_line.specs.Lines as choice
 use Rattle.isle_command_line.specs.Lines.{LineS, Continues, IsBad, IsMissing}
 use Rattle.isle_command_line.specs.Reading.{nothing_given, given_more, onward, read, asks, valued, source_of, is_trace, is_answers, count, size, parts, kind_of, StopsAt}
@@ -54,7 +57,7 @@ with_name verb.Build g ws h = continues_less ws (codes "a") (whole _ (command.Bu
 
 -- a line begins with words after which something is known
 pub continues : (s : Known) (ws : List (List ℕ)) → HasRead s ws → Continues ws
-unfolding count size parts kind_of is_trace is_answers
+unfolding count size parts kind_of target_of isa_named is_trace is_answers
 continues state.Begin ws h = whole ws _ (has_read_asks state.Begin ws h)
 continues (state.Whole c) ws h = whole ws c h
 continues (state.Options v g) ws h = with_name v g ws h
@@ -64,7 +67,7 @@ continues (state.Prefix v g) ws h = continues_less ws (codes "=a") (with_name v 
 continues (state.Names o []) ws h = let some = h.2 in absurd (omega (arith, some))
 continues (state.Names o (n ∷ ns)) ws h = whole ws (command.Compile o (n ∷ ns)) (has_read_asks (state.Names o (n ∷ ns)) ws h)
 continues state.Kind ws h = continues_less ws (codes "numerics") (whole _ (command.Prelude kind.Numerics) (has_read_next state.Kind ws (codes "numerics") h))
-continues state.Target ws h = continues_less ws [] (whole _ (command.Isa []) (has_read_next state.Target ws [] h))
+continues state.Target ws h = continues_less ws (codes "x86") (whole _ (command.Isa isa.X86) (has_read_next state.Target ws (codes "x86") h))
 continues state.Size ws h = continues_less ws (codes "1") (whole _ (command.Sample 1) (has_read_next state.Size ws (codes "1") h))
 continues state.Run ws h = continues_less ws (codes "--trace") (with_name (verb.Run true) nothing_given _ (has_read_next state.Run ws (codes "--trace") h))
 continues (state.Term t o s) ws h = with_term t o s ws h

@@ -5,14 +5,16 @@ use Rattle.std.specs.Prelude.{is_some}
 use Rattle.std.specs.List.{list_all}
 use Rattle.std.proofs.lemmas.List.{length-append}
 use Rattle.isle_core.specs.declared.options.CodegenOptions.{CodegenOptions}
+use Rattle.isle_settings.specs.declared.isa.Isa.{Isa}
 use Rattle.isle_values.specs.Written.{Writtens}
 use Rattle.isle_values.specs.Spelling.{SpellsValues}
 use Rattle.isle_values.specs.Reading.{spelt}
 use Rattle.isle_values.proofs.Spelt.{IsSpelt, spelt_is}
 use Rattle.isle_command_line.specs.Words.{is_name}
+use Rattle.isle_command_line.specs.Targets.{target_of}
 use Rattle.isle_command_line.specs.Lines as choice
 use Rattle.isle_command_line.specs.Lines.{LineS, SourceS, AnswersS, no_options}
-use Rattle.isle_command_line.specs.Reading.{begun, named, sourced, source_of, optional, valued, is_trace, is_answers, nothing_given, given_more, chosen, counted, with_limit, prefixed, request, sized, next, onward, read, asks, first, mark, kind_of, count, size, parts}
+use Rattle.isle_command_line.specs.Reading.{begun, named, sourced, source_of, optional, valued, is_trace, is_answers, nothing_given, given_more, chosen, counted, with_limit, prefixed, request, targeted, sized, next, onward, read, asks, first, mark, kind_of, count, size, parts}
 use Rattle.isle_command_line.specs.declared.commands.Kind.{Kind}
 use Rattle.isle_command_line.specs.declared.commands.Source.{Source}
 use Rattle.isle_command_line.specs.Request.{Request}
@@ -184,6 +186,10 @@ has_read_asked (Some k) ws w h is =
     let e : ws ++ w ∷ [] ≡ codes "prelude" ∷ choice.kind_word k ∷ [] = λ i. h i ++ is i ∷ [] in
     subst (λ z. LineS z (command.Prelude k)) (sym e) (choice.prelude k)
 
+has_read_targeted : (r : Option Isa) (ws : List (List ℕ)) (w : List ℕ) → ws ≡ codes "isa" ∷ [] → target_of w ≡ r → After (targeted r) (ws ++ w ∷ [])
+has_read_targeted None ws w h is = tt
+has_read_targeted (Some target) ws w h is = subst (λ z. LineS (z ++ w ∷ []) (command.Isa target)) (sym h) (choice.isa target w is)
+
 has_read_sized : (r : Option ℕ) (ws : List (List ℕ)) (w : List ℕ) → ws ≡ codes "sample" ∷ [] → IsSized r w → After (sized r) (ws ++ w ∷ [])
 has_read_sized None ws w h is = tt
 has_read_sized (Some n) ws w h is = subst (λ z. LineS (z ++ w ∷ []) (command.Sample n)) (sym h) (choice.sample n w is)
@@ -222,7 +228,7 @@ has_read_next (state.MaxReturns v g) ws w h = has_read_limit v g ws (count w) w 
 has_read_next (state.Prefix v g) ws w h = has_read_prefixed v g ws (parts w) w h (parts_is w)
 has_read_next (state.Names o ns) ws w h = on_if (λ r. After r (ws ++ w ∷ [])) (is_name w) _ _ (has_read_more o ns ws w h) tt
 has_read_next state.Kind ws w h = has_read_asked (kind_of w) ws w h (kind_is w)
-has_read_next state.Target ws w h = subst (λ z. LineS (z ++ w ∷ []) (command.Isa w)) (sym h) (choice.isa w)
+has_read_next state.Target ws w h = has_read_targeted (target_of w) ws w h refl
 has_read_next state.Size ws w h = has_read_sized (size w) ws w h (size_is w)
 has_read_next state.Run ws w h = has_read_run ws w h
 has_read_next (state.Term t o s) ws w h = on_if (λ r. After r (ws ++ w ∷ [])) (is_name w) _ _ (λ good. (h.0, h.1, good, ap (λ z. z ++ w ∷ []) h.2)) tt

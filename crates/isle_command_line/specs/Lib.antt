@@ -1,4 +1,5 @@
 pub mod Words
+pub mod Targets
 pub mod Request
 pub mod Lines
 pub mod Known

@@ -3,9 +3,11 @@ use Rattle.std.specs.Prelude.{◌≡◌, ℕ, ◌+◌, ◌<◌, List, [], ◌∷
 use Rattle.std.specs.List.{list_all}
 use Rattle.isle_core.specs.declared.options.CodegenOptions.{CodegenOptions}
 use Rattle.isle_core.specs.Printed.{after_prefix}
+use Rattle.isle_settings.specs.declared.isa.Isa.{Isa}
 use Rattle.isle_values.specs.Spelling.{SpellsValues}
 use Rattle.isle_values.specs.Written.{Writtens}
 use Rattle.isle_command_line.specs.Words.{is_name, IsCount, IsSize, IsPrefix}
+use Rattle.isle_command_line.specs.Targets.{target_of}
 use Rattle.isle_command_line.specs.declared.commands.Kind.{Kind}
 use Rattle.isle_command_line.specs.declared.commands.Source.{Source}
 use Rattle.isle_command_line.specs.declared.commands.Source.TheVariants as source
@@ -124,7 +126,7 @@ pub data LineS : List (List ℕ) → Request → Type 0 where
       → LineS (codes "build" ∷ words ++ unit ∷ []) (command.Build (options_of cs) unit)
   prelude : (k : Kind) → LineS (codes "prelude" ∷ kind_word k ∷ []) (command.Prelude k)
   units : LineS (codes "units" ∷ []) command.Units
-  isa : (target : List ℕ) → LineS (codes "isa" ∷ target ∷ []) (command.Isa target)
+  isa : (target : Isa) (word : List ℕ) → target_of word ≡ Some target → LineS (codes "isa" ∷ word ∷ []) (command.Isa target)
   sample : (n : ℕ) (word : List ℕ) → IsSize word n → LineS (codes "sample" ∷ word ∷ []) (command.Sample n)
   run : (t : Bool) (cs : List Choice) (words : List (List ℕ)) (s : Source) (from term spelling : List ℕ) (vs : Writtens) (a : Option (List ℕ)) (last : List (List ℕ))
       → ChoicesS cs words → AreOnce cs → SourceS s from → is_name term ≡ true → SpellsValues spelling vs → AnswersS a last

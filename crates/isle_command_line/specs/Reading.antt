@@ -4,9 +4,11 @@ use Rattle.std.specs.List.{list_all, position_or_len, before_first, after_first}
 use Rattle.std.specs.Str.{bytes_eq}
 use Rattle.isle_core.specs.declared.options.CodegenOptions.{CodegenOptions}
 use Rattle.isle_core.specs.Printed.{after_prefix}
+use Rattle.isle_settings.specs.declared.isa.Isa.{Isa}
 use Rattle.isle_values.specs.Reading.{spelt}
 use Rattle.isle_values.specs.Written.{Writtens}
 use Rattle.isle_command_line.specs.Words.{is_name, is_digit, decimal_value}
+use Rattle.isle_command_line.specs.Targets.{target_of}
 use Rattle.isle_command_line.specs.Lines as choice
 use Rattle.isle_command_line.specs.Lines.{Choice, no_options, with_choice}
 use Rattle.isle_command_line.specs.declared.commands.Kind.{Kind}
@@ -164,6 +166,11 @@ abbrev pub request : Option Kind → Option Known
 request (Some k) = Some (state.Whole (command.Prelude k))
 request None = None
 
+-- after a target
+abbrev pub targeted : Option Isa → Option Known
+targeted (Some target) = Some (state.Whole (command.Isa target))
+targeted None = None
+
 -- after the size of a sample
 abbrev pub sized : Option ℕ → Option Known
 sized (Some n) = Some (state.Whole (command.Sample n))
@@ -188,7 +195,7 @@ next (state.MaxReturns v g) w = with_limit v g (count w)
 next (state.Prefix v g) w = prefixed v g (parts w)
 next (state.Names o ns) w = if is_name w then Some (state.Names o (ns ++ w ∷ [])) else None
 next state.Kind w = request (kind_of w)
-next state.Target w = Some (state.Whole (command.Isa w))
+next state.Target w = targeted (target_of w)
 next state.Size w = sized (size w)
 next state.Run w = if is_trace w then Some (state.Options (verb.Run true) nothing_given) else optional (verb.Run false) nothing_given w
 next (state.Term t o s) w = if is_name w then Some (state.Values t o s w) else None

@@ -1,6 +1,7 @@
 -- What a line asks for, as a pure tree.
 use Rattle.std.specs.Prelude.{ℕ, List, Bool, Option}
 use Rattle.isle_core.specs.declared.options.CodegenOptions.{CodegenOptions}
+use Rattle.isle_settings.specs.declared.isa.Isa as targets
 use Rattle.isle_values.specs.Written.{Writtens}
 use Rattle.isle_command_line.specs.declared.commands.Kind.{Kind}
 use Rattle.isle_command_line.specs.declared.commands.Source.{Source}
@@ -21,7 +22,7 @@ pub data Request : Type 0 where
   Build : (options : CodegenOptions) (unit : List ℕ) → Request
   Prelude : Kind → Request
   Units : Request
-  Isa : (target : List ℕ) → Request
+  Isa : (target : targets.Isa) → Request
   Sample : (size : ℕ) → Request
   Run : Running → Request
 

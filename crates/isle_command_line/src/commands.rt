@@ -1,4 +1,5 @@
 use isle_core::{CodegenOptions, List, Text};
+use isle_settings::Isa;
 use isle_values::Written;
 use std::alloc::{AllocError, AllocFailed};
 
@@ -57,7 +58,7 @@ pub enum Command {
     /// List the units.
     Units,
     /// Write what a target has.
-    Isa(Text),
+    Isa(Isa),
     /// Count what a sample of this size becomes.
     Sample(usize),
     /// Run a term.

@@ -1,14 +1,14 @@
 ghost use Rattle.std.specs.Prelude.{◌≡◌, Err, Some, None, IfOk};
-ghost use Rattle.isle_command_line.specs.Known as known;
-ghost use Rattle.isle_command_line.specs.Reading.{next, begun, nothing_given, request, sized};
+ghost use Rattle.isle_command_line.specs.Reading.{next, begun, nothing_given, request, targeted, sized};
 ghost use Rattle.isle_command_line.specs.Views.{seen_state};
 ghost use Rattle.isle_command_line.specs.declared.state.WordFail.TheVariants.{Bad};
 
 use crate::commands::{Command, Kind, Source};
 use crate::options::{limit, one_name, option, prefix, threshold};
 use crate::run::{after_values, answers, run, term, values};
-use crate::word::{FirstWord, first, kind_of, size};
+use crate::word::{FirstWord, first, kind_of, size, target_of};
 use isle_core::{CodegenOptions, List, OutOfMemory, Text};
+use isle_settings::Isa;
 use isle_values::Written;
 use std::alloc::{AllocError, AllocFailed, Global};
 
@@ -132,7 +132,7 @@ pub fn next(alloc: Global, state: State, word: &str) -> Result<State, WordFail>
         State::Prefix(verb, given) => prefix(alloc, verb, given, word),
         State::Names(options, names) => one_name(alloc, options, names, word),
         State::Kind => request(kind_of(word)),
-        State::Target => target(alloc, word),
+        State::Target => targeted(target_of(word)),
         State::Size => after_size(size(word)),
         State::Run => run(alloc, word),
         State::Term(trace, options, source) => term(alloc, trace, options, source, word),
@@ -179,12 +179,14 @@ fn request(kind: Option<Kind>) -> Result<State, WordFail>
 }
 
 // What is known after a target.
-fn target(alloc: Global, word: &str) -> Result<State, WordFail>
-    ensures next { IfOk result (λ s. next known.Target word.now ≡ Some (seen_state s)) }
-    ensures bad { result ≡ Err Bad → next known.Target word.now ≡ None }
+fn targeted(target: Option<Isa>) -> Result<State, WordFail>
+    ensures next { IfOk result (λ s. targeted target ≡ Some (seen_state s)) }
+    ensures bad { result ≡ Err Bad → targeted target ≡ None }
 {
-    let target = String::from_str(alloc, word)?;
-    Ok(State::Whole(Command::Isa(Text::new(target))))
+    match target {
+        Some(target) => Ok(State::Whole(Command::Isa(target))),
+        None => Err(WordFail::Bad),
+    }
 }
 
 // What is known after the size of a sample.

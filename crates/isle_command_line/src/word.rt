@@ -1,8 +1,10 @@
 ghost use Rattle.std.specs.Prelude.{◌≡◌};
 ghost use Rattle.isle_command_line.specs.Words.{is_name};
+ghost use Rattle.isle_command_line.specs.Targets.{target_of};
 ghost use Rattle.isle_command_line.specs.Reading.{first, mark, kind_of, count, size, is_trace, is_answers};
 
 use crate::commands::Kind;
+use isle_settings::Isa;
 
 /// What the first word of a line is.
 #[derive(Clone, Copy, Debug, PartialEq, Eq)]
@@ -84,6 +86,14 @@ pub fn kind_of(word: &str) -> Option<Kind>
         "pulley-rust" => Some(Kind::PulleyRust),
         _ => None,
     }
+}
+
+/// Returns the target of this name, or else the one that stands for the architecture of this word.
+#[tactic(auto, unfolding(crate::specs::Targets::target_of))]
+pub fn target_of(word: &str) -> Option<Isa>
+    ensures { result ≡ target_of word.now }
+{
+    Isa::from_name(word).or_else(|| Isa::from_arch(word))
 }
 
 /// Tells whether a word may name an input or a unit.
