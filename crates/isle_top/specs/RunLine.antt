@@ -6,6 +6,7 @@ use Rattle.isle_outside.specs.declared.errors.IoCause.{IoCause}
 use Rattle.isle_core.specs.Inputs.{Fails}
 use Rattle.isle_core.specs.declared.files.Files.{Files as FileTexts}
 use Rattle.isle_core.specs.declared.options.CodegenOptions.{CodegenOptions}
+use Rattle.isle_core.specs.declared.read_error.ReadError.{ReadError}
 use Rattle.isle_core.specs.declared.read_error.ReadError.TheVariants as read
 use Rattle.isle_values.specs.Written.{Writtens}
 use Rattle.isle_codegen.specs.Causes.{AllTried, of_texts}
@@ -60,6 +61,11 @@ pub record IsValidRun (from : Sourcing) (r : Running) (files : Contents) : Type 
   pub given : List ℕ
   pub inputs : AreInputs from r.answers (Some files) source given
   pub can : CanRun source r.term r.values given
+
+-- an input that is not read
+abbrev pub of_read : ReadError → Refusal
+of_read (read.Io index why) = refusal.Files (file.Io index why)
+of_read read.Memory = refusal.Files file.Memory
 
 -- why a run of a source gives no lines, with the source where its definitions go wrong
 abbrev pub of_trial : FileTexts → TrialFail → Refusal

@@ -9,6 +9,8 @@ ghost use Rattle.isle_top.specs.Lines.{
   unread_line,
   bad_word_head,
   bad_word_line,
+  no_unit_head,
+  no_unit_line,
   no_term_head,
   no_term_line,
   count_line,
@@ -168,6 +170,25 @@ pub fn write_bad_word<S: Sink>(sink: &mut S, word: &str) -> Result<(), Failed>
     ensures later { S.faults sink.old ≤ S.faults sink.new }
 {
     write_named(sink, bad_word_head(), word, "\n")
+}
+
+// What stands before the name of a unit that isn't listed.
+#[tactic(auto, unfolding(crate::specs::Lines::no_unit_head))]
+fn no_unit_head() -> &'static str
+    ensures { result.now ≡ no_unit_head }
+{
+    "isle: no unit "
+}
+
+/// Writes that no unit has the name, with each byte below 32 as `?`. It takes no memory.
+pub fn write_no_unit<S: Sink>(sink: &mut S, unit: &str) -> Result<(), Failed>
+    ensures ok { OnOk result (Took (S.taken sink.old) (S.taken sink.new) (no_unit_line unit.now)) }
+    ensures part { OnErr result
+        (TookPart (S.taken sink.old) (S.taken sink.new) (no_unit_line unit.now)) }
+    ensures failed { OnErr result (Rose (S.faults sink.old) (S.faults sink.new)) }
+    ensures later { S.faults sink.old ≤ S.faults sink.new }
+{
+    write_named(sink, no_unit_head(), unit, "\n")
 }
 
 /// Writes that no term with rules has the name, with each byte below 32 as `?`. It takes no memory.

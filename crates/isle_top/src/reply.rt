@@ -4,19 +4,21 @@ ghost use Rattle.std.specs.Prelude.{◌≡◌, ◌≤◌, false, Err, IfOk, IfEr
 ghost use Rattle.std.specs.String.{string_bytes};
 ghost use Rattle.isle_outside.specs.Directory.{Rose};
 ghost use Rattle.isle_top.specs.Job.{surroundings, IsReply};
-ghost use Rattle.isle_top.specs.Jobs.{job_asked, job_of_run};
+ghost use Rattle.isle_top.specs.Jobs.{job_asked};
 ghost use Rattle.isle_top.specs.SampleLine.{sample_source, AreCounts, FailsToCount};
 ghost use Rattle.isle_top.specs.Wants.{IsWant};
 
 use crate::about::{help, version};
-use crate::asked::Asked;
+use crate::asked::{Asked, Over};
+use crate::built::built;
 use crate::compiled::compiled;
 use crate::preluded::preluded;
 use crate::ran::ran;
 use crate::refusal::Refusal;
 use crate::sampled::sampled;
-use isle_command_line::{Command, RunLine, Source};
+use isle_command_line::Command;
 use isle_core::Dir;
+use isle_units::units_text;
 use std::alloc::Global;
 
 /// Returns the reply to a line (`specs/Jobs.antt`). Where the line is valid and no call of the directory fails, the
@@ -53,10 +55,18 @@ pub fn reply<D: Dir>(alloc: Global, line: &Asked<'_>, dir: &mut D) -> Result<Str
             Ok(text) => Ok(text),
             Err(e) => Err(Refusal::Files(e)),
         },
-        Command::Run(run) => run_reply(alloc, run, dir),
+        Command::Build { options, unit } => {
+            let over = Over {
+                tables: line.tables,
+                options,
+            };
+            built(alloc, &over, unit.as_str(), dir)
+        }
+        Command::Run(run) => ran(alloc, line.tables, run, dir),
         Command::Sample(size) => sample_reply(alloc, *size),
         Command::Prelude(kind) => preluded(alloc, line.tables, *kind),
-        Command::Build { .. } | Command::Units | Command::Isa(_) => Err(Refusal::NotYet),
+        Command::Units => Ok(units_text(alloc)?),
+        Command::Isa(_) => Err(Refusal::NotYet),
     }
 }
 
@@ -68,30 +78,5 @@ fn sample_reply(alloc: Global, size: usize) -> Result<String, Refusal>
     match sampled(alloc, size) {
         Ok(lines) => Ok(lines),
         Err(e) => Err(Refusal::Files(e)),
-    }
-}
-
-// The reply to a run.
-fn run_reply<D: Dir>(alloc: Global, run: &RunLine, dir: &mut D) -> Result<String, Refusal>
-    ensures ok { let around = surroundings (D.files dir.old) (D.counts dir.old) (D.counts dir.new)
-        in
-        IfOk result (λ text. IsReply (job_of_run run.now) around (string_bytes text)) }
-    ensures err { let around = surroundings (D.files dir.old) (D.counts dir.old) (D.counts dir.new)
-        in
-        IfErr result (λ e. (job_of_run run.now).fails e around) }
-    ensures not_built { (job_of_run run.now).built ≡ false → result ≡ Err Refusal.NotYet }
-    ensures untried { (job_of_run run.now).reads ≡ false → dir.new ≡ dir.old }
-    ensures files { D.files dir.new ≡ D.files dir.old }
-    ensures later { (D.counts dir.old).faults ≤ (D.counts dir.new).faults }
-    ensures stays { (D.counts dir.old).faults ≡ 2 ^ 64 - 1
-        → (D.counts dir.new).faults ≡ 2 ^ 64 - 1 }
-    ensures given { let names = (job_of_run run.now).inputs in
-        (D.counts dir.new).given ≤ (D.counts dir.old).given + (2 ^ 24 + 1) * length names }
-{
-    match (run.trace, &run.source) {
-        (false, Source::File(name)) => ran(alloc, name.as_str(), run, dir),
-        (true, Source::File(_)) | (true, Source::Unit(_)) | (false, Source::Unit(_)) => {
-            Err(Refusal::NotYet)
-        }
     }
 }

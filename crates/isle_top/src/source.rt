@@ -1,6 +1,8 @@
 //! The source of a line: a file, or the files of a unit.
 
 ghost use Rattle.std.specs.Prelude.{◌≡◌, ◌≤◌, ◌+◌, ◌-◌, ◌*◌, ◌^◌, ◌∷◌, [], length, IfOk, IfErr};
+ghost use Rattle.std.specs.Prelude.{slice_get};
+ghost use Rattle.std.specs.Option.{option_copied};
 ghost use Rattle.isle_build.specs.UnitSource.{IsSourceOfUnit, tracked_of};
 ghost use Rattle.isle_codegen.specs.Causes.{AllTried, AreSource};
 ghost use Rattle.isle_core.specs.Inputs.{Fails, IsTried};
@@ -19,6 +21,21 @@ use isle_command_line::Source;
 use isle_core::{CodegenOptions, Dir, Files, ReadError};
 use isle_units::tracked_names;
 use std::alloc::Global;
+
+/// Returns the name of the file of this number that is read for a source, if there is one.
+pub fn source_input(source: &Source, index: usize) -> Option<&str>
+    ensures { (tables : Tables) (options : Options)
+        → option_copied result ≡ slice_get (sourcing_of tables options source.now).inputs index }
+{
+    match source {
+        Source::File(name) if index == 0 => Some(name.as_str()),
+        Source::File(_) => None,
+        Source::Unit(unit) => match tracked_names(unit.as_str()).get(index) {
+            Some(name) => Some(name),
+            None => None,
+        },
+    }
+}
 
 /// Returns how many files are read for a source.
 pub fn inputs_count(source: &Source) -> usize
