@@ -7,7 +7,7 @@ use Rattle.isle_trace.proofs.traced.of_checked.Goals as goal
 
 pub of_program-requires-clause-names : goal.of_program-requires-clause-names
 of_program-requires-clause-names c =
-    ap are_file_names c.as_slice-2.ensures ∙ files_named c.args.files.now.file_names (env_checked c.args.checked.now) c.requires.checked.lawful.names
+    ap are_file_names c.as_slice.ensures ∙ files_named c.args.files.now.file_names (env_checked c.args.checked.now) c.requires.checked.lawful.names
 
 pub returns-in-Err-clause-err : goal.returns-in-Err-clause-err
 returns-in-Err-clause-err c = memory
