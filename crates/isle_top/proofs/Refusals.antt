@@ -51,6 +51,7 @@ module _ {tables : Tables} {asks : Request → Type 0} {none : Type 0} {around :
   -- what is said of a line that is not answered
   pub says_end : (e : Refusal) → (job_of tables request).fails e around → Ends (job_of tables request) wrote status e → Says tables asks none around quiet wrote status
   says_end refusal.NotYet cause told = statuses.refused request refusal.NotYet status (λ want. want) asked cause told
+  says_end refusal.NoUnit cause told = statuses.refused request refusal.NoUnit status (λ want. want) asked cause told
   says_end (refusal.Tables found) cause told = statuses.refused request (refusal.Tables found) status (λ want. want) asked cause told
   says_end (refusal.Files (file.Io index why)) cause told = statuses.refused request (refusal.Files (file.Io index why)) status (λ want. want) asked cause told
   says_end (refusal.Files (file.Errors e)) cause (inl told) = statuses.refused request (refusal.Files (file.Errors e)) status (λ want. want) asked cause told
@@ -65,6 +66,9 @@ IsRefused status = (status ≡ 0 → ⊥) × (status ≡ 11 → ⊥)
 
 told_refused : (status n : ℕ) → IsRefused n → status ≡ n → IsRefused status
 told_refused status n h e = subst IsRefused (sym e) h
+
+three : IsRefused 3
+three = ((λ e. cc), (λ e. cc))
 
 four : IsRefused 4
 four = ((λ e. cc), (λ e. cc))
@@ -110,6 +114,7 @@ named_refused wrote status why (Some name) h = told_refused status 5 five h.0
 -- a line that is not answered ends with another status than one that is
 pub end_refused : (job : Job) (wrote : List ℕ → Type 0) (status : ℕ) (e : Refusal) → Ends job wrote status e → IsRefused status
 end_refused job wrote status refusal.NotYet h = told_refused status 14 fourteen h.0
+end_refused job wrote status refusal.NoUnit h = told_refused status 3 three h.0
 end_refused job wrote status (refusal.Tables found) h = told_refused status 4 four h.0
 end_refused job wrote status (refusal.Files (file.Io index why)) h = named_refused wrote status why (slice_get job.inputs index) h
 end_refused job wrote status (refusal.Files (file.Errors e)) (inl h) = errors_refused e.errors status h.0
@@ -129,6 +134,7 @@ end_not_built job wrote status e is h = (subst (Ends job wrote status) is h).0
 -- and want of memory with its
 pub end_want : (job : Job) (wrote : List ℕ → Type 0) (status : ℕ) (e : Refusal) → IsWant e → Ends job wrote status e → status ≡ 12
 end_want job wrote status refusal.NotYet want h = absurd want
+end_want job wrote status refusal.NoUnit want h = absurd want
 end_want job wrote status (refusal.Tables found) want h = absurd want
 end_want job wrote status (refusal.Files (file.Io index why)) want h = absurd want
 end_want job wrote status (refusal.Files (file.Errors e)) want h = absurd want

@@ -1,5 +1,5 @@
 -- The reply to a line, by what the line asks for.
-use Rattle.std.proofs.Common.{◌≡◌, ℕ, List, Bool, true, false, Option, Result, Ok, Err, refl, sym, subst}
+use Rattle.std.proofs.Common.{◌≡◌, ℕ, List, Option, Result, Ok, Err, refl, sym, subst}
 use Rattle.std.specs.Prelude.{IfOk, IfErr, String}
 use Rattle.std.specs.String.{string_bytes}
 use Rattle.std.specs.declared.alloc.Global.{Global}
@@ -7,38 +7,45 @@ use Rattle.isle_outside.specs.Directory.{Contents, Counts}
 use Rattle.isle_core.specs.declared.options.CodegenOptions.{CodegenOptions}
 use Rattle.isle_codegen.specs.Causes.{AllTried, IsCompiled, HasCause}
 use Rattle.isle_codegen.specs.declared.file_error.FileError.{FileError}
-use Rattle.isle_command_line.specs.Request.{Request, Running, Compile, Prelude, Sample, Run}
+use Rattle.isle_build.specs.Built.{IsBuilt}
+use Rattle.isle_build.specs.UnitSource.{tracked_of}
+use Rattle.isle_command_line.specs.Request.{Request, Running, Build, Compile, Prelude, Sample, Run}
 use Rattle.isle_command_line.specs.declared.commands.Kind.{Kind}
-use Rattle.isle_command_line.specs.declared.commands.Source.{Source}
-use Rattle.isle_command_line.specs.declared.commands.Source.TheVariants as source
 use Rattle.isle_meta.specs.declared.tables.Tables.{Tables}
 use Rattle.isle_top.specs.declared.refusal.Refusal.{Refusal}
 use Rattle.isle_top.specs.declared.refusal.Refusal.TheVariants as refusal
 use Rattle.isle_top.specs.Job.{Around, surroundings, IsReply}
-use Rattle.isle_top.specs.Jobs.{job_of, running_job}
-use Rattle.isle_top.specs.RunLine.{GivesLines, run_inputs, run_job}
+use Rattle.isle_top.specs.BuildLine.{FailsToGive}
+use Rattle.isle_top.specs.Jobs.{job_of}
+use Rattle.isle_top.specs.RunLine.{FailsToRun, GivesLines, run_inputs}
+use Rattle.isle_top.specs.Sourcing.{sourcing_of}
 use Rattle.isle_top.specs.SampleLine.{sample_source, AreCounts, FailsToCount}
 use Rattle.isle_top.specs.PreludeLine.{IsPrelude, FailsToWrite}
 use Rattle.isle_top.proofs.Tries.{none_tried}
 
--- the lines of a run of a file
-file_replies : {E : Type 0} (name : List ℕ) (r : Running) (around : Around) (result : Result (String Global) E) → IfOk result (λ lines. GivesLines name r around.files (string_bytes lines))
-    → IfOk result (λ lines. AllTried (run_inputs name r) around.before around.after) → IfOk result (λ text. IsReply (run_job name r) around (string_bytes text))
-file_replies name r around (Ok lines) gives tried = record { built = refl; gives = gives; tried = tried }
-file_replies name r around (Err e) gives tried = tt
+-- what is shown of a run
+pub run_replies : {E : Type 0} (tables : Tables) (request : Request) (r : Running) (around : Around) (result : Result (String Global) E) → request ≡ Run r
+    → IfOk result (λ text. GivesLines (sourcing_of tables r.options r.source) r around.files (string_bytes text))
+    → IfOk result (λ text. AllTried (run_inputs (sourcing_of tables r.options r.source) r) around.before around.after) → IfOk result (λ text. IsReply (job_of tables request) around (string_bytes text))
+run_replies tables request r around (Ok text) is gives tried = subst (λ q. IsReply (job_of tables q) around (string_bytes text)) (sym is) (record { built = refl; gives = gives; tried = tried })
+run_replies tables request r around (Err e) is gives tried = tt
 
--- those of a run that isn't traced, and whose source is a file
-pub run_replies : {E : Type 0} (trace : Bool) (from : Source) (name : List ℕ) (r : Running) (around : Around) (result : Result (String Global) E) → trace ≡ false → from ≡ source.File name
-    → IfOk result (λ lines. GivesLines name r around.files (string_bytes lines)) → IfOk result (λ lines. AllTried (run_inputs name r) around.before around.after)
-    → IfOk result (λ text. IsReply (running_job trace from r) around (string_bytes text))
-run_replies trace from name r around result untraced file gives tried =
-    subst (λ t. IfOk result (λ text. IsReply (running_job t from r) around (string_bytes text))) (sym untraced)
-    (subst (λ s. IfOk result (λ text. IsReply (running_job false s r) around (string_bytes text))) (sym file) (file_replies name r around result gives tried))
-
--- why a run gives none
-pub run_fails : {T : Type 0} (tables : Tables) (request : Request) (r : Running) (around : Around) (result : Result T Refusal) → request ≡ Run r → IfErr result (λ e. (running_job r.trace r.source r).fails e around)
-    → IfErr result (λ e. (job_of tables request).fails e around)
+-- why nothing is
+pub run_fails : {T : Type 0} (tables : Tables) (request : Request) (r : Running) (around : Around) (result : Result T Refusal) → request ≡ Run r
+    → IfErr result (FailsToRun (sourcing_of tables r.options r.source) r around) → IfErr result (λ e. (job_of tables request).fails e around)
 run_fails tables request r around result is h = subst (λ q. IfErr result (λ e. (job_of tables q).fails e around)) (sym is) h
+
+-- the text of a unit's program
+pub build_replies : {E : Type 0} (tables : Tables) (request : Request) (options : CodegenOptions) (unit : List ℕ) (around : Around) (result : Result (String Global) E) → request ≡ Build options unit
+    → IfOk result (λ text. IsBuilt tables options unit around.files (string_bytes text)) → IfOk result (λ text. AllTried (tracked_of unit) around.before around.after)
+    → IfOk result (λ text. IsReply (job_of tables request) around (string_bytes text))
+build_replies tables request options unit around (Ok text) is gives tried = subst (λ q. IsReply (job_of tables q) around (string_bytes text)) (sym is) (record { built = refl; gives = gives; tried = tried })
+build_replies tables request options unit around (Err e) is gives tried = tt
+
+-- why there is none
+pub build_fails : {T : Type 0} (tables : Tables) (request : Request) (options : CodegenOptions) (unit : List ℕ) (around : Around) (result : Result T Refusal) → request ≡ Build options unit
+    → IfErr result (λ e. FailsToGive tables options unit e around) → IfErr result (λ e. (job_of tables request).fails e around)
+build_fails tables request options unit around result is h = subst (λ q. IfErr result (λ e. (job_of tables q).fails e around)) (sym is) h
 
 module _ (tables : Tables) (request : Request) (options : CodegenOptions) (names : List (List ℕ)) (around : Around) (is : request ≡ Compile options names) where
   -- the text of a program of files

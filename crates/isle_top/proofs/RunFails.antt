@@ -1,38 +1,109 @@
 -- Why a run gives no lines.
-use Rattle.std.proofs.Common.{◌≡◌, ℕ, List, ◌∷◌, Option, sym, subst}
+use Rattle.std.proofs.Common.{◌≡◌, ℕ, zero, suc, ◌+◌, ◌<◌, ◌≤◌, List, [], ◌∷◌, ◌++◌, length, take, Option, Some, None, refl, sym, ap, ◌∙◌, subst, arith}
+use Rattle.std.specs.Prelude.{IfSome, IsSomeAnd, slice_get}
+use Rattle.isle_outside.specs.Directory.{Contents, Counts, bytes_of}
+use Rattle.isle_outside.specs.Reading.{IsCause, RoseAt}
 use Rattle.isle_outside.specs.declared.errors.IoCause.{IoCause}
-use Rattle.isle_core.specs.Inputs.{Fails}
+use Rattle.isle_core.specs.Inputs.{AreRead, Fails, FailsAt, IsTried}
 use Rattle.isle_core.specs.declared.files.Files.{Files as FileTexts}
 use Rattle.isle_core.specs.declared.read_error.ReadError.{ReadError}
 use Rattle.isle_core.specs.declared.read_error.ReadError.TheVariants as read
+use Rattle.isle_core.proofs.InputLaws.{tries_more}
 use Rattle.isle_codegen.specs.Causes.{AllTried}
-use Rattle.isle_codegen.specs.declared.file_error.FileError.{FileError}
-use Rattle.isle_codegen.specs.declared.file_error.FileError.TheVariants as file
 use Rattle.isle_command_line.specs.Request.{Running}
+use Rattle.isle_meta.specs.declared.tables.Tables.{Tables}
 use Rattle.isle_run.specs.NoLines.{HasNoLines}
 use Rattle.isle_run.specs.declared.trials.TrialFail.{TrialFail}
 use Rattle.isle_top.specs.declared.refusal.Refusal.{Refusal}
-use Rattle.isle_top.specs.declared.refusal.Refusal.TheVariants as refusal
-use Rattle.isle_top.specs.Job.{Around}
-use Rattle.isle_top.specs.RunLine.{answers_names, AreInputs, FailsToRun, of_trial, unread, no_lines, memory}
+use Rattle.isle_top.specs.Inputs.{FailsTo, FailsToHave}
+use Rattle.isle_top.specs.Inputs as had
+use Rattle.isle_top.specs.Job.{Around, surroundings}
+use Rattle.isle_top.specs.RunLine.{answers_names, run_inputs, AreInputs, FailsToRun, IsAnswersText, of_read, of_trial, early, unread, no_lines, memory}
+use Rattle.isle_top.specs.Sourcing.{Sourcing, sourcing_of}
+use Rattle.isle_top.proofs.SourceLaws.{source_read, source_ready}
 
--- an input that is not read, as a cause
-abbrev pub of_read : ReadError → FileError
-of_read (read.Io index why) = file.Io index why
-of_read read.Memory = file.Memory
+-- ---- names with others after them
 
-module _ (name : List ℕ) (r : Running) (around : Around) (answers : Option (List ℕ)) (same : answers ≡ r.answers) where
-  -- an input was not read
-  pub fails_unread : (e : ReadError) → Fails e around.files (name ∷ answers_names answers) around.before around.after → FailsToRun name r around (refusal.Files (of_read e))
-  fails_unread (read.Io index why) h = unread index why (subst (λ a. Fails (read.Io index why) around.files (name ∷ answers_names a) around.before around.after) same h)
-  fails_unread read.Memory h = memory h
+take_front : (xs ys : List (List ℕ)) (k : ℕ) → k ≤ length xs → take k (xs ++ ys) ≡ take k xs
+take_front xs ys zero le = refl
+take_front [] ys (suc k) le = absurd (omega (arith, le))
+take_front (x ∷ xs) ys (suc k) le = ap (λ zs. x ∷ zs) (take_front xs ys k (omega (arith, le)))
 
-  -- the same, of a number and a cause that are equal to those
-  pub fails_at : (i j : ℕ) (w v : IoCause) → i ≡ j → w ≡ v → FailsToRun name r around (refusal.Files (file.Io j v)) → FailsToRun name r around (refusal.Files (file.Io i w))
-  fails_at i j w v is cause h = subst (λ x. FailsToRun name r around (refusal.Files (file.Io x w))) (sym is) (subst (λ y. FailsToRun name r around (refusal.Files (file.Io j y))) (sym cause) h)
+get_front : (xs ys : List (List ℕ)) (k : ℕ) → k < length xs → slice_get (xs ++ ys) k ≡ slice_get xs k
+get_front [] ys k lt = absurd (omega (arith, lt))
+get_front (x ∷ xs) ys zero lt = refl
+get_front (x ∷ xs) ys (suc k) lt = get_front xs ys k (omega (arith, lt))
 
-  -- all were, and there are no lines of them
-  pub fails_read : (files : FileTexts) (given : List ℕ) (cause : TrialFail) (e : Refusal) → e ≡ of_trial files cause → AreInputs r.options name answers around.files files given
-      → AllTried (name ∷ answers_names answers) around.before around.after → HasNoLines r.options files r.term r.values given cause → FailsToRun name r around e
-  fails_read files given cause e is inputs tried h = subst (FailsToRun name r around) (sym is) (no_lines files given cause
-      (subst (λ a. AreInputs r.options name a around.files files given) same inputs) (subst (λ a. AllTried (name ∷ answers_names a) around.before around.after) same tried) h)
+longer : (xs ys : List (List ℕ)) (k : ℕ) → k < length xs → k < length (xs ++ ys)
+longer [] ys k lt = absurd (omega (arith, lt))
+longer (x ∷ xs) ys zero lt = omega arith
+longer (x ∷ xs) ys (suc k) lt = let more = longer xs ys k (omega (arith, lt)) in omega (arith, more)
+
+take_whole : (xs ys : List (List ℕ)) → take (length xs) (xs ++ ys) ≡ xs
+take_whole [] ys = refl
+take_whole (x ∷ xs) ys = ap (λ zs. x ∷ zs) (take_whole xs ys)
+
+get_behind : (xs : List (List ℕ)) (y : List ℕ) → slice_get (xs ++ y ∷ []) (length xs) ≡ Some y
+get_behind [] y = refl
+get_behind (x ∷ xs) y = get_behind xs y
+
+short_of : (xs : List (List ℕ)) (y : List ℕ) → length xs < length (xs ++ y ∷ [])
+short_of [] y = omega arith
+short_of (x ∷ xs) y = let more = short_of xs y in omega (arith, more)
+
+-- ---- a file of the source
+
+front_at : (files : Option Contents) (xs ys : List (List ℕ)) (k : ℕ) (why : IoCause) → k < length xs → IfSome files (λ fs. FailsAt fs xs k why) → IfSome files (λ fs. FailsAt fs (xs ++ ys) k why)
+front_at None xs ys k why lt h = tt
+front_at (Some fs) xs ys k why lt h = record {
+  before = (h.before.0, subst (λ ns. AreRead fs ns h.before.0) (sym (take_front xs ys k (omega (arith, lt)))) h.before.1);
+  here = subst (λ o. IsSomeAnd o (λ name. IsCause why (bytes_of fs name))) (sym (get_front xs ys k lt)) h.here;
+}
+
+-- the files of a source weren't had
+pub fails_source : (from : Sourcing) (r : Running) (around : Around) (e : Refusal) → FailsToHave from around e → FailsToRun from r around e
+fails_source from r around _ (had.early e h) = early e h
+fails_source from r around _ (had.unread index why ready h) =
+    unread index why ready (longer from.inputs (answers_names r.answers) index h.0, h.1, h.2, front_at around.files from.inputs (answers_names r.answers) index why h.0 h.3)
+fails_source from r around _ (had.memory h) = memory h
+
+-- ---- the file of answers
+
+behind_at : (t : Tables) (r : Running) (files : Option Contents) (src : FileTexts) (name : List ℕ) (why : IoCause) → (sourcing_of t r.options r.source).is_source files src
+    → IfSome files (λ fs. IsCause why (bytes_of fs name))
+    → IfSome files (λ fs. FailsAt fs ((sourcing_of t r.options r.source).inputs ++ name ∷ []) (length (sourcing_of t r.options r.source).inputs) why)
+behind_at t r None src name why found h = tt
+behind_at t r (Some fs) src name why found h =
+    let inputs : List (List ℕ) = (sourcing_of t r.options r.source).inputs in
+    let texts = source_read t r.options r.source fs src found in
+    record {
+      before = (texts.0, subst (λ ns. AreRead fs ns texts.0) (sym (take_whole inputs (name ∷ []))) texts.1);
+      here = subst (λ o. IsSomeAnd o (λ n. IsCause why (bytes_of fs n))) (sym (get_behind inputs name)) h;
+    }
+
+module _ (t : Tables) (r : Running) (files : Option Contents) (before mid after : Counts) (src : FileTexts) (found : (sourcing_of t r.options r.source).is_source files src)
+    (tried : AllTried (sourcing_of t r.options r.source).inputs before mid) where
+  -- the file of answers wasn't read
+  pub fails_answers : (answers : Option (List ℕ)) (index : ℕ) (e : ReadError) → answers ≡ r.answers → index ≡ length (sourcing_of t r.options r.source).inputs
+      → IsSomeAnd answers (λ name. FailsTo e index files name mid after) → FailsToRun (sourcing_of t r.options r.source) r (surroundings files before after) (of_read e)
+  fails_answers None index e same is h = absurd h
+  fails_answers (Some name) index read.Memory same is h = memory (h ∙ tried.1)
+  fails_answers (Some name) index (read.Io at why) same is h =
+      let inputs : List (List ℕ) = (sourcing_of t r.options r.source).inputs in
+      let fails : Fails (read.Io (length inputs) why) files (inputs ++ name ∷ []) before after = (
+        short_of inputs name,
+        tries_more (length inputs) before.finds mid.finds after.finds tried.0 h.1,
+        subst (λ n. RoseAt why n after.faults) tried.1 h.2,
+        behind_at t r files src name why found h.3,
+      ) in
+      subst (λ (k : ℕ). FailsToRun (sourcing_of t r.options r.source) r (surroundings files before after) (of_read (read.Io k why))) (sym (h.0 ∙ is))
+      (unread (length inputs) why (source_ready t r.options r.source files src found) (subst (λ (a : Option (List ℕ)). Fails (read.Io (length inputs) why) files (inputs ++ answers_names a) before after) same fails))
+
+  -- all were read, and there is nothing to show of them
+  pub fails_read : (answers : Option (List ℕ)) (given : List ℕ) (cause : TrialFail) (e : Refusal) → answers ≡ r.answers → e ≡ of_trial src cause → IsAnswersText files answers given
+      → AllTried ((sourcing_of t r.options r.source).inputs ++ answers_names answers) before after → HasNoLines r.options src r.term r.values given cause
+      → FailsToRun (sourcing_of t r.options r.source) r (surroundings files before after) e
+  fails_read answers given cause e same is answered all h =
+      subst (FailsToRun (sourcing_of t r.options r.source) r (surroundings files before after)) (sym is)
+      (no_lines src given cause (record { read = found; answered = subst (λ a. IsAnswersText files a given) same answered })
+      (subst (λ (a : Option (List ℕ)). AllTried ((sourcing_of t r.options r.source).inputs ++ answers_names a) before after) same all) h)

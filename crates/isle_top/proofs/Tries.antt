@@ -1,5 +1,5 @@
 -- Each input was asked for once.
-use Rattle.std.proofs.Common.{◌≡◌, ◌⊎◌, inl, ℕ, ◌+◌, ◌-◌, ◌^◌, List, [], ◌∷◌, length, Option, Some, None, Result, Ok, Err, refl, sym, ap, ◌∙◌, subst, arith}
+use Rattle.std.proofs.Common.{◌≡◌, ◌⊎◌, inl, ℕ, suc, ◌+◌, ◌-◌, ◌^◌, List, [], ◌∷◌, ◌++◌, length, append-nil, Option, Some, None, Result, Ok, Err, refl, sym, ap, ◌∙◌, subst, arith}
 use Rattle.std.specs.Prelude.{IfOk, String}
 use Rattle.std.specs.String.{string_bytes}
 use Rattle.std.specs.declared.alloc.Global.{Global}
@@ -15,10 +15,16 @@ use Rattle.isle_top.specs.RunLine.{answers_names}
 pub none_tried : (c : Counts) → AllTried [] c c
 none_tried c = (inl (omega arith), refl)
 
--- the source of a run, and then the answers, if there are any
-pub inputs_tried : (name : List ℕ) (answers : Option (List ℕ)) (a b c : Counts) → IsTried 1 a b → b.faults ≡ a.faults → LooksUp answers b c → c.faults ≡ b.faults → AllTried (name ∷ answers_names answers) a c
-inputs_tried name None a b c tried same looks steady = (subst (λ n. (n ≡ a.finds + 1) ⊎ (n ≡ 2 ^ 64 - 1)) (sym looks) tried, steady ∙ same)
-inputs_tried name (Some file) a b c tried same looks steady = (tries_more 1 a.finds b.finds c.finds tried looks, steady ∙ same)
+one_behind : (names : List (List ℕ)) (name : List ℕ) → length (names ++ name ∷ []) ≡ length names + 1
+one_behind [] name = refl
+one_behind (n ∷ names) name = ap suc (one_behind names name)
+
+-- the files of a source, and then the answers, if there are any
+pub inputs_tried : (names : List (List ℕ)) (answers : Option (List ℕ)) (a b c : Counts) → AllTried names a b → LooksUp answers b c → c.faults ≡ b.faults → AllTried (names ++ answers_names answers) a c
+inputs_tried names None a b c tried looks steady =
+    subst (λ ns. AllTried ns a c) (sym (append-nil names)) (subst (λ n. (n ≡ a.finds + length names) ⊎ (n ≡ 2 ^ 64 - 1)) (sym looks) tried.0, steady ∙ tried.1)
+inputs_tried names (Some file) a b c tried looks steady =
+    (subst (λ n. IsTried n a c) (sym (one_behind names file)) (tries_more (length names) a.finds b.finds c.finds tried.0 looks), steady ∙ tried.1)
 
 -- the files that are compiled
 pub files_tried : {T E : Type 0} (r : Result T E) (inputs : List (String Global)) (names : List (List ℕ)) (a b : Counts) → bytes_each inputs ≡ names → IfOk r (λ t. IsTried (length inputs) a b) → IfOk r (λ t. b.faults ≡ a.faults)

@@ -1,9 +1,9 @@
 use Rattle.std.proofs.Common.{rules, ◌≡◌}
-use Rattle.isle_command_line.specs.Request.{Compile, Prelude, Sample, Run}
+use Rattle.isle_command_line.specs.Request.{Build, Compile, Prelude, Sample, Run}
 use Rattle.isle_command_line.specs.Views.{seen_command, seen_run}
 use Rattle.isle_top.specs.declared.refusal.Refusal.TheVariants as refusal
 use Rattle.isle_top.specs.Job.{Around}
-use Rattle.isle_top.proofs.Replies.{run_fails, compile_replies, compile_fails, sample_replies, sample_fails, prelude_replies, prelude_fails}
+use Rattle.isle_top.proofs.Replies.{build_fails, build_replies, run_fails, run_replies, compile_replies, compile_fails, sample_replies, sample_fails, prelude_replies, prelude_fails}
 use Rattle.isle_top.proofs.ValidLines.{only_want, replied_unless}
 use Rattle.isle_top.proofs.reply.reply.Goals as goal
 
@@ -20,12 +20,43 @@ returns-in-Err-clause-complete g c = λ valid calm.
     only_want c.args.line.now.tables.now (seen_command c.args.line.now.command.now) (refusal.Files c.in-Err.e) around.files around.before around.after valid
     (compile_fails c.args.line.now.tables.now (seen_command c.args.line.now.command.now) c.in-Compile.options c.as_slice.result.now around is c.in-Err.e c.in-Err.ensures.err) calm
 
+pub returns-in-Run-clause-ok : goal.returns-in-Run-clause-ok
+returns-in-Run-clause-ok g c =
+    let around : Around = record { files = g.D.Dir.files c.args.dir.now; before = g.D.Dir.counts c.args.dir.now; after = g.D.Dir.counts c.ran.new.dir } in
+    let is : seen_command c.args.line.now.command.now ≡ Run (seen_run c.in-Run.run') = search rules in
+    run_replies c.args.line.now.tables.now (seen_command c.args.line.now.command.now) (seen_run c.in-Run.run') around c.ran.result is c.ran.ensures.ok c.ran.ensures.tried
+
+pub returns-in-Run-clause-err : goal.returns-in-Run-clause-err
+returns-in-Run-clause-err g c =
+    let around : Around = record { files = g.D.Dir.files c.args.dir.now; before = g.D.Dir.counts c.args.dir.now; after = g.D.Dir.counts c.ran.new.dir } in
+    let is : seen_command c.args.line.now.command.now ≡ Run (seen_run c.in-Run.run') = search rules in
+    run_fails c.args.line.now.tables.now (seen_command c.args.line.now.command.now) (seen_run c.in-Run.run') around c.ran.result is c.ran.ensures.err
+
 pub returns-in-Run-clause-complete : goal.returns-in-Run-clause-complete
 returns-in-Run-clause-complete g c = λ valid calm.
-    let around : Around = record { files = g.D.Dir.files c.args.dir.now; before = g.D.Dir.counts c.args.dir.now; after = g.D.Dir.counts c.run_reply.new.dir } in
+    let around : Around = record { files = g.D.Dir.files c.args.dir.now; before = g.D.Dir.counts c.args.dir.now; after = g.D.Dir.counts c.ran.new.dir } in
     let is : seen_command c.args.line.now.command.now ≡ Run (seen_run c.in-Run.run') = search rules in
-    replied_unless c.args.line.now.tables.now (seen_command c.args.line.now.command.now) c.run_reply.result around.files around.before around.after
-    (run_fails c.args.line.now.tables.now (seen_command c.args.line.now.command.now) (seen_run c.in-Run.run') around c.run_reply.result is c.run_reply.ensures.err) valid calm
+    replied_unless c.args.line.now.tables.now (seen_command c.args.line.now.command.now) c.ran.result around.files around.before around.after
+    (run_fails c.args.line.now.tables.now (seen_command c.args.line.now.command.now) (seen_run c.in-Run.run') around c.ran.result is c.ran.ensures.err) valid calm
+
+pub returns-in-Build-clause-ok : goal.returns-in-Build-clause-ok
+returns-in-Build-clause-ok g c =
+    let around : Around = record { files = g.D.Dir.files c.args.dir.now; before = g.D.Dir.counts c.args.dir.now; after = g.D.Dir.counts c.built.new.dir } in
+    let is : seen_command c.args.line.now.command.now ≡ Build c.in-Build.options c.as_str.result.now = search rules in
+    build_replies c.args.line.now.tables.now (seen_command c.args.line.now.command.now) c.in-Build.options c.as_str.result.now around c.built.result is c.built.ensures.ok c.built.ensures.tried
+
+pub returns-in-Build-clause-err : goal.returns-in-Build-clause-err
+returns-in-Build-clause-err g c =
+    let around : Around = record { files = g.D.Dir.files c.args.dir.now; before = g.D.Dir.counts c.args.dir.now; after = g.D.Dir.counts c.built.new.dir } in
+    let is : seen_command c.args.line.now.command.now ≡ Build c.in-Build.options c.as_str.result.now = search rules in
+    build_fails c.args.line.now.tables.now (seen_command c.args.line.now.command.now) c.in-Build.options c.as_str.result.now around c.built.result is c.built.ensures.err
+
+pub returns-in-Build-clause-complete : goal.returns-in-Build-clause-complete
+returns-in-Build-clause-complete g c = λ valid calm.
+    let around : Around = record { files = g.D.Dir.files c.args.dir.now; before = g.D.Dir.counts c.args.dir.now; after = g.D.Dir.counts c.built.new.dir } in
+    let is : seen_command c.args.line.now.command.now ≡ Build c.in-Build.options c.as_str.result.now = search rules in
+    replied_unless c.args.line.now.tables.now (seen_command c.args.line.now.command.now) c.built.result around.files around.before around.after
+    (build_fails c.args.line.now.tables.now (seen_command c.args.line.now.command.now) c.in-Build.options c.as_str.result.now around c.built.result is c.built.ensures.err) valid calm
 
 pub returns-in-Sample-clause-ok : goal.returns-in-Sample-clause-ok
 returns-in-Sample-clause-ok g c =
