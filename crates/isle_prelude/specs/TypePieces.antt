@@ -1,13 +1,14 @@
 -- The texts of types and arrays, piece by piece, as the code appends them.
-use Rattle.std.specs.Prelude.{ℕ, zero, suc, List, [], ◌++◌, Bool, true, false, codes}
+use Rattle.std.specs.Prelude.{ℕ, zero, suc, List, [], ◌++◌, map, filter, not, Bool, true, false, codes}
 use Rattle.std.specs.List.{flat_map}
 use Rattle.isle_meta.specs.declared.clif.ImmField.{ImmField}
 use Rattle.isle_meta.specs.declared.clif.Instruction.{Instruction}
 use Rattle.isle_meta.specs.declared.clif.InstructionFormat.{InstructionFormat}
 use Rattle.isle_meta.specs.FormatRow.{all_fields}
 use Rattle.isle_meta.specs.Immediates.{type_of}
+use Rattle.isle_prelude.specs.Ascending.{ascending}
 use Rattle.isle_prelude.specs.Arrays.{block_array_sizes, value_array_sizes}
-use Rattle.isle_prelude.specs.Immediates.{enum_types, enum_values, plain_types}
+use Rattle.isle_prelude.specs.Immediates.{enum_types, enum_values, is_enum, plain_types}
 use Rattle.isle_printer.specs.Number.{numeral}
 use Rattle.isle_writing.specs.Text.{field_text}
 
@@ -34,6 +35,15 @@ unfoldable pub bare_line : List ℕ → List ℕ
 bare_line name = codes "\n  " ++ name
 
 -- ---- immediates
+
+-- whether an immediate is an enum, or else whether it is none
+abbrev pub is_kept : (enums : Bool) → ImmField → Bool
+is_kept true = is_enum
+is_kept false = λ (i : ImmField). not (is_enum i)
+
+-- the types of immediates that are enums, or else of those that are none
+abbrev pub types_kept : (enums : Bool) → List ImmField → List (List ℕ)
+types_kept enums is = ascending (map type_of (filter (is_kept enums) is))
 
 -- the enum of immediates of this type
 abbrev pub imm_enum_piece : List ImmField → List ℕ → List ℕ

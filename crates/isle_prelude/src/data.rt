@@ -1,5 +1,5 @@
-//! The data of an instruction, as a pattern and as an expression: the two are written alike but for the array of values,
-//! whose term has a tail in an expression, and for a list of values, which stands in patterns alone.
+//! The data of an instruction, as a pattern and as an expression: the two are written alike but for the array of
+//! values, whose term has a tail in an expression, and for a list of values, which stands in patterns alone.
 
 ghost use Rattle.std.specs.Prelude.{◌≡◌, ◌++◌, OnOk, string_bytes, false};
 ghost use Rattle.isle_prelude.specs.Kinds.{is_of};
@@ -170,8 +170,8 @@ fn data_begin() -> &'static str
     "(InstructionData."
 }
 
-/// Appends the data of an instruction: its values in a list if `has_list`, or else in an array whose term has this tail.
-/// The only error is want of memory.
+/// Appends the data of an instruction: its values in a list if `has_list`, or else in an array whose term has this
+/// tail. The only error is want of memory.
 #[tactic(auto, unfolding(crate::specs::TermPieces::data_piece))]
 pub fn push_data(
     text: &mut String,

@@ -4,9 +4,9 @@ ghost use Rattle.std.specs.Prelude.{◌≡◌, ◌++◌, IfOk, OnOk, string_byte
 ghost use Rattle.std.specs.List.{flat_map};
 ghost use Rattle.isle_meta.specs.declared.clif.ImmField.{ImmField as FieldRow};
 ghost use Rattle.isle_prelude.specs.FirstFields.{HasFirsts};
-ghost use Rattle.isle_prelude.specs.Immediates.{enum_types, is_enum, plain_types};
+ghost use Rattle.isle_prelude.specs.Immediates.{enum_types, plain_types};
 ghost use Rattle.isle_prelude.specs.Lent.{lent};
-ghost use Rattle.isle_prelude.specs.TypePieces.{imm_enum_piece, imm_piece, primitive_piece};
+ghost use Rattle.isle_prelude.specs.TypePieces.{imm_enum_piece, imm_piece, is_kept, primitive_piece, types_kept};
 
 use crate::ascending::put;
 use crate::first_fields::{first_fields, type_values};
@@ -16,33 +16,25 @@ use isle_meta::ImmField;
 use std::alloc::{AllocError, Global};
 use std::collections::{BTreeMap, BTreeSet};
 
-// Whether an immediate is an enum.
-fn is_enum(field: &ImmField) -> bool
-    ensures { result ≡ is_enum field.now }
+// Whether an immediate is an enum, or else whether it is none.
+fn is_kept(enums: bool, field: &ImmField) -> bool
+    ensures { result ≡ is_kept enums field.now }
 {
-    field.values.is_some()
+    let is_enum = field.values.is_some();
+    if enums { is_enum } else { !is_enum }
 }
 
-// The types of immediates that are no enums.
-fn plain_types<'t>(alloc: Global, fields: &[&'t ImmField]) -> Result<BTreeSet<&'t str>, AllocError>
-    ensures { IfOk result (λ types. lent types.keys ≡ plain_types (lent fields.now)) }
+// The types of immediates that are enums, or else of those that are none.
+fn types_kept<'t>(
+    alloc: Global,
+    enums: bool,
+    fields: &[&'t ImmField],
+) -> Result<BTreeSet<&'t str>, AllocError>
+    ensures { IfOk result (λ types. lent types.keys ≡ types_kept enums (lent fields.now)) }
 {
     let mut types = BTreeSet::new(alloc);
     for field in fields {
-        if !is_enum(field) {
-            put(&mut types, short_name(field.rust_type.as_str()))?;
-        }
-    }
-    Ok(types)
-}
-
-// The types of immediates that are enums.
-fn enum_types<'t>(alloc: Global, fields: &[&'t ImmField]) -> Result<BTreeSet<&'t str>, AllocError>
-    ensures { IfOk result (λ types. lent types.keys ≡ enum_types (lent fields.now)) }
-{
-    let mut types = BTreeSet::new(alloc);
-    for field in fields {
-        if is_enum(field) {
+        if is_kept(enums, field) {
             put(&mut types, short_name(field.rust_type.as_str()))?;
         }
     }
@@ -104,7 +96,7 @@ fn push_enum_types<'t>(
         ++ flat_map (imm_enum_piece (lent fields.now)) (enum_types (lent fields.now))) }
 {
     let types = first_fields(alloc, fields)?;
-    let names = enum_types(alloc, fields)?;
+    let names = types_kept(alloc, true, fields)?;
     push_imm_enums(alloc, text, &types, &names)
 }
 
@@ -118,7 +110,7 @@ fn push_plain_types(
         (string_bytes text.new
         ≡ string_bytes text.old ++ flat_map primitive_piece (plain_types (lent fields.now))) }
 {
-    let names = plain_types(alloc, fields)?;
+    let names = types_kept(alloc, false, fields)?;
     push_primitives(text, &names)
 }
 

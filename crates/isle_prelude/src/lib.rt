@@ -1,5 +1,5 @@
-//! Files of instruction sets as rules see them. No definition is made in memory: its text is appended piece by piece, and
-//! laws say that the pieces are the text of the definitions.
+//! Files of instruction sets as rules see them. No definition is made in memory: its text is appended piece by piece,
+//! and laws say that the pieces are the text of the definitions.
 #![tactic(auto)]
 
 mod arrays;

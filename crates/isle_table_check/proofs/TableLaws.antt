@@ -1,5 +1,6 @@
 -- Tables are supported, or they have a first row that isn't.
-use Rattle.std.proofs.Common.{ℕ, List, [], ◌++◌, Some, None}
+use Rattle.std.proofs.Common.{◌≡◌, ℕ, List, [], ◌++◌, true, false, Option, Some, None, inl, inr}
+use Rattle.std.specs.Prelude.{is_some}
 use Rattle.isle_assembler_rows.specs.AssemblerRows.{AssemblerBreaks, IsFirstInst}
 use Rattle.isle_meta.specs.declared.clif.Instruction.{Instruction}
 use Rattle.isle_meta.specs.declared.clif.InstructionFormat.{InstructionFormat}
@@ -8,7 +9,9 @@ use Rattle.isle_meta.specs.declared.machine.Inst.{Inst}
 use Rattle.isle_meta.specs.declared.pulley.PulleyInst.{PulleyInst}
 use Rattle.isle_meta.specs.declared.tables.Tables.{Tables}
 use Rattle.isle_meta.specs.ClifRows.{FormatBreaks, InstructionBreaks, IsFirstFormat, IsFirstInstruction}
+use Rattle.isle_meta.specs.FirstRow.{FirstOf}
 use Rattle.isle_meta.specs.InstructionRow.{own_names}
+use Rattle.isle_meta.specs.Told.{Found, found_row}
 use Rattle.isle_meta.proofs.FirstRows.{of_two_apart, row_apart}
 use Rattle.isle_pulley_rows.specs.PulleyRows.{PulleyBreaks, IsFirstOperation}
 use Rattle.isle_table_check.specs.SupportedTables.{AreSupported, IsFirstMachineRow, IsFirstUnsupported}
@@ -23,6 +26,20 @@ machine_apart t found =
 -- tables with a row that isn't supported aren't supported
 pub unsupported_apart : (t : Tables) (found : Unsupported) → IsFirstUnsupported t (Some found) → AreSupported t → ⊥
 unsupported_apart t found =
-    of_two_apart (IsFirstFormat t.formats) _ found (row_apart (λ (f : InstructionFormat). f.name) FormatBreaks [] t.formats found)
+    of_two_apart (IsFirstFormat t.formats) (FirstOf (IsFirstInstruction t.formats t.instructions) (IsFirstMachineRow t)) found (row_apart (λ (f : InstructionFormat). f.name) FormatBreaks [] t.formats found)
     (of_two_apart (IsFirstInstruction t.formats t.instructions) (IsFirstMachineRow t) found
     (row_apart (λ (i : Instruction). i.name) (InstructionBreaks t.formats) [] t.instructions found) (machine_apart t found))
+
+-- ---- two searches, one after the other
+
+-- the first one found a row
+pub found_first : (First Second : Option Unsupported → Type 0) (found : Found) → is_some found ≡ true → First (found_row found) → FirstOf First Second (found_row found)
+found_first First Second None e h = absurd cc
+found_first First Second (Some f) e h = inl h
+
+-- it found none, and what the second one found is the first
+pub found_second : (First Second : Option Unsupported → Type 0) (none found : Found) → is_some none ≡ false → First (found_row none) → Second (found_row found)
+    → FirstOf First Second (found_row found)
+found_second First Second None None e h k = (h, k)
+found_second First Second None (Some f) e h k = inr (h, k)
+found_second First Second (Some g) found e h k = absurd cc

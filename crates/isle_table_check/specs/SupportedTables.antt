@@ -1,5 +1,5 @@
 -- The first row of all tables that isn't supported.
-use Rattle.std.specs.Prelude.{ℕ, List, Option, None}
+use Rattle.std.specs.Prelude.{Option, None}
 use Rattle.isle_assembler_rows.specs.AssemblerRows.{IsFirstInst}
 use Rattle.isle_meta.specs.ClifRows.{IsFirstFormat, IsFirstInstruction}
 use Rattle.isle_meta.specs.FirstRow.{FirstOf}

@@ -1,6 +1,6 @@
 //! The check of all tables.
 
-ghost use Rattle.std.specs.Prelude.{◌≡◌, IfOk};
+ghost use Rattle.std.specs.Prelude.{◌≡◌, ◌++◌, IfOk, OnOk};
 ghost use Rattle.isle_meta.specs.Checked.{Checks};
 ghost use Rattle.isle_meta.specs.InstructionRow.{own_names};
 ghost use Rattle.isle_meta.specs.TableNames.{texts};
@@ -14,6 +14,20 @@ use isle_meta::{
 use isle_pulley_rows::unsupported_operation;
 use std::alloc::{AllocError, Global};
 
+// Puts the names of instructions behind names.
+fn push_names<'t>(
+    names: &mut Vec<&'t str>,
+    instructions: &'t [Instruction],
+) -> Result<(), AllocError>
+    ensures { OnOk result
+        (texts names.new.items ≡ texts names.old.items ++ own_names instructions.now) }
+{
+    for instruction in instructions {
+        names.push(instruction.name.as_str())?;
+    }
+    Ok(())
+}
+
 // The names of instructions.
 fn instruction_names<'t>(
     alloc: Global,
@@ -22,9 +36,7 @@ fn instruction_names<'t>(
     ensures { IfOk result (λ names. texts names.items ≡ own_names instructions.now) }
 {
     let mut names = Vec::new(alloc);
-    for instruction in instructions {
-        names.push(instruction.name.as_str())?;
-    }
+    push_names(&mut names, instructions)?;
     Ok(names)
 }
 

@@ -1,5 +1,5 @@
 -- The names of a folder in order, and the paths that a file or a folder adds.
-use Rattle.std.proofs.Common.{◌≡◌, ℕ, zero, suc, ◌+◌, ◌<◌, ◌≤◌, List, [], ◌∷◌, ◌++◌, Bool, true, false, length, map, get_or, Option, Some, None, Result, Ok, Err, String, Global, string_bytes, string_cmp, refl, sym, ap, ◌∙◌, subst, arith}
+use Rattle.std.proofs.Common.{◌≡◌, ℕ, ◌+◌, ◌<◌, List, [], ◌∷◌, ◌++◌, false, length, get_or, Option, Some, None, Result, Ok, Err, String, Global, string_bytes, string_cmp, refl, sym, subst, arith}
 use Rattle.std.specs.Prelude.{IfSome, IsPermutation, IsSome, IsSomeAnd, IsSorted, OnOk}
 use Rattle.std.specs.Cmp.Lexicographic.{slice_cmp}
 use Rattle.std.specs.Ordering.{nat_cmp, is_lt}
@@ -7,8 +7,9 @@ use Rattle.std.proofs.lemmas.List.{get_or-map, length-map}
 use Rattle.std.proofs.lemmas.List.Sorted.{IsPermutation-map, IsPermutation-trans}
 use Rattle.isle_core.specs.Inputs.{bytes_each}
 use Rattle.isle_outside.specs.Directory.{Contents, Current, Finds, bytes_of, directly_in}
+use Rattle.isle_outside.specs.declared.dir.Found.{Found}
 use Rattle.isle_outside.specs.declared.dir.Found.TheVariants.{File, Folder}
-use Rattle.isle_units.specs.Paths.{AddsFolder, AddsPaths, ArePathsOf, of_file, of_folder}
+use Rattle.isle_units.specs.Paths.{AddsFolder, AddsPaths, of_file, of_folder}
 use Rattle.isle_units.specs.declared.paths_error.PathsError.{PathsError}
 
 -- ---- names
@@ -37,16 +38,19 @@ some_there (Some x) P h = refl
 some_there None P h = absurd h
 
 -- a file is its own path
-pub file_added : (files : Option Contents) (input : List ℕ) (r : Result Unit PathsError) (old new : List (List ℕ)) (now : Current)
-    → Finds files input File now → OnOk r (new ≡ old ++ input ∷ []) → OnOk r (AddsPaths files input old new)
-file_added None input (Ok x) old new now f e = (input ∷ [], e, tt)
-file_added (Some fs) input (Ok x) old new now f e = (input ∷ [], e, of_file (some_there (bytes_of fs input) _ f))
-file_added files input (Err x) old new now f e = tt
+pub file_added : (files : Option Contents) (input : List ℕ) (r : Result Unit PathsError) (old new : List (List ℕ)) (found : Found) (now : Current)
+    → found ≡ File → Finds files input found now → OnOk r (new ≡ old ++ input ∷ []) → OnOk r (AddsPaths files input old new)
+file_added files input (Err x) old new found now is f e = tt
+file_added None input (Ok x) old new found now is f e = (input ∷ [], e, tt)
+file_added (Some fs) input (Ok x) old new found now is f e =
+    let file : Finds (Some fs) input File now = subst (λ k. Finds (Some fs) input k now) is f in (input ∷ [], e, of_file (some_there (bytes_of fs input) _ file))
 
 -- a folder has the paths of its files
-pub folder_added : (files seen : Option Contents) (input : List ℕ) (r : Result Unit PathsError) (old new : List (List ℕ)) (now : Current)
-    → Finds files input Folder now → seen ≡ files → OnOk r (AddsFolder seen input old new) → OnOk r (AddsPaths files input old new)
-folder_added None seen input (Ok x) old new now f e a = (a.0, a.1, tt)
-folder_added (Some fs) seen input (Ok x) old new now f e a =
-    let own = subst (λ o. AddsFolder o input old new) e a in (own.0, own.1, of_folder f.0 f.1 own.2)
-folder_added files seen input (Err x) old new now f e a = tt
+pub folder_added : (files seen : Option Contents) (input : List ℕ) (r : Result Unit PathsError) (old new : List (List ℕ)) (found : Found) (now : Current)
+    → found ≡ Folder → Finds files input found now → seen ≡ files → OnOk r (AddsFolder seen input old new) → OnOk r (AddsPaths files input old new)
+folder_added files seen input (Err x) old new found now is f e a = tt
+folder_added None seen input (Ok x) old new found now is f e a = (a.0, a.1, tt)
+folder_added (Some fs) seen input (Ok x) old new found now is f e a =
+    let folder : Finds (Some fs) input Folder now = subst (λ k. Finds (Some fs) input k now) is f in
+    let own = subst (λ o. AddsFolder o input old new) e a in
+    (own.0, own.1, of_folder folder.0 folder.1 own.2)

@@ -1,8 +1,6 @@
 -- The paths of inputs, one more, and the first input that has none.
-use Rattle.std.proofs.Common.{◌≡◌, ℕ, ◌+◌, ◌<◌, List, [], ◌∷◌, ◌++◌, length, map, take, get_or, Option, Some, None, String, Global, refl, sym, ap, ◌∙◌, subst, append_assoc}
-use Rattle.std.specs.Prelude.{IfSome, IsPermutation, IsSorted}
-use Rattle.std.specs.Cmp.Lexicographic.{slice_cmp}
-use Rattle.std.specs.Ordering.{nat_cmp}
+use Rattle.std.proofs.Common.{◌≡◌, ℕ, ◌+◌, ◌<◌, List, [], ◌∷◌, ◌++◌, length, take, get_or, Option, Some, None, Result, Ok, Err, String, Global, refl, sym, ap, ◌∙◌, subst, append_assoc}
+use Rattle.std.specs.Prelude.{IfErr, IfSome, IsErrAnd}
 use Rattle.std.specs.String.{string_bytes}
 use Rattle.std.proofs.lemmas.Option.{slice_get_read, slice_get-map}
 use Rattle.std.proofs.lemmas.List.{take-map, take_more, length-map, map-append, append-nil}
@@ -54,3 +52,8 @@ fails_at (error.Absent found) files names paths i x old before after lt is r f s
 )
 fails_at error.Dir files names paths i x old before after lt is r f same tried find = rw (← same) f
 fails_at error.Memory files names paths i x old before after lt is r f same tried find = f ∙ same
+
+-- a failure that is handed on
+pub err_passed : {T : Type 0} (r : Result T PathsError) (e : PathsError) (P : PathsError → Type 0) → IsErrAnd r (λ y. y ≡ e) → P e → IfErr r P
+err_passed (Ok x) e P same h = tt
+err_passed (Err y) e P same h = subst P (sym same) h

@@ -5,8 +5,8 @@ use Rattle.isle_tree.specs.Views.{program}
 use Rattle.isle_codegen.proofs.LawfulNames.{files_named}
 use Rattle.isle_codegen.proofs.text.codegen.Goals as goal
 
-pub program_text-requires-names : goal.program_text-requires-names
-program_text-requires-names c =
+pub program_text-requires-clause-names : goal.program_text-requires-clause-names
+program_text-requires-clause-names c =
     ap are_file_names c.as_slice.ensures ∙ files_named c.args.files.now.file_names (environment c.args.typeenv.now c.args.termenv.now) c.requires.given.lawful.names
 
 pub returns-clause-program : goal.returns-clause-program

@@ -1,4 +1,3 @@
-use Rattle.std.proofs.Common.{rules}
 use Rattle.isle_units.proofs.FolderLaws.{bytes_sorted, still_listed}
 use Rattle.isle_units.proofs.paths.sorted_names.Goals as goal
 
