@@ -2,12 +2,12 @@
 #![tactic(auto)]
 
 mod build_error;
+mod files;
 mod generated;
 mod printed;
 mod reading;
 mod unit;
-mod unit_files;
 
 pub use build_error::BuildError;
+pub use files::unit_files;
 pub use unit::build_unit;
-pub use unit_files::unit_files;

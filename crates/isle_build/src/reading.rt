@@ -18,10 +18,7 @@ use isle_units::IsleCompilation;
 use std::alloc::{AllocError, Global};
 
 /// Cuts the names of a unit's inputs: tracked ones, and generated ones.
-pub fn split_inputs<'n>(
-    names: &'n [String],
-    unit: &IsleCompilation,
-) -> (&'n [String], &'n [String])
+pub fn split_inputs<'n>(names: &'n [String], unit: &IsleCompilation) -> (&'n [String], &'n [String])
     requires { bytes_each names.now ≡ inputs_of unit.now }
     ensures tracked { bytes_each result.0.now ≡ unit.now.tracked_inputs }
     ensures generated { bytes_each result.1.now ≡ unit.now.untracked_inputs }

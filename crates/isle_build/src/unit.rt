@@ -7,7 +7,7 @@ ghost use Rattle.isle_build.specs.UnitSource.{tracked_of};
 ghost use Rattle.isle_codegen.specs.Causes.{AllTried};
 
 use crate::build_error::BuildError;
-use crate::unit_files::unit_files;
+use crate::files::unit_files;
 use isle_codegen::compile_texts;
 use isle_core::{CodegenOptions, Dir};
 use isle_meta::Tables;
