@@ -19,7 +19,7 @@ use Rattle.isle_top.specs.declared.refusal.Refusal.TheVariants as refusal
 use Rattle.isle_top.specs.Job.{Around, Job}
 use Rattle.isle_top.specs.Jobs.{job_of}
 use Rattle.isle_top.specs.Errors.{error_status, errors_status}
-use Rattle.isle_top.specs.Lines.{Wrote, bad_word_line, memory_line, unread_line}
+use Rattle.isle_top.specs.Lines.{Wrote, bad_line, memory_line, unread_line}
 use Rattle.isle_top.specs.Statuses.{IsNoLine, Tells, TellsRun, TellsRefusal, Says, Ends}
 use Rattle.isle_top.specs.Statuses as statuses
 use Rattle.isle_top.specs.Wants.{IsWant}
@@ -50,7 +50,6 @@ module _ {tables : Tables} {asks : Request → Type 0} {none : Type 0} {around :
 
   -- what is said of a line that is not answered
   pub says_end : (e : Refusal) → (job_of tables request).fails e around → Ends (job_of tables request) wrote status e → Says tables asks none around quiet wrote status
-  says_end refusal.NotYet cause told = statuses.refused request refusal.NotYet status (λ want. want) asked cause told
   says_end refusal.NoUnit cause told = statuses.refused request refusal.NoUnit status (λ want. want) asked cause told
   says_end (refusal.Tables found) cause told = statuses.refused request (refusal.Tables found) status (λ want. want) asked cause told
   says_end (refusal.Files (file.Io index why)) cause told = statuses.refused request (refusal.Files (file.Io index why)) status (λ want. want) asked cause told
@@ -85,9 +84,6 @@ twelve = ((λ e. cc), (λ e. cc))
 thirteen : IsRefused 13
 thirteen = ((λ e. cc), (λ e. cc))
 
-fourteen : IsRefused 14
-fourteen = ((λ e. cc), (λ e. cc))
-
 error_refused : (e : Error) → IsRefused (error_status e)
 error_refused (error.ParseError msg span) = ((λ e. cc), (λ e. cc))
 error_refused (error.TypeError row msg span) = ((λ e. cc), (λ e. cc))
@@ -113,7 +109,6 @@ named_refused wrote status why (Some name) h = told_refused status 5 five h.0
 
 -- a line that is not answered ends with another status than one that is
 pub end_refused : (job : Job) (wrote : List ℕ → Type 0) (status : ℕ) (e : Refusal) → Ends job wrote status e → IsRefused status
-end_refused job wrote status refusal.NotYet h = told_refused status 14 fourteen h.0
 end_refused job wrote status refusal.NoUnit h = told_refused status 3 three h.0
 end_refused job wrote status (refusal.Tables found) h = told_refused status 4 four h.0
 end_refused job wrote status (refusal.Files (file.Io index why)) h = named_refused wrote status why (slice_get job.inputs index) h
@@ -123,17 +118,8 @@ end_refused job wrote status (refusal.Files (file.Name e)) h = told_refused stat
 end_refused job wrote status (refusal.Files file.Memory) h = told_refused status 12 twelve h.0
 end_refused job wrote status (refusal.Run e) h = run_refused job wrote status e h
 
--- one fails as another, if the results are the same
-pub same_fail : {T : Type 0} (a b : Result T Refusal) (e f : Refusal) → a ≡ Err e → b ≡ Err f → a ≡ b → e ≡ f
-same_fail a b e f h k same = let both : Err e ≡ Err f = sym h ∙ same ∙ k in cc
-
--- one that is not built ends with its status
-pub end_not_built : (job : Job) (wrote : List ℕ → Type 0) (status : ℕ) (e : Refusal) → e ≡ refusal.NotYet → Ends job wrote status e → status ≡ 14
-end_not_built job wrote status e is h = (subst (Ends job wrote status) is h).0
-
--- and want of memory with its
+-- want of memory ends with its status
 pub end_want : (job : Job) (wrote : List ℕ → Type 0) (status : ℕ) (e : Refusal) → IsWant e → Ends job wrote status e → status ≡ 12
-end_want job wrote status refusal.NotYet want h = absurd want
 end_want job wrote status refusal.NoUnit want h = absurd want
 end_want job wrote status (refusal.Tables found) want h = absurd want
 end_want job wrote status (refusal.Files (file.Io index why)) want h = absurd want
@@ -143,8 +129,8 @@ end_want job wrote status (refusal.Files file.Memory) want h = h.0
 end_want job wrote status (refusal.Run e) want h = (subst (TellsRun job wrote status) want h).0
 
 -- a word with which no line goes on
-pub bad_word : (words : List (List ℕ)) (i : ℕ) (wrote : List ℕ → Type 0) → IsBad words i → ((word : List ℕ) → slice_get words i ≡ Some word → wrote (bad_word_line word)) → IsNoLine words wrote
-bad_word words i wrote h f = statuses.bad i h (at_number words i (λ word. wrote (bad_word_line word)) h.found f)
+pub bad_word : (words : List (List ℕ)) (i : ℕ) (wrote : List ℕ → Type 0) → IsBad words i → ((word : List ℕ) → slice_get words i ≡ Some word → wrote (bad_line words i word)) → IsNoLine words wrote
+bad_word words i wrote h f = statuses.bad i h (at_number words i (λ word. wrote (bad_line words i word)) h.found f)
 
 -- words that are a line have none
 pub no_bad_word : (words : List (List ℕ)) (i : ℕ) (request : Request) → IsBad words i → LineS words request → ⊥

@@ -9,7 +9,10 @@ use Rattle.isle_codegen.specs.Causes.{AllTried, IsCompiled, HasCause}
 use Rattle.isle_codegen.specs.declared.file_error.FileError.{FileError}
 use Rattle.isle_build.specs.Built.{IsBuilt}
 use Rattle.isle_build.specs.UnitSource.{tracked_of}
-use Rattle.isle_command_line.specs.Request.{Request, Running, Build, Compile, Prelude, Sample, Run}
+use Rattle.isle_command_line.specs.Request.{Request, Running, Build, Compile, Prelude, Isa, Sample, Run}
+use Rattle.isle_settings.specs.Groups.{settings_of}
+use Rattle.isle_settings.specs.TargetLines.{IsGroupText}
+use Rattle.isle_settings.specs.declared.isa.Isa as targets
 use Rattle.isle_command_line.specs.declared.commands.Kind.{Kind}
 use Rattle.isle_meta.specs.declared.tables.Tables.{Tables}
 use Rattle.isle_top.specs.declared.refusal.Refusal.{Refusal}
@@ -21,13 +24,14 @@ use Rattle.isle_top.specs.RunLine.{FailsToRun, GivesLines, run_inputs}
 use Rattle.isle_top.specs.Sourcing.{sourcing_of}
 use Rattle.isle_top.specs.SampleLine.{sample_source, AreCounts, FailsToCount}
 use Rattle.isle_top.specs.PreludeLine.{IsPrelude, FailsToWrite}
+use Rattle.isle_top.specs.Wants.{IsWant}
 use Rattle.isle_top.proofs.Tries.{none_tried}
 
 -- what is shown of a run
 pub run_replies : {E : Type 0} (tables : Tables) (request : Request) (r : Running) (around : Around) (result : Result (String Global) E) → request ≡ Run r
     → IfOk result (λ text. GivesLines (sourcing_of tables r.options r.source) r around.files (string_bytes text))
     → IfOk result (λ text. AllTried (run_inputs (sourcing_of tables r.options r.source) r) around.before around.after) → IfOk result (λ text. IsReply (job_of tables request) around (string_bytes text))
-run_replies tables request r around (Ok text) is gives tried = subst (λ q. IsReply (job_of tables q) around (string_bytes text)) (sym is) (record { built = refl; gives = gives; tried = tried })
+run_replies tables request r around (Ok text) is gives tried = subst (λ q. IsReply (job_of tables q) around (string_bytes text)) (sym is) (record { gives = gives; tried = tried })
 run_replies tables request r around (Err e) is gives tried = tt
 
 -- why nothing is
@@ -39,7 +43,7 @@ run_fails tables request r around result is h = subst (λ q. IfErr result (λ e.
 pub build_replies : {E : Type 0} (tables : Tables) (request : Request) (options : CodegenOptions) (unit : List ℕ) (around : Around) (result : Result (String Global) E) → request ≡ Build options unit
     → IfOk result (λ text. IsBuilt tables options unit around.files (string_bytes text)) → IfOk result (λ text. AllTried (tracked_of unit) around.before around.after)
     → IfOk result (λ text. IsReply (job_of tables request) around (string_bytes text))
-build_replies tables request options unit around (Ok text) is gives tried = subst (λ q. IsReply (job_of tables q) around (string_bytes text)) (sym is) (record { built = refl; gives = gives; tried = tried })
+build_replies tables request options unit around (Ok text) is gives tried = subst (λ q. IsReply (job_of tables q) around (string_bytes text)) (sym is) (record { gives = gives; tried = tried })
 build_replies tables request options unit around (Err e) is gives tried = tt
 
 -- why there is none
@@ -50,7 +54,7 @@ build_fails tables request options unit around result is h = subst (λ q. IfErr 
 module _ (tables : Tables) (request : Request) (options : CodegenOptions) (names : List (List ℕ)) (around : Around) (is : request ≡ Compile options names) where
   -- the text of a program of files
   pub compile_replies : (text : List ℕ) → IsCompiled options names around.files text → AllTried names around.before around.after → IsReply (job_of tables request) around text
-  compile_replies text gives tried = subst (λ q. IsReply (job_of tables q) around text) (sym is) (record { built = refl; gives = gives; tried = tried })
+  compile_replies text gives tried = subst (λ q. IsReply (job_of tables q) around text) (sym is) (record { gives = gives; tried = tried })
 
   -- why there is none
   pub compile_fails : (e : FileError) → HasCause e options around.files names around.before around.after → (job_of tables request).fails (refusal.Files e) around
@@ -60,7 +64,7 @@ module _ (tables : Tables) (request : Request) (options : CodegenOptions) (names
 pub sample_replies : {E : Type 0} (tables : Tables) (request : Request) (size : ℕ) (files : Option Contents) (counts : Counts) (result : Result (String Global) E) → request ≡ Sample size
     → IfOk result (λ lines. AreCounts (sample_source size) (string_bytes lines)) → IfOk result (λ lines. IsReply (job_of tables request) (surroundings files counts counts) (string_bytes lines))
 sample_replies tables request size files counts (Ok lines) is gives =
-    subst (λ q. IsReply (job_of tables q) (surroundings files counts counts) (string_bytes lines)) (sym is) (record { built = refl; gives = gives; tried = none_tried counts })
+    subst (λ q. IsReply (job_of tables q) (surroundings files counts counts) (string_bytes lines)) (sym is) (record { gives = gives; tried = none_tried counts })
 sample_replies tables request size files counts (Err e) is gives = tt
 
 -- why there are none
@@ -71,9 +75,20 @@ sample_fails tables request size around result is h = subst (λ q. IfErr result 
 pub prelude_replies : {E : Type 0} (tables : Tables) (request : Request) (kind : Kind) (files : Option Contents) (counts : Counts) (result : Result (String Global) E) → request ≡ Prelude kind
     → IfOk result (λ text. IsPrelude tables kind (string_bytes text)) → IfOk result (λ text. IsReply (job_of tables request) (surroundings files counts counts) (string_bytes text))
 prelude_replies tables request kind files counts (Ok text) is gives =
-    subst (λ q. IsReply (job_of tables q) (surroundings files counts counts) (string_bytes text)) (sym is) (record { built = refl; gives = gives; tried = none_tried counts })
+    subst (λ q. IsReply (job_of tables q) (surroundings files counts counts) (string_bytes text)) (sym is) (record { gives = gives; tried = none_tried counts })
 prelude_replies tables request kind files counts (Err e) is gives = tt
 
 -- why there is none
 pub prelude_fails : {T : Type 0} (tables : Tables) (request : Request) (kind : Kind) (around : Around) (result : Result T Refusal) → request ≡ Prelude kind → IfErr result (FailsToWrite tables kind) → IfErr result (λ e. (job_of tables request).fails e around)
 prelude_fails tables request kind around result is h = subst (λ q. IfErr result (λ e. (job_of tables q).fails e around)) (sym is) h
+
+-- what a target has
+pub isa_replies : {E : Type 0} (tables : Tables) (request : Request) (target : targets.Isa) (files : Option Contents) (counts : Counts) (result : Result (String Global) E) → request ≡ Isa target
+    → IfOk result (λ text. IsGroupText (settings_of target) (string_bytes text)) → IfOk result (λ text. IsReply (job_of tables request) (surroundings files counts counts) (string_bytes text))
+isa_replies tables request target files counts (Ok text) is gives =
+    subst (λ q. IsReply (job_of tables q) (surroundings files counts counts) (string_bytes text)) (sym is) (record { gives = gives; tried = none_tried counts })
+isa_replies tables request target files counts (Err e) is gives = tt
+
+-- why it isn't told
+pub isa_fails : {T : Type 0} (tables : Tables) (request : Request) (target : targets.Isa) (around : Around) (result : Result T Refusal) → request ≡ Isa target → IfErr result IsWant → IfErr result (λ e. (job_of tables request).fails e around)
+isa_fails tables request target around result is h = subst (λ q. IfErr result (λ e. (job_of tables q).fails e around)) (sym is) h

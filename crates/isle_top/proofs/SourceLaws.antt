@@ -69,7 +69,6 @@ source_read t options (source.Unit name) fs a h =
 -- what can be had doesn't fail before a file is read
 pub never_early : (t : Tables) (options : CodegenOptions) (s : Source) (e : Refusal) (around : Around) → (sourcing_of t options s).ready → (sourcing_of t options s).early e around → ⊥
 never_early t options (source.File name) e around r h = h
-never_early t options (source.Unit name) refusal.NotYet around r h = h
 never_early t options (source.Unit name) refusal.NoUnit around r h = none_listed (unit_named name) r.0 h.0
 never_early t options (source.Unit name) (refusal.Tables found) around r h = unsupported_apart t found h.1 r.1
 never_early t options (source.Unit name) (refusal.Files e) around r h = h
@@ -78,7 +77,6 @@ never_early t options (source.Unit name) (refusal.Run e) around r h = h
 -- what is told of such a failure is there
 pub early_told : (t : Tables) (options : CodegenOptions) (s : Source) (job : Job) (e : Refusal) (around : Around) → (sourcing_of t options s).early e around → IsOfJob job e
 early_told t options (source.File name) job e around h = absurd h
-early_told t options (source.Unit name) job refusal.NotYet around h = absurd h
 early_told t options (source.Unit name) job refusal.NoUnit around h = tt
 early_told t options (source.Unit name) job (refusal.Tables found) around h = tt
 early_told t options (source.Unit name) job (refusal.Files e) around h = absurd h

@@ -105,7 +105,6 @@ module _ (t : Tables) (options : CodegenOptions) (unit : List ℕ) (fs : Content
       named_there fs u.tracked_inputs v.found.is_source.texts.read i name (subst (λ (w : IsleCompilation). AreRead fs w.tracked_inputs v.found.is_source.texts.read) same v.found.is_source.texts.found) e
 
   only_want_unit : (e : Refusal) (before after : Counts) → FailsToGive t options unit e (record { files = Some fs; before = before; after = after }) → (Rose before.faults after.faults → ⊥) → IsWant e
-  only_want_unit refusal.NotYet before after h calm = absurd h
   only_want_unit refusal.NoUnit before after h calm = absurd (none_listed (unit_named unit) (ap is_some v.found.listed) h.0)
   only_want_unit (refusal.Tables found) before after h calm = absurd (unsupported_apart t found h.1 v.found.is_source.supported)
   only_want_unit (refusal.Files (file.Io index why)) before after h calm = all_read h.0.tracked_inputs fs index why before after (unit_there h.0 h.1) h.2.1 calm
@@ -118,7 +117,6 @@ module _ (t : Tables) (options : CodegenOptions) (unit : List ℕ) (fs : Content
 -- ---- a line that counts a sample
 
 only_want_count : (n : ℕ) (e : Refusal) → FailsToCount n e → IsWant e
-only_want_count n refusal.NotYet h = absurd h
 only_want_count n refusal.NoUnit h = absurd h
 only_want_count n (refusal.Tables found) h = absurd h
 only_want_count n (refusal.Files (file.Io index why)) h = absurd h
@@ -130,7 +128,6 @@ only_want_count n (refusal.Run e) h = absurd h
 -- ---- a line that writes a prelude
 
 only_want_rows : (t : Tables) (e : Refusal) → AreSupported t → FailsByRows t e → IsWant e
-only_want_rows t refusal.NotYet v h = absurd h
 only_want_rows t refusal.NoUnit v h = absurd h
 only_want_rows t (refusal.Tables found) v h = absurd (unsupported_apart t found h v)
 only_want_rows t (refusal.Files e) v h = h
@@ -153,7 +150,6 @@ pub only_want : (tables : Tables) (request : Request) (e : Refusal) (files : Opt
     → (Rose before.faults after.faults → ⊥) → IsWant e
 only_want tables Help e files before after v h calm = h
 only_want tables Version e files before after v h calm = h
-only_want tables (Compile options names) refusal.NotYet files before after v h calm = absurd h
 only_want tables (Compile options names) refusal.NoUnit files before after v h calm = absurd h
 only_want tables (Compile options names) (refusal.Tables found) files before after v h calm = absurd h
 only_want tables (Compile options names) (refusal.Files e) None before after v h calm = absurd v
@@ -163,7 +159,7 @@ only_want tables (Build options unit) e None before after v h calm = absurd v
 only_want tables (Build options unit) e (Some fs) before after v h calm = only_want_unit tables options unit fs v e before after h calm
 only_want tables (Prelude k) e files before after v h calm = only_want_prelude tables k e v h
 only_want tables Units e files before after v h calm = h
-only_want tables (Isa target) e files before after v h calm = absurd v
+only_want tables (Isa target) e files before after v h calm = h
 only_want tables (Sample n) e files before after v h calm = only_want_count n e h
 only_want tables (Run r) e None before after v h calm = absurd v
 only_want tables (Run r) e (Some fs) before after v h calm = only_want_run tables r fs before after e v h calm
@@ -193,7 +189,6 @@ told_run t r around _ (no_lines files given failed inputs tried h) = told_trial 
 told_run t r around _ (memory h) = tt
 
 told_unit : (t : Tables) (options : CodegenOptions) (unit : List ℕ) (around : Around) (e : Refusal) → FailsToGive t options unit e around → IsOfJob (build_job t options unit) e
-told_unit t options unit around refusal.NotYet h = absurd h
 told_unit t options unit around refusal.NoUnit h = tt
 told_unit t options unit around (refusal.Tables found) h = tt
 told_unit t options unit around (refusal.Files (file.Io index why)) h = of_tracked unit h.0 (λ (names : List (List ℕ)). index < length names) h.1 h.2.1.0
@@ -209,7 +204,6 @@ told_files options names around (file.Name e) h = tt
 told_files options names around file.Memory h = tt
 
 told_count : (n : ℕ) (e : Refusal) → FailsToCount n e → IsOfJob (sample_job n) e
-told_count n refusal.NotYet h = absurd h
 told_count n refusal.NoUnit h = absurd h
 told_count n (refusal.Tables found) h = absurd h
 told_count n (refusal.Files (file.Io index why)) h = absurd h
@@ -219,7 +213,6 @@ told_count n (refusal.Files file.Memory) h = tt
 told_count n (refusal.Run e) h = absurd h
 
 told_want : (job : Job) (e : Refusal) → IsWant e → IsOfJob job e
-told_want job refusal.NotYet h = absurd h
 told_want job refusal.NoUnit h = absurd h
 told_want job (refusal.Tables found) h = absurd h
 told_want job (refusal.Files (file.Io index why)) h = absurd h
@@ -228,11 +221,7 @@ told_want job (refusal.Files (file.Name e)) h = absurd h
 told_want job (refusal.Files file.Memory) h = tt
 told_want job (refusal.Run e) h = tt
 
-told_not_built : (job : Job) (e : Refusal) → e ≡ refusal.NotYet → IsOfJob job e
-told_not_built job e same = subst (IsOfJob job) (sym same) tt
-
 told_rows : (job : Job) (t : Tables) (e : Refusal) → FailsByRows t e → IsOfJob job e
-told_rows job t refusal.NotYet h = absurd h
 told_rows job t refusal.NoUnit h = absurd h
 told_rows job t (refusal.Tables found) h = tt
 told_rows job t (refusal.Files e) h = told_want job (refusal.Files e) h
@@ -252,7 +241,6 @@ told_prelude job t kind.PulleyRust e h = told_rows job t e h
 pub of_job : (tables : Tables) (request : Request) (e : Refusal) (around : Around) → (job_of tables request).fails e around → IsOfJob (job_of tables request) e
 of_job tables Help e around h = told_want (job_of tables Help) e h
 of_job tables Version e around h = told_want (job_of tables Version) e h
-of_job tables (Compile options names) refusal.NotYet around h = absurd h
 of_job tables (Compile options names) refusal.NoUnit around h = absurd h
 of_job tables (Compile options names) (refusal.Tables found) around h = absurd h
 of_job tables (Compile options names) (refusal.Files e) around h = told_files options names around e h
@@ -260,6 +248,6 @@ of_job tables (Compile options names) (refusal.Run e) around h = absurd h
 of_job tables (Build options unit) e around h = told_unit tables options unit around e h
 of_job tables (Prelude k) e around h = told_prelude (job_of tables (Prelude k)) tables k e h
 of_job tables Units e around h = told_want (job_of tables Units) e h
-of_job tables (Isa target) e around h = told_not_built (job_of tables (Isa target)) e h
+of_job tables (Isa target) e around h = told_want (job_of tables (Isa target)) e h
 of_job tables (Sample n) e around h = told_count n e h
 of_job tables (Run r) e around h = told_run tables r around e h

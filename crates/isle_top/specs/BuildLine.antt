@@ -21,7 +21,6 @@ pub record IsValidUnit (t : Tables) (options : CodegenOptions) (unit : List ℕ)
 
 -- why the unit gives no text
 abbrev pub FailsToGive : Tables → CodegenOptions → (unit : List ℕ) → Refusal → Around → Type 0
-FailsToGive t options unit refusal.NotYet around = ⊥
 FailsToGive t options unit refusal.NoUnit around = FailsToBuild error.NoUnit t options unit around.files around.before around.after
 FailsToGive t options unit (refusal.Tables found) around = FailsToBuild (error.Unsupported found) t options unit around.files around.before around.after
 FailsToGive t options unit (refusal.Files (file.Io index why)) around = FailsToBuild (error.Io index why) t options unit around.files around.before around.after
@@ -33,7 +32,6 @@ FailsToGive t options unit (refusal.Run e) around = ⊥
 -- the unit of this name is built over these tables
 abbrev pub build_job : Tables → CodegenOptions → (unit : List ℕ) → Job
 build_job t options unit = record {
-  built = true;
   reads = true;
   inputs = tracked_of unit;
   asked = [];

@@ -17,7 +17,6 @@ pub record AreValid (options : CodegenOptions) (names : List (List ℕ)) (files 
 
 -- why the files of the names give no text
 abbrev pub FailsToCompile : CodegenOptions → List (List ℕ) → Refusal → Around → Type 0
-FailsToCompile options names refusal.NotYet around = ⊥
 FailsToCompile options names refusal.NoUnit around = ⊥
 FailsToCompile options names (refusal.Tables found) around = ⊥
 FailsToCompile options names (refusal.Files e) around = HasCause e options around.files names around.before around.after
@@ -26,7 +25,6 @@ FailsToCompile options names (refusal.Run e) around = ⊥
 -- the files of the names are compiled
 abbrev pub compile_job : CodegenOptions → List (List ℕ) → Job
 compile_job options names = record {
-  built = true;
   reads = true;
   inputs = names;
   asked = [];

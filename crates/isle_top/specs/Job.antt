@@ -1,5 +1,5 @@
 -- What a line is, whatever it asks for.
-use Rattle.std.specs.Prelude.{◌≡◌, ℕ, List, Bool, true, false, Option}
+use Rattle.std.specs.Prelude.{ℕ, List, Bool, Option}
 use Rattle.isle_outside.specs.Directory.{Contents, Counts}
 use Rattle.isle_outside.specs.Sinks.{Took, TookPart}
 use Rattle.isle_codegen.specs.Causes.{AllTried}
@@ -15,10 +15,9 @@ pub record Around : Type 0 where
 abbrev pub surroundings : Option Contents → (before after : Counts) → Around
 surroundings files before after = record { files = files; before = before; after = after }
 
--- what a line is: whether it is built, and whether it reads files; the names of its inputs in the order in which they are read, the name that it
+-- what a line is: whether it reads files; the names of its inputs in the order in which they are read, the name that it
 -- asks for beside them, and that of its unit, if it has one; when the files are valid for it; which texts answer it; and why it isn't answered
 pub record Job : Type 1 where
-  pub built : Bool
   pub reads : Bool
   pub inputs : List (List ℕ)
   pub asked : List ℕ
@@ -27,9 +26,8 @@ pub record Job : Type 1 where
   pub gives : Option Contents → List ℕ → Type 0
   pub fails : Refusal → Around → Type 0
 
--- a text answers a line: the line is built, and each of its inputs was asked for once, with no fault
+-- a text answers a line, and each of its inputs was asked for once, with no fault
 pub record IsReply (job : Job) (around : Around) (text : List ℕ) : Type 0 where
-  pub built : job.built ≡ true
   pub gives : job.gives around.files text
   pub tried : AllTried job.inputs around.before around.after
 

@@ -10,9 +10,10 @@ use Rattle.isle_units.specs.Units.{isle_units}
 use Rattle.isle_top.specs.declared.asked.Asked.{Asked}
 use Rattle.isle_top.specs.About.{help_text, version_text}
 use Rattle.isle_top.specs.Job.{Job}
-use Rattle.isle_top.specs.Texts.{text_job, not_built}
+use Rattle.isle_top.specs.Texts.{text_job}
 use Rattle.isle_top.specs.BuildLine.{build_job}
 use Rattle.isle_top.specs.CompileLine.{compile_job}
+use Rattle.isle_top.specs.IsaLine.{isa_job}
 use Rattle.isle_top.specs.RunLine.{run_job}
 use Rattle.isle_top.specs.Sourcing.{sourcing_of}
 use Rattle.isle_top.specs.SampleLine.{sample_job}
@@ -34,7 +35,7 @@ job_of tables (Compile options names) = compile_job options names
 job_of tables (Build options unit) = build_job tables options unit
 job_of tables (Prelude kind) = prelude_job tables kind
 job_of tables Units = text_job (units_text (isle_units [] (codes "gen")))
-job_of tables (Isa target) = not_built
+job_of tables (Isa target) = isa_job target
 job_of tables (Sample size) = sample_job size
 job_of tables (Run r) = running_job tables r
 

@@ -6,6 +6,7 @@ pub mod Texts
 pub mod CompileLine
 pub mod Built
 pub mod BuildLine
+pub mod IsaLine
 pub mod RunLine
 pub mod SampleLine
 pub mod PreludeLine

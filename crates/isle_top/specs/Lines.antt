@@ -1,5 +1,7 @@
 -- The lines that refusals write.
-use Rattle.std.specs.Prelude.{ℕ, List, [], ◌∷◌, ◌++◌, map, codes, ◌⊎◌, Option}
+use Rattle.std.specs.Prelude.{ℕ, List, [], ◌∷◌, ◌++◌, map, codes, ◌⊎◌, Bool, false, ◌&&◌, nat_eq, if◌then◌else◌, slice_get, Option}
+use Rattle.std.specs.Option.{option_map_or}
+use Rattle.std.specs.Str.{bytes_eq}
 use Rattle.isle_printer.specs.Number.{numeral}
 use Rattle.isle_core.specs.ErrorLines.{masked}
 use Rattle.isle_outside.specs.Directory.{Rose}
@@ -30,10 +32,6 @@ unread_head = codes "isle: cannot read file "
 abbrev pub unread_line : List ℕ → IoCause → List ℕ
 unread_line name why = unread_head ++ (map masked name ++ cause_end why)
 
--- what is asked for is not built
-abbrev pub not_yet_line : List ℕ
-not_yet_line = line (codes "isle: not yet")
-
 -- what stands before the name of a unit that isn't listed
 unfoldable pub no_unit_head : List ℕ
 no_unit_head = codes "isle: no unit "
@@ -53,6 +51,25 @@ bad_word_head = codes "isle: bad word "
 -- no line goes on with the word
 abbrev pub bad_word_line : List ℕ → List ℕ
 bad_word_line word = bad_word_head ++ (map masked word ++ codes "\n")
+
+-- what stands before a word that is no target, and after it
+unfoldable pub unknown_isa_head : List ℕ
+unknown_isa_head = codes "no supported isa found for arch `"
+
+unfoldable pub unknown_isa_end : List ℕ
+unknown_isa_end = codes "`\n"
+
+-- no target has the name, or stands for the architecture
+abbrev pub unknown_isa_line : List ℕ → List ℕ
+unknown_isa_line word = unknown_isa_head ++ (map masked word ++ unknown_isa_end)
+
+-- whether the word of this number stands where a target is wanted: after `isa`
+abbrev pub is_target_place : (words : List (List ℕ)) → ℕ → Bool
+is_target_place words i = nat_eq i 1 && option_map_or (bytes_eq (codes "isa")) (slice_get words 0) false
+
+-- what is told of the word of this number, with which no line goes on
+abbrev pub bad_line : (words : List (List ℕ)) → ℕ → (word : List ℕ) → List ℕ
+bad_line words i word = if is_target_place words i then unknown_isa_line word else bad_word_line word
 
 -- a line would go on
 abbrev pub missing_word_line : List ℕ

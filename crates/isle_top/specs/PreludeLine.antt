@@ -51,7 +51,6 @@ IsPrelude t kind.PulleyRust text = IsRustOf t (pulley_rust t.ops t.extended_ops)
 
 -- why a text that is made of rows isn't: one isn't supported, and it is the first, with its first shape; or memory ran out
 abbrev pub FailsByRows : Tables → Refusal → Type 0
-FailsByRows t refusal.NotYet = ⊥
 FailsByRows t refusal.NoUnit = ⊥
 FailsByRows t (refusal.Tables found) = IsFirstUnsupported t (Some found)
 FailsByRows t (refusal.Files e) = IsWant (refusal.Files e)
@@ -71,7 +70,6 @@ FailsToWrite t kind.PulleyRust e = FailsByRows t e
 -- the prelude of this kind is written over these tables, and the directory isn't asked for anything
 abbrev pub prelude_job : Tables → Kind → Job
 prelude_job t k = record {
-  built = true;
   reads = false;
   inputs = [];
   asked = [];

@@ -84,7 +84,6 @@ pub data FailsToRun (from : Sourcing) (r : Running) (around : Around) : Refusal 
 -- a term of a source is run
 abbrev pub run_job : (from : Sourcing) → Running → Job
 run_job from r = record {
-  built = true;
   reads = true;
   inputs = run_inputs from r;
   asked = r.term;

@@ -37,7 +37,6 @@ pub record AreCounts (source : FileTexts) (lines : List ℕ) : Type 0 where
 
 -- why there are none: the sample gives no program
 abbrev pub FailsToCount : ℕ → Refusal → Type 0
-FailsToCount n refusal.NotYet = ⊥
 FailsToCount n refusal.NoUnit = ⊥
 FailsToCount n (refusal.Tables found) = ⊥
 FailsToCount n (refusal.Files e) = IsRefusal e (codes "sample" ∷ []) (sample n ∷ [])
@@ -46,7 +45,6 @@ FailsToCount n (refusal.Run e) = ⊥
 -- the sample of so many terms is compiled, and its counts are reported; this is always valid, since each sample is accepted
 abbrev pub sample_job : ℕ → Job
 sample_job n = record {
-  built = true;
   reads = false;
   inputs = [];
   asked = [];

@@ -35,7 +35,6 @@ from_names options names = record {
 -- why the files of a unit aren't had before one is read: no unit has the name; or a row of the tables isn't supported, the first one, with its
 -- first shape
 abbrev pub FailsEarly : Tables → (unit : List ℕ) → Refusal → Around → Type 0
-FailsEarly t unit refusal.NotYet around = ⊥
 FailsEarly t unit refusal.NoUnit around = (unit_named unit ≡ None) × (around.after ≡ around.before)
 FailsEarly t unit (refusal.Tables found) around = IsSome (unit_named unit) × IsFirstUnsupported t (Some found) × (around.after ≡ around.before)
 FailsEarly t unit (refusal.Files e) around = ⊥

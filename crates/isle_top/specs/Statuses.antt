@@ -15,11 +15,10 @@ use Rattle.isle_top.specs.Errors.{errors_status}
 use Rattle.isle_top.specs.Job.{Around, Job}
 use Rattle.isle_top.specs.Jobs.{job_of}
 use Rattle.isle_top.specs.Wants.{IsWant}
-use Rattle.isle_top.specs.Lines.{bad_word_line, missing_word_line, not_yet_line, no_unit_line, unread_line, unsupported_line, bad_name_line, no_term_line, count_line, argument_line, answers_line, write_fault_line, memory_line}
+use Rattle.isle_top.specs.Lines.{bad_line, missing_word_line, no_unit_line, unread_line, unsupported_line, bad_name_line, no_term_line, count_line, argument_line, answers_line, write_fault_line, memory_line}
 
 -- an input that is not read is one of the line, and errors are some and stand in the files that are reported with them
 abbrev pub IsOfJob : Job → Refusal → Type 0
-IsOfJob job refusal.NotYet = Unit {0}
 IsOfJob job refusal.NoUnit = Unit {0}
 IsOfJob job (refusal.Tables found) = Unit {0}
 IsOfJob job (refusal.Files (file.Io index why)) = index < length job.inputs
@@ -46,7 +45,6 @@ TellsRun job wrote status run.Memory = Tells wrote status 12 memory_line
 
 -- what is known of a line that is not answered: its status, and what `err` took
 abbrev pub TellsRefusal : Job → (wrote : List ℕ → Type 0) → (status : ℕ) → Refusal → Type 0
-TellsRefusal job wrote status refusal.NotYet = Tells wrote status 14 not_yet_line
 TellsRefusal job wrote status refusal.NoUnit = Tells wrote status 3 (no_unit_line job.unit)
 TellsRefusal job wrote status (refusal.Tables found) = Tells wrote status 4 (unsupported_line found.row found.shape)
 TellsRefusal job wrote status (refusal.Files (file.Io index why)) = IsSomeAnd (slice_get job.inputs index) (λ name. Tells wrote status 5 (unread_line name why))
@@ -57,7 +55,6 @@ TellsRefusal job wrote status (refusal.Run e) = TellsRun job wrote status e
 
 -- how a line ends that is not answered: as is told of it; or, of errors whose lines memory doesn't hold, as for want of memory
 abbrev pub Ends : Job → (wrote : List ℕ → Type 0) → (status : ℕ) → Refusal → Type 0
-Ends job wrote status refusal.NotYet = TellsRefusal job wrote status refusal.NotYet
 Ends job wrote status refusal.NoUnit = TellsRefusal job wrote status refusal.NoUnit
 Ends job wrote status (refusal.Tables found) = TellsRefusal job wrote status (refusal.Tables found)
 Ends job wrote status (refusal.Files (file.Io index why)) = TellsRefusal job wrote status (refusal.Files (file.Io index why))
@@ -68,7 +65,7 @@ Ends job wrote status (refusal.Run e) = TellsRefusal job wrote status (refusal.R
 
 -- the first word with which no line continues was written, or that one is missing
 pub data IsNoLine (words : List (List ℕ)) (wrote : List ℕ → Type 0) : Type 0 where
-  bad : (i : ℕ) → IsBad words i → IsSomeAnd (slice_get words i) (λ word. wrote (bad_word_line word)) → IsNoLine words wrote
+  bad : (i : ℕ) → IsBad words i → IsSomeAnd (slice_get words i) (λ word. wrote (bad_line words i word)) → IsNoLine words wrote
   missing : IsMissing words → wrote missing_word_line → IsNoLine words wrote
 
 -- what a status says: the text was written, and nothing else; the words are no line; the line that is asked for is

@@ -7,7 +7,6 @@ use Rattle.isle_top.specs.declared.refusal.Refusal.TheVariants as refusal
 
 -- memory alone was wanting
 abbrev pub IsWant : Refusal → Type 0
-IsWant refusal.NotYet = ⊥
 IsWant refusal.NoUnit = ⊥
 IsWant (refusal.Tables found) = ⊥
 IsWant (refusal.Files (file.Io index why)) = ⊥

@@ -9,6 +9,9 @@ ghost use Rattle.isle_top.specs.Lines.{
   unread_line,
   bad_word_head,
   bad_word_line,
+  unknown_isa_head,
+  unknown_isa_end,
+  unknown_isa_line,
   no_unit_head,
   no_unit_line,
   no_term_head,
@@ -30,9 +33,6 @@ ghost use Rattle.isle_top.specs.Lines.{
 use isle_codegen::NameUse;
 use isle_core::{Failed, IoCause, Sink, masked, write_all};
 use isle_meta::Shape;
-
-/// What is asked for is not built.
-pub const NOT_YET: &str = "isle: not yet\n";
 
 /// The output failed.
 pub const WRITE_FAULT: &str = "isle: write fault\n";
@@ -189,6 +189,35 @@ pub fn write_no_unit<S: Sink>(sink: &mut S, unit: &str) -> Result<(), Failed>
     ensures later { S.faults sink.old ≤ S.faults sink.new }
 {
     write_named(sink, no_unit_head(), unit, "\n")
+}
+
+// What stands before a word that is no target.
+#[tactic(auto, unfolding(crate::specs::Lines::unknown_isa_head))]
+fn unknown_isa_head() -> &'static str
+    ensures { result.now ≡ unknown_isa_head }
+{
+    "no supported isa found for arch `"
+}
+
+// What stands after it.
+#[tactic(auto, unfolding(crate::specs::Lines::unknown_isa_end))]
+fn unknown_isa_end() -> &'static str
+    ensures { result.now ≡ unknown_isa_end }
+{
+    "`\n"
+}
+
+/// Writes that no target has the name, or stands for the architecture of this word, with each byte below 32 as `?`. It
+/// takes no memory.
+pub fn write_unknown_isa<S: Sink>(sink: &mut S, word: &str) -> Result<(), Failed>
+    ensures ok { OnOk result
+        (Took (S.taken sink.old) (S.taken sink.new) (unknown_isa_line word.now)) }
+    ensures part { OnErr result
+        (TookPart (S.taken sink.old) (S.taken sink.new) (unknown_isa_line word.now)) }
+    ensures failed { OnErr result (Rose (S.faults sink.old) (S.faults sink.new)) }
+    ensures later { S.faults sink.old ≤ S.faults sink.new }
+{
+    write_named(sink, unknown_isa_head(), word, unknown_isa_end())
 }
 
 /// Writes that no term with rules has the name, with each byte below 32 as `?`. It takes no memory.

@@ -44,12 +44,7 @@ fn of_trial(source: Files, fail: TrialFail) -> Refusal
 }
 
 // What is shown of a run of the term: lines, and of a traced one the text of the program before them.
-fn shown(
-    alloc: Global,
-    files: &Files,
-    run: &RunLine,
-    answers: &str,
-) -> Result<String, TrialFail>
+fn shown(alloc: Global, files: &Files, run: &RunLine, answers: &str) -> Result<String, TrialFail>
     requires count { length files.now.file_texts ≡ length files.now.file_names }
     ensures ok { IfOk result (λ text. Shows run.now.trace run.now.options files.now run.now.term
         (seen run.now.values) answers.now (string_bytes text)) }

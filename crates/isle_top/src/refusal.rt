@@ -7,8 +7,6 @@ use std::alloc::{AllocError, AllocFailed};
 /// Why a line of words is not answered.
 #[derive(Debug, Drop)]
 pub enum Refusal {
-    /// The line is not built.
-    NotYet,
     /// No unit has the name.
     NoUnit,
     /// The row of tables that isn't supported.

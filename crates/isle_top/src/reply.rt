@@ -1,8 +1,10 @@
 //! The reply to a line.
 
-ghost use Rattle.std.specs.Prelude.{◌≡◌, ◌≤◌, false, Err, IfOk, IfErr, ◌+◌, ◌*◌, ◌^◌, length, ◌-◌};
+ghost use Rattle.std.specs.Prelude.{◌≡◌, ◌≤◌, false, IfOk, IfErr, ◌+◌, ◌*◌, ◌^◌, length, ◌-◌};
 ghost use Rattle.std.specs.String.{string_bytes};
 ghost use Rattle.isle_outside.specs.Directory.{Rose};
+ghost use Rattle.isle_settings.specs.Groups.{settings_of};
+ghost use Rattle.isle_settings.specs.TargetLines.{IsGroupText};
 ghost use Rattle.isle_top.specs.Job.{surroundings, IsReply};
 ghost use Rattle.isle_top.specs.Jobs.{job_asked};
 ghost use Rattle.isle_top.specs.SampleLine.{sample_source, AreCounts, FailsToCount};
@@ -18,6 +20,7 @@ use crate::refusal::Refusal;
 use crate::sampled::sampled;
 use isle_command_line::Command;
 use isle_core::Dir;
+use isle_settings::{Isa, isa_text};
 use isle_units::units_text;
 use std::alloc::Global;
 
@@ -31,8 +34,6 @@ pub fn reply<D: Dir>(alloc: Global, line: &Asked<'_>, dir: &mut D) -> Result<Str
     ensures err { let around = surroundings (D.files dir.old) (D.counts dir.old) (D.counts dir.new)
         in
         IfErr result (λ e. (job_asked line.now).fails e around) }
-    ensures not_built { (job_asked line.now).built ≡ false
-        → result ≡ Err Refusal.NotYet }
     ensures untried { (job_asked line.now).reads ≡ false → dir.new ≡ dir.old }
     ensures complete { (job_asked line.now).valid (D.files dir.old)
         → (Rose (D.counts dir.old).faults (D.counts dir.new).faults → ⊥) → IfErr result IsWant }
@@ -66,7 +67,7 @@ pub fn reply<D: Dir>(alloc: Global, line: &Asked<'_>, dir: &mut D) -> Result<Str
         Command::Sample(size) => sample_reply(alloc, *size),
         Command::Prelude(kind) => preluded(alloc, line.tables, *kind),
         Command::Units => Ok(units_text(alloc)?),
-        Command::Isa(_) => Err(Refusal::NotYet),
+        Command::Isa(target) => isa_reply(alloc, *target),
     }
 }
 
@@ -79,4 +80,12 @@ fn sample_reply(alloc: Global, size: usize) -> Result<String, Refusal>
         Ok(lines) => Ok(lines),
         Err(e) => Err(Refusal::Files(e)),
     }
+}
+
+// The reply to a line that writes what a target has.
+fn isa_reply(alloc: Global, target: Isa) -> Result<String, Refusal>
+    ensures ok { IfOk result (λ text. IsGroupText (settings_of target) (string_bytes text)) }
+    ensures err { IfErr result IsWant }
+{
+    Ok(isa_text(alloc, target)?)
 }

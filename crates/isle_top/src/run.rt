@@ -1,5 +1,5 @@
 ghost use Rattle.std.specs.Prelude.{◌≡◌, ◌≢◌, ◌⊎◌, [], ◌∷◌, ℕ, List, Some, false, slice_get, ◌≤◌, ◌+◌, ◌*◌};
-ghost use Rattle.std.specs.Prelude.{◌^◌, length};
+ghost use Rattle.std.specs.Prelude.{◌^◌, length, OnOk, OnErr};
 ghost use Rattle.isle_outside.specs.Directory.{Rose};
 ghost use Rattle.isle_core.specs.Inputs.{bytes_each};
 ghost use Rattle.isle_command_line.specs.Request.{Request, Compile};
@@ -7,15 +7,16 @@ ghost use Rattle.isle_command_line.specs.Lines.{LineS};
 ghost use Rattle.isle_command_line.specs.Views.{seen_command};
 ghost use Rattle.isle_top.specs.Job.{surroundings, TookReply, TookPartOfReply};
 ghost use Rattle.isle_top.specs.Jobs.{Asks, job_asked, job_of};
-ghost use Rattle.isle_top.specs.Lines.{Wrote};
+ghost use Rattle.isle_outside.specs.Sinks.{Took, TookPart};
+ghost use Rattle.isle_top.specs.Lines.{bad_line, is_target_place, Wrote};
 ghost use Rattle.isle_top.specs.Statuses.{IsNoLine, Says};
 
 use crate::asked::Asked;
-use crate::lines::{MISSING_WORD, OUT_OF_MEMORY, WRITE_FAULT, write_bad_word};
+use crate::lines::{MISSING_WORD, OUT_OF_MEMORY, WRITE_FAULT, write_bad_word, write_unknown_isa};
 use crate::reply::reply;
 use crate::status::{Exit, complain, refuse};
 use isle_command_line::{LineFail, command};
-use isle_core::{Dir, Sink, write_all};
+use isle_core::{Dir, Failed, Sink, write_all};
 use isle_meta::Tables;
 use std::alloc::Global;
 
@@ -55,11 +56,9 @@ pub fn run_words<D: Dir, O: Sink, E: Sink>(
         (err.new ≡ err.old)
         wrote result.0 }
 
-    // Words that are no line end in 2, a line that is not built in 14; or with 12, want of memory.
+    // Words that are no line end in 2; or with 12, want of memory.
     ensures no_line { ((request : Request) → LineS (bytes_each words.now) request → ⊥)
         → (result.0 ≡ 2) ⊎ (result.0 ≡ 12) }
-    ensures not_built { (request : Request) → LineS (bytes_each words.now) request
-        → (job_of tables.now request).built ≡ false → (result.0 ≡ 14) ⊎ (result.0 ≡ 12) }
 
     // A valid line has its reply, if nothing fails and memory suffices.
     ensures complete { (request : Request) → LineS (bytes_each words.now) request
@@ -88,7 +87,7 @@ pub fn run_words<D: Dir, O: Sink, E: Sink>(
             run_command(alloc, &line, dir, out, err)
         }
         Err(LineFail::Bad(index)) => {
-            let _ = write_bad_word(err, word_at(words, index));
+            let _ = write_bad(err, words, index);
             Exit(2)
         }
         Err(LineFail::Missing) => {
@@ -99,6 +98,34 @@ pub fn run_words<D: Dir, O: Sink, E: Sink>(
             complain(err, OUT_OF_MEMORY);
             Exit(12)
         }
+    }
+}
+
+// Whether the word of this number stands where a target is wanted.
+fn is_target_place(words: &[String], index: usize) -> bool
+    ensures { result ≡ is_target_place (bytes_each words.now) index }
+{
+    match words.get(0) {
+        Some(first) => index == 1 && first.as_str() == "isa",
+        None => false,
+    }
+}
+
+// Writes the line of the word of this number, with which no line goes on. It takes no memory.
+fn write_bad<E: Sink>(err: &mut E, words: &[String], index: usize) -> Result<(), Failed>
+    ensures ok { (word : List ℕ) → slice_get (bytes_each words.now) index ≡ Some word
+        → OnOk result (Took (E.taken err.old) (E.taken err.new)
+        (bad_line (bytes_each words.now) index word)) }
+    ensures part { (word : List ℕ) → slice_get (bytes_each words.now) index ≡ Some word
+        → OnErr result (TookPart (E.taken err.old) (E.taken err.new)
+        (bad_line (bytes_each words.now) index word)) }
+    ensures failed { OnErr result (Rose (E.faults err.old) (E.faults err.new)) }
+    ensures later { E.faults err.old ≤ E.faults err.new }
+{
+    if is_target_place(words, index) {
+        write_unknown_isa(err, word_at(words, index))
+    } else {
+        write_bad_word(err, word_at(words, index))
     }
 }
 
@@ -136,7 +163,6 @@ fn run_command<D: Dir, O: Sink, E: Sink>(
         let wrote = Wrote (E.taken err.old) (E.taken err.new) (E.faults err.old) (E.faults err.new) in
         Says line.now.tables.now (λ a. a ≡ seen_command line.now.command.now) ⊥ around
         (err.new ≡ err.old) wrote result.0 }
-    ensures not_built { (job_asked line.now).built ≡ false → result.0 ≡ 14 }
     ensures untried { (job_asked line.now).reads ≡ false → dir.new ≡ dir.old }
     ensures complete { (job_asked line.now).valid (D.files dir.old)
         → (Rose (D.counts dir.old).faults (D.counts dir.new).faults → ⊥)

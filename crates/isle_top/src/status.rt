@@ -10,8 +10,8 @@ ghost use Rattle.isle_top.specs.Statuses.{IsOfJob, Tells, TellsErrors, TellsRun,
 use crate::asked::Asked;
 use crate::job::{asked_name, input_name, unit_name};
 use crate::lines::{
-    NOT_YET, OUT_OF_MEMORY, write_argument, write_argument_count, write_bad_answers,
-    write_bad_name, write_no_term, write_no_unit, write_unread, write_unsupported,
+    OUT_OF_MEMORY, write_argument, write_argument_count, write_bad_answers, write_bad_name,
+    write_no_term, write_no_unit, write_unread, write_unsupported,
 };
 use crate::refusal::Refusal;
 use isle_codegen::FileError;
@@ -21,7 +21,7 @@ use std::alloc::Global;
 
 /// The status of a run: 0 done, 2 the words are no line, 3 no unit has the name, 4 a row of tables is not supported, 5 an input was not read,
 /// 6 to 9 errors are in the inputs (of parsing, of typing, of rules, of recursion), 10 a name may not be emitted, 11 the
-/// output failed, 12 memory ran out, 13 a term is not run, 14 what is asked for is not built.
+/// output failed, 12 memory ran out, 13 a term is not run.
 #[derive(Clone, Copy, Debug, PartialEq, Eq)]
 pub struct Exit(pub u8);
 
@@ -126,10 +126,6 @@ pub fn refuse<E: Sink>(alloc: Global, err: &mut E, line: &Asked<'_>, refusal: &R
         Ends (job_asked line.now) wrote result.0 refusal.now }
 {
     match refusal {
-        Refusal::NotYet => {
-            complain(err, NOT_YET);
-            Exit(14)
-        }
         Refusal::NoUnit => {
             let _ = write_no_unit(err, unit_name(line.command));
             Exit(3)

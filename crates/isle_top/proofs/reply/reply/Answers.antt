@@ -1,9 +1,9 @@
 use Rattle.std.proofs.Common.{rules, ◌≡◌}
-use Rattle.isle_command_line.specs.Request.{Build, Compile, Prelude, Sample, Run}
+use Rattle.isle_command_line.specs.Request.{Build, Compile, Prelude, Isa, Sample, Run}
 use Rattle.isle_command_line.specs.Views.{seen_command, seen_run}
 use Rattle.isle_top.specs.declared.refusal.Refusal.TheVariants as refusal
 use Rattle.isle_top.specs.Job.{Around}
-use Rattle.isle_top.proofs.Replies.{build_fails, build_replies, run_fails, run_replies, compile_replies, compile_fails, sample_replies, sample_fails, prelude_replies, prelude_fails}
+use Rattle.isle_top.proofs.Replies.{build_fails, build_replies, run_fails, run_replies, compile_replies, compile_fails, sample_replies, sample_fails, prelude_replies, prelude_fails, isa_replies, isa_fails}
 use Rattle.isle_top.proofs.ValidLines.{only_want, replied_unless}
 use Rattle.isle_top.proofs.reply.reply.Goals as goal
 
@@ -93,3 +93,21 @@ returns-in-Prelude-clause-complete g c = λ valid calm.
     let is : seen_command c.args.line.now.command.now ≡ Prelude c.in-Prelude.kind = search rules in
     replied_unless c.args.line.now.tables.now (seen_command c.args.line.now.command.now) c.preluded.result around.files around.before around.after
     (prelude_fails c.args.line.now.tables.now (seen_command c.args.line.now.command.now) c.in-Prelude.kind around c.preluded.result is c.preluded.ensures.err) valid calm
+
+pub returns-in-Isa-clause-ok : goal.returns-in-Isa-clause-ok
+returns-in-Isa-clause-ok g c =
+    let is : seen_command c.args.line.now.command.now ≡ Isa c.in-Isa.target = search rules in
+    isa_replies c.args.line.now.tables.now (seen_command c.args.line.now.command.now) c.in-Isa.target (g.D.Dir.files c.args.dir.now) (g.D.Dir.counts c.args.dir.now) c.isa_reply.result is c.isa_reply.ensures.ok
+
+pub returns-in-Isa-clause-err : goal.returns-in-Isa-clause-err
+returns-in-Isa-clause-err g c =
+    let around : Around = record { files = g.D.Dir.files c.args.dir.now; before = g.D.Dir.counts c.args.dir.now; after = g.D.Dir.counts c.args.dir.now } in
+    let is : seen_command c.args.line.now.command.now ≡ Isa c.in-Isa.target = search rules in
+    isa_fails c.args.line.now.tables.now (seen_command c.args.line.now.command.now) c.in-Isa.target around c.isa_reply.result is c.isa_reply.ensures.err
+
+pub returns-in-Isa-clause-complete : goal.returns-in-Isa-clause-complete
+returns-in-Isa-clause-complete g c = λ valid calm.
+    let around : Around = record { files = g.D.Dir.files c.args.dir.now; before = g.D.Dir.counts c.args.dir.now; after = g.D.Dir.counts c.args.dir.now } in
+    let is : seen_command c.args.line.now.command.now ≡ Isa c.in-Isa.target = search rules in
+    replied_unless c.args.line.now.tables.now (seen_command c.args.line.now.command.now) c.isa_reply.result around.files around.before around.after
+    (isa_fails c.args.line.now.tables.now (seen_command c.args.line.now.command.now) c.in-Isa.target around c.isa_reply.result is c.isa_reply.ensures.err) valid calm

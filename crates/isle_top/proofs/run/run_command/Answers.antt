@@ -1,10 +1,9 @@
 use Rattle.std.proofs.Common.{rules, ◌≡◌, Err, refl, inr}
 use Rattle.isle_command_line.specs.Views.{seen_command}
-use Rattle.isle_top.specs.declared.refusal.Refusal.TheVariants as refusal
 use Rattle.isle_top.specs.Jobs.{job_of}
 use Rattle.isle_top.specs.Lines.{Wrote}
 use Rattle.isle_top.specs.Statuses as statuses
-use Rattle.isle_top.proofs.Refusals.{says_end, end_refused, same_fail, end_not_built, end_want}
+use Rattle.isle_top.proofs.Refusals.{says_end, end_refused, end_want}
 use Rattle.isle_top.proofs.ValidLines.{of_job}
 use Rattle.isle_top.proofs.run.run_command.Goals as goal
 
@@ -29,12 +28,6 @@ returns-clause-part g c = λ is.
 
 pub returns-clause-says : goal.returns-clause-says
 returns-clause-says g c = says_end (seen_command c.args.line.now.command.now) _ refl c.in-Err.refusal c.in-Err.ensures.err c.refuse.ensures.ends
-
-pub returns-clause-not_built : goal.returns-clause-not_built
-returns-clause-not_built g c = λ is.
-    let wrote = Wrote (g.E.Sink.taken c.args.err.now) (g.E.Sink.taken c.refuse.new.err) (g.E.Sink.faults c.args.err.now) (g.E.Sink.faults c.refuse.new.err) in
-    let same : c.in-Err.refusal ≡ refusal.NotYet = same_fail (Err c.in-Err.refusal) (Err refusal.NotYet) c.in-Err.refusal refusal.NotYet refl refl (c.in-Err.ensures.not_built is) in
-    end_not_built (job_of c.args.line.now.tables.now (seen_command c.args.line.now.command.now)) wrote c.refuse.result.0 c.in-Err.refusal same c.refuse.ensures.ends
 
 pub returns-clause-complete : goal.returns-clause-complete
 returns-clause-complete g c = λ valid calm.

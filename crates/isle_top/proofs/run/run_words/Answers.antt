@@ -7,15 +7,8 @@ use Rattle.isle_top.specs.Statuses as statuses
 use Rattle.isle_top.proofs.Refusals.{bad_word, no_bad_word, says_of, wrote}
 use Rattle.isle_top.proofs.run.run_words.Goals as goal
 
-pub returns-in-Err-Bad-clause-not_built : goal.returns-in-Err-Bad-clause-not_built
-returns-in-Err-Bad-clause-not_built g c = λ request line never. absurd (no_bad_word (bytes_each c.args.words.now) c.in-Err-Bad.index request (c.in-Err-Bad.ensures.bad c.in-Err-Bad.index (ap Err c.in-Err-Bad.field-0-is)) line)
-
 pub returns-in-Err-Bad-clause-complete : goal.returns-in-Err-Bad-clause-complete
 returns-in-Err-Bad-clause-complete g c = λ request line valid calm. absurd (no_bad_word (bytes_each c.args.words.now) c.in-Err-Bad.index request (c.in-Err-Bad.ensures.bad c.in-Err-Bad.index (ap Err c.in-Err-Bad.field-0-is)) line)
-
-pub returns-in-Ok-clause-not_built : goal.returns-in-Ok-clause-not_built
-returns-in-Ok-clause-not_built g c = λ request line never.
-    inl (c.run_command.ensures.not_built (subst (λ (a : Request). (job_of c.args.tables.now a).built ≡ false) (c.in-Ok.ensures.only request line) never))
 
 pub returns-in-Ok-clause-complete : goal.returns-in-Ok-clause-complete
 returns-in-Ok-clause-complete g c = λ request line valid calm.
@@ -36,7 +29,7 @@ pub returns-in-Err-Bad-clause-says : goal.returns-in-Err-Bad-clause-says
 returns-in-Err-Bad-clause-says g c =
     statuses.no_line
     (bad_word (bytes_each c.args.words.now) c.in-Err-Bad.index _ (c.in-Err-Bad.ensures.bad c.in-Err-Bad.index (ap Err c.in-Err-Bad.field-0-is))
-    (λ word at. rw (sym (c.word_at.ensures word (rw c.in-Err-Bad.index-is at))) (wrote c.write_bad_word.result _ _ _ _ _ c.write_bad_word.ensures.ok c.write_bad_word.ensures.part c.write_bad_word.ensures.failed)))
+    (λ word at. let there = rw c.in-Err-Bad.index-is at in wrote c.write_bad.result _ _ _ _ _ (c.write_bad.ensures.ok word there) (c.write_bad.ensures.part word there) c.write_bad.ensures.failed))
 
 pub returns-in-Err-Missing-clause-says : goal.returns-in-Err-Missing-clause-says
 returns-in-Err-Missing-clause-says g c = statuses.no_line (statuses.missing (search rules) (search rules))
