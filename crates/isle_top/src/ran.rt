@@ -6,7 +6,7 @@ ghost use Rattle.std.specs.String.{string_bytes};
 ghost use Rattle.isle_codegen.specs.Causes.{AllTried};
 ghost use Rattle.isle_command_line.specs.Views.{seen_run};
 ghost use Rattle.isle_run.specs.NoLines.{HasNoLines};
-ghost use Rattle.isle_top.specs.RunLine.{of_read, of_trial, run_inputs, FailsToRun, GivesLines, Shows};
+ghost use Rattle.isle_top.specs.RunLine.{of_trial, run_inputs, FailsToRun, GivesLines, Shows};
 ghost use Rattle.isle_top.specs.Sourcing.{sourcing_of};
 ghost use Rattle.isle_values.specs.Views.{seen};
 ghost use Rattle.isle_top.specs.Job.{surroundings};
@@ -14,10 +14,9 @@ ghost use Rattle.isle_top.specs.Job.{surroundings};
 use crate::answers::answers_text;
 use crate::asked::Over;
 use crate::refusal::Refusal;
-use crate::source::{inputs_count, source_of};
-use isle_codegen::FileError;
+use crate::source::{inputs_count, of_read, source_of};
 use isle_command_line::RunLine;
-use isle_core::{Dir, Files, ReadError, Text};
+use isle_core::{Dir, Files, Text};
 use isle_meta::Tables;
 use isle_run::{TrialFail, trial};
 use isle_trace::traced_trial;
@@ -61,16 +60,6 @@ fn shown(alloc: Global, files: &Files, run: &RunLine, answers: &str) -> Result<S
         traced_trial(alloc, files, &run.options, &asked)
     } else {
         trial(alloc, files, &run.options, term, given, answers)
-    }
-}
-
-// The refusal of an input that isn't read.
-fn of_read(fail: ReadError) -> Refusal
-    ensures { result ≡ of_read fail }
-{
-    match fail {
-        ReadError::Io { index, cause } => Refusal::Files(FileError::Io { index, cause }),
-        ReadError::Memory => Refusal::Files(FileError::Memory),
     }
 }
 

@@ -10,6 +10,7 @@ ghost use Rattle.isle_top.specs.Inputs.{FailsToHave};
 ghost use Rattle.isle_top.specs.Job.{surroundings};
 ghost use Rattle.isle_core.specs.declared.options.CodegenOptions.{CodegenOptions as Options};
 ghost use Rattle.isle_meta.specs.declared.tables.Tables.{Tables};
+ghost use Rattle.isle_top.specs.RunLine.{of_read};
 ghost use Rattle.isle_top.specs.Sourcing.{from_names, from_unit, sourcing_of};
 
 use crate::asked::Over;
@@ -21,6 +22,16 @@ use isle_command_line::Source;
 use isle_core::{CodegenOptions, Dir, Files, ReadError};
 use isle_units::tracked_names;
 use std::alloc::Global;
+
+/// Returns the refusal of a line for an input that isn't read.
+pub fn of_read(fail: ReadError) -> Refusal
+    ensures { result ≡ of_read fail }
+{
+    match fail {
+        ReadError::Io { index, cause } => Refusal::Files(FileError::Io { index, cause }),
+        ReadError::Memory => Refusal::Files(FileError::Memory),
+    }
+}
 
 /// Returns the name of the file of this number that is read for a source, if there is one.
 pub fn source_input(source: &Source, index: usize) -> Option<&str>
@@ -98,8 +109,7 @@ fn file_source<D: Dir>(
 {
     match source_at(alloc, name, options, dir) {
         Ok(files) => Ok(files),
-        Err(ReadError::Io { index, cause }) => Err(Refusal::Files(FileError::Io { index, cause })),
-        Err(ReadError::Memory) => Err(Refusal::Files(FileError::Memory)),
+        Err(e) => Err(of_read(e)),
     }
 }
 
