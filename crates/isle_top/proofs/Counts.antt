@@ -1,5 +1,5 @@
 -- The counts of a program that conforms to its source.
-use Rattle.std.proofs.Common.{◌≡◌, ℕ, List, [], length, false, None, sym, ap, ◌∙◌, subst}
+use Rattle.std.proofs.Common.{◌≡◌, ℕ, List, [], length, false, None, ap, ◌∙◌, subst}
 use Rattle.isle_core.specs.declared.files.Files.{Files as FileTexts}
 use Rattle.isle_core.specs.declared.options.CodegenOptions.{CodegenOptions}
 use Rattle.isle_core.specs.Rule.{Environment}

@@ -1,11 +1,15 @@
 -- Why the files of a source aren't had.
-use Rattle.std.proofs.Common.{◌≡◌, ℕ, List, Bool, true, false, Option, Result, Ok, Err, sym, ap, subst}
-use Rattle.std.specs.Prelude.{IfOk, String, is_some}
+use Rattle.std.proofs.Common.{◌≡◌, ℕ, List, [], ◌∷◌, Bool, true, false, Option, Result, sym, ap, subst}
+use Rattle.std.specs.Prelude.{IfOk, IfErr, String, is_some}
 use Rattle.std.specs.String.{string_bytes}
 use Rattle.std.specs.declared.alloc.Global.{Global}
 use Rattle.isle_build.specs.Built.{FailsToRead}
+use Rattle.isle_build.specs.UnitSource.{IsSourceOfUnit}
 use Rattle.isle_build.specs.declared.build_error.BuildError.{BuildError}
 use Rattle.isle_build.specs.declared.build_error.BuildError.TheVariants as error
+use Rattle.isle_codegen.specs.Causes.{AreSource}
+use Rattle.isle_command_line.specs.declared.commands.Source.{Source}
+use Rattle.isle_command_line.specs.declared.commands.Source.TheVariants as source
 use Rattle.isle_core.specs.Inputs.{Fails}
 use Rattle.isle_core.specs.declared.files.Files.{Files}
 use Rattle.isle_core.specs.declared.options.CodegenOptions.{CodegenOptions}
@@ -20,9 +24,9 @@ use Rattle.isle_top.specs.declared.refusal.Refusal.{Refusal}
 use Rattle.isle_top.specs.declared.refusal.Refusal.TheVariants as refusal
 use Rattle.isle_top.specs.Built.{of_build}
 use Rattle.isle_top.specs.Inputs.{FailsToHave, early, unread, memory}
-use Rattle.isle_top.specs.Job.{surroundings}
+use Rattle.isle_top.specs.Job.{Around, surroundings}
 use Rattle.isle_top.specs.RunLine.{of_read, Shows}
-use Rattle.isle_top.specs.Sourcing.{from_names, from_unit}
+use Rattle.isle_top.specs.Sourcing.{from_names, from_unit, sourcing_of}
 use Rattle.isle_top.proofs.SourceLaws.{of_tracked}
 
 -- a file that is named wasn't read
@@ -43,6 +47,20 @@ had_unit t options unit files before after e r is h = subst (FailsToHave (from_u
     by (error.Errors e) h = absurd h
     by (error.Name e) h = absurd h
     by error.Memory h = memory h
+
+-- the source that a word names
+pub file_read : {E : Type 0} (t : Tables) (options : CodegenOptions) (s : Source) (name : List ℕ) (fs : Option Contents) (result : Result Files E) → s ≡ source.File name
+    → IfOk result (λ files. AreSource options (name ∷ []) fs files) → IfOk result ((sourcing_of t options s).is_source fs)
+file_read t options s name fs result is h = subst (λ q. IfOk result ((sourcing_of t options q).is_source fs)) (sym is) h
+
+pub unit_read : {E : Type 0} (t : Tables) (options : CodegenOptions) (s : Source) (name : List ℕ) (fs : Option Contents) (result : Result Files E) → s ≡ source.Unit name
+    → IfOk result (λ files. IsSourceOfUnit t options name fs files) → IfOk result ((sourcing_of t options s).is_source fs)
+unit_read t options s name fs result is h = subst (λ q. IfOk result ((sourcing_of t options q).is_source fs)) (sym is) h
+
+-- or why it isn't had
+pub unit_not_had : {T : Type 0} (t : Tables) (options : CodegenOptions) (s : Source) (name : List ℕ) (around : Around) (result : Result T Refusal) → s ≡ source.Unit name
+    → IfErr result (FailsToHave (from_unit t options name) around) → IfErr result (FailsToHave (sourcing_of t options s) around)
+unit_not_had t options s name around result is h = subst (λ q. IfErr result (FailsToHave (sourcing_of t options q) around)) (sym is) h
 
 -- what is shown, by whether a run is traced
 pub shows_traced : {E : Type 0} (trace : Bool) (options : CodegenOptions) (files : Files) (term : List ℕ) (ws : Writtens) (given : List ℕ) (result : Result (String Global) E) → trace ≡ true

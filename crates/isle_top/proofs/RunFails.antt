@@ -1,10 +1,10 @@
 -- Why a run gives no lines.
-use Rattle.std.proofs.Common.{◌≡◌, ℕ, zero, suc, ◌+◌, ◌<◌, ◌≤◌, List, [], ◌∷◌, ◌++◌, length, take, Option, Some, None, refl, sym, ap, ◌∙◌, subst, arith}
+use Rattle.std.proofs.Common.{◌≡◌, ℕ, zero, suc, ◌<◌, ◌≤◌, List, [], ◌∷◌, ◌++◌, length, take, Option, Some, None, refl, sym, ap, ◌∙◌, subst, arith}
 use Rattle.std.specs.Prelude.{IfSome, IsSomeAnd, slice_get}
 use Rattle.isle_outside.specs.Directory.{Contents, Counts, bytes_of}
 use Rattle.isle_outside.specs.Reading.{IsCause, RoseAt}
 use Rattle.isle_outside.specs.declared.errors.IoCause.{IoCause}
-use Rattle.isle_core.specs.Inputs.{AreRead, Fails, FailsAt, IsTried}
+use Rattle.isle_core.specs.Inputs.{AreRead, Fails, FailsAt}
 use Rattle.isle_core.specs.declared.files.Files.{Files as FileTexts}
 use Rattle.isle_core.specs.declared.read_error.ReadError.{ReadError}
 use Rattle.isle_core.specs.declared.read_error.ReadError.TheVariants as read
@@ -18,7 +18,7 @@ use Rattle.isle_top.specs.declared.refusal.Refusal.{Refusal}
 use Rattle.isle_top.specs.Inputs.{FailsTo, FailsToHave}
 use Rattle.isle_top.specs.Inputs as had
 use Rattle.isle_top.specs.Job.{Around, surroundings}
-use Rattle.isle_top.specs.RunLine.{answers_names, run_inputs, AreInputs, FailsToRun, IsAnswersText, of_read, of_trial, early, unread, no_lines, memory}
+use Rattle.isle_top.specs.RunLine.{answers_names, FailsToRun, IsAnswersText, of_read, of_trial, early, unread, no_lines, memory}
 use Rattle.isle_top.specs.Sourcing.{Sourcing, sourcing_of}
 use Rattle.isle_top.proofs.SourceLaws.{source_read, source_ready}
 

@@ -1,5 +1,5 @@
 -- What is so of each source, a file or the files of a unit.
-use Rattle.std.proofs.Common.{◌≡◌, ℕ, List, [], ◌∷◌, ◌++◌, true, false, Option, Some, None, refl, sym, ap, ◌∙◌, subst}
+use Rattle.std.proofs.Common.{◌≡◌, ℕ, List, [], ◌∷◌, ◌++◌, true, false, Option, Some, None, sym, ap, ◌∙◌, subst}
 use Rattle.std.specs.Prelude.{IsSome, is_some}
 use Rattle.std.specs.Option.{option_map_or}
 use Rattle.std.proofs.lemmas.Option.{same_Some}
@@ -45,7 +45,8 @@ of_tracked name u P h p = subst (λ (o : Option IsleCompilation). P (option_map_
 
 -- a unit that is listed has its name
 pub none_listed : (o : Option IsleCompilation) → IsSome o → o ≡ None → ⊥
-none_listed o s e = let no : IsSome {A = IsleCompilation} None = subst (λ (p : Option IsleCompilation). IsSome p) e s in absurd cc
+none_listed None s e = absurd (let bad : false ≡ true = s in cc)
+none_listed (Some u) s e = absurd (let bad : Some u ≡ None = e in cc)
 
 -- ---- sources
 

@@ -1,5 +1,5 @@
 -- Each input was asked for once.
-use Rattle.std.proofs.Common.{◌≡◌, ◌⊎◌, inl, ℕ, suc, ◌+◌, ◌-◌, ◌^◌, List, [], ◌∷◌, ◌++◌, length, append-nil, Option, Some, None, Result, Ok, Err, refl, sym, ap, ◌∙◌, subst, arith}
+use Rattle.std.proofs.Common.{◌≡◌, ◌⊎◌, inl, ℕ, ◌+◌, ◌-◌, ◌^◌, List, [], ◌∷◌, ◌++◌, length, append-nil, Option, Some, None, Result, Ok, Err, refl, sym, ap, ◌∙◌, subst, arith}
 use Rattle.std.specs.Prelude.{IfOk, String}
 use Rattle.std.specs.String.{string_bytes}
 use Rattle.std.specs.declared.alloc.Global.{Global}
@@ -17,7 +17,7 @@ none_tried c = (inl (omega arith), refl)
 
 one_behind : (names : List (List ℕ)) (name : List ℕ) → length (names ++ name ∷ []) ≡ length names + 1
 one_behind [] name = refl
-one_behind (n ∷ names) name = ap suc (one_behind names name)
+one_behind (n ∷ names) name = let more = one_behind names name in omega (arith, more)
 
 -- the files of a source, and then the answers, if there are any
 pub inputs_tried : (names : List (List ℕ)) (answers : Option (List ℕ)) (a b c : Counts) → AllTried names a b → LooksUp answers b c → c.faults ≡ b.faults → AllTried (names ++ answers_names answers) a c

@@ -1,5 +1,5 @@
 -- A line that builds a unit.
-use Rattle.std.specs.Prelude.{◌≡◌, ℕ, List, [], true, Option, Some, IsSomeAnd}
+use Rattle.std.specs.Prelude.{ℕ, List, [], true, Some, IsSomeAnd}
 use Rattle.isle_build.specs.Built.{FailsToBuild, IsBuilt}
 use Rattle.isle_build.specs.UnitSource.{IsSourceOfUnit, tracked_of}
 use Rattle.isle_build.specs.declared.build_error.BuildError.TheVariants as error

@@ -1,5 +1,5 @@
 -- A line that compiles files.
-use Rattle.std.specs.Prelude.{ℕ, List, [], true, Option, IsSomeAnd}
+use Rattle.std.specs.Prelude.{ℕ, List, [], true, IsSomeAnd}
 use Rattle.isle_outside.specs.Directory.{Contents}
 use Rattle.isle_core.specs.Inputs.{AreRead}
 use Rattle.isle_core.specs.declared.options.CodegenOptions.{CodegenOptions}

@@ -1,5 +1,5 @@
 -- A line that writes a prelude.
-use Rattle.std.specs.Prelude.{◌≡◌, List, ℕ, [], Some, true, false}
+use Rattle.std.specs.Prelude.{◌≡◌, List, ℕ, [], Some, false}
 use Rattle.isle_assembler.specs.AssemblerDefs.{assembler_defs}
 use Rattle.isle_assembler.specs.Methods.{assembler_methods}
 use Rattle.isle_ast.specs.Tree.{Def}

@@ -14,21 +14,22 @@ pub fn help() -> &'static str
 \x20     Compiles rule files and writes the Rust text of their terms.\n\
 \x20     isle compile examples/constants.isle\n\
 \x20 isle build [OPTION..] UNIT\n\
-\x20     Builds a unit from its preludes and its files (not yet).\n\
+\x20     Builds a unit: compiles its files and those that are made of tables, and writes the Rust text.\n\
 \x20     isle build opt\n\
 \x20 isle run [--trace] [OPTION..] SOURCE TERM VALUES [--answers FILE]\n\
 \x20     Runs the function of a term of a rule file at the values, and writes how it ends and what it calls.\n\
-\x20     FILE says what calls answer. Of SOURCE, unit: and a unit's name is not yet there, nor is --trace.\n\
+\x20     FILE says what calls answer. SOURCE is a file, or unit: and a unit's name. --trace writes the text and\n\
+\x20     all calls.\n\
 \x20     isle run examples/calls.isle lower_sum '()' --answers examples/calls.answers\n\
 \x20 isle prelude KIND\n\
 \x20     Writes a prelude: rules, or Rust for them. KIND is numerics, numerics-rust, clif-opt, clif-lower,\n\
 \x20     assembler, assembler-rust, pulley or pulley-rust.\n\
 \x20     isle prelude clif-opt\n\
 \x20 isle units\n\
-\x20     Lists the units (not yet).\n\
+\x20     Lists the units, each with its files.\n\
 \x20     isle units\n\
 \x20 isle isa TARGET\n\
-\x20     Writes what a target has (not yet).\n\
+\x20     Writes the settings of a target.\n\
 \x20     isle isa x86\n\
 \x20 isle sample N\n\
 \x20     Compiles a sample of N terms, 1 to 10000, and writes how many functions, rules and matches it has.\n\

@@ -1,4 +1,4 @@
-use Rattle.std.proofs.Common.{rules, ◌≡◌, true, false, sym, ◌∙◌}
+use Rattle.std.proofs.Common.{rules}
 use Rattle.isle_values.specs.Views.{seen}
 use Rattle.isle_top.proofs.HadLaws.{shows_lines, shows_traced}
 use Rattle.isle_top.proofs.ran.shown.Goals as goal

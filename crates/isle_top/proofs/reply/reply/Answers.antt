@@ -1,8 +1,9 @@
-use Rattle.std.proofs.Common.{rules, ◌≡◌}
-use Rattle.isle_command_line.specs.Request.{Build, Compile, Prelude, Isa, Sample, Run}
+use Rattle.std.proofs.Common.{rules, ◌≡◌, ◌≤◌, ◌+◌, ◌*◌, ◌^◌, length, sym, subst}
+use Rattle.isle_command_line.specs.Request.{Request, Build, Compile, Prelude, Isa, Sample, Run}
 use Rattle.isle_command_line.specs.Views.{seen_command, seen_run}
 use Rattle.isle_top.specs.declared.refusal.Refusal.TheVariants as refusal
 use Rattle.isle_top.specs.Job.{Around}
+use Rattle.isle_top.specs.Jobs.{job_of}
 use Rattle.isle_top.proofs.Replies.{build_fails, build_replies, run_fails, run_replies, compile_replies, compile_fails, sample_replies, sample_fails, prelude_replies, prelude_fails, isa_replies, isa_fails}
 use Rattle.isle_top.proofs.ValidLines.{only_want, replied_unless}
 use Rattle.isle_top.proofs.reply.reply.Goals as goal
@@ -38,6 +39,11 @@ returns-in-Run-clause-complete g c = λ valid calm.
     let is : seen_command c.args.line.now.command.now ≡ Run (seen_run c.in-Run.run') = search rules in
     replied_unless c.args.line.now.tables.now (seen_command c.args.line.now.command.now) c.ran.result around.files around.before around.after
     (run_fails c.args.line.now.tables.now (seen_command c.args.line.now.command.now) (seen_run c.in-Run.run') around c.ran.result is c.ran.ensures.err) valid calm
+
+pub returns-in-Run-clause-given : goal.returns-in-Run-clause-given
+returns-in-Run-clause-given g c =
+    let is : seen_command c.args.line.now.command.now ≡ Run (seen_run c.in-Run.run') = search rules in
+    subst (λ (a : Request). (g.D.Dir.counts c.ran.new.dir).given ≤ (g.D.Dir.counts c.args.dir.now).given + (2 ^ 24 + 1) * length (job_of c.args.line.now.tables.now a).inputs) (sym is) c.ran.ensures.given
 
 pub returns-in-Build-clause-ok : goal.returns-in-Build-clause-ok
 returns-in-Build-clause-ok g c =

@@ -1,4 +1,4 @@
-use Rattle.std.proofs.Common.{rules, ◌≡◌, Err, refl, inr}
+use Rattle.std.proofs.Common.{rules, refl, inr}
 use Rattle.isle_command_line.specs.Views.{seen_command}
 use Rattle.isle_top.specs.Jobs.{job_of}
 use Rattle.isle_top.specs.Lines.{Wrote}

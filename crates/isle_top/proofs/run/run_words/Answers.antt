@@ -1,4 +1,4 @@
-use Rattle.std.proofs.Common.{rules, ◌≡◌, ◌≤◌, ◌+◌, ◌*◌, ◌^◌, length, true, false, sym, ap, inl, subst, Err}
+use Rattle.std.proofs.Common.{rules, ◌≤◌, ◌+◌, ◌*◌, ◌^◌, length, sym, ap, subst, Err}
 use Rattle.isle_core.specs.Inputs.{bytes_each}
 use Rattle.isle_command_line.specs.Request.{Request}
 use Rattle.isle_command_line.specs.Views.{seen_command}
@@ -29,7 +29,7 @@ pub returns-in-Err-Bad-clause-says : goal.returns-in-Err-Bad-clause-says
 returns-in-Err-Bad-clause-says g c =
     statuses.no_line
     (bad_word (bytes_each c.args.words.now) c.in-Err-Bad.index _ (c.in-Err-Bad.ensures.bad c.in-Err-Bad.index (ap Err c.in-Err-Bad.field-0-is))
-    (λ word at. let there = rw c.in-Err-Bad.index-is at in wrote c.write_bad.result _ _ _ _ _ (c.write_bad.ensures.ok word there) (c.write_bad.ensures.part word there) c.write_bad.ensures.failed))
+    (λ word at. rw (← c.in-Err-Bad.index-is) (wrote c.write_bad.result _ _ _ _ _ (c.write_bad.ensures.ok word (rw c.in-Err-Bad.index-is at)) (c.write_bad.ensures.part word (rw c.in-Err-Bad.index-is at)) c.write_bad.ensures.failed)))
 
 pub returns-in-Err-Missing-clause-says : goal.returns-in-Err-Missing-clause-says
 returns-in-Err-Missing-clause-says g c = statuses.no_line (statuses.missing (search rules) (search rules))
