@@ -29,7 +29,7 @@ returns-in-Err-answers_text-clause-err g c =
     let e = c.in-Err-answers_text.e in
     let index = c.inputs_count-index.result in
     let unread : IsSomeAnd answers (λ name. FailsTo e index files name mid after) =
-        subst (λ (fs : Option Contents). IsSomeAnd answers (λ name. FailsTo e index fs name mid after)) c.source_of.ensures.files c.in-Err-answers_text.ensures.err in
+    subst (λ (fs : Option Contents). IsSomeAnd answers (λ name. FailsTo e index fs name mid after)) c.source_of.ensures.files c.in-Err-answers_text.ensures.err in
     subst (λ (refusal : Refusal). FailsToRun (sourcing_of c.args.tables.now r.options r.source) r (surroundings files before after) refusal) (sym c.of_read.ensures)
     (fails_answers c.args.tables.now r files before mid after c.in-Ok.files c.in-Ok.ensures.read c.in-Ok.ensures.tried answers index e c.name_of.ensures (c.inputs_count-index.ensures c.args.tables.now r.options) unread)
 
