@@ -1,4 +1,4 @@
-"""The lines of examples/cases, and the lists of rule files."""
+"""The lines of examples/cases and of files like it, and the lists of rule files."""
 import pathlib
 import re
 
@@ -17,9 +17,9 @@ def words_of(line):
     return words
 
 
-def blocks():
-    """Each line, as it stands and as words, and what is written for it."""
-    for block in re.split(r"^\$ ", (HERE / "cases").read_text(), flags=re.M)[1:]:
+def blocks(cases=HERE / "cases"):
+    """Each line of a file of cases, as it stands and as words, and what is written for it."""
+    for block in re.split(r"^\$ ", cases.read_text(), flags=re.M)[1:]:
         line, want = block.split("\n", 1)
         yield line, words_of(line), want
 

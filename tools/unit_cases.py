@@ -22,6 +22,10 @@ PRELUDE_OPT = """
 (decl pure u64_from_imm64 (u64) Imm64)
 (extern extractor infallible u64_from_imm64 u64_from_imm64)
 """.strip().splitlines()
+PRELUDE_LOWER = """
+(decl inst_data_value (Type InstructionData) Inst)
+(extern extractor inst_data_value inst_data_value)
+""".strip().splitlines()
 SIMPLIFY = ["(decl multi simplify (Value) Value)", "(rule (simplify (iadd ty x (iconst ty (u64_from_imm64 0)))) x)"]
 ANSWERS = """
 (answers C::inst_data_value (case (10) (list (tuple 32 (InstructionData.Binary (Opcode.Iadd) 20))))
@@ -29,7 +33,7 @@ ANSWERS = """
 (answers C::unpack_value_array_2 (case (20) (tuple 1 2)) (rest (tuple 0 0)))
 (answers C::u64_from_imm64 (rest 0))
 """.strip().splitlines()
-# a machine whose unit has little in it: instructions are made, none is taken apart
+# rules of a unit that has little in it
 LOWER = """
 (decl lower (u8) u8)
 (rule (lower 0) 1)
@@ -55,13 +59,8 @@ def opt_files(**texts):
 def s390x_files(lower=LOWER):
     """The tracked files of the unit of lowering to s390x."""
     paths = [line.strip() for line in FILES["s390x"][1:] if line.startswith("  src/")]
-    own = {paths[0]: PRELUDE, paths[-1]: lower}
+    own = {paths[0]: PRELUDE, paths[1]: PRELUDE_LOWER, paths[-1]: lower}
     return [text(f"file {path}", own[path]) if path in own else f"file {path}" for path in paths]
-
-
-def header(name, prefix=""):
-    """The head of the text of a unit, as it names its files."""
-    return "|".join(prefix + line.strip() for line in FILES[name][1:])
 
 
 def listed():
@@ -109,11 +108,11 @@ def refused():
     case("the file of answers comes after those of the unit", "run unit:s390x lower (4) --answers t", *s390x_files(), "status 5",
          "err isle: cannot read file t: absent\\n")
     case("a fault of the grammar, in a tracked file", "build --prefix src=own s390x", *s390x_files(["("]), "status 6",
-         "err own/isa/s390x/lower.isle:1:2: parse error: expected the first word of a definition, found the end of the file\\n")
+         "err own/isa/s390x/lower.isle:2:1: parse error: expected the first word of a definition, found the end of the file\\n")
     case("a fault of typing, in a tracked file", "build s390x", *s390x_files(["(rule (f) 1)"]), "status 7",
          "err src/isa/s390x/lower.isle:1:1: type error: term 'f' is not declared\\n")
-    case("a fault of typing, in a generated file", "build s390x", *s390x_files(["(type u8_as_type (primitive u8))", "(decl u8_eq (u8 u8) bool)"]), "status 7",
-         "err XX\\n")
+    case("a fault of typing, in a generated file", "build s390x", *s390x_files(["(decl u8_eq (u8 u8) bool)"]), "status 7",
+         "err gen/numerics.isle:123:1: type error: term 'u8_eq' is declared twice\\n")
     case("no term of the name", "run unit:s390x raise (4)", *s390x_files(), "status 13", "err isle: no term raise\\n")
 
 
