@@ -35,9 +35,9 @@ ANSWERS = """
 """.strip().splitlines()
 # rules of a unit that has little in it
 LOWER = """
-(decl lower (u8) u8)
-(rule (lower 0) 1)
-(rule (lower (u8_extract_even x)) (u8_wrapping_add x x))
+(decl partial lower (u8) u8)
+(rule 1 (lower 0) 1)
+(rule 0 (lower (u8_extract_even x)) (u8_wrapping_add x x))
 """.strip().splitlines()
 
 
@@ -84,7 +84,7 @@ def built():
         "call C::inst_data_value 2", "call C::u64_from_imm64 0"]))
     case("lowering to s390x", "build s390x", *s390x_files(), "holds pub fn constructor_lower<C: Context>(")
     case("one of its rules is run", "run unit:s390x lower (4) --answers t", *s390x_files(),
-         text("file t", ["(answers C::u8_matches_even (rest true))", "(answers C::u8_wrapping_add (rest 8))"]), "out 8\\n")
+         text("file t", ["(answers C::u8_matches_even (rest (some true)))", "(answers C::u8_wrapping_add (rest 8))"]), "out Some(8)\\n")
     case("a file whose name is that of a generated one is not read", "build s390x", *s390x_files(), "file gen/numerics.isle (", "file gen/clif_lower.isle (",
          "holds pub fn constructor_lower<C: Context>(")
     case("generated files are named as printed", "build --prefix gen=made --prefix src=own s390x", *s390x_files(), text("holds", [
