@@ -63,6 +63,28 @@ def s390x_files(lower=LOWER):
     return [text(f"file {path}", own[path]) if path in own else f"file {path}" for path in paths]
 
 
+def unread():
+    """Each file of a unit that isn't read, and each call of the directory that fails."""
+    print("# A file of a unit that isn't read, in each place; the first such one counts.\n")
+    paths = [line.strip() for line in FILES["s390x"][1:] if line.startswith("  src/")]
+    causes = {"absent": None, "not utf-8": "\\xff", "too long": "\\16777217{ }"}
+    for at, path in enumerate(paths):
+        for cause, bad in causes.items():
+            if cause == "too long" and at not in (0, len(paths) - 1):
+                continue
+            files = s390x_files()
+            files[at] = f"file {path} {bad}" if bad else f"file {path}/inner"
+            after = [f"file {other} \\xff" for other in paths[at + 1 : at + 2]]
+            if after:
+                files[at + 1] = after[0]
+            case(f"{cause}: {path}, and one after it isn't UTF-8" if after else f"{cause}: {path}", "build s390x", *files, "status 5", f"err isle: cannot read file {path}: {cause}\\n")
+    print("# A call of the directory that fails: of each file the look-up, a piece if it has one, and its end.\n")
+    calls = [path for path in paths for _ in range(2 if path.endswith("inst.isle") else 3)]
+    for call, path in enumerate(calls, 1):
+        case(f"call {call} fails", "build s390x", *s390x_files(), f"fails dir {call}", "status 5", f"err isle: cannot read file {path}: fault\\n")
+    case("no call is left", "build s390x", *s390x_files(), f"fails dir {len(calls) + 1}", "holds pub fn constructor_lower<C: Context>(")
+
+
 def listed():
     print("# Units, and the texts that are built of them; targets.\n")
     case("all units", "units", text("out", [line for name in FILES for line in FILES[name]]))
@@ -85,6 +107,12 @@ def built():
     case("lowering to s390x", "build s390x", *s390x_files(), "holds pub fn constructor_lower<C: Context>(")
     case("one of its rules is run", "run unit:s390x lower (4) --answers t", *s390x_files(),
          text("file t", ["(answers C::u8_matches_even (rest (some true)))", "(answers C::u8_wrapping_add (rest 8))"]), "out Some(8)\\n")
+    for name in ("x64", "aarch64", "riscv64", "pulley"):
+        paths = [line.strip() for line in FILES[name][1:] if line.startswith("  src/")]
+        own = {paths[0]: PRELUDE, paths[1]: PRELUDE_LOWER, paths[-1]: LOWER}
+        files = [text(f"file {path}", own[path]) if path in own else f"file {path}" for path in paths]
+        case(f"{name}, of files that have little in them", f"build {name}", *files, text("holds", ["pub fn constructor_lower<C: Context>("]
+             + [line.strip() for line in FILES[name][1:]]))
     case("a file whose name is that of a generated one is not read", "build s390x", *s390x_files(), "file gen/numerics.isle (", "file gen/clif_lower.isle (",
          "holds pub fn constructor_lower<C: Context>(")
     case("generated files are named as printed", "build --prefix gen=made --prefix src=own s390x", *s390x_files(), text("holds", [
@@ -118,4 +146,5 @@ def refused():
 
 listed()
 built()
+unread()
 refused()
