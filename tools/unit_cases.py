@@ -33,6 +33,13 @@ ANSWERS = """
 (answers C::unpack_value_array_2 (case (20) (tuple 1 2)) (rest (tuple 0 0)))
 (answers C::u64_from_imm64 (rest 0))
 """.strip().splitlines()
+# what generated terms of an assembler name
+MACHINE = [f"(type {name} (primitive {name}))" for name in "MInst Gpr Xmm ValueRegs Unit".split()]
+MACHINE += """
+(type SideEffectNoResult (enum (Inst (inst MInst))))
+(decl emit (MInst) Unit)
+(extern constructor emit emit)
+""".strip().splitlines()
 # rules of a unit that has little in it
 LOWER = """
 (decl partial lower (u8) u8)
@@ -109,7 +116,7 @@ def built():
          text("file t", ["(answers C::u8_matches_even (rest (some true)))", "(answers C::u8_wrapping_add (rest 8))"]), "out Some(8)\\n")
     for name in ("x64", "aarch64", "riscv64", "pulley"):
         paths = [line.strip() for line in FILES[name][1:] if line.startswith("  src/")]
-        own = {paths[0]: PRELUDE, paths[1]: PRELUDE_LOWER, paths[-1]: LOWER}
+        own = {paths[0]: PRELUDE, paths[1]: PRELUDE_LOWER, paths[2]: MACHINE if name == "x64" else [], paths[-1]: LOWER}
         files = [text(f"file {path}", own[path]) if path in own else f"file {path}" for path in paths]
         case(f"{name}, of files that have little in them", f"build {name}", *files, text("holds", ["pub fn constructor_lower<C: Context>("]
              + [line.strip() for line in FILES[name][1:]]))
