@@ -9,7 +9,7 @@ use Rattle.isle_meta.specs.TableNames.{is_among, repeats, repeats_after}
 -- ---- ends of one length
 
 length_joined : (x s : List ℕ) → length (x ++ s) ≡ length x + length s
-length_joined [] s = refl
+length_joined [] s = omega arith
 length_joined (c ∷ x) s = let l = length_joined x s in omega (arith, l)
 
 longer : (c : ℕ) (x s t : List ℕ) → length s ≡ length t → s ≡ (c ∷ x) ++ t → ⊥
@@ -104,15 +104,3 @@ joined_again (c ∷ x) f s = ap (λ v. c ∷ v) (joined_again x f s)
 pub joined_ends : (folder f s : List ℕ) → length s ≡ 8 → EndsIn (joined_name folder (f ++ s)) s
 joined_ends [] f s l = record { front = f; whole = refl; long = l; }
 joined_ends (b ∷ folder) f s l = record { front = (b ∷ folder) ++ (47 ∷ f); whole = joined_again (b ∷ folder) (47 ∷ f) s; long = l; }
-
--- ---- the names of the files
-
--- the six among rules
-rule_ends : List (List ℕ)
-rule_ends =
-    codes "ics.isle" ∷ codes "erics.rs" ∷ codes "opt.isle" ∷ codes "wer.isle" ∷ codes "gen.isle" ∷ codes "ler.isle" ∷ []
-
-abbrev pub rule_names : (folder : List ℕ) → List (List ℕ)
-rule_names folder =
-    joined_name folder (codes "numerics.isle") ∷ joined_name folder (codes "isle_numerics.rs") ∷ joined_name folder (codes "clif_opt.isle")
-    ∷ joined_name folder (codes "clif_lower.isle") ∷ joined_name folder (codes "pulley_gen.isle") ∷ joined_name folder (codes "assembler.isle") ∷ []

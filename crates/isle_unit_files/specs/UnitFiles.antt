@@ -1,5 +1,5 @@
 -- The files that are generated for units, and what their writing leaves and answers if there may be none.
-use Rattle.std.specs.Prelude.{◌≡◌, ℕ, List, [], ◌∷◌, ◌++◌, Bool, true, false, Option, Some, None, Result, Ok, Err, codes}
+use Rattle.std.specs.Prelude.{◌≡◌, ℕ, List, [], ◌∷◌, ◌++◌, Bool, true, false, Option, Some, Result, Ok, Err, codes}
 use Rattle.std.specs.List.{list_any}
 use Rattle.isle_assembler.specs.AssemblerDefs.{assembler_defs}
 use Rattle.isle_assembler.specs.Methods.{assembler_methods}
@@ -66,14 +66,14 @@ all_files out dir t isas = rust_files out t isas ++ (isle_files dir t ++ macro_f
 
 -- ---- what their writing leaves and answers
 
--- the same if no file is to be written: the tables are checked, memory may run out, and all files are as before
+-- what is answered if no file is to be written: the tables are checked, memory may run out, and all files are as before
 abbrev pub WritesNone : Tables → (old new : Option Contents) → Result ℕ GenError → Type 0
 WritesNone t old new (Ok n) = AreSupported t × (n ≡ 0) × (new ≡ old)
 WritesNone t old new (Err (gen.Unsupported found)) = IsFirstUnsupported t (Some found) × (new ≡ old)
 WritesNone t old new (Err (gen.Dir n)) = ⊥
 WritesNone t old new (Err (gen.Memory n)) = (n ≡ 0) × (new ≡ old)
 
--- what the writing of files leaves and answers, of which there may be none
+-- what the writing of files leaves and answers, of which there may be none: then it is that, and else as for preludes
 abbrev pub WritesAny : Tables → List File → (old new : Option Contents) → Result ℕ GenError → Type 0
 WritesAny t [] old new result = WritesNone t old new result
 WritesAny t (file ∷ files) old new result = WritesPreludes t (file ∷ files) old new result
