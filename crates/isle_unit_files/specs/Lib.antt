@@ -1,0 +1,2 @@
+pub mod UnitFiles
+pub mod Made
