@@ -5,6 +5,7 @@ pub use isle_settings::{
     Isa, IsaError, Preset, PresetItem, Setting, SettingGroup, SettingKind, isa_from_arch,
     preset_flags, settings_of,
 };
+pub use isle_unit_files::{generate, generate_isle, generate_rust};
 pub use isle_units::{
     IsleCompilation, IsleCompilations, PathsError, get_isle_compilations, shared_isle_lower_paths,
 };
