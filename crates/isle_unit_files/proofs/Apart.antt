@@ -1,6 +1,6 @@
 -- Names that end in other bytes are apart, whatever folders they lie in.
 use Rattle.std.proofs.Common.{◌≡◌, ℕ, ◌+◌, List, [], ◌∷◌, ◌++◌, length, Bool, true, false, refl, sym, ap, ◌∙◌, arith}
-use Rattle.std.specs.Prelude.{◌||◌, codes}
+use Rattle.std.specs.Prelude.{◌||◌}
 use Rattle.std.specs.Str.{bytes_eq}
 use Rattle.std.proofs.lemmas.Slice.Eq.{bytes_eq-Decides}
 use Rattle.isle_meta.specs.Layout.{joined_name}
@@ -102,5 +102,5 @@ joined_again (c ∷ x) f s = ap (λ v. c ∷ v) (joined_again x f s)
 
 -- a name in a folder ends as it does by itself
 pub joined_ends : (folder f s : List ℕ) → length s ≡ 8 → EndsIn (joined_name folder (f ++ s)) s
-joined_ends [] f s l = record { front = f; whole = refl; long = l; }
-joined_ends (b ∷ folder) f s l = record { front = (b ∷ folder) ++ (47 ∷ f); whole = joined_again (b ∷ folder) (47 ∷ f) s; long = l; }
+joined_ends [] f s l = record { front = f; whole = refl; long = l }
+joined_ends (b ∷ folder) f s l = record { front = (b ∷ folder) ++ (47 ∷ f); whole = joined_again (b ∷ folder) (47 ∷ f) s; long = l }

@@ -1,5 +1,5 @@
 -- No two of the files have one name, since no two names end in the same eight bytes.
-use Rattle.std.proofs.Common.{◌≡◌, ℕ, List, [], ◌∷◌, ◌++◌, false, refl, ap, ◌∙◌}
+use Rattle.std.proofs.Common.{◌≡◌, ℕ, List, [], ◌∷◌, false, refl, ap, ◌∙◌}
 use Rattle.std.specs.Prelude.{codes}
 use Rattle.isle_meta.specs.Layout.{joined_name}
 use Rattle.isle_meta.specs.TableNames.{repeats}
@@ -23,10 +23,19 @@ rule_ends rest =
     codes "ics.isle" ∷ codes "erics.rs" ∷ codes "opt.isle" ∷ codes "wer.isle" ∷ codes "gen.isle" ∷ codes "ler.isle" ∷ rest
 
 rules_end : (folder : List ℕ) (rest ends : List (List ℕ)) → AreEnds rest ends → AreEnds (rule_names folder rest) (rule_ends ends)
-rules_end folder rest ends e =
-    (joined_ends folder (codes "numer") (codes "ics.isle") refl, (joined_ends folder (codes "isle_num") (codes "erics.rs") refl,
-    (joined_ends folder (codes "clif_") (codes "opt.isle") refl, (joined_ends folder (codes "clif_lo") (codes "wer.isle") refl,
-    (joined_ends folder (codes "pulley_") (codes "gen.isle") refl, (joined_ends folder (codes "assemb") (codes "ler.isle") refl, e))))))
+rules_end folder rest ends e = (
+  joined_ends folder (codes "numer") (codes "ics.isle") refl,
+  (
+    joined_ends folder (codes "isle_num") (codes "erics.rs") refl,
+    (
+      joined_ends folder (codes "clif_") (codes "opt.isle") refl,
+      (
+        joined_ends folder (codes "clif_lo") (codes "wer.isle") refl,
+        (joined_ends folder (codes "pulley_") (codes "gen.isle") refl, (joined_ends folder (codes "assemb") (codes "ler.isle") refl, e)),
+      ),
+    ),
+  ),
+)
 
 -- the macro's file
 abbrev macro_name : (folder : List ℕ) → List (List ℕ)

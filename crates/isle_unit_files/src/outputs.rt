@@ -63,7 +63,11 @@ pub fn write_isle<D: Dir>(
     let lower = output(folder, "clif_lower.isle", &texts.lower);
     let pulley = output(folder, "pulley_gen.isle", &texts.pulley);
     let assembler = output(folder, "assembler.isle", &texts.assembler);
-    write_files(alloc, &[numerics, methods, opt, lower, pulley, assembler], dir)
+    write_files(
+        alloc,
+        &[numerics, methods, opt, lower, pulley, assembler],
+        dir,
+    )
 }
 
 /// Writes the texts of each build, in order.
@@ -86,7 +90,15 @@ pub fn write_build<D: Dir>(
     let pulley = output(rules, "pulley_gen.isle", &texts.rules.pulley);
     let assembler = output(rules, "assembler.isle", &texts.rules.assembler);
     let methods_macro = output(folders.out, "assembler-isle-macro.rs", &texts.assembler);
-    let all = [numerics, methods, opt, lower, pulley, assembler, methods_macro];
+    let all = [
+        numerics,
+        methods,
+        opt,
+        lower,
+        pulley,
+        assembler,
+        methods_macro,
+    ];
     write_files(alloc, &all, dir)
 }
 
@@ -112,6 +124,15 @@ pub fn write_all<D: Dir>(
     let pulley = output(rules, "pulley_gen.isle", &build.rules.pulley);
     let assembler = output(rules, "assembler.isle", &build.rules.assembler);
     let methods_macro = output(folders.out, "assembler-isle-macro.rs", &build.assembler);
-    let all = [rust, numerics, methods, opt, lower, pulley, assembler, methods_macro];
+    let all = [
+        rust,
+        numerics,
+        methods,
+        opt,
+        lower,
+        pulley,
+        assembler,
+        methods_macro,
+    ];
     write_files(alloc, &all, dir)
 }
