@@ -1,5 +1,5 @@
 -- No two of the files have one name, since no two names end in the same eight bytes.
-use Rattle.std.proofs.Common.{◌≡◌, ℕ, List, [], ◌∷◌, ◌++◌, false, refl, ap, ◌∙◌}
+use Rattle.std.proofs.Common.{◌≡◌, ℕ, List, [], ◌∷◌, false, refl, ap, ◌∙◌}
 use Rattle.std.specs.Prelude.{codes}
 use Rattle.isle_meta.specs.Layout.{joined_name}
 use Rattle.isle_meta.specs.TableNames.{repeats}

@@ -1,5 +1,5 @@
 -- What the check of tables and the making of texts answer, and the files that are made of texts.
-use Rattle.std.specs.Prelude.{◌≡◌, ℕ, List, [], ◌∷◌, ◌++◌, Some, None, Result, Ok, Err, string_bytes, codes}
+use Rattle.std.specs.Prelude.{◌≡◌, ℕ, List, [], ◌∷◌, ◌++◌, Some, Result, Ok, Err, string_bytes, codes}
 use Rattle.isle_assembler.specs.AssemblerDefs.{assembler_defs}
 use Rattle.isle_assembler.specs.Methods.{assembler_methods}
 use Rattle.isle_meta.specs.Layout.{joined_name}
