@@ -4,7 +4,6 @@
 mod build_error;
 mod files;
 mod generated;
-mod printed;
 mod reading;
 mod unit;
 

@@ -11,8 +11,7 @@ ghost use Rattle.isle_units.specs.Units.{inputs_of};
 
 use crate::build_error::BuildError;
 use crate::generated::generated_text;
-use crate::printed::name_shown;
-use isle_core::{Dir, Files, List, OutOfMemory, Prefix, ReadError, Text};
+use isle_core::{Dir, Files, List, OutOfMemory, Prefix, ReadError, Text, name_shown};
 use isle_meta::Tables;
 use isle_units::IsleCompilation;
 use std::alloc::{AllocError, Global};

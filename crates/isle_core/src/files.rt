@@ -1,11 +1,11 @@
 ghost use Rattle.std.specs.Prelude.{◌≡◌, ◌≤◌, ◌<◌, ◌+◌, ◌-◌, ◌*◌, ◌^◌, Some, None, length, map, IfOk, IfErr};
 ghost use Rattle.std.specs.Prelude.{IfSome, IsSomeAnd, slice_get};
-ghost use Rattle.std.specs.Option.{option_copied};
 ghost use Rattle.std.specs.String.{string_bytes};
 ghost use Rattle.isle_core.specs.Inputs.{bytes_each, AreRead, Fails, IsTried};
-ghost use Rattle.isle_core.specs.Printed.{after_prefix, shown};
+ghost use Rattle.isle_core.specs.Printed.{shown};
 
 use crate::options::Prefix;
+use crate::printed::name_shown;
 use crate::read_error::ReadError;
 use isle_base::{List, Text};
 use isle_outside::{Dir, OutOfMemory, read_text};
@@ -94,25 +94,4 @@ fn all_shown(alloc: Global, names: &[String], prefixes: &[Prefix]) -> Result<Vec
         printed.push(name_shown(alloc, name.as_str(), prefixes)?)?;
     }
     Ok(printed)
-}
-
-// A name as printed.
-fn name_shown(alloc: Global, name: &str, prefixes: &[Prefix]) -> Result<Text, OutOfMemory>
-    ensures { IfOk result (λ printed. printed ≡ shown prefixes.now name.now) }
-{
-    for p in prefixes {
-        if let Some(rest) = after_prefix(name, p.prefix.as_str()) {
-            let mut printed = String::from_str(alloc, p.name.as_str())?;
-            printed.push_str(rest)?;
-            return Ok(Text::new(printed));
-        }
-    }
-    Ok(Text::copied(alloc, name)?)
-}
-
-// What stands after the prefix, where the name begins with it.
-fn after_prefix<'a>(name: &'a str, prefix: &str) -> Option<&'a str>
-    ensures { option_copied result ≡ after_prefix prefix.now name.now }
-{
-    name.strip_prefix(prefix)
 }

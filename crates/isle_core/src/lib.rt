@@ -11,6 +11,7 @@ mod line_starts;
 mod names;
 mod options;
 mod position;
+mod printed;
 mod read_error;
 mod rule_sets;
 mod rules;
@@ -33,6 +34,7 @@ pub use isle_outside::{
 pub use line_starts::LineStarts;
 pub use options::{CodegenOptions, Prefix};
 pub use position::{Pos, Span};
+pub use printed::name_shown;
 pub use read_error::ReadError;
 pub use rule_sets::{Binding, Constraint, FlatRule, RuleSet};
 pub use rules::{Expr, IfLet, LetBinding, Pattern, Rule};
