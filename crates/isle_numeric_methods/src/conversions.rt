@@ -8,6 +8,7 @@ ghost use Rattle.isle_numeric_methods.specs.Methods.{back_body, back_method, con
 use crate::method::{push_argument, push_closing, push_head, push_opening};
 use isle_core::OutOfMemory;
 use isle_numerics::{Conversion, NumericType, conversions, is_lossless, is_other};
+use isle_printer::push_two;
 use std::alloc::{AllocError, Global};
 
 // Begins the method of a conversion.
@@ -29,15 +30,6 @@ fn push_conversion_head(
         Conversion::CastSigned => push_head(text, from, "", "cast_signed"),
         Conversion::CastUnsigned => push_head(text, from, "", "cast_unsigned"),
     }
-}
-
-// Appends two words.
-fn push_two(text: &mut String, first: &str, second: &str) -> Result<(), AllocError>
-    ensures { OnOk result
-        (string_bytes text.new ≡ string_bytes text.old ++ (first.now ++ second.now)) }
-{
-    text.push_str(first)?;
-    text.push_str(second)
 }
 
 // Appends what a conversion does.

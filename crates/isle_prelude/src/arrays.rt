@@ -8,8 +8,9 @@ ghost use Rattle.isle_prelude.specs.TypePieces.{array_decl_piece, array_piece, a
 ghost use Rattle.isle_prelude.specs.TypePieces.{block_array_piece, empty_tail, function_piece, item_piece};
 ghost use Rattle.isle_prelude.specs.TypePieces.{items_piece, made_head, taken_head, value_array_piece};
 
-use crate::pieces::{push_then_numbered, push_two};
+use crate::pieces::push_then_numbered;
 use isle_meta::InstructionFormat;
+use isle_printer::push_two;
 use std::alloc::{AllocError, Global};
 use std::collections::BTreeSet;
 

@@ -8,8 +8,9 @@ ghost use Rattle.isle_prelude.specs.TermPieces.{list_piece, list_term_piece, ope
 ghost use Rattle.isle_prelude.specs.TermPieces.{slice_term, unwrap_begin, values_piece};
 
 use crate::operands::{Kind, count_blocks, count_values, push_kind};
-use crate::pieces::{push_around, push_numbered, push_then_numbered};
+use crate::pieces::{push_numbered, push_then_numbered};
 use isle_meta::{Instruction, InstructionFormat};
+use isle_printer::push_around;
 use std::alloc::AllocError;
 
 // The operands of a kind: how many there are, and what stands before and behind this number in the term of their array.

@@ -8,9 +8,10 @@ ghost use Rattle.isle_prelude.specs.TypePieces.{opcode_line, raw_block_piece, va
 ghost use Rattle.isle_writing.specs.Text.{field_text};
 
 use crate::paths::short_name;
-use crate::pieces::{push_around, push_then_numbered, push_two};
+use crate::pieces::push_then_numbered;
 use crate::types::{push_bare_line, push_enum_head};
 use isle_meta::{ImmField, Instruction, InstructionFormat};
+use isle_printer::{push_around, push_two};
 use std::alloc::AllocError;
 
 // Appends a field and its type, after a blank.

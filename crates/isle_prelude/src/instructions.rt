@@ -11,8 +11,8 @@ ghost use Rattle.isle_writing.specs.Text.{spaced};
 use crate::data::push_data;
 use crate::manners::Manner;
 use crate::operands::operand_type;
-use crate::pieces::push_two;
 use isle_meta::{ClifOperand, Instruction, InstructionFormat};
+use isle_printer::push_two;
 use std::alloc::AllocError;
 
 // Appends the types of operands, with this before the first and a blank before each other.

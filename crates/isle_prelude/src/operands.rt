@@ -7,8 +7,8 @@ ghost use Rattle.isle_prelude.specs.Operands.{operand_type};
 ghost use Rattle.isle_prelude.specs.TermPieces.{kind_piece};
 
 use crate::paths::short_name;
-use crate::pieces::push_two;
 use isle_meta::{Instruction, OperandClass};
+use isle_printer::push_two;
 use std::alloc::AllocError;
 
 /// A kind of operands.

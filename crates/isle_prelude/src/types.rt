@@ -5,7 +5,7 @@ ghost use Rattle.std.specs.List.{flat_map};
 ghost use Rattle.isle_prelude.specs.Lent.{lent};
 ghost use Rattle.isle_prelude.specs.TypePieces.{bare_line, enum_head, enum_piece, primitive_piece};
 
-use crate::pieces::{push_around, push_two};
+use isle_printer::{push_around, push_two};
 use std::alloc::AllocError;
 use std::collections::BTreeSet;
 

@@ -8,7 +8,8 @@ ghost use Rattle.isle_pulley.specs.Display.{is_set as is_set_of, local_text, pat
 ghost use Rattle.isle_pulley.specs.Display.{where_true, write_head, write_tail, write_text, written_local};
 ghost use Rattle.isle_pulley_rows.specs.Words.{is_register as names_register};
 
-use crate::pieces::{push_around, push_listed};
+use crate::pieces::push_listed;
+use isle_printer::push_around;
 use isle_pulley_rows::{Operand, Operation, is_register};
 use std::alloc::AllocError;
 

@@ -7,8 +7,9 @@ ghost use Rattle.isle_pulley.specs.Emission.{encode_head, encode_tail, encoded, 
 ghost use Rattle.isle_pulley.specs.RustText.{items};
 
 use crate::display::{arm_opening, push_arm_head, push_display, push_pattern};
-use crate::pieces::{push_around, push_listed};
+use crate::pieces::push_listed;
 use crate::visits::{match_tail, push_visit};
+use isle_printer::push_around;
 use isle_pulley_rows::{Operand, Operation};
 use std::alloc::{AllocError, Global};
 

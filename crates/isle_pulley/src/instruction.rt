@@ -8,7 +8,8 @@ ghost use Rattle.isle_pulley.specs.Pieces.{variant_line, variant_piece};
 ghost use Rattle.isle_pulley.specs.Places.{written};
 ghost use Rattle.isle_writing.specs.Text.{field_text};
 
-use crate::pieces::{push_around, push_temporary, push_two, push_written};
+use crate::pieces::{push_temporary, push_written};
+use isle_printer::{push_around, push_two};
 use isle_pulley_rows::{Operand, Operation};
 use std::alloc::{AllocError, Global};
 

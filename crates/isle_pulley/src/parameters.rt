@@ -7,7 +7,7 @@ ghost use Rattle.isle_pulley.specs.RuleFile.{argument_types, param_types as type
 ghost use Rattle.isle_meta.specs.TableNames.{texts};
 ghost use Rattle.isle_writing.specs.Text.{spaced};
 
-use crate::pieces::push_two;
+use isle_printer::push_two;
 use isle_pulley_rows::Operand;
 use std::alloc::{AllocError, Global};
 

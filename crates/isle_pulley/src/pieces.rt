@@ -4,32 +4,8 @@ ghost use Rattle.std.specs.Prelude.{◌≡◌, ◌++◌, OnOk, string_bytes};
 ghost use Rattle.isle_pulley.specs.Display.{listed, where_true};
 ghost use Rattle.isle_pulley.specs.Places.{temporary, written};
 
+use isle_printer::push_two;
 use std::alloc::{AllocError, Global};
-
-/// Appends two words. The only error is want of memory.
-pub fn push_two(text: &mut String, first: &str, second: &str) -> Result<(), AllocError>
-    ensures { OnOk result
-        (string_bytes text.new ≡ string_bytes text.old ++ (first.now ++ second.now)) }
-{
-    text.push_str(first)?;
-    text.push_str(second)
-}
-
-/// Appends this, a name, and this. The only error is want of memory.
-pub fn push_around(
-    text: &mut String,
-    before: &str,
-    name: &str,
-    after: &str,
-) -> Result<(), AllocError>
-    ensures { OnOk result
-        (string_bytes text.new
-        ≡ string_bytes text.old ++ (before.now ++ (name.now ++ after.now))) }
-{
-    text.push_str(before)?;
-    text.push_str(name)?;
-    text.push_str(after)
-}
 
 /// Appends a name and a comma. The only error is want of memory.
 pub fn push_listed(text: &mut String, name: &str) -> Result<(), AllocError>

@@ -9,7 +9,8 @@ ghost use Rattle.isle_pulley.specs.Visits.{match_tail, some_text, use_of, use_te
 ghost use Rattle.isle_pulley.specs.Visits.{visit_head, visit_item, visit_opening, visits};
 
 use crate::display::{is_set, push_arm_head};
-use crate::pieces::{push_around, push_listed, push_where};
+use crate::pieces::{push_listed, push_where};
+use isle_printer::push_around;
 use isle_pulley_rows::{Operand, Operation, begins_with, is_register};
 use isle_spelling::is_among;
 use std::alloc::AllocError;
