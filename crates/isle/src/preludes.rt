@@ -1,5 +1,5 @@
-//! Preludes: tables of instructions, which of their rows isn't supported, the texts that are written from them, and those
-//! of numbers. `docs/LANGUAGE.md` says what they give a rule.
+//! Preludes: tables of instructions, which of their rows isn't supported, the texts that are written from them, and
+//! those of numbers. `docs/LANGUAGE.md` says what they give a rule.
 
 pub use isle_assembler::gen_asm;
 pub use isle_meta::{

@@ -1,8 +1,11 @@
 //! How a method of the macro turns operands into those of the assembler.
 
 ghost use Rattle.std.specs.Prelude.{◌≡◌, ◌++◌, OnOk, string_bytes};
-ghost use Rattle.isle_assembler.specs.Conversions.{access_word, aligned_word, assembler, class_maker, class_word};
-ghost use Rattle.isle_assembler.specs.Conversions.{converted, fixed_register, immediate, memory, new_register, read_write, reg_mem, register, wrapped};
+ghost use Rattle.isle_assembler.specs.Conversions.{access_word, aligned_word, assembler};
+ghost use Rattle.isle_assembler.specs.Conversions.{class_maker, class_word};
+ghost use Rattle.isle_assembler.specs.Conversions.{converted, fixed_register, immediate, memory};
+ghost use Rattle.isle_assembler.specs.Conversions.{new_register, read_write, reg_mem, register};
+ghost use Rattle.isle_assembler.specs.Conversions.{wrapped};
 
 use crate::pieces::push_pieces;
 use crate::signature::push_bits;

@@ -19,8 +19,8 @@ pub fn generate_isle(alloc: Global, f: &mut Formatter, insts: &[Inst]) -> Result
     }
 }
 
-/// Appends the macro of an assembler's methods to a formatter's text, as `rust_text` gives it. A refusal leaves it as it
-/// was.
+/// Appends the macro of an assembler's methods to a formatter's text, as `rust_text` gives it. A refusal leaves it as
+/// it was.
 pub fn generate_rust_macro(
     alloc: Global,
     f: &mut Formatter,

@@ -2,8 +2,10 @@
 
 ghost use Rattle.std.specs.Prelude.{◌≡◌, ◌++◌, IfOk, OnOk, string_bytes};
 ghost use Rattle.std.specs.List.{flat_map};
-ghost use Rattle.isle_assembler.specs.Methods.{argument, arguments, assembler_methods, head_line, inst_line, last_lines, let_line};
-ghost use Rattle.isle_assembler.specs.Methods.{line_begin, listed, macro_head, macro_tail, outer_line, param, params};
+ghost use Rattle.isle_assembler.specs.Methods.{argument, arguments, assembler_methods, head_line};
+ghost use Rattle.isle_assembler.specs.Methods.{inst_line, last_lines, let_line};
+ghost use Rattle.isle_assembler.specs.Methods.{line_begin, listed, macro_head, macro_tail};
+ghost use Rattle.isle_assembler.specs.Methods.{outer_line, param, params};
 ghost use Rattle.isle_assembler.specs.Methods.{row_method, rust_type, trap_argument};
 
 use crate::conversions::{assembler, push_converted};

@@ -2,9 +2,12 @@
 
 ghost use Rattle.std.specs.Prelude.{◌≡◌, ◌++◌, IfOk, OnOk, string_bytes};
 ghost use Rattle.isle_assembler_rows.specs.Operands.{lent};
-ghost use Rattle.isle_assembler.specs.Returns.{arm_begin, bound_of_two, bound_register, class_of, given, given_among, given_by};
-ghost use Rattle.isle_assembler.specs.Returns.{given_elsewhere, one_place, one_register, reached, registers, side_effect};
-ghost use Rattle.isle_assembler.specs.Returns.{memory_arm, register_arm, two_registers, with_register};
+ghost use Rattle.isle_assembler.specs.Returns.{arm_begin, bound_of_two, bound_register, class_of};
+ghost use Rattle.isle_assembler.specs.Returns.{given, given_among, given_by};
+ghost use Rattle.isle_assembler.specs.Returns.{given_elsewhere, one_place, one_register, reached};
+ghost use Rattle.isle_assembler.specs.Returns.{registers, side_effect};
+ghost use Rattle.isle_assembler.specs.Returns.{memory_arm, register_arm, two_registers};
+ghost use Rattle.isle_assembler.specs.Returns.{with_register};
 
 use crate::conversions::class_word;
 use crate::pieces::push_pieces;

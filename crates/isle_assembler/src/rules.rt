@@ -4,9 +4,13 @@ ghost use Rattle.std.specs.Prelude.{◌≡◌, ◌++◌, IfOk, OnOk, string_byte
 ghost use Rattle.std.specs.List.{flat_map};
 ghost use Rattle.isle_assembler.specs.AssemblerDefs.{choice_signature};
 ghost use Rattle.isle_assembler_rows.specs.Constructors.{constructors};
-ghost use Rattle.isle_assembler.specs.RuleTexts.{alternate_rule_text, call_text, choice_decl_text, choice_head_text, choice_text};
-ghost use Rattle.isle_assembler.specs.RuleTexts.{constructor_text, defer_text, emit_text, head_text, made_decl_text, made_rule_text, raw_text};
-ghost use Rattle.isle_assembler.specs.RuleTexts.{outputs_text, row_text, rule_text, signature_text, usual_rule_text};
+ghost use Rattle.isle_assembler.specs.RuleTexts.{alternate_rule_text, call_text, choice_decl_text};
+ghost use Rattle.isle_assembler.specs.RuleTexts.{choice_head_text, choice_text};
+ghost use Rattle.isle_assembler.specs.RuleTexts.{constructor_text, defer_text, emit_text};
+ghost use Rattle.isle_assembler.specs.RuleTexts.{head_text, made_decl_text, made_rule_text};
+ghost use Rattle.isle_assembler.specs.RuleTexts.{raw_text};
+ghost use Rattle.isle_assembler.specs.RuleTexts.{outputs_text, row_text, rule_text, signature_text};
+ghost use Rattle.isle_assembler.specs.RuleTexts.{usual_rule_text};
 
 use crate::pieces::push_pieces;
 use crate::signature::{Signature, push_handed, push_params, push_types};

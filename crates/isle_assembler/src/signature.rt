@@ -4,9 +4,11 @@ ghost use Rattle.std.specs.Prelude.{◌≡◌, ◌++◌, OnOk, filter, string_by
 ghost use Rattle.std.specs.List.{flat_map};
 ghost use Rattle.isle_assembler.specs.Methods.{gap};
 ghost use Rattle.isle_assembler_rows.specs.Operands.{is_raw, locations, trap_names};
-ghost use Rattle.isle_assembler.specs.RuleTexts.{all_handed_text, handed_text, names_text, params_text, temporary_text, types_text};
+ghost use Rattle.isle_assembler.specs.RuleTexts.{all_handed_text, handed_text, names_text};
+ghost use Rattle.isle_assembler.specs.RuleTexts.{params_text, temporary_text, types_text};
 ghost use Rattle.isle_assembler.specs.Signatures.{alignment, bits, class_name, imm_type, is_param};
-ghost use Rattle.isle_assembler.specs.Signatures.{operand_type, param_type, reg_mem_type, takes, type_in};
+ghost use Rattle.isle_assembler.specs.Signatures.{operand_type, param_type, reg_mem_type, takes};
+ghost use Rattle.isle_assembler.specs.Signatures.{type_in};
 
 use isle_assembler_rows::{Constructor, is_raw, is_read, is_reg_mem, is_written};
 use isle_meta::{Inst, Operand, OperandKind, RegClass};

@@ -1,7 +1,8 @@
 //! The constructors of an instruction's terms.
 
 ghost use Rattle.std.specs.Prelude.{◌≡◌};
-ghost use Rattle.isle_assembler_rows.specs.Constructors.{conversion, is_in_memory, place_type, result_type, suffix, temporary};
+ghost use Rattle.isle_assembler_rows.specs.Constructors.{conversion, is_in_memory, place_type};
+ghost use Rattle.isle_assembler_rows.specs.Constructors.{result_type, suffix, temporary};
 
 /// What the term of an instruction gives.
 #[derive(Clone, Copy)]

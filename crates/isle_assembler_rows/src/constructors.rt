@@ -2,7 +2,8 @@
 
 ghost use Rattle.std.specs.Prelude.{◌≡◌, IfOk};
 ghost use Rattle.std.specs.Option.{option_to_list};
-ghost use Rattle.isle_assembler_rows.specs.Constructors.{constructors, is_free_gpr, is_gpr_beside_memory, of_none, of_one};
+ghost use Rattle.isle_assembler_rows.specs.Constructors.{constructors, is_free_gpr};
+ghost use Rattle.isle_assembler_rows.specs.Constructors.{is_gpr_beside_memory, of_none, of_one};
 ghost use Rattle.isle_assembler_rows.specs.Constructors.{of_register, of_three, of_two, of_written};
 ghost use Rattle.isle_assembler_rows.specs.Operands.{lent};
 ghost use Rattle.isle_assembler_rows.specs.Told.{listed};

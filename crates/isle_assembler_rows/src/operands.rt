@@ -1,8 +1,10 @@
 //! The operands of an instruction.
 
 ghost use Rattle.std.specs.Prelude.{◌≡◌, IfOk};
-ghost use Rattle.isle_assembler_rows.specs.Operands.{is_fixed, is_gpr, is_gpr_register, is_imm, is_mem, is_of_xmm, is_raw, is_read};
-ghost use Rattle.isle_assembler_rows.specs.Operands.{is_reg_mem, is_register, is_written, is_xmm, lent, may_be_memory, written_operands};
+ghost use Rattle.isle_assembler_rows.specs.Operands.{is_fixed, is_gpr, is_gpr_register, is_imm};
+ghost use Rattle.isle_assembler_rows.specs.Operands.{is_mem, is_of_xmm, is_raw, is_read};
+ghost use Rattle.isle_assembler_rows.specs.Operands.{is_reg_mem, is_register, is_written, is_xmm};
+ghost use Rattle.isle_assembler_rows.specs.Operands.{lent, may_be_memory, written_operands};
 
 use isle_meta::{Inst, Mutability, Operand, OperandKind, RegClass};
 use std::alloc::{AllocError, Global};

@@ -3,7 +3,8 @@
 ghost use Rattle.std.specs.Prelude.{◌≡◌, ◌++◌, IfOk, OnOk, string_bytes};
 ghost use Rattle.std.specs.List.{flat_map};
 ghost use Rattle.isle_assembler_rows.specs.Constructors.{constructors};
-ghost use Rattle.isle_assembler_rows.specs.TermNames.{choice_term, choice_terms, constructor_terms, is_left_out, made_term};
+ghost use Rattle.isle_assembler_rows.specs.TermNames.{choice_term, choice_terms, constructor_terms};
+ghost use Rattle.isle_assembler_rows.specs.TermNames.{is_left_out, made_term};
 ghost use Rattle.isle_assembler_rows.specs.TermNames.{raw_term, row_terms};
 
 use crate::constructor::Constructor;

@@ -80,9 +80,9 @@ fn listed_files<D: Dir>(
     }
 }
 
-/// Returns the files of the unit of this name, with their names as printed: the tracked ones are read, in order, and the
-/// generated ones are made from the tables and stand after them (`specs/UnitSource.antt`). The only errors are `NoUnit`,
-/// `Unsupported`, `Io` and `Memory`, in this order; the first two come before any call of the directory.
+/// Returns the files of the unit of this name, with their names as printed: the tracked ones are read, in order, and
+/// the generated ones are made from the tables and stand after them (`specs/UnitSource.antt`). The only errors are
+/// `NoUnit`, `Unsupported`, `Io` and `Memory`, in this order; the first two come before any call of the directory.
 pub fn unit_files<D: Dir>(
     alloc: Global,
     dir: &mut D,

@@ -14,8 +14,9 @@ use isle_meta::Tables;
 use std::alloc::Global;
 
 /// Compiles the files of the unit of this name (`unit_files`), and returns the text of the program that their
-/// definitions give. `Errors` comes exactly if all were read and something is wrong with them, and reports it; `Name` if
-/// nothing else is wrong, and reports the first name that may not be emitted (`specs/Built.antt`). It writes nothing.
+/// definitions give. `Errors` comes exactly if all were read and something is wrong with them, and reports it; `Name`
+/// if nothing else is wrong, and reports the first name that may not be emitted (`specs/Built.antt`). It writes
+/// nothing.
 pub fn build_unit<D: Dir>(
     alloc: Global,
     dir: &mut D,

@@ -5,7 +5,8 @@ ghost use Rattle.isle_command_line.specs.Known.{Begin};
 ghost use Rattle.isle_command_line.specs.Lines.{LineS, IsBad, IsMissing};
 ghost use Rattle.isle_command_line.specs.Reading.{read, asks, StopsAt};
 ghost use Rattle.isle_command_line.specs.Views.{seen_command, seen_state};
-ghost use Rattle.isle_command_line.specs.declared.commands.LineFail.TheVariants.{Bad, Missing, Memory};
+ghost use Rattle.isle_command_line.specs.declared.commands.LineFail.TheVariants.{Bad, Missing};
+ghost use Rattle.isle_command_line.specs.declared.commands.LineFail.TheVariants.{Memory};
 
 use crate::commands::{Command, LineFail, RunLine};
 use crate::state::{State, WordFail, next};

@@ -1,4 +1,5 @@
-ghost use Rattle.std.specs.Prelude.{◌≡◌, Ok, Err, Some, None, IfOk, IfSome, option_copied, option_map, true, codes};
+ghost use Rattle.std.specs.Prelude.{◌≡◌, Ok, Err, Some, None, IfOk, IfSome, option_copied};
+ghost use Rattle.std.specs.Prelude.{option_map, true, codes};
 ghost use Rattle.isle_core.specs.Printed.{after_prefix};
 ghost use Rattle.isle_values.specs.Reading.{spelt};
 ghost use Rattle.isle_values.specs.Views.{seen};

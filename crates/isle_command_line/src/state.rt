@@ -1,5 +1,6 @@
 ghost use Rattle.std.specs.Prelude.{◌≡◌, Err, Some, None, IfOk};
-ghost use Rattle.isle_command_line.specs.Reading.{next, begun, nothing_given, request, targeted, sized};
+ghost use Rattle.isle_command_line.specs.Reading.{next, begun, nothing_given, request, targeted};
+ghost use Rattle.isle_command_line.specs.Reading.{sized};
 ghost use Rattle.isle_command_line.specs.Views.{seen_state};
 ghost use Rattle.isle_command_line.specs.declared.state.WordFail.TheVariants.{Bad};
 

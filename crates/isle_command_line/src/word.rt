@@ -1,7 +1,8 @@
 ghost use Rattle.std.specs.Prelude.{◌≡◌};
 ghost use Rattle.isle_command_line.specs.Words.{is_name};
 ghost use Rattle.isle_command_line.specs.Targets.{target_of};
-ghost use Rattle.isle_command_line.specs.Reading.{first, mark, kind_of, count, size, is_trace, is_answers};
+ghost use Rattle.isle_command_line.specs.Reading.{first, mark, kind_of, count, size, is_trace};
+ghost use Rattle.isle_command_line.specs.Reading.{is_answers};
 
 use crate::commands::Kind;
 use isle_settings::Isa;

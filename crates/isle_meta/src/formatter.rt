@@ -1,6 +1,7 @@
 //! A text of Rust or ISLE, line by line.
 
-ghost use Rattle.std.specs.Prelude.{◌≡◌, ◌+◌, ◌-◌, ◌^◌, ◌≤◌, ◌<◌, ◌++◌, ◌∷◌, [], Err, false, IfOk, OnOk};
+ghost use Rattle.std.specs.Prelude.{◌≡◌, ◌+◌, ◌-◌, ◌^◌, ◌≤◌, ◌<◌, ◌++◌, ◌∷◌, [], Err, false, IfOk};
+ghost use Rattle.std.specs.Prelude.{OnOk};
 ghost use Rattle.std.specs.Prelude.{OnErr, codes};
 ghost use Rattle.isle_meta.specs.Layout.{at_level, comment_mark, deeper, followed_by, joined_name};
 ghost use Rattle.isle_meta.specs.Layout.{shallower, with_line};

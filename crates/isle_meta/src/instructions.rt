@@ -76,8 +76,8 @@ fn has_repeated_name<'t>(
     Ok(!fresh | !cased | repeated)
 }
 
-// The shapes that an instruction's names break, after earlier instructions whose names are known. Its own are added. The
-// set `numeric` has the terms of the numeric prelude.
+// The shapes that an instruction's names break, after earlier instructions whose names are known. Its own are added.
+// The set `numeric` has the terms of the numeric prelude.
 fn name_faults<'t>(
     alloc: Global,
     numeric: &BTreeSet<&str>,

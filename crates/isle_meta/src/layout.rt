@@ -16,8 +16,8 @@ fn indent(line: &mut String, level: usize) -> Result<(), AllocError>
     Ok(())
 }
 
-/// Appends a line of two parts, after the blanks of its level; it is put together in a buffer. The only error is want of
-/// memory, and it leaves the text as it was.
+/// Appends a line of two parts, after the blanks of its level; it is put together in a buffer. The only error is want
+/// of memory, and it leaves the text as it was.
 pub fn push_line(
     out: &mut String,
     line: &mut String,

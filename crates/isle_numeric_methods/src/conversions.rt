@@ -3,7 +3,9 @@
 ghost use Rattle.std.specs.Prelude.{◌≡◌, ◌++◌, OnOk, string_bytes};
 ghost use Rattle.std.specs.List.{flat_map};
 ghost use Rattle.isle_numerics.specs.Definitions.{conversion_name, is_other};
-ghost use Rattle.isle_numeric_methods.specs.Methods.{back_body, back_method, conversion_body, conversion_method, head, methods_from, pair_methods};
+ghost use Rattle.isle_numeric_methods.specs.Methods.{back_body, back_method, conversion_body};
+ghost use Rattle.isle_numeric_methods.specs.Methods.{conversion_method, head, methods_from};
+ghost use Rattle.isle_numeric_methods.specs.Methods.{pair_methods};
 
 use crate::method::{push_argument, push_closing, push_head, push_opening};
 use isle_core::OutOfMemory;

@@ -4,7 +4,8 @@ ghost use Rattle.std.specs.Prelude.{◌≡◌, ◌++◌, OnOk, codes, string_byt
 ghost use Rattle.std.specs.List.{flat_map};
 ghost use Rattle.isle_numerics.specs.Definitions.{prefixed};
 ghost use Rattle.isle_numerics.specs.Table.{arguments};
-ghost use Rattle.isle_numeric_methods.specs.Methods.{argument_text, closing, head, opener, opening, optional};
+ghost use Rattle.isle_numeric_methods.specs.Methods.{argument_text, closing, head, opener, opening};
+ghost use Rattle.isle_numeric_methods.specs.Methods.{optional};
 
 use isle_numerics::Takes;
 use std::alloc::AllocError;

@@ -3,7 +3,8 @@
 ghost use Rattle.std.specs.Prelude.{◌≡◌, ◌++◌, OnOk, string_bytes};
 ghost use Rattle.std.specs.List.{flat_map};
 ghost use Rattle.isle_numerics.specs.declared.operation.Operation.TheVariants.{Ask};
-ghost use Rattle.isle_numeric_methods.specs.Methods.{matching_method, operation_method, operation_methods, some_of, type_methods};
+ghost use Rattle.isle_numeric_methods.specs.Methods.{matching_method, operation_method};
+ghost use Rattle.isle_numeric_methods.specs.Methods.{operation_methods, some_of, type_methods};
 
 use crate::method::{push_argument, push_arguments, push_closing, push_head, push_opening};
 use isle_core::OutOfMemory;

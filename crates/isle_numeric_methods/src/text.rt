@@ -2,7 +2,8 @@
 
 ghost use Rattle.std.specs.Prelude.{◌≡◌, ◌++◌, IfOk, OnOk, string_bytes};
 ghost use Rattle.std.specs.List.{flat_map};
-ghost use Rattle.isle_numeric_methods.specs.Methods.{macro_head, macro_tail, methods_from, methods_of, numeric_methods, type_methods};
+ghost use Rattle.isle_numeric_methods.specs.Methods.{macro_head, macro_tail, methods_from};
+ghost use Rattle.isle_numeric_methods.specs.Methods.{methods_of, numeric_methods, type_methods};
 
 use crate::conversions::push_from;
 use crate::operations::push_type;

@@ -5,7 +5,8 @@ ghost use Rattle.std.specs.List.{flat_map};
 ghost use Rattle.isle_writing.specs.Text.{def_texts};
 ghost use Rattle.isle_numerics.specs.declared.conversion.Conversion.{Conversion as Conv};
 ghost use Rattle.isle_numerics.specs.declared.numeric_type.NumericType.{NumericType as Numeric};
-ghost use Rattle.isle_numerics.specs.Definitions.{back_defs, conversion_defs, conversion_name, conversions_from, is_other, pair_defs};
+ghost use Rattle.isle_numerics.specs.Definitions.{back_defs, conversion_defs, conversion_name};
+ghost use Rattle.isle_numerics.specs.Definitions.{conversions_from, is_other, pair_defs};
 
 use crate::definition::{
     prefixed, prefixed_twice, push_answered, push_constructed, push_converter, push_declared,

@@ -1,6 +1,7 @@
 //! Definitions of the numeric prelude, one by one.
 
-ghost use Rattle.std.specs.Prelude.{◌≡◌, ◌++◌, [], ◌∷◌, Bool, true, false, OnOk, IfOk, codes, string_bytes};
+ghost use Rattle.std.specs.Prelude.{◌≡◌, ◌++◌, [], ◌∷◌, Bool, true, false, OnOk, IfOk, codes};
+ghost use Rattle.std.specs.Prelude.{string_bytes};
 ghost use Rattle.isle_ast.specs.Tree.{ExternConstructor, ExternExtractor, Extractor, Converter};
 ghost use Rattle.isle_ast.specs.Views.{pattern};
 ghost use Rattle.isle_writing.specs.Text.{def_text, def_texts};

@@ -1,10 +1,12 @@
 //! The extractors of a predicate.
 
-ghost use Rattle.std.specs.Prelude.{◌≡◌, ◌++◌, [], ◌∷◌, Bool, OnOk, IfOk, codes, string_bytes, false};
+ghost use Rattle.std.specs.Prelude.{◌≡◌, ◌++◌, [], ◌∷◌, Bool, OnOk, IfOk, codes, string_bytes};
+ghost use Rattle.std.specs.Prelude.{false};
 ghost use Rattle.isle_ast.specs.Tree.{ExternExtractor};
 ghost use Rattle.isle_ast.specs.Views.{pattern};
 ghost use Rattle.isle_writing.specs.Text.{def_texts};
-ghost use Rattle.isle_numerics.specs.Definitions.{declared, extracted, extractors, flagged, no_place, standing};
+ghost use Rattle.isle_numerics.specs.Definitions.{declared, extracted, extractors, flagged};
+ghost use Rattle.isle_numerics.specs.Definitions.{no_place, standing};
 
 use crate::definition::{prefixed_twice, push_answered, push_declared, push_template};
 use isle_ast::AstPattern;
@@ -64,7 +66,8 @@ fn push_matching(alloc: Global, text: &mut String, ty: &str, term: &str) -> Resu
     ensures { OnOk result
         (string_bytes text.new
         ≡ string_bytes text.old
-        ++ def_texts (declared term.now false (codes "bool" ∷ []) ty.now ∷ ExternExtractor term.now term.now false no_place ∷ [])) }
+        ++ def_texts (declared term.now false (codes "bool" ∷ []) ty.now
+        ∷ ExternExtractor term.now term.now false no_place ∷ [])) }
 {
     push_declared(text, term, false, one_name(alloc, "bool")?, ty)?;
     push_answered(text, term, term)

@@ -2,7 +2,8 @@
 
 ghost use Rattle.std.specs.Prelude.{◌≡◌, pos, ◌+ℤ◌, ◌-ℤ◌, ◌*ℤ◌, true, false};
 ghost use Rattle.isle_core.specs.Int.{is_signed};
-ghost use Rattle.isle_numerics.specs.Meaning.{arithmetic, checked, expected, number_of, reduced, remainder, wrapped_quotient};
+ghost use Rattle.isle_numerics.specs.Meaning.{arithmetic, checked, expected, number_of, reduced};
+ghost use Rattle.isle_numerics.specs.Meaning.{remainder, wrapped_quotient};
 
 use crate::eval::OpResult;
 use crate::exact::{difference, product, quotient, sum};

@@ -2,7 +2,8 @@
 
 ghost use Rattle.std.specs.Prelude.{◌≡◌, ◌≢◌, IfOk};
 ghost use Rattle.isle_numerics.specs.NumericTypes.{IsNumeric};
-ghost use Rattle.isle_numerics.specs.Conversions.{conversions, have_one_sign, is_lossless, IsConvertedAsNumbersAllow};
+ghost use Rattle.isle_numerics.specs.Conversions.{conversions, have_one_sign, is_lossless};
+ghost use Rattle.isle_numerics.specs.Conversions.{IsConvertedAsNumbersAllow};
 ghost use Rattle.isle_numerics.specs.Definitions.{is_other, is_trial};
 
 use crate::numeric_type::NumericType;

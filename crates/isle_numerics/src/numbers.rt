@@ -4,7 +4,8 @@ ghost use Rattle.std.specs.Prelude.{◌≡◌, ◌<◌, ◌^◌, ◌%◌, pos, u
 ghost use mir.Val.{bits, hbits};
 ghost use Rattle.isle_core.specs.Int.{width};
 ghost use Rattle.isle_spelling.specs.Literal.{of_bits};
-ghost use Rattle.isle_numerics.specs.Meaning.{carried, number_of, opposite_pattern, pattern, reduced};
+ghost use Rattle.isle_numerics.specs.Meaning.{carried, number_of, opposite_pattern, pattern};
+ghost use Rattle.isle_numerics.specs.Meaning.{reduced};
 
 use isle_core::IntType;
 

@@ -1,7 +1,8 @@
 //! What the table says of each operation.
 
 ghost use Rattle.std.specs.Prelude.{◌≡◌, drop};
-ghost use Rattle.isle_numerics.specs.Operations.{row, comparison_row, arithmetic_row, bitwise_row, shift_row, predicate_row, count_row, negation_row};
+ghost use Rattle.isle_numerics.specs.Operations.{row, comparison_row, arithmetic_row, bitwise_row};
+ghost use Rattle.isle_numerics.specs.Operations.{shift_row, predicate_row, count_row, negation_row};
 ghost use Rattle.isle_numerics.specs.Table.{is_predicate};
 
 use crate::operation::{

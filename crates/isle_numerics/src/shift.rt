@@ -3,7 +3,8 @@
 ghost use Rattle.std.specs.Prelude.{◌≡◌, ◌<◌, ◌%◌, unsigned_abs};
 ghost use mir.Val.{bits};
 ghost use Rattle.isle_core.specs.Int.{width};
-ghost use Rattle.isle_numerics.specs.Meaning.{in_width, number_of, rotated_left, shift, shifted_left, shifted_right};
+ghost use Rattle.isle_numerics.specs.Meaning.{in_width, number_of, rotated_left, shift};
+ghost use Rattle.isle_numerics.specs.Meaning.{shifted_left, shifted_right};
 
 use crate::arithmetic::{checked, expected};
 use crate::eval::OpResult;

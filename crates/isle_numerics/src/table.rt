@@ -3,7 +3,8 @@
 ghost use Rattle.std.specs.Prelude.{◌≡◌, ◌++◌, [], ◌∷◌, IfOk, OnOk, map};
 ghost use Rattle.isle_numerics.specs.NumericTypes.{IsNumeric};
 ghost use Rattle.isle_numerics.specs.Operations.{row};
-ghost use Rattle.isle_numerics.specs.Table.{arguments, given, listed, operations, own_operations, ops_for};
+ghost use Rattle.isle_numerics.specs.Table.{arguments, given, listed, operations, own_operations};
+ghost use Rattle.isle_numerics.specs.Table.{ops_for};
 
 use crate::numeric_type::NumericType;
 use crate::operation::{

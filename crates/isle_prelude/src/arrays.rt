@@ -2,11 +2,15 @@
 
 ghost use Rattle.std.specs.Prelude.{◌≡◌, ◌++◌, IfOk, OnOk, string_bytes};
 ghost use Rattle.std.specs.List.{flat_map};
-ghost use Rattle.isle_prelude.specs.Arrays.{above_one, block_array_sizes, value_array_size, value_array_sizes};
+ghost use Rattle.isle_prelude.specs.Arrays.{above_one, block_array_sizes, value_array_size};
+ghost use Rattle.isle_prelude.specs.Arrays.{value_array_sizes};
 ghost use Rattle.isle_prelude.specs.Sizes.{with_size};
-ghost use Rattle.isle_prelude.specs.TypePieces.{array_decl_piece, array_piece, array_type_piece, arrays_piece};
-ghost use Rattle.isle_prelude.specs.TypePieces.{block_array_piece, empty_tail, function_piece, item_piece};
-ghost use Rattle.isle_prelude.specs.TypePieces.{items_piece, made_head, taken_head, value_array_piece};
+ghost use Rattle.isle_prelude.specs.TypePieces.{array_decl_piece, array_piece, array_type_piece};
+ghost use Rattle.isle_prelude.specs.TypePieces.{arrays_piece};
+ghost use Rattle.isle_prelude.specs.TypePieces.{block_array_piece, empty_tail, function_piece};
+ghost use Rattle.isle_prelude.specs.TypePieces.{item_piece};
+ghost use Rattle.isle_prelude.specs.TypePieces.{items_piece, made_head, taken_head};
+ghost use Rattle.isle_prelude.specs.TypePieces.{value_array_piece};
 
 use crate::pieces::push_then_numbered;
 use isle_meta::InstructionFormat;

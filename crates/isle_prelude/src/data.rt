@@ -3,8 +3,10 @@
 
 ghost use Rattle.std.specs.Prelude.{◌≡◌, ◌++◌, OnOk, string_bytes, false};
 ghost use Rattle.isle_prelude.specs.Kinds.{is_of};
-ghost use Rattle.isle_prelude.specs.TermPieces.{blocks_piece, counted_piece, data_begin, data_piece, kind_piece};
-ghost use Rattle.isle_prelude.specs.TermPieces.{list_piece, list_term_piece, operands_piece, several_piece};
+ghost use Rattle.isle_prelude.specs.TermPieces.{blocks_piece, counted_piece, data_begin};
+ghost use Rattle.isle_prelude.specs.TermPieces.{data_piece, kind_piece};
+ghost use Rattle.isle_prelude.specs.TermPieces.{list_piece, list_term_piece, operands_piece};
+ghost use Rattle.isle_prelude.specs.TermPieces.{several_piece};
 ghost use Rattle.isle_prelude.specs.TermPieces.{slice_term, unwrap_begin, values_piece};
 
 use crate::operands::{Kind, count_blocks, count_values, push_kind};

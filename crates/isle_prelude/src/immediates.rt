@@ -6,7 +6,8 @@ ghost use Rattle.isle_meta.specs.declared.clif.ImmField.{ImmField as FieldRow};
 ghost use Rattle.isle_prelude.specs.FirstFields.{HasFirsts};
 ghost use Rattle.isle_prelude.specs.Immediates.{enum_types, plain_types};
 ghost use Rattle.isle_prelude.specs.Lent.{lent};
-ghost use Rattle.isle_prelude.specs.TypePieces.{imm_enum_piece, imm_piece, is_kept, primitive_piece, types_kept};
+ghost use Rattle.isle_prelude.specs.TypePieces.{imm_enum_piece, imm_piece, is_kept};
+ghost use Rattle.isle_prelude.specs.TypePieces.{primitive_piece, types_kept};
 
 use crate::ascending::put;
 use crate::first_fields::{first_fields, type_values};

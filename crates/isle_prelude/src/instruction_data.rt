@@ -2,8 +2,10 @@
 
 ghost use Rattle.std.specs.Prelude.{◌≡◌, ◌++◌, OnOk, string_bytes, codes, []};
 ghost use Rattle.std.specs.List.{flat_map};
-ghost use Rattle.isle_prelude.specs.TypePieces.{block_fields_piece, data_types_piece, enum_piece, fields_piece};
-ghost use Rattle.isle_prelude.specs.TypePieces.{format_line, imm_field_piece, numbered, opcode_field};
+ghost use Rattle.isle_prelude.specs.TypePieces.{block_fields_piece, data_types_piece, enum_piece};
+ghost use Rattle.isle_prelude.specs.TypePieces.{fields_piece};
+ghost use Rattle.isle_prelude.specs.TypePieces.{format_line, imm_field_piece, numbered};
+ghost use Rattle.isle_prelude.specs.TypePieces.{opcode_field};
 ghost use Rattle.isle_prelude.specs.TypePieces.{opcode_line, raw_block_piece, value_fields_piece};
 ghost use Rattle.isle_writing.specs.Text.{field_text};
 

@@ -3,7 +3,8 @@
 ghost use Rattle.std.specs.Prelude.{◌≡◌, ◌++◌, OnOk, string_bytes, codes};
 ghost use Rattle.isle_prelude.specs.FileManners.{making_begin};
 ghost use Rattle.isle_prelude.specs.InstructionParts.{names_in, operand_types};
-ghost use Rattle.isle_prelude.specs.TermPieces.{declaration_piece, extractor_begin, extractor_piece, head_piece};
+ghost use Rattle.isle_prelude.specs.TermPieces.{declaration_piece, extractor_begin};
+ghost use Rattle.isle_prelude.specs.TermPieces.{extractor_piece, head_piece};
 ghost use Rattle.isle_prelude.specs.TermPieces.{making_piece, rule_begin, rule_piece, taken_piece};
 ghost use Rattle.isle_prelude.specs.TermPieces.{type_piece, types_piece};
 ghost use Rattle.isle_writing.specs.Text.{spaced};

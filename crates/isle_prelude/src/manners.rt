@@ -1,8 +1,10 @@
 //! How a file takes an instruction apart, and makes it.
 
 ghost use Rattle.std.specs.Prelude.{◌≡◌, option_map};
-ghost use Rattle.isle_prelude.specs.FileManners.{file_case, is_typed, lower_case, making_begin, opt_case};
-ghost use Rattle.isle_prelude.specs.FileManners.{plain_maker, plain_taker, ret_of, taking_begin, typed_maker};
+ghost use Rattle.isle_prelude.specs.FileManners.{file_case, is_typed, lower_case, making_begin};
+ghost use Rattle.isle_prelude.specs.FileManners.{opt_case};
+ghost use Rattle.isle_prelude.specs.FileManners.{plain_maker, plain_taker, ret_of, taking_begin};
+ghost use Rattle.isle_prelude.specs.FileManners.{typed_maker};
 ghost use Rattle.isle_prelude.specs.FileManners.{typed_taker, untyped_taker};
 
 use isle_meta::Instruction;

@@ -5,7 +5,8 @@ ghost use Rattle.isle_meta.specs.Layout.{joined_name};
 ghost use Rattle.isle_meta.specs.TableNames.{repeats};
 ghost use Rattle.isle_outside.specs.Directory.{Holds, KeepsEntries, KeepsOthers, Rose};
 ghost use Rattle.isle_outside.specs.Failures.{is_fault};
-ghost use Rattle.isle_prelude_files.specs.Outputs.{AddsNoSeconds, KeepsCounts, Writes, files_of, names_of};
+ghost use Rattle.isle_prelude_files.specs.Outputs.{AddsNoSeconds, KeepsCounts, Writes, files_of};
+ghost use Rattle.isle_prelude_files.specs.Outputs.{names_of};
 
 use isle_core::{Dir, DirFault};
 use isle_meta::{GenError, joined};

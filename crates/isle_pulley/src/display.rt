@@ -2,10 +2,14 @@
 
 ghost use Rattle.std.specs.Prelude.{◌≡◌, ◌++◌, ◌&&◌, OnOk, not, string_bytes, true};
 ghost use Rattle.std.specs.List.{flat_map};
-ghost use Rattle.isle_pulley.specs.Display.{arm_head, arm_opening, comma, display_arm, display_head};
-ghost use Rattle.isle_pulley.specs.Display.{display_item, display_tail, form_end, format_text, format_texts};
-ghost use Rattle.isle_pulley.specs.Display.{is_set as is_set_of, local_text, pattern_text, read_local, shown};
-ghost use Rattle.isle_pulley.specs.Display.{where_true, write_head, write_tail, write_text, written_local};
+ghost use Rattle.isle_pulley.specs.Display.{arm_head, arm_opening, comma, display_arm};
+ghost use Rattle.isle_pulley.specs.Display.{display_head};
+ghost use Rattle.isle_pulley.specs.Display.{display_item, display_tail, form_end, format_text};
+ghost use Rattle.isle_pulley.specs.Display.{format_texts};
+ghost use Rattle.isle_pulley.specs.Display.{is_set as is_set_of, local_text, pattern_text};
+ghost use Rattle.isle_pulley.specs.Display.{read_local, shown};
+ghost use Rattle.isle_pulley.specs.Display.{where_true, write_head, write_tail, write_text};
+ghost use Rattle.isle_pulley.specs.Display.{written_local};
 ghost use Rattle.isle_pulley_rows.specs.Words.{is_register as names_register};
 
 use crate::pieces::push_listed;

@@ -2,8 +2,10 @@
 
 ghost use Rattle.std.specs.Prelude.{◌≡◌, ◌++◌, IfOk, OnOk, string_bytes};
 ghost use Rattle.std.specs.List.{flat_map};
-ghost use Rattle.isle_pulley.specs.Emission.{argument_text, binary_argument, emit_arm, emit_head, emit_item};
-ghost use Rattle.isle_pulley.specs.Emission.{encode_head, encode_tail, encoded, noted_trap, trap_text};
+ghost use Rattle.isle_pulley.specs.Emission.{argument_text, binary_argument, emit_arm, emit_head};
+ghost use Rattle.isle_pulley.specs.Emission.{emit_item};
+ghost use Rattle.isle_pulley.specs.Emission.{encode_head, encode_tail, encoded, noted_trap};
+ghost use Rattle.isle_pulley.specs.Emission.{trap_text};
 ghost use Rattle.isle_pulley.specs.RustText.{items};
 
 use crate::display::{arm_opening, push_arm_head, push_display, push_pattern};

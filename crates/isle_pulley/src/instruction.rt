@@ -2,8 +2,10 @@
 
 ghost use Rattle.std.specs.Prelude.{◌≡◌, ◌++◌, OnOk, string_bytes};
 ghost use Rattle.std.specs.List.{flat_map};
-ghost use Rattle.isle_pulley.specs.Pieces.{emitted_piece, fields_piece, inst_piece, name_behind, operand_piece};
-ghost use Rattle.isle_pulley.specs.Pieces.{emitted_head, operands_piece, place_piece, type_head, type_piece};
+ghost use Rattle.isle_pulley.specs.Pieces.{emitted_piece, fields_piece, inst_piece, name_behind};
+ghost use Rattle.isle_pulley.specs.Pieces.{operand_piece};
+ghost use Rattle.isle_pulley.specs.Pieces.{emitted_head, operands_piece, place_piece, type_head};
+ghost use Rattle.isle_pulley.specs.Pieces.{type_piece};
 ghost use Rattle.isle_pulley.specs.Pieces.{variant_line, variant_piece};
 ghost use Rattle.isle_pulley.specs.Places.{written};
 ghost use Rattle.isle_writing.specs.Text.{field_text};

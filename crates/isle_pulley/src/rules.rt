@@ -3,8 +3,10 @@
 ghost use Rattle.std.specs.Prelude.{◌≡◌, ◌++◌, ◌∷◌, [], IfOk, OnOk, string_bytes};
 ghost use Rattle.std.specs.List.{flat_map};
 ghost use Rattle.isle_meta.specs.TableNames.{texts};
-ghost use Rattle.isle_pulley.specs.Pieces.{body_piece, declaration_piece, file_piece, operation_piece};
-ghost use Rattle.isle_pulley.specs.Pieces.{effect_head, head_piece, pair_piece, pair_tail, places_piece};
+ghost use Rattle.isle_pulley.specs.Pieces.{body_piece, declaration_piece, file_piece};
+ghost use Rattle.isle_pulley.specs.Pieces.{operation_piece};
+ghost use Rattle.isle_pulley.specs.Pieces.{effect_head, head_piece, pair_piece, pair_tail};
+ghost use Rattle.isle_pulley.specs.Pieces.{places_piece};
 ghost use Rattle.isle_pulley.specs.Pieces.{rule_piece, signature_piece};
 ghost use Rattle.isle_pulley.specs.RuleFile.{answer_type};
 

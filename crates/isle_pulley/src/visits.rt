@@ -3,9 +3,11 @@
 ghost use Rattle.std.specs.Prelude.{◌≡◌, ◌++◌, ◌&&◌, ◌||◌, OnOk, string_bytes};
 ghost use Rattle.std.specs.List.{flat_map};
 ghost use Rattle.isle_pulley.specs.Display.{listed, where_true};
-ghost use Rattle.isle_pulley.specs.Visits.{address_of, address_text, def_of, def_text, is_address as names_address};
+ghost use Rattle.isle_pulley.specs.Visits.{address_of, address_text, def_of, def_text};
+ghost use Rattle.isle_pulley.specs.Visits.{is_address as names_address};
 ghost use Rattle.isle_pulley.specs.Visits.{is_frame as names_frame, is_used as uses};
-ghost use Rattle.isle_pulley.specs.Visits.{match_tail, some_text, use_of, use_text, visit_arm, visit_end};
+ghost use Rattle.isle_pulley.specs.Visits.{match_tail, some_text, use_of, use_text, visit_arm};
+ghost use Rattle.isle_pulley.specs.Visits.{visit_end};
 ghost use Rattle.isle_pulley.specs.Visits.{visit_head, visit_item, visit_opening, visits};
 
 use crate::display::{is_set, push_arm_head};

@@ -4,7 +4,8 @@ ghost use Rattle.std.specs.Prelude.{◌≡◌, List, ℕ, option_map};
 ghost use Rattle.std.specs.Option.{option_copied};
 ghost use denote.Ref.{Bor};
 ghost use Rattle.isle_core.specs.Printed.{after_prefix};
-ghost use Rattle.isle_pulley_rows.specs.BinaryParts.{before_end, binary as binary_of, of_parts, split};
+ghost use Rattle.isle_pulley_rows.specs.BinaryParts.{before_end, binary as binary_of, of_parts};
+ghost use Rattle.isle_pulley_rows.specs.BinaryParts.{split};
 ghost use Rattle.isle_pulley_rows.specs.BinaryParts.{with_second, with_third};
 
 use crate::operand::Operand;

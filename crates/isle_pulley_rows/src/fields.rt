@@ -1,8 +1,10 @@
 //! The operands of rows.
 
 ghost use Rattle.std.specs.Prelude.{◌≡◌, ◌++◌, IfOk, OnOk, map};
-ghost use Rattle.isle_pulley_rows.specs.Operands.{field_operand, has_trap as traps, has_trapping_address};
-ghost use Rattle.isle_pulley_rows.specs.Operands.{operands as operands_of, plain_operand, read_type, trap_operand};
+ghost use Rattle.isle_pulley_rows.specs.Operands.{field_operand, has_trap as traps};
+ghost use Rattle.isle_pulley_rows.specs.Operands.{has_trapping_address};
+ghost use Rattle.isle_pulley_rows.specs.Operands.{operands as operands_of, plain_operand};
+ghost use Rattle.isle_pulley_rows.specs.Operands.{read_type, trap_operand};
 ghost use Rattle.isle_pulley_rows.specs.Skipped.{is_skipped as skips};
 
 use crate::binary::binary;

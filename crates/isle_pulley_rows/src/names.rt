@@ -2,9 +2,11 @@
 
 ghost use Rattle.std.specs.Prelude.{◌≡◌, ◌++◌, IfOk, OnOk};
 ghost use Rattle.isle_meta.specs.TableNames.{texts};
-ghost use Rattle.isle_pulley_rows.specs.Names.{operand_names as names_in, operand_types as types_in};
+ghost use Rattle.isle_pulley_rows.specs.Names.{operand_names as names_in};
+ghost use Rattle.isle_pulley_rows.specs.Names.{operand_types as types_in};
 ghost use Rattle.isle_pulley_rows.specs.Names.{names_of, types_of};
-ghost use Rattle.isle_pulley_rows.specs.PulleyRow.{field_names as names_of_fields, row_names as names_of_row};
+ghost use Rattle.isle_pulley_rows.specs.PulleyRow.{field_names as names_of_fields};
+ghost use Rattle.isle_pulley_rows.specs.PulleyRow.{row_names as names_of_row};
 
 use crate::operand::Operand;
 use isle_core::Text;

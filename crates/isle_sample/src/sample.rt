@@ -2,7 +2,8 @@
 
 ghost use Rattle.std.specs.Prelude.{◌≡◌, ◌+◌, ◌*◌, ◌%◌, ◌++◌, [], ◌∷◌, OnOk, IfOk};
 ghost use Rattle.std.specs.Prelude.{string_bytes, codes};
-ghost use Rattle.isle_sample.specs.Sample.{term_name, declaration, argument, given, rule, last_rule};
+ghost use Rattle.isle_sample.specs.Sample.{term_name, declaration, argument, given, rule};
+ghost use Rattle.isle_sample.specs.Sample.{last_rule};
 ghost use Rattle.isle_codegen.specs.LawfulEnvironment.{AreAccepted};
 ghost use Rattle.isle_sample.specs.Sample.{row, rows, term_text, sample};
 

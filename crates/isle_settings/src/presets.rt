@@ -2,8 +2,10 @@
 
 ghost use Rattle.std.specs.Prelude.{◌≡◌, ◌<◌, ◌≤◌, ◌↔◌, ◌⊎◌, ℕ, IfOk, length};
 ghost use Rattle.std.specs.List.{Contains};
-ghost use Rattle.isle_settings.specs.Marks.{HasMark, IsMarked, IsPending, marked_from, with_flags, with_presets};
-ghost use Rattle.isle_settings.specs.PresetClosure.{AreReached, HasItem, IsLawfulItem, IsWellFormed, Reaches};
+ghost use Rattle.isle_settings.specs.Marks.{HasMark, IsMarked, IsPending, marked_from, with_flags};
+ghost use Rattle.isle_settings.specs.Marks.{with_presets};
+ghost use Rattle.isle_settings.specs.PresetClosure.{AreReached, HasItem, IsLawfulItem};
+ghost use Rattle.isle_settings.specs.PresetClosure.{IsWellFormed, Reaches};
 ghost use Rattle.isle_settings.specs.declared.group.PresetItem.{PresetItem as Item};
 
 use crate::group::{Preset, PresetItem, SettingGroup};

@@ -1,11 +1,14 @@
 //! The text of a target.
 
-ghost use Rattle.std.specs.Prelude.{◌≡◌, ◌++◌, ◌<◌, List, ℕ, All, IfOk, OnOk, length, map, string_bytes};
+ghost use Rattle.std.specs.Prelude.{◌≡◌, ◌++◌, ◌<◌, List, ℕ, All, IfOk, OnOk, length, map};
+ghost use Rattle.std.specs.Prelude.{string_bytes};
 ghost use Rattle.std.specs.List.{flat_map};
 ghost use denote.Ref.{Bor};
 ghost use Rattle.isle_settings.specs.Groups.{settings_of};
 ghost use Rattle.isle_settings.specs.PresetClosure.{AreReached, IsWellFormed};
-ghost use Rattle.isle_settings.specs.TargetLines.{ArePresetLines, IsGroupText, line_end, name_at, preset_line, setting_line, spaced, spaced_name, truth};
+ghost use Rattle.isle_settings.specs.TargetLines.{ArePresetLines, IsGroupText, line_end, name_at};
+ghost use Rattle.isle_settings.specs.TargetLines.{preset_line, setting_line, spaced, spaced_name};
+ghost use Rattle.isle_settings.specs.TargetLines.{truth};
 
 use crate::building::settings_of;
 use crate::group::{Preset, Setting, SettingGroup, SettingKind};
@@ -137,8 +140,8 @@ fn group_text(alloc: Global, group: &SettingGroup) -> Result<String, OutOfMemory
     Ok(text)
 }
 
-/// Returns the text of a target: a line of its group's name, a line for each setting, and a line for each preset with the
-/// names of the flags that it reaches. The only error is want of memory.
+/// Returns the text of a target: a line of its group's name, a line for each setting, and a line for each preset with
+/// the names of the flags that it reaches. The only error is want of memory.
 pub fn isa_text(alloc: Global, isa: Isa) -> Result<String, OutOfMemory>
     ensures { IfOk result (λ text. IsGroupText (settings_of isa) (string_bytes text)) }
 {

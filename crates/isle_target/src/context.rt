@@ -6,9 +6,12 @@ ghost use Rattle.isle_core.specs.declared.types.ReturnKind.TheVariants.{Iterator
 ghost use Rattle.isle_printer.specs.Token.{Mark};
 ghost use Rattle.isle_spelling.specs.Identifier.{IsIdentifier};
 ghost use Rattle.isle_tree.specs.WellFormed.{AreResults, IsTy, IsTraitFn};
-ghost use Rattle.isle_target.specs.Spelling.{returns_param, joined_end, list_type, trait_head, self_param};
-ghost use Rattle.isle_target.specs.Spelling.{trait_fn_head, comma, joined_tokens, joined_types, item_tokens};
-ghost use Rattle.isle_target.specs.Spelling.{results_tokens, trait_result, trait_fn_tokens, trait_fns_tokens};
+ghost use Rattle.isle_target.specs.Spelling.{returns_param, joined_end, list_type, trait_head};
+ghost use Rattle.isle_target.specs.Spelling.{self_param};
+ghost use Rattle.isle_target.specs.Spelling.{trait_fn_head, comma, joined_tokens, joined_types};
+ghost use Rattle.isle_target.specs.Spelling.{item_tokens};
+ghost use Rattle.isle_target.specs.Spelling.{results_tokens, trait_result, trait_fn_tokens};
+ghost use Rattle.isle_target.specs.Spelling.{trait_fns_tokens};
 ghost use Rattle.isle_target.specs.Spelling.{trait_tokens};
 
 use crate::function::print_typed;

@@ -7,7 +7,8 @@ ghost use Rattle.isle_tree.specs.Views.{function, body};
 ghost use Rattle.isle_spelling.specs.Identifier.{IsIdentifier};
 ghost use Rattle.isle_tree.specs.WellFormed.{IsTermName, IsTy, IsBody, HasNames};
 ghost use Rattle.isle_target.specs.Spelling.{generics, context_param, function_head, typed_tokens};
-ghost use Rattle.isle_target.specs.Spelling.{param_tokens, params_tokens, returns_head, returns_end};
+ghost use Rattle.isle_target.specs.Spelling.{param_tokens, params_tokens, returns_head};
+ghost use Rattle.isle_target.specs.Spelling.{returns_end};
 ghost use Rattle.isle_target.specs.Spelling.{result_tokens, result_part, function_tokens};
 
 use crate::call::print_constructor;

@@ -3,7 +3,8 @@
 ghost use Rattle.std.specs.Prelude.{◌≡◌, ◌++◌, OnOk};
 ghost use Rattle.std.specs.List.{AllByRecursion};
 ghost use Rattle.isle_spelling.specs.Identifier.{IsIdentifier};
-ghost use Rattle.isle_target.specs.StatementSpelling.{field_read_tokens, field_reads_tokens, made_tokens, expr_tokens};
+ghost use Rattle.isle_target.specs.StatementSpelling.{field_read_tokens, field_reads_tokens};
+ghost use Rattle.isle_target.specs.StatementSpelling.{made_tokens, expr_tokens};
 ghost use Rattle.isle_tree.specs.declared.tree.TExpr.TheVariants as computed;
 ghost use Rattle.isle_tree.specs.WellFormed.{IsFieldRead};
 

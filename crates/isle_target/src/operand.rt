@@ -2,7 +2,8 @@
 
 ghost use Rattle.std.specs.Prelude.{◌≡◌, ◌++◌, [], ◌∷◌, OnOk, codes};
 ghost use Rattle.isle_printer.specs.Token.{Mark};
-ghost use Rattle.isle_target.specs.StatementSpelling.{operand_tokens, clone_part, read_tokens, borrow_part};
+ghost use Rattle.isle_target.specs.StatementSpelling.{operand_tokens, clone_part, read_tokens};
+ghost use Rattle.isle_target.specs.StatementSpelling.{borrow_part};
 ghost use Rattle.isle_tree.specs.WellFormed.{IsOperand, IsRead};
 
 use isle_printer::Printer;

@@ -3,7 +3,8 @@
 ghost use Rattle.std.specs.Prelude.{◌≡◌, ◌++◌, [], ◌∷◌, OnOk};
 ghost use Rattle.std.specs.List.{AllByRecursion};
 ghost use Rattle.isle_spelling.specs.Identifier.{IsIdentifier};
-ghost use Rattle.isle_target.specs.StatementSpelling.{ref_part, bind_tokens, more_part, binds_tokens};
+ghost use Rattle.isle_target.specs.StatementSpelling.{ref_part, bind_tokens, more_part};
+ghost use Rattle.isle_target.specs.StatementSpelling.{binds_tokens};
 ghost use Rattle.isle_target.specs.StatementSpelling.{braced_tokens, inner_token, pattern_tokens};
 ghost use Rattle.isle_tree.specs.WellFormed.{IsBind, IsPattern};
 

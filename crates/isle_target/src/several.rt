@@ -1,9 +1,11 @@
 //! The text of statements on several answers: lists, loops over them, results that are appended, stops and closures.
 
 ghost use Rattle.std.specs.Prelude.{◌≡◌, ◌++◌, OnOk};
-ghost use Rattle.isle_target.specs.StatementSpelling.{let_mut_head, list_tokens, default_part, list_end};
+ghost use Rattle.isle_target.specs.StatementSpelling.{let_mut_head, list_tokens, default_part};
+ghost use Rattle.isle_target.specs.StatementSpelling.{list_end};
 ghost use Rattle.isle_target.specs.StatementSpelling.{let_list_tokens, loop_head, extend_tokens};
-ghost use Rattle.isle_target.specs.StatementSpelling.{stop_tokens, overflow_tokens, split_head, split_end};
+ghost use Rattle.isle_target.specs.StatementSpelling.{stop_tokens, overflow_tokens, split_head};
+ghost use Rattle.isle_target.specs.StatementSpelling.{split_end};
 ghost use Rattle.isle_tree.specs.WellFormed.{IsRead, IsCallee, IsCall};
 
 use crate::call::{print_args, print_callee};

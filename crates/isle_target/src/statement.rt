@@ -4,9 +4,11 @@ ghost use Rattle.std.specs.Prelude.{◌≡◌, ◌++◌, [], ◌∷◌, OnOk, co
 ghost use Rattle.isle_printer.specs.Token.{Mark, Quoted};
 ghost use Rattle.isle_tree.specs.Views.{stmt, body};
 ghost use Rattle.isle_tree.specs.WellFormed.{IsOperand, IsRead, IsExpr, IsPattern, IsStmt, IsBody};
-ghost use Rattle.isle_target.specs.StatementSpelling.{let_tokens, return_tokens, if_eq_head, if_let_head};
+ghost use Rattle.isle_target.specs.StatementSpelling.{let_tokens, return_tokens, if_eq_head};
+ghost use Rattle.isle_target.specs.StatementSpelling.{if_let_head};
 ghost use Rattle.isle_target.specs.StatementSpelling.{match_head, arm_head, match_end, close};
-ghost use Rattle.isle_target.specs.StatementSpelling.{no_rule, unreachable_head, log_head, log_tokens};
+ghost use Rattle.isle_target.specs.StatementSpelling.{no_rule, unreachable_head, log_head};
+ghost use Rattle.isle_target.specs.StatementSpelling.{log_tokens};
 ghost use Rattle.isle_target.specs.StatementSpelling.{tail_tokens, stmt_tokens, body_tokens};
 
 use crate::expr::print_expr;

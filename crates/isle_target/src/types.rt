@@ -5,8 +5,10 @@ ghost use Rattle.std.specs.List.{AllByRecursion};
 ghost use Rattle.isle_spelling.specs.Identifier.{IsIdentifier};
 ghost use Rattle.isle_tree.specs.WellFormed.{IsField, AreFields, IsVariant, IsTypeBody, IsTypeItem};
 ghost use Rattle.isle_target.specs.Spelling.{visible, field_tokens, named_tokens, places_tokens};
-ghost use Rattle.isle_target.specs.Spelling.{fields_tokens, variant_tokens, variants_tokens, struct_end};
-ghost use Rattle.isle_target.specs.Spelling.{type_body_tokens, derive_tokens, type_tokens, types_tokens};
+ghost use Rattle.isle_target.specs.Spelling.{fields_tokens, variant_tokens, variants_tokens};
+ghost use Rattle.isle_target.specs.Spelling.{struct_end};
+ghost use Rattle.isle_target.specs.Spelling.{type_body_tokens, derive_tokens, type_tokens};
+ghost use Rattle.isle_target.specs.Spelling.{types_tokens};
 
 use crate::context::print_comma;
 use crate::function::print_colon;

@@ -19,9 +19,9 @@ use isle_core::{Error, Errors, Sink, write_all};
 use isle_run::RunFail;
 use std::alloc::Global;
 
-/// The status of a run: 0 done, 2 the words are no line, 3 no unit has the name, 4 a row of tables is not supported, 5 an input was not read,
-/// 6 to 9 errors are in the inputs (of parsing, of typing, of rules, of recursion), 10 a name may not be emitted, 11 the
-/// output failed, 12 memory ran out, 13 a term is not run.
+/// The status of a run: 0 done, 2 the words are no line, 3 no unit has the name, 4 a row of tables is not supported,
+/// 5 an input was not read, 6 to 9 errors are in the inputs (of parsing, of typing, of rules, of recursion), 10 a
+/// name may not be emitted, 11 the output failed, 12 memory ran out, 13 a term is not run.
 #[derive(Clone, Copy, Debug, PartialEq, Eq)]
 pub struct Exit(pub u8);
 

@@ -77,8 +77,8 @@ fn units_of(
     Ok(List::new(items))
 }
 
-/// Returns the six units: what is written lies in the first folder, and what is generated in the second; an empty folder
-/// leaves names as they are. The only error is want of memory.
+/// Returns the six units: what is written lies in the first folder, and what is generated in the second; an empty
+/// folder leaves names as they are. The only error is want of memory.
 #[tactic(auto, unfolding(crate::specs::Units::isle_units))]
 pub fn get_isle_compilations(
     alloc: Global,

@@ -1,13 +1,15 @@
 //! The files of a unit's inputs.
 
-ghost use Rattle.std.specs.Prelude.{◌≡◌, ◌++◌, ◌∷◌, [], ◌-◌, ◌^◌, ◌≤◌, Err, false, IfOk, IfErr, IfSome, IsPermutation, IsSorted, OnOk, filter, length, map};
+ghost use Rattle.std.specs.Prelude.{◌≡◌, ◌++◌, ◌∷◌, [], ◌-◌, ◌^◌, ◌≤◌, Err, false, IfOk, IfErr};
+ghost use Rattle.std.specs.Prelude.{IfSome, IsPermutation, IsSorted, OnOk, filter, length, map};
 ghost use Rattle.std.specs.Cmp.Lexicographic.{slice_cmp};
 ghost use Rattle.std.specs.Ordering.{nat_cmp};
 ghost use Rattle.isle_core.specs.Inputs.{IsTried, bytes_each};
 ghost use Rattle.isle_meta.specs.Layout.{joined_name};
 ghost use Rattle.isle_outside.specs.Directory.{InFolder, Rose, directly_in, raised};
 ghost use Rattle.isle_outside.specs.Failures.{is_fault};
-ghost use Rattle.isle_units.specs.Paths.{AddsFolder, AddsPaths, ArePaths, FailsFolder, FailsInput, FailsPaths, is_isle_name};
+ghost use Rattle.isle_units.specs.Paths.{AddsFolder, AddsPaths, ArePaths, FailsFolder, FailsInput};
+ghost use Rattle.isle_units.specs.Paths.{FailsPaths, is_isle_name};
 ghost use Rattle.isle_units.specs.Units.{inputs_of};
 
 use crate::compilation::IsleCompilation;
