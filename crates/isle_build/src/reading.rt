@@ -14,7 +14,7 @@ use crate::generated::generated_text;
 use isle_core::{Dir, Files, List, OutOfMemory, Prefix, ReadError, Text, name_shown};
 use isle_meta::Tables;
 use isle_units::IsleCompilation;
-use std::alloc::{AllocError, Global};
+use std::alloc::Global;
 
 /// Cuts the names of a unit's inputs: tracked ones, and generated ones.
 pub fn split_inputs<'n>(names: &'n [String], unit: &IsleCompilation) -> (&'n [String], &'n [String])
@@ -64,7 +64,7 @@ fn push_names(
     printed: &mut Vec<Text>,
     names: &[String],
     prefixes: &[Prefix],
-) -> Result<(), AllocError>
+) -> Result<(), OutOfMemory>
     ensures { OnOk result
         (printed.new.items ≡ printed.old.items ++ map (shown prefixes.now) (bytes_each names.now)) }
 {

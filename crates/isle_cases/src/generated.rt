@@ -10,20 +10,24 @@ use isle_prelude_files::generate;
 use isle_top::sample_tables;
 use std::alloc::Global;
 
-// Writes what the generator of preludes answers.
-fn push_answer(lines: &mut String, answer: &Result<usize, GenError>) -> Result<(), Slip> {
+/// Writes what a generator answers, after its name.
+pub fn push_answer(
+    lines: &mut String,
+    generator: &str,
+    answer: &Result<usize, GenError>,
+) -> Result<(), Slip> {
     let (word, number) = match answer {
         Ok(count) => ("files ", *count),
         Err(GenError::Dir { written }) => ("dir after ", *written),
         Err(GenError::Memory { written }) => ("memory after ", *written),
         Err(GenError::Unsupported(_)) => ("unsupported ", 0),
     };
-    push_all(lines, &["preludes: ", word, digit(number), "\n"])?;
+    push_all(lines, &[generator, ": ", word, digit(number), "\n"])?;
     Ok(())
 }
 
-// Writes the names of files with how many bytes they have.
-fn push_files(alloc: Global, lines: &mut String, dir: &MemDir) -> Result<(), Slip> {
+/// Writes the names of files with how many bytes they have.
+pub fn push_files(alloc: Global, lines: &mut String, dir: &MemDir) -> Result<(), Slip> {
     for file in dir.files() {
         let length = file.1.len();
         let shown = format!(in alloc; "{length}")?;
@@ -48,7 +52,7 @@ fn push_generated(alloc: Global, lines: &mut String, fails: &[usize]) -> Result<
         "gen",
         &mut dir,
     );
-    push_answer(lines, &answer)?;
+    push_answer(lines, "preludes", &answer)?;
     push_files(alloc, lines, &dir)
 }
 

@@ -1,5 +1,6 @@
 //! Calls of the library that no line of words makes, with what they answer.
 
+use crate::failing::push_failing;
 use crate::generated::push_generators;
 use crate::items::push_iterators;
 use crate::judged::push_judged;
@@ -8,6 +9,8 @@ use crate::samples::push_samples;
 use crate::signatures::push_signatures;
 use crate::slip::Slip;
 use crate::targets::push_targets;
+use crate::unit_files::push_unit_files;
+use crate::unit_paths::push_unit_paths;
 use crate::weights::push_weights;
 use std::alloc::{AllocError, Global};
 
@@ -31,6 +34,9 @@ pub fn hold_calls(alloc: Global, wanted: &str, told: &mut String) -> Result<(), 
     push_calls(alloc, &mut lines)?;
     push_generators(alloc, &mut lines)?;
     push_targets(alloc, &mut lines)?;
+    push_unit_files(alloc, &mut lines)?;
+    push_unit_paths(alloc, &mut lines)?;
+    push_failing(alloc, &mut lines)?;
     if lines.as_str() == wanted {
         return Ok(());
     }

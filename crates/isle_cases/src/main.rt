@@ -3,6 +3,7 @@
 #![tactic(auto)]
 
 mod case;
+mod failing;
 mod generated;
 mod held;
 mod items;
@@ -22,6 +23,8 @@ mod tables;
 mod targets;
 mod tokens;
 mod topics;
+mod unit_files;
+mod unit_paths;
 mod wanted;
 mod weights;
 mod words;

@@ -2,14 +2,18 @@
 
 use isle_core::OutOfMemory;
 use std::alloc::{AllocError, AllocFailed};
+use thiserror::Error;
 
 /// Why inputs have no paths.
-#[derive(Clone, Copy, Debug, PartialEq, Eq)]
+#[derive(Clone, Copy, Debug, PartialEq, Eq, Error)]
 pub enum PathsError {
     /// The first input that is neither a file nor a folder, by its place among the inputs.
+    #[error("an input is absent")]
     Absent { index: usize },
     /// The directory failed, and its count of faults rose.
+    #[error("fault")]
     Dir,
+    #[error("out of memory")]
     Memory,
 }
 
