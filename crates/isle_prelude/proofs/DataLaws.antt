@@ -15,7 +15,7 @@ use Rattle.isle_prelude.specs.Operands.{is_imm, names_of}
 use Rattle.isle_prelude.proofs.AllLaws.{all_joined, all_kept, all_mapped}
 use Rattle.isle_prelude.proofs.FixedNames.{IsHead, blocks_head, ctor_head, data_head, opcode_head, slice_head, unwrap_is_head, values_head}
 use Rattle.isle_prelude.proofs.ManyLaws.{AllMake, AllTake, Makes, Takes, call_makes, call_on_makes, name_makes, names_make, over_takes, term_takes, variable_takes, variables_take}
-use Rattle.isle_prelude.proofs.NameLaws.{identifier_named}
+use Rattle.isle_meta.proofs.NameWords.{identifier_named}
 
 -- ---- an instruction's operands
 

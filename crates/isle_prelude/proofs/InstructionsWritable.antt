@@ -16,7 +16,8 @@ use Rattle.isle_prelude.proofs.AllLaws.{all_at, all_joined}
 use Rattle.isle_prelude.proofs.DataLaws.{IsDataNamed, data_makes, data_takes}
 use Rattle.isle_prelude.proofs.FixedNames.{IsHead, head_from, inst_named, type_named, value_named}
 use Rattle.isle_prelude.proofs.ManyLaws.{AllMake, AllTake, Makes, Takes, call_makes, name_makes, patterns_shallow, patterns_take, term_takes, variable_takes, variables_take}
-use Rattle.isle_prelude.proofs.NameLaws.{identifiers_named, term_named}
+use Rattle.isle_meta.proofs.NameWords.{identifiers_named}
+use Rattle.isle_prelude.proofs.NameLaws.{term_named}
 use Rattle.isle_prelude.proofs.OperandLaws.{operand_types_named}
 use Rattle.isle_prelude.proofs.SupportedLaws.{IsNamedFormat, IsNamedInstruction}
 

@@ -9,7 +9,7 @@ use Rattle.isle_writing.specs.Height.{expr_height, exprs_height, pattern_height,
 use Rattle.isle_writing.specs.Writable.{AreExprs, ArePatterns, IsExpr, IsPattern}
 use Rattle.isle_prelude.specs.ClifFiles.{call_on, term_over, variable_exprs, variables}
 use Rattle.isle_prelude.proofs.FixedNames.{IsHead}
-use Rattle.isle_prelude.proofs.NameLaws.{identifier_name, identifier_variable}
+use Rattle.isle_meta.proofs.NameWords.{identifier_name, identifier_variable}
 
 -- ---- patterns
 

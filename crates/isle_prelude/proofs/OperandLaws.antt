@@ -20,7 +20,7 @@ use Rattle.isle_writing.specs.Writable.{AreNames, NamesOne}
 use Rattle.isle_writing.proofs.Spells.{no_first}
 use Rattle.isle_prelude.proofs.AllLaws.{all_behind, all_front}
 use Rattle.isle_prelude.proofs.FixedNames.{block_named, call_named, slice_named, value_named}
-use Rattle.isle_prelude.proofs.NameLaws.{identifier_named}
+use Rattle.isle_meta.proofs.NameWords.{identifier_named}
 use Rattle.isle_prelude.proofs.SupportedLaws.{HasTypesOf, IsNamedFormat}
 
 not_false : (b : Bool) → not b ≡ false → b ≡ true

@@ -14,7 +14,8 @@ use Rattle.isle_meta.specs.TableNames.{IsTermName}
 use Rattle.isle_spelling.specs.Identifier.{IsIdentifier}
 use Rattle.isle_table_check.specs.SupportedTables.{AreSupported}
 use Rattle.isle_meta.proofs.FirstRows.{BreaksNone, each_row}
-use Rattle.isle_prelude.proofs.NameLaws.{stable_identifiers, stable_names}
+use Rattle.isle_meta.proofs.NameWords.{stable_identifiers}
+use Rattle.isle_prelude.proofs.NameLaws.{stable_names}
 
 -- ---- formats
 

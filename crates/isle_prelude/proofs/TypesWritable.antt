@@ -23,7 +23,7 @@ use Rattle.isle_writing.proofs.Joined.{writable_each, writable_joined}
 use Rattle.isle_writing.proofs.Names.{names_one}
 use Rattle.isle_prelude.proofs.AllLaws.{all_each, all_front, all_behind, all_joined, all_kept, all_mapped}
 use Rattle.isle_prelude.proofs.FixedNames.{block_named, blocks_named, blocks_type_named, call_named, data_named, flags_named, list_named, opcode_named, pack_named, unpack_named, value_named, values_named, values_type_named}
-use Rattle.isle_prelude.proofs.NameLaws.{identifier_named, identifiers_named}
+use Rattle.isle_meta.proofs.NameWords.{identifier_named, identifiers_named}
 use Rattle.isle_prelude.proofs.OrderedLaws.{ascending_named}
 use Rattle.isle_prelude.proofs.SupportedLaws.{IsNamedFormat}
 

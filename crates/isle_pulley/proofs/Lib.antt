@@ -2,4 +2,3 @@ mod RuleLaws
 mod PieceLaws
 mod NameLaws
 mod RuleWritable
-mod FileLaws
