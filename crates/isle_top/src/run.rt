@@ -1,6 +1,5 @@
-ghost use Rattle.std.specs.Prelude.{◌≡◌, ◌≢◌, ◌⊎◌, [], ◌∷◌, ℕ, List, Some, false, slice_get, ◌≤◌};
-ghost use Rattle.std.specs.Prelude.{◌+◌, ◌*◌};
-ghost use Rattle.std.specs.Prelude.{◌^◌, length, OnOk, OnErr};
+ghost use Rattle.std.specs.Prelude.{◌≡◌, ◌≢◌, ◌≤◌, ◌+◌, ◌*◌, ◌^◌, ◌⊎◌, [], ◌∷◌, ℕ, List, Some, false};
+ghost use Rattle.std.specs.Prelude.{length, slice_get, OnOk, OnErr};
 ghost use Rattle.isle_outside.specs.Directory.{Rose};
 ghost use Rattle.isle_core.specs.Inputs.{bytes_each};
 ghost use Rattle.isle_command_line.specs.Request.{Request, Compile};
@@ -38,36 +37,29 @@ pub fn run_words<D: Dir, O: Sink, E: Sink>(
         result.0 ≡ 0 → (request : Request) × Asks (bytes_each words.now) request
         × (O.faults out.new ≡ O.faults out.old)
         × TookReply (job_of tables.now request) around (O.taken out.old) (O.taken out.new) }
-
     // At status 11 its count rose, and it took a part of the reply.
     ensures part { let around = surroundings (D.files dir.old) (D.counts dir.old) (D.counts dir.new)
         in
         result.0 ≡ 11 → (request : Request) × Asks (bytes_each words.now) request
         × Rose (O.faults out.old) (O.faults out.new)
         × TookPartOfReply (job_of tables.now request) around (O.taken out.old) (O.taken out.new) }
-
     // At every other status it was not touched.
     ensures untouched { result.0 ≢ 0 → result.0 ≢ 11 → out.new ≡ out.old }
-
     // Each other status has its cause, and its line on `err`; at status 0 nothing stands there.
     ensures says { let around = surroundings (D.files dir.old) (D.counts dir.old) (D.counts dir.new)
         in
         let wrote = Wrote (E.taken err.old) (E.taken err.new) (E.faults err.old) (E.faults err.new) in
         Says tables.now (Asks (bytes_each words.now)) (IsNoLine (bytes_each words.now) wrote) around
-        (err.new ≡ err.old)
-        wrote result.0 }
-
+        (err.new ≡ err.old) wrote result.0 }
     // Words that are no line end in 2; or with 12, want of memory.
     ensures no_line { ((request : Request) → LineS (bytes_each words.now) request → ⊥)
         → (result.0 ≡ 2) ⊎ (result.0 ≡ 12) }
-
     // A valid line has its reply, if nothing fails and memory suffices.
     ensures complete { (request : Request) → LineS (bytes_each words.now) request
         → (job_of tables.now request).valid (D.files dir.old)
         → (Rose (D.counts dir.old).faults (D.counts dir.new).faults → ⊥)
         → (result.0 ≡ 0) ⊎ (result.0 ≡ 11) ⊎ (result.0 ≡ 12) }
     ensures files { D.files dir.new ≡ D.files dir.old }
-
     // No count falls, of each input at most 2^24 + 1 bytes are taken, and the directory is as it was if no line
     // reads files.
     ensures untried { ((request : Request) → LineS (bytes_each words.now) request
@@ -156,8 +148,7 @@ fn run_command<D: Dir, O: Sink, E: Sink>(
     ensures part { let around = surroundings (D.files dir.old) (D.counts dir.old) (D.counts dir.new)
         in
         result.0 ≡ 11 → Rose (O.faults out.old) (O.faults out.new)
-        × TookPartOfReply (job_asked line.now) around (O.taken out.old)
-        (O.taken out.new) }
+        × TookPartOfReply (job_asked line.now) around (O.taken out.old) (O.taken out.new) }
     ensures untouched { result.0 ≢ 0 → result.0 ≢ 11 → out.new ≡ out.old }
     ensures says { let around = surroundings (D.files dir.old) (D.counts dir.old) (D.counts dir.new)
         in
