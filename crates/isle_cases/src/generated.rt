@@ -22,7 +22,8 @@ pub fn push_answer(
         Err(GenError::Memory { written }) => ("memory after ", *written),
         Err(GenError::Unsupported(_)) => ("unsupported ", 0),
     };
-    push_all(lines, &[generator, ": ", word, digit(number), "\n"])?;
+    lines.push_str(generator)?;
+    push_all(lines, &[": ", word, digit(number), "\n"])?;
     Ok(())
 }
 
