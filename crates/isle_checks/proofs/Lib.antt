@@ -5,6 +5,7 @@ pub mod PlacedLaws
 pub mod BearLaws
 pub mod ListLaws
 pub mod WithinLaws
+pub mod PartLaws
 pub mod MaskLaws
 pub mod FirstLaws
 pub mod FlatTests

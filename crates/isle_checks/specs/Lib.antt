@@ -4,6 +4,7 @@ pub mod Joined
 pub mod Classes
 pub mod Lists
 pub mod Splitter
+pub mod Parts
 pub mod Priorities
 pub mod Masks
 pub mod Firsts

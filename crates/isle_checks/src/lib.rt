@@ -11,6 +11,7 @@ mod masks;
 mod names;
 mod notes;
 pub mod overlap;
+mod parts;
 mod placed;
 mod priorities;
 pub mod recursion;

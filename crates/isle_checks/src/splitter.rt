@@ -33,6 +33,11 @@ impl Splitter {
         }
     }
 
+    /// Tells whether something tells a rule from others.
+    pub fn has_key(self, rule: &FlatRule) -> bool {
+        self.key(rule).is_some()
+    }
+
     /// Lists the rules of a group under what tells them apart. The only error is want of memory.
     pub fn lists<'a>(self, alloc: Global, group: &[Placed<'a>]) -> Result<Lists<'a>, AllocError>
         requires { Rises group.now }
