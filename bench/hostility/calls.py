@@ -3,7 +3,7 @@ import errno
 import os
 import re
 
-from hostility.paths import grow
+import shapes
 from hostility.refusals import ALL, HALF, HALF_ONCE, NOTHING, Refusal, places, refused_run
 from hostility.rows import Row, based, faulty_rows, worked_rows
 from hostility.running import Ended, run, same
@@ -76,7 +76,7 @@ def counted_calls(number):
 
 def calls(work):
     """Refuses each call on inputs and outputs in turn, in several ways."""
-    several = {f"{name}.isle": grow.terms(300).replace("t", name) for name in ["a", "b", "c"]}
+    several = {f"{name}.isle": shapes.terms(300).replace("t", name) for name in ["a", "b", "c"]}
     large = Row(["compile", "a.isle", "b.isle", "c.isle"], several, "`compile` of three files")
     rows = based(work, [large, *worked_rows(), *faulty_rows()])
     share(rows)

@@ -1,5 +1,5 @@
 """Inputs of forms in one another, as deep as they may be."""
-from hostility.paths import grow
+import shapes
 from hostility.rows import Row
 
 NODE = "(type N (enum End (Next (more N))))\n"
@@ -26,7 +26,7 @@ def nested_templates(depth):
 
 def lists_in_lists(depth):
     """A rule of loops in one another."""
-    return grow.MULTI + f"(decl multi t (u8) u8)\n(rule (t {nested('(e ', 'x', ')', depth)}) x)\n"
+    return shapes.MULTI + f"(decl multi t (u8) u8)\n(rule (t {nested('(e ', 'x', ')', depth)}) x)\n"
 
 
 def through_templates(count, mark, form):
@@ -44,7 +44,7 @@ def nested_lets(depth):
 
 def deep_condition(depth):
     """A condition of which both sides are as deep."""
-    return grow.PURE + f"(decl partial t (u32) u32)\n(rule (t x) (if-let {nested('(and ', 'y', ')', depth - 1)} {nested('(q ', 'x', ')', depth)}) y)\n"
+    return shapes.PURE + f"(decl partial t (u32) u32)\n(rule (t x) (if-let {nested('(and ', 'y', ')', depth - 1)} {nested('(q ', 'x', ')', depth)}) y)\n"
 
 
 def deep_texts():
@@ -61,24 +61,24 @@ def deep_texts():
         "an `if-let` of 254 forms on either side": deep_condition(254),
         "`spec` lists in one another": f"(spec {nested('(', 'x', ')', 255)})\n",
         "256 parentheses and one more": nested("(", "", ")", 257),
-        "2^21 comments in one another": grow.nested_comments(1 << 21),
+        "2^21 comments in one another": shapes.nested_comments(1 << 21),
         "templates 200 deep": nested_templates(200),
         "250 lists in one another": lists_in_lists(250),
-        "a rule of 4,000 nodes": grow.large_rule(4000),
+        "a rule of 4,000 nodes": shapes.large_rule(4000),
         "a rule of 4,090 tests": own_tests(4090),
-        "a rule of 1,200 conditions": grow.many_conditions(1200),
-        "a chain of 2,000 templates": grow.chain_of_templates(2000),
-        "a use of the last of 4,000 templates": grow.multi_templates(4000),
+        "a rule of 1,200 conditions": shapes.many_conditions(1200),
+        "a chain of 2,000 templates": shapes.chain_of_templates(2000),
+        "a use of the last of 4,000 templates": shapes.multi_templates(4000),
         "4,080 extractors in one another, by templates": through_templates(4080, "", "e"),
         "4,080 made values matched, by templates": through_templates(4080, "", "N.Next"),
         "4,080 lists in one another, by templates": through_templates(4080, "multi", "e"),
-        "a ring of 20,000 templates": grow.ring_of_templates(20_000),
-        "a row of 40,000 terms": grow.row_of_terms(40_000),
-        "a ring of 40,000 terms": grow.ring_of_terms(40_000),
-        "an unmarked ring of 40,000 terms": grow.unmarked_ring(40_000),
-        "enums in a ring of 20,000": grow.used_enums(20_000),
-        "8,000 rules told by two numbers": grow.told_by_two(8_000),
-        "40,000 arms": grow.closed_arms(40_000),
+        "a ring of 20,000 templates": shapes.ring_of_templates(20_000),
+        "a row of 40,000 terms": shapes.row_of_terms(40_000),
+        "a ring of 40,000 terms": shapes.ring_of_terms(40_000),
+        "an unmarked ring of 40,000 terms": shapes.unmarked_ring(40_000),
+        "enums in a ring of 20,000": shapes.used_enums(20_000),
+        "8,000 rules told by two numbers": shapes.told_by_two(8_000),
+        "40,000 arms": shapes.closed_arms(40_000),
     }
 
 

@@ -1,19 +1,19 @@
 """Texts of many of one thing."""
+import shapes
 from hostility.deep import EXTERNAL
 from hostility.odd import one_file
-from hostility.paths import grow
 
 
 def wide_texts():
     """Texts of many of one thing."""
-    # Rules that no value tells apart are compared pair by pair (README of crates/isle_checks), so there are fewer of those.
+    # Where each rule shadows all before it they are compared pair by pair (README of crates/isle_checks), so there are fewer of those.
     many, few = 65_536, 16_384
     variants = " ".join(f"V{i}" for i in range(many))
     return [
-        one_file("65,536 rules told by a number", grow.told_by_one(many), 0),
+        one_file("65,536 rules told by a number", shapes.told_by_one(many), 0),
         one_file("65,536 rules that are the same", "(decl t (u32) u32)\n" + "(rule (t 1) 2)\n" * many, 8, b"a.isle:"),
         one_file("65,536 rules of a `multi` term that are the same", "(decl multi t (u32) u32)\n" + "(rule (t 1) 2)\n" * many, 0),
-        one_file("16,384 rules that all overlap with half of the others", crossing(few // 2), 8, b"a.isle:3:1: overlap error: rule 1 of t "),
+        one_file("65,536 rules that all overlap with half of the others", shapes.crossing(many), 8, b"a.isle:3:1: overlap error: rule 1 of t "),
         one_file("16,384 rules that all later ones shadow", shadowed(range(few)), 8, b"a.isle:2:1: shadowed rule: "),
         one_file("65,536 rules that all earlier ones shadow", shadowed(range(many, 0, -1)), 8, b"a.isle:3:1: shadowed rule: "),
         one_file("65,536 rules that an extractor of their own tells", own_extractors(many, "multi"), 0),
@@ -23,7 +23,7 @@ def wide_texts():
         one_file("65,536 variants", f"(type E (enum {variants}))\n(decl t (E) u32)\n" + "".join(f"(rule (t (E.V{i})) {i})\n" for i in range(many)), 0),
         one_file("65,536 declarations of one term", "(decl t (u32) u32)\n" * many, 7, b"a.isle:2:1: "),
         one_file("65,536 arguments", f"(decl t ({'u8 ' * many}) u8)\n", 7, b"a.isle:1:1: "),
-        one_file("a rule of 65,536 conditions", grow.many_conditions(many), 7, b"a.isle:"),
+        one_file("a rule of 65,536 conditions", shapes.many_conditions(many), 7, b"a.isle:"),
         one_file("a rule of 65,536 patterns in one `and`", f"(decl t (u8) u8)\n(rule (t (and {'_ ' * many})) 1)\n", 7, b"a.isle:2:1: "),
         one_file("a rule of 65,536 arguments too many", f"(decl t (u8) u8)\n(rule (t {'_ ' * many}) 1)\n", 7, b"a.isle:2:1: "),
         one_file("a `let` of 65,536 variables", f"(decl t (u8) u8)\n(rule (t x) (let ({'(x u8 x) ' * many}) x))\n", 7, b"a.isle:2:1: "),
@@ -34,11 +34,6 @@ def wide_texts():
 def shadowed(priorities):
     """Rules of these priorities, each of which matches whatever it is given."""
     return "(decl t (u32) u32)\n" + "".join(f"(rule {priority} (t x) 2)\n" for priority in priorities)
-
-
-def crossing(count):
-    """Rules on the first argument and as many on the second, of which each overlaps with each."""
-    return "(decl t (u32 u32) u32)\n" + "".join(f"(rule (t {i} _) 2)\n(rule (t _ {i}) 2)\n" for i in range(count))
 
 
 def own_extractors(count, mark):

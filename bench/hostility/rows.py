@@ -3,7 +3,8 @@ import re
 import subprocess
 import typing
 
-from hostility.paths import EXAMPLES, PROGRAM, grow
+import shapes
+from hostility.paths import EXAMPLES, PROGRAM
 from hostility.running import lay, run
 from hostility.sharing import share
 
@@ -78,7 +79,7 @@ def faulty_rows():
         Row(["compile", "a.isle"], {"a.isle": "(decl t (u8) u8)\n(rule (t x) x\n"}, "a parse error"),
         Row(["compile", "a.isle"], {"a.isle": "(decl t (u8) u8)\n(rule (t x) y)\n"}, "a type error"),
         Row(["compile", "a.isle"], {"a.isle": OVERLAPS}, "overlaps and a shadowed rule"),
-        Row(["compile", "a.isle"], {"a.isle": grow.unmarked_ring(5)}, "terms that use themselves"),
+        Row(["compile", "a.isle"], {"a.isle": shapes.unmarked_ring(5)}, "terms that use themselves"),
         Row(["compile", "a.isle"], {"a.isle": "(extern const $v0 u8)\n"}, "a bad name"),
         Row(["run", "a.isle", "n", "(0)"], {"a.isle": SEVERAL}, "no such term"),
         Row(["run", "a.isle", "m", "(300)"], {"a.isle": SEVERAL}, "a value of another type"),
