@@ -3,6 +3,7 @@
 ghost use Rattle.std.specs.Prelude.{◌≡◌, string_bytes};
 ghost use Rattle.isle_meta.specs.Layout.{joined_name};
 ghost use Rattle.isle_prelude_files.specs.Outputs.{AddsNoSeconds, KeepsCounts, Writes, file_of};
+ghost use Rattle.isle_prelude_files.specs.Outputs.{files_of};
 ghost use Rattle.isle_unit_files.specs.Made.{all_with, build_with, isle_with, pulley_with};
 
 use crate::texts::{AllTexts, BuildTexts, IsleTexts};
@@ -45,6 +46,20 @@ pub fn write_pulley<D: Dir>(
     write_files(alloc, &[pulley], dir)
 }
 
+// The texts among rules beside the names of their files, in order.
+fn isle_outputs<'t>(folder: &'t str, texts: &'t IsleTexts) -> [Output<'t>; 6]
+    ensures { files_of result ≡ isle_with folder.now texts.now }
+{
+    [
+        output(folder, "numerics.isle", &texts.numerics),
+        output(folder, "isle_numerics.rs", &texts.methods),
+        output(folder, "clif_opt.isle", &texts.opt),
+        output(folder, "clif_lower.isle", &texts.lower),
+        output(folder, "pulley_gen.isle", &texts.pulley),
+        output(folder, "assembler.isle", &texts.assembler),
+    ]
+}
+
 /// Writes the texts among rules, in order.
 pub fn write_isle<D: Dir>(
     alloc: Global,
@@ -57,17 +72,7 @@ pub fn write_isle<D: Dir>(
     ensures entries { AddsNoSeconds (D.files dir.old) (D.files dir.new) }
     ensures counts { KeepsCounts result (D.counts dir.old) (D.counts dir.new) }
 {
-    let numerics = output(folder, "numerics.isle", &texts.numerics);
-    let methods = output(folder, "isle_numerics.rs", &texts.methods);
-    let opt = output(folder, "clif_opt.isle", &texts.opt);
-    let lower = output(folder, "clif_lower.isle", &texts.lower);
-    let pulley = output(folder, "pulley_gen.isle", &texts.pulley);
-    let assembler = output(folder, "assembler.isle", &texts.assembler);
-    write_files(
-        alloc,
-        &[numerics, methods, opt, lower, pulley, assembler],
-        dir,
-    )
+    write_files(alloc, &isle_outputs(folder, texts), dir)
 }
 
 /// Writes the texts of each build, in order.
@@ -82,24 +87,24 @@ pub fn write_build<D: Dir>(
     ensures entries { AddsNoSeconds (D.files dir.old) (D.files dir.new) }
     ensures counts { KeepsCounts result (D.counts dir.old) (D.counts dir.new) }
 {
-    let rules = folders.rules;
-    let numerics = output(rules, "numerics.isle", &texts.rules.numerics);
-    let methods = output(rules, "isle_numerics.rs", &texts.rules.methods);
-    let opt = output(rules, "clif_opt.isle", &texts.rules.opt);
-    let lower = output(rules, "clif_lower.isle", &texts.rules.lower);
-    let pulley = output(rules, "pulley_gen.isle", &texts.rules.pulley);
-    let assembler = output(rules, "assembler.isle", &texts.rules.assembler);
+    let [numerics, methods, opt, lower, pulley, assembler] = isle_outputs(
+        folders.rules,
+        &texts.rules,
+    );
     let methods_macro = output(folders.out, "assembler-isle-macro.rs", &texts.assembler);
-    let all = [
-        numerics,
-        methods,
-        opt,
-        lower,
-        pulley,
-        assembler,
-        methods_macro,
-    ];
-    write_files(alloc, &all, dir)
+    write_files(
+        alloc,
+        &[
+            numerics,
+            methods,
+            opt,
+            lower,
+            pulley,
+            assembler,
+            methods_macro,
+        ],
+        dir,
+    )
 }
 
 /// Writes all texts, in order.
@@ -114,25 +119,28 @@ pub fn write_all<D: Dir>(
     ensures entries { AddsNoSeconds (D.files dir.old) (D.files dir.new) }
     ensures counts { KeepsCounts result (D.counts dir.old) (D.counts dir.new) }
 {
-    let rules = folders.rules;
-    let build = &texts.build;
     let rust = output(folders.out, "pulley_inst_gen.rs", &texts.pulley);
-    let numerics = output(rules, "numerics.isle", &build.rules.numerics);
-    let methods = output(rules, "isle_numerics.rs", &build.rules.methods);
-    let opt = output(rules, "clif_opt.isle", &build.rules.opt);
-    let lower = output(rules, "clif_lower.isle", &build.rules.lower);
-    let pulley = output(rules, "pulley_gen.isle", &build.rules.pulley);
-    let assembler = output(rules, "assembler.isle", &build.rules.assembler);
-    let methods_macro = output(folders.out, "assembler-isle-macro.rs", &build.assembler);
-    let all = [
-        rust,
-        numerics,
-        methods,
-        opt,
-        lower,
-        pulley,
-        assembler,
-        methods_macro,
-    ];
-    write_files(alloc, &all, dir)
+    let [numerics, methods, opt, lower, pulley, assembler] = isle_outputs(
+        folders.rules,
+        &texts.build.rules,
+    );
+    let methods_macro = output(
+        folders.out,
+        "assembler-isle-macro.rs",
+        &texts.build.assembler,
+    );
+    write_files(
+        alloc,
+        &[
+            rust,
+            numerics,
+            methods,
+            opt,
+            lower,
+            pulley,
+            assembler,
+            methods_macro,
+        ],
+        dir,
+    )
 }

@@ -1,19 +1,6 @@
-use Rattle.std.proofs.Common.{[], ◌∷◌, subst}
-use Rattle.isle_prelude_files.specs.Outputs.{Writes, files_of}
-use Rattle.isle_unit_files.proofs.Files.{last, more}
+use Rattle.isle_prelude_files.specs.Outputs.{files_of}
 use Rattle.isle_unit_files.proofs.Names.{rules_apart}
 use Rattle.isle_unit_files.proofs.outputs.write_isle.Goals as goal
 
 pub write_files-requires : goal.write_files-requires
-write_files-requires g c =
-    rules_apart (files_of (c.output-numerics.result ∷ c.output-methods.result ∷ c.output-opt.result ∷ c.output-lower.result
-    ∷ c.output-pulley.result ∷ c.output-assembler.result ∷ [])) c.args.folder.now c.args.texts.now
-    (more c.output-numerics.ensures (more c.output-methods.ensures (more c.output-opt.ensures (more c.output-lower.ensures
-    (more c.output-pulley.ensures (last c.output-assembler.ensures))))))
-
-pub returns-clause-files : goal.returns-clause-files
-returns-clause-files g c =
-    subst (λ fs. Writes fs (g.D.Dir.files c.args.dir.now) (g.D.Dir.files c.write_files.new.dir) c.write_files.result)
-    (more c.output-numerics.ensures (more c.output-methods.ensures (more c.output-opt.ensures (more c.output-lower.ensures
-    (more c.output-pulley.ensures (last c.output-assembler.ensures))))))
-    c.write_files.ensures.files
+write_files-requires g c = rules_apart (files_of c.isle_outputs.result) c.args.folder.now c.args.texts.now c.isle_outputs.ensures
