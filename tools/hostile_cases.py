@@ -68,6 +68,22 @@ def wide():
     case("the last of them twice", text + "(rule (w 1999) 0)", refused(8, place, "overlap error", words))
 
 
+def crossing(arguments, rules):
+    """Rules of one priority, each of which tests one argument for a number: two overlap unless they test the same one for different numbers."""
+    tests = [(i % arguments, i // arguments) for i in range(rules)]
+    text = f"(decl t ({' '.join(['u8'] * arguments)}) u8)"
+    lines = ""
+    for i, (argument, number) in enumerate(tests):
+        place = len(text) + 2
+        parts = ["_"] * arguments
+        parts[argument] = str(number)
+        text += f" (rule (t {' '.join(parts)}) {i})"
+        first = next((j for j in range(i) if tests[j][0] != argument or tests[j][1] == number), None)
+        if first is not None:
+            lines += f"a:1:{place}: overlap error: rule {first + 1} of t has the same priority and matches too\\n"
+    case(f"{rules} rules that test one of {arguments} arguments each", text, f"status 8\nerr {lines}")
+
+
 def odd():
     """Names that are words of the target, and one that is no identifier."""
     case("a term whose name is no identifier", "(decl a-b (u8) u8) (rule (a-b x) x)",
@@ -91,6 +107,8 @@ def main():
     deep()
     ring()
     wide()
+    crossing(3, 9)
+    crossing(20, 40)
     odd()
     unheard()
 
