@@ -69,7 +69,7 @@ def wide():
 
 
 def crossing(arguments, rules):
-    """Rules of one priority, each of which tests one argument for a number: two overlap unless they test the same one for different numbers."""
+    """Rules that test one argument each: two overlap unless they test the same one for different numbers."""
     tests = [(i % arguments, i // arguments) for i in range(rules)]
     text = f"(decl t ({' '.join(['u8'] * arguments)}) u8)"
     lines = ""
