@@ -8,16 +8,14 @@ from hostility.sharing import pool_of, share, shared
 from hostility.telling import figure, head, tell
 
 NO_MEMORY = b"isle: out of memory\n"
-# How many growths may hold the words and the program's own tables at most. Their refusal leaves no line, and they come first.
-MOST_SILENT = 40
 
 
 def kind_of_refusal(ended, base):
     """What became of a run in which growths were refused."""
     if same(ended, base):
         return "same"
-    if ended.status == 12 and not ended.out and ended.err in (b"", NO_MEMORY):
-        return "told" if ended.err else "silent"
+    if ended.status == 12 and not ended.out and ended.err == NO_MEMORY:
+        return "told"
     if base.status == ended.status == 5 and not ended.out and ended.err == base.err.replace(b": absent", b": fault"):
         return "fault"
     return "other"
@@ -53,20 +51,16 @@ def memory(work):
             kinds[number, place, last == ALL] = kind
             if kind == "other":
                 tell("memory:", shared[number][1].shown(), shared[number][1].words, Refusal("grow", place, last, errno.ENOMEM).shown(), what)
-    head("Growths of memory that are refused", "Run", "Status", "Growths", "Refused", "First ones, no line", "Go on alone", "Go on with all later")
+    head("Growths of memory that are refused", "Run", "Status", "Growths", "Refused", "Go on alone", "Go on with all later")
     for number, (_, row, base) in enumerate(rows):
         figure_of_memory(row, base, counts[number], {key[1:]: kind for key, kind in kinds.items() if key[0] == number})
     return f"{len(tasks):,} runs of {len(rows)} rows"
 
 
 def figure_of_memory(row, base, count, kinds):
-    """A line for a row. Those with no line come first, and those with a fault are told beside the ones that go on."""
+    """A line for a row. Those with a fault are told beside the ones that go on."""
     tried = sorted({place for place, _ in kinds})
-    silent = {is_on: [place for place in tried if kinds[place, is_on] == "silent"] for is_on in (False, True)}
-    for is_on, found in silent.items():
-        if found != tried[: len(found)] or len(found) > MOST_SILENT:
-            tell("memory:", row.shown(), row.words, f"has no line at growths {found}, {'all from there on' if is_on else 'alone'}")
     on = {is_on: sum(kinds[place, is_on] == "same" for place in tried) for is_on in (False, True)}
     faults = sum(kinds[place, False] == "fault" for place in tried)
     alone = f"{on[False]}, and {faults} a fault" if faults else on[False]
-    figure(row.shown(), base.status, count, len(tried), len(silent[False]), alone, on[True])
+    figure(row.shown(), base.status, count, len(tried), alone, on[True])
