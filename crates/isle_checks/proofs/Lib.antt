@@ -6,6 +6,7 @@ pub mod BearLaws
 pub mod ListLaws
 pub mod WithinLaws
 pub mod PartLaws
+pub mod RankLaws
 pub mod MaskLaws
 pub mod FirstLaws
 pub mod FlatTests

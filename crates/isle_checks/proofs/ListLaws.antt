@@ -3,10 +3,9 @@ use Rattle.std.proofs.Common.{◌≡◌, inl, inr, ⊎_elim, ℕ, zero, suc, ◌
 use Rattle.std.specs.Prelude.{Contains}
 use Rattle.std.specs.BTreeMap.{BTreeMap, get, is_at, values, IsOrdered, Updates}
 use Rattle.std.specs.Cmp.{IsTotalOrder}
-use Rattle.std.specs.Global.{Vec}
 use Rattle.std.specs.List.{slice_get}
 use Rattle.std.specs.Map.{lookup, values_of}
-use Rattle.std.specs.Option.{option_map_or, unwrap_or}
+use Rattle.std.specs.Option.{unwrap_or}
 use Rattle.std.specs.Ordering.{is_eq, ordering_reverse}
 use Rattle.std.specs.declared.cmp.Ordering.TheVariants.{Less, Equal, Greater}
 use Rattle.std.proofs.lemmas.List.{take_more}
@@ -32,11 +31,11 @@ same_lookup R o k q e [] = refl
 same_lookup R o k q e (x ∷ es) = ap (λ (p : Ordering). cond (is_eq p) (Some x.1) (lookup (is_at (R k)) es)) (o.congr k q x.0 e) ∙ ap (cond (is_eq (R q x.0)) (Some x.1)) (same_lookup R o k q e es)
 
 -- the rules of what was found
-abbrev pub items_of : Option (Vec Placed) → List Placed
-items_of o = option_map_or (λ (list : Vec Placed). list.items) o []
+abbrev pub items_of : Option (List Placed) → List Placed
+items_of o = unwrap_or o []
 
 -- keys that compare as equal have the same rules
-pub same_under : (map : BTreeMap Key (Vec Placed)) (k q : Key) → key_cmp k q ≡ Equal → under_key map k ≡ under_key map q
+pub same_under : (map : BTreeMap Key (List Placed)) (k q : Key) → key_cmp k q ≡ Equal → under_key map k ≡ under_key map q
 same_under map k q e = ap items_of (same_lookup key_cmp key_total k q e map.entries)
 
 tied : (o : Ordering) → is_eq o ≡ true → o ≡ Equal
@@ -56,7 +55,7 @@ same_key k q e = subst (λ x. key_cmp k x ≡ Equal) e (by (key_cmp k k) (key_to
 -- ---- one rule more
 
 -- a list with one rule more was put under a key
-pub added : (old new : BTreeMap Key (Vec Placed)) (k : Key) (b : Placed) (list : Vec Placed) → list.items ≡ under_key old k ++ b ∷ [] → Updates key_cmp old new k (Some list) → AddsUnder k b old new
+pub added : (old new : BTreeMap Key (List Placed)) (k : Key) (b : Placed) (list : List Placed) → list ≡ under_key old k ++ b ∷ [] → Updates key_cmp old new k (Some list) → AddsUnder k b old new
 added old new k b list is u = (ap items_of u.1 ∙ is, λ q. by q (is_eq (key_cmp k q)) refl)
   where
     by : (q : Key) (t : Bool) → is_eq (key_cmp k q) ≡ t → MayGet b (under_key old q) (under_key new q)
@@ -64,14 +63,14 @@ added old new k b list is u = (ap items_of u.1 ∙ is, λ q. by q (is_eq (key_cm
     by q false e = inl (ap items_of (u.2 q e))
 
 -- a list that was there, or else an empty one, has the rules that were there
-there_or_none : (found : Option (Vec Placed)) (empty : Vec Placed) → empty.items ≡ [] → (unwrap_or found empty).items ≡ items_of found
+there_or_none : (found : Option (List Placed)) (empty : List Placed) → empty ≡ [] → unwrap_or found empty ≡ items_of found
 there_or_none None empty none = none
 there_or_none (Some list) empty none = refl
 
 -- a list with one rule more
-pub pushed_there : (old : BTreeMap Key (Vec Placed)) (k : Key) (b : Placed) (found : Option (Vec Placed)) (empty list new : Vec Placed) → found ≡ get key_cmp old k → empty.items ≡ [] → list ≡ unwrap_or found empty → new.items ≡ list.items ++ b ∷ [] → new.items ≡ under_key old k ++ b ∷ []
+pub pushed_there : (old : BTreeMap Key (List Placed)) (k : Key) (b : Placed) (found : Option (List Placed)) (empty list new : List Placed) → found ≡ get key_cmp old k → empty ≡ [] → list ≡ unwrap_or found empty → new ≡ list ++ b ∷ [] → new ≡ under_key old k ++ b ∷ []
 pushed_there old k b found empty list new same none is more =
-    more ∙ ap (λ xs. xs ++ b ∷ []) (ap (λ (l : Vec Placed). l.items) is ∙ there_or_none found empty none ∙ ap items_of same)
+    more ∙ ap (λ xs. xs ++ b ∷ []) (is ∙ there_or_none found empty none ∙ ap items_of same)
 
 -- rules before one that stands at a place lie below it
 pub before_place : (group : List Placed) (i : ℕ) (b : Placed) → Rises group → i < length group → b ≡ get_or group i b → (a : Placed) → Contains (take i group) a → a.place < b.place
@@ -135,22 +134,22 @@ entry_of (e ∷ es) v c = ⊎_elim
     (contained_cases e.1 (values_of es) v c)
 
 -- the key of a list
-pub record IsUnder (map : BTreeMap Key (Vec Placed)) (list : Vec Placed) : Type 0 where
+pub record IsUnder (map : BTreeMap Key (List Placed)) (list : List Placed) : Type 0 where
   pub key : Key
-  pub is : under_key map key ≡ list.items
+  pub is : under_key map key ≡ list
 
-pub key_of : (map : BTreeMap Key (Vec Placed)) (list : Vec Placed) → IsOrdered key_cmp map → Contains (values map) list → IsUnder map list
+pub key_of : (map : BTreeMap Key (List Placed)) (list : List Placed) → IsOrdered key_cmp map → Contains (values map) list → IsUnder map list
 key_of map list ordered c = let e = entry_of map.entries list c in record { key = e.key; is = ap items_of (btree_map_get_place key_total map e.place e.key list ordered e.at) }
 
 -- the list of a rule
-pub record IsHeld (map : BTreeMap Key (Vec Placed)) (k : Key) : Type 0 where
-  pub list : Vec Placed
+pub record IsHeld (map : BTreeMap Key (List Placed)) (k : Key) : Type 0 where
+  pub list : List Placed
   pub there : Contains (values map) list
-  pub is : under_key map k ≡ list.items
+  pub is : under_key map k ≡ list
 
-pub held : (map : BTreeMap Key (Vec Placed)) (k : Key) (a : Placed) → Contains (under_key map k) a → IsHeld map k
+pub held : (map : BTreeMap Key (List Placed)) (k : Key) (a : Placed) → Contains (under_key map k) a → IsHeld map k
 held map k a c = by (get key_cmp map k) refl
   where
-    by : (o : Option (Vec Placed)) → get key_cmp map k ≡ o → IsHeld map k
+    by : (o : Option (List Placed)) → get key_cmp map k ≡ o → IsHeld map k
     by None e = absurd (none_contained a (subst (λ o. Contains (items_of o) a) e c))
     by (Some list) e = record { list = list; there = value_there (is_at (key_cmp k)) map.entries list e; is = ap items_of e }

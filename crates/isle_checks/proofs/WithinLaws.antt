@@ -2,7 +2,6 @@
 use Rattle.std.proofs.Common.{◌≡◌, ◌⊎◌, inl, inr, ⊎_elim, ℕ, List, [], ◌∷◌, length, refl, sym, ap, ◌∙◌, subst, arith, Option, Some, None, Ordering}
 use Rattle.std.specs.Prelude.{Contains}
 use Rattle.std.specs.BTreeMap.{values, IsOrdered}
-use Rattle.std.specs.Global.{Vec}
 use Rattle.std.specs.declared.cmp.Ordering.TheVariants.{Less, Equal, Greater}
 use Rattle.isle_core.specs.declared.BindingId.{BindingId}
 use Rattle.isle_core.specs.declared.rule_sets.Constraint.{Constraint}
@@ -53,24 +52,24 @@ one_key (splitter.Binding x) f g i j (key.Constraint b c) (key.Constraint a d) h
 -- ---- one list after another
 
 -- what is made within a list was found
-abbrev pub FindsIn : Found → Vec Placed → Type 0
-FindsIn new list = (a b : Placed) → Contains list.items a → Contains list.items b → Makes check.Overlaps a b → HasUpTo new b.place a.place
+abbrev pub FindsIn : Found → List Placed → Type 0
+FindsIn new list = (a b : Placed) → Contains list a → Contains list b → Makes check.Overlaps a b → HasUpTo new b.place a.place
 
 -- what is made within each list that is not left was found
-pub record FindsPast (group : List Placed) (lists left : List (Vec Placed)) (old new : Found) : Type 0 where
+pub record FindsPast (group : List Placed) (lists left : List (List Placed)) (old new : Found) : Type 0 where
   pub long : length new ≡ length old
   pub sound : (j i : ℕ) → Has new j i → Has old j i ⊎ IsMade check.Overlaps group group i j
   pub kept : (j i : ℕ) → Has old j i → HasUpTo new j i
-  pub there : (list : Vec Placed) → Contains left list → Contains lists list
-  pub complete : (list : Vec Placed) → Contains lists list → Contains left list ⊎ FindsIn new list
+  pub there : (list : List Placed) → Contains left list → Contains lists list
+  pub complete : (list : List Placed) → Contains lists list → Contains left list ⊎ FindsIn new list
 
-pub none_past : (group : List Placed) (lists left : List (Vec Placed)) (found : Found) → left ≡ lists → FindsPast group lists left found found
+pub none_past : (group : List Placed) (lists left : List (List Placed)) (found : Found) → left ≡ lists → FindsPast group lists left found found
 none_past group lists left found e = record { long = refl; sound = λ j i h. inl h; kept = λ j i h. record { k = i; le = omega arith; has = h }; there = λ list c. subst (λ xs. Contains xs list) e c; complete = λ list c. inl (subst (λ xs. Contains xs list) (sym e) c) }
 
-pub past_more : (group : List Placed) (lists left later : List (Vec Placed)) (list : Vec Placed) (old mid new : Found) → left ≡ list ∷ later → Within list.items group → Finds check.Overlaps list.items list.items mid new → FindsPast group lists left old mid → FindsPast group lists later old new
+pub past_more : (group : List Placed) (lists left later : List (List Placed)) (list : List Placed) (old mid new : Found) → left ≡ list ∷ later → Within list group → Finds check.Overlaps list list mid new → FindsPast group lists left old mid → FindsPast group lists later old new
 past_more group lists left later list old mid new is within f h = record {
   long = f.long ∙ h.long;
-  sound = λ j i has. ⊎_elim (λ d. h.sound j i d) (λ d. inr (made_among check.Overlaps list.items group list.items group i j within within d)) (f.sound j i has);
+  sound = λ j i has. ⊎_elim (λ d. h.sound j i d) (λ d. inr (made_among check.Overlaps list group list group i j within within d)) (f.sound j i has);
   kept = λ j i has. up_to_then mid new f.kept j i (h.kept j i has);
   there = λ one c. h.there one (subst (λ xs. Contains xs one) (sym is) (tail_contained list later one c));
   complete = λ one c. ⊎_elim
@@ -80,31 +79,31 @@ past_more group lists left later list old mid new is within f h = record {
 }
 
 -- a list of a group's rules
-pub listed_within : (Have : FlatRule → Key → Type 0) (group : List Placed) (lists : Lists) (list : Vec Placed) → AreLists Have group (listing lists) → IsOrdered key_cmp lists.under → Contains (values lists.under) list → Within list.items group
+pub listed_within : (Have : FlatRule → Key → Type 0) (group : List Placed) (lists : Lists) (list : List Placed) → AreLists Have group (listing lists) → IsOrdered key_cmp lists.under → Contains (values lists.under) list → Within list group
 listed_within Have group lists list h ordered c a d = let k = key_of lists.under list ordered c in h.from (Some k.key) a (subst (λ xs. Contains xs a) (sym k.is) d)
 
-pub listed_rises : (Have : FlatRule → Key → Type 0) (group : List Placed) (lists : Lists) (list : Vec Placed) → AreLists Have group (listing lists) → IsOrdered key_cmp lists.under → Contains (values lists.under) list → Rises list.items
+pub listed_rises : (Have : FlatRule → Key → Type 0) (group : List Placed) (lists : Lists) (list : List Placed) → AreLists Have group (listing lists) → IsOrdered key_cmp lists.under → Contains (values lists.under) list → Rises list
 listed_rises Have group lists list h ordered c = let k = key_of lists.under list ordered c in subst Rises k.is (h.rise (Some k.key))
 
 -- a list that is left is one of the lists
-pub left_there : (group : List Placed) (lists left later under : List (Vec Placed)) (list : Vec Placed) (old new : Found) → left ≡ list ∷ later → lists ≡ under → FindsPast group lists left old new → Contains under list
+pub left_there : (group : List Placed) (lists left later under : List (List Placed)) (list : List Placed) (old new : Found) → left ≡ list ∷ later → lists ≡ under → FindsPast group lists left old new → Contains under list
 left_there group lists left later under list old new is all h = subst (λ xs. Contains xs list) all (h.there list (subst (λ xs. Contains xs list) (sym is) (head_contained list later)))
 
 -- all lists were looked at
-pub all_past : (group : List Placed) (lists left under : List (Vec Placed)) (old new : Found) → left ≡ [] → lists ≡ under → FindsPast group lists left old new → FindsPast group under [] old new
+pub all_past : (group : List Placed) (lists left under : List (List Placed)) (old new : Found) → left ≡ [] → lists ≡ under → FindsPast group lists left old new → FindsPast group under [] old new
 all_past group lists left under old new none all h = subst (λ xs. FindsPast group xs [] old new) all (subst (λ xs. FindsPast group lists xs old new) none h)
 
 -- the rules under no key
-pub rest_within : (Have : FlatRule → Key → Type 0) (group : List Placed) (lists : Lists) → AreLists Have group (listing lists) → Within lists.rest.items group
+pub rest_within : (Have : FlatRule → Key → Type 0) (group : List Placed) (lists : Lists) → AreLists Have group (listing lists) → Within lists.rest group
 rest_within Have group lists h a c = h.from None a c
 
-pub rest_rises : (Have : FlatRule → Key → Type 0) (group : List Placed) (lists : Lists) → AreLists Have group (listing lists) → Rises lists.rest.items
+pub rest_rises : (Have : FlatRule → Key → Type 0) (group : List Placed) (lists : Lists) → AreLists Have group (listing lists) → Rises lists.rest
 rest_rises Have group lists h = h.rise None
 
 -- ---- the whole group
 
-module _ (s : Splitter) (group : List Placed) (lists : Lists) (h : AreLists (HasKey s) group (listing lists)) (f0 f1 f2 f3 : Found) (f : FindsPast group (values lists.under) [] f0 f1) (g : Finds check.Overlaps lists.rest.items group f1 f2) (e : Finds check.Overlaps group lists.rest.items f2 f3) where
-  rest_in : Within lists.rest.items group
+module _ (s : Splitter) (group : List Placed) (lists : Lists) (h : AreLists (HasKey s) group (listing lists)) (f0 f1 f2 f3 : Found) (f : FindsPast group (values lists.under) [] f0 f1) (g : Finds check.Overlaps lists.rest group f1 f2) (e : Finds check.Overlaps group lists.rest f2 f3) where
+  rest_in : Within lists.rest group
   rest_in = rest_within (HasKey s) group lists h
 
   from_first : (j i : ℕ) → HasUpTo f1 j i → HasUpTo f3 j i
@@ -124,8 +123,8 @@ module _ (s : Splitter) (group : List Placed) (lists : Lists) (h : AreLists (Has
   found_within = record {
     long = e.long ∙ g.long ∙ f.long;
     sound = λ j i has. ⊎_elim
-        (λ k. ⊎_elim (λ l. f.sound j i l) (λ d. inr (made_among check.Overlaps lists.rest.items group group group i j rest_in (λ a c. c) d)) (g.sound j i k))
-        (λ d. inr (made_among check.Overlaps group group lists.rest.items group i j (λ a c. c) rest_in d))
+        (λ k. ⊎_elim (λ l. f.sound j i l) (λ d. inr (made_among check.Overlaps lists.rest group group group i j rest_in (λ a c. c) d)) (g.sound j i k))
+        (λ d. inr (made_among check.Overlaps group group lists.rest group i j (λ a c. c) rest_in d))
         (e.sound j i has);
     kept = λ j i has. from_first j i (f.kept j i has);
     complete = λ a b c d m. let x = h.all a c in let y = h.all b d in by_keys a b x.key y.key x.has y.has x.among y.among c d m;

@@ -3,6 +3,7 @@ pub mod Makes
 pub mod Joined
 pub mod Classes
 pub mod Lists
+pub mod Ranked
 pub mod Splitter
 pub mod Parts
 pub mod Priorities

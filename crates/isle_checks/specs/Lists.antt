@@ -2,9 +2,8 @@
 use Rattle.std.specs.Prelude.{◌≡◌, ◌⊎◌, ◌<◌, List, [], ◌∷◌, ◌++◌, Option, Some, None, IfSome, Contains}
 use Rattle.std.specs.declared.cmp.Ordering.{Ordering}
 use Rattle.std.specs.List.{AllByRecursion}
-use Rattle.std.specs.Option.{option_map_or}
+use Rattle.std.specs.Option.{unwrap_or}
 use Rattle.std.specs.BTreeMap.{BTreeMap, get}
-use Rattle.std.specs.Global.{Vec}
 use Rattle.isle_core.specs.declared.rule_sets.FlatRule.{FlatRule}
 use Rattle.isle_checks.specs.contracts.lists.KeyOrd.TheImpl as key_ord
 use Rattle.isle_checks.specs.declared.lists.Key.{Key}
@@ -25,12 +24,12 @@ abbrev pub Listing : Type 0
 Listing = Option Key → List Placed
 
 -- the rules that a map has under a key
-abbrev pub under_key : BTreeMap Key (Vec Placed) → Key → List Placed
-under_key map key = option_map_or (λ (list : Vec Placed). list.items) (get key_cmp map key) []
+abbrev pub under_key : BTreeMap Key (List Placed) → Key → List Placed
+under_key map key = unwrap_or (get key_cmp map key) []
 
 -- the rules that the code's lists have under a key, or under none
 abbrev pub listing : Lists → Listing
-listing lists None = lists.rest.items
+listing lists None = lists.rest
 listing lists (Some key) = under_key lists.under key
 
 -- a list stayed, or got one rule more
@@ -38,7 +37,7 @@ abbrev pub MayGet : Placed → (old new : List Placed) → Type 0
 MayGet b old new = (new ≡ old) ⊎ (new ≡ old ++ b ∷ [])
 
 -- a rule joined those that a map has under a key, and each other list stayed, or got it too
-abbrev pub AddsUnder : Key → Placed → (old new : BTreeMap Key (Vec Placed)) → Type 0
+abbrev pub AddsUnder : Key → Placed → (old new : BTreeMap Key (List Placed)) → Type 0
 AddsUnder key b old new = (under_key new key ≡ under_key old key ++ b ∷ []) × ((other : Key) → MayGet b (under_key old other) (under_key new other))
 
 -- so of the rules under a key, or under none

@@ -14,6 +14,7 @@ pub mod overlap;
 mod parts;
 mod placed;
 mod priorities;
+mod ranked;
 pub mod recursion;
 mod splitter;
 mod unreachable;

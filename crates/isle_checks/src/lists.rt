@@ -5,6 +5,7 @@ ghost use Rattle.isle_checks.specs.declared.lists.Key.{Key as TheKey};
 ghost use Rattle.isle_checks.specs.Lists.{Adds, AddsUnder, listing};
 
 use crate::placed::Placed;
+use crate::ranked::Ranked;
 use isle_core::{BindingId, Constraint};
 use std::alloc::{AllocError, Global};
 use std::collections::BTreeMap;
@@ -19,20 +20,20 @@ pub enum Key {
 /// The rules under each key, and those under none, in the order in which they were added.
 #[derive(Drop)]
 pub struct Lists<'a> {
-    pub under: BTreeMap<Key, Vec<Placed<'a>>>,
-    pub rest: Vec<Placed<'a>>,
+    pub under: BTreeMap<Key, Ranked<'a>>,
+    pub rest: Ranked<'a>,
 }
 
 // Adds a rule to those under a key.
 fn push_under<'a>(
     alloc: Global,
-    under: &mut BTreeMap<Key, Vec<Placed<'a>>>,
+    under: &mut BTreeMap<Key, Ranked<'a>>,
     key: Key,
     placed: Placed<'a>,
 ) -> Result<(), AllocError>
     ensures { OnOk result (AddsUnder key placed.entry under.old under.new) }
 {
-    let list = under.entry(key)?.or_insert(Vec::new(alloc));
+    let list = under.entry(key)?.or_insert(Ranked::new(alloc));
     list.push(placed)?;
     Ok(())
 }
@@ -44,7 +45,7 @@ impl<'a> Lists<'a> {
     {
         Lists {
             under: BTreeMap::new(alloc),
-            rest: Vec::new(alloc),
+            rest: Ranked::new(alloc),
         }
     }
 

@@ -114,7 +114,7 @@ fn note_under<'a>(
         Finds found_by.Shadows makers (other.now ∷ []) found.old.items found.new.items }
 {
     if let Some(makers) = lists.under.get(&Key::Constraint(x.0, x.1)) {
-        note_first(Check::Shadows, makers.as_slice(), other, found);
+        note_first(Check::Shadows, makers.above(other), other, found);
     }
 }
 
@@ -142,7 +142,7 @@ fn note_mask<'a>(lists: &Lists<'a>, other: &Placed<'a>, found: &mut Vec<Option<u
     ensures { let makers = candidates (listing lists.now) other.now.rule.now.constraints in
         Finds found_by.Shadows makers (other.now ∷ []) found.old.items found.new.items }
 {
-    note_first(Check::Shadows, lists.rest.as_slice(), other, found);
+    note_first(Check::Shadows, lists.rest.above(other), other, found);
     note_each_under(lists, other.rule.constraints.as_slice(), other, found);
 }
 

@@ -1,4 +1,4 @@
-use Rattle.std.proofs.Common.{rules, ◌≡◌, ◌<◌, ◌∙◌, length, refl, subst, sym, arith}
+use Rattle.std.proofs.Common.{rules, ◌≡◌, ◌<◌, ◌∙◌, length, refl, subst, sym, ap, arith}
 use Rattle.std.specs.BTreeMap.{values}
 use Rattle.std.specs.Prelude.{Contains}
 use Rattle.isle_checks.specs.declared.placed.Check.TheVariants as check
@@ -17,8 +17,8 @@ by_keys-within-requires t c =
     let ordered = c.values-list-items.ensures.ordered in
     let all : c.into_iter-list-iterator.result ≡ values lists.under = search rules in
     let there : Contains (values lists.under) list = left_there group _ _ _ _ list _ _ c.in-Some.ensures.steps all c.loop-list.invariant in
-    let falls : length c.as_slice.result.now < length group = subst (λ n. n < length group) (c.len.ensures ∙ sym c.as_slice.ensures.len) c.if-len-group.true in
-    (omega (arith, falls, c.decreases), rw c.as_slice.ensures.value (listed_rises (HasKey c.args.splitter) group lists list h ordered there, below_part group list.items _ _ (listed_within (HasKey c.args.splitter) group lists list h ordered there) c.loop-list.invariant.long c.requires.below))
+    let falls : length c.as_slice.result.now < length group = subst (λ n. n < length group) (c.len.ensures ∙ sym (ap length c.as_slice.ensures)) c.if-len-group.true in
+    (omega (arith, falls, c.decreases), rw c.as_slice.ensures (listed_rises (HasKey c.args.splitter) group lists list h ordered there, below_part group list _ _ (listed_within (HasKey c.args.splitter) group lists list h ordered there) c.loop-list.invariant.long c.requires.below))
 
 pub by_keys-loop-list-init : goal.by_keys-loop-list-init
 by_keys-loop-list-init t c = none_past c.args.group.now _ _ _ refl
@@ -30,7 +30,7 @@ by_keys-loop-list-preserved-in-Continue-branch-2 t c =
     let list = c.in-Some.list.now in
     let all : c.into_iter-list-iterator.result ≡ values lists.under = search rules in
     let there : Contains (values lists.under) list = left_there group _ _ _ _ list _ _ c.in-Some.ensures.steps all c.loop-list.invariant in
-    past_more group _ _ _ list _ _ _ c.in-Some.ensures.steps (listed_within (HasKey c.args.splitter) group lists list c.in_ok-lists.ensures c.values-list-items.ensures.ordered there) (rw c.as_slice.ensures.value at c.in_ok-within.ensures) c.loop-list.invariant
+    past_more group _ _ _ list _ _ _ c.in-Some.ensures.steps (listed_within (HasKey c.args.splitter) group lists list c.in_ok-lists.ensures c.values-list-items.ensures.ordered there) (rw c.as_slice.ensures at c.in_ok-within.ensures) c.loop-list.invariant
 
 pub by_keys-compare-requires-clause-rise : goal.by_keys-compare-requires-clause-rise
 by_keys-compare-requires-clause-rise t c =
@@ -39,7 +39,7 @@ by_keys-compare-requires-clause-rise t c =
     let list = c.in-Some.list.now in
     let all : c.into_iter-list-iterator.result ≡ values lists.under = search rules in
     let there : Contains (values lists.under) list = left_there group _ _ _ _ list _ _ c.in-Some.ensures.steps all c.loop-list.invariant in
-    rw c.as_slice-else-len-group.ensures.value (listed_rises (HasKey c.args.splitter) group lists list c.in_ok-lists.ensures c.values-list-items.ensures.ordered there)
+    rw c.as_slice-else-len-group.ensures (listed_rises (HasKey c.args.splitter) group lists list c.in_ok-lists.ensures c.values-list-items.ensures.ordered there)
 
 pub by_keys-compare-requires-clause-below : goal.by_keys-compare-requires-clause-below
 by_keys-compare-requires-clause-below t c =
@@ -48,7 +48,7 @@ by_keys-compare-requires-clause-below t c =
     let list = c.in-Some.list.now in
     let all : c.into_iter-list-iterator.result ≡ values lists.under = search rules in
     let there : Contains (values lists.under) list = left_there group _ _ _ _ list _ _ c.in-Some.ensures.steps all c.loop-list.invariant in
-    rw c.as_slice-else-len-group-2.ensures.value (below_part group list.items _ _ (listed_within (HasKey c.args.splitter) group lists list c.in_ok-lists.ensures c.values-list-items.ensures.ordered there) c.loop-list.invariant.long c.requires.below)
+    rw c.as_slice-else-len-group-2.ensures (below_part group list _ _ (listed_within (HasKey c.args.splitter) group lists list c.in_ok-lists.ensures c.values-list-items.ensures.ordered there) c.loop-list.invariant.long c.requires.below)
 
 pub by_keys-loop-list-preserved : goal.by_keys-loop-list-preserved
 by_keys-loop-list-preserved t c =
@@ -57,24 +57,24 @@ by_keys-loop-list-preserved t c =
     let list = c.in-Some.list.now in
     let all : c.into_iter-list-iterator.result ≡ values lists.under = search rules in
     let there : Contains (values lists.under) list = left_there group _ _ _ _ list _ _ c.in-Some.ensures.steps all c.loop-list.invariant in
-    past_more group _ _ _ list _ _ _ c.in-Some.ensures.steps (listed_within (HasKey c.args.splitter) group lists list c.in_ok-lists.ensures c.values-list-items.ensures.ordered there) (rw (c.as_slice-else-len-group.ensures.value, c.as_slice-else-len-group-2.ensures.value) at c.compare.ensures) c.loop-list.invariant
+    past_more group _ _ _ list _ _ _ c.in-Some.ensures.steps (listed_within (HasKey c.args.splitter) group lists list c.in_ok-lists.ensures c.values-list-items.ensures.ordered there) (rw (c.as_slice-else-len-group.ensures, c.as_slice-else-len-group-2.ensures) at c.compare.ensures) c.loop-list.invariant
 
 pub by_keys-compare-requires-2-clause-rise : goal.by_keys-compare-requires-2-clause-rise
-by_keys-compare-requires-2-clause-rise t c = rw c.as_slice-2.ensures.value (rest_rises (HasKey c.args.splitter) c.args.group.now c.in_ok-lists.lists c.in_ok-lists.ensures)
+by_keys-compare-requires-2-clause-rise t c = rw c.as_slice-2.ensures (rest_rises (HasKey c.args.splitter) c.args.group.now c.in_ok-lists.lists c.in_ok-lists.ensures)
 
 pub by_keys-compare-requires-2-clause-below : goal.by_keys-compare-requires-2-clause-below
 by_keys-compare-requires-2-clause-below t c = below_part c.args.group.now c.args.group.now _ _ (λ a k. k) c.loop-list.invariant.long c.requires.below
 
 pub by_keys-compare-requires-3-clause-below : goal.by_keys-compare-requires-3-clause-below
 by_keys-compare-requires-3-clause-below t c =
-    rw c.as_slice-3.ensures.value (below_part c.args.group.now c.in_ok-lists.lists.rest.items _ _ (rest_within (HasKey c.args.splitter) c.args.group.now c.in_ok-lists.lists c.in_ok-lists.ensures) (c.compare-2.ensures.long ∙ c.loop-list.invariant.long) c.requires.below)
+    rw c.as_slice-3.ensures (below_part c.args.group.now c.in_ok-lists.lists.rest _ _ (rest_within (HasKey c.args.splitter) c.args.group.now c.in_ok-lists.lists c.in_ok-lists.ensures) (c.compare-2.ensures.long ∙ c.loop-list.invariant.long) c.requires.below)
 
 pub by_keys-returns : goal.by_keys-returns
 by_keys-returns t c =
     let lists = c.in_ok-lists.lists in
     let all : c.into_iter-list-iterator.result ≡ values lists.under = search rules in
     let past = all_past c.args.group.now _ _ (values lists.under) _ _ c.in-None.ensures.steps.0 all c.loop-list.invariant in
-    found_within c.args.splitter c.args.group.now lists c.in_ok-lists.ensures _ _ _ _ past (rw c.as_slice-2.ensures.value at c.compare-2.ensures) (rw c.as_slice-3.ensures.value at c.compare-3.ensures)
+    found_within c.args.splitter c.args.group.now lists c.in_ok-lists.ensures _ _ _ _ past (rw c.as_slice-2.ensures at c.compare-2.ensures) (rw c.as_slice-3.ensures at c.compare-3.ensures)
 
 pub within-within-requires : goal.within-within-requires
 within-within-requires t c =
