@@ -419,3 +419,8 @@ def multi_fault_at_the_end(count):
 def crossing(count):
     """Rules of one priority, half of which test one argument and half the other, so that each of one half overlaps all of the other."""
     return "(decl t (u32 u32) u32)\n" + "".join(f"(rule (t {i} _) 2)\n(rule (t _ {i}) 2)\n" for i in range(count // 2))
+
+
+def rising(count):
+    """Rules without tests, each of a higher priority than all before it, so that each is shadowed by the next."""
+    return "(decl t (u32) u32)\n" + "".join(f"(rule {i} (t x) 2)\n" for i in range(count))

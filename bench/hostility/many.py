@@ -6,15 +6,14 @@ from hostility.odd import one_file
 
 def wide_texts():
     """Texts of many of one thing."""
-    # Where each rule shadows all before it they are compared pair by pair (README of crates/isle_checks), so there are fewer of those.
-    many, few = 65_536, 16_384
+    many = 65_536
     variants = " ".join(f"V{i}" for i in range(many))
     return [
         one_file("65,536 rules told by a number", shapes.told_by_one(many), 0),
         one_file("65,536 rules that are the same", "(decl t (u32) u32)\n" + "(rule (t 1) 2)\n" * many, 8, b"a.isle:"),
         one_file("65,536 rules of a `multi` term that are the same", "(decl multi t (u32) u32)\n" + "(rule (t 1) 2)\n" * many, 0),
         one_file("65,536 rules that all overlap with half of the others", shapes.crossing(many), 8, b"a.isle:3:1: overlap error: rule 1 of t "),
-        one_file("16,384 rules that all later ones shadow", shadowed(range(few)), 8, b"a.isle:2:1: shadowed rule: "),
+        one_file("65,536 rules that all later ones shadow", shapes.rising(many), 8, b"a.isle:2:1: shadowed rule: "),
         one_file("65,536 rules that all earlier ones shadow", shadowed(range(many, 0, -1)), 8, b"a.isle:3:1: shadowed rule: "),
         one_file("65,536 rules that an extractor of their own tells", own_extractors(many, "multi"), 0),
         one_file("65,536 rules of priorities and extractors of their own", own_extractors(many, "partial"), 0),
