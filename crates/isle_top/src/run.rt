@@ -1,4 +1,5 @@
-ghost use Rattle.std.specs.Prelude.{◌≡◌, ◌≢◌, ◌≤◌, ◌+◌, ◌*◌, ◌^◌, ◌⊎◌, [], ◌∷◌, ℕ, List, Some, false};
+ghost use Rattle.std.specs.Prelude.{◌≡◌, ◌≢◌, ◌≤◌, ◌+◌, ◌*◌, ◌^◌, ◌⊎◌};
+ghost use Rattle.std.specs.Prelude.{[], ◌∷◌, ℕ, List, Some, false};
 ghost use Rattle.std.specs.Prelude.{length, slice_get, OnOk, OnErr};
 ghost use Rattle.isle_outside.specs.Directory.{Rose};
 ghost use Rattle.isle_core.specs.Inputs.{bytes_each};

@@ -1,6 +1,7 @@
 //! The files of a unit's inputs.
 
-ghost use Rattle.std.specs.Prelude.{◌≡◌, ◌++◌, ◌∷◌, [], ◌-◌, ◌^◌, ◌≤◌, Err, false, IfOk, IfErr};
+ghost use Rattle.std.specs.Prelude.{◌≡◌, ◌++◌, ◌∷◌, [], ◌-◌, ◌^◌};
+ghost use Rattle.std.specs.Prelude.{◌≤◌, Err, false, IfOk, IfErr};
 ghost use Rattle.std.specs.Prelude.{IfSome, IsPermutation, IsSorted, OnOk, filter, length, map};
 ghost use Rattle.std.specs.Cmp.Lexicographic.{slice_cmp};
 ghost use Rattle.std.specs.Ordering.{nat_cmp};
