@@ -1,6 +1,7 @@
 //! A text of Rust or ISLE, line by line.
 
-ghost use Rattle.std.specs.Prelude.{◌≡◌, ◌+◌, ◌-◌, ◌^◌, ◌≤◌, ◌<◌, ◌++◌, ◌∷◌, [], Err, false, IfOk};
+ghost use Rattle.std.specs.Prelude.{◌≡◌, ◌+◌, ◌-◌, ◌^◌, ◌≤◌, ◌<◌, ◌++◌};
+ghost use Rattle.std.specs.Prelude.{◌∷◌, [], Err, false, IfOk, IfErr};
 ghost use Rattle.std.specs.Prelude.{OnOk};
 ghost use Rattle.std.specs.Prelude.{OnErr, codes};
 ghost use Rattle.isle_meta.specs.Layout.{at_level, comment_mark, deeper, followed_by, joined_name};
@@ -128,8 +129,8 @@ impl Formatter {
     /// Goes one level back. It refuses nothing.
     pub fn indent_pop(&mut self) -> Result<(), OutOfMemory>
         requires { 0 < self.old.level }
-        ensures ok { OnOk result (self.new ≡ shallower self.old) }
-        ensures err { OnErr result (self.new ≡ self.old) }
+        ensures never { IfErr result (λ e. ⊥) }
+        ensures level { self.new ≡ shallower self.old }
     {
         self.level -= 1;
         Ok(())

@@ -1,6 +1,7 @@
 //! Instructions that aren't supported.
 
-ghost use Rattle.std.specs.Prelude.{◌≡◌, ◌↔◌, ◌++◌, ◌∷◌, [], ◌||◌, List, ℕ, IfOk, OnOk, IsTrue};
+ghost use Rattle.std.specs.Prelude.{◌≡◌, ◌↔◌, ◌++◌, ◌∷◌, [], ◌||◌};
+ghost use Rattle.std.specs.Prelude.{List, ℕ, IfOk, OnOk, IsTrue};
 ghost use Rattle.isle_lawful_names.specs.NameSet.{HasNames};
 ghost use Rattle.isle_meta.specs.declared.clif.Instruction.{Instruction as InstructionOf};
 ghost use Rattle.isle_meta.specs.InstructionRow as Row;

@@ -2,27 +2,17 @@
 
 ghost use Rattle.std.specs.Prelude.{◌≡◌, ◌++◌, OnOk, string_bytes};
 ghost use Rattle.isle_ast.specs.Views.{def, pattern};
-ghost use Rattle.isle_writing.specs.Text.{def_text, flags_text, marked_text, pair_text};
+ghost use Rattle.isle_writing.specs.Text.{def_text, flags_text, marked_text};
 ghost use Rattle.isle_writing.specs.Text.{signature_text, template_text};
 
 use crate::body::push_body;
+use crate::link::push_link;
 use crate::pattern::push_pattern;
 use crate::rule::{push_conclusion, push_parts, push_prio, push_rule_name};
 use crate::word::{push_after, push_mark, push_spaced};
 use isle_ast::{AstBody, AstPattern, Def};
 use isle_core::Name;
 use std::alloc::AllocError;
-
-// Appends two names after these bytes, with a blank between them, and the end of the line.
-fn push_pair(text: &mut String, before: &str, first: &Name, second: &Name) -> Result<(), AllocError>
-    ensures { OnOk result
-        (string_bytes text.new
-        ≡ string_bytes text.old ++ pair_text before.now first.now second.now) }
-{
-    push_after(text, before, first)?;
-    push_after(text, " ", second)?;
-    text.push_str(")\n")
-}
 
 // Appends a type's marks and what it is, and the end of the line.
 fn push_marked(
@@ -126,20 +116,6 @@ pub fn push_def(text: &mut String, given: &Def<'_>) -> Result<(), AllocError>
             push_flags(text, *pure, *multi, *partial, *recursive)?;
             push_signature(text, term, args.as_slice(), ret)
         }
-        Def::ExternConstructor { term, func, .. } => {
-            push_pair(text, "(extern constructor ", term, func)
-        }
-        Def::ExternExtractor {
-            term,
-            func,
-            infallible,
-            ..
-        } => {
-            text.push_str("(extern extractor ")?;
-            push_mark(text, *infallible, "infallible")?;
-            push_pair(text, "", term, func)
-        }
-        Def::ExternConst { name, ty, .. } => push_pair(text, "(extern const $", name, ty),
         Def::Extractor {
             term,
             params,
@@ -148,10 +124,6 @@ pub fn push_def(text: &mut String, given: &Def<'_>) -> Result<(), AllocError>
         } => {
             push_after(text, "(extractor (", term)?;
             push_template(text, params.as_slice(), template)
-        }
-        Def::Converter { from, to, term, .. } => {
-            push_after(text, "(convert ", from)?;
-            push_pair(text, " ", to, term)
         }
         Def::Rule {
             name,
@@ -168,9 +140,10 @@ pub fn push_def(text: &mut String, given: &Def<'_>) -> Result<(), AllocError>
             push_parts(text, term, args.as_slice())?;
             push_conclusion(text, iflets.as_slice(), rhs)
         }
-        Def::Passed { head, .. } => {
-            push_after(text, "(", head)?;
-            text.push_str(")\n")
-        }
+        Def::ExternConstructor { .. }
+        | Def::ExternExtractor { .. }
+        | Def::ExternConst { .. }
+        | Def::Converter { .. }
+        | Def::Passed { .. } => push_link(text, given),
     }
 }

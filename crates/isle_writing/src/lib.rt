@@ -4,6 +4,7 @@
 mod body;
 mod definition;
 mod expression;
+mod link;
 mod pattern;
 mod rule;
 mod word;
