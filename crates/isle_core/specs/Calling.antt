@@ -110,12 +110,6 @@ is_several return_kind.Plain = false
 is_several return_kind.Option = false
 is_several return_kind.Iterator = true
 
--- whether a function of this kind may stop without a result at a call that answers nothing: with nothing, or with what it has added
-abbrev pub may_stop : ReturnKind → Bool
-may_stop return_kind.Plain = false
-may_stop return_kind.Option = true
-may_stop return_kind.Iterator = true
-
 -- whether a call is answered several times
 abbrev pub answers_often : Calling → Bool
 answers_often (ByTurns callee kind) = is_several kind

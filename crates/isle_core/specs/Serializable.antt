@@ -9,7 +9,7 @@ use Rattle.isle_core.specs.declared.rule_sets.FlatRule.{FlatRule}
 use Rattle.isle_core.specs.declared.rule_sets.RuleSet.{RuleSet}
 use Rattle.isle_core.specs.declared.types.Term.{Term}
 use Rattle.isle_core.specs.declared.types.ReturnKind.{ReturnKind}
-use Rattle.isle_core.specs.Calling.{Calling, ByTurns, ByCases, NoCall, calling, is_several, kind_of, may_be_nothing, may_stop}
+use Rattle.isle_core.specs.Calling.{Calling, ByTurns, ByCases, NoCall, calling, is_several, kind_of, may_be_nothing}
 use Rattle.isle_core.specs.HoldsImpure.{holds_impure}
 use Rattle.isle_core.specs.Path.{Path, Nowhere, Arg, ConstBool, ConstInt, ConstPrim, Extracted, Called, Chosen, MadeVariant, MadeStruct, VariantField, StructField, Wrapped, Inner, Part, Paths, NoPath, APath, at, paths_of}
 use Rattle.isle_core.specs.StandsFor.{EachOnce}
@@ -112,7 +112,7 @@ pub record AreComparable (env : Environment) (t : Term) (ps : List Path) (tests 
 -- ---- calls
 
 -- a call of a term on values of its types, which stand on earlier calls; it has an inner value exactly if it may be nothing, which is only so in
--- a term that may stop, and an item exactly if it answers several times, which is only so in a term that does so, too
+-- a term that may be nothing, and an item exactly if it answers several times, which is only so in a term that does so, too
 pub record IsSerializableCall (env : Environment) (t : Term) (tests : List Test) (ps done : List Path) (p : Path) : Type 0 where
   pub term : TermId
   pub parameters : Paths
@@ -125,7 +125,7 @@ pub record IsSerializableCall (env : Environment) (t : Term) (tests : List Test)
   pub kind : ReturnKind
   pub external : IsCall kind (calling env term)
   pub inner : IsTrue (may_be_nothing kind) ↔ Contains ps (Inner p)
-  pub fits : IsTrue (may_be_nothing kind) → may_stop (kind_of t.kind) ≡ true
+  pub fits : IsTrue (may_be_nothing kind) → IsTrue (may_be_nothing (kind_of t.kind))
   pub item : IsTrue (is_several kind) ↔ Contains ps (Chosen p)
   pub often : IsTrue (is_several kind) → is_several (kind_of t.kind) ≡ true
 

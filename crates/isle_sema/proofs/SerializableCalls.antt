@@ -17,7 +17,7 @@ use Rattle.isle_core.specs.declared.values.Callee.{Callee}
 use Rattle.isle_core.specs.declared.values.Callee.TheVariants.{External, Internal}
 use Rattle.isle_core.specs.ExternalCall.{IsCall}
 use Rattle.isle_core.specs.PathType.{IsPathOf, ArePathsOf}
-use Rattle.isle_core.specs.Calling.{Calling, ByTurns, ByCases, NoCall, calling, calling_of, calling_by, pure_callee, kind_by, kind_of, may_be_nothing, is_several, may_stop, HasKind, answers_often, is_fallible, instance_of, impure, impure_all, impure_bindings}
+use Rattle.isle_core.specs.Calling.{Calling, ByTurns, ByCases, NoCall, calling, calling_of, calling_by, pure_callee, kind_by, kind_of, may_be_nothing, is_several, HasKind, answers_often, is_fallible, instance_of, impure, impure_all, impure_bindings}
 use Rattle.isle_core.specs.CalledTerms.{Constructor, unless_made, called_by, called_by_all, called_by_bindings}
 use Rattle.isle_core.specs.Expr as expr
 use Rattle.isle_core.specs.Expr.{Expr, Exprs, NoExpr, AnExpr, LetBindings, NoBinding, ABinding}
@@ -262,11 +262,6 @@ module _ (env : Environment) (t : Term) (allowed : Allowed) (tests : List Test) 
   item_of return_kind.Plain callee q ps a h = cc
   item_of return_kind.Option callee q ps a h = cc
 
-  stops : (kind : ReturnKind) → may_be_nothing kind ≡ true → may_stop kind ≡ true
-  stops return_kind.Option e = refl
-  stops return_kind.Plain e = e
-  stops return_kind.Iterator e = refl
-
   -- a call of a term
   call_serializable : (d : Calling) (kind : ReturnKind) (callee : Callee) (ps done : List Path) (term : TermId) (c : Term) (qs : Paths) (k : ℕ) → IsCall kind d → is_fallible d ≡ may_be_nothing kind → answers_often d ≡ is_several kind → (IsTrue (may_be_nothing kind) → IsTrue allowed.nothing) → calling env term ≡ d → slice_get env.terms term.0 ≡ Some c
       → ArePathsOf env t qs c.arg_tys → AllStandOn env tests done qs → allowed.nothing ≡ may_be_nothing (kind_of t.kind) → FitAnswers env ps → Often t kind → Among (with_inner (ByTurns callee kind) (Called term qs k)) ps → IsSerializableCall env t tests ps done (Called term qs k)
@@ -282,7 +277,7 @@ module _ (env : Environment) (t : Term) (allowed : Allowed) (tests : List Test) 
     kind = kind;
     external = subst (IsCall kind) (sym is) call;
     inner = (inner_of kind callee (Called term qs k) ps a, λ b. sym same_kind ∙ sym (ap is_fallible is) ∙ fit (Inner (Called term qs k)) b);
-    fits = λ h. stops (kind_of t.kind) (sym same ∙ fits h);
+    fits = λ h. sym same ∙ fits h;
     item = (item_of kind callee (Called term qs k) ps a, λ b. sym same_often ∙ sym (ap answers_often is) ∙ fit (Chosen (Called term qs k)) b);
     often = often;
   }
