@@ -22,7 +22,8 @@ use Rattle.isle_emission.specs.MayEmit.{MayEmit, MayEmitTerm}
 use Rattle.isle_emission.specs.EmittedTerm.{IsGiven, HasLogLines, IsWellFormedIn, HasBlockShape, RunsAs, RunsAsItsBlock, RunsUnderAll}
 use Rattle.isle_simulation.specs.Emitted.{RunAlike}
 use Rattle.isle_simulation.specs.TermFunction.{tail_in, function_with, term_function}
-use Rattle.isle_simulation.proofs.GivenFunctions.{emitted_well_formed, has_shape, runs_as_block, runs_as_several, its_lines, run_alike}
+use Rattle.isle_simulation.proofs.GivenFunctions.{emitted_well_formed, has_shape, runs_as_block, runs_as_several, its_lines}
+use Rattle.isle_emission.proofs.FilesAlike.{all_alike}
 use Rattle.isle_simulation.proofs.Made.{function_made}
 use Rattle.isle_simulation.proofs.StatementsFound.{function_found}
 use Rattle.isle_simulation.specs.StatementsOf.{IsFunctionOf}
@@ -81,11 +82,12 @@ pub is_logged : (options : CodegenOptions) (o : Origin) (f : Function) → MayEm
 is_logged options o f h e = both (slice_get o.env.terms o.id.0) _ _ _ (λ t may is. its_lines options o.files o.env t o.bindings o.block f may.lawful (made options o t f is)) h e
 
 pub is_alike : (options : CodegenOptions) (o : Origin) (f : Function) → MayEmitTerm o → IsGiven options o f → RunsUnderAll options o f
-is_alike options o f h e other g limit k = one (slice_get o.env.terms o.id.0) h e k
+is_alike options o f h e other files g limit k = one (slice_get o.env.terms o.id.0) h e k
   where
     one : (t : Option Term) → IsSomeAnd t (λ u. MayEmit o.files (setting o.env u o.bindings) o.block) → IsSomeAnd t (λ u. IsFunctionOf options o.files (setting o.env u o.bindings) o.block f)
-        → IsSomeAnd t (λ u. IsFunctionOf other o.files (setting o.env u o.bindings) o.block g) → RunAlike f g
-    one (Some t) may is also = run_alike options other o.files o.env t o.bindings o.block f g limit may.lawful (made options o t f is) (made other o t g also)
+        → IsSomeAnd t (λ u. IsFunctionOf other files (setting o.env u o.bindings) o.block g) → RunAlike f g
+    one (Some t) may is also =
+        all_alike options other o.files files o.env t o.bindings o.block f g limit may.lawful (made options o t f is) (function_found other files (setting o.env t o.bindings) o.block g also)
     one None may is also = absurd may
 
 -- and all of its block is built

@@ -5,6 +5,7 @@ pub mod NeededLets
 pub mod StatementSteps
 pub mod CaseSteps
 pub mod Roots
+pub mod FilesAlike
 pub mod EmittedLaws
 pub mod BuiltLaws
 pub mod ReadSteps

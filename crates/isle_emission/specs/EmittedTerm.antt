@@ -1,5 +1,6 @@
 -- What the function is that is emitted for a term.
 use Rattle.std.specs.Prelude.{◌≡◌, Bool, true, false}
+use Rattle.isle_core.specs.declared.files.Files.{Files}
 use Rattle.isle_core.specs.declared.options.CodegenOptions.{CodegenOptions}
 use Rattle.isle_core.specs.Block.{Block}
 use Rattle.isle_core.specs.Setting.{Setting, gives_several}
@@ -39,7 +40,8 @@ RunsAs false options s b f = RunsAsBlock s.env s.term s.bindings b f
 abbrev pub RunsAsItsBlock : (options : CodegenOptions) → Origin → Function → Type 0
 RunsAsItsBlock options o f = InSetting o (λ (s : Setting). RunsAs (gives_several s) options s o.block f)
 
--- it runs like each function that the block gives under other options with the same limit: everywhere to the same end, with the same calls, also
--- of pure terms
+-- it runs like each function that the block gives under other options with the same limit, whatever names and texts the files have then:
+-- everywhere to the same end, with the same calls, also of pure terms
 abbrev pub RunsUnderAll : (options : CodegenOptions) → Origin → Function → Type 0
-RunsUnderAll options o f = (other : CodegenOptions) (g : Function) → options.max_returns ≡ other.max_returns → IsGiven other o g → RunAlike f g
+RunsUnderAll options o f = (other : CodegenOptions) (files : Files) (g : Function)
+    → options.max_returns ≡ other.max_returns → IsGiven other (record o { files = files }) g → RunAlike f g

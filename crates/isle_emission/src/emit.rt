@@ -102,7 +102,7 @@ pub fn term_function(
 
 /// Makes the function of the term of this number, whose rules have this block. It is well formed in every program with
 /// the functions of the trait and of terms that the environment gives, has the shape of the block, and runs as the
-/// block does, and alike under all options with one limit. Fails for want of memory alone.
+/// block does, and alike under all options with one limit and over all files. Fails for want of memory alone.
 pub fn emit_term(
     alloc: Global,
     files: &Files,

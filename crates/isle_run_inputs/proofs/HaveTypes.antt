@@ -8,15 +8,16 @@ use Rattle.isle_core.specs.declared.types.BuiltinType.TheVariants as builtin
 use Rattle.isle_core.specs.declared.types.TypeDef.{TypeDef}
 use Rattle.isle_core.specs.declared.types.TypeDef.TheVariants as def
 use Rattle.isle_core.specs.Int.{wrapped}
-use Rattle.isle_core.specs.HasType.{TakesOpaque, IsOfDef, AreFieldsOf, HaveTypes}
+use Rattle.isle_core.specs.HasType.{IsOfDef, AreFieldsOf, HaveTypes}
 use Rattle.isle_core.specs.Rule.{Environment}
 use Rattle.isle_core.specs.Terms.{sym_text}
-use Rattle.isle_core.specs.Value.{Value, Int, Opaque, FieldValues}
+use Rattle.isle_core.specs.Value.{Value, Int, FieldValues}
 use Rattle.isle_values.specs.Written as written
 use Rattle.isle_values.specs.Written.{Written, Writtens, NoValue, AValue}
 use Rattle.isle_run_inputs.specs.Makers.{Maker, OfVariant, OfStruct, maker_at, maker_fields, made_of}
-use Rattle.isle_run_inputs.specs.ValuesAt.{misfit, is_of, opaque_in, truth_in, number_in, put_field, value_in, fields_in, or_misfit, value_of_def, values_at}
-use Rattle.isle_run_inputs.proofs.HeldNumbers.{held, signed_fits}
+use Rattle.isle_run_inputs.specs.ValuesAt.{misfit, is_of, truth_in, number_in, put_field, value_in, fields_in, or_misfit, value_of_def, values_at}
+use Rattle.isle_spelling.proofs.Wraps.{wraps}
+use Rattle.isle_run_inputs.proofs.HeldNumbers.{held}
 
 -- as many values as names, and this of each name and value
 abbrev pub Matched : (List ℕ → Value → Type 0) → List (List ℕ) → List Value → Type 0
@@ -37,15 +38,6 @@ integer_by : (env : Environment) (ty : IntType) (n : ℤ) (fit : Bool) → is_of
 integer_by env ty n true is = (refl, held ty n is)
 integer_by env ty n false is = tt
 
--- an opaque number, by whether it lies in 128 signed bits
-opaque_by : (env : Environment) (d : TypeDef) (name : List ℕ) (n : ℤ) (fit : Bool) → (is_of int.I128 n ≡ true → TakesOpaque env d name n) → is_of int.I128 n ≡ fit → IfThere (IsOfDef env d) (if fit then Some (Opaque name n) else None)
-opaque_by env d name n true takes is = takes is
-opaque_by env d name n false takes is = tt
-
--- an opaque number at a type that takes such
-opaque_of : (env : Environment) (d : TypeDef) (name : List ℕ) (n : ℤ) → (is_of int.I128 n ≡ true → TakesOpaque env d name n) → IfThere (IsOfDef env d) (opaque_in name n)
-opaque_of env d name n takes = opaque_by env d name n (is_of int.I128 n) takes refl
-
 -- a truth that is there is of its type
 truth_of : (env : Environment) (d : TypeDef) (b : Bool) → IfThere (IsOfDef env d) (truth_in d b)
 truth_of env (def.Builtin builtin.Bool) b = tt
@@ -58,10 +50,10 @@ truth_of env (def.Struct name is_extern is_nodebug fields at) b = tt
 number_of : (env : Environment) (d : TypeDef) (n : ℤ) → IfThere (IsOfDef env d) (number_in env d n)
 number_of env (def.Builtin builtin.Bool) n = tt
 number_of env (def.Builtin (builtin.Int ty)) n = integer_by env ty n (is_of ty n) refl
-number_of env (def.Primitive name rust at) n = opaque_of env (def.Primitive name rust at) (sym_text env rust) n (λ h. (refl, signed_fits n h))
-number_of env (def.Enum name true is_nodebug variants at) n = opaque_of env (def.Enum name true is_nodebug variants at) (sym_text env name) n (λ h. (refl, signed_fits n h))
+number_of env (def.Primitive name rust at) n = (refl, (wraps int.I128 n).within)
+number_of env (def.Enum name true is_nodebug variants at) n = (refl, (wraps int.I128 n).within)
 number_of env (def.Enum name false is_nodebug variants at) n = tt
-number_of env (def.Struct name true is_nodebug fields at) n = opaque_of env (def.Struct name true is_nodebug fields at) (sym_text env name) n (λ h. (refl, signed_fits n h))
+number_of env (def.Struct name true is_nodebug fields at) n = (refl, (wraps int.I128 n).within)
 number_of env (def.Struct name false is_nodebug fields at) n = tt
 
 -- ---- values

@@ -11,9 +11,8 @@ use Rattle.isle_core.specs.declared.types.IntType.{IntType}
 use Rattle.isle_core.specs.declared.types.IntType.TheVariants as int
 use Rattle.isle_core.specs.Int.{IsBelow, wrapped}
 use Rattle.isle_core.specs.HasType.{IsReduced}
-use Rattle.isle_core.specs.Value.{Opaque}
 use Rattle.isle_spelling.proofs.Wraps.{wraps, wraps_only}
-use Rattle.isle_run_inputs.specs.ValuesAt.{is_of, opaque_in}
+use Rattle.isle_run_inputs.specs.ValuesAt.{is_of}
 
 -- a number of 128 signed bits wraps to itself
 kept : (n : ℤ) → FitsSigned w128 n → wrapped int.I128 n ≡ n
@@ -72,15 +71,3 @@ held int.I64 (negsuc n) h = within w64 (negsuc n) h
 held int.I128 n h = (wraps int.I128 n).within
 held int.ISize (pos n) h = within w64 (pos n) h
 held int.ISize (negsuc n) h = within w64 (negsuc n) h
-
--- a number of i128 lies in 128 signed bits
-pub signed_fits : (n : ℤ) → is_of int.I128 n ≡ true → FitsSigned w128 n
-signed_fits (pos n) h = fits w128 (pos n) h
-signed_fits (negsuc n) h = fits w128 (negsuc n) h
-
--- a number that lies in 128 signed bits is held as an opaque number as it is
-pub opaque_held : (name text : List ℕ) (n bits : ℤ) → text ≡ name → bits ≡ wrapped int.I128 n → is_of int.I128 n ≡ true → Some (Opaque text bits) ≡ opaque_in name n
-opaque_held name text n bits same is own =
-    ap (λ t. Some (Opaque t bits)) same
-    ∙ ap (λ b. Some (Opaque name b)) (is ∙ kept n (signed_fits n own))
-    ∙ ap (λ b. if b then Some (Opaque name n) else None) (sym own)

@@ -36,9 +36,9 @@ is_of ty (negsuc n) = is_signed ty && nat_lt n (2 ^ hbits (width ty))
 abbrev pub integer_in : IntType → ℤ → Option Value
 integer_in ty n = if is_of ty n then Some (Int ty (wrapped I128 n)) else None
 
--- an opaque number of 128 signed bits, under this name
-abbrev pub opaque_in : (name : List ℕ) → ℤ → Option Value
-opaque_in name n = if is_of I128 n then Some (Opaque name n) else None
+-- an opaque number under this name, wrapped to 128 signed bits
+abbrev pub opaque_in : (name : List ℕ) → ℤ → Value
+opaque_in name n = Opaque name (wrapped I128 n)
 
 -- a truth at a type: at bool alone
 abbrev pub truth_in : TypeDef → Bool → Option Value
@@ -51,9 +51,9 @@ truth_in (def.Struct name is_extern is_nodebug fields at) b = None
 -- a number at a type: opaque at a primitive type, under its name in Rust, and at an extern one, under its own
 abbrev pub number_in : Environment → TypeDef → ℤ → Option Value
 number_in env (def.Builtin (builtin.Int ty)) n = integer_in ty n
-number_in env (def.Primitive name rust at) n = opaque_in (sym_text env rust) n
-number_in env (def.Enum name true is_nodebug variants at) n = opaque_in (sym_text env name) n
-number_in env (def.Struct name true is_nodebug fields at) n = opaque_in (sym_text env name) n
+number_in env (def.Primitive name rust at) n = Some (opaque_in (sym_text env rust) n)
+number_in env (def.Enum name true is_nodebug variants at) n = Some (opaque_in (sym_text env name) n)
+number_in env (def.Struct name true is_nodebug fields at) n = Some (opaque_in (sym_text env name) n)
 number_in env (def.Enum name false is_nodebug variants at) n = None
 number_in env (def.Struct name false is_nodebug fields at) n = None
 number_in env (def.Builtin builtin.Bool) n = None

@@ -1,6 +1,6 @@
 //! Written truths and numbers at a type.
 
-ghost use Rattle.std.specs.Prelude.{◌≡◌, IfOk, Option, option_map};
+ghost use Rattle.std.specs.Prelude.{◌≡◌, IfOk, Option, Some, option_map};
 ghost use Rattle.isle_core.specs.Rule.{Environment};
 ghost use Rattle.isle_core.specs.ValueViews.{value};
 ghost use Rattle.isle_lexer.specs.SignedViews.{signed};
@@ -23,16 +23,16 @@ fn integer_in(ty: IntType, number: Signed) -> Option<Value>
     }
 }
 
-// An opaque number under a name, where it lies in 128 signed bits.
+// An opaque number under a name, wrapped to 128 signed bits.
 #[tactic(auto, using(isle_outcomes::proofs::SeesValues::sees_values))]
 fn opaque_in(alloc: Global, name: &str, number: Signed) -> Result<Option<Value>, AllocError>
-    ensures { IfOk result (λ v. option_map value v ≡ opaque_in name.now (signed number)) }
+    ensures { IfOk result (λ v.
+        option_map value v ≡ Some (opaque_in name.now (signed number))) }
 {
-    if is_of(IntType::I128, number) {
-        Ok(Some(Value::Opaque(Text::copied(alloc, name)?, number.bits())))
-    } else {
-        Ok(None)
-    }
+    Ok(Some(Value::Opaque(
+        Text::copied(alloc, name)?,
+        number.bits(),
+    )))
 }
 
 /// Returns a truth at a type of this definition: at `bool` alone there is one.
