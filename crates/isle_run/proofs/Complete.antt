@@ -69,12 +69,12 @@ count_of p term args m n (refusal.arg_count f e k) = refusal.arg_count f e k
 type_of : (p : Program) (term : List ℕ) (args : List Value) (m n : Meaning) (i : ℕ) → IsRefused p term args m (error.ArgType i) → IsRefused p term args n (error.ArgType i)
 type_of p term args m n _ (refusal.arg_type f i e k w) = refusal.arg_type f i e k w
 
-module _ (options : CodegenOptions) (files : Files) (term : List ℕ) (ws : Writtens) (text : List ℕ) (c : CanRun files term ws text) (p : Program) (conforms : Conforms options files c.env p) where
+module _ (options : CodegenOptions) (files : Files) (term : List ℕ) (ws : Writtens) (text : List ℕ) (c : CanRun options files term ws text) (p : Program) (conforms : Conforms options files c.env p) where
   abbrev names : HasLawfulNames c.env
   names = lawful_names files c.env c.checked
 
   abbrev wanted : AreWanted (record { program = p; env = c.env; term = term; args = args_given c.env term ws }) (answers_at c.env c.forms)
-  wanted = c.wanted options p conforms
+  wanted = c.wanted p conforms
 
   abbrev answers : Meaning
   answers = answers_at c.env c.forms
@@ -123,14 +123,14 @@ module _ (options : CodegenOptions) (files : Files) (term : List ℕ) (ws : Writ
       let same : true ≡ false = sym left ∙ wanted.kept in
       absurd cc
 
-source_not_refused : (options : CodegenOptions) (files : Files) (term : List ℕ) (ws : Writtens) (text : List ℕ) (e : RunFail) (c : CanRun files term ws text) → IsSourceRefused options files term ws text e → ⊥
+source_not_refused : (options : CodegenOptions) (files : Files) (term : List ℕ) (ws : Writtens) (text : List ℕ) (e : RunFail) (c : CanRun options files term ws text) → IsSourceRefused options files term ws text e → ⊥
 source_not_refused options files term ws text e c s =
     let same : s.env ≡ c.env = same_env files c.env s.env c.checked s.checked in
     run_not_refused options files term ws text c s.program (subst (λ env. Conforms options files env s.program) same s.conforms) e
     (subst (λ env. IsRunRefused (record { program = s.program; env = env; term = term; args = args_given env term ws }) text e) same s.refused)
 
 -- if it can be run, only memory is wanting
-pub only_memory : (options : CodegenOptions) (files : Files) (term : List ℕ) (ws : Writtens) (text : List ℕ) (e : TrialFail) → CanRun files term ws text → HasNoLines options files term ws text e → IsWant e
+pub only_memory : (options : CodegenOptions) (files : Files) (term : List ℕ) (ws : Writtens) (text : List ℕ) (e : TrialFail) → CanRun options files term ws text → HasNoLines options files term ws text e → IsWant e
 only_memory options files term ws text (fail.Source (compiling.Errors errors)) c h = absurd (accepted_none files errors (checked_accepted files c.env c.checked) h)
 only_memory options files term ws text (fail.Source (compiling.Name e)) c h = absurd (accepted_named files.file_names files.file_texts e (checked_accepted files c.env c.checked) h)
 only_memory options files term ws text (fail.Source compiling.Memory) c h = tt

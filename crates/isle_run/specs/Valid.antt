@@ -127,8 +127,8 @@ pub record AreWanted (a : Attempt) (m : Meaning) : Type 0 where
   pub answered : (f : Function) → function_of a.term a.program.fns ≡ Some f → (c : Callee) → Contains (body_calls f.body) c → HasNoCases c m.pure → HasNoTurns c m.turns → ⊥
 
 -- the source was checked, the term has rules, the values are of its types, and the text spells forms that are right, and that
--- each program wants which conforms to the source
-pub record CanRun (files : Files) (term : List ℕ) (ws : Writtens) (text : List ℕ) : Type 0 where
+-- each program wants which conforms to the source under these options
+pub record CanRun (options : CodegenOptions) (files : Files) (term : List ℕ) (ws : Writtens) (text : List ℕ) : Type 0 where
   pub env : Environment
   pub checked : IsChecked files env
   pub id : TermId
@@ -139,6 +139,6 @@ pub record CanRun (files : Files) (term : List ℕ) (ws : Writtens) (text : List
   pub forms : List Form
   pub spelt : SpellsForms text forms
   pub constants : AreRightConstants env [] (constants_at env forms)
-  pub wanted : (options : CodegenOptions) (p : Program) → Conforms options files env p → AreWanted (record { program = p; env = env; term = term; args = args_given env term ws }) (answers_at env forms)
+  pub wanted : (p : Program) → Conforms options files env p → AreWanted (record { program = p; env = env; term = term; args = args_given env term ws }) (answers_at env forms)
   pub extracted : AllCasesRight env [] (cases_at env forms)
   pub right : AllRight env (cases_at env forms) [] (turns_at env forms)

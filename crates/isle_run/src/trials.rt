@@ -40,7 +40,7 @@ pub fn trial(
         IsTrial options.now files.now term.now (seen given.now) answers.now (string_bytes lines)) }
     ensures err { IfErr result (λ e.
         HasNoLines options.now files.now term.now (seen given.now) answers.now e) }
-    ensures complete { CanRun files.now term.now (seen given.now) answers.now
+    ensures complete { CanRun options.now files.now term.now (seen given.now) answers.now
         → IfErr result IsWant }
 {
     let checked = match check_files(alloc, files) {

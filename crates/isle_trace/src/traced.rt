@@ -56,8 +56,8 @@ pub fn traced_trial(
         (seen asked.now.given.now) asked.now.answers.now (string_bytes text)) }
     ensures err { IfErr result (λ e. HasNoLines options.now files.now asked.now.term.now
         (seen asked.now.given.now) asked.now.answers.now e) }
-    ensures complete { CanRun files.now asked.now.term.now (seen asked.now.given.now)
-        asked.now.answers.now → IfErr result IsWant }
+    ensures complete { CanRun options.now files.now asked.now.term.now
+        (seen asked.now.given.now) asked.now.answers.now → IfErr result IsWant }
 {
     let checked = match check_files(alloc, files) {
         Ok(checked) => checked,
