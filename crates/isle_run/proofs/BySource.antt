@@ -8,7 +8,7 @@ use Rattle.isle_run.specs.Trial.{args_given}
 use Rattle.isle_run.specs.Valid.{CanRun}
 use Rattle.isle_run.specs.ValidBySource.{IsValidBySource}
 use Rattle.isle_run.proofs.ConformingTypes.{right_fit}
-use Rattle.isle_run.proofs.StandingConstants.{tested_stand}
+use Rattle.isle_run.proofs.StandingConstants.{used_stand}
 use Rattle.isle_run.proofs.Wanted.{wanted}
 
 pub valid_by_source : (options : CodegenOptions) (files : Files) (term : List ℕ) (ws : Writtens) (text : List ℕ) → IsValidBySource files term ws text → CanRun options files term ws text
@@ -25,7 +25,7 @@ valid_by_source options files term ws text h = record {
   constants = h.constants;
   wanted = λ p conforms.
       wanted options files h.env h.checked p conforms term h.id h.requested (args_given h.env term ws) (answers_at h.env h.forms) h.constants h.wanted
-      (tested_stand options files h.env h.checked p conforms (constants_at h.env h.forms) h.constants h.tested)
+      (used_stand options files h.env h.checked p conforms (constants_at h.env h.forms) h.constants h.used)
       (right_fit options files h.env h.checked p conforms (constants_at h.env h.forms) h.constants);
   extracted = h.extracted;
   right = h.right;

@@ -24,6 +24,9 @@ pub mod PlacedExprs
 pub mod PlacedTypes
 pub mod ConformingTypes
 pub mod NamedTests
+pub mod TestsOfRules
+pub mod NamedReturns
+pub mod ReturnedConstants
 pub mod OccurringTypes
 pub mod StandingConstants
 pub mod BySource

@@ -1,4 +1,4 @@
--- A constant that a rule tests for stands in each program that conforms to the source.
+-- A constant that a rule tests for, or that stands in what one gives, stands in each program that conforms to the source.
 use Rattle.std.proofs.Common.{◌≡◌, ◌⊎◌, inl, inr, ⊎_elim, ℕ, zero, suc, ◌+◌, List, [], ◌∷◌, ◌++◌, map, Bool, true, false, cond, Option, Some, None, option_map, refl, sym, ap, ◌∙◌, subst}
 use Rattle.std.specs.Prelude.{◌==◌, ◌||◌, ◌&&◌, not, Contains, find, flat_map, slice_get}
 use Rattle.std.proofs.lemmas.Bool.Decides.{Decides-eqb}
@@ -58,11 +58,13 @@ use Rattle.isle_codegen.proofs.FromBlocks.{given_from}
 use Rattle.isle_codegen.specs.Checked.{IsChecked}
 use Rattle.isle_codegen.specs.FromBlock.{AreFromBlocks, IsFromBlock}
 use Rattle.isle_run.specs.Conforming.{Conforms}
-use Rattle.isle_run.specs.RuleWants.{is_below, TestsWithin, IsTestedFor}
+use Rattle.isle_run.specs.RuleWants.{is_below, TestsWithin, IsUsedFor}
 use Rattle.isle_run.specs.Valid.{AreRightConstants}
 use Rattle.isle_run.proofs.GivenConstants.{each_declared}
 use Rattle.isle_run.proofs.LawfulNames.{HasLawfulNames}
 use Rattle.isle_run.proofs.NamedTests.{function_names_it}
+use Rattle.isle_run.proofs.ReturnedConstants.{given_in_function}
+use Rattle.isle_run.proofs.TestsOfRules.{ConstraintOf, constraint_of, in_either}
 use Rattle.isle_run.proofs.OccurringTypes.{types_free, traits_free, types_made, tail_free, params_free}
 use Rattle.isle_run.proofs.PlacedExprs.{IsConstantValue}
 use Rattle.isle_run.proofs.SourceNames.{lawful_names}
@@ -102,24 +104,6 @@ rule_of env ps (r ∷ rs) (g ∷ fs) n f h c =
     (λ d. let k = rule_of env ps rs fs _ f h.1 d in record { rule = k.rule; there = tail_contained r rs k.rule k.there; at_place = k.at_place; is = k.is })
     (contained_cases g fs f c)
 
--- the constraint that a test is of
-record ConstraintOf (ps : List Path) (cs : List (BindingId × Constraint)) (x : Test) : Type 0 where
-  of : BindingId × Constraint
-  in' : Contains cs of
-  is : is_test ps of ≡ x
-
-constraint_of : (ps : List Path) (cs : List (BindingId × Constraint)) (x : Test) → Contains (map (is_test ps) cs) x → ConstraintOf ps cs x
-constraint_of ps [] x h = absurd (none_contained x h)
-constraint_of ps (y ∷ cs) x h = ⊎_elim
-    (λ (e : is_test ps y ≡ x). record { of = y; in' = head_contained y cs; is = e })
-    (λ d. let k = constraint_of ps cs x d in record { of = k.of; in' = tail_contained y cs k.of k.in'; is = k.is }) (contained_cases (is_test ps y) (map (is_test ps) cs) x h)
-
-test_in : (ps : List Path) (cs : List (BindingId × Constraint)) (c : BindingId × Constraint) → Contains cs c → Contains (map (is_test ps) cs) (is_test ps c)
-test_in ps [] c h = absurd (none_contained c h)
-test_in ps (y ∷ cs) c h = ⊎_elim
-    (λ (e : y ≡ c). subst (λ z. Contains (is_test ps y ∷ map (is_test ps) cs) (is_test ps z)) e (head_contained (is_test ps y) (map (is_test ps) cs)))
-    (λ d. tail_contained (is_test ps y) (map (is_test ps) cs) (is_test ps c) (test_in ps cs c d)) (contained_cases y cs c h)
-
 same_parts : (p q : Path) (c d : Constraint) → Is p c ≡ Is q d → (p ≡ q) × (c ≡ d)
 same_parts p q c d e = (cc, cc)
 
@@ -153,10 +137,6 @@ testable_there env t ps before (x ∷ cs) c h k = ⊎_elim
 not_equal : (ps : List Path) (es : List (BindingId × BindingId)) (p : Path) (c : Constraint) → Contains (map (equal_test ps) es) (Is p c) → ⊥
 not_equal ps [] p c h = none_contained (Is p c) h
 not_equal ps (x ∷ es) p c h = ⊎_elim (λ (e : equal_test ps x ≡ Is p c). cc) (λ d. not_equal ps es p c d) (contained_cases (equal_test ps x) (map (equal_test ps) es) (Is p c) h)
-
-in_either : {A : Type 0} (xs ys : List A) (x : A) → Contains (xs ++ ys) x → Contains xs x ⊎ Contains ys x
-in_either [] ys x c = inr c
-in_either (y ∷ xs) ys x c = ⊎_elim (λ (e : y ≡ x). inl (subst (Contains (y ∷ xs)) e (head_contained y xs))) (λ d. ⊎_elim (λ k. inl (tail_contained y xs x k)) (λ k. inr k) (in_either xs ys x d)) (contained_cases y (xs ++ ys) x c)
 
 -- ---- names
 
@@ -194,24 +174,6 @@ module _ (options : CodegenOptions) (files : Files) (env : Environment) (checked
       → IsTriedIn id t r q c → IsTried (is_several (kind_of t.kind)) fs f (x.source, constraint.ConstPrim c)
   tried_of id t r ps fs n f q c flat is x once there h = one (is_several (kind_of t.kind)) (λ e. h e)
     where
-      in_rule : (y : Test) → Contains (map (is_test ps) f.constraints) y → Contains (rule_tests env r) y
-      in_rule y i = (is.no_other y (Contains-append_left (map (is_test ps) f.constraints) (map (equal_test ps) f.equals) y i)).0
-
-      -- each test of a flat rule without equalities, whose constraints are these
-      within : (g : FlatRule) (ts : List Test) → g.equals ≡ [] → AreAmong g.constraints f.constraints → ((y : Test) → Contains ts y → Contains (flat_tests ps g) y ⊎ IsTrivial y)
-          → AllByRecursion (λ (y : Test). IsTrivial y ⊎ ((is_constraint y ≡ true) × Contains (rule_tests env r) y)) ts
-      within g [] equals among k = tt
-      within g (y ∷ ts) equals among k = (⊎_elim here (λ l. inl l) (k y (head_contained y ts)), within g ts equals among (λ z i. k z (tail_contained y ts z i)))
-        where
-          none : flat_tests ps g ≡ map (is_test ps) g.constraints ++ []
-          none = ap (λ es. map (is_test ps) g.constraints ++ map (equal_test ps) es) equals
-
-          here : Contains (flat_tests ps g) y → IsTrivial y ⊎ ((is_constraint y ≡ true) × Contains (rule_tests env r) y)
-          here i =
-              let j = ⊎_elim (λ l. l) (λ l. absurd (none_contained y l)) (in_either (map (is_test ps) g.constraints) [] y (subst (λ (us : List Test). Contains us y) none i)) in
-              let of = constraint_of ps g.constraints y j in
-              inr (subst (λ z. is_constraint z ≡ true) of.is refl, subst (Contains (rule_tests env r)) of.is (in_rule (is_test ps of.of) (test_in ps f.constraints of.of (all_at (Contains f.constraints) g.constraints of.of among of.in'))))
-
       one : (b : Bool) → (b ≡ false → (g : Rule) → Contains (rules_of env id) g → TestsWithin env g r → Contains (rule_tests env g) (Is q (constraint.ConstPrim c)) ⊎ (is_below g r ≡ true)) → IsTried b fs f (x.source, constraint.ConstPrim c)
       one true k = tt
       one false k = λ g i equals among.
@@ -222,7 +184,7 @@ module _ (options : CodegenOptions) (files : Files) (env : Environment) (checked
           let same : x.source.0 ≡ there'.source.0 = place_once ps x.source.0 there'.source.0 once there (x.path ∙ sym there'.path) in
           inl (subst (λ (m : ℕ). Contains g.constraints (record { 0 = m }, constraint.ConstPrim c)) (sym same) there'.in'))
           (λ l. inr (ap (λ (m : _). is_lt (int_cmp m f.prio)) of.is.prio ∙ ap (λ (m : _). is_lt (int_cmp of.rule.prio m)) is.prio ∙ l))
-          (k refl of.rule of.there (within g (rule_tests env of.rule) equals among (λ y j. of.is.tested y j)))
+          (k refl of.rule of.there (tests_within env ps of.rule r of.at_place n g f of.is is equals among))
 
   in_function : (id : TermId) (f : Function) (r : Rule) (q : Path) (c : Sym) → IsFromBlock options files env id f → Contains (rules_of env id) r → Contains (rule_tests env r) (Is q (constraint.ConstPrim c))
       → ((t : Term) → slice_get env.terms id.0 ≡ Some t → IsTriedIn id t r q c) → Contains (body_names f.body) (sym_text env c)
@@ -315,21 +277,28 @@ module _ (options : CodegenOptions) (files : Files) (env : Environment) (checked
   both_true : (a b : Bool) → a ≡ true → b ≡ false → (a && not b) ≡ true
   both_true a b e k = rw (e, k) refl
 
-  -- a declared constant that a rule tests for, which is tried, stands in the program
-  tested_stands : (name : List ℕ) (ty : TypeId) → IsNameOf env ty name → IsTestedFor env name → has_constant p name ≡ true
-  tested_stands name ty named tested =
+  -- a declared constant that stands in a function stands in the program
+  function_stands : (name : List ℕ) (ty : TypeId) → IsNameOf env ty name → Contains (function_names p.fns) name → has_constant p name ≡ true
+  function_stands name ty named there =
       let s = named.0 in
       let text : sym_text env s ≡ name = named.2 in
       let free = subst (λ (n : List ℕ). list_any (bytes_eq n) (emitted_names env.types env.types.types) ≡ false) text (no_type env.types.consts s ty lawful.lawful.apart.constants named.1) in
       let some = subst (λ (n : List ℕ). bytes_eq n [] ≡ false) text (nonempty (sym_text env s) (names.constants s ty named.1).identifier.begins) in
-      let there = with_function (with_rules env) p.fns tested.id name conforms.functions.blocks tested.ruled
-      (λ f b. subst (Contains (body_names f.body)) tested.named (in_function tested.id f tested.rule tested.path tested.constant b tested.there tested.tests tested.tried)) in
       both_true (is_among name (function_names p.fns)) (occurs p name) (among_names (function_names p.fns) name there) (occurs_not name free some)
 
+  -- one that a rule tests for, which is tried, or that stands in what a rule gives, which is reached, stands in a function
+  in_some_function : (name : List ℕ) → IsUsedFor env name → Contains (function_names p.fns) name
+  in_some_function name (inl tested) =
+      with_function (with_rules env) p.fns tested.id name conforms.functions.blocks tested.ruled
+      (λ f b. subst (Contains (body_names f.body)) tested.named (in_function tested.id f tested.rule tested.path tested.constant b tested.there tested.tests tested.tried))
+  in_some_function name (inr given) =
+      with_function (with_rules env) p.fns given.id name conforms.functions.blocks given.ruled
+      (λ f b. subst (Contains (body_names f.body)) given.named (given_in_function options files env given.id f given.place given.rule given.constant b given.there given.stands given.reached))
+
   -- so do all that are right
-  pub tested_stand : (consts : List (List ℕ × Value)) → AreRightConstants env [] consts → AllByRecursion (λ (c : List ℕ × Value). IsTestedFor env c.0) consts → AllByRecursion (λ (c : List ℕ × Value). has_constant p c.0 ≡ true) consts
-  tested_stand consts right tested = all_stand consts (each_declared env [] consts right) tested
+  pub used_stand : (consts : List (List ℕ × Value)) → AreRightConstants env [] consts → AllByRecursion (λ (c : List ℕ × Value). IsUsedFor env c.0) consts → AllByRecursion (λ (c : List ℕ × Value). has_constant p c.0 ≡ true) consts
+  used_stand consts right used = all_stand consts (each_declared env [] consts right) used
     where
-      all_stand : (cs : List (List ℕ × Value)) → AllByRecursion (λ (c : List ℕ × Value). IsConstantValue env c.0 c.1) cs → AllByRecursion (λ (c : List ℕ × Value). IsTestedFor env c.0) cs → AllByRecursion (λ (c : List ℕ × Value). has_constant p c.0 ≡ true) cs
+      all_stand : (cs : List (List ℕ × Value)) → AllByRecursion (λ (c : List ℕ × Value). IsConstantValue env c.0 c.1) cs → AllByRecursion (λ (c : List ℕ × Value). IsUsedFor env c.0) cs → AllByRecursion (λ (c : List ℕ × Value). has_constant p c.0 ≡ true) cs
       all_stand [] h k = tt
-      all_stand (c ∷ cs) h k = (tested_stands c.0 h.0.0 h.0.1 k.0, all_stand cs h.1 k.1)
+      all_stand (c ∷ cs) h k = (function_stands c.0 h.0.0 h.0.1 (in_some_function c.0 k.0), all_stand cs h.1 k.1)

@@ -7,6 +7,7 @@ pub mod NoLines
 pub mod Ran
 pub mod Placed
 pub mod Valid
+pub mod PathConstants
 pub mod RuleWants
 pub mod ValidBySource
 pub mod Compiled

@@ -20,10 +20,11 @@ use Rattle.isle_core.specs.Rule.{Environment, Rule, rules_of}
 use Rattle.isle_core.specs.SameInRun.{same_in_run}
 use Rattle.isle_core.specs.StandsFor.{IsTrivial}
 use Rattle.isle_core.specs.Terms.{sym_text, with_rules}
-use Rattle.isle_core.specs.Tests.{Test, Is, is_constraint, rule_tests}
+use Rattle.isle_core.specs.Tests.{Test, Is, is_constraint, rule_result, rule_tests}
 use Rattle.isle_core.specs.Value.{Value, Truth}
 use Rattle.isle_codegen.specs.CalledBy.{IsCalledBy}
 use Rattle.isle_codegen.specs.Spoken.{IsSpoken}
+use Rattle.isle_run.specs.PathConstants.{StandsIn}
 use Rattle.isle_run.specs.Valid.{HasNoCases, HasNoTurns, HasNoValue}
 
 -- the value of a constant, written or named
@@ -104,3 +105,21 @@ pub record IsTestedFor (env : Environment) (name : List ℕ) : Type 0 where
   pub named : sym_text env constant ≡ name
   pub tried : (t : Term) → slice_get env.terms id.0 ≡ Some t → is_several (kind_of t.kind) ≡ false → (g : Rule) → Contains (rules_of env id) g
       → TestsWithin env g rule → Contains (rule_tests env g) (Is path (constraint.ConstPrim constant)) ⊎ (is_below g rule ≡ true)
+
+-- the constant of this name stands in what a rule of a term gives, also as an argument of a call that it is made from, and the rule is
+-- reached: if the term answers at most once, each other rule of it whose tests are all the rule's constraints has a lower priority
+pub record IsReturnedFor (env : Environment) (name : List ℕ) : Type 0 where
+  pub id : TermId
+  pub ruled : Contains (with_rules env) id
+  pub place : ℕ
+  pub rule : Rule
+  pub there : slice_get (rules_of env id) place ≡ Some rule
+  pub constant : Sym
+  pub named : sym_text env constant ≡ name
+  pub stands : (before : ℕ) → StandsIn constant (rule_result env rule before)
+  pub reached : (t : Term) → slice_get env.terms id.0 ≡ Some t → is_several (kind_of t.kind) ≡ false → (other : ℕ) (g : Rule) → slice_get (rules_of env id) other ≡ Some g
+      → TestsWithin env g rule → (other ≡ place) ⊎ (is_below g rule ≡ true)
+
+-- the constant of this name is tested for, or stands in a result
+abbrev pub IsUsedFor : Environment → (name : List ℕ) → Type 0
+IsUsedFor env name = IsTestedFor env name ⊎ IsReturnedFor env name

@@ -13,12 +13,12 @@ use Rattle.isle_values.specs.Written.{Writtens}
 use Rattle.isle_run_inputs.specs.AnswersAt.{constants_at, cases_at, turns_at, answers_at}
 use Rattle.isle_run_inputs.specs.Requested.{requested_term}
 use Rattle.isle_codegen.specs.Checked.{IsChecked}
-use Rattle.isle_run.specs.RuleWants.{AreWantedBy, IsTestedFor}
+use Rattle.isle_run.specs.RuleWants.{AreWantedBy, IsUsedFor}
 use Rattle.isle_run.specs.Trial.{args_given}
 use Rattle.isle_run.specs.Valid.{AreRightConstants, AllCasesRight, AllRight}
 
 -- the source was checked, the term has rules, the values are of its types, and the text spells forms that are right and that its rules
--- want; each constant with a value is one that a rule tests for which is tried
+-- want; each constant with a value is one that a rule tests for which is tried, or stands in what a rule gives which is reached
 pub record IsValidBySource (files : Files) (term : List ℕ) (ws : Writtens) (text : List ℕ) : Type 0 where
   pub env : Environment
   pub checked : IsChecked files env
@@ -31,6 +31,6 @@ pub record IsValidBySource (files : Files) (term : List ℕ) (ws : Writtens) (te
   pub spelt : SpellsForms text forms
   pub constants : AreRightConstants env [] (constants_at env forms)
   pub wanted : AreWantedBy env id (answers_at env forms)
-  pub tested : AllByRecursion (λ (c : List ℕ × Value). IsTestedFor env c.0) (constants_at env forms)
+  pub used : AllByRecursion (λ (c : List ℕ × Value). IsUsedFor env c.0) (constants_at env forms)
   pub extracted : AllCasesRight env [] (cases_at env forms)
   pub right : AllRight env (cases_at env forms) [] (turns_at env forms)
