@@ -1,4 +1,4 @@
-"""The lines of README's part "Run it", each run once, with no proof, in the time of one."""
+"""The lines of docs/TOUR.md, each run once, with no proof, in the time of one."""
 import pathlib
 import re
 import shlex
@@ -10,10 +10,8 @@ LINE = re.compile(r"^    (?:\$ )?\./isle (?!--build|--tour)(.*)$", re.M)
 
 
 def lines(root):
-    """The lines that README shows there, each as it stands."""
-    text = (root / "README.md").read_text()
-    part = text.split("\n## Run it\n", 1)[1].split("\n## ", 1)[0]
-    return list(dict.fromkeys(LINE.findall(part)))
+    """The lines that the tour shows, each as it stands."""
+    return list(dict.fromkeys(LINE.findall((root / "docs" / "TOUR.md").read_text())))
 
 
 def lay(folder, found):
