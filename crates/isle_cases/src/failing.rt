@@ -1,7 +1,7 @@
 //! The stored run, over a directory and an output that fail at each of their calls in turn.
 
-use crate::shown::push_all;
-use crate::slip::Slip;
+use isle_case_reading::shown::push_all;
+use isle_case_reading::slip::Slip;
 use isle_outside::{MemDir, MemSink};
 use isle_top::{run_words, sample_tables};
 use std::alloc::Global;

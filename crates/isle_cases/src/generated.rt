@@ -2,8 +2,8 @@
 
 ghost use Rattle.std.specs.Prelude.{◌≡◌, ◌<◌, OnOk};
 
-use crate::shown::{digit, push_all};
-use crate::slip::Slip;
+use isle_case_reading::shown::{digit, push_all};
+use isle_case_reading::slip::Slip;
 use isle_meta::{Formatter, GenError, Language};
 use isle_outside::MemDir;
 use isle_prelude_files::generate;

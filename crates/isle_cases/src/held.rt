@@ -2,12 +2,12 @@
 
 ghost use Rattle.std.specs.Prelude.{◌<◌, IfOk};
 
-use crate::case::{Case, Entry, Key};
-use crate::parts::{has_parts, holds_parts};
-use crate::slip::Slip;
-use crate::spelling::{number, spelt, text_spelt, words_of};
-use crate::tables::tables_of;
-use crate::wanted::{Shelf, entry, wanted_out};
+use isle_case_reading::case::{Case, Entry, Key};
+use isle_case_reading::parts::{has_parts, holds_parts};
+use isle_case_reading::slip::Slip;
+use isle_case_reading::spelling::{number, spelt, text_spelt, words_of};
+use isle_case_reading::tables::tables_of;
+use isle_case_reading::wanted::{Shelf, entry, wanted_out};
 use isle_meta::Tables;
 use isle_outside::{MemDir, MemSink};
 use isle_top::{run_words, sample_tables};

@@ -2,16 +2,16 @@
 
 use crate::failing::push_failing;
 use crate::generated::push_generators;
-use crate::items::push_iterators;
-use crate::judged::push_judged;
-use crate::literals::push_literals;
 use crate::samples::push_samples;
-use crate::signatures::push_signatures;
-use crate::slip::Slip;
-use crate::targets::push_targets;
 use crate::unit_files::push_unit_files;
-use crate::unit_paths::push_unit_paths;
-use crate::weights::push_weights;
+use isle_case_calls::items::push_iterators;
+use isle_case_calls::judged::push_judged;
+use isle_case_calls::literals::push_literals;
+use isle_case_calls::signatures::push_signatures;
+use isle_case_calls::targets::push_targets;
+use isle_case_calls::unit_paths::push_unit_paths;
+use isle_case_calls::weights::push_weights;
+use isle_case_reading::slip::Slip;
 use std::alloc::{AllocError, Global};
 
 // Writes what the calls answer.

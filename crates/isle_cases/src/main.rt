@@ -2,35 +2,16 @@
 //! that no words make.
 #![tactic(auto)]
 
-mod case;
 mod failing;
 mod generated;
 mod held;
-mod items;
-mod judged;
 mod library_calls;
-mod literals;
-mod machine_rows;
-mod numeric_rows;
-mod parts;
-mod report;
 mod samples;
-mod shown;
-mod signatures;
-mod slip;
-mod spelling;
-mod tables;
-mod targets;
-mod tokens;
 mod topics;
 mod unit_files;
-mod unit_paths;
-mod wanted;
-mod weights;
-mod words;
 
-use report::Report;
-use slip::Slip;
+use isle_case_reading::report::Report;
+use isle_case_reading::slip::Slip;
 use std::alloc::Global;
 use std::process::ExitCode;
 use std::rt::Env;

@@ -2,7 +2,7 @@
 
 ghost use Rattle.std.specs.Prelude.{◌≡◌, length, IfOk};
 
-use crate::shown::{push_all, yes_no};
+use isle_case_reading::shown::{push_all, yes_no};
 use isle_codegen::{check_files, codegen_tree};
 use isle_core::{CodegenOptions, Files, List, Text};
 use isle_outside::{MemDir, MemSink};

@@ -1,12 +1,12 @@
 //! The topics of the current folder, and what is held of each.
 
-use crate::case::{Case, cases_of};
 use crate::held::{hold, run, words};
 use crate::library_calls::hold_calls;
-use crate::numeric_rows::hold_rows;
-use crate::report::Report;
-use crate::slip::Slip;
-use crate::wanted::Shelf;
+use isle_case_calls::numeric_rows::hold_rows;
+use isle_case_reading::case::{Case, cases_of};
+use isle_case_reading::report::Report;
+use isle_case_reading::slip::Slip;
+use isle_case_reading::wanted::Shelf;
 use isle_outside::{Dir, Found, StdDir, read_text};
 use std::alloc::Global;
 

@@ -1,8 +1,8 @@
 //! The files that are generated for units, as they are left by directories, one of whose calls fails.
 
 use crate::generated::{push_answer, push_files};
-use crate::shown::{digit, push_all};
-use crate::slip::Slip;
+use isle_case_reading::shown::{digit, push_all};
+use isle_case_reading::slip::Slip;
 use isle_meta::GenError;
 use isle_outside::MemDir;
 use isle_settings::Isa;

@@ -2,7 +2,7 @@
 
 ghost use Rattle.std.specs.Prelude.{◌≡◌, length, IfOk};
 
-use crate::shown::{digit, push_all, yes_no};
+use isle_case_reading::shown::{digit, push_all, yes_no};
 use isle_codegen::{Checked, check_files};
 use isle_core::{
     Binding, BindingId, BuiltinType, ExternalSig, Files, List, OutOfMemory, ReturnKind, RuleSet,

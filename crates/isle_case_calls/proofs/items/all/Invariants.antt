@@ -1,6 +1,6 @@
 use Rattle.std.proofs.Common.{◌≡◌, List, ◌++◌}
 use Rattle.std.specs.Iterator.{IsFinite, size}
-use Rattle.isle_cases.proofs.items.all.Given as goal
+use Rattle.isle_case_calls.proofs.items.all.Given as goal
 
 abbrev pub invariant-loop-item : goal.invariant-loop-item
 invariant-loop-item g l =

@@ -1,5 +1,5 @@
 use Rattle.std.proofs.Common.{arith, refl}
-use Rattle.isle_cases.proofs.numeric_rows.type_named.Goals as goal
+use Rattle.isle_case_calls.proofs.numeric_rows.type_named.Goals as goal
 
 pub returns-in-i16 : goal.returns-in-i16
 returns-in-i16 c = (2, (omega arith), refl)

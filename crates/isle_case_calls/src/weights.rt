@@ -1,6 +1,6 @@
 //! What blocks weigh, each with a result within so many tests of equality.
 
-use crate::shown::{digit, push_all};
+use isle_case_reading::shown::{digit, push_all};
 use isle_codegen::block_weight;
 use isle_core::{BindingId, Block, ControlFlow, EvalStep, List, Pos};
 use std::alloc::{AllocError, Global};

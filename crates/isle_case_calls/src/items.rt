@@ -4,7 +4,7 @@
 ghost use Rattle.std.specs.Prelude.{◌≡◌, List, [], IfOk, ⊤};
 ghost use Rattle.std.specs.Iterator.{IsFinite, at_most};
 
-use crate::shown::{digit, push_all, yes_no};
+use isle_case_reading::shown::{digit, push_all, yes_no};
 use isle_core::OutOfMemory;
 use isle_runtime::{ContextIter, ContextIterWrapper, IntoContextIter, Length};
 use std::alloc::{AllocError, Global};

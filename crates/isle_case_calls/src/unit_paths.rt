@@ -1,7 +1,7 @@
 //! The paths of a unit's inputs.
 
-use crate::shown::push_all;
-use crate::slip::Slip;
+use isle_case_reading::shown::push_all;
+use isle_case_reading::slip::Slip;
 use isle_core::{List, Text};
 use isle_outside::MemDir;
 use isle_units::IsleCompilation;

@@ -3,7 +3,7 @@
 ghost use Rattle.std.specs.Prelude.{IfSome};
 ghost use Rattle.isle_numerics.specs.NumericTypes.{IsNumeric};
 
-use crate::slip::Slip;
+use isle_case_reading::slip::Slip;
 use isle_numerics::{NumericType, OpResult, eval_op, ops_for_type};
 use std::alloc::{AllocError, Global};
 

@@ -1,7 +1,7 @@
 //! Targets with their settings, and units with their files, as their calls tell them.
 
-use crate::shown::push_all;
-use crate::slip::Slip;
+use isle_case_reading::shown::push_all;
+use isle_case_reading::slip::Slip;
 use isle_settings::{Isa, isa_from_arch, isa_text};
 use isle_units::{shared_isle_lower_paths, units_text};
 use std::alloc::Global;

@@ -1,7 +1,7 @@
 use Rattle.std.proofs.lemmas.Iterator.{YieldsList-from_slice}
 use Rattle.std.proofs.lemmas.Iterator.Consumers.{YieldsList-at, YieldsList-from_copied}
 use Rattle.std.proofs.lemmas.Result.{IfOk-weaker}
-use Rattle.isle_cases.proofs.items.copied.Goals as goal
+use Rattle.isle_case_calls.proofs.items.copied.Goals as goal
 
 pub returns : goal.returns
 returns c =

@@ -1,6 +1,6 @@
 //! Small programs that no rules give, judged.
 
-use crate::shown::push_all;
+use isle_case_reading::shown::push_all;
 use isle_core::{Callee, IntType, List, ReturnKind, Text};
 use isle_judging::well_formed;
 use isle_tree::{Function, Operand, Program, Read, Stmt, TCall, TExpr, Ty};
