@@ -42,6 +42,7 @@ pub mod OrderedPlain
 pub mod OrderedRuns
 pub mod PartRuns
 pub mod RuleLists
+pub mod PlacesOpened
 pub mod RuleRuns
 pub mod Reorders
 pub mod StepCalls
@@ -53,9 +54,15 @@ pub mod TreePositions
 pub mod TreeItems
 pub mod TreeTests
 pub mod TreeMerged
+pub mod TreeLoops
+pub mod FreeSources
+pub mod SeveralMerged
+pub mod TreeRules
+pub mod TreeReturned
 pub mod TreeMakes
 pub mod MappedLists
 pub mod MovedTests
+pub mod PartedTests
 pub mod TurnLaws
 pub mod ArrangedWays
 pub mod TreeStart
