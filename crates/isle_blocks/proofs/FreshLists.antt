@@ -5,7 +5,6 @@ use Rattle.std.specs.List.{AllByRecursion}
 use Rattle.std.proofs.lemmas.List.Elements.{Contains-push}
 use Rattle.isle_core.specs.declared.BindingId.{BindingId}
 use Rattle.isle_core.specs.declared.rule_sets.Binding.{Binding}
-use Rattle.isle_core.specs.declared.rule_sets.Binding.TheVariants as binding
 use Rattle.isle_core.specs.declared.rule_sets.FlatRule.{FlatRule}
 use Rattle.isle_core.specs.declared.types.Term.{Term}
 use Rattle.isle_core.specs.Bindable.{bound_by}

@@ -20,7 +20,7 @@ use Rattle.isle_core.specs.Path.{Path, paths_of}
 use Rattle.isle_core.specs.ReturnPosition.{block_position, set_position, rule_position}
 use Rattle.isle_core.specs.Rule.{Environment}
 use Rattle.isle_core.specs.RuleSet.{flat_holds, gave, given, set_outcome}
-use Rattle.isle_core.specs.Serializable.{IsSerializableRule, IsSerializable, constraint_tests, occurrences_of}
+use Rattle.isle_core.specs.Serializable.{IsSerializableRule, IsSerializable, occurrences_of}
 use Rattle.isle_core.specs.Setting.{setting}
 use Rattle.isle_core.specs.StandsFor.{EachOnce}
 use Rattle.isle_core.specs.Tests.{Test}

@@ -15,7 +15,7 @@ use Rattle.isle_blocks.specs.Free.{is_free}
 use Rattle.isle_blocks.specs.LoopsApart.{IsOfRule, DoesForRule, HaveArmsOfRule, HasLoopsApart, DoesLoopApart, HaveLoopsApart}
 use Rattle.isle_blocks.specs.Needed.{needs}
 use Rattle.isle_blocks.specs.Nest.{Shows, Behind, alone, opened, last_binds, last_step, all_matched, all_equated}
-use Rattle.isle_blocks.specs.Tree.{Way, Ground, way_step, Tests, AllTest, Parts, none, same, other, IsTree, own, last, shared, AreTrees, no_arm, arm}
+use Rattle.isle_blocks.specs.Tree.{Way, Ground, way_step, AllTest, Parts, none, same, other, IsTree, own, last, shared, AreTrees, no_arm, arm}
 use Rattle.isle_blocks.proofs.OpenedSteps.{opened_holds}
 
 -- what is of one rule of the set has its Loops apart
