@@ -17,7 +17,6 @@ use Rattle.isle_core.specs.Calling.{kind_of, is_several}
 use Rattle.isle_core.specs.Meaning.{Meaning}
 use Rattle.isle_core.specs.Occurrences.{occurrences}
 use Rattle.isle_core.specs.Path.{Path, paths_of}
-use Rattle.isle_core.specs.ReturnPosition.{block_position, set_position, rule_position}
 use Rattle.isle_core.specs.Rule.{Environment}
 use Rattle.isle_core.specs.RuleSet.{flat_holds, gave, given, set_outcome}
 use Rattle.isle_core.specs.Serializable.{IsSerializableRule, IsSerializable, occurrences_of}
@@ -25,7 +24,6 @@ use Rattle.isle_core.specs.Setting.{setting}
 use Rattle.isle_core.specs.StandsFor.{EachOnce}
 use Rattle.isle_core.specs.Tests.{Test}
 use Rattle.isle_core.specs.Value.{Value}
-use Rattle.isle_core.specs.ValueAt.{nothing_known}
 use Rattle.isle_core.proofs.Contained.{none_contained}
 use Rattle.isle_core.proofs.RulePairs.{all_from, all_at}
 use Rattle.isle_blocks.specs.ApartRules.{AreRulesApart}
@@ -59,7 +57,6 @@ use Rattle.isle_blocks.proofs.SeveralMerged.{IsListedWay, listed_left, listed_mo
 use Rattle.isle_blocks.proofs.TreeLoops.{IsChosenWay, tree_loops}
 use Rattle.isle_blocks.proofs.TreeMakes.{tree_makes}
 use Rattle.isle_blocks.proofs.TreeMerged.{tree_merged, untested_no_match}
-use Rattle.isle_blocks.proofs.TreePositions.{tree_returns}
 use Rattle.isle_blocks.proofs.TreeReturned.{tree_returned}
 use Rattle.isle_blocks.proofs.TreeRules.{IsGood}
 use Rattle.isle_blocks.proofs.TreeRuns.{went, tree_run}
@@ -170,16 +167,6 @@ tree_of_means several s b tree env m t args kind h is answers_once apart one =
     ap (gave kind) (tree_run env t m args s answers_once apart k.found k.counts k.inners (next_of k.inners k.items) k.items k.finds k.found_inners k.found_items finds h.once h.fields h.items k.ways [] b [] k.is_tree (within_none env ps) (all_after false s b k env t h) refl)
     ∙ gives_first env m args s kind (first ok (rules_of k.ways))
     ∙ ap (given env m args ps kind) (first_is_highest ok s.rules (rules_of k.ways) order k.arranged.falls one)
-
-pub tree_of_positions : (several : Bool) (s : RuleSet) (b : Block) → IsTreeOf several s.bindings s.rules b → (env : Environment) (m : Meaning) (t : Term) (args : List Value) → IsSerializable env t s → is_several (kind_of t.kind) ≡ several → is_several (kind_of t.kind) ≡ false
-    → AreTestsApart env m args s → AreRulesApart env m args s → block_position env m args (paths_of s.bindings) b nothing_known [] ≡ set_position env m args (paths_of s.bindings) s.rules
-tree_of_positions several s b tree env m t args h is answers_once apart one =
-    let k = once_tree several (is_several (kind_of t.kind)) s.bindings s.rules b is answers_once tree in
-    let ps = paths_of s.bindings in
-    let finds = finds_next s.bindings k.inners k.items k.found_inners k.found_items in
-    let order = ways_order false s.bindings s.rules k.ways k.arranged in
-    tree_returns env t m args s answers_once apart k.found k.counts k.inners (next_of k.inners k.items) k.items k.finds k.found_inners k.found_items finds h.once h.fields h.items k.ways [] b [] k.is_tree (within_none env ps) (all_after false s b k env t h) refl
-    ∙ ap (rule_position env m args ps) (first_is_highest (flat_holds env m args ps) s.rules (rules_of k.ways) order k.arranged.falls one)
 
 -- ---- of a term that answers several times
 

@@ -25,7 +25,6 @@ pub mod MadeBefore
 pub mod LawBinds
 pub mod LawBound
 pub mod LawNest
-pub mod LawPositions
 pub mod LawTests
 pub mod LawAllTests
 pub mod LawReturns
@@ -50,7 +49,6 @@ pub mod ServedWorks
 pub mod TreeWays
 pub mod TreeRuns
 pub mod TreeLawful
-pub mod TreePositions
 pub mod TreeItems
 pub mod TreeTests
 pub mod TreeMerged

@@ -1,6 +1,6 @@
 //! The block of a rule set.
 
-ghost use Rattle.std.specs.Prelude.{◌≡◌, IfOk, [], true, false, List as ListOf, map};
+ghost use Rattle.std.specs.Prelude.{◌≡◌, IfOk, true, false, List as ListOf, map};
 ghost use Rattle.std.specs.List.{AllByRecursion};
 ghost use Rattle.isle_core.specs.declared.types.ReturnKind.{ReturnKind};
 ghost use Rattle.isle_core.specs.declared.types.Term.{Term};
@@ -10,8 +10,6 @@ ghost use Rattle.isle_core.specs.ApartTests.{AreTestsApart};
 ghost use Rattle.isle_core.specs.Calling.{is_several, kind_of};
 ghost use Rattle.isle_core.specs.Rule.{Environment};
 ghost use Rattle.isle_core.specs.Path.{paths_of};
-ghost use Rattle.isle_core.specs.ValueAt.{nothing_known};
-ghost use Rattle.isle_core.specs.ReturnPosition.{block_position, set_position};
 ghost use Rattle.isle_core.specs.RuleSet.{set_outcome};
 ghost use Rattle.isle_core.specs.BlockViews as BlockViews;
 ghost use Rattle.isle_core.specs.BlockRun.{block_outcome};
@@ -88,14 +86,6 @@ pub fn serialize(alloc: Global, rules: &RuleSet, iterator: bool) -> Result<Block
         AreTestsApart env m args rules.now → AreRulesApart env m args rules.now →
         block_outcome env m args (paths_of rules.now.bindings) (BlockViews.block b) kind ≡
         set_outcome env m args (paths_of rules.now.bindings) rules.now.rules kind) }
-    ensures positions { IfOk result (λ b.
-        (env : Environment) (m : Meaning) (t : Term) (args : ListOf Value) →
-        IsSerializable env t rules.now → is_several (kind_of t.kind) ≡ iterator
-        → is_several (kind_of t.kind) ≡ false →
-        AreTestsApart env m args rules.now → AreRulesApart env m args rules.now →
-        block_position env m args (paths_of rules.now.bindings) (BlockViews.block b) nothing_known
-        [] ≡
-        set_position env m args (paths_of rules.now.bindings) rules.now.rules) }
     ensures tests { IfOk result (λ b. TestsRules rules.now (BlockViews.block b)) }
     ensures makes { IfOk result (λ b. MakesTests iterator rules.now (BlockViews.block b)) }
     ensures returns { IfOk result (λ b. MakesReturns iterator rules.now (BlockViews.block b)) }

@@ -1,5 +1,5 @@
 use Rattle.isle_core.specs.BlockViews.{block}
-use Rattle.isle_blocks.proofs.Grown.{grown_by, tree_of_lawful, tree_of_loops, tree_of_makes, tree_of_means, tree_of_merged, tree_of_once_merged, tree_of_positions, tree_of_returns, tree_of_several, tree_of_tests}
+use Rattle.isle_blocks.proofs.Grown.{grown_by, tree_of_lawful, tree_of_loops, tree_of_makes, tree_of_means, tree_of_merged, tree_of_once_merged, tree_of_returns, tree_of_several, tree_of_tests}
 use Rattle.isle_blocks.proofs.AskedSets.{tree_of_asks}
 use Rattle.isle_blocks.proofs.serialization.serialize.Goals as goal
 
@@ -7,13 +7,6 @@ pub returns-clause-means : goal.returns-clause-means
 returns-clause-means c =
     let s = c.args.rules.now in
     tree_of_means c.args.iterator s (block c.in_ok-tree_of.field-0)
-    (grown_by c.args.iterator s.bindings c.as_slice.result.now c.as_slice-2.result.now c.as_slice-3.result.now c.as_slice-4.result.now s.rules c.as_slice-5.result.now (block c.in_ok-tree_of.field-0) c.in_ok-fields.fields c.in_ok-inners.inners c.in_ok-items.items
-    c.as_slice.ensures c.as_slice-2.ensures c.as_slice-3.ensures c.as_slice-4.ensures c.as_slice-5.ensures c.in_ok-fields.ensures c.in_ok-inners.ensures c.in_ok-items.ensures c.in_ok-tree_of.ensures)
-
-pub returns-clause-positions : goal.returns-clause-positions
-returns-clause-positions c =
-    let s = c.args.rules.now in
-    tree_of_positions c.args.iterator s (block c.in_ok-tree_of.field-0)
     (grown_by c.args.iterator s.bindings c.as_slice.result.now c.as_slice-2.result.now c.as_slice-3.result.now c.as_slice-4.result.now s.rules c.as_slice-5.result.now (block c.in_ok-tree_of.field-0) c.in_ok-fields.fields c.in_ok-inners.inners c.in_ok-items.items
     c.as_slice.ensures c.as_slice-2.ensures c.as_slice-3.ensures c.as_slice-4.ensures c.as_slice-5.ensures c.in_ok-fields.ensures c.in_ok-inners.ensures c.in_ok-items.ensures c.in_ok-tree_of.ensures)
 
