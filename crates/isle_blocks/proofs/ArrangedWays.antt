@@ -9,12 +9,12 @@ use Rattle.isle_core.specs.declared.rule_sets.Binding.{Binding}
 use Rattle.isle_core.specs.declared.rule_sets.FlatRule.{FlatRule}
 use Rattle.isle_core.specs.Path.{Path, paths_of}
 use Rattle.isle_blocks.specs.declared.arrangement.Arranged.{Arranged}
-use Rattle.isle_blocks.specs.declared.ways.Way.{Way as CodeWay}
+use Rattle.isle_blocks.specs.declared.ways.Parted.{Parted}
 use Rattle.isle_blocks.specs.Arranged.{rules_of, IsArranged, AreEachArranged, AreArranged, arranged_way}
 use Rattle.isle_blocks.specs.Order.{is_above, Falls}
 use Rattle.isle_blocks.specs.Tree.{Way}
 use Rattle.isle_blocks.specs.Turns.{TurnsRise}
-use Rattle.isle_blocks.specs.Ways.{way, way_of}
+use Rattle.isle_blocks.specs.Ways.{parted_way, way_of}
 use Rattle.isle_blocks.proofs.LawOrder.{above_order, falls_from}
 use Rattle.isle_blocks.proofs.Reorders.{permutation_reorders, reorder_all}
 
@@ -29,11 +29,11 @@ map_push f [] y = refl
 map_push f (x ∷ xs) y = ap (λ zs. f x ∷ zs) (map_push f xs y)
 
 -- one way more of the code's
-pub arranged_more : (turns : List ℕ) (ws : List CodeWay) (i : ℕ) (w d : CodeWay) (all : List Arranged) (a : Arranged) → i < length ws → w ≡ get_or ws i d → IsArranged turns (way w) (arranged_way a)
-    → AreEachArranged turns (map way (take i ws)) (map arranged_way all) → AreEachArranged turns (map way (take (i + 1) ws)) (map arranged_way (all ++ a ∷ []))
+pub arranged_more : (turns : List ℕ) (ws : List Parted) (i : ℕ) (w d : Parted) (all : List Arranged) (a : Arranged) → i < length ws → w ≡ get_or ws i d → IsArranged turns (parted_way w) (arranged_way a)
+    → AreEachArranged turns (map parted_way (take i ws)) (map arranged_way all) → AreEachArranged turns (map parted_way (take (i + 1) ws)) (map arranged_way (all ++ a ∷ []))
 arranged_more turns ws i w d all a lt is one h =
-    subst (λ vs. AreEachArranged turns vs (map arranged_way (all ++ a ∷ []))) (sym (map_more way ws i d lt ∙ ap (λ (v : CodeWay). map way (take i ws) ++ way v ∷ []) (sym is)))
-    (subst (AreEachArranged turns (map way (take i ws) ++ way w ∷ [])) (sym (map_push arranged_way all a)) (each_push turns (map way (take i ws)) (map arranged_way all) (way w) (arranged_way a) h one))
+    subst (λ vs. AreEachArranged turns vs (map arranged_way (all ++ a ∷ []))) (sym (map_more parted_way ws i d lt ∙ ap (λ (v : Parted). map parted_way (take i ws) ++ parted_way v ∷ []) (sym is)))
+    (subst (AreEachArranged turns (map parted_way (take i ws) ++ parted_way w ∷ [])) (sym (map_push arranged_way all a)) (each_push turns (map parted_way (take i ws)) (map arranged_way all) (parted_way w) (arranged_way a) h one))
 
 -- ---- sorted
 
@@ -66,8 +66,8 @@ each_own turns several ps [] (w ∷ ws) h = absurd h
 each_own turns several ps (f ∷ fs) [] h = absurd h
 
 -- arranged one by one, and then sorted
-pub are_arranged : (several : Bool) (bs : List Binding) (turns : List ℕ) (fs : List FlatRule) (ws : List CodeWay) (before after : List Arranged) → TurnsRise bs turns → map way ws ≡ map (way_of several (paths_of bs)) fs
-    → AreEachArranged turns (map way ws) (map arranged_way before) → IsPermutation before after → Falls (rules_of (map arranged_way after)) → AreArranged several bs fs (map arranged_way after)
+pub are_arranged : (several : Bool) (bs : List Binding) (turns : List ℕ) (fs : List FlatRule) (ws : List Parted) (before after : List Arranged) → TurnsRise bs turns → map parted_way ws ≡ map (way_of several (paths_of bs)) fs
+    → AreEachArranged turns (map parted_way ws) (map arranged_way before) → IsPermutation before after → Falls (rules_of (map arranged_way after)) → AreArranged several bs fs (map arranged_way after)
 are_arranged several bs turns fs ws before after rise named each moved falls =
     let vs = map arranged_way before in
     let us = map arranged_way after in

@@ -5,7 +5,6 @@ use Rattle.std.specs.List.{AllByRecursion}
 use Rattle.std.proofs.lemmas.List.Elements.{Contains-push}
 use Rattle.isle_core.specs.declared.BindingId.{BindingId}
 use Rattle.isle_core.specs.declared.rule_sets.Binding.{Binding}
-use Rattle.isle_core.specs.declared.rule_sets.Binding.TheVariants as binding
 use Rattle.isle_core.specs.declared.rule_sets.FlatRule.{FlatRule}
 use Rattle.isle_core.specs.declared.types.Term.{Term}
 use Rattle.isle_core.specs.Bindable.{bound_by}
@@ -16,7 +15,7 @@ use Rattle.isle_core.specs.Tests.{Test}
 use Rattle.isle_core.proofs.BindingPaths.{paths_there, call_at}
 use Rattle.isle_core.proofs.OptionLaws.{some_same}
 use Rattle.isle_blocks.specs.Needed.{list_before, needs, parameters_of}
-use Rattle.isle_blocks.specs.Nest.{with_inner, call_binds, binds, was_bound, left_one, left_calls, left_items, behind_lists, last_binds, option_before}
+use Rattle.isle_blocks.specs.Nest.{with_inner, call_binds, binds, was_bound, left_one, left_calls, left_items, behind_lists, last_binds}
 use Rattle.isle_blocks.proofs.NeedsSo.{list_plain, needs_so}
 use Rattle.isle_blocks.proofs.NextLaws.{FindsNext}
 use Rattle.isle_blocks.proofs.OpenedSteps.{FreshBy, AlwaysFresh, fresh_append}
@@ -26,53 +25,46 @@ fresh_none bs = λ fresh. tt
 
 -- ---- what is needed
 
--- neither an item nor an inner value
-pub record IsPlainAt (bs : List Binding) (b : BindingId) : Type 0 where
-  pub no_item : list_before (slice_get bs b.0) ≡ None
-  pub no_inner : option_before (slice_get bs b.0) ≡ None
+-- no item
+abbrev pub IsPlainAt : List Binding → BindingId → Type 0
+IsPlainAt bs b = list_before (slice_get bs b.0) ≡ None
 
 -- a binding that is no item, alone
-plain_fresh : (bs : List Binding) (b : BindingId) → list_before (slice_get bs b.0) ≡ None → AlwaysFresh bs (b ∷ [])
-plain_fresh bs b none = λ fresh. pick fresh (list_before (slice_get bs b.0)) (option_before (slice_get bs b.0)) none
+plain_fresh : (bs : List Binding) (b : BindingId) → IsPlainAt bs b → AlwaysFresh bs (b ∷ [])
+plain_fresh bs b none = λ fresh. pick fresh (list_before (slice_get bs b.0)) none
   where
-    pick : (fresh : List ℕ) (list option : Option BindingId) → list ≡ None → FreshBy list option fresh b (λ ks. Unit {0})
-    pick fresh None None e = tt
-    pick fresh None (Some source) e = tt
-    pick fresh (Some list) option e = cc
+    pick : (fresh : List ℕ) (list : Option BindingId) → list ≡ None → FreshBy list fresh b (λ ks. Unit {0})
+    pick fresh None e = tt
+    pick fresh (Some list) e = cc
 
 -- what stands directly after a call, and is its item if it is one
 pair_fresh : (bs : List Binding) (c b : BindingId) → IsPlainAt bs c → (list_before (slice_get bs b.0) ≡ None) ⊎ (list_before (slice_get bs b.0) ≡ Some c) → AlwaysFresh bs (c ∷ b ∷ [])
-pair_fresh bs c b plain which = λ fresh. pick fresh (list_before (slice_get bs c.0)) (option_before (slice_get bs c.0)) (list_before (slice_get bs b.0)) (option_before (slice_get bs b.0)) plain.no_item plain.no_inner which
+pair_fresh bs c b plain which = λ fresh. pick fresh (list_before (slice_get bs c.0)) (list_before (slice_get bs b.0)) plain which
   where
-    pick : (fresh : List ℕ) (l o m p : Option BindingId) → l ≡ None → o ≡ None → (m ≡ None) ⊎ (m ≡ Some c) → FreshBy l o fresh c (λ ks. FreshBy m p ks b (λ js. Unit {0}))
-    pick fresh None None None None d e w = tt
-    pick fresh None None None (Some source) d e w = tt
-    pick fresh None None (Some list) p d e (inl none) = cc
-    pick fresh None None (Some list) p d e (inr is) = (subst (λ (x : BindingId). Contains (fresh ++ c.0 ∷ []) x.0) (sym (some_same list c is)) (Contains-push fresh c.0), tt)
-    pick fresh None (Some source) m p d e w = cc
-    pick fresh (Some list) o m p d e w = cc
+    pick : (fresh : List ℕ) (l m : Option BindingId) → l ≡ None → (m ≡ None) ⊎ (m ≡ Some c) → FreshBy l fresh c (λ ks. FreshBy m ks b (λ js. Unit {0}))
+    pick fresh None None d w = tt
+    pick fresh None (Some list) d (inl none) = cc
+    pick fresh None (Some list) d (inr is) = (subst (λ (x : BindingId). Contains (fresh ++ c.0 ∷ []) x.0) (sym (some_same list c is)) (Contains-push fresh c.0), tt)
+    pick fresh (Some list) m d w = cc
 
 pub needs_fresh : (bs : List Binding) (bound : List ℕ) (reads : List BindingId) → AlwaysFresh bs (needs bs bound reads)
 needs_fresh bs bound reads =
     needs_so bs (AlwaysFresh bs) (fresh_none bs) (fresh_append bs)
-    (λ b source parts e is. let plain = list_plain (slice_get bs source.0) parts is in pair_fresh bs source b (record { no_item = plain.0; no_inner = plain.1 }) (inr (ap list_before e)))
+    (λ b source parts e is. pair_fresh bs source b (list_plain (slice_get bs source.0) parts is) (inr (ap list_before e)))
     (λ b o parts e none is. plain_fresh bs b (ap list_before e ∙ none)) bound reads
 
 -- ---- calls
 
--- each is neither an item nor an inner value
+-- none is an item
 abbrev pub ArePlainAt : List Binding → List BindingId → Type 0
 ArePlainAt bs cs = AllByRecursion (IsPlainAt bs) cs
-
-plain_call : (bs : List Binding) (c : BindingId) (x : Binding) → slice_get bs c.0 ≡ Some x → (list_before (Some x) ≡ None) → (option_before (Some x) ≡ None) → IsPlainAt bs c
-plain_call bs c x e no_item no_inner = record { no_item = ap list_before e ∙ no_item; no_inner = ap option_before e ∙ no_inner }
 
 calls_plain : (env : Environment) (t : Term) (tests : List Test) (bs : List Binding) (cs : List BindingId) (done : List Path) → AreSerializableCalls env t tests (paths_of bs) done (map (at (paths_of bs)) cs) → ArePlainAt bs cs
 calls_plain env t tests bs [] done h = tt
 calls_plain env t tests bs (c ∷ cs) done h =
     let call : IsSerializableCall env t tests (paths_of bs) done (at (paths_of bs) c) = h.0 in
     let is = call_at bs c call.term call.parameters call.instance (paths_there env t call.parameters call.called.arg_tys call.args) call.path in
-    (plain_call bs c (binding.Constructor call.term is.0 call.instance) is.1 refl refl, calls_plain env t tests bs cs (at (paths_of bs) c ∷ done) h.1)
+    (ap list_before is.1, calls_plain env t tests bs cs (at (paths_of bs) c ∷ done) h.1)
 
 left_plain : (bs : List Binding) (next : ℕ → Option BindingId) (start : List ℕ) (cs : List BindingId) → ArePlainAt bs cs → ArePlainAt bs (left_calls next start cs)
 left_plain bs next start [] h = tt
@@ -83,7 +75,7 @@ left_plain bs next start (c ∷ cs) h = pick (was_bound next start c) (left_plai
     pick false k = (h.0, k)
 
 next_fresh : (bs : List Binding) (next : ℕ → Option BindingId) → FindsNext bs next → (c : BindingId) → IsPlainAt bs c → (o : Option BindingId) → next c.0 ≡ o → AlwaysFresh bs (with_inner o c)
-next_fresh bs next f c h None e = plain_fresh bs c h.no_item
+next_fresh bs next f c h None e = plain_fresh bs c h
 next_fresh bs next f c h (Some b) e = pair_fresh bs c b h (⊎_elim (λ is. inl (ap list_before is)) (λ is. inr (ap list_before is)) (f.found c b e).0)
 
 binds_fresh : (bs : List Binding) (next : ℕ → Option BindingId) → FindsNext bs next → (cs : List BindingId) (bound : List ℕ) → ArePlainAt bs cs → AlwaysFresh bs (binds bs next bound cs)

@@ -17,18 +17,18 @@ use Rattle.isle_core.specs.Calling.{kind_of, is_several}
 use Rattle.isle_core.specs.Meaning.{Meaning}
 use Rattle.isle_core.specs.Occurrences.{occurrences}
 use Rattle.isle_core.specs.Path.{Path, paths_of}
-use Rattle.isle_core.specs.ReturnPosition.{block_position, set_position, rule_position}
 use Rattle.isle_core.specs.Rule.{Environment}
 use Rattle.isle_core.specs.RuleSet.{flat_holds, gave, given, set_outcome}
-use Rattle.isle_core.specs.Serializable.{IsSerializableRule, IsSerializable, constraint_tests, occurrences_of}
+use Rattle.isle_core.specs.Serializable.{IsSerializableRule, IsSerializable, occurrences_of}
 use Rattle.isle_core.specs.Setting.{setting}
 use Rattle.isle_core.specs.StandsFor.{EachOnce}
+use Rattle.isle_core.specs.Tests.{Test}
 use Rattle.isle_core.specs.Value.{Value}
-use Rattle.isle_core.specs.ValueAt.{nothing_known}
 use Rattle.isle_core.proofs.Contained.{none_contained}
 use Rattle.isle_core.proofs.RulePairs.{all_from, all_at}
 use Rattle.isle_blocks.specs.ApartRules.{AreRulesApart}
 use Rattle.isle_blocks.specs.Arranged.{rules_of, AreArranged, IsGrown}
+use Rattle.isle_blocks.specs.AllReturns.{MakesReturns}
 use Rattle.isle_blocks.specs.AllTests.{MakesTests}
 use Rattle.isle_blocks.specs.CallsOnce.{HasCallsOnce}
 use Rattle.std.specs.Ordering.{nat_cmp}
@@ -37,28 +37,32 @@ use Rattle.isle_blocks.specs.Fields.{FieldKey, key_cmp, shown_cmp, FindsFields, 
 use Rattle.isle_blocks.specs.Several.{HasItsLists, GivesSeveral}
 use Rattle.isle_blocks.specs.declared.fields.Fields.{Fields}
 use Rattle.isle_blocks.specs.Followers.{FindsInners, FindsItems}
-use Rattle.isle_blocks.specs.Merged.{IsMerged, IsMergedOver, AnySource, IsSharedSource}
+use Rattle.isle_blocks.specs.LoopsApart.{HasLoopsApart}
+use Rattle.isle_blocks.specs.Merged.{IsMerged}
 use Rattle.isle_blocks.specs.Nest.{next_of}
 use Rattle.isle_blocks.specs.Reordered.{IsReordered}
 use Rattle.isle_blocks.specs.RuleTests.{TestsRules}
-use Rattle.isle_blocks.specs.Tree.{Way, Tests, IsTree}
+use Rattle.isle_blocks.specs.Tree.{Way, Ground, Tests, IsTree}
 use Rattle.isle_blocks.specs.declared.fields.Shown.{Shown}
 use Rattle.isle_blocks.proofs.CalledItems.{early_none}
-use Rattle.isle_blocks.proofs.FreshLists.{ordered_plain}
 use Rattle.isle_blocks.proofs.LawFirst.{first, first_is_highest}
+use Rattle.isle_blocks.proofs.ListsRead.{opened_none}
 use Rattle.isle_blocks.proofs.MadeBefore.{within_none}
 use Rattle.isle_blocks.proofs.NextLaws.{finds_next}
 use Rattle.isle_blocks.proofs.OncePairs.{each_first, each_second}
 use Rattle.isle_blocks.proofs.RulesInOrder.{occurrences_in_order}
 use Rattle.isle_blocks.proofs.TreeItems.{tree_new}
 use Rattle.isle_blocks.proofs.TreeLawful.{AreFreeTests, tree_good}
-use Rattle.isle_blocks.proofs.TreeMakes.{IsGood, tree_makes}
-use Rattle.isle_blocks.proofs.TreeMerged.{StartsOwn, own_step, tree_merged}
-use Rattle.isle_blocks.proofs.TreePositions.{tree_returns}
+use Rattle.isle_blocks.proofs.SeveralMerged.{IsListedWay, listed_left, listed_more, listed_no_match}
+use Rattle.isle_blocks.proofs.TreeLoops.{IsChosenWay, tree_loops}
+use Rattle.isle_blocks.proofs.TreeMakes.{tree_makes}
+use Rattle.isle_blocks.proofs.TreeMerged.{tree_merged, untested_no_match}
+use Rattle.isle_blocks.proofs.TreeReturned.{tree_returned}
+use Rattle.isle_blocks.proofs.TreeRules.{IsGood}
 use Rattle.isle_blocks.proofs.TreeRuns.{went, tree_run}
 use Rattle.isle_blocks.proofs.ServedWorks.{several_prescribes}
 use Rattle.isle_blocks.proofs.TreeSeveral.{IsSeveralWay, tree_adds}
-use Rattle.isle_blocks.proofs.TreeStart.{IsStart, StartsChosen, start_on, start_among, start_of, start_after, ways_order, way_starts, way_there, rule_way}
+use Rattle.isle_blocks.proofs.TreeStart.{IsStart, start_on, start_among, start_of, start_after, ways_order, way_starts, way_there, rule_way}
 use Rattle.isle_blocks.proofs.TreeTests.{IsOf, tree_tests}
 use Rattle.isle_blocks.proofs.TreeWays.{IsAfter, AreAfter}
 
@@ -114,52 +118,43 @@ module _ (several : Bool) (s : RuleSet) (b : Block) (k : IsTreeOf several s.bind
             (all_from (λ (w : Way). is_several (kind_of t.kind) ≡ true → HasCallsOnce env ps w.rule) k.ways (λ w c e. all_at (HasCallsOnce env ps) s.rules w.rule (calls e) (there w c))) [] (λ n c. absurd (none_contained n c));
       }
 
+  good_ways : AllByRecursion (IsGood s.rules []) k.ways
+  good_ways = all_from (IsGood s.rules []) k.ways (λ w i. record { there = there w i; on = start_on several s.bindings w (starts w i); own' = start_among several s.bindings w (starts w i) })
+
   pub tree_of_makes : MakesTests several s b
   tree_of_makes f source c has_rule has tried =
       let own = rule_way several s.bindings s.rules k.ways k.arranged f has_rule in
       ⊎_elim (λ i. i) (λ i. absurd (none_contained (source, c) i))
-      (tree_makes several s.bindings (shows k.found k.counts k.inners) (next_of k.inners k.items) k.items s.rules f source c tried k.ways [] b [] k.is_tree
-      (all_from (IsGood several s.bindings (shows k.found k.counts k.inners) (next_of k.inners k.items) k.items s.rules f source c tried []) k.ways
-      (λ w i. record { there = there w i; on = start_on several s.bindings w (starts w i); own' = start_among several s.bindings w (starts w i) }))
+      (tree_makes several s.bindings (shows k.found k.counts k.inners) (next_of k.inners k.items) k.items s.rules f source c tried k.ways [] b [] k.is_tree good_ways
       k.arranged.falls own.way own.there own.rule
       ((starts own.way own.there).has (source, c) (subst (λ g. Contains g.constraints (source, c)) (sym own.rule) has)))
 
-  -- its late tests and its rule's calls are of sources whose tests aren't shared
-  abbrev IsOwnWay : Way → Type 0
-  IsOwnWay w = StartsOwn (IsSharedSource s) w.late × Contains s.rules w.rule
+  pub tree_of_returns : MakesReturns several s b
+  tree_of_returns f has_rule reached =
+      let own = rule_way several s.bindings s.rules k.ways k.arranged f has_rule in
+      tree_returned (record { several = several; bindings = s.bindings; shows = shows k.found k.counts k.inners; next = next_of k.inners k.items; items = k.items }) s.rules f reached k.ways [] b [] k.is_tree good_ways k.arranged.falls own.way own.there own.rule
 
-  own_after : (source : BindingId) (w : Way) (c : Constraint) (left : Way) → Tests source w c left → IsOwnWay w → IsOwnWay left
-  own_after source w c left is h = (subst (StartsOwn (IsSharedSource s)) (sym is.late) h.0, subst (Contains s.rules) (sym is.rule) h.1)
-
-  chosen_own : (cs : List (BindingId × Constraint)) → StartsChosen ps cs → StartsOwn (IsSharedSource s) cs
-  chosen_own [] h = tt
-  chosen_own (c ∷ cs) h = λ is. let bad = sym h ∙ is.0 in absurd cc
-
-  pub tree_of_shares : (env : Environment) (t : Term) → IsSerializable env t s → IsMergedOver (IsSharedSource s) b
-  tree_of_shares env t h =
-      let next = next_of k.inners k.items in
-      tree_merged (record { several = several; bindings = s.bindings; shows = shows k.found k.counts k.inners; next = next; items = k.items }) (IsSharedSource s) IsOwnWay own_after
-      (λ w bound own. own_step (IsSharedSource s) (record { several = several; bindings = s.bindings; shows = shows k.found k.counts k.inners; next = next; items = k.items }) w bound (finds_next s.bindings k.inners k.items k.found_inners k.found_items) own.0
-      (λ is. (
-        ordered_plain env t (constraint_tests ps w.rule) s.bindings w.rule.ordered (all_at (IsSerializableRule env t ps) s.rules w.rule h.rules own.1).calls,
-        all_from (λ (c : BindingId). IsSharedSource s c → ⊥) w.rule.ordered (λ c i shared. shared.1 w.rule own.1 i),
-      )))
-      k.ways [] b k.is_tree (all_from IsOwnWay k.ways (λ w c. (chosen_own w.late (starts w c).chosen, there w c)))
+  pub tree_of_loops : HasLoopsApart s b
+  tree_of_loops =
+      tree_loops s (record { several = several; bindings = s.bindings; shows = shows k.found k.counts k.inners; next = next_of k.inners k.items; items = k.items }) k.ways [] b k.is_tree
+      (all_from (IsChosenWay s (record { several = several; bindings = s.bindings; shows = shows k.found k.counts k.inners; next = next_of k.inners k.items; items = k.items })) k.ways (λ w c. record { there = there w c; late = (starts w c).chosen }))
 
 -- ---- of a term that answers once
 
 once_tree : (several kind : Bool) (bs : List Binding) (fs : List FlatRule) (b : Block) → kind ≡ several → kind ≡ false → IsTreeOf several bs fs b → IsTreeOf false bs fs b
 once_tree several kind bs fs b e answers_once k = subst (λ x. IsTreeOf x bs fs b) (sym e ∙ answers_once) k
 
-no_late_own : (source : BindingId) (w : Way) (c : Constraint) (left : Way) → Tests source w c left → w.late ≡ [] → left.late ≡ []
-no_late_own source w c left k h = k.late ∙ h
+no_late_left : (g : Ground) (before : List Test) (bound : List ℕ) (source : BindingId) (w : Way) (c : Constraint) (left : Way) → Tests source w c left → w.late ≡ [] → left.late ≡ []
+no_late_left g before bound source w c left k h = k.late ∙ h
 
-pub tree_of_merged : (s : RuleSet) (b : Block) → IsTreeOf false s.bindings s.rules b → IsMerged b
-tree_of_merged s b k =
-    let next = next_of k.inners k.items in
-    tree_merged (record { several = false; bindings = s.bindings; shows = shows k.found k.counts k.inners; next = next; items = k.items }) AnySource (λ (w : Way). w.late ≡ []) no_late_own
-    (λ w bound h. own_step AnySource (record { several = false; bindings = s.bindings; shows = shows k.found k.counts k.inners; next = next; items = k.items }) w bound (finds_next s.bindings k.inners k.items k.found_inners k.found_items) (subst (StartsOwn AnySource) (sym h) tt) (λ is. absurd cc))
-    k.ways [] b k.is_tree (all_from (λ (w : Way). w.late ≡ []) k.ways (λ w c. (way_starts false s.bindings s.rules k.ways k.arranged w c).whole refl))
+once_merged : (s : RuleSet) (b : Block) → IsTreeOf false s.bindings s.rules b → IsMerged b
+once_merged s b k =
+    let g : Ground = record { several = false; bindings = s.bindings; shows = shows k.found k.counts k.inners; next = next_of k.inners k.items; items = k.items } in
+    tree_merged g (λ before bound w. w.late ≡ []) (no_late_left g) (λ before bound source v c left w k' one h. h) (λ before bound w h early. untested_no_match g w bound h)
+    k.ways [] b [] k.is_tree (all_from (λ (w : Way). w.late ≡ []) k.ways (λ w c. (way_starts false s.bindings s.rules k.ways k.arranged w c).whole refl))
+
+pub tree_of_once_merged : (several : Bool) (s : RuleSet) (b : Block) → IsTreeOf several s.bindings s.rules b → several ≡ false → IsMerged b
+tree_of_once_merged several s b k e = once_merged s b (subst (λ x. IsTreeOf x s.bindings s.rules b) e k)
 
 pub tree_of_means : (several : Bool) (s : RuleSet) (b : Block) → IsTreeOf several s.bindings s.rules b → (env : Environment) (m : Meaning) (t : Term) (args : List Value) (kind : ReturnKind) → IsSerializable env t s → is_several (kind_of t.kind) ≡ several → is_several (kind_of t.kind) ≡ false
     → AreTestsApart env m args s → AreRulesApart env m args s → block_outcome env m args (paths_of s.bindings) b kind ≡ set_outcome env m args (paths_of s.bindings) s.rules kind
@@ -173,20 +168,31 @@ tree_of_means several s b tree env m t args kind h is answers_once apart one =
     ∙ gives_first env m args s kind (first ok (rules_of k.ways))
     ∙ ap (given env m args ps kind) (first_is_highest ok s.rules (rules_of k.ways) order k.arranged.falls one)
 
-pub tree_of_positions : (several : Bool) (s : RuleSet) (b : Block) → IsTreeOf several s.bindings s.rules b → (env : Environment) (m : Meaning) (t : Term) (args : List Value) → IsSerializable env t s → is_several (kind_of t.kind) ≡ several → is_several (kind_of t.kind) ≡ false
-    → AreTestsApart env m args s → AreRulesApart env m args s → block_position env m args (paths_of s.bindings) b nothing_known [] ≡ set_position env m args (paths_of s.bindings) s.rules
-tree_of_positions several s b tree env m t args h is answers_once apart one =
-    let k = once_tree several (is_several (kind_of t.kind)) s.bindings s.rules b is answers_once tree in
-    let ps = paths_of s.bindings in
-    let finds = finds_next s.bindings k.inners k.items k.found_inners k.found_items in
-    let order = ways_order false s.bindings s.rules k.ways k.arranged in
-    tree_returns env t m args s answers_once apart k.found k.counts k.inners (next_of k.inners k.items) k.items k.finds k.found_inners k.found_items finds h.once h.fields h.items k.ways [] b [] k.is_tree (within_none env ps) (all_after false s b k env t h) refl
-    ∙ ap (rule_position env m args ps) (first_is_highest (flat_holds env m args ps) s.rules (rules_of k.ways) order k.arranged.falls one)
-
 -- ---- of a term that answers several times
 
 several_tree : (several kind : Bool) (bs : List Binding) (fs : List FlatRule) (b : Block) → kind ≡ several → kind ≡ true → IsTreeOf several bs fs b → IsTreeOf true bs fs b
 several_tree several kind bs fs b e often k = subst (λ x. IsTreeOf x bs fs b) (sym e ∙ often) k
+
+several_merged : (s : RuleSet) (b : Block) → IsTreeOf true s.bindings s.rules b → (env : Environment) (t : Term) → IsSerializable env t s → is_several (kind_of t.kind) ≡ true → IsMerged b
+several_merged s b k env t h often =
+    let next = next_of k.inners k.items in
+    let finds = finds_next s.bindings k.inners k.items k.found_inners k.found_items in
+    let g : Ground = record { several = true; bindings = s.bindings; shows = shows k.found k.counts k.inners; next = next; items = k.items } in
+    let starts = way_starts true s.bindings s.rules k.ways k.arranged in
+    tree_merged g (IsListedWay env t s k.found k.counts k.inners next k.items often k.finds k.found_inners k.found_items finds h.once h.fields h.items)
+    (listed_left env t s k.found k.counts k.inners next k.items often k.finds k.found_inners k.found_items finds h.once h.fields h.items)
+    (listed_more env t s k.found k.counts k.inners next k.items often k.finds k.found_inners k.found_items finds h.once h.fields h.items)
+    (listed_no_match env t s k.found k.counts k.inners next k.items often k.finds k.found_inners k.found_items finds h.once h.fields h.items)
+    k.ways [] b [] k.is_tree
+    (all_from (IsListedWay env t s k.found k.counts k.inners next k.items often k.finds k.found_inners k.found_items finds h.once h.fields h.items [] []) k.ways
+    (λ w c. record { within = within_none env (paths_of s.bindings); opens = opened_none s.bindings; after = all_at (IsAfter env t s []) k.ways w (all_after true s b k env t h) c; free = (starts w c).free refl; chosen = (starts w c).chosen }))
+
+pub tree_of_merged : (several : Bool) (s : RuleSet) (b : Block) → IsTreeOf several s.bindings s.rules b → (env : Environment) (t : Term) → IsSerializable env t s → is_several (kind_of t.kind) ≡ several → IsMerged b
+tree_of_merged several s b k env t h is = pick (is_several (kind_of t.kind)) refl
+  where
+    pick : (kind : Bool) → is_several (kind_of t.kind) ≡ kind → IsMerged b
+    pick true often = several_merged s b (several_tree several (is_several (kind_of t.kind)) s.bindings s.rules b is often k) env t h often
+    pick false once = once_merged s b (once_tree several (is_several (kind_of t.kind)) s.bindings s.rules b is once k)
 
 -- where each impure call of rules stands once, it does in each rule
 once_in : (env : Environment) (qs : List Path) (fs : List FlatRule) → EachOnce (occurrences_of env qs fs) → AllByRecursion (λ (f : FlatRule). EachOnce (occurrences env qs f.ordered)) fs

@@ -12,25 +12,24 @@ use Rattle.isle_core.specs.BlockViews.{SeenStep}
 use Rattle.isle_core.proofs.Contained.{contained_cases, none_contained}
 use Rattle.isle_blocks.specs.AllTests.{DoesTest}
 use Rattle.isle_blocks.specs.Needed.{list_before, needs}
-use Rattle.isle_blocks.specs.Nest.{Shows, Behind, alone, option_before, open_by, opening, opened}
+use Rattle.isle_blocks.specs.Nest.{Shows, Behind, alone, open_by, opening, opened}
 use Rattle.isle_blocks.specs.Nest.{all_matched}
 
 -- ---- a step
 
 module _ (source : BindingId) (c : Constraint) (bs : List Binding) where
   -- a binding before a step keeps the step's tests
-  open_keeps : (list option : Option BindingId) (b : BindingId) (t : SeenStep) → DoesTest source c t.1
-      → DoesTest source c (open_by list option b t).1
-  open_keeps (Some list) option b t h = inl h
-  open_keeps None (Some over) b t h = inr (inl (inl h))
-  open_keeps None None b t h = h
+  open_keeps : (list : Option BindingId) (b : BindingId) (t : SeenStep) → DoesTest source c t.1
+      → DoesTest source c (open_by list b t).1
+  open_keeps (Some list) b t h = inl h
+  open_keeps None b t h = h
 
   -- so of each binding of an order
   opening_keeps : (order : List BindingId) (k : Control) → DoesTest source c k
       → DoesTest source c (opening bs order k).1
   opening_keeps [] k h = h
   opening_keeps (b ∷ order) k h =
-      open_keeps (list_before (slice_get bs b.0)) (option_before (slice_get bs b.0)) b (opening bs order k)
+      open_keeps (list_before (slice_get bs b.0)) b (opening bs order k)
       (opening_keeps order k h)
 
   -- so of an order that is opened or bound

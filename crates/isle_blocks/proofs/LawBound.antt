@@ -8,7 +8,7 @@ use Rattle.isle_core.specs.declared.rule_sets.Binding.TheVariants as binding
 use Rattle.isle_core.specs.declared.types.ReturnKind.{ReturnKind}
 use Rattle.isle_core.specs.declared.types.ReturnKind.TheVariants as return_kind
 use Rattle.isle_core.specs.declared.types.Term.{Term}
-use Rattle.isle_core.specs.Bindable.{IsCallBound, bound_by}
+use Rattle.isle_core.specs.Bindable.{IsCallBound, IsInnerBound, bound_by}
 use Rattle.isle_core.specs.Calling.{Calling, ByTurns, ByCases, NoCall, calling, kind_of, is_several, may_be_nothing}
 use Rattle.isle_core.specs.ExternalCall.{IsCall}
 use Rattle.isle_core.specs.Path.{Path, Called, Extracted, Chosen, Inner, VariantField, StructField, MadeVariant, MadeStruct, Part, Paths, NoPath, APath, at, at_all, paths_of}
@@ -25,7 +25,7 @@ use Rattle.isle_blocks.proofs.Behind.{IsBehind, none_in, cons_cases, cons_here, 
 use Rattle.isle_blocks.proofs.NextLaws.{FindsNext, HasNext, has_none, has_inner, has_item, has_next}
 use Rattle.isle_blocks.proofs.MadeBefore.{behind_bound}
 use Rattle.isle_blocks.proofs.MoreBound.{Keeps, by_kept}
-use Rattle.isle_blocks.proofs.Openable.{IsItemBound, IsInnerOpened, IsOpenable, AreOpenable, openable_append}
+use Rattle.isle_blocks.proofs.Openable.{IsItemBound, IsOpenable, AreOpenable, openable_append}
 use Rattle.isle_blocks.proofs.NeededBound.{ReadsAll, all_read_as, needs_read}
 use Rattle.isle_blocks.proofs.NeededRuns.{AreStill}
 use Rattle.isle_blocks.proofs.OrderItems.{AllNeedLists, AreItemsNew}
@@ -67,7 +67,7 @@ inner_opened env t bs tests done bound c b h is there path k =
     let external : IsCall return_kind.Option (calling env h.term) = subst (λ x. IsCall x (calling env h.term)) is h.external in
     let typed : IsSomeAnd (slice_get env.terms h.term.0) (λ (x : Term). (x.ret_ty ∷ [] ≡ h.called.ret_ty ∷ []) × ArePathsOf env t h.parameters x.arg_tys) =
     subst (λ o. IsSomeAnd o (λ (x : Term). (x.ret_ty ∷ [] ≡ h.called.ret_ty ∷ []) × ArePathsOf env t h.parameters x.arg_tys)) (sym h.found) (refl, h.args) in
-    let opened : IsInnerOpened (setting env t bs) bound (at (paths_of bs) b) c = record {
+    let opened : IsInnerBound (setting env t bs) bound (at (paths_of bs) b) c = record {
       path = path;
       tys = h.called.ret_ty ∷ [];
       option = subst (λ q. IsOptionOf env t q (h.called.ret_ty ∷ [])) (sym h.path) (external, typed);

@@ -1,5 +1,5 @@
 -- The first rule that holds, of rules in falling order, is the highest that holds of them in any order, if no two of one priority hold.
-use Rattle.std.proofs.Common.{◌≡◌, ◌⊎◌, ⊎_elim, List, [], ◌∷◌, Bool, true, false, cond, Option, Some, None, refl, sym, ap, ◌∙◌, subst, arith}
+use Rattle.std.proofs.Common.{◌≡◌, ⊎_elim, List, [], ◌∷◌, Bool, true, false, cond, Option, Some, None, refl, sym, ap, ◌∙◌, subst, arith}
 use Rattle.std.specs.Prelude.{Contains, ℤ}
 use Rattle.std.specs.Ordering.{int_cmp, is_lt}
 use Rattle.isle_core.specs.declared.rule_sets.FlatRule.{FlatRule}

@@ -1,10 +1,8 @@
 -- A rule's step tests what the rule tests, and its Return is the rule's.
-use Rattle.std.proofs.Common.{◌≡◌, ℕ, List, [], ◌∷◌, Bool, true, false, Option, Some, None, refl, ap}
+use Rattle.std.proofs.Common.{ℕ, List, [], ◌∷◌, Bool, true, false, Option, Some, None}
 use Rattle.std.specs.Prelude.{slice_get, Contains}
 use Rattle.std.specs.List.{AllByRecursion}
 use Rattle.isle_core.specs.declared.BindingId.{BindingId}
-use Rattle.isle_core.specs.declared.rule_sets.Binding.{Binding}
-use Rattle.isle_core.specs.declared.rule_sets.Binding.TheVariants as binding
 use Rattle.isle_core.specs.declared.rule_sets.Constraint.{Constraint}
 use Rattle.isle_core.specs.declared.rule_sets.FlatRule.{FlatRule}
 use Rattle.isle_core.specs.declared.rule_sets.RuleSet.{RuleSet}
@@ -14,9 +12,8 @@ use Rattle.isle_core.specs.Block.{Control, Match, Equal, NoArm, Arm}
 use Rattle.isle_core.specs.BlockViews.{SeenStep}
 use Rattle.isle_core.proofs.Contained.{head_contained, tail_contained}
 use Rattle.isle_blocks.specs.Needed.{list_before, needs}
-use Rattle.isle_blocks.specs.Nest.{Shows, Behind, alone, option_before, open_by, opening, opened, all_matched, all_equated}
-use Rattle.isle_blocks.specs.RuleTests.{of_rule, of_inner, DoesRules}
-use Rattle.isle_blocks.proofs.FollowerLaws.{inner_is}
+use Rattle.isle_blocks.specs.Nest.{Shows, Behind, alone, open_by, opening, opened, all_matched, all_equated}
+use Rattle.isle_blocks.specs.RuleTests.{DoesRules}
 
 -- ---- what is among
 
@@ -31,20 +28,14 @@ among (x ∷ xs) = (head_contained x xs, weaker (Contains xs) (Contains (x ∷ x
 
 -- ---- a step
 
--- a binding that is bound by a Match is the inner value of its source
-option_is : (o : Option Binding) (source : BindingId) → option_before o ≡ Some source → o ≡ Some (binding.MatchSome source)
-option_is None source e = absurd cc
-option_is (Some y) source e = ap Some (inner_is y source e)
-
 module _ (s : RuleSet) where
-  open_tests : (list option : Option BindingId) (b : BindingId) (t : SeenStep) → option_before (slice_get s.bindings b.0) ≡ option → DoesRules s t.1 → DoesRules s (open_by list option b t).1
-  open_tests (Some list) option b t e h = (h, tt)
-  open_tests None (Some source) b t e h = (of_inner b source (option_is (slice_get s.bindings b.0) source e), (h, tt), tt)
-  open_tests None None b t e h = h
+  open_tests : (list : Option BindingId) (b : BindingId) (t : SeenStep) → DoesRules s t.1 → DoesRules s (open_by list b t).1
+  open_tests (Some list) b t h = (h, tt)
+  open_tests None b t h = h
 
   opening_tests : (order : List BindingId) (c : Control) → DoesRules s c → DoesRules s (opening s.bindings order c).1
   opening_tests [] c h = h
-  opening_tests (b ∷ order) c h = open_tests (list_before (slice_get s.bindings b.0)) (option_before (slice_get s.bindings b.0)) b (opening s.bindings order c) refl (opening_tests order c h)
+  opening_tests (b ∷ order) c h = open_tests (list_before (slice_get s.bindings b.0)) b (opening s.bindings order c) (opening_tests order c h)
 
   pub opened_tests : (several : Bool) (order : List BindingId) (c : Control) → DoesRules s c → DoesRules s (opened several s.bindings order c).1
   opened_tests true order c h = opening_tests order c h
@@ -66,4 +57,4 @@ module _ (s : RuleSet) where
         let ns = needs s.bindings bound (c.0 ∷ []) in
         let inside = bound_within (bound_by bound ns) (shows c.0 c.1) in
         let within = all_matched several s.bindings shows cs inner inside in
-        opened_tests several ns (Match c.0 (Arm c.1 (shows c.0 c.1) (alone within) NoArm)) (of_rule f c.0 c.1 there own.0, (matched_tests shows cs inner own.1 h inside, tt), tt)
+        opened_tests several ns (Match c.0 (Arm c.1 (shows c.0 c.1) (alone within) NoArm)) (record { rule = f; there = there; tests = own.0 }, (matched_tests shows cs inner own.1 h inside, tt), tt)

@@ -25,7 +25,6 @@ pub mod MadeBefore
 pub mod LawBinds
 pub mod LawBound
 pub mod LawNest
-pub mod LawPositions
 pub mod LawTests
 pub mod LawAllTests
 pub mod LawReturns
@@ -42,6 +41,7 @@ pub mod OrderedPlain
 pub mod OrderedRuns
 pub mod PartRuns
 pub mod RuleLists
+pub mod PlacesOpened
 pub mod RuleRuns
 pub mod Reorders
 pub mod StepCalls
@@ -49,13 +49,18 @@ pub mod ServedWorks
 pub mod TreeWays
 pub mod TreeRuns
 pub mod TreeLawful
-pub mod TreePositions
 pub mod TreeItems
 pub mod TreeTests
 pub mod TreeMerged
+pub mod TreeLoops
+pub mod FreeSources
+pub mod SeveralMerged
+pub mod TreeRules
+pub mod TreeReturned
 pub mod TreeMakes
 pub mod MappedLists
 pub mod MovedTests
+pub mod PartedTests
 pub mod TurnLaws
 pub mod ArrangedWays
 pub mod TreeStart

@@ -149,7 +149,7 @@ module _ (env : Environment) (t : Term) (bs : List Binding) where
     all_as_within (b ∷ reads) [] r = absurd r
 
     -- what may be opened, but for items
-    open_within : (b : BindingId) (o : Option Binding) → slice_get bs b.0 ≡ o → list_before o ≡ None → IsOpenable (setting env t bs) bound (at (paths_of bs) b) o → ListsWithin opened (at (paths_of bs) b)
+    pub open_within : (b : BindingId) (o : Option Binding) → slice_get bs b.0 ≡ o → list_before o ≡ None → IsOpenable (setting env t bs) bound (at (paths_of bs) b) o → ListsWithin opened (at (paths_of bs) b)
     open_within b (Some (binding.Constructor term parameters instance)) e none one = subst (ListsWithin opened) (sym one.path) (all_as_within parameters one.called.arg_tys one.args)
     open_within b (Some (binding.Extractor term parameter)) e none one = subst (ListsWithin opened) (sym one.path) (read_within one.arg.read one.called.ret_ty one.arg.path)
     open_within b (Some (binding.MatchTuple source field)) e none one = subst (ListsWithin opened) (sym one.path) (h.within source one.bound')

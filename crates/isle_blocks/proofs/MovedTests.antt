@@ -1,5 +1,5 @@
 -- Tests that may be made in one order may be made in another one in which parts are tested after what they are part of.
-use Rattle.std.proofs.Common.{◌≡◌, ◌⊎◌, inl, inr, ⊎_elim, ℕ, zero, suc, ◌+◌, ◌<◌, ◌≤◌, List, [], ◌∷◌, ◌++◌, map, take, Option, Some, None, refl, sym, ◌∙◌, subst, arith}
+use Rattle.std.proofs.Common.{◌≡◌, ◌⊎◌, inl, inr, ⊎_elim, ℕ, zero, suc, ◌<◌, ◌≤◌, List, [], ◌∷◌, ◌++◌, map, take, Option, Some, None, refl, sym, ◌∙◌, subst, arith}
 use Rattle.std.specs.Prelude.{Contains, slice_get}
 use Rattle.std.specs.List.{AllByRecursion}
 use Rattle.isle_core.specs.declared.BindingId.{BindingId}
@@ -72,7 +72,7 @@ mutual
 
 -- what is so of all paths
 mutual
-  within_all : (P : Path → Type 0) → ((p : Path) → P p) → (p : Path) → AllWithin P p
+  pub within_all : (P : Path → Type 0) → ((p : Path) → P p) → (p : Path) → AllWithin P p
   within_all P f Nowhere = tt
   within_all P f (Arg i) = tt
   within_all P f (ConstBool ty b) = tt
@@ -151,7 +151,7 @@ testable_more env t ps tests more c h k = record {
   stands = stands_still env tests more [] (at ps c.0) (within_all (AreStill tests more) (λ p d i. h (Is p d) i) (at ps c.0)) k.stands;
 }
 
-either_later : (tests more : List Test) (y : Test) → ((x : Test) → Contains tests x → Contains more x) → (x : Test) → Contains (y ∷ tests) x → Contains (y ∷ more) x
+pub either_later : (tests more : List Test) (y : Test) → ((x : Test) → Contains tests x → Contains more x) → (x : Test) → Contains (y ∷ tests) x → Contains (y ∷ more) x
 either_later tests more y h x i = ⊎_elim (λ (e : y ≡ x). subst (Contains (y ∷ more)) e (head_contained y more)) (λ j. tail_contained y more x (h x j)) (contained_cases y tests x i)
 
 pub all_testable_more : (env : Environment) (t : Term) (ps : List Path) (tests more : List Test) (cs : List (BindingId × Constraint)) → ((x : Test) → Contains tests x → Contains more x) → AreTestable env t ps tests cs → AreTestable env t ps more cs
@@ -169,7 +169,7 @@ testable_rest : (env : Environment) (t : Term) (ps : List Path) (before : List T
 testable_rest env t ps before [] ds h = h
 testable_rest env t ps before (c ∷ cs) ds h = testable_rest env t ps (is_test ps c ∷ before) cs ds h.1
 
-testable_both : (env : Environment) (t : Term) (ps : List Path) (before : List Test) (cs ds : List (BindingId × Constraint)) → AreTestable env t ps before cs → AreTestable env t ps (came_behind before (map (is_test ps) cs)) ds → AreTestable env t ps before (cs ++ ds)
+pub testable_both : (env : Environment) (t : Term) (ps : List Path) (before : List Test) (cs ds : List (BindingId × Constraint)) → AreTestable env t ps before cs → AreTestable env t ps (came_behind before (map (is_test ps) cs)) ds → AreTestable env t ps before (cs ++ ds)
 testable_both env t ps before [] ds h k = k
 testable_both env t ps before (c ∷ cs) ds h k = (h.0, testable_both env t ps (is_test ps c ∷ before) cs ds h.1 k)
 

@@ -12,9 +12,8 @@ use Rattle.isle_core.specs.HoldsImpure.{takes_turn}
 use Rattle.isle_core.specs.Rule.{Environment}
 use Rattle.isle_blocks.specs.AskedCalls.{if_pure, asked_one, asked_binds}
 use Rattle.isle_blocks.specs.Needed.{parts_of, list_before, with_list, is_bound, each_needed, with_parts, unbound, needed, needs}
-use Rattle.isle_blocks.specs.Nest.{option_before}
 use Rattle.isle_blocks.proofs.LeftCounts.{is_used, used_push, left_of, push_less, push_one}
-use Rattle.isle_blocks.proofs.NeedsSo.{no_inner}
+use Rattle.isle_blocks.proofs.NeedsSo.{option_before, no_inner}
 use Rattle.isle_blocks.proofs.OrderItems.{AllUnder, under_append, under_more}
 use Rattle.isle_blocks.proofs.PushedBinds.{bound_append}
 

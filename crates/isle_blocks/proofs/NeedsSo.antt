@@ -5,8 +5,13 @@ use Rattle.isle_core.specs.declared.BindingId.{BindingId}
 use Rattle.isle_core.specs.declared.rule_sets.Binding.{Binding}
 use Rattle.isle_core.specs.declared.rule_sets.Binding.TheVariants as binding
 use Rattle.isle_core.specs.Bindable.{bound_by}
+use Rattle.isle_core.specs.BindingParts.{option_of}
 use Rattle.isle_blocks.specs.Needed.{list_parts, parts_of, list_before, is_bound, each_needed, with_parts, unbound, needed, needs}
-use Rattle.isle_blocks.specs.Nest.{option_before}
+
+-- the option whose inner value a binding is
+abbrev pub option_before : Option Binding → Option BindingId
+option_before None = None
+option_before (Some b) = option_of b
 
 -- what is bound where it is first read is no inner value
 pub no_inner : (bs : List Binding) (o : Option Binding) (parts : List BindingId) → parts_of bs o ≡ Some parts → option_before o ≡ None
@@ -15,9 +20,9 @@ no_inner bs (Some y) parts e = refl
 no_inner bs None parts e = refl
 
 -- what a list is made over is that of a call, also of an extractor
-pub list_plain : (o : Option Binding) (parts : List BindingId) → list_parts o ≡ Some parts → (list_before o ≡ None) × (option_before o ≡ None)
-list_plain (Some (binding.Constructor term parameters instance)) parts e = (refl, refl)
-list_plain (Some (binding.Extractor term parameter)) parts e = (refl, refl)
+pub list_plain : (o : Option Binding) (parts : List BindingId) → list_parts o ≡ Some parts → list_before o ≡ None
+list_plain (Some (binding.Constructor term parameters instance)) parts e = refl
+list_plain (Some (binding.Extractor term parameter)) parts e = refl
 list_plain o parts e = cc
 
 -- so of nothing, of what stands after one another, of an item after its list, and of each other binding

@@ -1,16 +1,13 @@
--- What may be bound or opened: an item by a Loop, an inner value by a Match if the term answers several times.
-use Rattle.std.proofs.Common.{◌≡◌, ℕ, List, [], ◌∷◌, ◌++◌, true, false, Option, Some, refl, sym, ◌∙◌}
+-- What may be bound, or opened as an item by a Loop.
+use Rattle.std.proofs.Common.{◌≡◌, ℕ, List, [], ◌∷◌, ◌++◌, true, false, Option, Some, sym, ◌∙◌}
 use Rattle.std.specs.Prelude.{slice_get, Contains}
 use Rattle.isle_core.specs.declared.BindingId.{BindingId}
 use Rattle.isle_core.specs.declared.TypeId.{TypeId}
-use Rattle.isle_core.specs.declared.types.ReturnKind.{ReturnKind}
-use Rattle.isle_core.specs.declared.types.ReturnKind.TheVariants as return_kind
 use Rattle.isle_core.specs.declared.rule_sets.Binding.{Binding}
 use Rattle.isle_core.specs.declared.rule_sets.Binding.TheVariants as binding
 use Rattle.isle_core.specs.Bindable.{IsBindable, AreBindable, bound_by}
-use Rattle.isle_core.specs.Calling.{kind_of, may_be_nothing, may_stop, is_several}
-use Rattle.isle_core.specs.Path.{Path, Chosen, Inner, at}
-use Rattle.isle_core.specs.PathType.{IsListOf, IsOptionOf}
+use Rattle.isle_core.specs.Path.{Path, Chosen, at}
+use Rattle.isle_core.specs.PathType.{IsListOf}
 use Rattle.isle_core.specs.Setting.{Setting, gives_several, paths_in}
 
 -- an item of a bound list, in a term that answers several times
@@ -21,18 +18,9 @@ pub record IsItemBound (s : Setting) (bound : List ℕ) (p : Path) (source : Bin
   pub bound' : Contains bound source.0
   pub fits : gives_several s ≡ true
 
--- an inner value of a bound option, in a term that may stop
-pub record IsInnerOpened (s : Setting) (bound : List ℕ) (p : Path) (source : BindingId) : Type 0 where
-  pub path : p ≡ Inner (at (paths_in s) source)
-  pub tys : List TypeId
-  pub option : IsOptionOf s.env s.term (at (paths_in s) source) tys
-  pub bound' : Contains bound source.0
-  pub fits : may_stop (kind_of s.term.kind) ≡ true
-
--- these, or what may stand in a bind order
+-- this, or what may stand in a bind order
 abbrev pub IsOpenable : Setting → List ℕ → Path → Option Binding → Type 0
 IsOpenable s bound p (Some (binding.Iterator source)) = IsItemBound s bound p source
-IsOpenable s bound p (Some (binding.MatchSome source)) = IsInnerOpened s bound p source
 IsOpenable s bound p o = IsBindable s bound p o
 
 -- so of each binding in order
@@ -46,14 +34,8 @@ openable_append s [] ys bound h k = k
 openable_append s (x ∷ xs) ys bound h k = (h.0, openable_append s xs ys (bound ++ x.0 ∷ []) h.1 k)
 
 -- in a term that answers once all of them may stand in a bind order
-kind_fits : (kind : ReturnKind) → is_several kind ≡ false → may_stop kind ≡ true → may_be_nothing kind ≡ true
-kind_fits return_kind.Plain e h = cc
-kind_fits return_kind.Option e h = refl
-kind_fits return_kind.Iterator e h = cc
-
 once_bindable : (s : Setting) (bound : List ℕ) (p : Path) (o : Option Binding) → gives_several s ≡ false → IsOpenable s bound p o → IsBindable s bound p o
 once_bindable s bound p (Some (binding.Iterator source)) e h = let bad = sym h.fits ∙ e in cc
-once_bindable s bound p (Some (binding.MatchSome source)) e h = record { path = h.path; tys = h.tys; option = h.option; bound' = h.bound'; fits = kind_fits (kind_of s.term.kind) e h.fits }
 once_bindable s bound p o e h = h
 
 pub all_once_bindable : (s : Setting) (order : List BindingId) (bound : List ℕ) → gives_several s ≡ false → AreOpenable s bound order → AreBindable s bound order

@@ -80,7 +80,6 @@ module _ (s : Setting) (once : EachOnce (paths_in s)) (fits : (p : Path) → Con
 
   open_new : (o : Option Binding) (bound : List ℕ) (b : BindingId) (step : SeenStep) → slice_get s.bindings b.0 ≡ o → IsAnew P s.bindings bound b → IsNewStep s (bound ++ b.0 ∷ []) step → IsNewStep s bound (open_one o b step)
   open_new (Some (binding.Iterator source)) bound b step e one h = record { items = λ more c. ((new_item bound more b source e one c, h.items (more ++ b.0 ∷ []) (covers_push s.bindings bound more b.0 c)), tt); plain = tt }
-  open_new (Some (binding.MatchSome source)) bound b step e one h = record { items = λ more c. ((h.items (more ++ b.0 ∷ []) (covers_push s.bindings bound more b.0 c), tt), tt); plain = tt }
   open_new o bound b step e one h = record { items = λ more c. h.items (more ++ b.0 ∷ []) (covers_push s.bindings bound more b.0 c); plain = (λ source is. (let bad = sym e ∙ is in cc), h.plain) }
 
   opening_new : (order : List BindingId) (c : Control) (bound : List ℕ) → AreAnew P s.bindings bound order → DoesAnew s (bound_by bound order) c → IsNewStep s bound (opening s.bindings order c)

@@ -114,7 +114,6 @@ module _ (env : Environment) (m : Meaning) (args : List Value) where
         → ((now : Known) (so : Given) → several_run env m args (paths_of bs) (alone s) now so ≡ each_choice env m args qs now so next) → (known : Known) (g : Given)
         → several_run env m args (paths_of bs) (alone (open_one o b s)) known g ≡ each_choice env m args (loop_of bs (list_before o) ++ qs) known g next
     open_run (Some (binding.Iterator source)) bound b s qs next one still h known g = loop_run (paths_of bs) b source s known g (λ now so. each_choice env m args qs now so next) one.path h
-    open_run (Some (binding.MatchSome source)) bound b s qs next one still h known g = absurd (subst (IsStill env) one.path still)
     open_run o bound b s qs next one still h known g = still_one (paths_of bs) b s known g still ∙ h known g
 
     -- its lists are gone through

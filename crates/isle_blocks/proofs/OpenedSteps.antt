@@ -1,5 +1,5 @@
 -- The step of a bind order: what holds of it, and that it is lawful.
-use Rattle.std.proofs.Common.{◌≡◌, ⊎_elim, ℕ, List, [], ◌∷◌, ◌++◌, Bool, true, false, Option, Some, None, map, refl, sym, subst, append_assoc, arith}
+use Rattle.std.proofs.Common.{◌≡◌, ⊎_elim, ℕ, List, [], ◌∷◌, ◌++◌, Bool, true, false, Option, Some, None, map, refl, sym, subst, append_assoc}
 use Rattle.std.specs.Prelude.{slice_get, Contains}
 use Rattle.std.specs.List.{AllByRecursion}
 use Rattle.std.proofs.lemmas.List.{append-nil}
@@ -7,33 +7,31 @@ use Rattle.std.proofs.lemmas.List.Elements.{Contains-append_left, Contains-appen
 use Rattle.isle_core.specs.declared.BindingId.{BindingId}
 use Rattle.isle_core.specs.declared.rule_sets.Binding.{Binding}
 use Rattle.isle_core.specs.declared.rule_sets.Binding.TheVariants as binding
-use Rattle.isle_core.specs.declared.rule_sets.Constraint.TheVariants as constraint
 use Rattle.isle_core.specs.Bindable.{IsBindable, bound_by}
-use Rattle.isle_core.specs.Block.{Stop, Control, Match, Loop, NoArm, Arm}
-use Rattle.isle_core.specs.BlockLawful.{AnOption, IsLawfulFrom, IsLawfulControl, list_at, LoopsOnce, ControlLoopsOnce}
+use Rattle.isle_core.specs.Block.{Stop, Control, Loop}
+use Rattle.isle_core.specs.BlockLawful.{IsLawfulFrom, IsLawfulControl, list_at, LoopsOnce, ControlLoopsOnce}
 use Rattle.isle_core.specs.BlockViews.{SeenStep}
 use Rattle.isle_core.specs.Occurrences.{AreNew, occurrence_at, occurrences, after_control}
 use Rattle.isle_core.specs.Path.{Path, at}
 use Rattle.isle_core.specs.Rule.{Environment}
 use Rattle.isle_core.specs.Setting.{Setting, gives_several, paths_in}
 use Rattle.isle_blocks.specs.Needed.{list_before}
-use Rattle.isle_blocks.specs.Nest.{alone, option_before, open_by, open_one, opening, opened}
+use Rattle.isle_blocks.specs.Nest.{alone, open_by, open_one, opening, opened}
 use Rattle.isle_blocks.proofs.Behind.{none_in}
 use Rattle.isle_blocks.proofs.OncePairs.{each_first, each_second, each_apart, each_both}
 use Rattle.isle_blocks.proofs.Openable.{IsOpenable, AreOpenable, all_once_bindable}
 
 -- ---- what is done
 
--- what holds of it, and of Loops and Matches round what it holds of, holds of the step
-module _ (P : Control → Type 0) (loop : (b : BindingId) (s : SeenStep) → P s.1 → P (Loop b (alone s))) (inner : (b source : BindingId) (s : SeenStep) → P s.1 → P (Match source (Arm constraint.Some (Some b ∷ []) (alone s) NoArm))) where
-  open_holds : (list option : Option BindingId) (b : BindingId) (s : SeenStep) → P s.1 → P (open_by list option b s).1
-  open_holds (Some list) option b s h = loop b s h
-  open_holds None (Some source) b s h = inner b source s h
-  open_holds None None b s h = h
+-- what holds of it, and of Loops round what it holds of, holds of the step
+module _ (P : Control → Type 0) (loop : (b : BindingId) (s : SeenStep) → P s.1 → P (Loop b (alone s))) where
+  open_holds : (list : Option BindingId) (b : BindingId) (s : SeenStep) → P s.1 → P (open_by list b s).1
+  open_holds (Some list) b s h = loop b s h
+  open_holds None b s h = h
 
   opening_holds : (bs : List Binding) (order : List BindingId) (c : Control) → P c → P (opening bs order c).1
   opening_holds bs [] c h = h
-  opening_holds bs (b ∷ order) c h = open_holds (list_before (slice_get bs b.0)) (option_before (slice_get bs b.0)) b (opening bs order c) (opening_holds bs order c h)
+  opening_holds bs (b ∷ order) c h = open_holds (list_before (slice_get bs b.0)) b (opening bs order c) (opening_holds bs order c h)
 
   pub opened_holds : (several : Bool) (bs : List Binding) (order : List BindingId) (c : Control) → P c → P (opened several bs order c).1
   opened_holds true bs order c h = opening_holds bs order c h
@@ -66,22 +64,18 @@ abbrev pub DoesOnly : (several : Bool) → Environment → List Path → (ℕ �
 DoesOnly several env ps P c = (made : List ℕ) → Within P made → Within P (after_control several env ps made c)
 
 module _ (several : Bool) (env : Environment) (bs : List Binding) (ps : List Path) (P : ℕ → Type 0) where
-  open_only : (list option : Option BindingId) (b : BindingId) (s : SeenStep) → Within P (occurrence_at env (at ps b)) → MakesOnly several env ps P s → MakesOnly several env ps P (open_by list option b s)
-  open_only (Some list) option b s here more made h =
+  open_only : (list : Option BindingId) (b : BindingId) (s : SeenStep) → Within P (occurrence_at env (at ps b)) → MakesOnly several env ps P s → MakesOnly several env ps P (open_by list b s)
+  open_only (Some list) b s here more made h =
       let none = subst (Within P) (sym (append-nil made)) h in
       only_append P (made ++ []) (after_control several env ps ((made ++ []) ++ occurrences env ps s.0) s.1) none (more (made ++ []) none)
-  open_only None (Some source) b s here more made h =
-      let none = subst (Within P) (sym (append-nil made)) h in
-      only_append P (made ++ []) (after_control several env ps ((made ++ []) ++ occurrences env ps s.0) s.1 ++ []) none
-      (only_append P (after_control several env ps ((made ++ []) ++ occurrences env ps s.0) s.1) [] (more (made ++ []) none) (only_none P))
-  open_only None None b s here more made h =
+  open_only None b s here more made h =
       subst (λ ks. Within P (after_control several env ps ks s.1)) (append_assoc made (occurrence_at env (at ps b)) (occurrences env ps s.0))
       (more (made ++ occurrence_at env (at ps b)) (only_append P made (occurrence_at env (at ps b)) h here))
 
   opening_only : (order : List BindingId) (c : Control) → Within P (occurrences env ps order) → DoesOnly several env ps P c → MakesOnly several env ps P (opening bs order c)
   opening_only [] c all h = λ made k. h (made ++ []) (subst (Within P) (sym (append-nil made)) k)
   opening_only (b ∷ order) c all h =
-      open_only (list_before (slice_get bs b.0)) (option_before (slice_get bs b.0)) b (opening bs order c) (within_first P (occurrence_at env (at ps b)) (occurrences env ps order) all)
+      open_only (list_before (slice_get bs b.0)) b (opening bs order c) (within_first P (occurrence_at env (at ps b)) (occurrences env ps order) all)
       (opening_only order c (within_second P (occurrence_at env (at ps b)) (occurrences env ps order) all) h)
 
   pub opened_only : (flag : Bool) (order : List BindingId) (c : Control) → Within P (occurrences env ps order) → DoesOnly several env ps P c → MakesOnly several env ps P (opened flag bs order c)
@@ -126,8 +120,6 @@ module _ (s : Setting) where
       → IsLawfulAlone s (bound ++ b.0 ∷ []) (made ++ occurrence_at s.env (at (paths_in s) b)) step → IsLawfulAlone s bound made (open_one o b step)
   open_lawful (Some (binding.Iterator source)) bound made more b step e one new h =
       (tt, new_none made, (one.fits, record { source = source; is = e; tys = one.tys; list = one.list; bound' = one.bound' }, subst (λ p. IsLawfulAlone s (bound ++ b.0 ∷ []) (made ++ occurrence_at s.env p) step) one.path h), tt)
-  open_lawful (Some (binding.MatchSome source)) bound made more b step e one new h =
-      (tt, new_none made, (tt, (AnOption one.tys, record { path = one.option; bound' = one.bound' }, (refl, (omega arith, (e, tt)), subst (λ p. IsLawfulAlone s (bound ++ b.0 ∷ []) (made ++ occurrence_at s.env p) step) one.path h, tt))), tt)
   open_lawful o bound made more b step e one new h = before_one bound made more b step (subst (IsBindable s bound (at (paths_in s) b)) (sym e) one) new h
 
   opening_lawful : (order : List BindingId) (c : Control) (bound made : List ℕ) → AreOpenable s bound order → AreNew made (calls order) → IsLawfulControl s (bound_by bound order) (made ++ calls order) c Stop → IsLawfulAlone s bound made (opening s.bindings order c)
@@ -146,28 +138,26 @@ module _ (s : Setting) where
 -- ---- loops
 
 -- each item is opened if its list was bound since the last Loop
-abbrev pub FreshBy : (list option : Option BindingId) → (fresh : List ℕ) → BindingId → (List ℕ → Type 0) → Type 0
-FreshBy (Some list) option fresh b rest = Contains fresh list.0 × rest []
-FreshBy None (Some source) fresh b rest = rest fresh
-FreshBy None None fresh b rest = rest (fresh ++ b.0 ∷ [])
+abbrev pub FreshBy : (list : Option BindingId) → (fresh : List ℕ) → BindingId → (List ℕ → Type 0) → Type 0
+FreshBy (Some list) fresh b rest = Contains fresh list.0 × rest []
+FreshBy None fresh b rest = rest (fresh ++ b.0 ∷ [])
 
 abbrev pub AreFresh : List Binding → List BindingId → (fresh : List ℕ) → Type 0
 AreFresh bs [] fresh = Unit {0}
-AreFresh bs (b ∷ order) fresh = FreshBy (list_before (slice_get bs b.0)) (option_before (slice_get bs b.0)) fresh b (AreFresh bs order)
+AreFresh bs (b ∷ order) fresh = FreshBy (list_before (slice_get bs b.0)) fresh b (AreFresh bs order)
 
 -- whatever was bound before
 abbrev pub AlwaysFresh : List Binding → List BindingId → Type 0
 AlwaysFresh bs order = (fresh : List ℕ) → AreFresh bs order fresh
 
-fresh_by : (list option : Option BindingId) (fresh : List ℕ) (b : BindingId) (one more : List ℕ → Type 0) → ((ks : List ℕ) → one ks → more ks) → FreshBy list option fresh b one → FreshBy list option fresh b more
-fresh_by (Some list) option fresh b one more f h = (h.0, f [] h.1)
-fresh_by None (Some source) fresh b one more f h = f fresh h
-fresh_by None None fresh b one more f h = f (fresh ++ b.0 ∷ []) h
+fresh_by : (list : Option BindingId) (fresh : List ℕ) (b : BindingId) (one more : List ℕ → Type 0) → ((ks : List ℕ) → one ks → more ks) → FreshBy list fresh b one → FreshBy list fresh b more
+fresh_by (Some list) fresh b one more f h = (h.0, f [] h.1)
+fresh_by None fresh b one more f h = f (fresh ++ b.0 ∷ []) h
 
 fresh_from : (bs : List Binding) (ys : List BindingId) → AlwaysFresh bs ys → (xs : List BindingId) (fresh : List ℕ) → AreFresh bs xs fresh → AreFresh bs (xs ++ ys) fresh
 fresh_from bs ys k [] fresh h = k fresh
 fresh_from bs ys k (x ∷ xs) fresh h =
-    fresh_by (list_before (slice_get bs x.0)) (option_before (slice_get bs x.0)) fresh x (AreFresh bs xs) (AreFresh bs (xs ++ ys)) (λ ks g. fresh_from bs ys k xs ks g) h
+    fresh_by (list_before (slice_get bs x.0)) fresh x (AreFresh bs xs) (AreFresh bs (xs ++ ys)) (λ ks g. fresh_from bs ys k xs ks g) h
 
 pub fresh_append : (bs : List Binding) (xs ys : List BindingId) → AlwaysFresh bs xs → AlwaysFresh bs ys → AlwaysFresh bs (xs ++ ys)
 fresh_append bs xs ys h k = λ fresh. fresh_from bs ys k xs fresh (h fresh)
@@ -177,12 +167,11 @@ abbrev pub LoopsAlways : Setting → Control → Type 0
 LoopsAlways s c = (fresh : List ℕ) → ControlLoopsOnce s fresh c
 
 module _ (s : Setting) where
-  open_loops : (o : Option Binding) (fresh : List ℕ) (b : BindingId) (rest : List ℕ → Type 0) (step : SeenStep) → slice_get s.bindings b.0 ≡ o → FreshBy (list_before o) (option_before o) fresh b rest
+  open_loops : (o : Option Binding) (fresh : List ℕ) (b : BindingId) (rest : List ℕ → Type 0) (step : SeenStep) → slice_get s.bindings b.0 ≡ o → FreshBy (list_before o) fresh b rest
       → ((fresh : List ℕ) → rest fresh → LoopsOnce s fresh (alone step)) → LoopsOnce s fresh (alone (open_one o b step))
   open_loops (Some (binding.Iterator source)) fresh b rest step e h k =
       let list : Contains (fresh ++ []) source.0 = subst (λ ks. Contains ks source.0) (sym (append-nil fresh)) h.0 in
       ((subst (λ o. AllByRecursion (Contains (fresh ++ [])) (list_at o)) (sym e) (list, tt), k [] h.1), tt)
-  open_loops (Some (binding.MatchSome source)) fresh b rest step e h k = ((subst (λ ks. LoopsOnce s ks (alone step)) (sym (append-nil fresh)) (k fresh h), tt), tt)
   open_loops o fresh b rest step e h k =
       (subst (λ ks. ControlLoopsOnce s ks step.1) (append_assoc fresh (b.0 ∷ []) (map (λ (x : BindingId). x.0) step.0)) (k (fresh ++ b.0 ∷ []) h).0, tt)
 

@@ -24,7 +24,6 @@ use Rattle.isle_core.specs.SeveralRun.{choosing, behind_calls, on_turns, on_item
 use Rattle.isle_core.specs.SeveralSet.{Rest, is_among, behind_answer, behind_call}
 use Rattle.isle_core.specs.Value.{Value, Answer, Made}
 use Rattle.isle_core.specs.ValueAt.{Known, value_at, values_at, is_found}
-use Rattle.isle_core.proofs.BindingPaths.{at_before}
 use Rattle.isle_core.proofs.CallsFollow.{with_else}
 use Rattle.isle_core.proofs.Contained.{head_contained, tail_contained}
 use Rattle.isle_core.proofs.FirstCalls.{IfGoes}
@@ -32,7 +31,7 @@ use Rattle.isle_core.proofs.HeldStays.{Grows}
 use Rattle.isle_core.proofs.SamePathLaws.{same_sound}
 use Rattle.isle_core.proofs.TakenItems.{by_truth}
 use Rattle.isle_blocks.specs.Needed.{list_before}
-use Rattle.isle_blocks.specs.Nest.{alone, option_before, open_by, open_one, opening}
+use Rattle.isle_blocks.specs.Nest.{alone, open_by, open_one, opening}
 use Rattle.isle_blocks.proofs.FreshLists.{IsPlainAt}
 use Rattle.isle_blocks.proofs.LawBinds.{call_made}
 use Rattle.isle_blocks.proofs.NeededRuns.{IsStill, AreStill, path_still}
@@ -142,7 +141,6 @@ module _ (env : Environment) (m : Meaning) (args : List Value) (bs : List Bindin
   -- a binding that changes nothing and is no item
   plain_one : (o : Option Binding) (b : BindingId) (s : SeenStep) → slice_get bs b.0 ≡ o → list_before o ≡ None → IsStill env (at (paths_of bs) b) → open_one o b s ≡ (b ∷ s.0, s.1)
   plain_one (Some (binding.Iterator source)) b s e none still = cc
-  plain_one (Some (binding.MatchSome source)) b s e none still = absurd (subst (IsStill env) (at_before bs b (binding.MatchSome source) e) still)
   plain_one o b s e none still = refl
 
   pub plain_run : (xs ys : List BindingId) (c : Control) → AreStill env (paths_of bs) xs → NoItems bs xs → (known : Known) (g : Given)
@@ -158,15 +156,9 @@ module _ (env : Environment) (m : Meaning) (args : List Value) (bs : List Bindin
   pub call_run : (c : BindingId) (s : SeenStep) (term : TermId) (ps : Paths) (n : ℕ) (known : Known) (g : Given) → IsPlainAt bs c → at (paths_of bs) c ≡ Called term ps n
       → several_run env m args (paths_of bs) (alone (open_one (slice_get bs c.0) c s)) known g ≡ behind_calls (make env m args (at (paths_of bs) c) known g.calls) g (several_run env m args (paths_of bs) (alone s))
   call_run c s term ps n known g plain e =
-      ap (λ o. several_run env m args (paths_of bs) (alone (open_by o (option_before (slice_get bs c.0)) c s)) known g) plain.no_item
-      ∙ ap (λ o. several_run env m args (paths_of bs) (alone (open_by None o c s)) known g) plain.no_inner
+      ap (λ o. several_run env m args (paths_of bs) (alone (open_by o c s)) known g) plain
       ∙ ap (λ w. behind_calls (then_go w (bind_all env m args (paths_of bs) s.0)) g (several_control env m args (paths_of bs) s.1)) (call_made env m args (at (paths_of bs) c) term ps n known g.calls e)
       ∙ behind_then (make env m args (at (paths_of bs) c) known g.calls) (bind_all env m args (paths_of bs) s.0) g (several_control env m args (paths_of bs) s.1)
-
-  -- its inner value, before a step
-  pub inner_run : (c b : BindingId) (s : SeenStep) (known : Known) (g : Given) → slice_get bs b.0 ≡ Some (binding.MatchSome c)
-      → several_run env m args (paths_of bs) (alone (open_one (slice_get bs b.0) b s)) known g ≡ cond (is_found (value_at env m args known (at (paths_of bs) c))) (several_run env m args (paths_of bs) (alone s) known g) g
-  inner_run c b s known g e = ap (λ o. several_run env m args (paths_of bs) (alone (open_one o b s)) known g) e
 
   -- its item, before a step
   pub item_run : (c b : BindingId) (s : SeenStep) (known : Known) (g : Given) → slice_get bs b.0 ≡ Some (binding.Iterator c) → at (paths_of bs) b ≡ Chosen (at (paths_of bs) c)

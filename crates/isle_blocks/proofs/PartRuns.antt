@@ -1,5 +1,5 @@
 -- Behind the tests and the lists of a rule, its ordered calls and its result add what its part adds.
-use Rattle.std.proofs.Common.{◌≡◌, ⊎_elim, ℕ, List, [], ◌∷◌, ◌++◌, Bool, true, false, cond, Option, Some, None, map, refl, sym, ap, ◌∙◌, subst, append_assoc}
+use Rattle.std.proofs.Common.{◌≡◌, ⊎_elim, ℕ, List, [], ◌∷◌, ◌++◌, Bool, true, false, IsTrue, cond, Option, Some, None, map, refl, sym, ap, ◌∙◌, subst, append_assoc}
 use Rattle.std.specs.Prelude.{slice_get, Contains}
 use Rattle.std.proofs.lemmas.List.{append-nil}
 use Rattle.isle_core.specs.declared.BindingId.{BindingId}
@@ -13,7 +13,7 @@ use Rattle.isle_core.specs.Answered.{Held, Absent, One, Optional, Listed}
 use Rattle.isle_core.specs.Bindable.{bound_by}
 use Rattle.isle_core.specs.Block.{Return}
 use Rattle.isle_core.specs.BlockViews.{SeenStep}
-use Rattle.isle_core.specs.Calling.{calling}
+use Rattle.isle_core.specs.Calling.{calling, kind_of, is_several, may_be_nothing}
 use Rattle.isle_core.specs.CallRun.{Went, Goes, Ends, make}
 use Rattle.isle_core.specs.ExternalCall.{IsCall}
 use Rattle.isle_core.specs.HoldsImpure.{holds_impure}
@@ -46,7 +46,7 @@ use Rattle.isle_blocks.proofs.NeededRuns.{AreStill}
 use Rattle.isle_blocks.proofs.NextLaws.{FindsNext, HasNext, has_none, has_inner, has_item, has_next}
 use Rattle.isle_blocks.proofs.OpenedRuns.{agree_within, choosing_agrees}
 use Rattle.isle_blocks.proofs.OrderedPlain.{NoItems, PlainBinds}
-use Rattle.isle_blocks.proofs.OrderedRuns.{make_grows, behind_kept, called_behind, by_kind, answered, often_is, items_alike, plain_run, call_run, inner_run, item_run}
+use Rattle.isle_blocks.proofs.OrderedRuns.{make_grows, behind_kept, called_behind, by_kind, answered, often_is, items_alike, plain_run, call_run, item_run}
 use Rattle.isle_blocks.proofs.StillRules.{StillBinds, AreTested}
 
 found_there : (h : Held) → is_found h ≡ true → IsThere h
@@ -60,7 +60,13 @@ if_goes : (P Q : Known → Type 0) (w : Went) → ((k : Known) → P k → Q k) 
 if_goes P Q (Goes k d) f h = f k h
 if_goes P Q (Ends o) f h = tt
 
-module _ (env : Environment) (t : Term) (m : Meaning) (args : List Value) (bs : List Binding) (next : ℕ → Option BindingId) (found : FindsNext bs next) (once : EachOnce (paths_of bs)) (tests : List Test) (known0 : Known) (start : List ℕ) (opened : List Path) (open' : HasOpened bs start opened)
+-- a term that answers several times answers never nothing
+never_nothing : (kind : ReturnKind) → is_several kind ≡ true → IsTrue (may_be_nothing kind) → ⊥
+never_nothing return_kind.Plain e h = cc
+never_nothing return_kind.Option e h = cc
+never_nothing return_kind.Iterator e h = cc
+
+module _ (env : Environment) (t : Term) (often : is_several (kind_of t.kind) ≡ true) (m : Meaning) (args : List Value) (bs : List Binding) (next : ℕ → Option BindingId) (found : FindsNext bs next) (once : EachOnce (paths_of bs)) (tests : List Test) (known0 : Known) (start : List ℕ) (opened : List Path) (open' : HasOpened bs start opened)
     (tested : AreTested env bs next tests start) (all : all_hold env m (value_at env m args known0) tests ≡ true) (early : (q : Path) → Contains opened q → holds_impure env q ≡ false) (pos : Pos) (result : BindingId) where
   -- more is known, and no other items are chosen of the lists that were opened
   pub record IsLater (now : Known) : Type 0 where
@@ -115,23 +121,17 @@ module _ (env : Environment) (t : Term) (m : Meaning) (args : List Value) (bs : 
   run_of s known g = several_run env m args (paths_of bs) (alone s) known g
 
   call_here : (c : BindingId) (done : List Path) (tail : List BindingId) (rest : Rest) (call : IsSerializableCall env t tests (paths_of bs) done (at (paths_of bs) c)) → IsPlainAt bs c → (calls_multi env (at (paths_of bs) c) ≡ true → holds_impure env (at (paths_of bs) c) ≡ true)
-      → ((now : Known) (so : Given) → IsLater now → run_of (step_of tail) now so ≡ rest (at (paths_of bs) c ∷ done) now so) → (kind : ReturnKind) → IsCall kind (calling env call.term) → HasNext bs next c kind → (known : Known) (g : Given) → IsLater known
+      → ((now : Known) (so : Given) → IsLater now → run_of (step_of tail) now so ≡ rest (at (paths_of bs) c ∷ done) now so) → (kind : ReturnKind) → (IsTrue (may_be_nothing kind) → ⊥) → IsCall kind (calling env call.term) → HasNext bs next c kind → (known : Known) (g : Given) → IsLater known
       → run_of (step_of (with_inner (next c.0) c ++ tail)) known g
       ≡ behind_calls (make env m args (at (paths_of bs) c) known g.calls) g (λ now so. by_kind kind (at (paths_of bs) c) (value_at env m args now (at (paths_of bs) c)) (at (paths_of bs) c ∷ done) now so rest)
-  call_here c done tail rest call plain late h return_kind.Plain is (has_none one no_inner no_item) known g l =
+  call_here c done tail rest call plain late h return_kind.Plain never is (has_none one no_inner no_item) known g l =
       let p = at (paths_of bs) c in
       ap (λ o. run_of (step_of (with_inner o c ++ tail)) known g) one
       ∙ call_run env m args bs c (step_of tail) call.term call.parameters call.instance known g plain call.path
       ∙ behind_kept (make env m args p known g.calls) g IsLater (run_of (step_of tail)) (λ now so. rest (p ∷ done) now so) (if_goes (Grows known) IsLater (make env m args p known g.calls) (λ k grown. later_grows known k l grown) (make_grows env m args p known g.calls))
       (λ k so later. h k so later)
-  call_here c done tail rest call plain late h return_kind.Option is (has_inner b one stands path no_item) known g l =
-      let p = at (paths_of bs) c in
-      ap (λ o. run_of (step_of (with_inner o c ++ tail)) known g) one
-      ∙ call_run env m args bs c (step_of (b ∷ tail)) call.term call.parameters call.instance known g plain call.path
-      ∙ behind_kept (make env m args p known g.calls) g IsLater (run_of (step_of (b ∷ tail))) (λ now so. cond (is_found (value_at env m args now p)) (rest (p ∷ done) now so) so)
-      (if_goes (Grows known) IsLater (make env m args p known g.calls) (λ k grown. later_grows known k l grown) (make_grows env m args p known g.calls))
-      (λ k so later. inner_run env m args bs c b (step_of tail) k so stands ∙ ap (λ x. cond (is_found (value_at env m args k p)) x so) (h k so later))
-  call_here c done tail rest call plain late h return_kind.Iterator is (has_item b one stands path no_inner) known g l =
+  call_here c done tail rest call plain late h return_kind.Option never is (has_inner b one stands path no_item) known g l = absurd (never refl)
+  call_here c done tail rest call plain late h return_kind.Iterator never is (has_item b one stands path no_inner) known g l =
       let p = at (paths_of bs) c in
       let often : calls_multi env p ≡ true = subst (λ q. calls_multi env q ≡ true) (sym call.path) (often_is (calling env call.term) is) in
       let new : Contains opened p → ⊥ = λ there. true_false (sym (late often) ∙ early p there) in
@@ -203,5 +203,5 @@ module _ (env : Environment) (t : Term) (m : Meaning) (args : List Value) (bs : 
           let tail = binds bs next more left ++ ns in
           ap (λ xs. run_of (step_of xs) known g) (append_assoc (reads ++ with_inner (next c.0) c) (binds bs next more left) ns ∙ append_assoc reads (with_inner (next c.0) c) tail)
           ∙ plain_run env m args bs reads (with_inner (next c.0) c ++ tail) (Return pos result) k.0 n.0 known g
-          ∙ call_here c done tail rest call plain.0 late_here (h more k.1 n.1) call.kind call.external has known g l
+          ∙ call_here c done tail rest call plain.0 late_here (h more k.1 n.1) call.kind (λ nothing. never_nothing (kind_of t.kind) often (call.fits nothing)) call.external has known g l
           ∙ sym goes

@@ -1,7 +1,6 @@
 -- What stands in a list that one item was added to.
 use Rattle.std.proofs.Common.{◌≡◌, ◌⊎◌, inl, inr, ⊎_elim, ℕ, zero, suc, List, [], ◌∷◌, ◌++◌, length, Some, refl, ap}
 use Rattle.std.specs.Prelude.{slice_get}
-use Rattle.isle_core.proofs.OptionLaws.{some_same}
 
 pub get_push : {A : Type 0} (xs : List A) (y : A) (b : ℕ) (x : A) → slice_get xs b ≡ Some x → slice_get (xs ++ y ∷ []) b ≡ Some x
 get_push [] y b x e = cc

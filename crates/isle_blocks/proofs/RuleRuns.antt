@@ -1,16 +1,14 @@
 -- What tests, lists and calls of a rule of a term that answers several times add, after others.
-use Rattle.std.proofs.Common.{◌≡◌, ◌⊎◌, inl, inr, ⊎_elim, ℕ, List, [], ◌∷◌, ◌++◌, Bool, true, false, cond, ◌&&◌, Option, Some, None, map, refl, sym, ap, ◌∙◌, subst, zero, suc, get_or, take}
-use Rattle.std.specs.Prelude.{slice_get, Contains}
+use Rattle.std.proofs.Common.{◌≡◌, ⊎_elim, ℕ, List, [], ◌∷◌, ◌++◌, Bool, true, false, cond, ◌&&◌, Option, Some, None, map, refl, sym, ap, ◌∙◌, subst, inr}
+use Rattle.std.specs.Prelude.{Contains}
 use Rattle.std.specs.List.{AllByRecursion}
 use Rattle.std.proofs.lemmas.List.{append-nil}
 use Rattle.isle_core.specs.declared.BindingId.{BindingId}
 use Rattle.isle_core.specs.declared.rule_sets.Binding.{Binding}
-use Rattle.isle_core.specs.declared.rule_sets.Binding.TheVariants as binding
 use Rattle.isle_core.specs.declared.rule_sets.Constraint.{Constraint}
-use Rattle.isle_core.specs.declared.rule_sets.Constraint.TheVariants as constraint
 use Rattle.isle_core.specs.declared.rule_sets.FlatRule.{FlatRule}
 use Rattle.isle_core.specs.declared.types.Term.{Term}
-use Rattle.isle_core.specs.ArmPlaces.{AreParts, ArePlacesOf, bound_within}
+use Rattle.isle_core.specs.ArmPlaces.{bound_within}
 use Rattle.isle_core.specs.Bindable.{bound_by}
 use Rattle.isle_core.specs.Block.{Control, Match, Equal, Return, Arm, NoArm}
 use Rattle.isle_core.specs.BlockViews.{SeenStep}
@@ -19,7 +17,7 @@ use Rattle.isle_core.specs.Choices.{each_choice}
 use Rattle.isle_core.specs.HoldsImpure.{holds_impure}
 use Rattle.isle_core.specs.Meaning.{Meaning}
 use Rattle.isle_core.specs.Parts.{Given}
-use Rattle.isle_core.specs.Path.{Path, Nowhere, Chosen, at, paths_of}
+use Rattle.isle_core.specs.Path.{Path, Chosen, at, paths_of}
 use Rattle.isle_core.specs.Rule.{Environment}
 use Rattle.isle_core.specs.RuleSet.{is_test, equal_test}
 use Rattle.isle_core.specs.Serializable.{StandsOn, AreTestable, AreComparable, IsSerializableList, constraint_tests, IsSerializableRule}
@@ -44,10 +42,9 @@ use Rattle.isle_blocks.proofs.FreshLists.{ordered_plain}
 use Rattle.isle_blocks.proofs.ItemPaths.{item_path}
 use Rattle.isle_blocks.proofs.LawBound.{came_behind, came_holds, came_from, stands_more, binds_all}
 use Rattle.isle_blocks.proofs.LawSerializable.{bound_has, list_there, left_ready, behind_still, test_ready, within_arm}
-use Rattle.isle_blocks.proofs.ListsRead.{need_lists, loops, came_append, order_append, HasOpened, opened_push, read_within, OpensOrder, order_opens}
+use Rattle.isle_blocks.proofs.ListsRead.{need_lists, loops, came_append, order_append, HasOpened, read_within, OpensOrder, order_opens}
 use Rattle.isle_blocks.proofs.MadeBefore.{IsWithin, within_needs, was_tested}
 use Rattle.isle_blocks.proofs.MoreBound.{by_kept}
-use Rattle.isle_core.proofs.BindingPaths.{at_before}
 use Rattle.isle_blocks.proofs.OrderItems.{NeedLists}
 use Rattle.isle_blocks.proofs.NeededBound.{is_marked, all_read_as, needs_read, items_needed}
 use Rattle.isle_blocks.proofs.NeededRuns.{AreStill}
@@ -56,6 +53,7 @@ use Rattle.isle_blocks.proofs.Openable.{AreOpenable}
 use Rattle.isle_blocks.proofs.OpenedRuns.{choosing_within, ReadsOnly, order_free, each_append, each_same, order_run}
 use Rattle.isle_blocks.proofs.OrderedPlain.{no_items, items_made, early_made, late_made, binds_plain}
 use Rattle.isle_blocks.proofs.PartRuns.{ordered_run}
+use Rattle.isle_blocks.proofs.PlacesOpened.{places_opened}
 use Rattle.isle_blocks.proofs.RuleLists.{Within, last_lists, equated_lists, matched_lists, early_of, early_in, early_from, all_opened}
 
 -- tests after one another
@@ -178,36 +176,6 @@ module _ (env : Environment) (t : Term) (bs : List Binding) (found : FieldKey �
 
   -- ---- constraints
 
-  -- one among the first n paths, or none
-  taken_or : (qs : List Path) (n i : ℕ) → (get_or (take n qs) i Nowhere ≡ get_or qs i Nowhere) ⊎ (get_or (take n qs) i Nowhere ≡ Nowhere)
-  taken_or qs zero i = inr refl
-  taken_or [] (suc n) i = inl refl
-  taken_or (q ∷ qs) (suc n) zero = inl refl
-  taken_or (q ∷ qs) (suc n) (suc i) = taken_or qs n i
-
-  source_within : (opened' : List Path) (source b : BindingId) → ListsWithin opened' (at ps source) → ListsWithin opened' (get_or (take b.0 ps) source.0 Nowhere)
-  source_within opened' source b within = ⊎_elim (λ e. subst (ListsWithin opened') (sym e) within) (λ e. subst (ListsWithin opened') (sym e) tt) (taken_or ps b.0 source.0)
-
-  -- what stands in the places of an arm
-  parts_opened : (opened' : List Path) (part : ℕ → Binding) → ((i : ℕ) (b : BindingId) → slice_get bs b.0 ≡ Some (part i) → ListsWithin opened' (at ps b)) → (places : List (Option BindingId)) (i : ℕ) (bound : List ℕ) → AreParts (setting env t bs) part i places
-      → HasOpened bs bound opened' → HasOpened bs (bound_within bound places) opened'
-  parts_opened opened' part ok [] i bound are k = k
-  parts_opened opened' part ok (None ∷ places) i bound are k = parts_opened opened' part ok places (suc i) bound are.1 k
-  parts_opened opened' part ok (Some b ∷ places) i bound are k = parts_opened opened' part ok places (suc i) (bound ++ b.0 ∷ []) are.1 (opened_push bs bound opened' b k (ok i b are.0))
-
-  pub places_opened : (opened' : List Path) (source : BindingId) (c : Constraint) (places : List (Option BindingId)) (bound : List ℕ) → ListsWithin opened' (at ps source) → ArePlacesOf (setting env t bs) source c places → HasOpened bs bound opened' → HasOpened bs (bound_within bound places) opened'
-  places_opened opened' source (constraint.Variant ty variant) places bound within are k =
-      parts_opened opened' (λ i. binding.MatchVariant source variant (record { 0 = i }))
-      (λ i b e. subst (ListsWithin opened') (sym (at_before bs b (binding.MatchVariant source variant (record { 0 = i })) e)) (source_within opened' source b within)) places 0 bound are.1 k
-  places_opened opened' source (constraint.Struct ty) places bound within are k =
-      parts_opened opened' (λ i. binding.ExtractStruct source (record { 0 = i }))
-      (λ i b e. subst (ListsWithin opened') (sym (at_before bs b (binding.ExtractStruct source (record { 0 = i })) e)) (source_within opened' source b within)) places 0 bound are.1 k
-  places_opened opened' source constraint.Some places bound within are k =
-      parts_opened opened' (λ i. binding.MatchSome source) (λ i b e. subst (ListsWithin opened') (sym (at_before bs b (binding.MatchSome source) e)) (source_within opened' source b within)) places 0 bound are.1 k
-  places_opened opened' source (constraint.ConstBool val) places bound within are k = subst (λ xs. HasOpened bs (bound_within bound xs) opened') (sym are) k
-  places_opened opened' source (constraint.ConstInt val ty) places bound within are k = subst (λ xs. HasOpened bs (bound_within bound xs) opened') (sym are) k
-  places_opened opened' source (constraint.ConstPrim val) places bound within are k = subst (λ xs. HasOpened bs (bound_within bound xs) opened') (sym are) k
-
   pub matched_adds : (cs : List (BindingId × Constraint)) (before left : List Test) (inner : Behind) (after : Within) → Inside (came_behind before (map (is_test ps) cs)) left inner after → AreTestable env t ps before cs
       → AllByRecursion (λ (c : BindingId × Constraint). ListsWithin all (at ps c.0)) cs → Inside before (map (is_test ps) cs ++ left) (all_matched true bs (shows found counts inners) cs inner) (matched_lists bs (shows found counts inners) cs after)
   matched_adds [] before left inner after inside ready within bound opened' k = inside bound opened' k
@@ -222,7 +190,7 @@ module _ (env : Environment) (t : Term) (bs : List Binding) (found : FieldKey �
       let opened1 = came_behind opened' (loops bs ns) in
       let source = r.within opened1 opens.opens in
       let shown = within_arm true env t bs found counts inners next items is finds found_inners found_items found_next once typed fits before bound c k.within r in
-      let inside_arm : IsAt (is_test ps c ∷ before) arm opened1 = record { within = shown; opens = places_opened opened1 c.0 c.1 places behind source r.places' opens.opens; each = each_came opened' (loops bs ns) k.each opens.each } in
+      let inside_arm : IsAt (is_test ps c ∷ before) arm opened1 = record { within = shown; opens = places_opened env t bs opened1 c.0 c.1 places behind source r.places' opens.opens; each = each_came opened' (loops bs ns) k.each opens.each } in
       let step = all_matched true bs (shows found counts inners) cs inner arm in
       test_adds bound opened' ns (Match c.0 (Arm c.1 places (alone step) NoArm)) step (Is (at ps c.0) c.1) (map (is_test ps) cs ++ left) (matched_lists bs (shows found counts inners) cs after arm) r.binds r.still opens
       (λ m args known g. refl) (constraint_reads opened1 c.0 c.1 source) (matched_adds cs (is_test ps c ∷ before) left inner after inside ready.1 within.1 arm opened1 inside_arm)
@@ -274,7 +242,7 @@ module _ (env : Environment) (t : Term) (bs : List Binding) (found : FieldKey �
       let r = needs_read env t bs tests done fits behind (f.result ∷ []) (t.ret_ty ∷ []) made.behind (h.result, tt) (stands, tt) in
       let at_result = need_lists env tests done all (opened' ++ done) (early_made env t bs fits tests next found_next once all opened' opens' bound k.opens.items done) (late_made env t bs fits tests next found_next once all opened' opens' bound k.opens.items done) (at ps f.result) stands lists.result in
       let none = no_items env t bs (opened' ++ done) ns behind (items_made env t bs fits tests next found_next once all opened' opens' bound k.opens.items done behind (by_kept order bound) made.behind) r.binds (r.items (opened' ++ done) (at_result, tt)) in
-      ordered_run env t m args bs next found_next once tests known bound opened' k.opens (was_tested env bs next tests bound k.within.tested) holds' (λ q c. (early_from env all q (k.each q c)).1) f.pos f.result
+      ordered_run env t is m args bs next found_next once tests known bound opened' k.opens (was_tested env bs next tests bound k.within.tested) holds' (λ q c. (early_from env all q (k.each q c)).1) f.pos f.result
       ns r.still none f.ordered bound [] h.calls (ordered_plain env t tests bs f.ordered h.calls) still.0 plain lists.ordered.once (λ q c d. none_contained q c) (λ q c e. lists.ordered.late q c e) known g (record { answers = λ n a e. e; choice = λ q c. refl })
 
   pub last_adds : Inside tests [] (last_step true bs next items f) (last_lists bs items f)

@@ -1,5 +1,5 @@
 -- The impure calls of rules in another order.
-use Rattle.std.proofs.Common.{◌⊎◌, ⊎_elim, ℕ, List, ◌++◌}
+use Rattle.std.proofs.Common.{⊎_elim, ℕ, List, ◌++◌}
 use Rattle.std.specs.Prelude.{Contains}
 use Rattle.std.proofs.lemmas.List.Elements.{Contains-append_left, Contains-append_right, Contains-append_cases}
 use Rattle.isle_core.specs.declared.rule_sets.FlatRule.{FlatRule}

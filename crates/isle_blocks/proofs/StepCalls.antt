@@ -1,5 +1,5 @@
 -- What is known after the bind order of a step, in a term that answers several times.
-use Rattle.std.proofs.Common.{◌≡◌, ◌⊎◌, inl, inr, ⊎_elim, ℕ, List, [], ◌∷◌, Bool, true, false, cond, eqb, Option, Some, None, take, refl, sym, ap, ◌∙◌, subst}
+use Rattle.std.proofs.Common.{◌≡◌, ◌⊎◌, inl, inr, ⊎_elim, ℕ, List, [], ◌∷◌, ◌++◌, Bool, true, false, cond, eqb, Option, Some, None, take, refl, sym, ap, ◌∙◌, subst}
 use Rattle.std.specs.Prelude.{slice_get, Contains}
 use Rattle.std.specs.List.{AllByRecursion}
 use Rattle.std.proofs.lemmas.Bool.{eqb-true}
@@ -7,30 +7,28 @@ use Rattle.std.proofs.lemmas.List.Elements.{Contains-append_left, Contains-appen
 use Rattle.isle_core.specs.declared.BindingId.{BindingId}
 use Rattle.isle_core.specs.declared.rule_sets.Binding.{Binding}
 use Rattle.isle_core.specs.declared.rule_sets.Binding.TheVariants as binding
-use Rattle.isle_core.specs.declared.rule_sets.Constraint.{Constraint}
+use Rattle.isle_core.specs.declared.types.ReturnKind.{ReturnKind}
+use Rattle.isle_core.specs.declared.types.ReturnKind.TheVariants as return_kind
 use Rattle.isle_core.specs.declared.values.Callee.{Callee}
-use Rattle.isle_core.specs.ArmPlaces.{bound_within}
-use Rattle.isle_core.specs.Bindable.{bound_by}
-use Rattle.isle_core.specs.Block.{Control, Match, Equal, Loop, Return, Arm, NoArm}
+use Rattle.isle_core.specs.Bindable.{IsBindable, AreBindable}
+use Rattle.isle_core.specs.Block.{Control, Match, Equal, Loop, Return}
 use Rattle.isle_core.specs.BlockRun.{bind_one, bind_all, check_inner}
-use Rattle.isle_core.specs.BlockViews.{SeenStep}
-use Rattle.isle_core.specs.Calling.{Calling, ByTurns, ByCases, NoCall, calling}
+use Rattle.isle_core.specs.Calling.{Calling, ByTurns, ByCases, NoCall, calling, kind_of, is_several, may_be_nothing}
 use Rattle.isle_core.specs.CallRun.{Went, Goes, Ends, then_go, take_turn, make_call, make}
 use Rattle.isle_core.specs.Match.{with}
 use Rattle.isle_core.specs.Meaning.{Meaning, turn}
 use Rattle.isle_core.specs.Occurrences.{occurrence, occurrence_at, occurrences, after_control, after_arms, after_block}
 use Rattle.isle_core.specs.Parts.{Given}
-use Rattle.isle_core.specs.Path.{Path, Called, Inner, at, path_over, paths_of}
+use Rattle.isle_core.specs.Path.{Path, Called, Inner, at, path_over}
 use Rattle.isle_core.specs.Rule.{Environment}
 use Rattle.isle_core.specs.SeveralRun.{behind_calls}
+use Rattle.isle_core.specs.Setting.{Setting, gives_several, paths_in}
 use Rattle.isle_core.specs.Value.{Value, Answer, Made}
 use Rattle.isle_core.specs.ValueAt.{Known, values_at, answered_too}
 use Rattle.isle_core.proofs.BindingPaths.{IsThere, at_before, binding_at}
 use Rattle.isle_core.proofs.Contained.{head_contained}
 use Rattle.isle_core.proofs.HeldStays.{Grows}
 use Rattle.isle_blocks.specs.Added.{KnowsOnly}
-use Rattle.isle_blocks.specs.Needed.{list_before, needs}
-use Rattle.isle_blocks.specs.Nest.{Shows, Behind, alone, option_before, open_by, opening, all_matched, all_equated}
 use Rattle.isle_blocks.proofs.OpenedSteps.{Within}
 
 -- ---- what is known after bindings
@@ -142,42 +140,24 @@ module _ (env : Environment) (m : Meaning) (args : List Value) where
 
 -- ---- a step's own order
 
--- none is an inner value
-abbrev pub NoInners : List Binding → List BindingId → Type 0
-NoInners bs order = AllByRecursion (λ (b : BindingId). option_before (slice_get bs b.0) ≡ None) order
-
-open_plain : (bs : List Binding) (b : BindingId) (s : SeenStep) (list option : Option BindingId) → option_before (slice_get bs b.0) ≡ option → NoInners bs s.0 → NoInners bs (open_by list option b s).0
-open_plain bs b s (Some list) option e h = tt
-open_plain bs b s None (Some source) e h = tt
-open_plain bs b s None None e h = (e, h)
-
-pub opening_plain : (bs : List Binding) (order : List BindingId) (c : Control) → NoInners bs (opening bs order c).0
-opening_plain bs [] c = tt
-opening_plain bs (b ∷ order) c = open_plain bs b (opening bs order c) (list_before (slice_get bs b.0)) (option_before (slice_get bs b.0)) refl (opening_plain bs order c)
-
-pub equated_plain : (bs : List Binding) (es : List (BindingId × BindingId)) (inner : Behind) → ((bound : List ℕ) → NoInners bs (inner bound).0) → (bound : List ℕ) → NoInners bs (all_equated true bs es inner bound).0
-equated_plain bs [] inner h bound = h bound
-equated_plain bs (e ∷ es) inner h bound = opening_plain bs (needs bs bound (e.0 ∷ e.1 ∷ [])) (Equal e.0 e.1 (alone (all_equated true bs es inner (bound_by bound (needs bs bound (e.0 ∷ e.1 ∷ []))))))
-
-pub matched_plain : (bs : List Binding) (places : Shows) (cs : List (BindingId × Constraint)) (inner : Behind) → ((bound : List ℕ) → NoInners bs (inner bound).0) → (bound : List ℕ) → NoInners bs (all_matched true bs places cs inner bound).0
-matched_plain bs places [] inner h bound = h bound
-matched_plain bs places (c ∷ cs) inner h bound =
-    let ns = needs bs bound (c.0 ∷ []) in
-    opening_plain bs ns (Match c.0 (Arm c.1 (places c.0 c.1) (alone (all_matched true bs places cs inner (bound_within (bound_by bound ns) (places c.0 c.1)))) NoArm))
-
--- an inner value is bound as one
-not_inner : (bs : List Binding) (b : BindingId) → option_before (slice_get bs b.0) ≡ None → (q : Path) → at (paths_of bs) b ≡ Inner q → ⊥
-not_inner bs b none q e =
-    let x = binding_at bs b (subst IsThere (sym e) tt) in
-    pick x.0 (sym (ap option_before x.1) ∙ none) (sym (at_before bs b x.0 x.1) ∙ e)
+-- what may be bound in a term that answers several times is no inner value
+not_inner : (s : Setting) (bound : List ℕ) (b : BindingId) → gives_several s ≡ true → IsBindable s bound (at (paths_in s) b) (slice_get s.bindings b.0) → (q : Path) → at (paths_in s) b ≡ Inner q → ⊥
+not_inner s bound b often h q e =
+    let x = binding_at s.bindings b (subst IsThere (sym e) tt) in
+    pick x.0 (subst (IsBindable s bound (at (paths_in s) b)) x.1 h) (sym (at_before s.bindings b x.0 x.1) ∙ e)
   where
-    pick : (x : Binding) → option_before (Some x) ≡ None → path_over (take b.0 (paths_of bs)) x ≡ Inner q → ⊥
-    pick (binding.MatchSome source) no' k = cc
-    pick x no' k = cc
+    never : (kind : ReturnKind) → is_several kind ≡ true → may_be_nothing kind ≡ true → ⊥
+    never return_kind.Plain is nothing = cc
+    never return_kind.Option is nothing = cc
+    never return_kind.Iterator is nothing = cc
 
-pub all_not_inner : (bs : List Binding) (order : List BindingId) → NoInners bs order → AllByRecursion (λ (b : BindingId). (q : Path) → at (paths_of bs) b ≡ Inner q → ⊥) order
-all_not_inner bs [] h = tt
-all_not_inner bs (b ∷ order) h = (not_inner bs b h.0, all_not_inner bs order h.1)
+    pick : (x : Binding) → IsBindable s bound (at (paths_in s) b) (Some x) → path_over (take b.0 (paths_in s)) x ≡ Inner q → ⊥
+    pick (binding.MatchSome source) k is = never (kind_of s.term.kind) often k.fits
+    pick x k is = cc
+
+pub all_not_inner : (s : Setting) (order : List BindingId) (bound : List ℕ) → gives_several s ≡ true → AreBindable s bound order → AllByRecursion (λ (b : BindingId). (q : Path) → at (paths_in s) b ≡ Inner q → ⊥) order
+all_not_inner s [] bound often h = tt
+all_not_inner s (b ∷ order) bound often h = (not_inner s bound b often h.0, all_not_inner s order (bound ++ b.0 ∷ []) often h.1)
 
 -- where a step goes on, its own calls were made
 pub after_has : (env : Environment) (ps : List Path) (P : ℕ → Type 0) (c : Control) (made : List ℕ) → Within P (after_control true env ps made c) → Within P made

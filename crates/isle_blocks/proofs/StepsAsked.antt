@@ -18,9 +18,10 @@ use Rattle.isle_core.proofs.Contained.{head_contained, tail_contained, contained
 use Rattle.isle_blocks.specs.AskedCalls.{asked_one, asked_binds, asked_control}
 use Rattle.isle_blocks.specs.LoopFree.{HasNoLoopWithin}
 use Rattle.isle_blocks.specs.Needed.{list_before, is_bound, needs, parameters_of}
-use Rattle.isle_blocks.specs.Nest.{with_inner, call_binds, binds, was_bound, left_one, left_calls, left_item, items_left, left_items, last_binds, alone, option_before, open_by, opening, opened, Shows, Behind, last_step, all_matched, all_equated}
+use Rattle.isle_blocks.specs.Nest.{with_inner, call_binds, binds, was_bound, left_one, left_calls, left_item, items_left, left_items, last_binds, alone, open_by, opening, opened, Shows, Behind, last_step, all_matched, all_equated}
 use Rattle.isle_blocks.proofs.LeftCounts.{is_used, used_push, left_of, order_less, places_less, push_one}
 use Rattle.isle_blocks.proofs.NeedsAsked.{one_at_most, item_not_asked, inner_not_asked, asked_append, is_none, plain, IsClosed, needs_ask}
+use Rattle.isle_blocks.proofs.NeedsSo.{option_before}
 use Rattle.isle_blocks.proofs.NextLaws.{FindsNext}
 use Rattle.isle_blocks.proofs.PushedBinds.{bound_append}
 
@@ -30,15 +31,14 @@ use Rattle.isle_blocks.proofs.PushedBinds.{bound_append}
 abbrev pub asked_step : Environment → List Binding → SeenStep → ℕ
 asked_step env bs s = asked_binds env bs s.0 + asked_control env bs s.1
 
-open_asks : (env : Environment) (bs : List Binding) (list option : Option BindingId) (b : BindingId) (t : SeenStep) → asked_step env bs (open_by list option b t) ≤ asked_one env (slice_get bs b.0) + asked_step env bs t
-open_asks env bs (Some list) option b t = omega arith
-open_asks env bs None (Some source) b t = omega arith
-open_asks env bs None None b t = omega arith
+open_asks : (env : Environment) (bs : List Binding) (list : Option BindingId) (b : BindingId) (t : SeenStep) → asked_step env bs (open_by list b t) ≤ asked_one env (slice_get bs b.0) + asked_step env bs t
+open_asks env bs (Some list) b t = omega arith
+open_asks env bs None b t = omega arith
 
 opening_asks : (env : Environment) (bs : List Binding) (order : List BindingId) (c : Control) → asked_step env bs (opening bs order c) ≤ asked_binds env bs order + asked_control env bs c
 opening_asks env bs [] c = omega arith
 opening_asks env bs (b ∷ order) c =
-    let one = open_asks env bs (list_before (slice_get bs b.0)) (option_before (slice_get bs b.0)) b (opening bs order c) in
+    let one = open_asks env bs (list_before (slice_get bs b.0)) b (opening bs order c) in
     let rest = opening_asks env bs order c in
     omega (arith, one, rest)
 
@@ -57,15 +57,14 @@ HasNoItem bs order = AllByRecursion (λ (b : BindingId). list_before (slice_get 
 abbrev pub IsLoopFree : Bool → SeenStep → Type 0
 IsLoopFree several s = several ≡ true → HasNoLoopWithin s.1
 
-open_free : (bs : List Binding) (list option : Option BindingId) (b : BindingId) (t : SeenStep) → HasNoLoopWithin (open_by list option b t).1 → (list ≡ None) × HasNoLoopWithin t.1
-open_free bs (Some list) option b t h = absurd h
-open_free bs None (Some source) b t h = (refl, h.0.0)
-open_free bs None None b t h = (refl, h)
+open_free : (bs : List Binding) (list : Option BindingId) (b : BindingId) (t : SeenStep) → HasNoLoopWithin (open_by list b t).1 → (list ≡ None) × HasNoLoopWithin t.1
+open_free bs (Some list) b t h = absurd h
+open_free bs None b t h = (refl, h)
 
 opening_free : (bs : List Binding) (order : List BindingId) (c : Control) → HasNoLoopWithin (opening bs order c).1 → HasNoItem bs order × HasNoLoopWithin c
 opening_free bs [] c h = (tt, h)
 opening_free bs (b ∷ order) c h =
-    let one = open_free bs (list_before (slice_get bs b.0)) (option_before (slice_get bs b.0)) b (opening bs order c) h in
+    let one = open_free bs (list_before (slice_get bs b.0)) b (opening bs order c) h in
     let rest = opening_free bs order c one.1 in
     ((one.0, rest.0), rest.1)
 

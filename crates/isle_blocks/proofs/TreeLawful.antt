@@ -42,7 +42,7 @@ use Rattle.isle_blocks.proofs.LawBound.{came_behind}
 use Rattle.isle_blocks.proofs.LawSerializable.{IsReturn, before_others, matched_ends, IsTestReady, IsGoodStep, test_ready, within_arm, matched_good, equated_good, last_good}
 use Rattle.isle_blocks.proofs.MadeBefore.{IsWithin, within_same, within_needs}
 use Rattle.isle_blocks.proofs.MoreBound.{by_kept, still_lawful}
-use Rattle.isle_blocks.proofs.NeededRuns.{IsStill, AreStill, needs_uncalled}
+use Rattle.isle_blocks.proofs.NeededRuns.{needs_uncalled}
 use Rattle.isle_blocks.proofs.NextLaws.{FindsNext}
 use Rattle.isle_blocks.proofs.OncePairs.{each_first, each_second, each_apart, each_both}
 use Rattle.isle_blocks.proofs.Openable.{IsOpenable, AreOpenable, all_once_bindable}
@@ -59,7 +59,7 @@ needs_called (ByTurns callee kind) X h = tt
 needs_called (ByCases callee kind) X h = h
 needs_called NoCall X h = h
 
-both_free : (a b : Bool) → (a && b) ≡ true → (a ≡ true) × (b ≡ true)
+pub both_free : (a b : Bool) → (a && b) ≡ true → (a ≡ true) × (b ≡ true)
 both_free true b e = (refl, e)
 both_free false b e = absurd cc
 
@@ -86,16 +86,14 @@ mutual
   all_free_lists NoPath env qs e = tt
   all_free_lists (APath p ps) env qs e = let k = both_free (is_free p) (are_free ps) e in (free_lists p env qs k.0, all_free_lists ps env qs k.1)
 
--- what may be opened and is neither an item nor an inner value may stand in a bind order
-plain_bindable : (s : Setting) (bound : List ℕ) (p : Path) (o : Option Binding) → list_before o ≡ None → IsStill s.env p → IsOpenable s bound p o → IsBindable s bound p o
-plain_bindable s bound p (Some (binding.Iterator source)) e still h = absurd cc
-plain_bindable s bound p (Some (binding.MatchSome source)) e still h = absurd (subst (IsStill s.env) h.path still)
-plain_bindable s bound p o e still h = h
+-- what may be opened and is no item may stand in a bind order
+plain_bindable : (s : Setting) (bound : List ℕ) (p : Path) (o : Option Binding) → list_before o ≡ None → IsOpenable s bound p o → IsBindable s bound p o
+plain_bindable s bound p (Some (binding.Iterator source)) e h = absurd cc
+plain_bindable s bound p o e h = h
 
-pub all_plain_bindable : (s : Setting) (order : List BindingId) (bound : List ℕ) → NoItems s.bindings order → AreStill s.env (paths_in s) order → AreOpenable s bound order → AreBindable s bound order
-all_plain_bindable s [] bound e still h = tt
-all_plain_bindable s (b ∷ order) bound e still h =
-    (plain_bindable s bound (at (paths_in s) b) (slice_get s.bindings b.0) e.0 still.0 h.0, all_plain_bindable s order (bound ++ b.0 ∷ []) e.1 still.1 h.1)
+pub all_plain_bindable : (s : Setting) (order : List BindingId) (bound : List ℕ) → NoItems s.bindings order → AreOpenable s bound order → AreBindable s bound order
+all_plain_bindable s [] bound e h = tt
+all_plain_bindable s (b ∷ order) bound e h = (plain_bindable s bound (at (paths_in s) b) (slice_get s.bindings b.0) e.0 h.0, all_plain_bindable s order (bound ++ b.0 ∷ []) e.1 h.1)
 
 -- no value is an option
 plain_no_option : (c : Calling) → IsCall return_kind.Plain c → IsCall return_kind.Option c → ⊥
@@ -224,7 +222,7 @@ module _ (several : Bool) (env : Environment) (t : Term) (s : RuleSet) (found : 
 
       pick : (b : Bool) → several ≡ b → AreBindable st bound ns
       pick false e = all_once_bindable st ns bound (is ∙ e) ready.binds
-      pick true e = all_plain_bindable st ns bound (no_items env t bs [] ns bound (λ q c' b' e'. absurd (none_contained q c')) ready.binds (ready.items [] (free_lists (at ps source) env [] (free e)))) ready.still ready.binds
+      pick true e = all_plain_bindable st ns bound (no_items env t bs [] ns bound (λ q c' b' e'. absurd (none_contained q c')) ready.binds (ready.items [] (free_lists (at ps source) env [] (free e)))) ready.binds
 
   -- lawful, where it goes on, it made no impure call but those of the rules, and it loops over each list once
   pub record IsGood (fs : List FlatRule) (made bound : List ℕ) (b : Block) : Type 0 where

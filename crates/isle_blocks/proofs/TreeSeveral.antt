@@ -13,7 +13,7 @@ use Rattle.isle_core.specs.declared.types.Term.{Term}
 use Rattle.isle_core.specs.ApartTests.{AreTestsApart, IsPut}
 use Rattle.isle_core.specs.ArmPlaces.{bound_within}
 use Rattle.isle_core.specs.Bindable.{bound_by}
-use Rattle.isle_core.specs.Block.{Block, Step, Match, Return, Arms}
+use Rattle.isle_core.specs.Block.{Block, Step, Match, Arms}
 use Rattle.isle_core.specs.BlockRun.{bind_all}
 use Rattle.isle_core.specs.Calling.{kind_of, is_several}
 use Rattle.isle_core.specs.Choices.{each_choice, flat_adds}
@@ -24,8 +24,9 @@ use Rattle.isle_core.specs.Parts.{Given, nothing_given}
 use Rattle.isle_core.specs.Path.{Path, Chosen, at, paths_of}
 use Rattle.isle_core.specs.Rule.{Environment}
 use Rattle.isle_core.specs.RuleSet.{is_test}
-use Rattle.isle_core.specs.Serializable.{IsTestable, constraint_tests, occurrences_of}
+use Rattle.isle_core.specs.Serializable.{constraint_tests, occurrences_of}
 use Rattle.isle_core.specs.SeveralRun.{behind_calls, several_run, several_control, several_arms}
+use Rattle.isle_core.specs.Setting.{setting}
 use Rattle.isle_core.specs.StandsFor.{EachOnce}
 use Rattle.isle_core.specs.Tests.{Test, Is}
 use Rattle.isle_core.specs.Value.{Value}
@@ -38,23 +39,23 @@ use Rattle.isle_blocks.specs.Added.{AreEarlyLists, Over, rules_over, flats_add, 
 use Rattle.isle_blocks.specs.Fields.{FieldKey, FindsFields, shows}
 use Rattle.isle_blocks.specs.Followers.{FindsInners, FindsItems}
 use Rattle.isle_blocks.specs.Free.{is_free}
-use Rattle.isle_blocks.specs.Nest.{last_binds, last_step, all_equated}
 use Rattle.isle_blocks.specs.Reordered.{here, IsReordered, nothing, more}
 use Rattle.isle_blocks.specs.Several.{HasItsLists}
 use Rattle.isle_blocks.specs.Tree.{Way, Ground, way_step, source_needs, Tests, AllTest, Parts, none, same, other, IsTree, own, last, shared, AreTrees, no_arm, arm}
 use Rattle.isle_blocks.proofs.FieldPlaces.{AreFieldsTyped}
-use Rattle.isle_blocks.proofs.LawBound.{came_behind, came_holds}
+use Rattle.isle_blocks.proofs.LawBound.{came_holds}
 use Rattle.isle_blocks.proofs.LawSerializable.{test_ready, within_arm}
-use Rattle.isle_blocks.proofs.ListsRead.{HasOpened, opened_none, loops, order_opens}
+use Rattle.isle_blocks.proofs.ListsRead.{HasOpened, opened_none}
 use Rattle.isle_blocks.proofs.MadeBefore.{IsWithin, within_none, within_needs}
-use Rattle.isle_blocks.proofs.NeededRuns.{AreStill, needs_still}
+use Rattle.isle_blocks.proofs.NeededRuns.{needs_still}
 use Rattle.isle_blocks.proofs.NextLaws.{FindsNext}
+use Rattle.isle_blocks.proofs.FreeSources.{free_source}
 use Rattle.isle_blocks.proofs.OpenedRuns.{order_free}
 use Rattle.isle_blocks.proofs.OpenedSteps.{Within, only_none}
+use Rattle.isle_blocks.proofs.PlacesOpened.{places_opened}
 use Rattle.isle_blocks.proofs.Reorders.{put_behind, put_before, reorder_append, reorder_all, reorder_twice}
-use Rattle.isle_blocks.proofs.RuleRuns.{places_opened}
-use Rattle.isle_blocks.proofs.StepCalls.{WentOn, NoInners, went_both, grows_none, bind_knows, bind_grows, step_then, knows_more, opening_plain, equated_plain, matched_plain, all_not_inner, after_has}
-use Rattle.isle_blocks.proofs.TreeLawful.{own_good, free_lists}
+use Rattle.isle_blocks.proofs.StepCalls.{WentOn, went_both, grows_none, bind_knows, bind_grows, step_then, knows_more, all_not_inner, after_has}
+use Rattle.isle_blocks.proofs.TreeLawful.{own_good}
 use Rattle.isle_blocks.proofs.TreeWays.{left_tests, IsAfter, AreAfter, AreLeft, left_after, left_rules, same_after, others_left, some_left}
 use Rattle.isle_blocks.specs.Arranged.{rules_of}
 use Rattle.isle_blocks.proofs.UnlistedTests.{IsUnlisted, holds_at, unlisted_free, adds_nothing, test_stays, tests_stay}
@@ -70,11 +71,6 @@ all_split P (x ∷ xs) ys h = let k = all_split P xs ys h.1 in ((h.0, k.0), k.1)
 all_append : {A : Type 0} (P : A → Type 0) (xs ys : List A) → AllByRecursion P xs → AllByRecursion P ys → AllByRecursion P (xs ++ ys)
 all_append P [] ys h k = k
 all_append P (x ∷ xs) ys h k = (h.0, all_append P xs ys h.1 k)
-
--- a list of what isn't there
-none_of : {A : Type 0} (xs : List A) → AllByRecursion (Contains []) xs → xs ≡ []
-none_of [] h = refl
-none_of (x ∷ xs) h = absurd (none_contained x h.0)
 
 over_append : (xs ys : List Over) → rules_over (xs ++ ys) ≡ rules_over xs ++ rules_over ys
 over_append [] ys = refl
@@ -213,12 +209,6 @@ module _ (env : Environment) (t : Term) (s : RuleSet) (found : FieldKey → Opti
 
   -- ---- a way's own step
 
-  -- no inner value is bound before it
-  way_plain : (w : Way) (bound : List ℕ) → NoInners s.bindings (way_step g w bound).0
-  way_plain w bound =
-      matched_plain bs (shows found counts inners) w.late (all_equated true bs w.rule.equals (last_step true bs next items w.rule))
-      (equated_plain bs w.rule.equals (last_step true bs next items w.rule) (λ bound'. opening_plain bs (last_binds true bs next items bound' w.rule) (Return w.rule.pos w.rule.result))) bound
-
   -- the impure calls made before it are its rule's
   way_calls : (before : List Test) (bound : List ℕ) (w : Way) → IsWithin env (paths_of s.bindings) before bound → IsAfter env t s before w → IsSeveralWay env (paths_of s.bindings) w → w.early ≡ []
       → Within (Contains (occurrences env (paths_of s.bindings) w.rule.ordered)) (occurrences env (paths_of s.bindings) (way_step g w bound).0)
@@ -235,7 +225,8 @@ module _ (env : Environment) (t : Term) (s : RuleSet) (found : FieldKey → Opti
   way_goes before bound w k h way early m args first x known so e knows =
       let order = (way_step g w bound).0 in
       let after = occurs (first ++ x ∷ []) in
-      let plain = all_not_inner bs order (way_plain w bound) in
+      let good = own_good true env t s found counts inners next items is finds found_inners found_items found_next once typed fits before bound [] w k h early (record { once = way.once; apart = λ n i j. none_contained n i }) in
+      let plain = all_not_inner (setting env t bs) order bound is good.lawful.0 in
       let own_calls = occurrences env ps x.rule.ordered in
       went_both (KnowsOnly after) (Grows known) (bind_all env m args ps order known so.calls)
       (bind_knows env m args ps order known so.calls after plain
@@ -279,19 +270,6 @@ module _ (env : Environment) (t : Term) (s : RuleSet) (found : FieldKey → Opti
             (way_run env t s found counts inners next items is finds found_inners found_items found_next once typed fits before bound w k opens h way.lists early m args known so unlisted held ∙ anew first x (rest.order ++ later) known so refl knows);
       }
 
-  -- after what a free source is read with
-  record IsFreeSource (before : List Test) (bound : List ℕ) (source : BindingId) : Type 0 where
-    pub still : AreStill env (paths_of s.bindings) (source_needs g bound source)
-    pub opens : HasOpened s.bindings (bound_by bound (source_needs g bound source)) []
-
-  free_source : (before : List Test) (bound : List ℕ) (source : BindingId) (c : Constraint) → IsWithin env (paths_of s.bindings) before bound → HasOpened s.bindings bound [] → IsTestable env t (paths_of s.bindings) before (source, c) → is_free (at (paths_of s.bindings) source) ≡ true
-      → IsFreeSource before bound source
-  free_source before bound source c k opens one free =
-      let ns = source_needs g bound source in
-      let ready = test_ready true env t bs found counts inners next items is finds found_inners found_items found_next once typed fits before bound source c k.behind one.test one.stands in
-      let o = order_opens env t bs ns [] bound [] once opens ready.binds (ready.items [] (free_lists (at ps source) env [] free)) in
-      record { still = ready.still; opens = subst (λ qs. HasOpened bs (bound_by bound ns) (came_behind [] qs)) (none_of (loops bs ns) o.each) o.opens }
-
   mutual
     pub tree_added : (ws : List Way) (bound : List ℕ) (b : Block) (before : List Test) → IsTree g ws bound b → IsWithin env (paths_of s.bindings) before bound → HasOpened s.bindings bound [] → AllByRecursion IsUnlisted before → AreAfter env t s before ws → AllByRecursion (IsSeveralWay env (paths_of s.bindings)) ws
         → IsAdded before (rules_of ws) b
@@ -305,7 +283,7 @@ module _ (env : Environment) (t : Term) (s : RuleSet) (found : FieldKey → Opti
         let readys = all_split (IsSeveralWay env ps) (w ∷ vs) rest ways in
         let lefts = left_after env t s before source (w ∷ vs) (j ∷ js) tests parts.0 in
         let free = (subst (AllByRecursion (λ (x : BindingId × Constraint). is_free (at ps x.0) ≡ true)) tests.0.tests readys.0.0.free).0 in
-        let src = free_source before bound source j.0 k opens lefts.0.0 free in
+        let src = free_source env t s found counts inners next items is finds found_inners found_items found_next once typed fits before bound source j.0 k opens lefts.0.0 free in
         let now = arms_added source (j ∷ js) bound (bound_by bound ns) arms before trees refl k src.opens unlisted lefts (all_left env ps source (w ∷ vs) (j ∷ js) tests readys.0) in
         let behind = tree_added rest (bound_by bound ns) b' before k' (within_needs env ps before ns bound src.still k) src.opens unlisted parts.1 readys.1 in
         record {
@@ -334,7 +312,7 @@ module _ (env : Environment) (t : Term) (s : RuleSet) (found : FieldKey → Opti
         let mine = same_after env t s before source c js others (w ∷ vs) parts h in
         let ways' = all_same (IsSeveralWay env ps) c js others (w ∷ vs) parts ways in
         let free = ready.within [] (subst (λ now. HasOpened bs now []) at_source opens) in
-        let opened = places_opened env t bs found counts inners next items is finds found_inners found_items found_next once typed fits w.rule mine.0.rule ways'.0.lists [] source c places inner free ready.places' opens in
+        let opened = places_opened env t bs [] source c places inner free ready.places' opens in
         let one = tree_added (w ∷ vs) (bound_within inner places) body (is_test ps (source, c) ∷ before) tree (subst (λ now. IsWithin env ps (is_test ps (source, c) ∷ before) (bound_within now places)) (sym at_source) inside) opened (free, unlisted) mine ways' in
         let rest = arms_added source others bound inner arms' before trees at_source k opens unlisted (others_left env t s before source c js others (w ∷ vs) parts h) (all_others (IsSeveralWay env ps) c js others (w ∷ vs) parts ways) in
         record {

@@ -1,8 +1,7 @@
 -- The ways of rules none of whose tests is made.
-use Rattle.std.proofs.Common.{◌≡◌, inr, ⊎_elim, ℕ, suc, ◌<◌, ◌≤◌, List, [], ◌∷◌, ◌++◌, Bool, true, false, cond, map, take, drop, length, get_or, refl, sym, ◌∙◌, subst, arith}
+use Rattle.std.proofs.Common.{◌≡◌, inr, ⊎_elim, ℕ, suc, ◌<◌, ◌≤◌, List, [], ◌∷◌, ◌++◌, Bool, true, false, map, length, get_or, sym, ◌∙◌, subst, arith}
 use Rattle.std.specs.Prelude.{Contains}
 use Rattle.std.specs.List.{AllByRecursion}
-use Rattle.std.proofs.lemmas.List.{take-append-drop}
 use Rattle.std.proofs.lemmas.List.Elements.{Contains-append_left, Contains-append_right, Contains-append_cases}
 use Rattle.isle_core.specs.declared.BindingId.{BindingId}
 use Rattle.isle_core.specs.declared.rule_sets.Binding.{Binding}
@@ -23,65 +22,34 @@ use Rattle.isle_blocks.specs.Free.{is_free}
 use Rattle.isle_blocks.specs.Reordered.{IsReordered}
 use Rattle.isle_blocks.specs.Tree.{Way}
 use Rattle.isle_blocks.specs.Turns.{TurnsRise, rank}
-use Rattle.isle_blocks.specs.Ways.{early_count, shared_count, way_of}
+use Rattle.isle_blocks.specs.Ways.{way_of}
 use Rattle.isle_blocks.proofs.LawBound.{came_holds, came_from}
 use Rattle.isle_blocks.proofs.MappedLists.{map_among}
 use Rattle.isle_blocks.proofs.MovedTests.{RanksRise, testable_by_ranks}
+use Rattle.isle_blocks.proofs.PartedTests.{parted_has, parted_from, early_free, none_late, late_chosen, parted_testable}
 use Rattle.isle_blocks.proofs.Reorders.{permutation_reorders, reorder_all, reorder_has, reorder_keeps}
 use Rattle.isle_blocks.proofs.TreeLawful.{AreFreeTests}
-use Rattle.isle_blocks.proofs.TreeMakes.{IsOn}
+use Rattle.isle_blocks.proofs.TreeRules.{IsOn}
 use Rattle.isle_blocks.proofs.TreeTests.{IsOf}
 use Rattle.isle_blocks.proofs.TreeWays.{IsAfter}
 
--- the first test, if there is one, is of a path with a chosen item
-abbrev pub StartsChosen : List Path → List (BindingId × Constraint) → Type 0
-StartsChosen ps [] = Unit {0}
-StartsChosen ps (c ∷ cs) = is_free (at ps c.0) ≡ false
-
 -- all tests of a way's rule are left, in an order in which they may be made; of a term that answers several times the early ones are of free
--- paths, and of one that answers once all are early
+-- paths, and of one that answers once all are early; the others are of paths with a chosen item
 pub record IsStart (several : Bool) (bs : List Binding) (w : Way) : Type 0 where
   pub has : (c : BindingId × Constraint) → Contains w.rule.constraints c → Contains (w.early ++ w.late) c
   pub only : (c : BindingId × Constraint) → Contains (w.early ++ w.late) c → Contains w.rule.constraints c
   pub free : AreFreeTests several (paths_of bs) w
   pub whole : several ≡ false → w.late ≡ []
-  pub chosen : StartsChosen (paths_of bs) w.late
+  pub chosen : AllByRecursion (λ (c : BindingId × Constraint). is_free (at (paths_of bs) c.0) ≡ false) w.late
   pub testable : (env : Environment) (t : Term) → EachOnce (paths_of bs) → AreTestable env t (paths_of bs) [] w.rule.constraints → AreTestable env t (paths_of bs) [] (w.early ++ w.late)
-
--- ---- of the rule's own order
-
-drop_all : {A : Type 0} (xs : List A) → drop (length xs) xs ≡ []
-drop_all [] = refl
-drop_all (x ∷ xs) = drop_all xs
-
-early_free : (ps : List Path) (cs : List (BindingId × Constraint)) → AllByRecursion (λ (c : BindingId × Constraint). is_free (at ps c.0) ≡ true) (take (early_count ps cs) cs)
-early_free ps [] = tt
-early_free ps (c ∷ cs) = pick (is_free (at ps c.0)) refl (early_free ps cs)
-  where
-    pick : (b : Bool) → is_free (at ps c.0) ≡ b → AllByRecursion (λ (x : BindingId × Constraint). is_free (at ps x.0) ≡ true) (take (early_count ps cs) cs)
-        → AllByRecursion (λ (x : BindingId × Constraint). is_free (at ps x.0) ≡ true) (take (cond b (suc (early_count ps cs)) 0) (c ∷ cs))
-    pick true e h = (e, h)
-    pick false e h = tt
 
 free_early : (several : Bool) (ps : List Path) (f : FlatRule) → AreFreeTests several ps (way_of several ps f)
 free_early true ps f is = early_free ps f.constraints
 free_early false ps f is = absurd cc
 
-none_late : (several : Bool) (ps : List Path) (f : FlatRule) → several ≡ false → (way_of several ps f).late ≡ []
-none_late false ps f is = drop_all f.constraints
-none_late true ps f is = absurd cc
-
-late_chosen : (ps : List Path) (cs : List (BindingId × Constraint)) → StartsChosen ps (drop (early_count ps cs) cs)
-late_chosen ps [] = tt
-late_chosen ps (c ∷ cs) = pick (is_free (at ps c.0)) refl (late_chosen ps cs)
-  where
-    pick : (b : Bool) → is_free (at ps c.0) ≡ b → StartsChosen ps (drop (early_count ps cs) cs) → StartsChosen ps (drop (cond b (suc (early_count ps cs)) 0) (c ∷ cs))
-    pick true e h = h
-    pick false e h = e
-
-chosen_late : (several : Bool) (ps : List Path) (f : FlatRule) → StartsChosen ps (way_of several ps f).late
-chosen_late true ps f = late_chosen ps f.constraints
-chosen_late false ps f = subst (StartsChosen ps) (sym (drop_all f.constraints)) tt
+whole_early : (several : Bool) (ps : List Path) (f : FlatRule) → several ≡ false → (way_of several ps f).late ≡ []
+whole_early false ps f is = none_late ps f.constraints
+whole_early true ps f is = absurd cc
 
 -- ---- arranged
 
@@ -95,13 +63,13 @@ ranks_rise turns (c ∷ cs) h = (each cs (λ j k. h 0 (suc j) c (omega arith) (o
 
 pub arranged_starts : (several : Bool) (bs : List Binding) (turns : List ℕ) (w : Way) → TurnsRise bs turns → IsArranged turns (way_of several (paths_of bs) w.rule) w → IsStart several bs w
 arranged_starts several bs turns w rise h = record {
-  has = λ c i. ⊎_elim (λ j. Contains-append_left w.early w.late c (reorder_keeps v.early w.early c order j)) (λ j. Contains-append_right w.early w.late c (subst (λ cs. Contains cs c) (sym h.late) j)) (Contains-append_cases v.early v.late c (subst (λ cs. Contains cs c) (sym all) i));
-  only = λ c i. subst (λ cs. Contains cs c) all (⊎_elim (λ j. Contains-append_left v.early v.late c (reorder_has v.early w.early c order j)) (λ j. Contains-append_right v.early v.late c (subst (λ cs. Contains cs c) h.late j)) (Contains-append_cases w.early w.late c i));
+  has = λ c i. ⊎_elim (λ j. Contains-append_left w.early w.late c (reorder_keeps v.early w.early c order j)) (λ j. Contains-append_right w.early w.late c (subst (λ cs. Contains cs c) (sym h.late) j)) (Contains-append_cases v.early v.late c (parted_has several ps w.rule.constraints c i));
+  only = λ c i. parted_from several ps w.rule.constraints c (⊎_elim (λ j. Contains-append_left v.early v.late c (reorder_has v.early w.early c order j)) (λ j. Contains-append_right v.early v.late c (subst (λ cs. Contains cs c) h.late j)) (Contains-append_cases w.early w.late c i));
   free = λ is. reorder_all (λ (c : BindingId × Constraint). is_free (at ps c.0) ≡ true) v.early w.early order (free_early several ps w.rule is);
-  whole = λ is. h.late ∙ none_late several ps w.rule is;
-  chosen = subst (StartsChosen ps) (sym h.late) (chosen_late several ps w.rule);
+  whole = λ is. h.late ∙ whole_early several ps w.rule is;
+  chosen = subst (AllByRecursion (λ (c : BindingId × Constraint). is_free (at ps c.0) ≡ false)) (sym h.late) (late_chosen several ps w.rule.constraints);
   testable = λ env t once k. subst (λ cs. AreTestable env t ps [] (w.early ++ cs)) (sym h.late)
-      (testable_by_ranks bs turns rise once env t v.early w.early v.late (ranks_rise turns w.early h.sorted) (λ c i. reorder_keeps v.early w.early c order i) (λ c i. reorder_has v.early w.early c order i) (subst (AreTestable env t ps []) (sym all) k));
+      (testable_by_ranks bs turns rise once env t v.early w.early v.late (ranks_rise turns w.early h.sorted) (λ c i. reorder_keeps v.early w.early c order i) (λ c i. reorder_has v.early w.early c order i) (parted_testable env t several ps w.rule.constraints k));
 }
   where
     ps : List Path
@@ -109,9 +77,6 @@ arranged_starts several bs turns w rise h = record {
 
     v : Way
     v = way_of several ps w.rule
-
-    all : v.early ++ v.late ≡ w.rule.constraints
-    all = take-append-drop (shared_count several ps w.rule.constraints) w.rule.constraints
 
     order : IsReordered v.early w.early
     order = permutation_reorders v.early w.early h.tests

@@ -7,7 +7,7 @@ use Rattle.isle_core.specs.declared.rule_sets.Constraint.{Constraint}
 use Rattle.isle_core.specs.declared.rule_sets.RuleSet.{RuleSet}
 use Rattle.isle_core.specs.Block.{Block, Return, Arms}
 use Rattle.isle_blocks.specs.Nest.{Shows, last_binds, last_step, all_equated}
-use Rattle.isle_blocks.specs.RuleTests.{of_rule, IsRuleTest, TestsRules, DoesRules, ArmsTestRules}
+use Rattle.isle_blocks.specs.RuleTests.{IsRuleTest, TestsRules, DoesRules, ArmsTestRules}
 use Rattle.isle_blocks.specs.Tree.{Way, Ground, way_step, AllTest, Parts, none, same, other, IsTree, own, last, shared, AreTrees, no_arm, arm}
 use Rattle.isle_blocks.proofs.LawTests.{among, equated_tests, matched_tests, opened_tests}
 
@@ -37,7 +37,7 @@ module _ (s : RuleSet) (several : Bool) (shows : Shows) (next items : ℕ → Op
   left_of_rules source (w ∷ ws) (j ∷ js) k h =
       let tests = subst (AllByRecursion (Contains w.rule.constraints)) k.0.tests h.0.early in (
         (
-          of_rule w.rule source j.0 h.0.there tests.0,
+          record { rule = w.rule; there = h.0.there; tests = tests.0 },
           record {
             there = subst (Contains s.rules) (sym k.0.rule) h.0.there;
             early = subst (λ f. AllByRecursion (Contains f.constraints) j.1.early) (sym k.0.rule) tests.1;

@@ -11,6 +11,7 @@ pub mod Reordered
 pub mod Added
 pub mod RuleTests
 pub mod AllTests
+pub mod AllReturns
 pub mod Free
 pub mod Tree
 pub mod Ways
@@ -20,6 +21,7 @@ pub mod ApartRules
 pub mod Gathered
 pub mod TreeSteps
 pub mod Merged
+pub mod LoopsApart
 pub mod AskedCalls
 pub mod LoopFree
 pub mod RuleReads

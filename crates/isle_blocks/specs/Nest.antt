@@ -3,13 +3,11 @@ use Rattle.std.specs.Prelude.{ℕ, List, [], ◌∷◌, ◌++◌, Bool, true, fa
 use Rattle.isle_core.specs.declared.BindingId.{BindingId}
 use Rattle.isle_core.specs.declared.rule_sets.Binding.{Binding}
 use Rattle.isle_core.specs.declared.rule_sets.Constraint.{Constraint}
-use Rattle.isle_core.specs.declared.rule_sets.Constraint.TheVariants as constraint
 use Rattle.isle_core.specs.declared.rule_sets.FlatRule.{FlatRule}
 use Rattle.isle_core.specs.ArmPlaces.{bound_within}
 use Rattle.isle_core.specs.Bindable.{bound_by}
 use Rattle.isle_core.specs.Block.{Block, Stop, Step, Control, Match, Equal, Loop, Return, NoArm, Arm}
 use Rattle.isle_core.specs.BlockViews.{SeenStep}
-use Rattle.isle_core.specs.BindingParts.{option_of}
 use Rattle.isle_blocks.specs.Needed.{is_bound, list_before, needs, parameters_of}
 
 -- ---- calls
@@ -89,20 +87,14 @@ last_binds several bs next items bound f = needs bs bound (left_items several it
 abbrev pub alone : SeenStep → Block
 alone s = Step s.0 s.1 Stop
 
--- the option whose inner value a binding is
-abbrev pub option_before : Option Binding → Option BindingId
-option_before None = None
-option_before (Some b) = option_of b
-
--- a binding before a step: an item of a list is gone through by a Loop, and an inner value of an option is bound by a Match
-abbrev pub open_by : (list option : Option BindingId) → BindingId → SeenStep → SeenStep
-open_by (Some list) option b s = ([], Loop b (alone s))
-open_by None (Some source) b s = ([], Match source (Arm constraint.Some (Some b ∷ []) (alone s) NoArm))
-open_by None None b s = (b ∷ s.0, s.1)
+-- a binding before a step: an item of a list is gone through by a Loop
+abbrev pub open_by : (list : Option BindingId) → BindingId → SeenStep → SeenStep
+open_by (Some list) b s = ([], Loop b (alone s))
+open_by None b s = (b ∷ s.0, s.1)
 
 -- so of the binding of this form
 abbrev pub open_one : Option Binding → BindingId → SeenStep → SeenStep
-open_one o b s = open_by (list_before o) (option_before o) b s
+open_one o b s = open_by (list_before o) b s
 
 -- so of each binding of an order, before what is done then
 abbrev pub opening : List Binding → List BindingId → Control → SeenStep

@@ -1,21 +1,17 @@
 -- What a block tests and returns, as the rules of its set have it.
-use Rattle.std.specs.Prelude.{◌≡◌, Some, Contains, slice_get}
+use Rattle.std.specs.Prelude.{◌≡◌, Contains}
 use Rattle.isle_core.specs.declared.BindingId.{BindingId}
 use Rattle.isle_core.specs.declared.position.Pos.{Pos}
-use Rattle.isle_core.specs.declared.rule_sets.Binding.TheVariants as binding
 use Rattle.isle_core.specs.declared.rule_sets.Constraint.{Constraint}
-use Rattle.isle_core.specs.declared.rule_sets.Constraint.TheVariants as constraint
 use Rattle.isle_core.specs.declared.rule_sets.FlatRule.{FlatRule}
 use Rattle.isle_core.specs.declared.rule_sets.RuleSet.{RuleSet}
 use Rattle.isle_core.specs.Block.{Block, Stop, Step, Control, Match, Equal, Loop, Return, Arms, NoArm, Arm}
 
--- what an arm tests: a constraint that one rule of the set has on the source, or that the source is something, whose inner value the
--- set binds
-pub data IsRuleTest (s : RuleSet) : BindingId → Constraint → Type 0 where
-  of_rule : (f : FlatRule) (source : BindingId) (c : Constraint) → Contains s.rules f
-      → Contains f.constraints (source, c) → IsRuleTest s source c
-  of_inner : (inner source : BindingId)
-      → slice_get s.bindings inner.0 ≡ Some (binding.MatchSome source) → IsRuleTest s source constraint.Some
+-- a constraint that one rule of the set has on the source
+pub record IsRuleTest (s : RuleSet) (source : BindingId) (c : Constraint) : Type 0 where
+  pub rule : FlatRule
+  pub there : Contains s.rules rule
+  pub tests : Contains rule.constraints (source, c)
 
 -- two bindings that one rule of the set equates
 pub record IsRuleEquality (s : RuleSet) (a b : BindingId) : Type 0 where

@@ -1,5 +1,6 @@
 -- The ways of rules, and what contracts see of the code's.
-use Rattle.std.specs.Prelude.{ℕ, suc, List, [], ◌∷◌, ◌++◌, Bool, true, false, Option, Some, None, map, take, drop, length, option_map, if◌then◌else◌}
+use Rattle.std.specs.Prelude.{ℕ, suc, List, [], ◌∷◌, ◌++◌, Bool, true, false, not, Option, Some, None, map, option_map, if◌then◌else◌}
+use Rattle.std.specs.List.{filter}
 use Rattle.std.specs.declared.cmp.Ordering.{Ordering}
 use Rattle.std.specs.Ordering.{is_eq}
 use Rattle.isle_core.specs.declared.BindingId.{BindingId}
@@ -9,26 +10,39 @@ use Rattle.isle_core.specs.contracts.rule_sets.ConstraintOrd.TheImpl as constrai
 use Rattle.isle_core.specs.Path.{Path, at}
 use Rattle.isle_blocks.specs.Free.{is_free}
 use Rattle.isle_blocks.specs.Tree.{Way}
+use Rattle.isle_blocks.specs.declared.ways.Parted.{Parted}
 use Rattle.isle_blocks.specs.declared.ways.Way.{Way as CodeWay}
 use Rattle.isle_blocks.specs.declared.gathering.Group.{Group}
 
--- how many tests stand before the first one of a path with a chosen item
-abbrev pub early_count : List Path → List (BindingId × Constraint) → ℕ
-early_count ps [] = 0
-early_count ps (c ∷ cs) = if is_free (at ps c.0) then suc (early_count ps cs) else 0
+-- whether rules may share a test of this source: of a term that answers once always, and else if no item is chosen for it
+abbrev pub is_shared : (several : Bool) → List Path → BindingId → Bool
+is_shared true ps source = is_free (at ps source)
+is_shared false ps source = true
 
--- how many tests rules may share: of a term that answers once all
-abbrev pub shared_count : (several : Bool) → List Path → List (BindingId × Constraint) → ℕ
-shared_count true ps cs = early_count ps cs
-shared_count false ps cs = length cs
+-- the tests that rules may share, in order
+abbrev pub early_tests : (several : Bool) → List Path → List (BindingId × Constraint) → List (BindingId × Constraint)
+early_tests several ps cs = filter (λ (c : BindingId × Constraint). is_shared several ps c.0) cs
+
+-- the others
+abbrev pub late_tests : (several : Bool) → List Path → List (BindingId × Constraint) → List (BindingId × Constraint)
+late_tests several ps cs = filter (λ (c : BindingId × Constraint). not (is_shared several ps c.0)) cs
+
+-- a test, if it is wanted
+abbrev pub one_if : (wanted : Bool) → BindingId × Constraint → List (BindingId × Constraint)
+one_if true c = c ∷ []
+one_if false c = []
 
 -- a rule none of whose tests is made
 abbrev pub way_of : (several : Bool) → List Path → FlatRule → Way
-way_of several ps f = record { rule = f; early = take (shared_count several ps f.constraints) f.constraints; late = drop (shared_count several ps f.constraints) f.constraints }
+way_of several ps f = record { rule = f; early = early_tests several ps f.constraints; late = late_tests several ps f.constraints }
 
 -- the code's
 abbrev pub way : CodeWay → Way
 way w = record { rule = w.rule.now; early = w.early.now; late = w.late.now }
+
+-- the code's with its tests parted
+abbrev pub parted_way : Parted → Way
+parted_way p = record { rule = p.rule.now; early = p.early.items; late = p.late.items }
 
 -- ---- ways by their constraints
 

@@ -1,15 +1,16 @@
 //! Rules and their tests in the order in which a tree has them.
 
-ghost use Rattle.std.specs.Prelude.{◌≡◌, IfOk, OnOk, map};
+ghost use Rattle.std.specs.Prelude.{◌≡◌, IfOk, OnOk, List as ListOf, map};
 ghost use Rattle.std.specs.List.Sorted.{IsPermutation};
+ghost use Rattle.isle_core.specs.Path.{paths_of};
+ghost use Rattle.isle_core.specs.declared.rule_sets.FlatRule.{FlatRule as Rule};
 ghost use Rattle.isle_blocks.specs.Arranged as Arrangement;
 ghost use Rattle.isle_blocks.specs.Order.{Falls};
 ghost use Rattle.isle_blocks.specs.Ways as Ways;
 
-use crate::free::free_of;
 use crate::tables::Tables;
 use crate::turns::{rank, turns_of};
-use crate::ways::{Way, ways_of};
+use crate::ways::{Parted, Way};
 use isle_core::{BindingId, Constraint, FlatRule};
 use std::alloc::{AllocError, Global};
 use std::cmp::Reverse;
@@ -42,32 +43,32 @@ fn ranks_of(
 }
 
 // Puts the early tests of a way in the order of their sources' ranks.
-fn arrange_way<'r>(
+fn arrange_way<'p>(
     alloc: Global,
     turns: &[usize],
-    way: &Way<'r>,
-) -> Result<Arranged<'r>, AllocError>
+    way: &'p Parted<'_>,
+) -> Result<Arranged<'p>, AllocError>
     ensures { IfOk result (λ a.
-        Arrangement.IsArranged turns.now (Ways.way way.now) (Arrangement.arranged_way a)) }
+        Arrangement.IsArranged turns.now (Ways.parted_way way.now) (Arrangement.arranged_way a)) }
 {
-    let mut early = Vec::from_slice(alloc, way.early)?;
+    let mut early = Vec::from_slice(alloc, way.early.as_slice())?;
     early.sort_by_key(|(source, _)| rank(turns, *source))?;
     Ok(Arranged {
         rule: way.rule,
         ranks: ranks_of(alloc, turns, early.as_slice())?,
         early,
-        late: way.late,
+        late: way.late.as_slice(),
     })
 }
 
 // Arranges each of the ways.
-fn arrange_ways<'r>(
+fn arrange_ways<'p>(
     alloc: Global,
     turns: &[usize],
-    ways: &[Way<'r>],
-) -> Result<Vec<Arranged<'r>>, AllocError>
+    ways: &'p [Parted<'_>],
+) -> Result<Vec<Arranged<'p>>, AllocError>
     ensures { IfOk result (λ all. Arrangement.AreEachArranged turns.now
-        (map Ways.way ways.now) (map Arrangement.arranged_way all.items)) }
+        (map Ways.parted_way ways.now) (map Arrangement.arranged_way all.items)) }
 {
     let mut all = Vec::new(alloc);
     for way in ways {
@@ -88,20 +89,20 @@ fn sort_ways(all: &mut Vec<Arranged<'_>>) -> Result<(), AllocError>
     Ok(())
 }
 
-/// Arranges rules: the highest priority first, and those of one priority by what they test; each with its early tests
-/// by their sources' ranks. The only error is want of memory.
-pub fn arrange_rules<'r>(
+/// Arranges rules whose tests are parted: the highest priority first, and those of one priority by what they test; each
+/// with its early tests by their sources' ranks. The only error is want of memory.
+pub fn arrange_rules<'p>(
     alloc: Global,
     tables: &Tables<'_>,
-    rules: &'r [FlatRule],
-) -> Result<Vec<Arranged<'r>>, AllocError>
-    ensures { IfOk result (λ all. Arrangement.AreArranged tables.now.several
-        tables.now.bindings.now rules.now (map Arrangement.arranged_way all.items)) }
+    ways: &'p [Parted<'_>],
+) -> Result<Vec<Arranged<'p>>, AllocError>
+    ensures { IfOk result (λ all. (fs : ListOf Rule) → map Ways.parted_way ways.now
+        ≡ map (Ways.way_of tables.now.several (paths_of tables.now.bindings.now)) fs
+        → Arrangement.AreArranged tables.now.several tables.now.bindings.now fs
+        (map Arrangement.arranged_way all.items)) }
 {
-    let free = free_of(alloc, tables.bindings)?;
-    let ways = ways_of(alloc, tables.several, free.as_slice(), rules)?;
-    let turns = turns_of(alloc, tables.bindings, ways.as_slice())?;
-    let mut all = arrange_ways(alloc, turns.as_slice(), ways.as_slice())?;
+    let turns = turns_of(alloc, tables.bindings, ways)?;
+    let mut all = arrange_ways(alloc, turns.as_slice(), ways)?;
     sort_ways(&mut all)?;
     Ok(all)
 }

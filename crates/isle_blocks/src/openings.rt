@@ -1,26 +1,15 @@
-//! Bind orders before what is done then: in terms that answer several times, items are gone through by Loops, and inner
-//! values are bound by Matches.
+//! Bind orders before what is done then: in terms that answer several times, items are gone through by Loops.
 
 ghost use Rattle.std.specs.Prelude.{◌≡◌, IfOk, [], reverse, slice_get};
 ghost use Rattle.isle_core.specs.BlockViews as BlockViews;
 ghost use Rattle.isle_blocks.specs.Nest as Nest;
 
 use crate::needed::list_at;
-use crate::steps::{loop_step, match_step, step_of};
+use crate::steps::{loop_step, step_of};
 use crate::tables::Tables;
-use isle_core::{Binding, BindingId, Constraint, ControlFlow, EvalStep};
+use isle_core::{BindingId, ControlFlow, EvalStep};
 use std::alloc::{AllocError, Global};
 use std::mem;
-
-// Returns the option whose inner value the binding of this number is.
-fn option_at(bindings: &[Binding], binding: BindingId) -> Option<BindingId>
-    ensures { result ≡ Nest.option_before (slice_get bindings.now binding.0) }
-{
-    match bindings.get(binding.index()) {
-        Some(of) => of.option(),
-        None => None,
-    }
-}
 
 // Returns the step of an order that was gathered from its end on; nothing is gathered then.
 fn gathered(alloc: Global, check: ControlFlow, behind: &mut Vec<BindingId>) -> EvalStep
@@ -50,11 +39,6 @@ fn open_one(
     if list_at(tables.bindings, binding).is_some() {
         let inner = gathered(alloc, check, behind);
         return loop_step(alloc, binding, inner);
-    }
-    if let Some(source) = option_at(tables.bindings, binding) {
-        let inner = gathered(alloc, check, behind);
-        let places = vec![in alloc; Some(binding)]?;
-        return match_step(alloc, source, Constraint::Some, places, inner);
     }
     behind.push(binding)?;
     Ok(check)

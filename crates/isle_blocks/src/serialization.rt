@@ -1,6 +1,6 @@
 //! The block of a rule set.
 
-ghost use Rattle.std.specs.Prelude.{◌≡◌, IfOk, [], true, false, List as ListOf, map};
+ghost use Rattle.std.specs.Prelude.{◌≡◌, IfOk, true, false, List as ListOf, map};
 ghost use Rattle.std.specs.List.{AllByRecursion};
 ghost use Rattle.isle_core.specs.declared.types.ReturnKind.{ReturnKind};
 ghost use Rattle.isle_core.specs.declared.types.Term.{Term};
@@ -10,8 +10,6 @@ ghost use Rattle.isle_core.specs.ApartTests.{AreTestsApart};
 ghost use Rattle.isle_core.specs.Calling.{is_several, kind_of};
 ghost use Rattle.isle_core.specs.Rule.{Environment};
 ghost use Rattle.isle_core.specs.Path.{paths_of};
-ghost use Rattle.isle_core.specs.ValueAt.{nothing_known};
-ghost use Rattle.isle_core.specs.ReturnPosition.{block_position, set_position};
 ghost use Rattle.isle_core.specs.RuleSet.{set_outcome};
 ghost use Rattle.isle_core.specs.BlockViews as BlockViews;
 ghost use Rattle.isle_core.specs.BlockRun.{block_outcome};
@@ -24,9 +22,11 @@ ghost use Rattle.isle_blocks.specs.Gathered.{AreShort};
 ghost use Rattle.isle_blocks.specs.Tables.{ground};
 ghost use Rattle.isle_blocks.specs.Ways as Ways;
 ghost use Rattle.isle_blocks.specs.CallsOnce.{HasCallsOnce};
-ghost use Rattle.isle_blocks.specs.Merged.{IsMerged, IsMergedOver, IsSharedSource};
+ghost use Rattle.isle_blocks.specs.Merged.{IsMerged};
+ghost use Rattle.isle_blocks.specs.LoopsApart.{HasLoopsApart};
 ghost use Rattle.isle_blocks.specs.RuleTests.{TestsRules};
 ghost use Rattle.isle_blocks.specs.AllTests.{MakesTests};
+ghost use Rattle.isle_blocks.specs.AllReturns.{MakesReturns};
 ghost use Rattle.isle_blocks.specs.Several.{HasItsLists, GivesSeveral};
 ghost use Rattle.isle_blocks.specs.LoopFree.{HasNoLoop};
 ghost use Rattle.isle_blocks.specs.RuleReads.{OrdersCallsOnce};
@@ -35,10 +35,11 @@ ghost use Rattle.isle_blocks.specs.AskedBound.{AsksAtMost};
 use crate::arrangement::{arrange_rules, ways_in};
 use crate::fields::fields_of;
 use crate::followers::{Following, followers_of};
+use crate::free::free_of;
 use crate::steps::block_of;
 use crate::tables::Tables;
 use crate::tree::steps_of;
-use crate::ways::Way;
+use crate::ways::{Way, part_rules};
 use isle_core::{Block, FlatRule, OutOfMemory, RuleSet};
 use isle_scope::Scope;
 use std::alloc::{AllocError, Global};
@@ -58,7 +59,9 @@ fn depth_of(ways: &[Way<'_>]) -> usize
 fn tree_of(alloc: Global, tables: &Tables<'_>, rules: &[FlatRule]) -> Result<Block, AllocError>
     ensures { IfOk result (λ b. IsGrown (ground tables.now) rules.now (BlockViews.block b)) }
 {
-    let arranged = arrange_rules(alloc, tables, rules)?;
+    let free = free_of(alloc, tables.bindings)?;
+    let parted = part_rules(alloc, tables.several, free.as_slice(), rules)?;
+    let arranged = arrange_rules(alloc, tables, parted.as_slice())?;
     let ways = ways_in(alloc, arranged.as_slice())?;
     let mut bound = Scope::new(alloc);
     let depth = depth_of(ways.as_slice());
@@ -83,16 +86,9 @@ pub fn serialize(alloc: Global, rules: &RuleSet, iterator: bool) -> Result<Block
         AreTestsApart env m args rules.now → AreRulesApart env m args rules.now →
         block_outcome env m args (paths_of rules.now.bindings) (BlockViews.block b) kind ≡
         set_outcome env m args (paths_of rules.now.bindings) rules.now.rules kind) }
-    ensures positions { IfOk result (λ b.
-        (env : Environment) (m : Meaning) (t : Term) (args : ListOf Value) →
-        IsSerializable env t rules.now → is_several (kind_of t.kind) ≡ iterator
-        → is_several (kind_of t.kind) ≡ false →
-        AreTestsApart env m args rules.now → AreRulesApart env m args rules.now →
-        block_position env m args (paths_of rules.now.bindings) (BlockViews.block b) nothing_known
-        [] ≡
-        set_position env m args (paths_of rules.now.bindings) rules.now.rules) }
     ensures tests { IfOk result (λ b. TestsRules rules.now (BlockViews.block b)) }
     ensures makes { IfOk result (λ b. MakesTests iterator rules.now (BlockViews.block b)) }
+    ensures returns { IfOk result (λ b. MakesReturns iterator rules.now (BlockViews.block b)) }
     ensures lawful { IfOk result (λ b.
         (env : Environment) (t : Term) → IsSerializable env t rules.now →
         (is_several (kind_of t.kind) ≡ true →
@@ -104,11 +100,11 @@ pub fn serialize(alloc: Global, rules: &RuleSet, iterator: bool) -> Result<Block
         is_several (kind_of t.kind) ≡ iterator → is_several (kind_of t.kind) ≡ true →
         AllByRecursion (HasItsLists env (paths_of rules.now.bindings)) rules.now.rules →
         GivesSeveral env rules.now (BlockViews.block b)) }
-    ensures shares { IfOk result (λ b.
+    ensures merged { IfOk result (λ b.
         (env : Environment) (t : Term) → IsSerializable env t rules.now →
-        is_several (kind_of t.kind) ≡ iterator →
-        IsMergedOver (IsSharedSource rules.now) (BlockViews.block b)) }
-    ensures merged { IfOk result (λ b. iterator ≡ false → IsMerged (BlockViews.block b)) }
+        is_several (kind_of t.kind) ≡ iterator → IsMerged (BlockViews.block b)) }
+    ensures once_merged { IfOk result (λ b. iterator ≡ false → IsMerged (BlockViews.block b)) }
+    ensures loops { IfOk result (λ b. HasLoopsApart rules.now (BlockViews.block b)) }
     ensures asks { IfOk result (λ b.
         (env : Environment) (t : Term) → IsSerializable env t rules.now →
         is_several (kind_of t.kind) ≡ iterator →

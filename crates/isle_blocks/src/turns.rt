@@ -5,7 +5,7 @@ ghost use Rattle.std.specs.Prelude.{◌≡◌, ◌≤◌, IfOk, Contains};
 ghost use Rattle.isle_core.specs.declared.BindingId.{BindingId as Id};
 ghost use Rattle.isle_blocks.specs.Turns as Turns;
 
-use crate::ways::Way;
+use crate::ways::Parted;
 use isle_core::{Binding, BindingId};
 use std::alloc::{AllocError, Global};
 
@@ -40,10 +40,10 @@ fn turn_after(turns: &[usize], own: usize, parts: &[BindingId]) -> usize
 }
 
 // Counts how many early tests of ways are of each of so many bindings.
-fn tested_of(alloc: Global, count: usize, ways: &[Way<'_>]) -> Result<Vec<usize>, AllocError> {
+fn tested_of(alloc: Global, count: usize, ways: &[Parted<'_>]) -> Result<Vec<usize>, AllocError> {
     let mut tested: Vec<usize> = vec![in alloc; 0; count]?;
     for way in ways {
-        for (source, _) in way.early {
+        for (source, _) in way.early.as_slice() {
             if let Some(times) = tested.get_mut(source.index()) {
                 *times = times.saturating_add(1);
             }
@@ -67,7 +67,7 @@ fn own_turn(tested: usize, ways: usize) -> usize {
 pub fn turns_of(
     alloc: Global,
     bindings: &[Binding],
-    ways: &[Way<'_>],
+    ways: &[Parted<'_>],
 ) -> Result<Vec<usize>, AllocError>
     ensures { IfOk result (λ turns. Turns.TurnsRise bindings.now turns.items) }
 {

@@ -1,7 +1,7 @@
 //! Rules with the tests that are left of them.
 
-ghost use Rattle.std.specs.Prelude.{◌≡◌, ◌≤◌, ◌↔◌, IsTrue, IfOk, List as ListOf, length, map};
-ghost use Rattle.isle_core.specs.Path.{Path, at};
+ghost use Rattle.std.specs.Prelude.{◌≡◌, ◌↔◌, ◌++◌, IsTrue, IfOk, OnOk, List as ListOf, map};
+ghost use Rattle.isle_core.specs.Path.{Path};
 ghost use Rattle.isle_blocks.specs.Free.{is_free};
 ghost use Rattle.isle_blocks.specs.TreeSteps.{tests_first, IsUntested};
 ghost use Rattle.isle_blocks.specs.Ways as Ways;
@@ -40,50 +40,70 @@ impl Way<'_> {
     }
 }
 
-// How many tests stand before the first one that reads a chosen item.
-fn early_count(free: &[bool], constraints: &[(BindingId, Constraint)]) -> usize
-    ensures within { result ≤ length constraints.now }
-    ensures count { (ps : ListOf Path) → free.now ≡ map is_free ps
-        → result ≡ Ways.early_count ps constraints.now }
-{
-    let mut count = 0;
-    for (source, _) in constraints {
-        if !is_free_at(free, *source) {
-            return count;
-        }
-        count += 1;
-    }
-    count
+/// A rule with its tests in order: those that rules may share, and the others.
+#[derive(Drop)]
+pub struct Parted<'r> {
+    pub rule: &'r FlatRule,
+    pub early: Vec<(BindingId, Constraint)>,
+    pub late: Vec<(BindingId, Constraint)>,
 }
 
-// The way of a rule none of whose tests is made.
-fn way_of<'r>(several: bool, free: &[bool], rule: &'r FlatRule) -> Way<'r>
+// Whether rules may share a test of this source: of a term that answers once always, and else if no item is chosen for it.
+fn is_shared(several: bool, free: &[bool], source: BindingId) -> bool
     ensures { (ps : ListOf Path) → free.now ≡ map is_free ps
-        → Ways.way result ≡ Ways.way_of several ps rule.now }
+        → result ≡ Ways.is_shared several ps source }
+{
+    !several || is_free_at(free, source)
+}
+
+// Puts a test after others, if it is wanted there.
+fn push_if(
+    wanted: bool,
+    test: (BindingId, Constraint),
+    tests: &mut Vec<(BindingId, Constraint)>,
+) -> Result<(), AllocError>
+    ensures { OnOk result (tests.new.items ≡ tests.old.items ++ Ways.one_if wanted test) }
+{
+    if wanted {
+        tests.push(test)?;
+    }
+    Ok(())
+}
+
+// Parts the tests of a rule.
+fn part_rule<'r>(
+    alloc: Global,
+    several: bool,
+    free: &[bool],
+    rule: &'r FlatRule,
+) -> Result<Parted<'r>, AllocError>
+    ensures { IfOk result (λ p. (ps : ListOf Path) → free.now ≡ map is_free ps
+        → Ways.parted_way p ≡ Ways.way_of several ps rule.now) }
 {
     let constraints = rule.constraints.as_slice();
-    let count = if several {
-        early_count(free, constraints)
-    } else {
-        constraints.len()
-    };
-    let (early, late) = constraints.split_at(count);
-    Way { rule, early, late }
+    let mut early = Vec::new(alloc);
+    let mut late = Vec::new(alloc);
+    for constraint in constraints {
+        let shared = is_shared(several, free, constraint.0);
+        push_if(shared, *constraint, &mut early)?;
+        push_if(!shared, *constraint, &mut late)?;
+    }
+    Ok(Parted { rule, early, late })
 }
 
-/// Makes the ways of rules, in order. The only error is want of memory.
-pub fn ways_of<'r>(
+/// Parts the tests of each of the rules, in order. The only error is want of memory.
+pub fn part_rules<'r>(
     alloc: Global,
     several: bool,
     free: &[bool],
     rules: &'r [FlatRule],
-) -> Result<Vec<Way<'r>>, AllocError>
-    ensures { IfOk result (λ ways. (ps : ListOf Path) → free.now ≡ map is_free ps
-        → map Ways.way ways.items ≡ map (Ways.way_of several ps) rules.now) }
+) -> Result<Vec<Parted<'r>>, AllocError>
+    ensures { IfOk result (λ all. (ps : ListOf Path) → free.now ≡ map is_free ps
+        → map Ways.parted_way all.items ≡ map (Ways.way_of several ps) rules.now) }
 {
-    let mut ways = Vec::new(alloc);
+    let mut all = Vec::new(alloc);
     for rule in rules {
-        ways.push(way_of(several, free, rule))?;
+        all.push(part_rule(alloc, several, free, rule)?)?;
     }
-    Ok(ways)
+    Ok(all)
 }

@@ -1,5 +1,5 @@
 -- Functions that are emitted one after another.
-use Rattle.std.proofs.Common.{◌≡◌, ℕ, ◌+◌, ◌<◌, List, false, [], ◌∷◌, ◌++◌, length, take, get_or, Some, sym, ap, ◌∙◌, subst}
+use Rattle.std.proofs.Common.{◌≡◌, ℕ, ◌+◌, ◌<◌, List, [], ◌∷◌, ◌++◌, length, take, get_or, Some, sym, ap, ◌∙◌, subst}
 use Rattle.std.specs.Prelude.{slice_get}
 use Rattle.std.specs.List.{AllByRecursion}
 use Rattle.std.proofs.lemmas.List.{take_more}
@@ -17,7 +17,8 @@ use Rattle.isle_core.specs.Calling.{is_several, kind_of}
 use Rattle.isle_blocks.specs.AllTests.{MakesTests}
 use Rattle.isle_blocks.specs.AskedBound.{AsksAtMost}
 use Rattle.isle_blocks.specs.LoopFree.{HasNoLoop}
-use Rattle.isle_blocks.specs.Merged.{IsMerged, IsMergedOver, IsSharedSource}
+use Rattle.isle_blocks.specs.LoopsApart.{HasLoopsApart}
+use Rattle.isle_blocks.specs.Merged.{IsMerged}
 use Rattle.isle_blocks.specs.RuleReads.{OrdersCallsOnce}
 use Rattle.isle_blocks.specs.RuleTests.{TestsRules}
 use Rattle.isle_core.specs.Rule.{Environment}
@@ -49,15 +50,15 @@ calls_once files env id s h = each s.rules h.lists
 
 -- the function of a block of the rule set is emitted for it
 pub is_emitted : (options : CodegenOptions) (files : Files) (env : Environment) (id : TermId) (s : RuleSet) (t : Term) (b : Block) (f : Function) → (h : CanEmit files env (id, s)) → slice_get env.terms id.0 ≡ Some t
-    → IsLawfulBlock (setting env h.term s.bindings) b → (is_several (kind_of h.term.kind) ≡ false → IsMerged b) → IsMergedOver (IsSharedSource s) b → MeansSet env h.term s b → TestsRules s b → MakesTests (is_several (kind_of h.term.kind)) s b → (AllByRecursion (OrdersCallsOnce env (paths_of s.bindings)) s.rules → HasNoLoop b → AsksAtMost env s b)
+    → IsLawfulBlock (setting env h.term s.bindings) b → IsMerged b → HasLoopsApart s b → MeansSet env h.term s b → TestsRules s b → MakesTests (is_several (kind_of h.term.kind)) s b → (AllByRecursion (OrdersCallsOnce env (paths_of s.bindings)) s.rules → HasNoLoop b → AsksAtMost env s b)
     → term_function options files (setting env t s.bindings) b ≡ Some f → IsEmitted options files env id s f
-is_emitted options files env id s t b f h there lawful merged shares means tests makes asks given = record {
+is_emitted options files env id s t b f h there lawful merged loops means tests makes asks given = record {
   term = h.term;
   found = h.found;
   block = b;
   lawful = lawful;
   merged = merged;
-  shares = shares;
+  loops = loops;
   means = means;
   tests = tests;
   makes = makes;

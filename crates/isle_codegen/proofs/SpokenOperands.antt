@@ -41,7 +41,7 @@ use Rattle.isle_core.specs.Terms.{sym_text}
 use Rattle.isle_core.specs.Tests.{Is}
 use Rattle.isle_core.proofs.AllLaws.{all_append}
 use Rattle.isle_core.proofs.BindingPaths.{IsThere, contains_at}
-use Rattle.isle_blocks.specs.RuleTests.{IsRuleTest, of_rule, of_inner, TestsRules, DoesRules, ArmsTestRules}
+use Rattle.isle_blocks.specs.RuleTests.{IsRuleTest, TestsRules, DoesRules, ArmsTestRules}
 use Rattle.isle_core.proofs.FlatRules.{flat_rule}
 use Rattle.isle_rulesets.proofs.FirstLaws.{map_contains}
 use Rattle.isle_tree.specs.declared.tree.Operand.{Operand}
@@ -103,12 +103,12 @@ mutual
 
 -- what a set tests for, the rules speak of
 test_spoken : (env : Environment) (set : RuleSet) (rules : List Rule) (source : BindingId) (c : Constraint) → StandsFor env set rules → IsConstant c → IsRuleTest set source c → IsSpoken env rules (constant_path c)
-test_spoken env set rules _ _ stand is (of_rule f source c there has) =
+test_spoken env set rules source c stand is h =
     let ps = paths_of set.bindings in
-    let k = flat_rule env ps rules set.rules 0 f stand.flat there in
+    let f = h.rule in
+    let k = flat_rule env ps rules set.rules 0 f stand.flat h.there in
     tested k.rule (at ps source) c k.there
-    (k.tests (Is (at ps source) c) (Contains-append_left (map (is_test ps) f.constraints) (map (equal_test ps) f.equals) (Is (at ps source) c) (map_contains (is_test ps) f.constraints (source, c) has)))
-test_spoken env set rules _ _ stand is (of_inner inner source e) = absurd is
+    (k.tests (Is (at ps source) c) (Contains-append_left (map (is_test ps) f.constraints) (map (equal_test ps) f.equals) (Is (at ps source) c) (map_contains (is_test ps) f.constraints (source, c) h.tests)))
 
 -- ---- blocks whose bind orders are completed
 

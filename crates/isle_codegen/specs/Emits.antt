@@ -24,7 +24,8 @@ use Rattle.isle_blocks.specs.AllTests.{MakesTests}
 use Rattle.isle_blocks.specs.ApartRules.{AreRulesApart}
 use Rattle.isle_blocks.specs.AskedBound.{AsksAtMost}
 use Rattle.isle_blocks.specs.LoopFree.{HasNoLoop}
-use Rattle.isle_blocks.specs.Merged.{IsMerged, IsMergedOver, IsSharedSource}
+use Rattle.isle_blocks.specs.LoopsApart.{HasLoopsApart}
+use Rattle.isle_blocks.specs.Merged.{IsMerged}
 use Rattle.isle_blocks.specs.RuleReads.{OrdersCallsOnce}
 use Rattle.isle_blocks.specs.RuleTests.{TestsRules}
 use Rattle.isle_blocks.specs.Several.{HasItsLists, GivesSeveral}
@@ -59,15 +60,15 @@ pub record MeansSet (env : Environment) (t : Term) (s : RuleSet) (b : Block) : T
   pub once : is_several (kind_of t.kind) ≡ false → GivesSet env s b
   pub several : is_several (kind_of t.kind) ≡ true → GivesSeveral env s b
 
--- the function of the term, from a block that is lawful for its rule set, shares its tests, tests and returns what its rules do, all tests
+-- the function of the term, from a block that is lawful for its rule set, shares its tests, keeps loops apart, tests and returns what its rules do, all tests
 -- that are tried, asks no more than its rules read if it has no Loop, and means the set
 pub record IsEmitted (options : CodegenOptions) (files : Files) (env : Environment) (id : TermId) (s : RuleSet) (f : Function) : Type 0 where
   pub term : Term
   pub found : slice_get env.terms id.0 ≡ Some term
   pub block : Block
   pub lawful : IsLawfulBlock (setting env term s.bindings) block
-  pub merged : is_several (kind_of term.kind) ≡ false → IsMerged block
-  pub shares : IsMergedOver (IsSharedSource s) block
+  pub merged : IsMerged block
+  pub loops : HasLoopsApart s block
   pub means : MeansSet env term s block
   pub tests : TestsRules s block
   pub makes : MakesTests (is_several (kind_of term.kind)) s block

@@ -1,5 +1,5 @@
 -- The functions of a program, each made from a block of its term's rules.
-use Rattle.std.specs.Prelude.{◌≡◌, List, false, [], ◌∷◌, map, Some, Contains, slice_get}
+use Rattle.std.specs.Prelude.{◌≡◌, List, [], ◌∷◌, map, Some, Contains, slice_get}
 use Rattle.std.specs.List.{AllByRecursion}
 use Rattle.isle_core.specs.declared.options.CodegenOptions.{CodegenOptions}
 use Rattle.isle_core.specs.declared.TermId.{TermId}
@@ -15,7 +15,8 @@ use Rattle.isle_core.specs.Rule.{Environment, Rule, rules_of}
 use Rattle.isle_core.specs.Setting.{setting}
 use Rattle.isle_core.specs.StandsFor.{StandsFor}
 use Rattle.isle_blocks.specs.AllTests.{MakesTests}
-use Rattle.isle_blocks.specs.Merged.{IsMerged, IsMergedOver, IsSharedSource}
+use Rattle.isle_blocks.specs.LoopsApart.{HasLoopsApart}
+use Rattle.isle_blocks.specs.Merged.{IsMerged}
 use Rattle.isle_blocks.specs.RuleTests.{TestsRules}
 use Rattle.isle_simulation.specs.Shape.{HasShape}
 use Rattle.isle_simulation.specs.LogLines.{lines_of}
@@ -26,7 +27,7 @@ use Rattle.isle_tree.specs.Program.{Function}
 use Rattle.isle_codegen.specs.CalledBy.{IsCalledBy}
 use Rattle.isle_codegen.specs.Emits.{MeansSet}
 
--- the function is that of a block which is lawful for a rule set that stands for the term's rules, shares its tests, and means it: it has
+-- the function is that of a block which is lawful for a rule set that stands for the term's rules, shares its tests, keeps loops apart, and means it: it has
 -- the block's shape, its head, its statements and its tail are those of the block; its log lines are, if they are asked for, the term's
 -- name with the place of each Return of the block, in order; the block tests nothing that no rule of the set tests, and each test that
 -- is tried; each Return has the position and the result of one rule, so that its position is that of one of the term's rules; its calls are
@@ -38,8 +39,8 @@ pub record IsFromBlock (options : CodegenOptions) (files : Files) (env : Environ
   pub stands : StandsFor env set (rules_of env id)
   pub block : Block
   pub lawful : IsLawfulBlock (setting env term set.bindings) block
-  pub merged : is_several (kind_of term.kind) ≡ false → IsMerged block
-  pub shares : IsMergedOver (IsSharedSource set) block
+  pub merged : IsMerged block
+  pub loops : HasLoopsApart set block
   pub means : MeansSet env term set block
   pub shape : HasShape (setting env term set.bindings) f.body block
   pub statements : IsFunctionOf options files (setting env term set.bindings) block f

@@ -16,7 +16,7 @@ use Rattle.isle_core.specs.Calling.{kind_of}
 use Rattle.isle_core.specs.Rule.{Environment}
 use Rattle.isle_core.specs.Setting.{Setting, setting, gives_several}
 use Rattle.isle_core.proofs.OptionLaws.{some_same}
-use Rattle.isle_tree.specs.Program.{Body, Done, Then, Function}
+use Rattle.isle_tree.specs.Program.{Overflow, Body, Done, Then, Function}
 use Rattle.isle_tree.specs.Run.{Around, Env, State, Flow, Goes, Ends, Leaves, Stuck, ended, nothing_done, run_body, run_stmt, then_run}
 use Rattle.isle_simulation.specs.Completed.{completed}
 use Rattle.isle_simulation.specs.Emitted.{RunAlike, body_run}
@@ -45,7 +45,7 @@ lets_alike w s bound (b ∷ binds) x y same env st =
 
 -- and after the list of results was found full or not
 stop_alike : (w : Around) (limit : ℕ) (several : Bool) (c : Control) (x y : Body) → AreAlike w x y → AreAlike w (stop_before (bare_manner limit) several c x) (stop_before (bare_manner limit) several c y)
-stop_alike w limit true (block.Return place result) x y same env st = then_alike w x y same (run_stmt w _ env st)
+stop_alike w limit true (block.Return place result) x y same env st = then_alike w x y same (run_stmt w (Overflow false limit) env st)
 stop_alike w limit true (block.Match source arms) x y same env st = same env st
 stop_alike w limit true (block.Equal a b body) x y same env st = same env st
 stop_alike w limit true (block.Loop result body) x y same env st = same env st
@@ -56,9 +56,13 @@ block_alike : (w : Around) (limit : ℕ) (s : Setting) (bound : List ℕ) (b : B
 block_alike w limit s bound block.Stop x y same env st = same env st
 block_alike w limit s bound (block.Step binds c more) x y same env st =
     let inner = bound_by bound binds in
-    let rest = block_alike w limit s inner more x y same in
-    let stop = stop_alike w limit (gives_several s) c (block_body limit s inner more x) (block_body limit s inner more y) rest in
-    lets_alike w s bound binds _ _ (λ e t. then_alike w _ _ stop (run_stmt w (control_stmt limit s inner c) e t)) env st
+    let one = block_body limit s inner more x in
+    let other = block_body limit s inner more y in
+    let first = stop_before (bare_manner limit) (gives_several s) c one in
+    let second = stop_before (bare_manner limit) (gives_several s) c other in
+    let stop : AreAlike w first second = stop_alike w limit (gives_several s) c one other (block_alike w limit s inner more x y same) in
+    let control = control_stmt limit s inner c in
+    lets_alike w s bound binds (Then control first) (Then control second) (λ e t. then_alike w first second stop (run_stmt w control e t)) env st
 
 -- the tail of a function runs alike, whatever place it tells
 tail_alike : (w : Around) (of : ReturnKind) (name place other : List ℕ) (b : Block) → AreAlike w (tail_of of name place b) (tail_of of name other b)

@@ -1,5 +1,5 @@
 -- A constant that stands in what a Return of a block gives stands in its function.
-use Rattle.std.proofs.Common.{◌≡◌, ◌⊎◌, inl, inr, ⊎_elim, ℕ, zero, suc, List, [], ◌∷◌, ◌++◌, map, Bool, true, false, Option, Some, None, refl, sym, ap, ◌∙◌, subst}
+use Rattle.std.proofs.Common.{◌≡◌, ◌⊎◌, inl, inr, ⊎_elim, ℕ, zero, suc, List, [], ◌∷◌, ◌++◌, map, take, Bool, true, false, Option, Some, None, refl, sym, ap, ◌∙◌, subst}
 use Rattle.std.specs.Prelude.{Contains, slice_get, ◌==◌, ◌||◌, if◌then◌else◌}
 use Rattle.std.proofs.lemmas.Bool.Decides.{Decides-eqb}
 use Rattle.std.proofs.lemmas.List.Elements.{Contains-append_left, Contains-append_right}
@@ -116,12 +116,12 @@ stands_taken c ps n b h = subst (StandsIn c) (taken ps n b.0 (stands_there c (at
 
 is_in : (locals : List ℕ) (b : BindingId) → Contains locals b.0 → is_bound locals b ≡ true
 is_in [] b c = absurd (none_contained b.0 c)
-is_in (n ∷ locals) b c = one (n == b.0) refl (contained_cases n locals b.0 c)
+is_in (n ∷ locals) b c = one (n == b.0) refl (contained_cases n locals b.0 c) (λ d. is_in locals b d)
   where
-    one : (k : Bool) → (n == b.0) ≡ k → (n ≡ b.0) ⊎ Contains locals b.0 → (k || is_bound locals b) ≡ true
-    one true is h = refl
-    one false is (inl e) = let same : (n == b.0) ≡ true = (Decides-eqb n b.0).1 e in absurd cc
-    one false is (inr d) = is_in locals b d
+    one : (k : Bool) → (n == b.0) ≡ k → (n ≡ b.0) ⊎ Contains locals b.0 → (Contains locals b.0 → is_bound locals b ≡ true) → (k || is_bound locals b) ≡ true
+    one true is h later = refl
+    one false is (inl e) later = let same : (n == b.0) ≡ true = (Decides-eqb n b.0).1 e in absurd cc
+    one false is (inr d) later = later d
 
 either : (x y : Bool) → (x || y) ≡ true → (x ≡ true) ⊎ (y ≡ true)
 either true y e = inl refl
@@ -208,7 +208,7 @@ module _ (env : Environment) (t : Term) (bs : List Binding) (N : List ℕ → Ty
   -- the fields of what is made
   made_covers : (ty : Sym) (variant : Option Sym) (fs : List (List ℕ × Read)) → Covers (expr_names (made_named env ty variant fs)) → Covers (fields_names fs)
   made_covers ty (Some variant) fs covers = covers
-  made_covers ty None [] covers x c = absurd (none_contained x c)
+  made_covers ty None [] covers = λ x c. absurd (none_contained x c)
   made_covers ty None (f ∷ fs) covers = covers
 
   made_all : (locals : List ℕ) (f : Form) (o : Option Form) (fields : List BindingId) → o ≡ Some f → AreReady s locals fields (map (λ (x : List ℕ × TypeId). x.1) (typed_fields env f.fields)) → AreNamed locals → Covers (expr_names (made_expr s locals o fields)) → AnyNamed (at_all ps fields)
@@ -217,7 +217,7 @@ module _ (env : Environment) (t : Term) (bs : List Binding) (N : List ℕ → Ty
       (made_covers f.ty f.variant (field_reads s locals (typed_fields env f.fields) fields) (subst (λ (x : Option Form). Covers (expr_names (made_expr s locals x fields))) is covers))
 
   plain_named : (n : ℕ) (p : Path) → IsInPlace p → Covers (operand_names (written (in_place env n p))) → IsNamed p
-  plain_named n (ConstPrim name) h covers = spelled_named n (ConstPrim name) tt covers
+  plain_named n (ConstPrim name) h covers c e = spelled_named n (ConstPrim name) tt covers c e
   plain_named n (Arg i) h covers c e = absurd e
   plain_named n (ConstBool ty b) h covers c e = absurd e
   plain_named n (ConstInt ty k) h covers c e = absurd e
@@ -245,10 +245,10 @@ module _ (env : Environment) (t : Term) (bs : List Binding) (N : List ℕ → Ty
           reads_named locals (parameter ∷ []) (k.called.ret_ty ∷ []) (k.arg, tt) named (subst (λ (x : Option Term). Covers (expr_names (extraction_expr s locals x (callee_of (extracting env term)) parameter))) k.found all) c (inl (subst (StandsIn c) k.path e))
       of (Some (binding.MatchSome source)) k all c e = named source (is_in locals source k.bound') c (subst (StandsIn c) k.path e)
       of (Some (binding.MatchTuple source field)) k all c e = named source (is_in locals source k.bound') c (subst (StandsIn c) k.path e)
-      of (Some (binding.Argument index)) k all = plain_named b.0 (at ps b) k.0 all
-      of (Some (binding.ConstBool val ty)) k all = plain_named b.0 (at ps b) k.0 all
-      of (Some (binding.ConstInt val ty)) k all = plain_named b.0 (at ps b) k.0 all
-      of (Some (binding.ConstPrim val)) k all = plain_named b.0 (at ps b) k.0 all
+      of (Some (binding.Argument index)) k all c e = plain_named b.0 (at ps b) k.0 all c e
+      of (Some (binding.ConstBool val ty)) k all c e = plain_named b.0 (at ps b) k.0 all c e
+      of (Some (binding.ConstInt val ty)) k all c e = plain_named b.0 (at ps b) k.0 all c e
+      of (Some (binding.ConstPrim val)) k all c e = plain_named b.0 (at ps b) k.0 all c e
       of (Some (binding.MakeVariant ty variant fields)) k all c e = made_all locals k.f (form env (MakesVariant ty variant)) fields k.found k.parts named all c (subst (StandsIn c) k.path e)
       of (Some (binding.MakeStruct ty fields)) k all c e = made_all locals k.f (form env (MakesStruct ty)) fields k.found k.parts named all c (subst (StandsIn c) k.path e)
       of (Some (binding.Iterator source)) k all c e = absurd k

@@ -1,6 +1,5 @@
 use Rattle.isle_core.specs.BlockViews.{block}
-use Rattle.std.proofs.Common.{subst}
-use Rattle.isle_blocks.proofs.Grown.{IsTreeOf, grown_by, tree_of_lawful, tree_of_makes, tree_of_means, tree_of_merged, tree_of_positions, tree_of_several, tree_of_shares, tree_of_tests}
+use Rattle.isle_blocks.proofs.Grown.{grown_by, tree_of_lawful, tree_of_loops, tree_of_makes, tree_of_means, tree_of_merged, tree_of_once_merged, tree_of_returns, tree_of_several, tree_of_tests}
 use Rattle.isle_blocks.proofs.AskedSets.{tree_of_asks}
 use Rattle.isle_blocks.proofs.serialization.serialize.Goals as goal
 
@@ -8,13 +7,6 @@ pub returns-clause-means : goal.returns-clause-means
 returns-clause-means c =
     let s = c.args.rules.now in
     tree_of_means c.args.iterator s (block c.in_ok-tree_of.field-0)
-    (grown_by c.args.iterator s.bindings c.as_slice.result.now c.as_slice-2.result.now c.as_slice-3.result.now c.as_slice-4.result.now s.rules c.as_slice-5.result.now (block c.in_ok-tree_of.field-0) c.in_ok-fields.fields c.in_ok-inners.inners c.in_ok-items.items
-    c.as_slice.ensures c.as_slice-2.ensures c.as_slice-3.ensures c.as_slice-4.ensures c.as_slice-5.ensures c.in_ok-fields.ensures c.in_ok-inners.ensures c.in_ok-items.ensures c.in_ok-tree_of.ensures)
-
-pub returns-clause-positions : goal.returns-clause-positions
-returns-clause-positions c =
-    let s = c.args.rules.now in
-    tree_of_positions c.args.iterator s (block c.in_ok-tree_of.field-0)
     (grown_by c.args.iterator s.bindings c.as_slice.result.now c.as_slice-2.result.now c.as_slice-3.result.now c.as_slice-4.result.now s.rules c.as_slice-5.result.now (block c.in_ok-tree_of.field-0) c.in_ok-fields.fields c.in_ok-inners.inners c.in_ok-items.items
     c.as_slice.ensures c.as_slice-2.ensures c.as_slice-3.ensures c.as_slice-4.ensures c.as_slice-5.ensures c.in_ok-fields.ensures c.in_ok-inners.ensures c.in_ok-items.ensures c.in_ok-tree_of.ensures)
 
@@ -32,6 +24,13 @@ returns-clause-makes c =
     (grown_by c.args.iterator s.bindings c.as_slice.result.now c.as_slice-2.result.now c.as_slice-3.result.now c.as_slice-4.result.now s.rules c.as_slice-5.result.now (block c.in_ok-tree_of.field-0) c.in_ok-fields.fields c.in_ok-inners.inners c.in_ok-items.items
     c.as_slice.ensures c.as_slice-2.ensures c.as_slice-3.ensures c.as_slice-4.ensures c.as_slice-5.ensures c.in_ok-fields.ensures c.in_ok-inners.ensures c.in_ok-items.ensures c.in_ok-tree_of.ensures)
 
+pub returns-clause-returns : goal.returns-clause-returns
+returns-clause-returns c =
+    let s = c.args.rules.now in
+    tree_of_returns c.args.iterator s (block c.in_ok-tree_of.field-0)
+    (grown_by c.args.iterator s.bindings c.as_slice.result.now c.as_slice-2.result.now c.as_slice-3.result.now c.as_slice-4.result.now s.rules c.as_slice-5.result.now (block c.in_ok-tree_of.field-0) c.in_ok-fields.fields c.in_ok-inners.inners c.in_ok-items.items
+    c.as_slice.ensures c.as_slice-2.ensures c.as_slice-3.ensures c.as_slice-4.ensures c.as_slice-5.ensures c.in_ok-fields.ensures c.in_ok-inners.ensures c.in_ok-items.ensures c.in_ok-tree_of.ensures)
+
 pub returns-clause-lawful : goal.returns-clause-lawful
 returns-clause-lawful c =
     let s = c.args.rules.now in
@@ -46,20 +45,26 @@ returns-clause-several c =
     (grown_by c.args.iterator s.bindings c.as_slice.result.now c.as_slice-2.result.now c.as_slice-3.result.now c.as_slice-4.result.now s.rules c.as_slice-5.result.now (block c.in_ok-tree_of.field-0) c.in_ok-fields.fields c.in_ok-inners.inners c.in_ok-items.items
     c.as_slice.ensures c.as_slice-2.ensures c.as_slice-3.ensures c.as_slice-4.ensures c.as_slice-5.ensures c.in_ok-fields.ensures c.in_ok-inners.ensures c.in_ok-items.ensures c.in_ok-tree_of.ensures)
 
-pub returns-clause-shares : goal.returns-clause-shares
-returns-clause-shares c = λ env t h is.
-    let s = c.args.rules.now in
-    tree_of_shares c.args.iterator s (block c.in_ok-tree_of.field-0)
-    (grown_by c.args.iterator s.bindings c.as_slice.result.now c.as_slice-2.result.now c.as_slice-3.result.now c.as_slice-4.result.now s.rules c.as_slice-5.result.now (block c.in_ok-tree_of.field-0) c.in_ok-fields.fields c.in_ok-inners.inners c.in_ok-items.items
-    c.as_slice.ensures c.as_slice-2.ensures c.as_slice-3.ensures c.as_slice-4.ensures c.as_slice-5.ensures c.in_ok-fields.ensures c.in_ok-inners.ensures c.in_ok-items.ensures c.in_ok-tree_of.ensures) env t h
-
 pub returns-clause-merged : goal.returns-clause-merged
-returns-clause-merged c = λ once.
+returns-clause-merged c =
     let s = c.args.rules.now in
-    tree_of_merged s (block c.in_ok-tree_of.field-0)
-    (subst (λ several. IsTreeOf several s.bindings s.rules (block c.in_ok-tree_of.field-0)) once
+    tree_of_merged c.args.iterator s (block c.in_ok-tree_of.field-0)
     (grown_by c.args.iterator s.bindings c.as_slice.result.now c.as_slice-2.result.now c.as_slice-3.result.now c.as_slice-4.result.now s.rules c.as_slice-5.result.now (block c.in_ok-tree_of.field-0) c.in_ok-fields.fields c.in_ok-inners.inners c.in_ok-items.items
-    c.as_slice.ensures c.as_slice-2.ensures c.as_slice-3.ensures c.as_slice-4.ensures c.as_slice-5.ensures c.in_ok-fields.ensures c.in_ok-inners.ensures c.in_ok-items.ensures c.in_ok-tree_of.ensures))
+    c.as_slice.ensures c.as_slice-2.ensures c.as_slice-3.ensures c.as_slice-4.ensures c.as_slice-5.ensures c.in_ok-fields.ensures c.in_ok-inners.ensures c.in_ok-items.ensures c.in_ok-tree_of.ensures)
+
+pub returns-clause-once_merged : goal.returns-clause-once_merged
+returns-clause-once_merged c =
+    let s = c.args.rules.now in
+    tree_of_once_merged c.args.iterator s (block c.in_ok-tree_of.field-0)
+    (grown_by c.args.iterator s.bindings c.as_slice.result.now c.as_slice-2.result.now c.as_slice-3.result.now c.as_slice-4.result.now s.rules c.as_slice-5.result.now (block c.in_ok-tree_of.field-0) c.in_ok-fields.fields c.in_ok-inners.inners c.in_ok-items.items
+    c.as_slice.ensures c.as_slice-2.ensures c.as_slice-3.ensures c.as_slice-4.ensures c.as_slice-5.ensures c.in_ok-fields.ensures c.in_ok-inners.ensures c.in_ok-items.ensures c.in_ok-tree_of.ensures)
+
+pub returns-clause-loops : goal.returns-clause-loops
+returns-clause-loops c =
+    let s = c.args.rules.now in
+    tree_of_loops c.args.iterator s (block c.in_ok-tree_of.field-0)
+    (grown_by c.args.iterator s.bindings c.as_slice.result.now c.as_slice-2.result.now c.as_slice-3.result.now c.as_slice-4.result.now s.rules c.as_slice-5.result.now (block c.in_ok-tree_of.field-0) c.in_ok-fields.fields c.in_ok-inners.inners c.in_ok-items.items
+    c.as_slice.ensures c.as_slice-2.ensures c.as_slice-3.ensures c.as_slice-4.ensures c.as_slice-5.ensures c.in_ok-fields.ensures c.in_ok-inners.ensures c.in_ok-items.ensures c.in_ok-tree_of.ensures)
 
 pub returns-clause-asks : goal.returns-clause-asks
 returns-clause-asks c =

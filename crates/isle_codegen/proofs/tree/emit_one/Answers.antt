@@ -44,7 +44,7 @@ returns c =
     let often : is_several (kind_of h.term.kind) ≡ c.is_several.result = ap (λ (t : Term). is_several (kind_of t.kind)) (sym same) ∙ sym c.is_several.ensures in
     IfOk-weaker c.term_function.result _ _
     (λ f given. is_emitted s.options.now s.files.now env c.args.term c.args.rules.now x b (function f) h there
-    (c.in_ok-block.ensures.lawful env h.term h.ready (λ several. calls_once s.files.now env c.args.term c.args.rules.now h) often) (λ once. c.in_ok-block.ensures.merged (sym often ∙ once)) (c.in_ok-block.ensures.shares env h.term h.ready often)
+    (c.in_ok-block.ensures.lawful env h.term h.ready (λ several. calls_once s.files.now env c.args.term c.args.rules.now h) often) (c.in_ok-block.ensures.merged env h.term h.ready often) c.in_ok-block.ensures.loops
     (record {
       once = λ single m args kind apart. c.in_ok-block.ensures.means env m h.term args kind h.ready often single apart;
       several = λ several. c.in_ok-block.ensures.several env h.term h.ready often several h.lists;

@@ -1,8 +1,0 @@
-use Rattle.std.proofs.Common.{◌≡◌, List, map, take}
-use Rattle.isle_core.specs.Path.{Path}
-use Rattle.isle_blocks.specs.Free.{is_free}
-use Rattle.isle_blocks.specs.Ways.{way, way_of}
-use Rattle.isle_blocks.proofs.ways.ways_of.Given as goal
-
-abbrev pub invariant-loop-rule : goal.invariant-loop-rule
-invariant-loop-rule l = (ps : List Path) → l.free ≡ map is_free ps → map way l.ways.items ≡ map (way_of l.several ps) (take l.rule-index l.rules)
