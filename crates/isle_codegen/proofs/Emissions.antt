@@ -14,6 +14,7 @@ use Rattle.isle_core.specs.BlockLawful.{IsLawfulBlock}
 use Rattle.isle_core.specs.declared.rule_sets.FlatRule.{FlatRule}
 use Rattle.isle_core.specs.Path.{paths_of}
 use Rattle.isle_core.specs.Calling.{is_several, kind_of}
+use Rattle.isle_blocks.specs.AllReturns.{MakesReturns}
 use Rattle.isle_blocks.specs.AllTests.{MakesTests}
 use Rattle.isle_blocks.specs.AskedBound.{AsksAtMost}
 use Rattle.isle_blocks.specs.LoopFree.{HasNoLoop}
@@ -50,9 +51,9 @@ calls_once files env id s h = each s.rules h.lists
 
 -- the function of a block of the rule set is emitted for it
 pub is_emitted : (options : CodegenOptions) (files : Files) (env : Environment) (id : TermId) (s : RuleSet) (t : Term) (b : Block) (f : Function) → (h : CanEmit files env (id, s)) → slice_get env.terms id.0 ≡ Some t
-    → IsLawfulBlock (setting env h.term s.bindings) b → IsMerged b → HasLoopsApart s b → MeansSet env h.term s b → TestsRules s b → MakesTests (is_several (kind_of h.term.kind)) s b → (AllByRecursion (OrdersCallsOnce env (paths_of s.bindings)) s.rules → HasNoLoop b → AsksAtMost env s b)
+    → IsLawfulBlock (setting env h.term s.bindings) b → IsMerged b → HasLoopsApart s b → MeansSet env h.term s b → TestsRules s b → MakesTests (is_several (kind_of h.term.kind)) s b → MakesReturns (is_several (kind_of h.term.kind)) s b → (AllByRecursion (OrdersCallsOnce env (paths_of s.bindings)) s.rules → HasNoLoop b → AsksAtMost env s b)
     → term_function options files (setting env t s.bindings) b ≡ Some f → IsEmitted options files env id s f
-is_emitted options files env id s t b f h there lawful merged loops means tests makes asks given = record {
+is_emitted options files env id s t b f h there lawful merged loops means tests makes gives asks given = record {
   term = h.term;
   found = h.found;
   block = b;
@@ -62,6 +63,7 @@ is_emitted options files env id s t b f h there lawful merged loops means tests 
   means = means;
   tests = tests;
   makes = makes;
+  gives = gives;
   asks = asks;
   given = ap (λ (u : Term). term_function options files (setting env u s.bindings) b) (sym (term_is files env id s t h there)) ∙ given;
 }

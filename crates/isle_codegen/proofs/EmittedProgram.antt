@@ -95,6 +95,7 @@ are_from_blocks options files env (s ∷ sets) (f ∷ fs) stand h = (
     lines = its_lines options files env h.0.term s.1.bindings h.0.block f h.0.lawful h.0.given;
     tests = h.0.tests;
     makes = h.0.makes;
+    gives = h.0.gives;
     returns = returns_of_rules env (paths_of s.1.bindings) (rules_of env s.0) s.1.rules 0 (return_positions h.0.block) stand.0.flat (tests_positions s.1 h.0.block h.0.tests);
     calls = λ callee c. bound_called env s.0 s.1 stand.0 callee (function_calls options files env h.0.term s.1.bindings h.0.block f h.0.lawful h.0.given callee c);
   },

@@ -20,6 +20,7 @@ use Rattle.isle_core.specs.Places.{LiesIn}
 use Rattle.isle_core.specs.Rule.{Environment}
 use Rattle.isle_core.specs.Serializable.{IsSerializable}
 use Rattle.isle_core.specs.Setting.{setting}
+use Rattle.isle_blocks.specs.AllReturns.{MakesReturns}
 use Rattle.isle_blocks.specs.AllTests.{MakesTests}
 use Rattle.isle_blocks.specs.ApartRules.{AreRulesApart}
 use Rattle.isle_blocks.specs.AskedBound.{AsksAtMost}
@@ -61,7 +62,7 @@ pub record MeansSet (env : Environment) (t : Term) (s : RuleSet) (b : Block) : T
   pub several : is_several (kind_of t.kind) ≡ true → GivesSeveral env s b
 
 -- the function of the term, from a block that is lawful for its rule set, shares its tests, keeps loops apart, tests and returns what its rules do, all tests
--- that are tried, asks no more than its rules read if it has no Loop, and means the set
+-- that are tried and what each rule gives that is reached, asks no more than its rules read if it has no Loop, and means the set
 pub record IsEmitted (options : CodegenOptions) (files : Files) (env : Environment) (id : TermId) (s : RuleSet) (f : Function) : Type 0 where
   pub term : Term
   pub found : slice_get env.terms id.0 ≡ Some term
@@ -72,6 +73,7 @@ pub record IsEmitted (options : CodegenOptions) (files : Files) (env : Environme
   pub means : MeansSet env term s block
   pub tests : TestsRules s block
   pub makes : MakesTests (is_several (kind_of term.kind)) s block
+  pub gives : MakesReturns (is_several (kind_of term.kind)) s block
   pub asks : AllByRecursion (OrdersCallsOnce env (paths_of s.bindings)) s.rules → HasNoLoop block → AsksAtMost env s block
   pub given : term_function options files (setting env term s.bindings) block ≡ Some f
 

@@ -14,6 +14,7 @@ use Rattle.isle_core.specs.ReturnPositions.{return_positions}
 use Rattle.isle_core.specs.Rule.{Environment, Rule, rules_of}
 use Rattle.isle_core.specs.Setting.{setting}
 use Rattle.isle_core.specs.StandsFor.{StandsFor}
+use Rattle.isle_blocks.specs.AllReturns.{MakesReturns}
 use Rattle.isle_blocks.specs.AllTests.{MakesTests}
 use Rattle.isle_blocks.specs.LoopsApart.{HasLoopsApart}
 use Rattle.isle_blocks.specs.Merged.{IsMerged}
@@ -30,7 +31,7 @@ use Rattle.isle_codegen.specs.Emits.{MeansSet}
 -- the function is that of a block which is lawful for a rule set that stands for the term's rules, shares its tests, keeps loops apart, and means it: it has
 -- the block's shape, its head, its statements and its tail are those of the block; its log lines are, if they are asked for, the term's
 -- name with the place of each Return of the block, in order; the block tests nothing that no rule of the set tests, and each test that
--- is tried; each Return has the position and the result of one rule, so that its position is that of one of the term's rules; its calls are
+-- is tried, and returns what each rule gives that is reached; each Return has the position and the result of one rule, so that its position is that of one of the term's rules; its calls are
 -- those of the rules
 pub record IsFromBlock (options : CodegenOptions) (files : Files) (env : Environment) (id : TermId) (f : Function) : Type 0 where
   pub term : Term
@@ -47,6 +48,7 @@ pub record IsFromBlock (options : CodegenOptions) (files : Files) (env : Environ
   pub lines : lines_of f.body ≡ log_lines options files (setting env term set.bindings) block
   pub tests : TestsRules set block
   pub makes : MakesTests (is_several (kind_of term.kind)) set block
+  pub gives : MakesReturns (is_several (kind_of term.kind)) set block
   pub returns : AllByRecursion (Contains (map (λ (r : Rule). r.pos) (rules_of env id))) (return_positions block)
   pub calls : (callee : Callee) → Contains (body_calls f.body) callee → IsCalledBy env id callee
 

@@ -7,6 +7,7 @@ use Rattle.isle_core.specs.Calling.{is_several, kind_of}
 use Rattle.isle_core.specs.Places.{LiesIn}
 use Rattle.isle_core.specs.RuleViews.{environment}
 use Rattle.isle_core.specs.Setting.{setting}
+use Rattle.isle_blocks.specs.AllReturns.{MakesReturns}
 use Rattle.isle_blocks.specs.AllTests.{MakesTests}
 use Rattle.isle_tree.specs.Views.{function}
 use Rattle.isle_codegen.proofs.Emissions.{calls_once, is_emitted, at_place, term_is}
@@ -51,6 +52,7 @@ returns c =
     })
     c.in_ok-block.ensures.tests
     (subst (λ (several : Bool). MakesTests several c.args.rules.now b) (sym often) c.in_ok-block.ensures.makes)
+    (subst (λ (several : Bool). MakesReturns several c.args.rules.now b) (sym often) c.in_ok-block.ensures.returns)
     (λ once free. c.in_ok-block.ensures.asks env h.term h.ready often once (λ several. free))
     given)
     c.term_function.ensures
