@@ -13,21 +13,18 @@ use Rattle.isle_core.specs.Block.{Control}
 use Rattle.isle_core.specs.BlockRun.{bind_all}
 use Rattle.isle_core.specs.BlockViews.{SeenStep}
 use Rattle.isle_core.specs.Calling.{Calling, ByTurns, ByCases, NoCall, calling, answers_often}
-use Rattle.isle_core.specs.CallRun.{Went, Goes, Ends, then_go, take_turn, make_call, make}
+use Rattle.isle_core.specs.CallRun.{Went, Goes, Ends, then_go, make}
 use Rattle.isle_core.specs.ExternalCall.{IsCall}
-use Rattle.isle_core.specs.Meaning.{Meaning, turn}
+use Rattle.isle_core.specs.Meaning.{Meaning}
 use Rattle.isle_core.specs.Parts.{Given}
 use Rattle.isle_core.specs.Path.{Path, Called, Chosen, Paths, at, paths_of}
 use Rattle.isle_core.specs.Rule.{Environment}
 use Rattle.isle_core.specs.SamePath.{same_path}
 use Rattle.isle_core.specs.SeveralRun.{choosing, behind_calls, on_turns, on_items, several_run, several_control}
 use Rattle.isle_core.specs.SeveralSet.{Rest, is_among, behind_answer, behind_call}
-use Rattle.isle_core.specs.Value.{Value, Answer, Made}
-use Rattle.isle_core.specs.ValueAt.{Known, value_at, values_at, is_found}
-use Rattle.isle_core.proofs.CallsFollow.{with_else}
+use Rattle.isle_core.specs.Value.{Value, Made}
+use Rattle.isle_core.specs.ValueAt.{Known, value_at, is_found}
 use Rattle.isle_core.proofs.Contained.{head_contained, tail_contained}
-use Rattle.isle_core.proofs.FirstCalls.{IfGoes}
-use Rattle.isle_core.proofs.HeldStays.{Grows}
 use Rattle.isle_core.proofs.SamePathLaws.{same_sound}
 use Rattle.isle_core.proofs.TakenItems.{by_truth}
 use Rattle.isle_blocks.specs.Needed.{list_before}
@@ -40,32 +37,10 @@ use Rattle.isle_blocks.proofs.OrderedPlain.{NoItems}
 
 -- ---- calls
 
--- a call leaves the answers known and the items chosen
-none_some : (o : Option Answer) (a : Answer) → o ≡ None → o ≡ Some a → ⊥
-none_some None a e h = cc
-none_some (Some b) a e h = cc
-
-grows_self : (a : Known) → Grows a a
-grows_self a = record { by = λ k x e. e; choice = refl }
-
-turn_grows : (m : Meaning) (callee : Callee) (n : ℕ) (o : Option Answer) (vs : Option (List Value)) (known : Known) (made : List Made) → known.answers n ≡ o → IfGoes (take_turn m callee n o vs known made) (λ k d. Grows known k)
-turn_grows m callee n (Some a) vs known made e = grows_self known
-turn_grows m callee n None (Some vs) known made e = record { by = λ k x is. with_else known.answers n k (turn m callee made) (λ (q : n ≡ k). none_some (known.answers n) x e (ap known.answers q ∙ is)) ∙ is; choice = refl }
-turn_grows m callee n None None known made e = grows_self known
-
-call_grows : (m : Meaning) (c : Calling) (n : ℕ) (vs : Option (List Value)) (known : Known) (made : List Made) → IfGoes (make_call m c n vs known made) (λ k d. Grows known k)
-call_grows m (ByTurns callee kind) n vs known made = turn_grows m callee n (known.answers n) vs known made refl
-call_grows m (ByCases callee kind) n vs known made = grows_self known
-call_grows m NoCall n vs known made = grows_self known
-
-pub make_grows : (env : Environment) (m : Meaning) (args : List Value) (p : Path) (known : Known) (made : List Made) → IfGoes (make env m args p known made) (λ k d. Grows known k)
-make_grows env m args (Called term ps n) known made = call_grows m (calling env term) n (values_at env m args known ps) known made
-make_grows env m args p known made = grows_self known
-
--- what follows calls, if this holds
-pub behind_kept : (w : Went) (g : Given) (P : Known → Type 0) (one other : Known → Given → Given) → IfGoes w (λ k d. P k) → ((k : Known) (so : Given) → P k → one k so ≡ other k so) → behind_calls w g one ≡ behind_calls w g other
-behind_kept (Goes known made) g P one other p h = h known (record { results = g.results; calls = made }) p
-behind_kept (Ends o) g P one other p h = refl
+-- what follows calls may be told in other words
+pub behind_same : (w : Went) (g : Given) (one other : Known → Given → Given) → ((k : Known) (so : Given) → one k so ≡ other k so) → behind_calls w g one ≡ behind_calls w g other
+behind_same (Goes known made) g one other h = h known (record { results = g.results; calls = made })
+behind_same (Ends o) g one other h = refl
 
 behind_given : (w : Went) (g : Given) (made : List Made) (next : Known → Given → Given) → behind_calls w g next ≡ behind_calls w (record { results = g.results; calls = made }) next
 behind_given (Goes known calls) g made next = refl

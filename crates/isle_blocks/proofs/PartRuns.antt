@@ -1,20 +1,18 @@
 -- Behind the tests and the lists of a rule, its ordered calls and its result add what its part adds.
-use Rattle.std.proofs.Common.{◌≡◌, ⊎_elim, ℕ, List, [], ◌∷◌, ◌++◌, Bool, true, false, IsTrue, cond, Option, Some, None, map, refl, sym, ap, ◌∙◌, subst, append_assoc}
+use Rattle.std.proofs.Common.{◌≡◌, ⊎_elim, ℕ, List, [], ◌∷◌, ◌++◌, Bool, true, false, IsTrue, Option, map, refl, sym, ap, ◌∙◌, subst, append_assoc}
 use Rattle.std.specs.Prelude.{slice_get, Contains}
 use Rattle.std.proofs.lemmas.List.{append-nil}
 use Rattle.isle_core.specs.declared.BindingId.{BindingId}
 use Rattle.isle_core.specs.declared.position.Pos.{Pos}
 use Rattle.isle_core.specs.declared.rule_sets.Binding.{Binding}
-use Rattle.isle_core.specs.declared.rule_sets.Constraint.TheVariants as constraint
 use Rattle.isle_core.specs.declared.types.ReturnKind.{ReturnKind}
 use Rattle.isle_core.specs.declared.types.ReturnKind.TheVariants as return_kind
 use Rattle.isle_core.specs.declared.types.Term.{Term}
-use Rattle.isle_core.specs.Answered.{Held, Absent, One, Optional, Listed}
 use Rattle.isle_core.specs.Bindable.{bound_by}
 use Rattle.isle_core.specs.Block.{Return}
 use Rattle.isle_core.specs.BlockViews.{SeenStep}
 use Rattle.isle_core.specs.Calling.{calling, kind_of, is_several, may_be_nothing}
-use Rattle.isle_core.specs.CallRun.{Went, Goes, Ends, make}
+use Rattle.isle_core.specs.CallRun.{Goes, make}
 use Rattle.isle_core.specs.ExternalCall.{IsCall}
 use Rattle.isle_core.specs.HoldsImpure.{holds_impure}
 use Rattle.isle_core.specs.Iterators.{calls_multi}
@@ -27,38 +25,23 @@ use Rattle.isle_core.specs.Serializable.{IsSerializableCall, AreSerializableCall
 use Rattle.isle_core.specs.SeveralRun.{choosing, give_held, behind_calls, on_items, several_run}
 use Rattle.isle_core.specs.SeveralSet.{Rest, behind_answer, behind_ordered}
 use Rattle.isle_core.specs.StandsFor.{EachOnce}
-use Rattle.isle_core.specs.Tests.{Test, Is}
-use Rattle.isle_core.specs.Value.{Value, Answer}
-use Rattle.isle_core.specs.ValueAt.{Known, value_at, values_at, is_found, holds, all_hold}
+use Rattle.isle_core.specs.Tests.{Test}
+use Rattle.isle_core.specs.Value.{Value}
+use Rattle.isle_core.specs.ValueAt.{Known, value_at, values_at}
 use Rattle.isle_core.specs.ListOrder.{ListsWithin}
-use Rattle.isle_core.proofs.ChoiceLists.{AgreeOn}
 use Rattle.isle_core.proofs.Contained.{head_contained, tail_contained}
-use Rattle.isle_core.proofs.FirstCalls.{IfGoes}
-use Rattle.isle_core.proofs.HeldStays.{IsThere, Grows, held_stays}
 use Rattle.isle_blocks.specs.Needed.{needs, parameters_of}
 use Rattle.isle_blocks.specs.Nest.{alone, opening, with_inner, call_binds, binds, was_bound, left_one, left_calls}
 use Rattle.isle_blocks.proofs.Behind.{cons_cases}
 use Rattle.isle_blocks.proofs.FreshLists.{IsPlainAt, ArePlainAt}
-use Rattle.isle_blocks.proofs.LawBinds.{one_holds, made_anyway}
+use Rattle.isle_blocks.proofs.LawBinds.{made_anyway}
 use Rattle.isle_blocks.proofs.ListsRead.{HasOpened}
-use Rattle.isle_blocks.proofs.MadeBefore.{call_there, next_there}
+use Rattle.isle_blocks.proofs.MadeBefore.{next_there}
 use Rattle.isle_blocks.proofs.NeededRuns.{AreStill}
 use Rattle.isle_blocks.proofs.NextLaws.{FindsNext, HasNext, has_none, has_inner, has_item, has_next}
-use Rattle.isle_blocks.proofs.OpenedRuns.{agree_within, choosing_agrees}
 use Rattle.isle_blocks.proofs.OrderedPlain.{NoItems, PlainBinds}
-use Rattle.isle_blocks.proofs.OrderedRuns.{make_grows, behind_kept, called_behind, by_kind, answered, often_is, items_alike, plain_run, call_run, item_run}
+use Rattle.isle_blocks.proofs.OrderedRuns.{behind_same, called_behind, by_kind, answered, often_is, items_alike, plain_run, call_run, item_run}
 use Rattle.isle_blocks.proofs.StillRules.{StillBinds, AreTested}
-
-found_there : (h : Held) → is_found h ≡ true → IsThere h
-found_there (Optional (Some i)) e = tt
-found_there (Optional None) e = tt
-found_there Absent e = cc
-found_there (One i) e = cc
-found_there (Listed is) e = cc
-
-if_goes : (P Q : Known → Type 0) (w : Went) → ((k : Known) → P k → Q k) → IfGoes w (λ k d. P k) → IfGoes w (λ k d. Q k)
-if_goes P Q (Goes k d) f h = f k h
-if_goes P Q (Ends o) f h = tt
 
 -- a term that answers several times answers never nothing
 never_nothing : (kind : ReturnKind) → is_several kind ≡ true → IsTrue (may_be_nothing kind) → ⊥
@@ -66,44 +49,21 @@ never_nothing return_kind.Plain e h = cc
 never_nothing return_kind.Option e h = cc
 never_nothing return_kind.Iterator e h = cc
 
-module _ (env : Environment) (t : Term) (often : is_several (kind_of t.kind) ≡ true) (m : Meaning) (args : List Value) (bs : List Binding) (next : ℕ → Option BindingId) (found : FindsNext bs next) (once : EachOnce (paths_of bs)) (tests : List Test) (known0 : Known) (start : List ℕ) (opened : List Path) (open' : HasOpened bs start opened)
-    (tested : AreTested env bs next tests start) (all : all_hold env m (value_at env m args known0) tests ≡ true) (early : (q : Path) → Contains opened q → holds_impure env q ≡ false) (pos : Pos) (result : BindingId) where
-  -- more is known, and no other items are chosen of the lists that were opened
-  pub record IsLater (now : Known) : Type 0 where
-    pub answers : (k : ℕ) (a : Answer) → known0.answers k ≡ Some a → now.answers k ≡ Some a
-    pub choice : AgreeOn opened now.choice known0.choice
-
-  later_grows : (known now : Known) → IsLater known → Grows known now → IsLater now
-  later_grows known now l g = record { answers = λ k a e. g.by k a (l.answers k a e); choice = λ q c. ap (λ (d : Path → ℕ). d q) g.choice ∙ l.choice q c }
-
-  later_chosen : (known : Known) (p : Path) (place : ℕ) → (Contains opened p → ⊥) → IsLater known → IsLater (choosing known p place)
-  later_chosen known p place new l = record { answers = l.answers; choice = λ q c. choosing_agrees env m args opened p place known new q c ∙ l.choice q c }
-
-  -- what stood at a path stands there
-  later_value : (p : Path) (now : Known) → ListsWithin opened p → IsThere (value_at env m args known0 p) → IsLater now → value_at env m args now p ≡ value_at env m args known0 p
-  later_value p now within there l =
-      let mid : Known = record { answers = now.answers; choice = known0.choice } in
-      agree_within env m args p opened now mid refl l.choice within ∙ held_stays p env m args known0 mid (record { by = l.answers; choice = refl }) there
-
-  later_found : (p : Path) (now : Known) → ListsWithin opened p → is_found (value_at env m args known0 p) ≡ true → IsLater now → is_found (value_at env m args now p) ≡ true
-  later_found p now within is l = ap is_found (later_value p now within (found_there (value_at env m args known0 p) is) l) ∙ is
-
+module _ (env : Environment) (t : Term) (often : is_several (kind_of t.kind) ≡ true) (m : Meaning) (args : List Value) (bs : List Binding) (next : ℕ → Option BindingId) (found : FindsNext bs next) (once : EachOnce (paths_of bs)) (tests : List Test) (start : List ℕ) (opened : List Path) (open' : HasOpened bs start opened)
+    (tested : AreTested env bs next tests start) (early : (q : Path) → Contains opened q → holds_impure env q ≡ false) (pos : Pos) (result : BindingId) where
   -- ---- a call that was bound at the start
 
   -- its answer is gone through already
   skipped : (c : BindingId) (done : List Path) (call : IsSerializableCall env t tests (paths_of bs) done (at (paths_of bs) c)) → was_bound next start c ≡ true → (calls_multi env (at (paths_of bs) c) ≡ true → holds_impure env (at (paths_of bs) c) ≡ true)
-      → (known : Known) (g : Given) (rest : Rest) → IsLater known → (kind : ReturnKind) → IsCall kind (calling env call.term) → HasNext bs next c kind
+      → (known : Known) (g : Given) (rest : Rest) → (kind : ReturnKind) → (IsTrue (may_be_nothing kind) → ⊥) → IsCall kind (calling env call.term) → HasNext bs next c kind
       → by_kind kind (at (paths_of bs) c) (value_at env m args known (at (paths_of bs) c)) (at (paths_of bs) c ∷ done) known g rest ≡ rest (at (paths_of bs) c ∷ done) known g
-  skipped c done call e late known g rest l return_kind.Plain is (has_none one no_inner no_item) = refl
-  skipped c done call e late known g rest l return_kind.Option is (has_inner b one stands path no_item) =
-      let p = at (paths_of bs) c in
-      let holds_then = one_holds (holds env m (value_at env m args known0)) tests (Is p constraint.Some) all ((tested c e).found b one path) in
-      ap (λ x. cond x (rest (p ∷ done) known g) g) (later_found p known (open'.within c (call_there next start c e)) holds_then l)
-  skipped c done call e late known g rest l return_kind.Iterator is (has_item b one stands path no_inner) =
+  skipped c done call e late known g rest return_kind.Plain never is (has_none one no_inner no_item) = refl
+  skipped c done call e late known g rest return_kind.Option never is (has_inner b one stands path no_item) = absurd (never refl)
+  skipped c done call e late known g rest return_kind.Iterator never is (has_item b one stands path no_inner) =
       let p = at (paths_of bs) c in
       let within : ListsWithin opened (Chosen p) = subst (ListsWithin opened) path (open'.within b (next_there next start c b one e)) in
-      let often : calls_multi env p ≡ true = subst (λ q. calls_multi env q ≡ true) (sym call.path) (often_is (calling env call.term) is) in
-      let bad : true ≡ false = sym (late often) ∙ early p within.0 in
+      let often' : calls_multi env p ≡ true = subst (λ q. calls_multi env q ≡ true) (sym call.path) (often_is (calling env call.term) is) in
+      let bad : true ≡ false = sym (late often') ∙ early p within.0 in
       absurd cc
 
   -- and it takes no turn
@@ -120,29 +80,22 @@ module _ (env : Environment) (t : Term) (often : is_several (kind_of t.kind) ≡
   abbrev pub run_of : SeenStep → Known → Given → Given
   run_of s known g = several_run env m args (paths_of bs) (alone s) known g
 
-  call_here : (c : BindingId) (done : List Path) (tail : List BindingId) (rest : Rest) (call : IsSerializableCall env t tests (paths_of bs) done (at (paths_of bs) c)) → IsPlainAt bs c → (calls_multi env (at (paths_of bs) c) ≡ true → holds_impure env (at (paths_of bs) c) ≡ true)
-      → ((now : Known) (so : Given) → IsLater now → run_of (step_of tail) now so ≡ rest (at (paths_of bs) c ∷ done) now so) → (kind : ReturnKind) → (IsTrue (may_be_nothing kind) → ⊥) → IsCall kind (calling env call.term) → HasNext bs next c kind → (known : Known) (g : Given) → IsLater known
+  call_here : (c : BindingId) (done : List Path) (tail : List BindingId) (rest : Rest) (call : IsSerializableCall env t tests (paths_of bs) done (at (paths_of bs) c)) → IsPlainAt bs c
+      → ((now : Known) (so : Given) → run_of (step_of tail) now so ≡ rest (at (paths_of bs) c ∷ done) now so) → (kind : ReturnKind) → (IsTrue (may_be_nothing kind) → ⊥) → HasNext bs next c kind → (known : Known) (g : Given)
       → run_of (step_of (with_inner (next c.0) c ++ tail)) known g
       ≡ behind_calls (make env m args (at (paths_of bs) c) known g.calls) g (λ now so. by_kind kind (at (paths_of bs) c) (value_at env m args now (at (paths_of bs) c)) (at (paths_of bs) c ∷ done) now so rest)
-  call_here c done tail rest call plain late h return_kind.Plain never is (has_none one no_inner no_item) known g l =
+  call_here c done tail rest call plain h return_kind.Plain never (has_none one no_inner no_item) known g =
       let p = at (paths_of bs) c in
       ap (λ o. run_of (step_of (with_inner o c ++ tail)) known g) one
       ∙ call_run env m args bs c (step_of tail) call.term call.parameters call.instance known g plain call.path
-      ∙ behind_kept (make env m args p known g.calls) g IsLater (run_of (step_of tail)) (λ now so. rest (p ∷ done) now so) (if_goes (Grows known) IsLater (make env m args p known g.calls) (λ k grown. later_grows known k l grown) (make_grows env m args p known g.calls))
-      (λ k so later. h k so later)
-  call_here c done tail rest call plain late h return_kind.Option never is (has_inner b one stands path no_item) known g l = absurd (never refl)
-  call_here c done tail rest call plain late h return_kind.Iterator never is (has_item b one stands path no_inner) known g l =
+      ∙ behind_same (make env m args p known g.calls) g (run_of (step_of tail)) (λ now so. rest (p ∷ done) now so) h
+  call_here c done tail rest call plain h return_kind.Option never (has_inner b one stands path no_item) known g = absurd (never refl)
+  call_here c done tail rest call plain h return_kind.Iterator never (has_item b one stands path no_inner) known g =
       let p = at (paths_of bs) c in
-      let often : calls_multi env p ≡ true = subst (λ q. calls_multi env q ≡ true) (sym call.path) (often_is (calling env call.term) is) in
-      let new : Contains opened p → ⊥ = λ there. true_false (sym (late often) ∙ early p there) in
       ap (λ o. run_of (step_of (with_inner o c ++ tail)) known g) one
       ∙ call_run env m args bs c (step_of (b ∷ tail)) call.term call.parameters call.instance known g plain call.path
-      ∙ behind_kept (make env m args p known g.calls) g IsLater (run_of (step_of (b ∷ tail))) (λ now so. on_items p (value_at env m args now p) now so (rest (p ∷ done)))
-      (if_goes (Grows known) IsLater (make env m args p known g.calls) (λ k grown. later_grows known k l grown) (make_grows env m args p known g.calls))
-      (λ k so later. item_run env m args bs c b (step_of tail) k so stands path ∙ items_alike p (value_at env m args k p) k so (run_of (step_of tail)) (rest (p ∷ done)) (λ j x. h (choosing k p j) x (later_chosen k p j new later)))
-    where
-      true_false : true ≡ false → ⊥
-      true_false e = cc
+      ∙ behind_same (make env m args p known g.calls) g (run_of (step_of (b ∷ tail))) (λ now so. on_items p (value_at env m args now p) now so (rest (p ∷ done)))
+      (λ k so. item_run env m args bs c b (step_of tail) k so stands path ∙ items_alike p (value_at env m args k p) k so (run_of (step_of tail)) (rest (p ∷ done)) (λ j x. h (choosing k p j) x))
 
   -- ---- calls in order
 
@@ -152,13 +105,13 @@ module _ (env : Environment) (t : Term) (often : is_several (kind_of t.kind) ≡
 
   pub ordered_run : (ns : List BindingId) → AreStill env (paths_of bs) ns → NoItems bs ns → (cs : List BindingId) (bound : List ℕ) (done : List Path) → AreSerializableCalls env t tests (paths_of bs) done (map (at (paths_of bs)) cs) → ArePlainAt bs cs
       → StillBinds env bs next (left_calls next start cs) bound → PlainBinds bs next (left_calls next start cs) bound → EachOnce (map (at (paths_of bs)) cs) → ((q : Path) → Contains done q → Contains (map (at (paths_of bs)) cs) q → ⊥)
-      → ((q : Path) → Contains (map (at (paths_of bs)) cs) q → calls_multi env q ≡ true → holds_impure env q ≡ true) → (known : Known) (g : Given) → IsLater known
+      → ((q : Path) → Contains (map (at (paths_of bs)) cs) q → calls_multi env q ≡ true → holds_impure env q ≡ true) → (known : Known) (g : Given)
       → run_of (step_of (binds bs next bound (left_calls next start cs) ++ ns)) known g ≡ behind_ordered env m args (map (at (paths_of bs)) cs) done known g gives
-  ordered_run ns ns_still ns_plain [] bound done calls plain still none apart new late known g l =
+  ordered_run ns ns_still ns_plain [] bound done calls plain still none apart new late known g =
       ap (λ xs. run_of (step_of xs) known g) (sym (append-nil ns)) ∙ plain_run env m args bs ns [] (Return pos result) ns_still ns_plain known g
-  ordered_run ns ns_still ns_plain (c ∷ cs) bound done calls plain still none apart new late known g l =
+  ordered_run ns ns_still ns_plain (c ∷ cs) bound done calls plain still none apart new late known g =
       pick (was_bound next start c) refl still none
-      (λ more still' none' now so later. ordered_run ns ns_still ns_plain cs more (p ∷ done) calls.1 plain.1 still' none' apart.1 fresh (λ q j. late q (tail_contained p (map (at (paths_of bs)) cs) q j)) now so later)
+      (λ more still' none' now so. ordered_run ns ns_still ns_plain cs more (p ∷ done) calls.1 plain.1 still' none' apart.1 fresh (λ q j. late q (tail_contained p (map (at (paths_of bs)) cs) q j)) now so)
     where
       p : Path
       p = at (paths_of bs) c
@@ -178,6 +131,9 @@ module _ (env : Environment) (t : Term) (often : is_several (kind_of t.kind) ≡
       late_here : calls_multi env p ≡ true → holds_impure env p ≡ true
       late_here e = late p (head_contained p (map (at (paths_of bs)) cs)) e
 
+      never : IsTrue (may_be_nothing call.kind) → ⊥
+      never nothing = never_nothing (kind_of t.kind) often (call.fits nothing)
+
       has : HasNext bs next c call.kind
       has = has_next env t tests bs next done c found once call
 
@@ -186,15 +142,15 @@ module _ (env : Environment) (t : Term) (often : is_several (kind_of t.kind) ≡
           ≡ behind_calls (make env m args p known g.calls) g (λ now so. by_kind call.kind p (value_at env m args now p) (p ∷ done) now so rest)
       goes =
           called_behind env m args p call.term call.parameters call.instance done known g rest call.path (λ j. new p j (head_contained p (map (at (paths_of bs)) cs)))
-          ∙ behind_kept (make env m args p known g.calls) g (Grows known) (λ now so. behind_answer (calling env call.term) p (value_at env m args now p) (p ∷ done) now so rest) (λ now so. by_kind call.kind p (value_at env m args now p) (p ∷ done) now so rest)
-          (make_grows env m args p known g.calls) (λ k so grown. answered call.kind (calling env call.term) p (value_at env m args k p) (p ∷ done) k so rest call.external)
+          ∙ behind_same (make env m args p known g.calls) g (λ now so. behind_answer (calling env call.term) p (value_at env m args now p) (p ∷ done) now so rest) (λ now so. by_kind call.kind p (value_at env m args now p) (p ∷ done) now so rest)
+          (λ k so. answered call.kind (calling env call.term) p (value_at env m args k p) (p ∷ done) k so rest call.external)
 
       pick : (b : Bool) → was_bound next start c ≡ b → StillBinds env bs next (left_one b c ++ left) bound → PlainBinds bs next (left_one b c ++ left) bound
-          → ((more : List ℕ) → StillBinds env bs next left more → PlainBinds bs next left more → (now : Known) (so : Given) → IsLater now → run_of (step_of (binds bs next more left ++ ns)) now so ≡ rest (p ∷ done) now so)
+          → ((more : List ℕ) → StillBinds env bs next left more → PlainBinds bs next left more → (now : Known) (so : Given) → run_of (step_of (binds bs next more left ++ ns)) now so ≡ rest (p ∷ done) now so)
           → run_of (step_of (binds bs next bound (left_one b c ++ left) ++ ns)) known g ≡ behind_ordered env m args (p ∷ map (at (paths_of bs)) cs) done known g gives
       pick true e k n h =
-          h bound k n known g l
-          ∙ sym (skipped c done call e late_here known g rest l call.kind call.external has)
+          h bound k n known g
+          ∙ sym (skipped c done call e late_here known g rest call.kind never call.external has)
           ∙ sym (ap (λ w. behind_calls w g (λ now so. by_kind call.kind p (value_at env m args now p) (p ∷ done) now so rest)) (untaken c done call e known g))
           ∙ sym goes
       pick false e k n h =
@@ -203,5 +159,5 @@ module _ (env : Environment) (t : Term) (often : is_several (kind_of t.kind) ≡
           let tail = binds bs next more left ++ ns in
           ap (λ xs. run_of (step_of xs) known g) (append_assoc (reads ++ with_inner (next c.0) c) (binds bs next more left) ns ∙ append_assoc reads (with_inner (next c.0) c) tail)
           ∙ plain_run env m args bs reads (with_inner (next c.0) c ++ tail) (Return pos result) k.0 n.0 known g
-          ∙ call_here c done tail rest call plain.0 late_here (h more k.1 n.1) call.kind (λ nothing. never_nothing (kind_of t.kind) often (call.fits nothing)) call.external has known g l
+          ∙ call_here c done tail rest call plain.0 (h more k.1 n.1) call.kind never has known g
           ∙ sym goes

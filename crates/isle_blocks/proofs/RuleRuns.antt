@@ -82,11 +82,9 @@ module _ (env : Environment) (t : Term) (bs : List Binding) (found : FieldKey �
   abbrev all_at : Meaning → List Value → Known → List Test → Bool
   all_at m args known xs = all_hold env m (value_at env m args known) xs
 
-  -- a step loops over these lists after those that were opened, and adds there if these tests hold what the rule's part adds
+  -- a step loops over these lists after those that were opened, and adds there what the rule's part adds if these tests hold
   pub record Adds (opened' : List Path) (step : SeenStep) (left : List Test) (qs : List Path) : Type 0 where
-    pub adds : Meaning → List Value → Known → Given → Given
-    pub run : (m : Meaning) (args : List Value) (known : Known) (g : Given) → several_run env m args ps (alone step) known g ≡ each_choice env m args qs known g (λ now so. cond (all_at m args now left) (adds m args now so) so)
-    pub same : (m : Meaning) (args : List Value) (known : Known) (g : Given) → all_at m args known tests ≡ true → adds m args known g ≡ flat_part env m args ps f known g
+    pub run : (m : Meaning) (args : List Value) (known : Known) (g : Given) → several_run env m args ps (alone step) known g ≡ each_choice env m args qs known g (λ now so. cond (all_at m args now left) (flat_part env m args ps f now so) so)
     pub order' : AreListsInOrder opened' qs
     pub each : AllByRecursion (Contains early) qs
     pub ends : (q : Path) → Contains early q → Contains (came_behind opened' qs) q
@@ -101,10 +99,9 @@ module _ (env : Environment) (t : Term) (bs : List Binding) (found : FieldKey �
       → ((m : Meaning) (args : List Value) → ReadsOnly env m args (came_behind opened' (loops bs ns)) (λ known. holds_at m args known x))
       → Adds (came_behind opened' (loops bs ns)) inner left qs → Adds opened' (opened true bs ns c) (x ∷ left) (loops bs ns ++ qs)
   test_adds bound opened' ns c inner x left qs ready still opens control reads within = record {
-    adds = within.adds;
     run = λ m args known g.
-        let told : Known → Given → Given = λ now so. cond (all_at m args now left) (within.adds m args now so) so in
-        let both : Known → Given → Given = λ now so. cond (holds_at m args now x && all_at m args now left) (within.adds m args now so) so in
+        let told : Known → Given → Given = λ now so. cond (all_at m args now left) (flat_part env m args ps f now so) so in
+        let both : Known → Given → Given = λ now so. cond (holds_at m args now x && all_at m args now left) (flat_part env m args ps f now so) so in
         ap (λ order. several_run env m args ps (alone (opening bs order c)) known g) (sym (append-nil ns))
         ∙ order_run env m args t bs ns [] c bound ready still known g
         ∙ each_same env m args (loops bs ns) known g (several_run env m args ps (alone (opening bs [] c))) (λ now so. each_choice env m args qs now so both)
@@ -112,9 +109,8 @@ module _ (env : Environment) (t : Term) (bs : List Binding) (found : FieldKey �
         control m args now so
         ∙ ap (λ y. cond (holds_at m args now x) y so) (within.run m args now so)
         ∙ test_out env m args qs (λ k. holds_at m args k x) now so told (order_free env m args qs (came_behind opened' (loops bs ns)) (λ k. holds_at m args k x) within.order' (reads m args))
-        ∙ each_same env m args qs now so (λ k s. cond (holds_at m args k x) (told k s) s) both (λ k s. and_cond (holds_at m args k x) (all_at m args k left) (within.adds m args k s) s))
+        ∙ each_same env m args qs now so (λ k s. cond (holds_at m args k x) (told k s) s) both (λ k s. and_cond (holds_at m args k x) (all_at m args k left) (flat_part env m args ps f k s) s))
         ∙ sym (each_append env m args (loops bs ns) qs known g both);
-    same = within.same;
     order' = order_append opened' (loops bs ns) qs opens.order' within.order';
     each = all_both (loops bs ns) qs opens.each within.each;
     ends = λ q k. subst (λ rs. Contains rs q) (sym (came_append opened' (loops bs ns) qs)) (within.ends q k);
@@ -226,9 +222,9 @@ module _ (env : Environment) (t : Term) (bs : List Binding) (found : FieldKey �
       (items_needed_at ls k.1 (λ q c. among q (tail_contained (at ps l) (map (at ps) ls) q c)) within.1)
 
   -- after them the rule's part
-  part_same : (bound : List ℕ) (opened' : List Path) → IsAt tests bound opened' → ((q : Path) → Contains early q → Contains opened' q) → (m : Meaning) (args : List Value) (known : Known) (g : Given) → all_at m args known tests ≡ true
+  part_same : (bound : List ℕ) (opened' : List Path) → IsAt tests bound opened' → ((q : Path) → Contains early q → Contains opened' q) → (m : Meaning) (args : List Value) (known : Known) (g : Given)
       → several_run env m args ps (alone (opening bs (behind_lists bs next bound f) (Return f.pos f.result))) known g ≡ flat_part env m args ps f known g
-  part_same bound opened' k ends m args known g holds' =
+  part_same bound opened' k ends m args known g =
       let calls = map (at ps) f.ordered in
       let order = binds bs next bound (left_calls next bound f.ordered) in
       let behind = bound_by bound order in
@@ -242,8 +238,8 @@ module _ (env : Environment) (t : Term) (bs : List Binding) (found : FieldKey �
       let r = needs_read env t bs tests done fits behind (f.result ∷ []) (t.ret_ty ∷ []) made.behind (h.result, tt) (stands, tt) in
       let at_result = need_lists env tests done all (opened' ++ done) (early_made env t bs fits tests next found_next once all opened' opens' bound k.opens.items done) (late_made env t bs fits tests next found_next once all opened' opens' bound k.opens.items done) (at ps f.result) stands lists.result in
       let none = no_items env t bs (opened' ++ done) ns behind (items_made env t bs fits tests next found_next once all opened' opens' bound k.opens.items done behind (by_kept order bound) made.behind) r.binds (r.items (opened' ++ done) (at_result, tt)) in
-      ordered_run env t is m args bs next found_next once tests known bound opened' k.opens (was_tested env bs next tests bound k.within.tested) holds' (λ q c. (early_from env all q (k.each q c)).1) f.pos f.result
-      ns r.still none f.ordered bound [] h.calls (ordered_plain env t tests bs f.ordered h.calls) still.0 plain lists.ordered.once (λ q c d. none_contained q c) (λ q c e. lists.ordered.late q c e) known g (record { answers = λ n a e. e; choice = λ q c. refl })
+      ordered_run env t is m args bs next found_next once tests bound opened' k.opens (was_tested env bs next tests bound k.within.tested) (λ q c. (early_from env all q (k.each q c)).1) f.pos f.result
+      ns r.still none f.ordered bound [] h.calls (ordered_plain env t tests bs f.ordered h.calls) still.0 plain lists.ordered.once (λ q c d. none_contained q c) (λ q c e. lists.ordered.late q c e) known g
 
   pub last_adds : Inside tests [] (last_step true bs next items f) (last_lists bs items f)
   last_adds bound opened' k =
@@ -256,9 +252,10 @@ module _ (env : Environment) (t : Term) (bs : List Binding) (found : FieldKey �
       let k' = at_order tests bound opened' ns k r.still opens in
       let ends : (q : Path) → Contains early q → Contains opened1 q = λ q c. let e = early_from env all q c in all_opened env t bs items found_items once f tests lists.ordered.late behind opened1 opens.opens f.iterators h.lists r.there q e.0 e.1 in
       record {
-        adds = λ m args known g. several_run env m args ps (alone (opening bs (behind_lists bs next behind f) (Return f.pos f.result))) known g;
-        run = λ m args known g. order_run env m args t bs ns (behind_lists bs next behind f) (Return f.pos f.result) bound r.binds r.still known g;
-        same = λ m args known g holds'. part_same behind opened1 k' ends m args known g holds';
+        run = λ m args known g.
+            let behind_lists' = behind_lists bs next behind f in
+            order_run env m args t bs ns behind_lists' (Return f.pos f.result) bound r.binds r.still known g
+            ∙ each_same env m args (loops bs ns) known g (several_run env m args ps (alone (opening bs behind_lists' (Return f.pos f.result)))) (flat_part env m args ps f) (λ now so. part_same behind opened1 k' ends m args now so);
         order' = opens.order';
         each = opens.each;
         ends = ends;

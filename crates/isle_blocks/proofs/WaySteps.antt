@@ -1,5 +1,5 @@
 -- The step of a way whose early tests are made, in a term that answers several times: it adds what the way's rule adds over lists of its own.
-use Rattle.std.proofs.Common.{◌≡◌, inr, ⊎_elim, ℕ, List, [], ◌∷◌, ◌++◌, Bool, true, false, cond, ◌&&◌, Option, map, refl, sym, ap, ◌∙◌, subst}
+use Rattle.std.proofs.Common.{◌≡◌, inr, ⊎_elim, ℕ, List, [], ◌∷◌, ◌++◌, Bool, true, cond, ◌&&◌, Option, map, sym, ap, ◌∙◌, subst}
 use Rattle.std.specs.Prelude.{Contains}
 use Rattle.std.specs.List.{AllByRecursion, list_all}
 use Rattle.isle_core.specs.declared.BindingId.{BindingId}
@@ -23,7 +23,6 @@ use Rattle.isle_core.specs.Tests.{Test, Is, Equal, HasItem}
 use Rattle.isle_core.specs.Value.{Value}
 use Rattle.isle_core.specs.ValueAt.{Known, value_at, all_hold}
 use Rattle.isle_core.proofs.Contained.{head_contained, tail_contained, none_contained, contained_cases}
-use Rattle.isle_core.proofs.TakenItems.{by_truth}
 use Rattle.isle_blocks.specs.declared.fields.Shown.{Shown}
 use Rattle.isle_blocks.specs.Added.{AreEarlyLists}
 use Rattle.isle_blocks.specs.Fields.{FieldKey, FindsFields, shows}
@@ -136,20 +135,11 @@ module _ (env : Environment) (t : Term) (s : RuleSet) (found : FieldKey → Opti
   way_run m args known so unlisted e =
       let qs = way_lists bs (shows found counts inners) items w bound in
       let left = map (is_test ps) w.late ++ map (equal_test ps) w.rule.equals in
-      let one : Known → Given → Given = λ now so'. cond (all_hold env m (value_at env m args now) left) (way_adds.adds m args now so') so' in
+      let one : Known → Given → Given = λ now so'. cond (all_hold env m (value_at env m args now) left) (flat_part env m args ps w.rule now so') so' in
       way_adds.run m args known so
       ∙ same_where env m args qs before known so one (flat_adds env m args ps w.rule) (order_free env m args qs [] (λ k. list_all (holds_at env m args k) before) way_adds.order' (unlisted_all env m args before unlisted)) e
       (λ now so' held. told now so' (same_tests env t s (holds_at env m args now) before w h held ∙ ap (λ (xs : List (BindingId × Constraint)). list_all (holds_at env m args now) (map (is_test ps) xs ++ map (equal_test ps) w.rule.equals)) all_late))
     where
-      both_first : (a b : Bool) → (a && b) ≡ true → a ≡ true
-      both_first true b e' = refl
-      both_first false b e' = absurd cc
-
       told : (now : Known) (so' : Given) → all_hold env m (value_at env m args now) (flat_tests (paths_of s.bindings) w.rule) ≡ all_hold env m (value_at env m args now) (map (is_test (paths_of s.bindings)) w.late ++ map (equal_test (paths_of s.bindings)) w.rule.equals)
-          → cond (all_hold env m (value_at env m args now) (map (is_test (paths_of s.bindings)) w.late ++ map (equal_test (paths_of s.bindings)) w.rule.equals)) (way_adds.adds m args now so') so' ≡ flat_adds env m args (paths_of s.bindings) w.rule now so'
-      told now so' same =
-          ap (λ b. cond b (way_adds.adds m args now so') so') (sym same)
-          ∙ by_truth (all_hold env m (value_at env m args now) (flat_tests ps w.rule))
-          (λ yes. ap (λ x. cond (all_hold env m (value_at env m args now) (flat_tests ps w.rule)) x so')
-          (way_adds.same m args now so' (both_first (list_all (holds_at env m args now) tests) (list_all (holds_at env m args now) (map (equal_test ps) w.rule.equals)) (sym (all_both (holds_at env m args now) tests (map (equal_test ps) w.rule.equals)) ∙ yes))))
-          (λ fails. ap (λ b. cond b (way_adds.adds m args now so') so') fails ∙ sym (ap (λ b. cond b (flat_part env m args ps w.rule now so') so') fails))
+          → cond (all_hold env m (value_at env m args now) (map (is_test (paths_of s.bindings)) w.late ++ map (equal_test (paths_of s.bindings)) w.rule.equals)) (flat_part env m args (paths_of s.bindings) w.rule now so') so' ≡ flat_adds env m args (paths_of s.bindings) w.rule now so'
+      told now so' same = ap (λ b. cond b (flat_part env m args ps w.rule now so') so') (sym same)

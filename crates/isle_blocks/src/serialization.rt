@@ -69,15 +69,16 @@ fn tree_of(alloc: Global, tables: &Tables<'_>, rules: &[FlatRule]) -> Result<Blo
     Ok(block_of(steps))
 }
 
-/// Makes the block of a rule set: rules from the highest priority down, those of one priority in an order in which
-/// they share most tests, neighbours that test one thing first sharing a match over it. If the term isn't `multi`,
-/// the first rule that holds is taken (`isle_core/specs/BlockRun.antt`); `iterator` says that it is, and then each
-/// rule adds its results, its lists being gone through in loops of its own (`isle_core/specs/SeveralRun.antt`). A
-/// rule's calls are made after its tests, in order. What the block gives is promised if at most one holds of the
-/// constraints that rules put on one path (`isle_core/specs/ApartTests.antt`), and if the term isn't `multi` also of
-/// the rules of one priority (`isle_blocks/specs/ApartRules.antt`). A block without loops has at most as many calls
-/// of extractors and pure terms as its rules read paths, the different ones of each rule added up
-/// (`isle_blocks/specs/AskedBound.antt`). The only error is want of memory.
+/// Makes the block of a rule set: rules from the highest priority down, those of one priority in an order in which they
+/// share most tests, neighbours that test one thing first sharing a match over it. If the term isn't `multi`, the first
+/// rule that holds is taken (`isle_core/specs/BlockRun.antt`); `iterator` says that it is, and then each rule adds its
+/// results, its lists being gone through in loops of its own (`isle_core/specs/SeveralRun.antt`), in which stands no
+/// match that reads none of their items (`isle_blocks/specs/LoopsApart.antt`). A rule's calls are made after its tests,
+/// in order. What the block gives is promised if at most one holds of the constraints that rules put on one path
+/// (`isle_core/specs/ApartTests.antt`), and if the term isn't `multi` also of the rules of one priority
+/// (`isle_blocks/specs/ApartRules.antt`). A block without loops has at most as many calls of extractors and pure terms
+/// as its rules read paths, the different ones of each rule added up (`isle_blocks/specs/AskedBound.antt`). The only
+/// error is want of memory.
 pub fn serialize(alloc: Global, rules: &RuleSet, iterator: bool) -> Result<Block, OutOfMemory>
     ensures means { IfOk result (λ b.
         (env : Environment) (m : Meaning) (t : Term) (args : ListOf Value) (kind : ReturnKind) →
