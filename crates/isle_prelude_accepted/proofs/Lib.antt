@@ -35,3 +35,5 @@ pub mod CommonSound
 pub mod DataSound
 pub mod PreludeAccepted
 pub mod AcceptedTexts
+pub mod ReadFiles
+pub mod CompiledPrelude
