@@ -37,3 +37,4 @@ pub mod PreludeAccepted
 pub mod AcceptedTexts
 pub mod ReadFiles
 pub mod CompiledPrelude
+pub mod ProgramPrelude

@@ -4,4 +4,4 @@
 
 mod laws;
 
-pub use laws::{prelude_accepted, prelude_compiled};
+pub use laws::{prelude_accepted, prelude_compiled, sample_compiled};

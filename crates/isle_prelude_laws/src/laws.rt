@@ -8,5 +8,4 @@ ghost use Rattle.isle_prelude_laws.specs.PredicateFlags.{PredicatesComplement};
 #[tactic(auto, using(crate::proofs::PredicateLaws::predicates_complement))]
 pub fn predicates_complement()
     ensures { PredicatesComplement }
-{
-}
+{}

@@ -188,9 +188,13 @@ instructions_supported =
     let formats : List InstructionFormat = binary ∷ unary_imm ∷ [] in
     let iadd : Instruction = of_two_values (codes "iadd") (codes "Iadd") in
     let isub : Instruction = of_two_values (codes "isub") (codes "Isub") in
-    inr (breaks_none (InstructionBreaks formats [] iadd) iadd_breaks,
-    inr (breaks_none (InstructionBreaks formats (iadd ∷ []) isub) isub_breaks,
-    inr (breaks_none (InstructionBreaks formats (iadd ∷ isub ∷ []) iconst) iconst_breaks, refl)))
+    inr (
+      breaks_none (InstructionBreaks formats [] iadd) iadd_breaks,
+      inr (
+        breaks_none (InstructionBreaks formats (iadd ∷ []) isub) isub_breaks,
+        inr (breaks_none (InstructionBreaks formats (iadd ∷ isub ∷ []) iconst) iconst_breaks, refl),
+      ),
+    )
 
 pub sample_supported : AreSupported sample_tables
 sample_supported = (formats_supported, (instructions_supported, (refl, refl)))
