@@ -359,8 +359,7 @@ def refused():
 
 
 def rules(rows):
-    # a rule without a priority has that of 0
-    return head() + [line.replace("(rule 0 ", "(rule ", 1) for row in rows for line in rules_of(row)]
+    return head() + [line for row in rows for line in rules_of(row)]
 
 
 def block(lines):

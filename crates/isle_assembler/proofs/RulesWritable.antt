@@ -14,8 +14,9 @@ use Rattle.isle_meta.specs.declared.machine.Operand.{Operand}
 use Rattle.isle_meta.proofs.FirstRows.{each_row}
 use Rattle.isle_spelling.specs.Identifier.{IsIdentifier}
 use Rattle.isle_writing.specs.Height.{exprs_height, expr_height, patterns_height}
+use Rattle.isle_writing.specs.LaidDefs.{laid_defs, plain}
 use Rattle.isle_writing.specs.Writable.{AreExprs, ArePatterns, AreWritable, IsExpr, IsPlain, IsWritable}
-use Rattle.isle_writing.proofs.Joined.{writable_each, writable_joined}
+use Rattle.isle_writing.proofs.Joined.{laid_writable_each, laid_writable_joined}
 use Rattle.isle_writing.proofs.Names.{plain_joined}
 use Rattle.isle_assembler.specs.AssemblerDefs.{assembler_defs, choice_defs, choice_signature, constructor_defs, handed, made_decl, made_rule, raw_decl, raw_maker, row_defs}
 use Rattle.isle_assembler_rows.specs.AssemblerRow.{alternate_names, row_names, BadName}
@@ -184,7 +185,7 @@ call_made : (i : Inst) (c : Constructor) (name : List ℕ) → IsNamedInst i →
 call_made i c name n h = let t = made_is_term c name h in (t.named.0, t.called, named_made (param_names (Made c) i) (params_named (Made c) i n))
 
 choice_writable : (i : Inst) (c : Constructor) (o : Option Alternate) → IsNamedInst i → AllByRecursion IsIdentifier (alternate_names o)
-    → AreWritable (choice_defs i c o)
+    → AreWritable (laid_defs (choice_defs i c o))
 choice_writable i c None n h = tt
 choice_writable i c (Some a) n h =
     let word = identifier_plain i.name n.name in
@@ -203,19 +204,19 @@ choice_writable i c (Some a) n h =
       ),
     )
 
-constructor_writable : (i : Inst) → IsNamedInst i → (c : Constructor) → AreWritable (constructor_defs i c)
+constructor_writable : (i : Inst) → IsNamedInst i → (c : Constructor) → AreWritable (laid_defs (constructor_defs i c))
 constructor_writable i n c = (made_decl_writable i c n, (made_rule_writable i c n, choice_writable i c i.alternate n n.alternate))
 
-row_writable : (i : Inst) → IsNamedInst i → AreWritable (row_defs i)
+row_writable : (i : Inst) → IsNamedInst i → AreWritable (laid_defs (row_defs i))
 row_writable i n = one (is_left_out i)
   where
-    one : (b : Bool) → AreWritable (if b then [] else raw_decl i ∷ raw_maker i ∷ flat_map (constructor_defs i) (constructors i))
+    one : (b : Bool) → AreWritable (laid_defs (if b then [] else plain (raw_decl i) ∷ plain (raw_maker i) ∷ flat_map (constructor_defs i) (constructors i)))
     one true = tt
-    one false = (raw_decl_writable i n, (raw_maker_writable i n, writable_each (constructor_defs i) (constructor_writable i n) (constructors i)))
+    one false = (raw_decl_writable i n, (raw_maker_writable i n, laid_writable_each (constructor_defs i) (constructor_writable i n) (constructors i)))
 
-rows_writable : (is : List Inst) → AllByRecursion IsNamedInst is → AreWritable (flat_map row_defs is)
+rows_writable : (is : List Inst) → AllByRecursion IsNamedInst is → AreWritable (laid_defs (flat_map row_defs is))
 rows_writable [] h = tt
-rows_writable (i ∷ is) h = writable_joined (row_defs i) (flat_map row_defs is) (row_writable i h.0) (rows_writable is h.1)
+rows_writable (i ∷ is) h = laid_writable_joined (row_defs i) (flat_map row_defs is) (row_writable i h.0) (rows_writable is h.1)
 
 pub assembler_writable : (earlier : List (List ℕ)) (is : List Inst) → IsFirstInst earlier is None → AreWritable (assembler_defs is)
-assembler_writable earlier is h = writable_joined head_defs (flat_map row_defs is) head_writable (rows_writable is (named_insts earlier is h))
+assembler_writable earlier is h = laid_writable_joined (map plain head_defs) (flat_map row_defs is) head_writable (rows_writable is (named_insts earlier is h))

@@ -12,9 +12,10 @@ use Rattle.isle_meta.specs.declared.machine.Alternate.{Alternate}
 use Rattle.isle_meta.specs.declared.machine.Inst.{Inst}
 use Rattle.isle_meta.specs.declared.machine.Operand.{Operand}
 use Rattle.isle_printer.specs.Number.{numeral}
-use Rattle.isle_writing.specs.Text.{def_text, def_texts, expr_text, exprs_text, patterns_text, spaced}
-use Rattle.isle_writing.proofs.WrittenLaw.{texts_joined}
-use Rattle.isle_assembler.specs.AssemblerDefs.{alternate_rule, all_handed, assembler_defs, choice_decl, choice_defs, choice_signature, constructor_defs, handed, made_decl, made_rule, raw_decl, raw_maker, row_defs, usual_rule}
+use Rattle.isle_writing.specs.LaidDefs.{LaidDef, laid_texts, plain}
+use Rattle.isle_writing.specs.Text.{def_text, def_texts, whole_def_text, expr_text, exprs_text, patterns_text, spaced}
+use Rattle.isle_writing.proofs.WrittenLaw.{laid_joined, plain_texts}
+use Rattle.isle_assembler.specs.AssemblerDefs.{alternate_rule, all_handed, assembler_layout, choice_decl, choice_defs, choice_signature, constructor_defs, handed, made_decl, made_rule, raw_decl, raw_maker, row_defs, usual_rule}
 use Rattle.isle_assembler_rows.specs.Constructors.{constructors, conversion, result_type, temporary}
 use Rattle.isle_assembler.specs.Declaring.{call_on, named, plain_decl, variables}
 use Rattle.isle_assembler.specs.HeadDefs.{head_defs}
@@ -166,43 +167,50 @@ alternate_rule_is i c a =
         ∙ ap (λ z. codes "(if-let true (has_" ++ z)
         (append_assoc (feature ++ codes ")") (codes ") ") rest ∙ append_assoc feature (codes ")") (codes ") " ++ rest))
 
-usual_rule_is : (i : Inst) (c : Constructor) (a : Alternate) → def_text (usual_rule i c a) ≡ usual_rule_text i c a
-unfolding def_text usual_rule_text
+zero_is : numeral 10 0 ≡ codes "0"
+unfolding numeral
+zero_is = refl
+
+usual_rule_is : (i : Inst) (c : Constructor) (a : Alternate) → whole_def_text (usual_rule i c a) ≡ usual_rule_text i c a
+unfolding whole_def_text usual_rule_text
 usual_rule_is i c a =
-    ap (λ z. codes "(rule (" ++ z) (choice_head_is i c a (expr_text (call_on (made_term c i.name) (param_names (Made c) i)) ++ codes ")\n"))
-    ∙ ap (λ z. codes "(rule (" ++ (choice_head_text i c a ++ z)) (call_is i c i.name)
+    let left = patterns_text (patterns_of (variables (param_names (Made c) i))) in
+    let call = expr_text (call_on (made_term c i.name) (param_names (Made c) i)) ++ codes ")\n" in
+    ap (λ z. codes "(rule " ++ ((z ++ codes " ") ++ ((codes "(" ++ (choice_term c i.name a.feature ++ (left ++ codes ") "))) ++ call))) zero_is
+    ∙ ap (λ z. codes "(rule 0 (" ++ z) (choice_head_is i c a call)
+    ∙ ap (λ z. codes "(rule 0 (" ++ (choice_head_text i c a ++ z)) (call_is i c i.name)
 
 -- ---- instructions
 
-choice_is : (i : Inst) (c : Constructor) (o : Option Alternate) → def_texts (choice_defs i c o) ≡ choice_text i c o
+choice_is : (i : Inst) (c : Constructor) (o : Option Alternate) → laid_texts (choice_defs i c o) ≡ choice_text i c o
 choice_is i c None = refl
 choice_is i c (Some a) =
-    ap (λ z. z ++ (def_text (alternate_rule i c a) ++ (def_text (usual_rule i c a) ++ []))) (choice_decl_is i c a)
-    ∙ ap (λ z. choice_decl_text i c a ++ (z ++ (def_text (usual_rule i c a) ++ []))) (alternate_rule_is i c a)
-    ∙ ap (λ z. choice_decl_text i c a ++ (alternate_rule_text i c a ++ z)) (append-nil (def_text (usual_rule i c a)) ∙ usual_rule_is i c a)
+    ap (λ z. z ++ (def_text (alternate_rule i c a) ++ (whole_def_text (usual_rule i c a) ++ []))) (choice_decl_is i c a)
+    ∙ ap (λ z. choice_decl_text i c a ++ (z ++ (whole_def_text (usual_rule i c a) ++ []))) (alternate_rule_is i c a)
+    ∙ ap (λ z. choice_decl_text i c a ++ (alternate_rule_text i c a ++ z)) (append-nil (whole_def_text (usual_rule i c a)) ∙ usual_rule_is i c a)
 
-constructor_is : (i : Inst) (c : Constructor) → def_texts (constructor_defs i c) ≡ constructor_text i c
+constructor_is : (i : Inst) (c : Constructor) → laid_texts (constructor_defs i c) ≡ constructor_text i c
 constructor_is i c =
-    ap (λ z. z ++ (def_text (made_rule i c) ++ def_texts (choice_defs i c i.alternate))) (made_decl_is i c)
-    ∙ ap (λ z. made_decl_text i c ++ (z ++ def_texts (choice_defs i c i.alternate))) (made_rule_is i c)
+    ap (λ z. z ++ (def_text (made_rule i c) ++ laid_texts (choice_defs i c i.alternate))) (made_decl_is i c)
+    ∙ ap (λ z. made_decl_text i c ++ (z ++ laid_texts (choice_defs i c i.alternate))) (made_rule_is i c)
     ∙ ap (λ z. made_decl_text i c ++ (made_rule_text i c ++ z)) (choice_is i c i.alternate)
 
 -- the texts of what comes of each thing
-each_is : {X : Type 0} (f : X → List Def) (g : X → List ℕ) → ((x : X) → def_texts (f x) ≡ g x) → (xs : List X) → def_texts (flat_map f xs) ≡ flat_map g xs
+each_is : {X : Type 0} (f : X → List LaidDef) (g : X → List ℕ) → ((x : X) → laid_texts (f x) ≡ g x) → (xs : List X) → laid_texts (flat_map f xs) ≡ flat_map g xs
 each_is f g h [] = refl
-each_is f g h (x ∷ xs) = texts_joined (f x) (flat_map f xs) ∙ ap (λ z. z ++ def_texts (flat_map f xs)) (h x) ∙ ap (λ z. g x ++ z) (each_is f g h xs)
+each_is f g h (x ∷ xs) = laid_joined (f x) (flat_map f xs) ∙ ap (λ z. z ++ laid_texts (flat_map f xs)) (h x) ∙ ap (λ z. g x ++ z) (each_is f g h xs)
 
-row_is : (i : Inst) → def_texts (row_defs i) ≡ row_text i
+row_is : (i : Inst) → laid_texts (row_defs i) ≡ row_text i
 row_is i = one (is_left_out i)
   where
-    taken_is : def_text (raw_decl i) ++ (def_text (raw_maker i) ++ def_texts (flat_map (constructor_defs i) (constructors i)))
+    taken_is : def_text (raw_decl i) ++ (def_text (raw_maker i) ++ laid_texts (flat_map (constructor_defs i) (constructors i)))
         ≡ raw_text i ++ flat_map (constructor_text i) (constructors i)
     taken_is =
-        sym (append_assoc (def_text (raw_decl i)) (def_text (raw_maker i)) (def_texts (flat_map (constructor_defs i) (constructors i))))
-        ∙ ap (λ z. z ++ def_texts (flat_map (constructor_defs i) (constructors i))) (raw_is i)
+        sym (append_assoc (def_text (raw_decl i)) (def_text (raw_maker i)) (laid_texts (flat_map (constructor_defs i) (constructors i))))
+        ∙ ap (λ z. z ++ laid_texts (flat_map (constructor_defs i) (constructors i))) (raw_is i)
         ∙ ap (λ z. raw_text i ++ z) (each_is (constructor_defs i) (constructor_text i) (constructor_is i) (constructors i))
 
-    one : (b : Bool) → def_texts (if b then [] else raw_decl i ∷ raw_maker i ∷ flat_map (constructor_defs i) (constructors i))
+    one : (b : Bool) → laid_texts (if b then [] else plain (raw_decl i) ∷ plain (raw_maker i) ∷ flat_map (constructor_defs i) (constructors i))
         ≡ (if b then [] else raw_text i ++ flat_map (constructor_text i) (constructors i))
     one true = refl
     one false = taken_is
@@ -213,9 +221,9 @@ head_is : def_texts head_defs ≡ head_text
 unfolding def_text head_text outputs_text emit_text defer_text
 head_is = refl
 
-pub rules_are : (is : List Inst) → rule_text is ≡ def_texts (assembler_defs is)
+pub rules_are : (is : List Inst) → rule_text is ≡ laid_texts (assembler_layout is)
 unfolding rule_text
 rules_are is =
-    ap (λ z. z ++ flat_map row_text is) (sym head_is)
-    ∙ ap (λ z. def_texts head_defs ++ z) (sym (each_is row_defs row_text row_is is))
-    ∙ sym (texts_joined head_defs (flat_map row_defs is))
+    ap (λ z. z ++ flat_map row_text is) (sym (plain_texts head_defs ∙ head_is))
+    ∙ ap (λ z. laid_texts (map plain head_defs) ++ z) (sym (each_is row_defs row_text row_is is))
+    ∙ sym (laid_joined (map plain head_defs) (flat_map row_defs is))

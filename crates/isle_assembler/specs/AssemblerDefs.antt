@@ -6,6 +6,7 @@ use Rattle.isle_ast.specs.Tree.{Def, Expr, IfLet}
 use Rattle.isle_ast.specs.Tree as tree
 use Rattle.isle_ast.specs.Views.{exprs_of}
 use Rattle.isle_writing.specs.Erased.{no_place}
+use Rattle.isle_writing.specs.LaidDefs.{LaidDef, laid_defs, plain, whole}
 use Rattle.isle_assembler_rows.specs.declared.constructor.Constructor.{Constructor}
 use Rattle.isle_assembler.specs.declared.signature.Signature.{Signature}
 use Rattle.isle_assembler.specs.declared.signature.Signature.TheVariants.{Raw, Made, Unaligned}
@@ -74,21 +75,25 @@ abbrev pub usual_rule : Inst → Constructor → Alternate → Def
 usual_rule i c a =
     plain_rule (choice_term c i.name a.feature) (variables (param_names (Made c) i)) (call_on (made_term c i.name) (param_names (Made c) i))
 
--- that term, if there is an alternate
-abbrev pub choice_defs : Inst → Constructor → Option Alternate → List Def
+-- that term, if there is an alternate; its two rules show their priorities
+abbrev pub choice_defs : Inst → Constructor → Option Alternate → List LaidDef
 choice_defs i c None = []
-choice_defs i c (Some a) = choice_decl i c a ∷ alternate_rule i c a ∷ usual_rule i c a ∷ []
+choice_defs i c (Some a) = plain (choice_decl i c a) ∷ plain (alternate_rule i c a) ∷ whole (usual_rule i c a) ∷ []
 
 -- ---- instructions
 
 -- the definitions of a constructor, with those of the alternate behind them
-abbrev pub constructor_defs : Inst → Constructor → List Def
-constructor_defs i c = made_decl i c ∷ made_rule i c ∷ choice_defs i c i.alternate
+abbrev pub constructor_defs : Inst → Constructor → List LaidDef
+constructor_defs i c = plain (made_decl i c) ∷ plain (made_rule i c) ∷ choice_defs i c i.alternate
 
 -- the definitions of an instruction; one that is left out has none
-abbrev pub row_defs : Inst → List Def
-row_defs i = if is_left_out i then [] else raw_decl i ∷ raw_maker i ∷ flat_map (constructor_defs i) (constructors i)
+abbrev pub row_defs : Inst → List LaidDef
+row_defs i = if is_left_out i then [] else plain (raw_decl i) ∷ plain (raw_maker i) ∷ flat_map (constructor_defs i) (constructors i)
 
--- the rules of an assembler of these instructions
+-- the rules of an assembler of these instructions, by which of them show a priority 0
+abbrev pub assembler_layout : List Inst → List LaidDef
+assembler_layout is = map plain head_defs ++ flat_map row_defs is
+
+-- the rules alone
 abbrev pub assembler_defs : List Inst → List Def
-assembler_defs is = head_defs ++ flat_map row_defs is
+assembler_defs is = laid_defs (assembler_layout is)

@@ -5,15 +5,15 @@ use Rattle.isle_meta.specs.declared.errors.TableFail.TheVariants as fail
 use Rattle.isle_meta.specs.declared.machine.Inst.{Inst}
 use Rattle.isle_meta.specs.Layout.{Layout, followed_by}
 use Rattle.isle_writing.specs.Spelt.{SpellsOnly}
-use Rattle.isle_writing.specs.Text.{def_texts}
-use Rattle.isle_assembler.specs.AssemblerDefs.{assembler_defs}
+use Rattle.isle_writing.specs.LaidDefs.{laid_texts}
+use Rattle.isle_assembler.specs.AssemblerDefs.{assembler_defs, assembler_layout}
 use Rattle.isle_assembler_rows.specs.AssemblerRows.{IsFirstInst}
 use Rattle.isle_assembler.specs.Methods.{assembler_methods}
 
 -- each instruction is supported, and the text is that of their rules, which spells these definitions and no others
 pub record IsRuleText (is : List Inst) (text : List ℕ) : Type 0 where
   pub supported : IsFirstInst [] is None
-  pub written : text ≡ def_texts (assembler_defs is)
+  pub written : text ≡ laid_texts (assembler_layout is)
   pub spelt : SpellsOnly text (assembler_defs is)
 
 -- each instruction is supported, and the text is their macro

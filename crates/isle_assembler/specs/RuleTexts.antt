@@ -81,7 +81,7 @@ alternate_rule_text i c a =
 
 -- the rule that takes the instruction
 unfoldable pub usual_rule_text : Inst → Constructor → Alternate → List ℕ
-usual_rule_text i c a = codes "(rule (" ++ (choice_head_text i c a ++ call_text i c i.name)
+usual_rule_text i c a = codes "(rule 0 (" ++ (choice_head_text i c a ++ call_text i c i.name)
 
 -- the term that takes an alternate, if there is one
 abbrev pub choice_text : Inst → Constructor → Option Alternate → List ℕ

@@ -168,7 +168,7 @@ fn push_usual_rule(
         (string_bytes text.new
         ≡ string_bytes text.old ++ usual_rule_text inst.now c alternate.now) }
 {
-    text.push_str("(rule (")?;
+    text.push_str("(rule 0 (")?;
     push_choice_head(text, inst, c, alternate)?;
     push_call(text, inst, c, inst.name.as_str())
 }

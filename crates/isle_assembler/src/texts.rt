@@ -2,11 +2,11 @@
 
 ghost use Rattle.std.specs.Prelude.{◌≡◌, ℕ, List, [], None, IfOk, string_bytes};
 ghost use Rattle.isle_assembler_rows.specs.AssemblerRows.{IsFirstInst};
-ghost use Rattle.isle_assembler.specs.AssemblerDefs.{assembler_defs};
+ghost use Rattle.isle_assembler.specs.AssemblerDefs.{assembler_defs, assembler_layout};
 ghost use Rattle.isle_assembler.specs.Generated.{Gives, IsMacroText, IsRuleText};
 ghost use Rattle.isle_meta.specs.Checked.{Checks};
+ghost use Rattle.isle_writing.specs.LaidDefs.{laid_texts};
 ghost use Rattle.isle_writing.specs.Spelt.{SpellsOnly};
-ghost use Rattle.isle_writing.specs.Text.{def_texts};
 
 use crate::methods::methods_of;
 use crate::rules::rule_text;
@@ -19,7 +19,8 @@ use std::alloc::{AllocError, Global};
 /// text spells these definitions and no others. The only error is want of memory.
 #[tactic(auto, using(crate::proofs::TextLaws::rules_are, crate::proofs::RulesSpelt::rules_spelt))]
 pub fn rules_of(alloc: Global, insts: &[Inst]) -> Result<String, AllocError>
-    ensures written { IfOk result (λ text. string_bytes text ≡ def_texts (assembler_defs insts.now)) }
+    ensures written { IfOk result
+        (λ text. string_bytes text ≡ laid_texts (assembler_layout insts.now)) }
     ensures spelt { (earlier : List (List ℕ)) → IsFirstInst earlier insts.now None
         → IfOk result (λ text. SpellsOnly (string_bytes text) (assembler_defs insts.now)) }
 {

@@ -7,6 +7,7 @@ use isle_case_reading::slip::Slip;
 use isle_meta::{Formatter, GenError, Language};
 use isle_outside::MemDir;
 use isle_prelude_files::generate;
+use isle_pulley::pulley::{generate_isle, generate_raw_inst_display};
 use isle_top::sample_tables;
 use std::alloc::Global;
 
@@ -57,6 +58,31 @@ fn push_generated(alloc: Global, lines: &mut String, fails: &[usize]) -> Result<
     push_files(alloc, lines, &dir)
 }
 
+// Writes what generating the rules of no operations answers into a directory whose calls of these numbers fail, and what
+// it leaves.
+fn push_no_rules(alloc: Global, lines: &mut String, fails: &[usize]) -> Result<(), Slip> {
+    let tables = sample_tables(alloc)?;
+    let mut failing = Vec::new(alloc);
+    failing.extend_from_slice(fails)?;
+    let mut dir = MemDir::new(alloc, Vec::new(alloc), failing, 100);
+    let (ops, extended) = (tables.ops.as_slice(), tables.extended_ops.as_slice());
+    let answer = generate_isle(alloc, "rules.isle", "gen", ops, extended, &mut dir);
+    push_answer(lines, "pulley", &answer)?;
+    push_files(alloc, lines, &dir)
+}
+
+// Writes a text with the item behind it that shows no operation.
+fn push_shown(alloc: Global, lines: &mut String) -> Result<(), Slip> {
+    let tables = sample_tables(alloc)?;
+    let mut text = String::from_str(alloc, "x\n")?;
+    let (ops, extended) = (tables.ops.as_slice(), tables.extended_ops.as_slice());
+    if generate_raw_inst_display(alloc, &mut text, ops, extended).is_err() {
+        return Err(Slip::Files);
+    }
+    lines.push_str(text.as_str())?;
+    Ok(())
+}
+
 // A block of a line, an empty line, and a line that is set in.
 fn format(formatter: &mut Formatter) -> Result<(), Slip> {
     formatter.comment("a")?;
@@ -86,6 +112,9 @@ fn push_formatted(alloc: Global, lines: &mut String, language: Language) -> Resu
 pub fn push_generators(alloc: Global, lines: &mut String) -> Result<(), Slip> {
     push_generated(alloc, lines, &[])?;
     push_generated(alloc, lines, &[3])?;
+    push_no_rules(alloc, lines, &[])?;
+    push_no_rules(alloc, lines, &[1])?;
+    push_shown(alloc, lines)?;
     push_formatted(alloc, lines, Language::Isle)?;
     push_formatted(alloc, lines, Language::Rust)
 }

@@ -5,6 +5,7 @@ use Rattle.std.specs.List.{AllByRecursion}
 use Rattle.std.proofs.lemmas.List.{drop_more, take_more}
 use Rattle.std.proofs.Math.ListN.{drop_of_length-le}
 use Rattle.isle_core.proofs.Contained.{contained_cases, none_contained}
+use Rattle.isle_core.proofs.OptionLaws.{some_same}
 use Rattle.isle_meta.specs.declared.errors.Unsupported.{Unsupported}
 use Rattle.isle_meta.specs.declared.shapes.Shape.{Shape}
 use Rattle.isle_meta.specs.FirstRow.{shapes, unsupported, FirstOf, IsFirstRow, IsFirstShape}
@@ -124,3 +125,37 @@ pub of_two_apart : (First Second : Option Unsupported → Type 0) (found : Unsup
     → FirstOf First Second (Some found) → FirstOf First Second None → ⊥
 of_two_apart First Second found first second (inl h) k = first h k.0
 of_two_apart First Second found first second (inr h) k = second h.1 k.1
+
+-- ---- each search finds one thing
+
+-- what is found is found once
+abbrev pub FindsOne : {F : Type 0} → (Option F → Type 0) → Type 0
+FindsOne {F = F} First = (a b : Option F) → First a → First b → a ≡ b
+
+pub one_shape : (Broken : Shape → Type 0) (ss : List Shape) → FindsOne (IsFirstShape Broken ss)
+one_shape Broken [] a b h k = h ∙ sym k
+one_shape Broken (s ∷ ss) a b (inl h) (inl k) = h.1 ∙ sym k.1
+one_shape Broken (s ∷ ss) a b (inl h) (inr k) = absurd (k.0 h.0)
+one_shape Broken (s ∷ ss) a b (inr h) (inl k) = absurd (h.0 k.0)
+one_shape Broken (s ∷ ss) a b (inr h) (inr k) = one_shape Broken ss a b h.1 k.1
+
+pub one_row : {R : Type 0} (name_of : R → List ℕ) (Breaks : List R → R → Shape → Type 0) (before rs : List R) → FindsOne (IsFirstRow name_of Breaks before rs)
+one_row name_of Breaks before [] a b h k = h ∙ sym k
+one_row name_of Breaks before (r ∷ rs) a b (inl h) (inl k) =
+    let same : Some h.0 ≡ Some k.0 = one_shape (Breaks before r) shapes (Some h.0) (Some k.0) h.1 k.1 in
+    h.2 ∙ ap (λ (s : Shape). Some (unsupported (name_of r) s)) (some_same h.0 k.0 same) ∙ sym k.2
+one_row name_of Breaks before (r ∷ rs) a b (inl h) (inr k) = absurd (shape_apart (Breaks before r) shapes h.0 h.1 k.0)
+one_row name_of Breaks before (r ∷ rs) a b (inr h) (inl k) = absurd (shape_apart (Breaks before r) shapes k.0 k.1 h.0)
+one_row name_of Breaks before (r ∷ rs) a b (inr h) (inr k) = one_row name_of Breaks (before ++ r ∷ []) rs a b h.1 k.1
+
+-- of two searches
+pub one_of_two : (First Second : Option Unsupported → Type 0) → FindsOne First → FindsOne Second → FindsOne (FirstOf First Second)
+one_of_two First Second first second None None h k = refl
+one_of_two First Second first second None (Some b) h (inl k) = first None (Some b) h.0 k
+one_of_two First Second first second None (Some b) h (inr k) = second None (Some b) h.1 k.1
+one_of_two First Second first second (Some a) None (inl h) k = first (Some a) None h k.0
+one_of_two First Second first second (Some a) None (inr h) k = second (Some a) None h.1 k.1
+one_of_two First Second first second (Some a) (Some b) (inl h) (inl k) = first (Some a) (Some b) h k
+one_of_two First Second first second (Some a) (Some b) (inl h) (inr k) = let same : Some a ≡ None = first (Some a) None h k.0 in absurd cc
+one_of_two First Second first second (Some a) (Some b) (inr h) (inl k) = let same : None ≡ Some b = first None (Some b) h.0 k in absurd cc
+one_of_two First Second first second (Some a) (Some b) (inr h) (inr k) = second (Some a) (Some b) h.1 k.1

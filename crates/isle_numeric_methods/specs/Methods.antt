@@ -5,6 +5,7 @@ use Rattle.isle_numerics.specs.declared.conversion.Conversion.{Conversion}
 use Rattle.isle_numerics.specs.declared.conversion.Conversion.TheVariants.{Into, TryInto, UnwrapInto, TruncateInto, CastSigned, CastUnsigned}
 use Rattle.isle_numerics.specs.declared.numeric_type.NumericType.{NumericType}
 use Rattle.isle_numerics.specs.declared.operation.Operation.{Operation}
+use Rattle.isle_numerics.specs.declared.operation.Takes.{Takes}
 use Rattle.isle_numerics.specs.Conversions.{conversions, is_lossless}
 use Rattle.isle_numerics.specs.Definitions.{prefixed, matcher, asked, conversion_name, is_trial, from_name, name_of, is_other}
 use Rattle.isle_numerics.specs.NumericTypes.{numeric_types}
@@ -13,9 +14,13 @@ use Rattle.isle_numerics.specs.Table.{arguments, given, is_predicate, operations
 
 -- ---- methods
 
--- an argument, with its type
+-- an argument and its type
 unfoldable pub argument_text : List ℕ × List ℕ → List ℕ
-argument_text arg = codes " " ++ (arg.0 ++ (codes ": " ++ (arg.1 ++ codes ",")))
+argument_text arg = codes " " ++ (arg.0 ++ (codes ": " ++ arg.1))
+
+-- an argument and its type, before a comma
+abbrev pub listed_text : List ℕ × List ℕ → List ℕ
+listed_text arg = argument_text arg ++ codes ","
 
 -- a type, or an option of it
 unfoldable pub optional : Bool → List ℕ → List ℕ
@@ -38,9 +43,9 @@ opening ret = codes ") -> " ++ (ret ++ codes " {\n            ")
 unfoldable pub closing : List ℕ
 closing = codes "\n        }\n"
 
--- a method of this name that takes these arguments, gives this type and does this
-abbrev pub method : (name : List ℕ) → List (List ℕ × List ℕ) → (ret body : List ℕ) → List ℕ
-method name args ret body = head name ++ (flat_map argument_text args ++ (opening ret ++ (body ++ closing)))
+-- a method of this name whose arguments are written so, that gives this type and does this
+abbrev pub method : (name args ret body : List ℕ) → List ℕ
+method name args ret body = head name ++ (args ++ (opening ret ++ (body ++ closing)))
 
 -- ---- operations
 
@@ -48,14 +53,18 @@ method name args ret body = head name ++ (flat_map argument_text args ++ (openin
 unfoldable pub some_of : List ℕ → List ℕ
 some_of body = codes "Some(" ++ (body ++ codes ")")
 
+-- the arguments of an operation, each before a comma
+abbrev pub operation_arguments : List ℕ → Takes → List ℕ
+operation_arguments ty takes = flat_map listed_text (arguments ty takes)
+
 -- the method of an operation, at the type of this name
 abbrev pub operation_method : List ℕ → Operation → List ℕ
 operation_method ty op =
-    method (prefixed ty (row op).name) (arguments ty (row op).takes) (optional (row op).is_partial (given ty (row op).gives)) (row op).body
+    method (prefixed ty (row op).name) (operation_arguments ty (row op).takes) (optional (row op).is_partial (given ty (row op).gives)) (row op).body
 
 -- the method that answers a predicate's flag
 abbrev pub matching_method : List ℕ → Operation → List ℕ
-matching_method ty op = method (matcher ty (asked op)) ((codes "a", ty) ∷ []) (optional true (codes "bool")) (some_of (row op).body)
+matching_method ty op = method (matcher ty (asked op)) (argument_text (codes "a", ty)) (optional true (codes "bool")) (some_of (row op).body)
 
 -- an operation's method, and after a predicate's that of its flag
 abbrev pub operation_methods : List ℕ → Operation → List ℕ
@@ -78,7 +87,7 @@ conversion_body to CastUnsigned = codes "x as " ++ to
 
 -- the method of a conversion between the types of these names
 abbrev pub conversion_method : (from to : List ℕ) → Conversion → List ℕ
-conversion_method from to c = method (conversion_name from to c) ((codes "x", from) ∷ []) (optional (is_trial c) to) (conversion_body to c)
+conversion_method from to c = method (conversion_name from to c) (argument_text (codes "x", from)) (optional (is_trial c) to) (conversion_body to c)
 
 -- what the extractor of a pair does, by whether no number is lost
 abbrev pub back_body : Bool → List ℕ
@@ -87,7 +96,7 @@ back_body false = codes "x.try_into().ok()"
 
 -- the method of a pair's extractor, whose term is named the other way round
 abbrev pub back_method : (lossless : Bool) → (from to : List ℕ) → List ℕ
-back_method lossless from to = method (from_name from to) ((codes "x", from) ∷ []) (optional true to) (back_body lossless)
+back_method lossless from to = method (from_name from to) (argument_text (codes "x", from)) (optional true to) (back_body lossless)
 
 -- the methods of a pair of types
 abbrev pub pair_methods : NumericType → NumericType → List ℕ

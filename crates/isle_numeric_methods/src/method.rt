@@ -1,11 +1,9 @@
 //! Methods of the macro, piece by piece.
 
 ghost use Rattle.std.specs.Prelude.{◌≡◌, ◌++◌, OnOk, codes, string_bytes};
-ghost use Rattle.std.specs.List.{flat_map};
 ghost use Rattle.isle_numerics.specs.Definitions.{prefixed};
-ghost use Rattle.isle_numerics.specs.Table.{arguments};
 ghost use Rattle.isle_numeric_methods.specs.Methods.{argument_text, closing, head, opener, opening};
-ghost use Rattle.isle_numeric_methods.specs.Methods.{optional};
+ghost use Rattle.isle_numeric_methods.specs.Methods.{listed_text, operation_arguments, optional};
 
 use isle_numerics::Takes;
 use std::alloc::AllocError;
@@ -52,7 +50,7 @@ pub fn push_head(text: &mut String, ty: &str, first: &str, second: &str) -> Resu
     push_named(text, ty, first, second)
 }
 
-/// Appends an argument.
+/// Appends an argument and its type.
 #[tactic(auto, unfolding(crate::specs::Methods::argument_text))]
 pub fn push_argument(text: &mut String, name: &str, ty: &str) -> Result<(), AllocError>
     ensures { OnOk result
@@ -61,21 +59,29 @@ pub fn push_argument(text: &mut String, name: &str, ty: &str) -> Result<(), Allo
     text.push_str(" ")?;
     text.push_str(name)?;
     text.push_str(": ")?;
-    text.push_str(ty)?;
+    text.push_str(ty)
+}
+
+// Appends an argument and its type, before a comma.
+fn push_listed(text: &mut String, name: &str, ty: &str) -> Result<(), AllocError>
+    ensures { OnOk result
+        (string_bytes text.new ≡ string_bytes text.old ++ listed_text (name.now, ty.now)) }
+{
+    push_argument(text, name, ty)?;
     text.push_str(",")
 }
 
-/// Appends the arguments of an operation, at the type of this name.
+/// Appends the arguments of an operation, at the type of this name, each before a comma.
 pub fn push_arguments(text: &mut String, ty: &str, takes: Takes) -> Result<(), AllocError>
     ensures { OnOk result
         (string_bytes text.new
-        ≡ string_bytes text.old ++ flat_map argument_text (arguments ty.now takes)) }
+        ≡ string_bytes text.old ++ operation_arguments ty.now takes) }
 {
-    push_argument(text, "a", ty)?;
+    push_listed(text, "a", ty)?;
     match takes {
         Takes::One => Ok(()),
-        Takes::Two => push_argument(text, "b", ty),
-        Takes::Amount => push_argument(text, "b", "u32"),
+        Takes::Two => push_listed(text, "b", ty),
+        Takes::Amount => push_listed(text, "b", "u32"),
     }
 }
 

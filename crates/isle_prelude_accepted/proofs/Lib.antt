@@ -35,3 +35,6 @@ pub mod CommonSound
 pub mod DataSound
 pub mod PreludeAccepted
 pub mod AcceptedTexts
+pub mod ReadFiles
+pub mod CompiledPrelude
+pub mod ProgramPrelude

@@ -32,3 +32,4 @@ pub mod PlanOut
 pub mod Extracted
 pub mod GivesTyped
 pub mod OperandTypes
+pub mod PredicateLaws

@@ -42,7 +42,7 @@ module _ (number : Numbers) (params : List (List ℕ)) (ts : List (Option Patter
 
 -- ---- whole templates
 
-later_template : (f : Pattern → Pattern) (ts : List (Option Pattern)) (term : TermId)
+pub later_template : (f : Pattern → Pattern) (ts : List (Option Pattern)) (term : TermId)
     → template_of (map (option_map f) ts) term ≡ option_map f (template_of ts term)
 later_template f ts term = ap (option_and_then (λ (t : Option Pattern). t)) (slice_get-map (option_map f) ts term.0) ∙ by (slice_get ts term.0)
   where

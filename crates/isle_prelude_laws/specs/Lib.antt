@@ -1,3 +1,4 @@
 pub mod GivenCalls
 pub mod HonestMeaning
 pub mod RoundTrip
+pub mod PredicateFlags

@@ -1,9 +1,12 @@
 -- Tables are supported, or they have a first row that isn't.
 use Rattle.std.proofs.Common.{◌≡◌, ℕ, List, [], ◌++◌, true, false, Option, Some, None, inl, inr}
-use Rattle.std.specs.Prelude.{is_some}
+use Rattle.std.specs.Prelude.{is_some, Result, Ok, Err}
 use Rattle.isle_assembler_rows.specs.AssemblerRows.{AssemblerBreaks, IsFirstInst}
 use Rattle.isle_meta.specs.declared.clif.Instruction.{Instruction}
 use Rattle.isle_meta.specs.declared.clif.InstructionFormat.{InstructionFormat}
+use Rattle.isle_meta.specs.Checked.{Answers, Checks}
+use Rattle.isle_meta.specs.declared.errors.TableFail.{TableFail}
+use Rattle.isle_meta.specs.declared.errors.TableFail.TheVariants as fail
 use Rattle.isle_meta.specs.declared.errors.Unsupported.{Unsupported}
 use Rattle.isle_meta.specs.declared.machine.Inst.{Inst}
 use Rattle.isle_meta.specs.declared.pulley.PulleyInst.{PulleyInst}
@@ -12,7 +15,7 @@ use Rattle.isle_meta.specs.ClifRows.{FormatBreaks, InstructionBreaks, IsFirstFor
 use Rattle.isle_meta.specs.FirstRow.{FirstOf}
 use Rattle.isle_meta.specs.InstructionRow.{own_names}
 use Rattle.isle_meta.specs.Told.{Found, found_row}
-use Rattle.isle_meta.proofs.FirstRows.{of_two_apart, row_apart}
+use Rattle.isle_meta.proofs.FirstRows.{FindsOne, of_two_apart, one_of_two, one_row, row_apart}
 use Rattle.isle_pulley_rows.specs.PulleyRows.{PulleyBreaks, IsFirstOperation}
 use Rattle.isle_table_check.specs.SupportedTables.{AreSupported, IsFirstMachineRow, IsFirstUnsupported}
 
@@ -29,6 +32,27 @@ unsupported_apart t found =
     of_two_apart (IsFirstFormat t.formats) (FirstOf (IsFirstInstruction t.formats t.instructions) (IsFirstMachineRow t)) found (row_apart (λ (f : InstructionFormat). f.name) FormatBreaks [] t.formats found)
     (of_two_apart (IsFirstInstruction t.formats t.instructions) (IsFirstMachineRow t) found
     (row_apart (λ (i : Instruction). i.name) (InstructionBreaks t.formats) [] t.instructions found) (machine_apart t found))
+
+-- ---- one row is the first
+
+machine_once : (t : Tables) → FindsOne (IsFirstMachineRow t)
+machine_once t =
+    let names : List (List ℕ) = own_names t.instructions in
+    one_of_two (IsFirstInst names t.x64) (IsFirstOperation names t.ops t.extended_ops) (one_row (λ (i : Inst). i.name) (AssemblerBreaks names) [] t.x64)
+    (one_row (λ (r : PulleyInst). r.name) (PulleyBreaks names) [] (t.ops ++ t.extended_ops))
+
+-- no tables have two first rows, nor one and none
+pub first_once : (t : Tables) → FindsOne (IsFirstUnsupported t)
+first_once t =
+    one_of_two (IsFirstFormat t.formats) (FirstOf (IsFirstInstruction t.formats t.instructions) (IsFirstMachineRow t)) (one_row (λ (f : InstructionFormat). f.name) FormatBreaks [] t.formats)
+    (one_of_two (IsFirstInstruction t.formats t.instructions) (IsFirstMachineRow t) (one_row (λ (i : Instruction). i.name) (InstructionBreaks t.formats) [] t.instructions) (machine_once t))
+
+-- so what a check tells is that row
+pub first_told : (t : Tables) (result : Result (Unit {0}) TableFail) (first : Option Unsupported) → Checks (IsFirstUnsupported t) result
+    → IsFirstUnsupported t first → Answers first result
+first_told t (Ok done) first h k = first_once t first None k h
+first_told t (Err (fail.Unsupported found)) first h k = first_once t first (Some found) k h
+first_told t (Err fail.Memory) first h k = tt
 
 -- ---- two searches, one after the other
 

@@ -1,1 +1,2 @@
 pub mod SupportedTables
+pub mod ProgramTables

@@ -1,10 +1,11 @@
 //! The check of all tables.
 
-ghost use Rattle.std.specs.Prelude.{◌≡◌, ◌++◌, IfOk, OnOk};
-ghost use Rattle.isle_meta.specs.Checked.{Checks};
+ghost use Rattle.std.specs.Prelude.{◌≡◌, ◌++◌, IfOk, OnOk, Option};
+ghost use Rattle.isle_meta.specs.Checked.{Answers, Checks};
 ghost use Rattle.isle_meta.specs.InstructionRow.{own_names};
 ghost use Rattle.isle_meta.specs.TableNames.{texts};
 ghost use Rattle.isle_meta.specs.Told.{found_row};
+ghost use Rattle.isle_meta.specs.declared.errors.Unsupported.{Unsupported};
 ghost use Rattle.isle_table_check.specs.SupportedTables.{IsFirstMachineRow, IsFirstUnsupported};
 
 use isle_assembler_rows::unsupported_inst;
@@ -75,13 +76,23 @@ fn unsupported_row<'t>(
     unsupported_machine_row(alloc, tables)
 }
 
-/// Looks for the first row that isn't supported: formats, instructions, then the rows of the assembler and of the
-/// interpreter (`specs/SupportedTables.antt`). `Unsupported` gives its name and the first shape that it breaks,
-/// `Memory` says that memory ran out.
+// Whether each row is supported, or else the first that isn't.
 #[tactic(auto, using(isle_meta::proofs::CheckLaws::found_checks))]
-pub fn check_tables(alloc: Global, tables: &Tables) -> Result<(), TableFail>
+fn check_rows(alloc: Global, tables: &Tables) -> Result<(), TableFail>
     ensures { Checks (IsFirstUnsupported tables.now) result }
 {
     let found = unsupported_row(alloc, tables)?;
     checked(alloc, found)
+}
+
+/// Looks for the first row that isn't supported: formats, instructions, then the rows of the assembler and of the
+/// interpreter (`specs/SupportedTables.antt`). `Unsupported` gives its name and the first shape that it breaks,
+/// `Memory` says that memory ran out. No other row is the first.
+#[tactic(auto, using(crate::proofs::TableLaws::first_told))]
+pub fn check_tables(alloc: Global, tables: &Tables) -> Result<(), TableFail>
+    ensures checks { Checks (IsFirstUnsupported tables.now) result }
+    ensures only { (first : Option Unsupported) → IsFirstUnsupported tables.now first
+        → Answers first result }
+{
+    check_rows(alloc, tables)
 }

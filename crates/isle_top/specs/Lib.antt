@@ -10,7 +10,6 @@ pub mod IsaLine
 pub mod RunLine
 pub mod SampleLine
 pub mod PreludeLine
-pub mod ProgramTables
 pub mod Inputs
 pub mod Jobs
 pub mod Lines

@@ -9,7 +9,6 @@ mod compiled;
 mod job;
 mod lines;
 mod preluded;
-mod program_tables;
 mod ran;
 mod refusal;
 mod reply;
@@ -18,6 +17,6 @@ mod sampled;
 mod source;
 mod status;
 
-pub use program_tables::sample_tables;
+pub use isle_table_check::sample_tables;
 pub use run::run_words;
 pub use status::Exit;

@@ -1,6 +1,6 @@
 -- What the check of tables and the making of texts answer, and the files that are made of texts.
 use Rattle.std.specs.Prelude.{◌≡◌, ℕ, List, [], ◌∷◌, ◌++◌, Some, Result, Ok, Err, string_bytes, codes}
-use Rattle.isle_assembler.specs.AssemblerDefs.{assembler_defs}
+use Rattle.isle_assembler.specs.AssemblerDefs.{assembler_layout}
 use Rattle.isle_assembler.specs.Methods.{assembler_methods}
 use Rattle.isle_meta.specs.Layout.{joined_name}
 use Rattle.isle_meta.specs.declared.errors.GenError.{GenError}
@@ -17,6 +17,7 @@ use Rattle.isle_unit_files.specs.declared.outputs.Folders.{Folders}
 use Rattle.isle_unit_files.specs.declared.texts.AllTexts.{AllTexts}
 use Rattle.isle_unit_files.specs.declared.texts.BuildTexts.{BuildTexts}
 use Rattle.isle_unit_files.specs.declared.texts.IsleTexts.{IsleTexts}
+use Rattle.isle_writing.specs.LaidDefs.{laid_texts}
 use Rattle.isle_writing.specs.Text.{def_texts}
 
 -- ---- the check
@@ -37,7 +38,7 @@ pub record AreIsleTexts (t : Tables) (texts : IsleTexts) : Type 0 where
   pub opt : string_bytes texts.opt ≡ def_texts (opt_defs t)
   pub lower : string_bytes texts.lower ≡ def_texts (lower_defs t)
   pub pulley : string_bytes texts.pulley ≡ def_texts (pulley_defs t.ops t.extended_ops)
-  pub assembler : string_bytes texts.assembler ≡ def_texts (assembler_defs t.x64)
+  pub assembler : string_bytes texts.assembler ≡ laid_texts (assembler_layout t.x64)
 
 -- these are those and the macro's text
 pub record AreBuildTexts (t : Tables) (texts : BuildTexts) : Type 0 where

@@ -1,7 +1,7 @@
 -- The files that are generated for units, and what their writing leaves and answers if there may be none.
 use Rattle.std.specs.Prelude.{◌≡◌, ℕ, List, [], ◌∷◌, ◌++◌, Bool, true, false, Option, Some, Result, Ok, Err, codes}
 use Rattle.std.specs.List.{list_any}
-use Rattle.isle_assembler.specs.AssemblerDefs.{assembler_defs}
+use Rattle.isle_assembler.specs.AssemblerDefs.{assembler_layout}
 use Rattle.isle_assembler.specs.Methods.{assembler_methods}
 use Rattle.isle_meta.specs.Layout.{joined_name}
 use Rattle.isle_meta.specs.declared.errors.GenError.{GenError}
@@ -18,6 +18,7 @@ use Rattle.isle_pulley.specs.RustText.{pulley_rust}
 use Rattle.isle_settings.specs.declared.isa.Isa.{Isa}
 use Rattle.isle_settings.specs.declared.isa.Isa.TheVariants as isa
 use Rattle.isle_table_check.specs.SupportedTables.{AreSupported, IsFirstUnsupported}
+use Rattle.isle_writing.specs.LaidDefs.{laid_texts}
 use Rattle.isle_writing.specs.Text.{def_texts}
 
 -- ---- which files
@@ -53,7 +54,7 @@ isle_files dir t =
     ∷ (joined_name dir (codes "clif_opt.isle"), def_texts (opt_defs t))
     ∷ (joined_name dir (codes "clif_lower.isle"), def_texts (lower_defs t))
     ∷ (joined_name dir (codes "pulley_gen.isle"), def_texts (pulley_defs t.ops t.extended_ops))
-    ∷ (joined_name dir (codes "assembler.isle"), def_texts (assembler_defs t.x64))
+    ∷ (joined_name dir (codes "assembler.isle"), laid_texts (assembler_layout t.x64))
     ∷ []
 
 -- the file of an assembler's methods in Rust

@@ -14,9 +14,10 @@ use Rattle.isle_ast.specs.declared.tree.AstFields.{AstFields}
 use Rattle.isle_ast.specs.declared.tree.AstFields.TheVariants as fields
 use Rattle.isle_ast.specs.declared.tree.AstVariant.{AstVariant}
 use Rattle.isle_writing.specs.Text.{truth_text, number_text}
+use Rattle.isle_writing.specs.LaidDefs.{LaidDef, laid_defs}
 use Rattle.isle_writing.specs.Writable.{is_plain_byte, IsPlain, IsWord, NamesOne, AreNames, IsPattern, ArePatterns, IsExpr, AreExprs, AreLets, IsCondition, AreFields, IsVariant, IsBody, NamesRule, IsNamed}
 use Rattle.isle_writing.proofs.Pieces.{Piece, Blank, Closes, Spelt, ends_word, AreApart}
-use Rattle.isle_writing.proofs.Laid.{mark_pieces, names_pieces, joined_pieces, pattern_pieces, patterns_pieces, expr_pieces, exprs_pieces, lets_pieces, named_pieces, shape_pieces, variant_pieces, variants_pieces, body_pieces, flags_pieces, rule_name_pieces, prio_pieces, iflets_pieces, def_pieces, defs_pieces}
+use Rattle.isle_writing.proofs.Laid.{mark_pieces, names_pieces, joined_pieces, pattern_pieces, patterns_pieces, expr_pieces, exprs_pieces, lets_pieces, named_pieces, shape_pieces, variant_pieces, variants_pieces, body_pieces, flags_pieces, rule_name_pieces, prio_pieces, iflets_pieces, def_pieces, laid_pieces}
 
 -- ---- words
 
@@ -134,10 +135,11 @@ rule_name_apart : (name : Option (List ℕ)) (ps : List Piece) → NamesRule nam
 rule_name_apart None ps h k = k
 rule_name_apart (Some name) ps h k = (h.0, (refl, (refl, k)))
 
-prio_apart : (n : ℤ) (ps : List Piece) → AreApart ps → AreApart (prio_pieces n ps)
-prio_apart (pos zero) ps k = k
-prio_apart (pos (suc n)) ps k = (number_word (pos (suc n)), (refl, (refl, k)))
-prio_apart (negsuc n) ps k = (number_word (negsuc n), (refl, (refl, k)))
+prio_apart : (z : Bool) (n : ℤ) (ps : List Piece) → AreApart ps → AreApart (prio_pieces z n ps)
+prio_apart true n ps k = (number_word n, (refl, (refl, k)))
+prio_apart false (pos zero) ps k = k
+prio_apart false (pos (suc n)) ps k = (number_word (pos (suc n)), (refl, (refl, k)))
+prio_apart false (negsuc n) ps k = (number_word (negsuc n), (refl, (refl, k)))
 
 iflets_apart : (is : List IfLet) (ps : List Piece) → AllByRecursion (λ (i : IfLet). IsCondition i) is → AreApart ps → AreApart (iflets_pieces is ps)
 iflets_apart [] ps h k = k
@@ -154,8 +156,8 @@ iflets_apart (i ∷ is) ps h k =
       ),
     )
 
-def_apart : (d : Def) (ps : List Piece) → IsNamed d → AreApart ps → AreApart (def_pieces d ps)
-def_apart (tree.TypeDecl name is_extern is_nodebug b at) ps h k = (
+def_apart : (z : Bool) (d : Def) (ps : List Piece) → IsNamed d → AreApart ps → AreApart (def_pieces z d ps)
+def_apart z (tree.TypeDecl name is_extern is_nodebug b at) ps h k = (
   (omega arith, refl),
   (
     refl,
@@ -175,7 +177,7 @@ def_apart (tree.TypeDecl name is_extern is_nodebug b at) ps h k = (
     ),
   ),
 )
-def_apart (tree.Decl term pure multi partial recursive args ret at) ps h k = (
+def_apart z (tree.Decl term pure multi partial recursive args ret at) ps h k = (
   (omega arith, refl),
   (
     refl,
@@ -186,23 +188,23 @@ def_apart (tree.Decl term pure multi partial recursive args ret at) ps h k = (
     ),
   ),
 )
-def_apart (tree.ExternConstructor term func at) ps h k =
+def_apart z (tree.ExternConstructor term func at) ps h k =
     ((omega arith, refl), (refl, (refl, ((omega arith, refl), (refl, (refl, (h.0.0, (refl, (refl, (h.1.0, (refl, (refl, k))))))))))))
-def_apart (tree.ExternExtractor term func infallible at) ps h k =
+def_apart z (tree.ExternExtractor term func infallible at) ps h k =
     ((omega arith, refl), (refl, (refl, ((omega arith, refl), (refl, (refl, mark_apart infallible (codes "infallible") _ (omega arith, refl) (h.0.0, (refl, (refl, (h.1.0, (refl, (refl, k))))))))))))
-def_apart (tree.ExternConst name ty at) ps h k =
+def_apart z (tree.ExternConst name ty at) ps h k =
     ((omega arith, refl), (refl, (refl, ((omega arith, refl), (refl, (refl, (constant_word name h.0, (refl, (refl, (h.1.0, (refl, (refl, k))))))))))))
-def_apart (tree.Extractor term params p at) ps h k =
+def_apart z (tree.Extractor term params p at) ps h k =
     ((omega arith, refl), (refl, (refl, (h.0.0, names_fit params (Closes ∷ Blank 32 ∷ pattern_pieces p (Closes ∷ Blank 10 ∷ ps)) h.1 (refl, (refl, pattern_apart p (Closes ∷ Blank 10 ∷ ps) h.2 (refl, (refl, k))))))))
-def_apart (tree.Converter from to term at) ps h k =
+def_apart z (tree.Converter from to term at) ps h k =
     ((omega arith, refl), (refl, (refl, (h.0.0, (refl, (refl, (h.1.0, (refl, (refl, (h.2.0, (refl, (refl, k))))))))))))
-def_apart (tree.Rule name prio term args iflets rhs at) ps h k = (
+def_apart z (tree.Rule name prio term args iflets rhs at) ps h k = (
   (omega arith, refl),
   (
     refl,
     (
       refl,
-      rule_name_apart name _ h.0 (prio_apart prio _ (
+      rule_name_apart name _ h.0 (prio_apart z prio _ (
         h.2.0,
         patterns_fit (patterns_of args) _ h.3
             (refl, (refl, iflets_apart iflets _ h.4 (expr_apart rhs (Closes ∷ Blank 10 ∷ ps) h.5 (refl, (refl, k))))),
@@ -210,8 +212,8 @@ def_apart (tree.Rule name prio term args iflets rhs at) ps h k = (
     ),
   ),
 )
-def_apart (tree.Passed head at) ps h k = absurd h
+def_apart z (tree.Passed head at) ps h k = absurd h
 
-pub defs_apart : (ds : List Def) → AllByRecursion (λ (d : Def). IsNamed d) ds → AreApart (defs_pieces ds)
-defs_apart [] h = tt
-defs_apart (d ∷ ds) h = def_apart d (defs_pieces ds) h.0 (defs_apart ds h.1)
+pub laid_apart : (ls : List LaidDef) → AllByRecursion (λ (d : Def). IsNamed d) (laid_defs ls) → AreApart (laid_pieces ls)
+laid_apart [] h = tt
+laid_apart (l ∷ ls) h = def_apart l.shows_zero l.def (laid_pieces ls) h.0 (laid_apart ls h.1)

@@ -8,9 +8,10 @@ use Rattle.isle_ast.specs.declared.tree.AstBody.TheVariants as body
 use Rattle.isle_ast.specs.declared.tree.AstFields.{AstFields}
 use Rattle.isle_ast.specs.declared.tree.AstFields.TheVariants as fields
 use Rattle.isle_ast.specs.declared.tree.AstVariant.{AstVariant}
-use Rattle.isle_writing.specs.Text.{mark_text, spaced, pattern_text, patterns_text, expr_text, exprs_text, lets_text, named_text, shape_text, variant_text, variants_text, body_text, flags_text, rule_name_text, prio_text, iflets_text, def_text, def_texts}
+use Rattle.isle_writing.specs.Text.{mark_text, spaced, pattern_text, patterns_text, expr_text, exprs_text, lets_text, named_text, shape_text, variant_text, variants_text, body_text, flags_text, rule_name_text, prio_text, iflets_text, def_text, whole_def_text, whole_prio_text, parts_text, conclusion_text}
+use Rattle.isle_writing.specs.LaidDefs.{LaidDef, laid_texts, text_by}
 use Rattle.isle_writing.proofs.Pieces.{Piece, Closes, Blank, bytes_of}
-use Rattle.isle_writing.proofs.Laid.{mark_pieces, names_pieces, joined_pieces, pattern_pieces, patterns_pieces, expr_pieces, exprs_pieces, gap_pieces, lets_pieces, named_pieces, shape_pieces, variant_pieces, variants_pieces, body_pieces, flags_pieces, rule_name_pieces, prio_pieces, iflets_pieces, def_pieces, defs_pieces}
+use Rattle.isle_writing.proofs.Laid.{mark_pieces, names_pieces, joined_pieces, pattern_pieces, patterns_pieces, expr_pieces, exprs_pieces, gap_pieces, lets_pieces, named_pieces, shape_pieces, variant_pieces, variants_pieces, body_pieces, flags_pieces, rule_name_pieces, prio_pieces, iflets_pieces, def_pieces, laid_pieces}
 
 mark_bytes : (b : Bool) (w : List ℕ) (ps : List Piece) → bytes_of (mark_pieces b w ps) ≡ mark_text b w ++ bytes_of ps
 mark_bytes true w ps = simp append_assoc
@@ -104,10 +105,16 @@ rule_name_bytes : (name : Option (List ℕ)) (ps : List Piece) → bytes_of (rul
 rule_name_bytes None ps = refl
 rule_name_bytes (Some name) ps = simp append_assoc
 
-prio_bytes : (n : ℤ) (ps : List Piece) → bytes_of (prio_pieces n ps) ≡ prio_text n ++ bytes_of ps
-prio_bytes (pos zero) ps = refl
-prio_bytes (pos (suc n)) ps = simp append_assoc
-prio_bytes (negsuc n) ps = simp append_assoc
+-- a priority, by whether 0 is written
+abbrev prio_by : Bool → ℤ → List ℕ
+prio_by true n = whole_prio_text n
+prio_by false n = prio_text n
+
+prio_bytes : (z : Bool) (n : ℤ) (ps : List Piece) → bytes_of (prio_pieces z n ps) ≡ prio_by z n ++ bytes_of ps
+prio_bytes true n ps = simp append_assoc
+prio_bytes false (pos zero) ps = refl
+prio_bytes false (pos (suc n)) ps = simp append_assoc
+prio_bytes false (negsuc n) ps = simp append_assoc
 
 iflets_bytes : (is : List IfLet) (ps : List Piece) → bytes_of (iflets_pieces is ps) ≡ iflets_text is ++ bytes_of ps
 iflets_bytes [] ps = refl
@@ -116,33 +123,80 @@ iflets_bytes (i ∷ is) ps =
     ∙ ap (λ z. codes "(if-let " ++ (pattern_text i.lhs ++ (32 ∷ z))) (expr_bytes i.rhs _ ∙ ap (λ z. expr_text i.rhs ++ (41 ∷ 32 ∷ z)) (iflets_bytes is ps))
     ∙ simp append_assoc
 
-pub def_bytes : (d : Def) (ps : List Piece) → bytes_of (def_pieces d ps) ≡ def_text d ++ bytes_of ps
+-- a rule, by whether a priority 0 is written
+abbrev rule_by : Bool → Option (List ℕ) → ℤ → (term : List ℕ) → List Pattern → List IfLet → Expr → List ℕ
+rule_by z name prio term args iflets rhs = codes "(rule " ++ (rule_name_text name ++ (prio_by z prio ++ (parts_text term args ++ conclusion_text iflets rhs)))
+
+-- a definition
+abbrev def_by : Bool → Def → List ℕ
+def_by z (tree.TypeDecl name is_extern is_nodebug b at) = def_text (tree.TypeDecl name is_extern is_nodebug b at)
+def_by z (tree.Decl term pure multi partial recursive args ret at) = def_text (tree.Decl term pure multi partial recursive args ret at)
+def_by z (tree.ExternConstructor term func at) = def_text (tree.ExternConstructor term func at)
+def_by z (tree.ExternExtractor term func infallible at) = def_text (tree.ExternExtractor term func infallible at)
+def_by z (tree.ExternConst name ty at) = def_text (tree.ExternConst name ty at)
+def_by z (tree.Extractor term params p at) = def_text (tree.Extractor term params p at)
+def_by z (tree.Converter from to term at) = def_text (tree.Converter from to term at)
+def_by z (tree.Rule name prio term args iflets rhs at) = rule_by z name prio term args iflets rhs
+def_by z (tree.Passed head at) = def_text (tree.Passed head at)
+
+plainly : (d : Def) → def_by false d ≡ def_text d
 unfolding def_text
-def_bytes (tree.TypeDecl name is_extern is_nodebug b at) ps =
+plainly (tree.TypeDecl name is_extern is_nodebug b at) = refl
+plainly (tree.Decl term pure multi partial recursive args ret at) = refl
+plainly (tree.ExternConstructor term func at) = refl
+plainly (tree.ExternExtractor term func infallible at) = refl
+plainly (tree.ExternConst name ty at) = refl
+plainly (tree.Extractor term params p at) = refl
+plainly (tree.Converter from to term at) = refl
+plainly (tree.Rule name prio term args iflets rhs at) = refl
+plainly (tree.Passed head at) = refl
+
+wholly : (d : Def) → def_by true d ≡ whole_def_text d
+unfolding whole_def_text
+wholly (tree.TypeDecl name is_extern is_nodebug b at) = refl
+wholly (tree.Decl term pure multi partial recursive args ret at) = refl
+wholly (tree.ExternConstructor term func at) = refl
+wholly (tree.ExternExtractor term func infallible at) = refl
+wholly (tree.ExternConst name ty at) = refl
+wholly (tree.Extractor term params p at) = refl
+wholly (tree.Converter from to term at) = refl
+wholly (tree.Rule name prio term args iflets rhs at) = refl
+wholly (tree.Passed head at) = refl
+
+either_way : (z : Bool) (d : Def) → def_by z d ≡ text_by z d
+either_way true d = wholly d
+either_way false d = plainly d
+
+def_bytes : (z : Bool) (d : Def) (ps : List Piece) → bytes_of (def_pieces z d ps) ≡ def_by z d ++ bytes_of ps
+unfolding def_text
+def_bytes z (tree.TypeDecl name is_extern is_nodebug b at) ps =
     let one : List ℕ = mark_text is_extern (codes "extern") in
     let two : List ℕ = mark_text is_nodebug (codes "nodebug") in
     ap (λ z. codes "(type " ++ (name ++ (32 ∷ z))) (mark_bytes is_extern (codes "extern") _ ∙ ap (λ z. one ++ z) (mark_bytes is_nodebug (codes "nodebug") _ ∙ ap (λ z. two ++ z) (body_bytes b _)))
     ∙ simp append_assoc
-def_bytes (tree.Decl term pure multi partial recursive args ret at) ps =
+def_bytes b (tree.Decl term pure multi partial recursive args ret at) ps =
     ap (λ z. codes "(decl " ++ z) (flags_bytes pure multi partial recursive _)
     ∙ ap (λ z. codes "(decl " ++ (flags_text pure multi partial recursive ++ (term ++ (codes " (" ++ z)))) (joined_bytes args _)
     ∙ simp append_assoc
-def_bytes (tree.ExternConstructor term func at) ps = simp append_assoc
-def_bytes (tree.ExternExtractor term func infallible at) ps = ap (λ z. codes "(extern extractor " ++ z) (mark_bytes infallible (codes "infallible") _) ∙ simp append_assoc
-def_bytes (tree.ExternConst name ty at) ps = simp append_assoc
-def_bytes (tree.Extractor term params p at) ps =
+def_bytes b (tree.ExternConstructor term func at) ps = simp append_assoc
+def_bytes b (tree.ExternExtractor term func infallible at) ps = ap (λ z. codes "(extern extractor " ++ z) (mark_bytes infallible (codes "infallible") _) ∙ simp append_assoc
+def_bytes b (tree.ExternConst name ty at) ps = simp append_assoc
+def_bytes b (tree.Extractor term params p at) ps =
     ap (λ z. codes "(extractor (" ++ (term ++ z)) (names_bytes params _ ∙ ap (λ z. spaced (codes " ") params ++ (41 ∷ 32 ∷ z)) (pattern_bytes p _))
     ∙ simp append_assoc
-def_bytes (tree.Converter from to term at) ps = simp append_assoc
-def_bytes (tree.Rule name prio term args iflets rhs at) ps =
+def_bytes b (tree.Converter from to term at) ps = simp append_assoc
+def_bytes b (tree.Rule name prio term args iflets rhs at) ps =
     let parts : List ℕ = patterns_text (patterns_of args) in
-    ap (λ z. codes "(rule " ++ z) (rule_name_bytes name _ ∙ ap (λ z. rule_name_text name ++ z) (prio_bytes prio _))
-    ∙ ap (λ z. codes "(rule " ++ (rule_name_text name ++ (prio_text prio ++ (40 ∷ (term ++ z))))) (patterns_bytes (patterns_of args) _)
-    ∙ ap (λ z. codes "(rule " ++ (rule_name_text name ++ (prio_text prio ++ (40 ∷ (term ++ (parts ++ (41 ∷ 32 ∷ z))))))) (iflets_bytes iflets _ ∙ ap (λ z. iflets_text iflets ++ z) (expr_bytes rhs _))
+    ap (λ z. codes "(rule " ++ z) (rule_name_bytes name _ ∙ ap (λ z. rule_name_text name ++ z) (prio_bytes b prio _))
+    ∙ ap (λ z. codes "(rule " ++ (rule_name_text name ++ (prio_by b prio ++ (40 ∷ (term ++ z))))) (patterns_bytes (patterns_of args) _)
+    ∙ ap (λ z. codes "(rule " ++ (rule_name_text name ++ (prio_by b prio ++ (40 ∷ (term ++ (parts ++ (41 ∷ 32 ∷ z))))))) (iflets_bytes iflets _ ∙ ap (λ z. iflets_text iflets ++ z) (expr_bytes rhs _))
     ∙ simp append_assoc
-def_bytes (tree.Passed head at) ps = simp append_assoc
+def_bytes b (tree.Passed head at) ps = simp append_assoc
 
 -- the bytes of the pieces of definitions are their text
-pub defs_bytes : (ds : List Def) → bytes_of (defs_pieces ds) ≡ def_texts ds
-defs_bytes [] = refl
-defs_bytes (d ∷ ds) = def_bytes d (defs_pieces ds) ∙ ap (λ z. def_text d ++ z) (defs_bytes ds)
+pub laid_bytes : (ls : List LaidDef) → bytes_of (laid_pieces ls) ≡ laid_texts ls
+laid_bytes [] = refl
+laid_bytes (l ∷ ls) =
+    def_bytes l.shows_zero l.def (laid_pieces ls)
+    ∙ ap (λ t. t ++ bytes_of (laid_pieces ls)) (either_way l.shows_zero l.def)
+    ∙ ap (λ t. text_by l.shows_zero l.def ++ t) (laid_bytes ls)

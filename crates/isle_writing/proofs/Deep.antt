@@ -16,9 +16,10 @@ use Rattle.isle_ast.specs.declared.tree.AstFields.TheVariants as fields
 use Rattle.isle_ast.specs.declared.tree.AstVariant.{AstVariant}
 use Rattle.isle_writing.specs.Text.{truth_text, number_text}
 use Rattle.isle_writing.specs.Height.{pattern_height, patterns_height, expr_height, exprs_height, lets_height, iflets_height, def_height}
+use Rattle.isle_writing.specs.LaidDefs.{LaidDef, laid_defs}
 use Rattle.isle_writing.specs.Writable.{IsNamed}
 use Rattle.isle_writing.proofs.Pieces.{Piece, Blank, Opens, Closes, Sign, Spelt, lexemes_at}
-use Rattle.isle_writing.proofs.Laid.{mark_pieces, names_pieces, joined_pieces, pattern_pieces, patterns_pieces, expr_pieces, exprs_pieces, lets_pieces, named_pieces, shape_pieces, variant_pieces, variants_pieces, body_pieces, flags_pieces, rule_name_pieces, prio_pieces, iflets_pieces, def_pieces, defs_pieces}
+use Rattle.isle_writing.proofs.Laid.{mark_pieces, names_pieces, joined_pieces, pattern_pieces, patterns_pieces, expr_pieces, exprs_pieces, lets_pieces, named_pieces, shape_pieces, variant_pieces, variants_pieces, body_pieces, flags_pieces, rule_name_pieces, prio_pieces, iflets_pieces, def_pieces, laid_pieces}
 
 -- ---- token by token
 
@@ -212,10 +213,11 @@ goes_rule_name : (name : Option (List ℕ)) (base : List Mark) (ps : List Piece)
 goes_rule_name None base ps n l g = g
 goes_rule_name (Some name) base ps n l g = goes_word base name _ n l (goes_blank base 32 ps n g)
 
-goes_prio : (k : ℤ) (base : List Mark) (ps : List Piece) (n : ℕ) → suc (length base) ≤ n → Goes base ps n → Goes base (prio_pieces k ps) n
-goes_prio (pos zero) base ps n l g = g
-goes_prio (pos (suc k)) base ps n l g = goes_word base (number_text (pos (suc k))) _ n l (goes_blank base 32 ps n g)
-goes_prio (negsuc k) base ps n l g = goes_word base (number_text (negsuc k)) _ n l (goes_blank base 32 ps n g)
+goes_prio : (z : Bool) (k : ℤ) (base : List Mark) (ps : List Piece) (n : ℕ) → suc (length base) ≤ n → Goes base ps n → Goes base (prio_pieces z k ps) n
+goes_prio true k base ps n l g = goes_word base (number_text k) _ n l (goes_blank base 32 ps n g)
+goes_prio false (pos zero) base ps n l g = g
+goes_prio false (pos (suc k)) base ps n l g = goes_word base (number_text (pos (suc k))) _ n l (goes_blank base 32 ps n g)
+goes_prio false (negsuc k) base ps n l g = goes_word base (number_text (negsuc k)) _ n l (goes_blank base 32 ps n g)
 
 goes_iflets : (is : List IfLet) (base : List Mark) (ps : List Piece) (n : ℕ) → suc (length base) + iflets_height is ≤ n → Goes base ps n → Goes base (iflets_pieces is ps) n
 goes_iflets [] base ps n l g = g
@@ -241,32 +243,32 @@ begins w ps n e l g = record { nests = nests }
         max-le l (subst (λ (b : Bool). max (length (if b then Passed ∷ [] else Round ∷ [])) (deepest (state (if b then Passed ∷ [] else Round ∷ [])) (lexemes_at (at + 1 + length w) ps)) ≤ n) (sym e)
         (max-le l (g.nests (Round ∷ []) _ refl)))
 
-top_def : (d : Def) (ps : List Piece) (n : ℕ) → IsNamed d → def_height d ≤ n → Top ps n → Top (def_pieces d ps) n
-top_def (tree.TypeDecl name is_extern is_nodebug b spot) ps n h l t =
+top_def : (z : Bool) (d : Def) (ps : List Piece) (n : ℕ) → IsNamed d → def_height d ≤ n → Top ps n → Top (def_pieces z d ps) n
+top_def z (tree.TypeDecl name is_extern is_nodebug b spot) ps n h l t =
     begins (codes "type") _ n refl (omega (arith, l)) (goes_blank [] 32 _ n (goes_word [] name _ n (omega (arith, l)) (goes_blank [] 32 _ n (goes_mark is_extern (codes "extern") [] _ n (omega (arith, l))
     (goes_mark is_nodebug (codes "nodebug") [] _ n (omega (arith, l)) (goes_body b [] _ n (omega (arith, l)) (end_line ps n t)))))))
-top_def (tree.Decl term pure multi partial recursive args ret spot) ps n h l t =
+top_def z (tree.Decl term pure multi partial recursive args ret spot) ps n h l t =
     begins (codes "decl") _ n refl (omega (arith, l)) (goes_blank [] 32 _ n (goes_flags pure multi partial recursive [] _ n (omega (arith, l)) (goes_word [] term _ n (omega (arith, l)) (goes_blank [] 32 _ n
     (goes_open [] _ n (omega (arith, l)) (goes_joined args (Round ∷ []) _ n (omega (arith, l)) (close_back [] _ n (omega (arith, l)) (goes_blank [] 32 _ n (goes_word [] ret _ n (omega (arith, l)) (end_line ps n t))))))))))
-top_def (tree.ExternConstructor term func spot) ps n h l t =
+top_def z (tree.ExternConstructor term func spot) ps n h l t =
     begins (codes "extern") _ n refl l (goes_blank [] 32 _ n (goes_word [] (codes "constructor") _ n l (goes_blank [] 32 _ n (goes_word [] term _ n l (goes_blank [] 32 _ n (goes_word [] func _ n l (end_line ps n t)))))))
-top_def (tree.ExternExtractor term func infallible spot) ps n h l t =
+top_def z (tree.ExternExtractor term func infallible spot) ps n h l t =
     begins (codes "extern") _ n refl l (goes_blank [] 32 _ n (goes_word [] (codes "extractor") _ n l (goes_blank [] 32 _ n (goes_mark infallible (codes "infallible") [] _ n l
     (goes_word [] term _ n l (goes_blank [] 32 _ n (goes_word [] func _ n l (end_line ps n t))))))))
-top_def (tree.ExternConst name ty spot) ps n h l t =
+top_def z (tree.ExternConst name ty spot) ps n h l t =
     begins (codes "extern") _ n refl l (goes_blank [] 32 _ n (goes_word [] (codes "const") _ n l (goes_blank [] 32 _ n (goes_word [] (36 ∷ name) _ n l (goes_blank [] 32 _ n (goes_word [] ty _ n l (end_line ps n t)))))))
-top_def (tree.Extractor term params p spot) ps n h l t =
+top_def z (tree.Extractor term params p spot) ps n h l t =
     begins (codes "extractor") _ n refl (omega (arith, l)) (goes_blank [] 32 _ n (goes_open [] _ n (omega (arith, l)) (goes_word (Round ∷ []) term _ n (omega (arith, l)) (goes_names params (Round ∷ []) _ n (omega (arith, l))
     (close_back [] _ n (omega (arith, l)) (goes_blank [] 32 _ n (goes_pattern p [] _ n (omega (arith, l)) (end_line ps n t))))))))
-top_def (tree.Converter from to term spot) ps n h l t =
+top_def z (tree.Converter from to term spot) ps n h l t =
     begins (codes "convert") _ n refl l (goes_blank [] 32 _ n (goes_word [] from _ n l (goes_blank [] 32 _ n (goes_word [] to _ n l (goes_blank [] 32 _ n (goes_word [] term _ n l (end_line ps n t)))))))
-top_def (tree.Rule name prio term args iflets rhs spot) ps n h l t =
-    begins (codes "rule") _ n refl (omega (arith, l)) (goes_blank [] 32 _ n (goes_rule_name name [] _ n (omega (arith, l)) (goes_prio prio [] _ n (omega (arith, l)) (goes_open [] _ n (omega (arith, l))
+top_def z (tree.Rule name prio term args iflets rhs spot) ps n h l t =
+    begins (codes "rule") _ n refl (omega (arith, l)) (goes_blank [] 32 _ n (goes_rule_name name [] _ n (omega (arith, l)) (goes_prio z prio [] _ n (omega (arith, l)) (goes_open [] _ n (omega (arith, l))
     (goes_word (Round ∷ []) term _ n (omega (arith, l)) (patterns_deep (patterns_of args) (Round ∷ []) _ n (omega (arith, l)) (close_back [] _ n (omega (arith, l)) (goes_blank [] 32 _ n
     (goes_iflets iflets [] _ n (omega (arith, l)) (goes_expr rhs [] _ n (omega (arith, l)) (end_line ps n t)))))))))))
-top_def (tree.Passed head spot) ps n h l t = absurd h
+top_def z (tree.Passed head spot) ps n h l t = absurd h
 
 -- definitions that nest no deeper than so
-pub top_defs : (ds : List Def) (n : ℕ) → AllByRecursion (λ (d : Def). IsNamed d × (def_height d ≤ n)) ds → Top (defs_pieces ds) n
+pub top_defs : (ls : List LaidDef) (n : ℕ) → AllByRecursion (λ (d : Def). IsNamed d × (def_height d ≤ n)) (laid_defs ls) → Top (laid_pieces ls) n
 top_defs [] n h = record { nests = λ at. omega arith }
-top_defs (d ∷ ds) n h = top_def d (defs_pieces ds) n h.0.0 h.0.1 (top_defs ds n h.1)
+top_defs (l ∷ ls) n h = top_def l.shows_zero l.def (laid_pieces ls) n h.0.0 h.0.1 (top_defs ls n h.1)

@@ -17,13 +17,13 @@ use Rattle.isle_ast.specs.Tree as tree
 use Rattle.isle_grammar.specs.Grammar.{Flags, no_flags, with_flag, DefS, type_decl, decl, extern_constructor, extern_extractor, extern_infallible, extern_const, extractor, convert, rule, passed, FileS, no_def, a_def}
 use Rattle.isle_grammar.specs.Reading.{read_def}
 use Rattle.isle_grammar.proofs.Definitions.{law_def}
-use Rattle.isle_writing.specs.Text.{def_texts}
+use Rattle.isle_writing.specs.LaidDefs.{LaidDef, laid_defs, laid_texts}
 use Rattle.isle_writing.specs.Writable.{AreWritable}
 use Rattle.isle_writing.specs.Spelt.{declares_flag, declare_flag, SpellsNone}
 use Rattle.isle_writing.proofs.Pieces.{Piece, lexemes_at}
-use Rattle.isle_writing.proofs.Laid.{mark_pieces, def_pieces, defs_pieces}
+use Rattle.isle_writing.proofs.Laid.{mark_pieces, def_pieces, laid_pieces}
 use Rattle.isle_writing.proofs.Read.{def_read}
-use Rattle.isle_writing.proofs.Spells.{defs_shallow, texts_lexemes}
+use Rattle.isle_writing.proofs.Spells.{laid_shallow, laid_lexemes}
 
 -- ---- a declaration of such a term
 
@@ -72,19 +72,19 @@ mark_flags : (b : Bool) (w : List ℕ) (ps : List Piece) → is_flag w ≡ true 
 mark_flags true w ps h k at = (h, k (at + length w + 1))
 mark_flags false w ps h k at = k at
 
-refused : (d : Def) (file at : ℕ) (e : Def) (ps : List Piece) (rest : List Lexeme) → declares_flag d ≡ true → DefS file e (lexemes_at at (def_pieces d ps)) rest → ⊥
-refused (tree.TypeDecl name is_extern is_nodebug b spot) file at e ps rest h x = absurd cc
-refused (tree.Decl term pure multi partial recursive args ret spot) file at e ps rest h x =
+refused : (z : Bool) (d : Def) (file at : ℕ) (e : Def) (ps : List Piece) (rest : List Lexeme) → declares_flag d ≡ true → DefS file e (lexemes_at at (def_pieces z d ps)) rest → ⊥
+refused z (tree.TypeDecl name is_extern is_nodebug b spot) file at e ps rest h x = absurd cc
+refused z (tree.Decl term pure multi partial recursive args ret spot) file at e ps rest h x =
     let y = declares file e _ _ _ rest x in
     no_name 4 no_flags y.flags _ y.us y.n y.o y.term y.words
     (mark_flags pure (codes "pure") _ refl (mark_flags multi (codes "multi") _ refl (mark_flags partial (codes "partial") _ refl (mark_flags recursive (codes "rec") _ refl (λ at. (h, tt))))) _) y.no_flag
-refused (tree.ExternConstructor term func spot) file at e ps rest h x = absurd cc
-refused (tree.ExternExtractor term func infallible spot) file at e ps rest h x = absurd cc
-refused (tree.ExternConst name ty spot) file at e ps rest h x = absurd cc
-refused (tree.Extractor term params p spot) file at e ps rest h x = absurd cc
-refused (tree.Converter from to term spot) file at e ps rest h x = absurd cc
-refused (tree.Rule name prio term args iflets rhs spot) file at e ps rest h x = absurd cc
-refused (tree.Passed head spot) file at e ps rest h x = absurd cc
+refused z (tree.ExternConstructor term func spot) file at e ps rest h x = absurd cc
+refused z (tree.ExternExtractor term func infallible spot) file at e ps rest h x = absurd cc
+refused z (tree.ExternConst name ty spot) file at e ps rest h x = absurd cc
+refused z (tree.Extractor term params p spot) file at e ps rest h x = absurd cc
+refused z (tree.Converter from to term spot) file at e ps rest h x = absurd cc
+refused z (tree.Rule name prio term args iflets rhs spot) file at e ps rest h x = absurd cc
+refused z (tree.Passed head spot) file at e ps rest h x = absurd cc
 
 -- ---- the definitions in front of it
 
@@ -119,33 +119,34 @@ starts file _ _ t us e no_def = absurd cc
 starts file _ _ t us e (a_def d others ts rest x m) = record { first = d; others = others; rest = rest; spelt = x; behind = m }
 
 -- the tokens of a definition begin with a parenthesis
-opens : (d : Def) (at : ℕ) (ps : List Piece) → (us : List Lexeme) × (lexemes_at at (def_pieces d ps) ≡ Open at ∷ us)
-opens (tree.TypeDecl name is_extern is_nodebug b spot) at ps = (_, refl)
-opens (tree.Decl term pure multi partial recursive args ret spot) at ps = (_, refl)
-opens (tree.ExternConstructor term func spot) at ps = (_, refl)
-opens (tree.ExternExtractor term func infallible spot) at ps = (_, refl)
-opens (tree.ExternConst name ty spot) at ps = (_, refl)
-opens (tree.Extractor term params p spot) at ps = (_, refl)
-opens (tree.Converter from to term spot) at ps = (_, refl)
-opens (tree.Rule name prio term args iflets rhs spot) at ps = (_, refl)
-opens (tree.Passed head spot) at ps = (_, refl)
+opens : (z : Bool) (d : Def) (at : ℕ) (ps : List Piece) → (us : List Lexeme) × (lexemes_at at (def_pieces z d ps) ≡ Open at ∷ us)
+opens z (tree.TypeDecl name is_extern is_nodebug b spot) at ps = (_, refl)
+opens z (tree.Decl term pure multi partial recursive args ret spot) at ps = (_, refl)
+opens z (tree.ExternConstructor term func spot) at ps = (_, refl)
+opens z (tree.ExternExtractor term func infallible spot) at ps = (_, refl)
+opens z (tree.ExternConst name ty spot) at ps = (_, refl)
+opens z (tree.Extractor term params p spot) at ps = (_, refl)
+opens z (tree.Converter from to term spot) at ps = (_, refl)
+opens z (tree.Rule name prio term args iflets rhs spot) at ps = (_, refl)
+opens z (tree.Passed head spot) at ps = (_, refl)
 
-nothing_spelt : (ds : List Def) (file at : ℕ) (found : List Def) → AreWritable ds → declare_flag ds ≡ true → FileS file (lexemes_at at (defs_pieces ds)) found → ⊥
+nothing_spelt : (ls : List LaidDef) (file at : ℕ) (found : List Def) → AreWritable (laid_defs ls) → declare_flag (laid_defs ls) ≡ true
+    → FileS file (lexemes_at at (laid_pieces ls)) found → ⊥
 nothing_spelt [] file at found h k s = absurd cc
-nothing_spelt (d ∷ ds) file at found h k s =
-    let o = opens d at (defs_pieces ds) in
-    let x : Starts file (lexemes_at at (defs_pieces (d ∷ ds))) = starts file _ found (Open at) o.0 o.1 s in
-    by x (λ end others g m. nothing_spelt ds file end others h.1 g m) (first_or (declares_flag d) (declare_flag ds) k)
+nothing_spelt (l ∷ ls) file at found h k s =
+    let o = opens l.shows_zero l.def at (laid_pieces ls) in
+    let x : Starts file (lexemes_at at (laid_pieces (l ∷ ls))) = starts file _ found (Open at) o.0 o.1 s in
+    by x (λ end others g m. nothing_spelt ls file end others h.1 g m) (first_or (declares_flag l.def) (declare_flag (laid_defs ls)) k)
   where
-    by : Starts file (lexemes_at at (defs_pieces (d ∷ ds)))
-        → ((end : ℕ) (others : List Def) → declare_flag ds ≡ true → FileS file (lexemes_at end (defs_pieces ds)) others → ⊥)
-        → (declares_flag d ≡ true) ⊎ ((declares_flag d ≡ false) × (declare_flag ds ≡ true)) → ⊥
-    by x later (inl f) = refused d file at x.first (defs_pieces ds) x.rest f x.spelt
+    by : Starts file (lexemes_at at (laid_pieces (l ∷ ls)))
+        → ((end : ℕ) (others : List Def) → declare_flag (laid_defs ls) ≡ true → FileS file (lexemes_at end (laid_pieces ls)) others → ⊥)
+        → (declares_flag l.def ≡ true) ⊎ ((declares_flag l.def ≡ false) × (declare_flag (laid_defs ls) ≡ true)) → ⊥
+    by x later (inl f) = refused l.shows_zero l.def file at x.first (laid_pieces ls) x.rest f x.spelt
     by x later (inr f) =
-        let r = def_read d file at (defs_pieces ds) h.0.0 f.0 in
-        let left = left_once file _ x.first _ _ x.rest r.1 x.spelt (defs_shallow (d ∷ ds) at h) in
+        let r = def_read l.shows_zero l.def file at (laid_pieces ls) h.0.0 f.0 in
+        let left = left_once file _ x.first _ _ x.rest r.1 x.spelt (laid_shallow (l ∷ ls) at h) in
         later r.0 x.others f.1 (subst (λ ts. FileS file ts x.others) (sym left) x.behind)
 
 -- the text of such definitions spells none
-pub texts_spell_none : (ds : List Def) → AreWritable ds → declare_flag ds ≡ true → SpellsNone (def_texts ds)
-texts_spell_none ds h k file found s = nothing_spelt ds file 0 found h k (subst (λ ts. FileS file ts found) (texts_lexemes ds h) s.tokens.definitions)
+pub texts_spell_none : (ls : List LaidDef) → AreWritable (laid_defs ls) → declare_flag (laid_defs ls) ≡ true → SpellsNone (laid_texts ls)
+texts_spell_none ls h k file found s = nothing_spelt ls file 0 found h k (subst (λ ts. FileS file ts found) (laid_lexemes ls h) s.tokens.definitions)

@@ -9,6 +9,7 @@ use Rattle.isle_ast.specs.declared.tree.AstFields.{AstFields}
 use Rattle.isle_ast.specs.declared.tree.AstFields.TheVariants as fields
 use Rattle.isle_ast.specs.declared.tree.AstVariant.{AstVariant}
 use Rattle.isle_writing.specs.Text.{truth_text, number_text}
+use Rattle.isle_writing.specs.LaidDefs.{LaidDef}
 use Rattle.isle_writing.proofs.Pieces.{Piece, Blank, Opens, Closes, Sign, Spelt}
 
 -- a word and a blank, if it is to stand there
@@ -97,37 +98,39 @@ abbrev pub rule_name_pieces : Option (List ℕ) → List Piece → List Piece
 rule_name_pieces None ps = ps
 rule_name_pieces (Some name) ps = Spelt name ∷ Blank 32 ∷ ps
 
-abbrev pub prio_pieces : ℤ → List Piece → List Piece
-prio_pieces (pos zero) ps = ps
-prio_pieces (pos (suc n)) ps = Spelt (number_text (pos (suc n))) ∷ Blank 32 ∷ ps
-prio_pieces (negsuc n) ps = Spelt (number_text (negsuc n)) ∷ Blank 32 ∷ ps
+-- a priority, 0 only if it is to be written
+abbrev pub prio_pieces : Bool → ℤ → List Piece → List Piece
+prio_pieces true n ps = Spelt (number_text n) ∷ Blank 32 ∷ ps
+prio_pieces false (pos zero) ps = ps
+prio_pieces false (pos (suc n)) ps = Spelt (number_text (pos (suc n))) ∷ Blank 32 ∷ ps
+prio_pieces false (negsuc n) ps = Spelt (number_text (negsuc n)) ∷ Blank 32 ∷ ps
 
 abbrev pub iflets_pieces : List IfLet → List Piece → List Piece
 iflets_pieces [] ps = ps
 iflets_pieces (i ∷ is) ps = Opens ∷ Spelt (codes "if-let") ∷ Blank 32 ∷ pattern_pieces i.lhs (Blank 32 ∷ expr_pieces i.rhs (Closes ∷ Blank 32 ∷ iflets_pieces is ps))
 
--- a definition, each line of which ends
-abbrev pub def_pieces : Def → List Piece → List Piece
-def_pieces (tree.TypeDecl name is_extern is_nodebug b at) ps =
+-- a definition, each line of which ends, by whether a priority 0 is written
+abbrev pub def_pieces : Bool → Def → List Piece → List Piece
+def_pieces z (tree.TypeDecl name is_extern is_nodebug b at) ps =
     Opens ∷ Spelt (codes "type") ∷ Blank 32 ∷ Spelt name ∷ Blank 32 ∷ mark_pieces is_extern (codes "extern") (mark_pieces is_nodebug (codes "nodebug") (body_pieces b (Closes ∷ Blank 10 ∷ ps)))
-def_pieces (tree.Decl term pure multi partial recursive args ret at) ps =
+def_pieces z (tree.Decl term pure multi partial recursive args ret at) ps =
     Opens ∷ Spelt (codes "decl") ∷ Blank 32 ∷ flags_pieces pure multi partial recursive (Spelt term ∷ Blank 32 ∷ Opens ∷ joined_pieces args (Closes ∷ Blank 32 ∷ Spelt ret ∷ Closes ∷ Blank 10 ∷ ps))
-def_pieces (tree.ExternConstructor term func at) ps =
+def_pieces z (tree.ExternConstructor term func at) ps =
     Opens ∷ Spelt (codes "extern") ∷ Blank 32 ∷ Spelt (codes "constructor") ∷ Blank 32 ∷ Spelt term ∷ Blank 32 ∷ Spelt func ∷ Closes ∷ Blank 10 ∷ ps
-def_pieces (tree.ExternExtractor term func infallible at) ps =
+def_pieces z (tree.ExternExtractor term func infallible at) ps =
     Opens ∷ Spelt (codes "extern") ∷ Blank 32 ∷ Spelt (codes "extractor") ∷ Blank 32 ∷ mark_pieces infallible (codes "infallible") (Spelt term ∷ Blank 32 ∷ Spelt func ∷ Closes ∷ Blank 10 ∷ ps)
-def_pieces (tree.ExternConst name ty at) ps =
+def_pieces z (tree.ExternConst name ty at) ps =
     Opens ∷ Spelt (codes "extern") ∷ Blank 32 ∷ Spelt (codes "const") ∷ Blank 32 ∷ Spelt (36 ∷ name) ∷ Blank 32 ∷ Spelt ty ∷ Closes ∷ Blank 10 ∷ ps
-def_pieces (tree.Extractor term params p at) ps =
+def_pieces z (tree.Extractor term params p at) ps =
     Opens ∷ Spelt (codes "extractor") ∷ Blank 32 ∷ Opens ∷ Spelt term ∷ names_pieces params (Closes ∷ Blank 32 ∷ pattern_pieces p (Closes ∷ Blank 10 ∷ ps))
-def_pieces (tree.Converter from to term at) ps =
+def_pieces z (tree.Converter from to term at) ps =
     Opens ∷ Spelt (codes "convert") ∷ Blank 32 ∷ Spelt from ∷ Blank 32 ∷ Spelt to ∷ Blank 32 ∷ Spelt term ∷ Closes ∷ Blank 10 ∷ ps
-def_pieces (tree.Rule name prio term args iflets rhs at) ps =
-    Opens ∷ Spelt (codes "rule") ∷ Blank 32 ∷ rule_name_pieces name (prio_pieces prio (Opens ∷ Spelt term ∷ patterns_pieces (patterns_of args)
+def_pieces z (tree.Rule name prio term args iflets rhs at) ps =
+    Opens ∷ Spelt (codes "rule") ∷ Blank 32 ∷ rule_name_pieces name (prio_pieces z prio (Opens ∷ Spelt term ∷ patterns_pieces (patterns_of args)
     (Closes ∷ Blank 32 ∷ iflets_pieces iflets (expr_pieces rhs (Closes ∷ Blank 10 ∷ ps)))))
-def_pieces (tree.Passed head at) ps = Opens ∷ Spelt head ∷ Closes ∷ Blank 10 ∷ ps
+def_pieces z (tree.Passed head at) ps = Opens ∷ Spelt head ∷ Closes ∷ Blank 10 ∷ ps
 
 -- definitions, one after the other
-abbrev pub defs_pieces : List Def → List Piece
-defs_pieces [] = []
-defs_pieces (d ∷ ds) = def_pieces d (defs_pieces ds)
+abbrev pub laid_pieces : List LaidDef → List Piece
+laid_pieces [] = []
+laid_pieces (l ∷ ls) = def_pieces l.shows_zero l.def (laid_pieces ls)

@@ -178,10 +178,11 @@ rule_name_read : (name : Option (List ℕ)) (at : ℕ) (ps : List Piece) → Nam
 rule_name_read None at ps h = (_, unnamed _)
 rule_name_read (Some name) at ps h = (_, named_rule _ _ _ h.1)
 
-prio_read : (n : ℤ) (at : ℕ) (ps : List Piece) → FitsSigned w64 n → Leaves (PrioS n) at (prio_pieces n ps) ps
-prio_read (pos zero) at ps h = (_, unwritten _)
-prio_read (pos (suc n)) at ps h = (_, written _ _ _ _ (number_kind_is (pos (suc n)) (wide (pos (suc n)) h)) h)
-prio_read (negsuc n) at ps h = (_, written _ _ _ _ (number_kind_is (negsuc n) (wide (negsuc n) h)) h)
+prio_read : (z : Bool) (n : ℤ) (at : ℕ) (ps : List Piece) → FitsSigned w64 n → Leaves (PrioS n) at (prio_pieces z n ps) ps
+prio_read true n at ps h = (_, written _ _ _ _ (number_kind_is n (wide n h)) h)
+prio_read false (pos zero) at ps h = (_, unwritten _)
+prio_read false (pos (suc n)) at ps h = (_, written _ _ _ _ (number_kind_is (pos (suc n)) (wide (pos (suc n)) h)) h)
+prio_read false (negsuc n) at ps h = (_, written _ _ _ _ (number_kind_is (negsuc n) (wide (negsuc n) h)) h)
 
 tail_read : (is : List IfLet) (rhs : Expr) (at : ℕ) (ps : List Piece) → AllByRecursion (λ (i : IfLet). IsCondition i) is → IsExpr rhs
     → Leaves (TailS (is, rhs)) at (iflets_pieces is (expr_pieces rhs (Closes ∷ ps))) ps
@@ -196,35 +197,36 @@ tail_read (i ∷ is) rhs at ps h k =
 -- ---- definitions
 
 -- the tokens of a definition spell it, at the place where they begin
-pub def_read : (d : Def) (file at : ℕ) (ps : List Piece) → IsNamed d → declares_flag d ≡ false → Leaves (DefS file (placed (record { file = file; offset = at }) d)) at (def_pieces d ps) ps
-def_read (tree.TypeDecl name is_extern is_nodebug b spot) file at ps h no_flag =
+pub def_read : (z : Bool) (d : Def) (file at : ℕ) (ps : List Piece) → IsNamed d → declares_flag d ≡ false
+    → Leaves (DefS file (placed (record { file = file; offset = at }) d)) at (def_pieces z d ps) ps
+def_read z (tree.TypeDecl name is_extern is_nodebug b spot) file at ps h no_flag =
     let m = marks_read is_extern is_nodebug _ (body_pieces b (Closes ∷ Blank 10 ∷ ps)) in
     let x = body_read b m.0 (Closes ∷ Blank 10 ∷ ps) h.1 in
     (_, type_decl _ _ _ (codes "type") name (record { is_extern = is_extern; is_nodebug = is_nodebug }) b _ _ _ _ refl (symbol _ _ _ h.0.1) m.1 x.1)
-def_read (tree.Decl term pure multi partial recursive args ret spot) file at ps h no_flag =
+def_read z (tree.Decl term pure multi partial recursive args ret spot) file at ps h no_flag =
     let f = flags_read pure multi partial recursive _ (Spelt term ∷ Blank 32 ∷ Opens ∷ joined_pieces args (Closes ∷ Blank 32 ∷ Spelt ret ∷ Closes ∷ Blank 10 ∷ ps)) in
     let x = joined_read args _ (Blank 32 ∷ Spelt ret ∷ Closes ∷ Blank 10 ∷ ps) h.1 in
     (_, decl _ _ _ _ _ (codes "decl") term ret (record { pure = pure; multi = multi; partial = partial; recursive = recursive }) args _ _ _ _ refl f.1 h.0.1 no_flag x.1 (symbol _ _ _ h.2.1))
-def_read (tree.ExternConstructor term func spot) file at ps h no_flag =
+def_read z (tree.ExternConstructor term func spot) file at ps h no_flag =
     (_, extern_constructor _ _ _ _ (codes "extern") (codes "constructor") _ _ _ _ _ refl refl (symbol _ _ _ h.0.1) (symbol _ _ _ h.1.1))
-def_read (tree.ExternExtractor term func false spot) file at ps h no_flag =
+def_read z (tree.ExternExtractor term func false spot) file at ps h no_flag =
     (_, extern_extractor _ _ _ _ (codes "extern") (codes "extractor") _ _ _ _ _ refl refl (symbol _ _ _ h.0.1) (symbol _ _ _ h.1.1))
-def_read (tree.ExternExtractor term func true spot) file at ps h no_flag =
+def_read z (tree.ExternExtractor term func true spot) file at ps h no_flag =
     (_, extern_infallible _ _ _ _ _ (codes "extern") (codes "extractor") (codes "infallible") _ _ _ _ _ refl refl refl (symbol _ _ _ h.0.1) (symbol _ _ _ h.1.1))
-def_read (tree.ExternConst name ty spot) file at ps h no_flag =
+def_read z (tree.ExternConst name ty spot) file at ps h no_flag =
     (_, extern_const _ _ _ _ _ (codes "extern") (codes "const") _ _ _ _ _ refl refl (dollar_kind name) (symbol _ _ _ h.1.1))
-def_read (tree.Extractor term params p spot) file at ps h no_flag =
+def_read z (tree.Extractor term params p spot) file at ps h no_flag =
     let x = names_read params _ (Blank 32 ∷ pattern_pieces p (Closes ∷ Blank 10 ∷ ps)) h.1 in
     let y = pattern_read p _ (Closes ∷ Blank 10 ∷ ps) h.2 in
     (_, extractor _ _ _ _ (codes "extractor") _ _ _ _ _ _ _ refl (symbol _ _ _ h.0.1) x.1 y.1)
-def_read (tree.Converter from to term spot) file at ps h no_flag =
+def_read z (tree.Converter from to term spot) file at ps h no_flag =
     (_, convert _ _ _ (codes "convert") _ _ _ _ _ _ _ refl (symbol _ _ _ h.0.1) (symbol _ _ _ h.1.1) (symbol _ _ _ h.2.1))
-def_read (tree.Rule name prio term args iflets rhs spot) file at ps h no_flag =
+def_read z (tree.Rule name prio term args iflets rhs spot) file at ps h no_flag =
     let behind : List Piece = iflets_pieces iflets (expr_pieces rhs (Closes ∷ Blank 10 ∷ ps)) in
     let head : List Piece = Opens ∷ Spelt term ∷ patterns_pieces (patterns_of args) (Closes ∷ Blank 32 ∷ behind) in
-    let n = rule_name_read name _ (prio_pieces prio head) h.0 in
-    let p = prio_read prio n.0 head h.1 in
+    let n = rule_name_read name _ (prio_pieces z prio head) h.0 in
+    let p = prio_read z prio n.0 head h.1 in
     let a = args_read args _ (Blank 32 ∷ behind) h.3 in
     let t = tail_read iflets rhs _ (Blank 10 ∷ ps) h.4 h.5 in
     (_, rule _ _ _ (codes "rule") term name prio args iflets rhs _ _ _ _ _ _ refl n.1 p.1 (symbol _ _ _ h.2.1) a.1 t.1)
-def_read (tree.Passed head spot) file at ps h no_flag = absurd h
+def_read z (tree.Passed head spot) file at ps h no_flag = absurd h

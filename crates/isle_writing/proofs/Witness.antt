@@ -1,17 +1,17 @@
 -- Definitions that can be written, and their text: the layout at a glance.
-use Rattle.std.proofs.Common.{◌≡◌, negsuc, List, [], ◌∷◌, ◌++◌, true, false, Some, refl, codes, arith}
+use Rattle.std.proofs.Common.{◌≡◌, pos, negsuc, List, [], ◌∷◌, ◌++◌, true, false, Some, None, refl, codes, arith}
 use Rattle.isle_ast.specs.Tree.{Pattern, NoPattern, APattern, Expr, NoExpr, AnExpr, NoLet, ALet, Def}
 use Rattle.isle_ast.specs.Tree as tree
 use Rattle.isle_ast.specs.declared.tree.AstBody.TheVariants as body
 use Rattle.isle_ast.specs.declared.tree.AstFields.TheVariants as fields
 use Rattle.isle_printer.specs.Number.{numeral}
 use Rattle.isle_lexer.specs.Word.{kind}
-use Rattle.isle_writing.specs.Text.{def_text, def_texts}
+use Rattle.isle_writing.specs.Text.{def_text, def_texts, whole_def_text}
 use Rattle.isle_writing.specs.Erased.{no_place}
 use Rattle.isle_writing.specs.Writable.{NamesOne, AreWritable}
 use Rattle.isle_writing.specs.Spelt.{SpellsOnly, SpellsNone}
-use Rattle.isle_writing.proofs.Spells.{texts_spell_only}
-use Rattle.isle_writing.proofs.Flagged.{texts_spell_none}
+use Rattle.isle_writing.specs.LaidDefs.{laid_texts, plain, whole}
+use Rattle.isle_writing.proofs.WrittenLaw.{laid_spelt, written_spelt}
 use Rattle.isle_writing.proofs.Names.{names_one, plain_name}
 
 abbrev definitions : List Def
@@ -75,7 +75,7 @@ can_be_written =
 
 -- so their text spells them
 are_spelt : SpellsOnly (def_texts definitions) definitions
-are_spelt = texts_spell_only definitions can_be_written refl
+are_spelt = (written_spelt (def_texts definitions) definitions can_be_written refl).named refl
 
 -- a term that is named as a flag
 abbrev flagged : List Def
@@ -88,4 +88,21 @@ flagged_text = refl
 -- whose text spells nothing
 nothing_spelt : SpellsNone (codes "(decl multi rec () Reg)\n")
 unfolding def_text kind
-nothing_spelt = texts_spell_none flagged (((names_one (codes "rec") (omega arith, refl) refl, tt, names_one (codes "Reg") (omega arith, refl) refl), omega arith), tt) refl
+nothing_spelt = (written_spelt (def_texts flagged) flagged (((names_one (codes "rec") (omega arith, refl) refl, tt, names_one (codes "Reg") (omega arith, refl) refl), omega arith), tt) refl).flagged refl
+
+-- a rule whose priority is 0
+abbrev usual : Def
+usual = tree.Rule None (pos 0) (codes "lower") (tree.Wildcard ∷ []) [] (tree.Call (codes "plain") NoExpr) no_place
+
+-- its priority is written where that is asked for
+either_way : laid_texts (whole usual ∷ plain usual ∷ []) ≡ codes "(rule 0 (lower _) (plain))\n(rule (lower _) (plain))\n"
+unfolding def_text whole_def_text numeral
+either_way = refl
+
+-- and read back
+zero_spelt : SpellsOnly (codes "(rule 0 (lower _) (plain))\n(rule (lower _) (plain))\n") (usual ∷ usual ∷ [])
+unfolding def_text whole_def_text numeral kind
+zero_spelt =
+    let term = names_one (codes "lower") (omega arith, refl) refl in
+    let rule = ((tt, omega arith, term, (tt, tt), tt, ((omega arith, refl), refl, tt)), omega arith) in
+    (laid_spelt _ (whole usual ∷ plain usual ∷ []) (rule, (rule, tt)) refl).named refl

@@ -1,4 +1,5 @@
 pub mod Text
+pub mod LaidDefs
 pub mod Link
 pub mod Seen
 pub mod Erased

@@ -123,6 +123,10 @@ abbrev pub rule_name_text : Option (List ℕ) → List ℕ
 rule_name_text None = []
 rule_name_text (Some name) = name ++ codes " "
 
+-- a rule's priority before a blank, 0 too
+abbrev pub whole_prio_text : ℤ → List ℕ
+whole_prio_text n = number_text n ++ codes " "
+
 -- a rule's priority before a blank; 0 is not written
 abbrev pub prio_text : ℤ → List ℕ
 prio_text (pos zero) = []
@@ -180,3 +184,16 @@ def_text (tree.Passed head at) = codes "(" ++ (head ++ codes ")\n")
 abbrev pub def_texts : List Def → List ℕ
 def_texts [] = []
 def_texts (d ∷ ds) = def_text d ++ def_texts ds
+
+-- a definition, a rule's priority being written even if it is 0
+unfoldable pub whole_def_text : Def → List ℕ
+whole_def_text (tree.TypeDecl name is_extern is_nodebug b at) = def_text (tree.TypeDecl name is_extern is_nodebug b at)
+whole_def_text (tree.Decl term pure multi partial recursive args ret at) = def_text (tree.Decl term pure multi partial recursive args ret at)
+whole_def_text (tree.ExternConstructor term func at) = def_text (tree.ExternConstructor term func at)
+whole_def_text (tree.ExternExtractor term func infallible at) = def_text (tree.ExternExtractor term func infallible at)
+whole_def_text (tree.ExternConst name ty at) = def_text (tree.ExternConst name ty at)
+whole_def_text (tree.Extractor term params p at) = def_text (tree.Extractor term params p at)
+whole_def_text (tree.Converter from to term at) = def_text (tree.Converter from to term at)
+whole_def_text (tree.Rule name prio term args iflets rhs at) =
+    codes "(rule " ++ (rule_name_text name ++ (whole_prio_text prio ++ (parts_text term args ++ conclusion_text iflets rhs)))
+whole_def_text (tree.Passed head at) = def_text (tree.Passed head at)

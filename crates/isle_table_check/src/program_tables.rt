@@ -1,7 +1,8 @@
 //! The tables of the program itself.
 
 ghost use Rattle.std.specs.Prelude.{◌≡◌, ◌∷◌, [], IfOk, codes};
-ghost use Rattle.isle_top.specs.ProgramTables.{
+ghost use Rattle.isle_table_check.specs.SupportedTables.{AreSupported};
+ghost use Rattle.isle_table_check.specs.ProgramTables.{
   binary,
   format_of,
   iconst,
@@ -126,9 +127,11 @@ fn instructions(alloc: Global) -> Result<List<Instruction>, OutOfMemory>
 }
 
 /// Returns the tables that the program hands to `run_words`: addition and subtraction of two values, and constants; no
-/// rows of machines (`specs/ProgramTables.antt`). The only error is want of memory.
+/// rows of machines (`specs/ProgramTables.antt`). Each row is supported. The only error is want of memory.
+#[tactic(auto, using(crate::proofs::ProgramTables::sample_supported))]
 pub fn sample_tables(alloc: Global) -> Result<Tables, OutOfMemory>
-    ensures { IfOk result (λ tables. tables ≡ sample_tables) }
+    ensures tables { IfOk result (λ tables. tables ≡ sample_tables) }
+    ensures supported { AreSupported sample_tables }
 {
     Ok(Tables {
         formats: formats(alloc)?,
