@@ -51,7 +51,8 @@ module _ (env : Environment) (t : Term) (s : RuleSet) (found : FieldKey → Opti
     pub still : AreStill env (paths_of s.bindings) (source_needs g bound source)
     pub opens : HasOpened s.bindings (bound_by bound (source_needs g bound source)) []
 
-  pub free_source : (before : List Test) (bound : List ℕ) (source : BindingId) (c : Constraint) → IsWithin env (paths_of s.bindings) before bound → HasOpened s.bindings bound [] → IsTestable env t (paths_of s.bindings) before (source, c) → is_free (at (paths_of s.bindings) source) ≡ true
+  pub free_source : (before : List Test) (bound : List ℕ) (source : BindingId) (c : Constraint) → IsWithin env (paths_of s.bindings) before bound
+      → HasOpened s.bindings bound [] → IsTestable env t (paths_of s.bindings) before (source, c) → is_free (at (paths_of s.bindings) source) ≡ true
       → IsFreeSource bound source
   free_source before bound source c k opens one free =
       let ns = source_needs g bound source in

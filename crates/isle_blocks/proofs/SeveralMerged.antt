@@ -74,12 +74,14 @@ no_items_or : (bs : List Binding) (order : List BindingId) (c : Control) → NoI
 no_items_or bs [] c = inl tt
 no_items_or bs (b ∷ order) c = pick (list_before (slice_get bs b.0)) refl (no_items_or bs order c)
   where
-    pick : (list : Option BindingId) → list_before (slice_get bs b.0) ≡ list → NoItems bs order ⊎ IsNoMatch (opening bs order c).1 → NoItems bs (b ∷ order) ⊎ IsNoMatch (open_by list b (opening bs order c)).1
+    pick : (list : Option BindingId) → list_before (slice_get bs b.0) ≡ list → NoItems bs order ⊎ IsNoMatch (opening bs order c).1
+        → NoItems bs (b ∷ order) ⊎ IsNoMatch (open_by list b (opening bs order c)).1
     pick (Some list) e more = inr tt
     pick None e more = ⊎_elim (λ none. inl (e, none)) (λ no_match. inr no_match) more
 
 -- after an order without items no list was opened
-plain_opens : (env : Environment) (t : Term) (bs : List Binding) (order : List BindingId) (bound : List ℕ) → HasOpened bs bound [] → AreOpenable (setting env t bs) bound order → NoItems bs order → HasOpened bs (bound_by bound order) []
+plain_opens : (env : Environment) (t : Term) (bs : List Binding) (order : List BindingId) (bound : List ℕ) → HasOpened bs bound []
+    → AreOpenable (setting env t bs) bound order → NoItems bs order → HasOpened bs (bound_by bound order) []
 plain_opens env t bs [] bound h ready none = h
 plain_opens env t bs (b ∷ order) bound h ready none =
     plain_opens env t bs order (bound ++ b.0 ∷ []) (opened_push bs bound [] b h (open_within env t bs bound [] h b (slice_get bs b.0) refl none.0 ready.0)) ready.1 none.1
@@ -106,13 +108,16 @@ module _ (env : Environment) (t : Term) (s : RuleSet) (found : FieldKey → Opti
     pub free : AllByRecursion (λ (c : BindingId × Constraint). is_free (at (paths_of s.bindings) c.0) ≡ true) w.early
     pub chosen : AllByRecursion (λ (c : BindingId × Constraint). is_free (at (paths_of s.bindings) c.0) ≡ false) w.late
 
-  first_free : (source : BindingId) (w : Way) (c : Constraint) (left : Way) → Tests source w c left → AllByRecursion (λ (x : BindingId × Constraint). is_free (at (paths_of s.bindings) x.0) ≡ true) w.early
+  first_free : (source : BindingId) (w : Way) (c : Constraint) (left : Way) → Tests source w c left
+      → AllByRecursion (λ (x : BindingId × Constraint). is_free (at (paths_of s.bindings) x.0) ≡ true) w.early
       → (is_free (at (paths_of s.bindings) source) ≡ true) × AllByRecursion (λ (x : BindingId × Constraint). is_free (at (paths_of s.bindings) x.0) ≡ true) left.early
   first_free source w c left k h = subst (AllByRecursion (λ (x : BindingId × Constraint). is_free (at ps x.0) ≡ true)) k.tests h
 
   -- it stays so after its first test
-  pub listed_left : (before : List Test) (bound : List ℕ) (source : BindingId) (w : Way) (c : Constraint) (left : Way) → Tests source w c left → IsListedWay before bound w
-      → IsListedWay (is_test (paths_of s.bindings) (source, c) ∷ before) (bound_within (bound_by bound (source_needs g bound source)) (shows found counts inners source c)) left
+  pub listed_left : (before : List Test) (bound : List ℕ) (source : BindingId) (w : Way) (c : Constraint) (left : Way) → Tests source w c left
+      → IsListedWay before bound w
+      → IsListedWay (is_test (paths_of s.bindings) (source, c) ∷ before)
+      (bound_within (bound_by bound (source_needs g bound source)) (shows found counts inners source c)) left
   listed_left before bound source w c left k h =
       let one = first_test env t s before source w c left k h.after in
       let free = first_free source w c left k h.free in
@@ -127,7 +132,8 @@ module _ (env : Environment) (t : Term) (s : RuleSet) (found : FieldKey → Opti
       }
 
   -- and where the source of another's first test may be read
-  pub listed_more : (before : List Test) (bound : List ℕ) (source : BindingId) (v : Way) (c : Constraint) (left w : Way) → Tests source v c left → IsListedWay before bound v → IsListedWay before bound w → IsListedWay before (bound_by bound (source_needs g bound source)) w
+  pub listed_more : (before : List Test) (bound : List ℕ) (source : BindingId) (v : Way) (c : Constraint) (left w : Way) → Tests source v c left
+      → IsListedWay before bound v → IsListedWay before bound w → IsListedWay before (bound_by bound (source_needs g bound source)) w
   listed_more before bound source v c left w k one h =
       let src = free_source env t s found counts inners next items is finds found_inners found_items found_next once typed fits before bound source c h.within h.opens (first_test env t s before source v c left k one.after) (first_free source v c left k one.free).0 in
       record { within = within_needs env ps before (source_needs g bound source) bound src.still h.within; opens = src.opens; after = h.after; free = h.free; chosen = h.chosen }
@@ -139,7 +145,8 @@ module _ (env : Environment) (t : Term) (s : RuleSet) (found : FieldKey → Opti
       all_late : w.early ++ w.late ≡ w.late
       all_late = ap (λ xs. xs ++ w.late) early
 
-      pick : (cs : List (BindingId × Constraint)) → w.late ≡ cs → AllByRecursion (λ (c : BindingId × Constraint). is_free (at (paths_of s.bindings) c.0) ≡ false) cs
+      pick : (cs : List (BindingId × Constraint)) → w.late ≡ cs
+          → AllByRecursion (λ (c : BindingId × Constraint). is_free (at (paths_of s.bindings) c.0) ≡ false) cs
           → IsNoMatch (all_matched true s.bindings (shows found counts inners) cs (all_equated true s.bindings w.rule.equals (last_step true s.bindings next items w.rule)) bound).1
       pick [] e k = subst (λ cs. IsNoMatch (all_matched true bs (shows found counts inners) cs (all_equated true bs w.rule.equals (last_step true bs next items w.rule)) bound).1) e (untested_no_match g w bound e)
       pick (c ∷ cs) e k =

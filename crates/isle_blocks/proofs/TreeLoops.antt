@@ -45,13 +45,15 @@ module _ (ps : List Path) (f : FlatRule) (several : Bool) (bs : List Binding) wh
   opened_of : (order : List BindingId) (c : Control) → DoesForRule ps f c → DoesForRule ps f (opened several bs order c).1
   opened_of order c h = opened_holds (DoesForRule ps f) (λ b s k. (k, tt)) several bs order c h
 
-  equated_of : (es : List (BindingId × BindingId)) (inner : Behind) → ((bound : List ℕ) → DoesForRule ps f (inner bound).1) → (bound : List ℕ) → DoesForRule ps f (all_equated several bs es inner bound).1
+  equated_of : (es : List (BindingId × BindingId)) (inner : Behind) → ((bound : List ℕ) → DoesForRule ps f (inner bound).1) → (bound : List ℕ)
+      → DoesForRule ps f (all_equated several bs es inner bound).1
   equated_of [] inner h bound = h bound
   equated_of (e ∷ es) inner h bound =
       let order = needs bs bound (e.0 ∷ e.1 ∷ []) in
       opened_of order (Equal e.0 e.1 (alone (all_equated several bs es inner (bound_by bound order)))) (equated_of es inner h (bound_by bound order), tt)
 
-  matched_of : (shows : Shows) (cs : List (BindingId × Constraint)) (inner : Behind) → AreChosen ps cs → ((bound : List ℕ) → DoesForRule ps f (inner bound).1) → (bound : List ℕ) → DoesForRule ps f (all_matched several bs shows cs inner bound).1
+  matched_of : (shows : Shows) (cs : List (BindingId × Constraint)) (inner : Behind) → AreChosen ps cs
+      → ((bound : List ℕ) → DoesForRule ps f (inner bound).1) → (bound : List ℕ) → DoesForRule ps f (all_matched several bs shows cs inner bound).1
   matched_of shows [] inner k h bound = h bound
   matched_of shows (c ∷ cs) inner k h bound =
       let order = needs bs bound (c.0 ∷ []) in
@@ -86,7 +88,8 @@ module _ (s : RuleSet) (g : Ground) where
   all_left source (w ∷ ws) [] k h = absurd k
 
   -- those of one constraint, and the others
-  split_of : (c : Constraint) (js others : List (Constraint × Way)) (ws : List Way) → Parts c js ws others → AreLeft js → AllByRecursion IsChosenWay ws × AreLeft others
+  split_of : (c : Constraint) (js others : List (Constraint × Way)) (ws : List Way) → Parts c js ws others → AreLeft js
+      → AllByRecursion IsChosenWay ws × AreLeft others
   split_of c js others ws none h = (tt, tt)
   split_of c js others ws (same j more rest vs e k) h = let r = split_of c more rest vs k h.1 in ((h.0, r.0), r.1)
   split_of c js others ws (other j more rest vs e k) h = let r = split_of c more rest vs k h.1 in (r.0, (h.0, r.1))
@@ -104,7 +107,8 @@ module _ (s : RuleSet) (g : Ground) where
         let both = both_of (w ∷ vs) rest h in
         (arms_loop source (j ∷ js) _ arms trees (all_left source (w ∷ vs) (j ∷ js) tests both.0), tree_loops rest _ more k both.1)
 
-    arms_loop : (source : BindingId) (js : List (Constraint × Way)) (bound : List ℕ) (arms : Arms) → AreTrees g source js bound arms → AreLeft js → HaveLoopsApart s arms
+    arms_loop : (source : BindingId) (js : List (Constraint × Way)) (bound : List ℕ) (arms : Arms) → AreTrees g source js bound arms → AreLeft js
+        → HaveLoopsApart s arms
     arms_loop source js bound arms (no_arm source' bound') h = tt
     arms_loop source js bound arms (arm source' c js' others w vs bound' body more parts tree trees) h =
         let split = split_of c js others (w ∷ vs) parts h in

@@ -50,17 +50,20 @@ stop_apart (Return pos result) = tt
 alone_merged : (s : SeenStep) → IsMergedControl s.1 → IsMerged (alone s)
 alone_merged s h = (h, stop_apart s.1, tt)
 
-opened_merged : (several : Bool) (bs : List Binding) (order : List BindingId) (c : Control) → IsMergedControl c → IsMergedControl (opened several bs order c).1
+opened_merged : (several : Bool) (bs : List Binding) (order : List BindingId) (c : Control) → IsMergedControl c
+    → IsMergedControl (opened several bs order c).1
 opened_merged several bs order c h = opened_holds IsMergedControl (λ b s k. alone_merged s k) several bs order c h
 
-equated_merged : (several : Bool) (bs : List Binding) (es : List (BindingId × BindingId)) (inner : Behind) → ((bound : List ℕ) → IsMergedControl (inner bound).1) → (bound : List ℕ) → IsMergedControl (all_equated several bs es inner bound).1
+equated_merged : (several : Bool) (bs : List Binding) (es : List (BindingId × BindingId)) (inner : Behind)
+    → ((bound : List ℕ) → IsMergedControl (inner bound).1) → (bound : List ℕ) → IsMergedControl (all_equated several bs es inner bound).1
 equated_merged several bs [] inner h bound = h bound
 equated_merged several bs (e ∷ es) inner h bound =
     let order = needs bs bound (e.0 ∷ e.1 ∷ []) in
     let within = all_equated several bs es inner (bound_by bound order) in
     opened_merged several bs order (Equal e.0 e.1 (alone within)) (alone_merged within (equated_merged several bs es inner h (bound_by bound order)))
 
-matched_merged : (several : Bool) (bs : List Binding) (shows : Shows) (cs : List (BindingId × Constraint)) (inner : Behind) → ((bound : List ℕ) → IsMergedControl (inner bound).1) → (bound : List ℕ) → IsMergedControl (all_matched several bs shows cs inner bound).1
+matched_merged : (several : Bool) (bs : List Binding) (shows : Shows) (cs : List (BindingId × Constraint)) (inner : Behind)
+    → ((bound : List ℕ) → IsMergedControl (inner bound).1) → (bound : List ℕ) → IsMergedControl (all_matched several bs shows cs inner bound).1
 matched_merged several bs shows [] inner h bound = h bound
 matched_merged several bs shows (c ∷ cs) inner h bound =
     let order = needs bs bound (c.0 ∷ []) in
@@ -78,7 +81,8 @@ way_merged g w bound =
 opened_no_match : (several : Bool) (bs : List Binding) (order : List BindingId) (c : Control) → IsNoMatch c → IsNoMatch (opened several bs order c).1
 opened_no_match several bs order c h = opened_holds IsNoMatch (λ b s k. tt) several bs order c h
 
-equated_no_match : (several : Bool) (bs : List Binding) (es : List (BindingId × BindingId)) (inner : Behind) (bound : List ℕ) → IsNoMatch (inner bound).1 → IsNoMatch (all_equated several bs es inner bound).1
+equated_no_match : (several : Bool) (bs : List Binding) (es : List (BindingId × BindingId)) (inner : Behind) (bound : List ℕ) → IsNoMatch (inner bound).1
+    → IsNoMatch (all_equated several bs es inner bound).1
 equated_no_match several bs [] inner bound h = h
 equated_no_match several bs (e ∷ es) inner bound h =
     let order = needs bs bound (e.0 ∷ e.1 ∷ []) in
@@ -107,13 +111,15 @@ module _ (g : Ground) (Own : List Test → List ℕ → Way → Type 0)
   abbrev AreLeft : List Test → List ℕ → BindingId → List (Constraint × Way) → Type 0
   AreLeft before bound source js = AllByRecursion (λ (j : Constraint × Way). Own (is_test ps (source, j.0) ∷ before) (bound_within bound (g.shows source j.0)) j.1) js
 
-  left_own : (before : List Test) (bound : List ℕ) (source : BindingId) (ws : List Way) (js : List (Constraint × Way)) → AllTest source ws js → AllByRecursion (Own before bound) ws → AreLeft before (bound_by bound (source_needs g bound source)) source js
+  left_own : (before : List Test) (bound : List ℕ) (source : BindingId) (ws : List Way) (js : List (Constraint × Way)) → AllTest source ws js
+      → AllByRecursion (Own before bound) ws → AreLeft before (bound_by bound (source_needs g bound source)) source js
   left_own before bound source [] [] k h = tt
   left_own before bound source (w ∷ ws) (j ∷ js) k h = (own_left before bound source w j.0 j.1 k.0 h.0, left_own before bound source ws js k.1 h.1)
   left_own before bound source [] (j ∷ js) k h = absurd k
   left_own before bound source (w ∷ ws) [] k h = absurd k
 
-  more_own : (before : List Test) (bound : List ℕ) (source : BindingId) (v : Way) (c : Constraint) (left : Way) (ws : List Way) → Tests source v c left → Own before bound v → AllByRecursion (Own before bound) ws → AllByRecursion (Own before (bound_by bound (source_needs g bound source))) ws
+  more_own : (before : List Test) (bound : List ℕ) (source : BindingId) (v : Way) (c : Constraint) (left : Way) (ws : List Way) → Tests source v c left
+      → Own before bound v → AllByRecursion (Own before bound) ws → AllByRecursion (Own before (bound_by bound (source_needs g bound source))) ws
   more_own before bound source v c left [] k one h = tt
   more_own before bound source v c left (w ∷ ws) k one h = (own_more before bound source v c left w k one h.0, more_own before bound source v c left ws k one h.1)
 
@@ -123,7 +129,8 @@ module _ (g : Ground) (Own : List Test → List ℕ → Way → Type 0)
     others_own : AreLeft before bound source others
     apart : AllByRecursion (λ (j : Constraint × Way). j.0 ≡ c → ⊥) others
 
-  split_of : (before : List Test) (bound : List ℕ) (source : BindingId) (c : Constraint) (js others : List (Constraint × Way)) (ws : List Way) → Parts c js ws others → AreLeft before bound source js → HaveParts before bound source c others ws
+  split_of : (before : List Test) (bound : List ℕ) (source : BindingId) (c : Constraint) (js others : List (Constraint × Way)) (ws : List Way)
+      → Parts c js ws others → AreLeft before bound source js → HaveParts before bound source c others ws
   split_of before bound source c js others ws none h = record { same_own = tt; others_own = tt; apart = tt }
   split_of before bound source c js others ws (same j more rest vs e k) h =
       let r = split_of before bound source c more rest vs k h.1 in
@@ -133,33 +140,39 @@ module _ (g : Ground) (Own : List Test → List ℕ → Way → Type 0)
       record { same_own = r.same_own; others_own = (h.0, r.others_own); apart = (e, r.apart) }
 
   -- if all have another constraint, so has the first of a constraint, and so have the others
-  first_other : (c d : Constraint) (js others : List (Constraint × Way)) (w : Way) (ws : List Way) → Parts d js (w ∷ ws) others → AllByRecursion (λ (j : Constraint × Way). j.0 ≡ c → ⊥) js → d ≡ c → ⊥
+  first_other : (c d : Constraint) (js others : List (Constraint × Way)) (w : Way) (ws : List Way) → Parts d js (w ∷ ws) others
+      → AllByRecursion (λ (j : Constraint × Way). j.0 ≡ c → ⊥) js → d ≡ c → ⊥
   first_other c d js others w ws (same j more rest vs e k) h same' = h.0 (e ∙ same')
   first_other c d js others w ws (other j more rest vs e k) h same' = first_other c d more rest w ws k h.1 same'
 
-  rest_other : (c d : Constraint) (js others : List (Constraint × Way)) (ws : List Way) → Parts d js ws others → AllByRecursion (λ (j : Constraint × Way). j.0 ≡ c → ⊥) js → AllByRecursion (λ (j : Constraint × Way). j.0 ≡ c → ⊥) others
+  rest_other : (c d : Constraint) (js others : List (Constraint × Way)) (ws : List Way) → Parts d js ws others
+      → AllByRecursion (λ (j : Constraint × Way). j.0 ≡ c → ⊥) js → AllByRecursion (λ (j : Constraint × Way). j.0 ≡ c → ⊥) others
   rest_other c d js others ws none h = tt
   rest_other c d js others ws (same j more rest vs e k) h = rest_other c d more rest vs k h.1
   rest_other c d js others ws (other j more rest vs e k) h = (h.0, rest_other c d more rest vs k h.1)
 
-  new_arm : (c : Constraint) (source : BindingId) (js : List (Constraint × Way)) (bound : List ℕ) (arms : Arms) → AreTrees g source js bound arms → AllByRecursion (λ (j : Constraint × Way). j.0 ≡ c → ⊥) js → IsNewArm c arms
+  new_arm : (c : Constraint) (source : BindingId) (js : List (Constraint × Way)) (bound : List ℕ) (arms : Arms) → AreTrees g source js bound arms
+      → AllByRecursion (λ (j : Constraint × Way). j.0 ≡ c → ⊥) js → IsNewArm c arms
   new_arm c source js bound arms (no_arm source' bound') h = tt
   new_arm c source js bound arms (arm source' d js' others w vs bound' body more parts tree trees) h =
       (first_other c d js others w vs parts h, new_arm c source others bound more trees (rest_other c d js others (w ∷ vs) parts h))
 
   -- the steps of ways that don't test a source first aren't a Match of it at first
-  starts_apart : (source : BindingId) (ws : List Way) (bound : List ℕ) (b : Block) (before : List Test) → IsTree g ws bound b → AllByRecursion (Own before bound) ws → StartApart source ws → NoMatchNext source b
+  starts_apart : (source : BindingId) (ws : List Way) (bound : List ℕ) (b : Block) (before : List Test) → IsTree g ws bound b
+      → AllByRecursion (Own before bound) ws → StartApart source ws → NoMatchNext source b
   starts_apart source ws bound b before (none bound') h apart = tt
   starts_apart source ws bound b before (own w vs bound' more early tested k) h apart = no_match_next source (way_step g w bound).0 (way_step g w bound).1 more (no_match before bound w h.0 early)
   starts_apart source ws bound b before (last w vs bound' once early late equals) h apart = no_match_next source (way_step g w bound).0 (way_step g w bound).1 Stop (no_match before bound w h.0 early)
   starts_apart source ws bound b before (shared over w vs rest j js bound' arms more tests starts trees k) h apart = λ e. apart (subst (λ (cs : List (BindingId × Constraint)). TestsFirst source cs) (sym tests.0.tests) (sym e))
 
-  both_own : (before : List Test) (bound : List ℕ) (vs ws : List Way) → AllByRecursion (Own before bound) (vs ++ ws) → AllByRecursion (Own before bound) vs × AllByRecursion (Own before bound) ws
+  both_own : (before : List Test) (bound : List ℕ) (vs ws : List Way) → AllByRecursion (Own before bound) (vs ++ ws)
+      → AllByRecursion (Own before bound) vs × AllByRecursion (Own before bound) ws
   both_own before bound [] ws h = (tt, h)
   both_own before bound (v ∷ vs) ws h = let k = both_own before bound vs ws h.1 in ((h.0, k.0), k.1)
 
   mutual
-    pub tree_merged : (ws : List Way) (bound : List ℕ) (b : Block) (before : List Test) → IsTree g ws bound b → AllByRecursion (Own before bound) ws → IsMerged b
+    pub tree_merged : (ws : List Way) (bound : List ℕ) (b : Block) (before : List Test) → IsTree g ws bound b → AllByRecursion (Own before bound) ws
+        → IsMerged b
     tree_merged ws bound b before (none bound') h = tt
     tree_merged ws bound b before (own w vs bound' more early tested k) h = (way_merged g w bound, no_match_before (way_step g w bound).1 more (no_match before bound w h.0 early), tree_merged vs bound more before k h.1)
     tree_merged ws bound b before (last w vs bound' once early late equals) h = (way_merged g w bound, no_match_before (way_step g w bound).1 Stop (no_match before bound w h.0 early), tt)
@@ -171,7 +184,8 @@ module _ (g : Ground) (Own : List Test → List ℕ → Way → Type 0)
           tree_merged rest _ more before k behind,
         )
 
-    arms_merged : (source : BindingId) (js : List (Constraint × Way)) (bound : List ℕ) (arms : Arms) (before : List Test) → AreTrees g source js bound arms → AreLeft before bound source js → AreMergedArms arms
+    arms_merged : (source : BindingId) (js : List (Constraint × Way)) (bound : List ℕ) (arms : Arms) (before : List Test) → AreTrees g source js bound arms
+        → AreLeft before bound source js → AreMergedArms arms
     arms_merged source js bound arms before (no_arm source' bound') h = tt
     arms_merged source js bound arms before (arm source' c js' others w vs bound' body more parts tree trees) h =
         let split = split_of before bound source c js others (w ∷ vs) parts h in

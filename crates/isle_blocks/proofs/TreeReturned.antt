@@ -27,13 +27,15 @@ module _ (f : FlatRule) (several : Bool) (bs : List Binding) where
   opened_returns : (order : List BindingId) (c : Control) → DoesReturn f c → DoesReturn f (opened several bs order c).1
   opened_returns order c h = opened_holds (DoesReturn f) (λ b s k. inl k) several bs order c h
 
-  equated_returns : (es : List (BindingId × BindingId)) (inner : Behind) → ((bound : List ℕ) → DoesReturn f (inner bound).1) → (bound : List ℕ) → DoesReturn f (all_equated several bs es inner bound).1
+  equated_returns : (es : List (BindingId × BindingId)) (inner : Behind) → ((bound : List ℕ) → DoesReturn f (inner bound).1) → (bound : List ℕ)
+      → DoesReturn f (all_equated several bs es inner bound).1
   equated_returns [] inner h bound = h bound
   equated_returns (e ∷ es) inner h bound =
       let order = needs bs bound (e.0 ∷ e.1 ∷ []) in
       opened_returns order (Equal e.0 e.1 (alone (all_equated several bs es inner (bound_by bound order)))) (inl (equated_returns es inner h (bound_by bound order)))
 
-  matched_returns : (shows : Shows) (cs : List (BindingId × Constraint)) (inner : Behind) → ((bound : List ℕ) → DoesReturn f (inner bound).1) → (bound : List ℕ) → DoesReturn f (all_matched several bs shows cs inner bound).1
+  matched_returns : (shows : Shows) (cs : List (BindingId × Constraint)) (inner : Behind) → ((bound : List ℕ) → DoesReturn f (inner bound).1)
+      → (bound : List ℕ) → DoesReturn f (all_matched several bs shows cs inner bound).1
   matched_returns shows [] inner h bound = h bound
   matched_returns shows (c ∷ cs) inner h bound =
       let order = needs bs bound (c.0 ∷ []) in
@@ -55,7 +57,8 @@ module _ (g : Ground) (rules : List FlatRule) (f : FlatRule) (reached : IsReache
   step_returns w bound e = subst (λ r. DoesReturn r (way_step g w bound).1) e (way_returns g w bound)
 
   -- a way without tests that stands before a way of the rule is the rule's too
-  same_rule : (made : List (BindingId × Constraint)) (v : Way) → g.several ≡ false → IsGood rules made v → v.early ≡ [] → v.late ≡ [] → v.rule.equals ≡ [] → ((x : BindingId × Constraint) → Contains made x → Contains f.constraints x) → is_above f v.rule ≡ false → v.rule ≡ f
+  same_rule : (made : List (BindingId × Constraint)) (v : Way) → g.several ≡ false → IsGood rules made v → v.early ≡ [] → v.late ≡ [] → v.rule.equals ≡ []
+      → ((x : BindingId × Constraint) → Contains made x → Contains f.constraints x) → is_above f v.rule ≡ false → v.rule ≡ f
   same_rule made v once h early late equals among below = pick g.several once reached
     where
       pick : (b : Bool) → b ≡ false → IsReached b rules f → v.rule ≡ f
@@ -63,7 +66,8 @@ module _ (g : Ground) (rules : List FlatRule) (f : FlatRule) (reached : IsReache
       pick false e k = ⊎_elim (λ same. same) (λ above. absurd (true≢false (sym above ∙ below))) (k v.rule h.there equals (made_among rules f made v h early late among))
 
   mutual
-    pub tree_returned : (ws : List Way) (bound : List ℕ) (b : Block) (made : List (BindingId × Constraint)) → IsTree g ws bound b → AllByRecursion (IsGood rules made) ws → Falls (rules_of ws) → (w : Way) → Contains ws w → w.rule ≡ f → HoldsReturn f b
+    pub tree_returned : (ws : List Way) (bound : List ℕ) (b : Block) (made : List (BindingId × Constraint)) → IsTree g ws bound b
+        → AllByRecursion (IsGood rules made) ws → Falls (rules_of ws) → (w : Way) → Contains ws w → w.rule ≡ f → HoldsReturn f b
     tree_returned ws bound b made (none bound') h fall w i of = absurd (none_contained w i)
     tree_returned ws bound b made (own v vs bound' more early tested k) h fall w i of = ⊎_elim
         (λ (e : v ≡ w). inl (step_returns v bound (ap (λ (x : Way). x.rule) e ∙ of)))
@@ -84,7 +88,9 @@ module _ (g : Ground) (rules : List FlatRule) (f : FlatRule) (reached : IsReache
         (λ l. inr (tree_returned rest _ more made k good.1 (falls_second rules (rules_of (v ∷ vs)) (rules_of rest) falls) w l of))
         (Contains-append_cases (v ∷ vs) rest w i)
 
-    arms_returned : (over : BindingId) (js : List (Constraint × Way)) (bound : List ℕ) (arms : Arms) (made : List (BindingId × Constraint)) → AreTrees g over js bound arms → AreLeft rules over made js → Falls (left_rules rules js) → (j : Constraint × Way) → Contains js j → j.1.rule ≡ f → HasReturnWithin f arms
+    arms_returned : (over : BindingId) (js : List (Constraint × Way)) (bound : List ℕ) (arms : Arms) (made : List (BindingId × Constraint))
+        → AreTrees g over js bound arms → AreLeft rules over made js → Falls (left_rules rules js) → (j : Constraint × Way) → Contains js j → j.1.rule ≡ f
+        → HasReturnWithin f arms
     arms_returned over js bound arms made (no_arm over' bound') h fall j i of = absurd (none_contained j i)
     arms_returned over js bound arms made (arm over' d js' others u us bound' body more parts tree trees) h fall j i of =
         let split = parts_of rules over made d js others (u ∷ us) parts h fall in

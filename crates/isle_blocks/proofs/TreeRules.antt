@@ -23,7 +23,8 @@ pub record IsOn (made : List (BindingId × Constraint)) (w : Way) : Type 0 where
   pub tests : (c : BindingId × Constraint) → Contains made c → Contains w.rule.constraints c
   pub all : (c : BindingId × Constraint) → Contains w.rule.constraints c → Contains made c ⊎ Contains (left w) c
 
-on_left : (made : List (BindingId × Constraint)) (source : BindingId) (w : Way) (c : Constraint) (after : Way) → Tests source w c after → Contains w.rule.constraints (source, c) → IsOn made w → IsOn ((source, c) ∷ made) after
+on_left : (made : List (BindingId × Constraint)) (source : BindingId) (w : Way) (c : Constraint) (after : Way) → Tests source w c after
+    → Contains w.rule.constraints (source, c) → IsOn made w → IsOn ((source, c) ∷ made) after
 on_left made source w c after k here h = record {
   tests = λ x i. subst (λ f. Contains f.constraints x) (sym k.rule) (⊎_elim (λ (e : (source, c) ≡ x). subst (Contains w.rule.constraints) e here) (λ j. h.tests x j) (contained_cases (source, c) made x i));
   all = λ x i. ⊎_elim
@@ -36,7 +37,8 @@ on_left made source w c after k here h = record {
 }
 
 -- the test against which a way stands is its rule's
-first_of : (made : List (BindingId × Constraint)) (source : BindingId) (w : Way) (c : Constraint) (after : Way) → Tests source w c after → AreAmong (left w) w.rule.constraints → Contains w.rule.constraints (source, c)
+first_of : (made : List (BindingId × Constraint)) (source : BindingId) (w : Way) (c : Constraint) (after : Way) → Tests source w c after
+    → AreAmong (left w) w.rule.constraints → Contains w.rule.constraints (source, c)
 first_of made source w c after k h = (subst (λ xs. AreAmong (xs ++ w.late) w.rule.constraints) k.tests h).0
 
 -- ---- ways of these rules
@@ -49,11 +51,13 @@ module _ (rules : List FlatRule) where
     pub own' : AreAmong (left w) w.rule.constraints
 
   -- if no test of a way is left, all tests of its rule were made
-  pub made_by : (made : List (BindingId × Constraint)) (w : Way) → IsGood made w → w.early ≡ [] → w.late ≡ [] → (x : BindingId × Constraint) → Contains w.rule.constraints x → Contains made x
+  pub made_by : (made : List (BindingId × Constraint)) (w : Way) → IsGood made w → w.early ≡ [] → w.late ≡ [] → (x : BindingId × Constraint)
+      → Contains w.rule.constraints x → Contains made x
   made_by made w h early late x i = ⊎_elim (λ j. j) (λ j. absurd (none_contained x (subst (λ xs. Contains xs x) (ap (λ xs. xs ++ w.late) early ∙ late) j))) (h.on.all x i)
 
   -- so they are among those of a rule that makes these
-  pub made_among : (f : FlatRule) (made : List (BindingId × Constraint)) (w : Way) → IsGood made w → w.early ≡ [] → w.late ≡ [] → ((x : BindingId × Constraint) → Contains made x → Contains f.constraints x) → AreAmong w.rule.constraints f.constraints
+  pub made_among : (f : FlatRule) (made : List (BindingId × Constraint)) (w : Way) → IsGood made w → w.early ≡ [] → w.late ≡ []
+      → ((x : BindingId × Constraint) → Contains made x → Contains f.constraints x) → AreAmong w.rule.constraints f.constraints
   made_among f made w h early late among = all_from (Contains f.constraints) w.rule.constraints (λ x i. among x (made_by made w h early late x i))
 
   -- none of these rules is above one that stands before them
@@ -86,7 +90,8 @@ module _ (rules : List FlatRule) where
       (λ l. let r = has_left over ws js w k.1 l in record { one = r.one; in' = tail_contained j js r.one r.in'; tests = r.tests })
       (contained_cases v ws w i)
 
-  pub all_left : (over : BindingId) (made : List (BindingId × Constraint)) (ws : List Way) (js : List (Constraint × Way)) → AllTest over ws js → AllByRecursion (IsGood made) ws → AreLeft over made js
+  pub all_left : (over : BindingId) (made : List (BindingId × Constraint)) (ws : List Way) (js : List (Constraint × Way)) → AllTest over ws js
+      → AllByRecursion (IsGood made) ws → AreLeft over made js
   all_left over made [] [] k h = tt
   all_left over made (w ∷ ws) (j ∷ js) k h =
       let here = first_of made over w j.0 j.1 k.0 h.0.own' in (
@@ -116,7 +121,8 @@ module _ (rules : List FlatRule) where
     pub others_none : (x : FlatRule) → NoneAbove x (left_rules js) → NoneAbove x (left_rules others)
     pub cases' : (j : Constraint × Way) → Contains js j → ((j.0 ≡ d) × Contains ws j.1) ⊎ Contains others j
 
-  pub parts_of : (over : BindingId) (made : List (BindingId × Constraint)) (d : Constraint) (js others : List (Constraint × Way)) (ws : List Way) → Parts d js ws others → AreLeft over made js → Falls (left_rules js) → HaveParts over made d js others ws
+  pub parts_of : (over : BindingId) (made : List (BindingId × Constraint)) (d : Constraint) (js others : List (Constraint × Way)) (ws : List Way)
+      → Parts d js ws others → AreLeft over made js → Falls (left_rules js) → HaveParts over made d js others ws
   parts_of over made d js others ws none h fall = record { same_good = tt; others_good = tt; same_fall = tt; others_fall = tt; same_none = λ x n. n; others_none = λ x n. n; cases' = λ j i. absurd (none_contained j i) }
   parts_of over made d js others ws (same j more rest vs e k) h fall =
       let r = parts_of over made d more rest vs k h.1 fall.1 in
@@ -161,6 +167,7 @@ module _ (rules : List FlatRule) where
   rules_append [] ws = refl
   rules_append (v ∷ vs) ws = ap (λ fs. v.rule ∷ fs) (rules_append vs ws)
 
-  pub both_good : (made : List (BindingId × Constraint)) (vs ws : List Way) → AllByRecursion (IsGood made) (vs ++ ws) → AllByRecursion (IsGood made) vs × AllByRecursion (IsGood made) ws
+  pub both_good : (made : List (BindingId × Constraint)) (vs ws : List Way) → AllByRecursion (IsGood made) (vs ++ ws)
+      → AllByRecursion (IsGood made) vs × AllByRecursion (IsGood made) ws
   both_good made [] ws h = (tt, h)
   both_good made (v ∷ vs) ws h = let k = both_good made vs ws h.1 in ((h.0, k.0), k.1)
