@@ -1,5 +1,5 @@
 -- A line that writes a prelude.
-use Rattle.std.specs.Prelude.{◌≡◌, List, ℕ, [], length, nat_le}
+use Rattle.std.specs.Prelude.{◌≡◌, List, ℕ, [], length, nat_le, Some}
 use Rattle.isle_assembler.specs.AssemblerDefs.{assembler_defs}
 use Rattle.isle_assembler.specs.Methods.{assembler_methods}
 use Rattle.isle_ast.specs.Tree.{Def}
@@ -13,12 +13,12 @@ use Rattle.isle_prelude.specs.ClifFiles.{opt_defs, lower_defs}
 use Rattle.isle_prelude.specs.Generated.{IsTextOf}
 use Rattle.isle_pulley.specs.RuleFile.{pulley_defs}
 use Rattle.isle_pulley.specs.RustText.{pulley_rust}
-use Rattle.isle_table_check.specs.SupportedTables.{AreSupported}
+use Rattle.isle_table_check.specs.SupportedTables.{AreSupported, IsFirstUnsupported}
 use Rattle.isle_writing.specs.Spelt.{SpellsOnly}
 use Rattle.isle_top.specs.declared.refusal.Refusal.{Refusal}
 use Rattle.isle_top.specs.declared.refusal.Refusal.TheVariants as refusal
 use Rattle.isle_top.specs.Job.{Job}
-use Rattle.isle_top.specs.Tabling.{FailsOver, HasUnsupported, OfTables, Tabling}
+use Rattle.isle_top.specs.Tabling.{FailsOver, OfTables, Tabling}
 use Rattle.isle_top.specs.Wants.{IsWant}
 
 -- the prelude of this kind can be written: each row is supported, if it is made of rows
@@ -46,10 +46,11 @@ IsPrelude t kind.AssemblerRust text = IsRustOf t (assembler_methods t.x64) text
 IsPrelude t kind.Pulley text = AreRulesOf t (pulley_defs t.ops t.extended_ops) text
 IsPrelude t kind.PulleyRust text = IsRustOf t (pulley_rust t.ops t.extended_ops) text
 
--- why a text that is made of rows isn't: one isn't supported; or memory ran out
-pub data FailsByRows (t : Tables) : Refusal → Type 0 where
-  row : (e : Refusal) → HasUnsupported t e → FailsByRows t e
-  memory : FailsByRows t (refusal.Files file.Memory)
+-- why a text that is made of rows isn't: one isn't supported, and it is the first, with its first shape; or memory ran out
+abbrev pub FailsByRows : Tables → Refusal → Type 0
+FailsByRows t (refusal.Tables found) = IsFirstUnsupported t (Some found)
+FailsByRows t (refusal.Files e) = e ≡ file.Memory
+FailsByRows t e = ⊥
 
 -- why the prelude isn't written: as one that is made of rows, or memory ran out
 abbrev pub FailsToWrite : Kind → Tables → Refusal → Type 0
