@@ -20,7 +20,7 @@ use Rattle.isle_top.specs.Job.{Around, Job}
 use Rattle.isle_top.specs.Jobs.{job_of}
 use Rattle.isle_top.specs.Errors.{error_status, errors_status}
 use Rattle.isle_top.specs.Lines.{Wrote, bad_line, memory_line, unread_line}
-use Rattle.isle_top.specs.Statuses.{IsNoLine, Tells, TellsRun, TellsRefusal, Says, Ends}
+use Rattle.isle_top.specs.Statuses.{IsNoLine, Tells, TellsRun, Says, Ends}
 use Rattle.isle_top.specs.Statuses as statuses
 use Rattle.isle_top.specs.Wants.{IsEarly, IsWant}
 

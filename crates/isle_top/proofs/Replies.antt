@@ -1,5 +1,5 @@
 -- The reply to a line, by what the line asks for.
-use Rattle.std.proofs.Common.{◌≡◌, ℕ, List, Option, Result, Ok, Err, refl, sym, ap, subst}
+use Rattle.std.proofs.Common.{◌≡◌, ℕ, List, Option, Result, Ok, Err, refl, sym, subst}
 use Rattle.std.specs.Prelude.{IfOk, IfErr, String}
 use Rattle.std.specs.String.{string_bytes}
 use Rattle.std.specs.declared.alloc.Global.{Global}
@@ -9,19 +9,21 @@ use Rattle.isle_codegen.specs.Causes.{AllTried, IsCompiled, HasCause}
 use Rattle.isle_codegen.specs.declared.file_error.FileError.{FileError}
 use Rattle.isle_build.specs.Built.{IsBuilt}
 use Rattle.isle_build.specs.UnitSource.{tracked_of}
-use Rattle.isle_command_line.specs.Request.{Request, Running, Build, Compile, Prelude, Run}
+use Rattle.isle_command_line.specs.Request.{Request, Running, Build, Compile, Prelude, Isa, Sample, Run}
 use Rattle.isle_command_line.specs.declared.commands.Kind.{Kind}
+use Rattle.isle_settings.specs.Groups.{settings_of}
+use Rattle.isle_settings.specs.TargetLines.{IsGroupText}
+use Rattle.isle_settings.specs.declared.isa.Isa as targets
 use Rattle.isle_meta.specs.declared.tables.Tables.{Tables}
 use Rattle.isle_top.specs.declared.refusal.Refusal.{Refusal}
 use Rattle.isle_top.specs.declared.refusal.Refusal.TheVariants as refusal
-use Rattle.isle_top.specs.CompileLine.{FailsToCompile}
-use Rattle.isle_top.specs.Job.{Around, Job, surroundings, IsReply}
+use Rattle.isle_top.specs.Job.{Around, surroundings, IsReply}
 use Rattle.isle_top.specs.Jobs.{job_of}
-use Rattle.isle_top.specs.PlainLine.{plain_job}
 use Rattle.isle_top.specs.PreludeLine.{IsPrelude, FailsToWrite}
-use Rattle.isle_top.specs.RunLine.{FailsToRun, GivesLines, run_inputs}
+use Rattle.isle_top.specs.RunLine.{GivesLines, run_inputs}
+use Rattle.isle_top.specs.SampleLine.{sample_source, AreCounts}
 use Rattle.isle_top.specs.Showing.{running}
-use Rattle.isle_top.specs.Sourcing.{from_names, from_unit, sourcing_of}
+use Rattle.isle_top.specs.Sourcing.{sourcing_of}
 use Rattle.isle_top.specs.Tabling.{handed, had}
 use Rattle.isle_top.specs.Wants.{IsEarly}
 use Rattle.isle_top.proofs.HadLaws.{names_fail}
@@ -32,13 +34,19 @@ pub line_fails : {T : Type 0} (tables : Tables) (request other : Request) (aroun
     → IfErr result (λ e. (job_of tables other).fails e around) → IfErr result (λ e. (job_of tables request).fails e around)
 line_fails tables request other around result is h = subst (λ q. IfErr result (λ e. (job_of tables q).fails e around)) (sym is) h
 
--- a text of which something is so answers a line that reads no files
-pub plain_replies : {E : Type 0} (tables : Tables) (request other : Request) (Is : List ℕ → Type 0) (files : Option Contents) (counts : Counts) (result : Result (String Global) E) → request ≡ other → job_of tables other ≡ plain_job Is
-    → IfOk result (λ text. Is (string_bytes text)) → IfOk result (λ text. IsReply (job_of tables request) (surroundings files counts counts) (string_bytes text))
-plain_replies tables request other Is files counts (Ok text) is plain h =
-    subst (λ q. IsReply (job_of tables q) (surroundings files counts counts) (string_bytes text)) (sym is)
-    (subst (λ (job : Job). IsReply job (surroundings files counts counts) (string_bytes text)) (sym plain) (record { gives = h; tried = none_tried counts }))
-plain_replies tables request other Is files counts (Err e) is plain h = tt
+-- the counts of a sample
+pub sample_replies : {E : Type 0} (tables : Tables) (request : Request) (size : ℕ) (files : Option Contents) (counts : Counts) (result : Result (String Global) E) → request ≡ Sample size
+    → IfOk result (λ lines. AreCounts (sample_source size) (string_bytes lines)) → IfOk result (λ lines. IsReply (job_of tables request) (surroundings files counts counts) (string_bytes lines))
+sample_replies tables request size files counts (Ok lines) is gives =
+    subst (λ q. IsReply (job_of tables q) (surroundings files counts counts) (string_bytes lines)) (sym is) (record { gives = gives; tried = none_tried counts })
+sample_replies tables request size files counts (Err e) is gives = tt
+
+-- what a target has
+pub isa_replies : {E : Type 0} (tables : Tables) (request : Request) (target : targets.Isa) (files : Option Contents) (counts : Counts) (result : Result (String Global) E) → request ≡ Isa target
+    → IfOk result (λ text. IsGroupText (settings_of target) (string_bytes text)) → IfOk result (λ text. IsReply (job_of tables request) (surroundings files counts counts) (string_bytes text))
+isa_replies tables request target files counts (Ok text) is gives =
+    subst (λ q. IsReply (job_of tables q) (surroundings files counts counts) (string_bytes text)) (sym is) (record { gives = gives; tried = none_tried counts })
+isa_replies tables request target files counts (Err e) is gives = tt
 
 -- what is shown of a run
 pub run_replies : {E : Type 0} (tables : Tables) (request : Request) (r : Running) (around : Around) (result : Result (String Global) E) → request ≡ Run r

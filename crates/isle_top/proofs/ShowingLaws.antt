@@ -1,10 +1,9 @@
 -- What is so of each thing that is shown.
-use Rattle.std.proofs.Common.{ℕ, List, Option}
+use Rattle.std.proofs.Common.{ℕ, List}
 use Rattle.isle_codegen.specs.declared.compile_error.CompileError.TheVariants as compiling
 use Rattle.isle_codegen.proofs.Accepted.{some_errors}
 use Rattle.isle_command_line.specs.Request.{Running}
 use Rattle.isle_core.specs.declared.files.Files.{Files}
-use Rattle.isle_core.specs.declared.options.CodegenOptions.{CodegenOptions}
 use Rattle.isle_run.specs.NoLines.{HasNoLines}
 use Rattle.isle_run.specs.NoLines as trials
 use Rattle.isle_run.specs.Valid.{CanRun}

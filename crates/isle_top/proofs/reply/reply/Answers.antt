@@ -2,12 +2,9 @@ use Rattle.std.proofs.Common.{rules, ◌≡◌, ◌≤◌, ◌+◌, ◌*◌, ◌
 use Rattle.isle_command_line.specs.Request.{Request, Build, Compile, Prelude, Isa, Sample, Run}
 use Rattle.isle_command_line.specs.Views.{seen_command, seen_run}
 use Rattle.isle_top.specs.declared.refusal.Refusal.TheVariants as refusal
-use Rattle.isle_settings.specs.Groups.{settings_of}
-use Rattle.isle_settings.specs.TargetLines.{IsGroupText}
 use Rattle.isle_top.specs.Job.{Around, surroundings}
-use Rattle.isle_top.specs.SampleLine.{sample_source, AreCounts}
 use Rattle.isle_top.specs.Jobs.{job_of}
-use Rattle.isle_top.proofs.Replies.{build_replies, compile_fails, compile_replies, line_fails, never_asked, plain_replies, prelude_fails, prelude_replies, run_replies}
+use Rattle.isle_top.proofs.Replies.{build_replies, compile_fails, compile_replies, isa_replies, line_fails, never_asked, prelude_fails, prelude_replies, run_replies, sample_replies}
 use Rattle.isle_top.proofs.ValidLines.{only_want, replied_unless}
 use Rattle.isle_top.proofs.reply.reply.Goals as goal
 
@@ -70,8 +67,7 @@ returns-in-Build-clause-complete g c = λ valid calm.
 pub returns-in-Sample-clause-ok : goal.returns-in-Sample-clause-ok
 returns-in-Sample-clause-ok g c =
     let is : seen_command c.args.line.now.command.now ≡ Sample c.in-Sample.size = search rules in
-    plain_replies c.args.line.now.tables.now (seen_command c.args.line.now.command.now) (Sample c.in-Sample.size) (λ lines. AreCounts (sample_source c.in-Sample.size) lines) (g.D.Dir.files c.args.dir.now) (g.D.Dir.counts c.args.dir.now)
-    c.sample_reply.result is refl c.sample_reply.ensures.ok
+    sample_replies c.args.line.now.tables.now (seen_command c.args.line.now.command.now) c.in-Sample.size (g.D.Dir.files c.args.dir.now) (g.D.Dir.counts c.args.dir.now) c.sample_reply.result is c.sample_reply.ensures.ok
 
 pub returns-in-Sample-clause-err : goal.returns-in-Sample-clause-err
 returns-in-Sample-clause-err g c =
@@ -100,8 +96,7 @@ returns-in-Prelude-clause-complete g c = λ valid calm.
 pub returns-in-Isa-clause-ok : goal.returns-in-Isa-clause-ok
 returns-in-Isa-clause-ok g c =
     let is : seen_command c.args.line.now.command.now ≡ Isa c.in-Isa.target = search rules in
-    plain_replies c.args.line.now.tables.now (seen_command c.args.line.now.command.now) (Isa c.in-Isa.target) (λ text. IsGroupText (settings_of c.in-Isa.target) text) (g.D.Dir.files c.args.dir.now) (g.D.Dir.counts c.args.dir.now)
-    c.isa_reply.result is refl c.isa_reply.ensures.ok
+    isa_replies c.args.line.now.tables.now (seen_command c.args.line.now.command.now) c.in-Isa.target (g.D.Dir.files c.args.dir.now) (g.D.Dir.counts c.args.dir.now) c.isa_reply.result is c.isa_reply.ensures.ok
 
 pub returns-in-Isa-clause-err : goal.returns-in-Isa-clause-err
 returns-in-Isa-clause-err g c =
