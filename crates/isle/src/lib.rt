@@ -7,6 +7,7 @@ pub mod codegen;
 pub mod common;
 pub mod outside;
 pub mod preludes;
+pub mod program;
 pub mod runtime;
 pub mod sema;
 pub mod syntax;

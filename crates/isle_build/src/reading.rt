@@ -3,13 +3,11 @@
 ghost use Rattle.std.specs.Prelude.{◌≡◌, ◌++◌, ◌+◌, ◌-◌, ◌*◌, ◌^◌, ◌≤◌, length, map};
 ghost use Rattle.std.specs.Prelude.{IfOk, IfErr, IfSome, OnOk};
 ghost use Rattle.isle_build.specs.GeneratedFiles.{generated_texts};
-ghost use Rattle.isle_build.specs.Parts.{FailsForInputs};
 ghost use Rattle.isle_codegen.specs.Causes.{AllTried};
-ghost use Rattle.isle_core.specs.Inputs.{AreRead, bytes_each};
+ghost use Rattle.isle_core.specs.Inputs.{AreRead, Fails, bytes_each};
 ghost use Rattle.isle_core.specs.Printed.{shown};
 ghost use Rattle.isle_units.specs.Units.{inputs_of};
 
-use crate::build_error::BuildError;
 use crate::generated::generated_text;
 use isle_core::{Dir, Files, List, OutOfMemory, Prefix, ReadError, Text, name_shown};
 use isle_meta::Tables;
@@ -32,7 +30,7 @@ pub fn read_inputs<D: Dir>(
     dir: &mut D,
     names: &[String],
     prefixes: &[Prefix],
-) -> Result<Files, BuildError>
+) -> Result<Files, ReadError>
     ensures names { IfOk result (λ files.
         files.file_names ≡ map (shown prefixes.now) (bytes_each names.now)) }
     ensures texts { IfOk result (λ files.
@@ -40,8 +38,7 @@ pub fn read_inputs<D: Dir>(
     ensures count { IfOk result (λ files.
         length files.file_texts ≡ length (bytes_each names.now)) }
     ensures err { IfErr result (λ e.
-        FailsForInputs e (D.files dir.old) (bytes_each names.now) (D.counts dir.old)
-        (D.counts dir.new)) }
+        Fails e (D.files dir.old) (bytes_each names.now) (D.counts dir.old) (D.counts dir.new)) }
     ensures files { D.files dir.new ≡ D.files dir.old }
     ensures later { (D.counts dir.old).faults ≤ (D.counts dir.new).faults }
     ensures stays { (D.counts dir.old).faults ≡ 2 ^ 64 - 1
@@ -53,8 +50,7 @@ pub fn read_inputs<D: Dir>(
 {
     match Files::from_paths(alloc, dir, names, prefixes) {
         Ok(files) => Ok(files),
-        Err(ReadError::Io { index, cause }) => Err(BuildError::Io { index, cause }),
-        Err(ReadError::Memory) => Err(BuildError::Memory),
+        Err(fail) => Err(fail),
     }
 }
 

@@ -1,10 +1,12 @@
 //! A unit that is built.
 
-ghost use Rattle.std.specs.Prelude.{◌≡◌, ◌+◌, ◌-◌, ◌*◌, ◌^◌, ◌≤◌, length, IfOk, IfErr};
+ghost use Rattle.std.specs.Prelude.{◌≡◌, ◌+◌, ◌-◌, ◌*◌, ◌^◌, ◌≤◌, length, Err, IfOk, IfErr};
 ghost use Rattle.std.specs.String.{string_bytes};
 ghost use Rattle.isle_build.specs.Built.{FailsToBuild, IsBuilt};
 ghost use Rattle.isle_build.specs.UnitSource.{tracked_of};
+ghost use Rattle.isle_build.specs.declared.build_error.BuildError.TheVariants as build;
 ghost use Rattle.isle_codegen.specs.Causes.{AllTried};
+ghost use Rattle.isle_meta.specs.declared.errors.Unsupported.{Unsupported};
 
 use crate::build_error::BuildError;
 use crate::files::unit_files;
@@ -27,8 +29,11 @@ pub fn build_unit<D: Dir>(
     ensures ok { IfOk result (λ text.
         IsBuilt tables.now options.now unit.now (D.files dir.old) (string_bytes text)) }
     ensures err { IfErr result (λ e.
-        FailsToBuild e tables.now options.now unit.now (D.files dir.old) (D.counts dir.old)
-        (D.counts dir.new)) }
+        FailsToBuild tables.now options.now unit.now (D.files dir.old) (D.counts dir.old)
+        (D.counts dir.new) e) }
+    ensures unlisted { result ≡ Err build.NoUnit → dir.new ≡ dir.old }
+    ensures unasked { (found : Unsupported) → result ≡ Err (build.Unsupported found)
+        → dir.new ≡ dir.old }
     ensures files { D.files dir.new ≡ D.files dir.old }
     ensures later { (D.counts dir.old).faults ≤ (D.counts dir.new).faults }
     ensures stays { (D.counts dir.old).faults ≡ 2 ^ 64 - 1

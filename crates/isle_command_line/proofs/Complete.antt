@@ -11,14 +11,15 @@ use Rattle.isle_command_line.specs.Words.{is_name}
 use Rattle.isle_command_line.specs.Lines as choice
 use Rattle.isle_command_line.specs.Lines.{Choice, ChoiceS, no_allow, log, split, threshold, max_returns, prefixed, ChoicesS, no_choice, a_choice, AreOnce, options_of, kind_word, LineS, AnswersS, traced}
 use Rattle.isle_command_line.specs.Reading as reading
-use Rattle.isle_command_line.specs.Reading.{named, sourced, valued, optional, is_trace, is_answers, nothing_given, given_more, chosen, counted, with_limit, request, targeted, sized, next, onward, read, asks, first, mark, kind_of, count, size, parts}
+use Rattle.isle_command_line.specs.Reading.{after_name, head_of, with_values, optional, is_trace, is_answers, nothing_given, given_more, after_mark, with_threshold, with_limit, after_kind, after_target, after_size, next, onward, read, asks, first, mark, kind_of, count, size, parts}
 use Rattle.isle_command_line.specs.Request.{Request}
 use Rattle.isle_command_line.specs.declared.commands.Source.{Source}
 use Rattle.isle_command_line.specs.declared.state.GivenOptions.{GivenOptions}
+use Rattle.isle_command_line.specs.declared.state.RunHead.{RunHead}
 use Rattle.isle_command_line.specs.declared.state.Verb.{Verb}
 use Rattle.isle_command_line.specs.declared.state.Verb.TheVariants as verb
 use Rattle.isle_command_line.specs.Request as command
-use Rattle.isle_command_line.specs.Known.{Known}
+use Rattle.isle_command_line.specs.Known.{Known, RunParts}
 use Rattle.isle_command_line.specs.Known as state
 use Rattle.isle_command_line.proofs.WordLaws.{both, kind_again, count_again, size_again, parts_again}
 use Rattle.isle_command_line.proofs.RunWords.{name_no_trace, source_again, source_named}
@@ -40,12 +41,12 @@ read_choice log v g more h = unless g.options.emit_logging (state.Options v (giv
 read_choice split v g more h = unless g.options.split_match_arms (state.Options v (given_more g choice.Split)) (λ t. read t more) h
 read_choice (threshold n word is) v g more h =
     unless (is_some g.options.match_arm_split_threshold) (state.Threshold v g) (λ t. read t (word ∷ more)) h
-    ∙ ap (λ r. onward (counted v g r) (λ t. read t more)) (count_again word n is)
+    ∙ ap (λ r. onward (with_threshold v g r) (λ t. read t more)) (count_again word n is)
 read_choice (max_returns n word is) v g more h =
     unless g.limited (state.MaxReturns v g) (λ t. read t (word ∷ more)) h
     ∙ ap (λ r. onward (with_limit v g r) (λ t. read t more)) (count_again word n is)
 read_choice (prefixed p n word is) v g more h =
-    ap (λ r. onward (reading.prefixed v g r) (λ t. read t more)) (parts_again word p n is)
+    ap (λ r. onward (reading.with_prefix v g r) (λ t. read t more)) (parts_again word p n is)
     ∙ ap (λ b. onward (if b then Some (state.Options v (given_more g (choice.Prefixed p n))) else None) (λ t. read t more)) is.named
 
 read_choices : {cs : List Choice} {us : List (List ℕ)} → ChoicesS cs us → (v : Verb) (g : GivenOptions) (more : List (List ℕ)) → list_all (free g) cs ≡ true → AreOnce cs
@@ -63,15 +64,17 @@ read_names o ns (m ∷ ms) h =
     ap (λ b. onward (if b then Some (state.Names o (ns ++ m ∷ [])) else None) (λ t. read t ms)) f.0
     ∙ read_names o (ns ++ m ∷ []) ms f.1 ∙ ap (λ z. Some (state.Names o z)) (append_assoc ns (m ∷ []) ms)
 
-read_named : (v : Verb) (g : GivenOptions) (w : List ℕ) (more : List (List ℕ)) → is_name w ≡ true → read (state.Options v g) (w ∷ more) ≡ onward (named v g.options w) (λ t. read t more)
-read_named v g w more h = ap (λ b. onward (if b then named v g.options w else chosen v g (mark w)) (λ t. read t more)) h
+read_named : (v : Verb) (g : GivenOptions) (w : List ℕ) (more : List (List ℕ)) → is_name w ≡ true → read (state.Options v g) (w ∷ more) ≡ onward (after_name v g w) (λ t. read t more)
+read_named v g w more h = ap (λ b. onward (if b then after_name v g w else after_mark v g (mark w)) (λ t. read t more)) h
+
+-- what these options give
+abbrev given : List Choice → GivenOptions
+given cs = fold given_more nothing_given cs
 
 -- options and the first name
 read_given : {cs : List Choice} {us : List (List ℕ)} → ChoicesS cs us → AreOnce cs → (v : Verb) (w : List ℕ) (more : List (List ℕ)) → is_name w ≡ true
-    → read (state.Options v nothing_given) (us ++ w ∷ more) ≡ onward (named v (options_of cs) w) (λ t. read t more)
-read_given {cs = cs} ss once v w more h =
-    read_choices ss v nothing_given (w ∷ more) (all_free cs) once ∙ read_named v (fold given_more nothing_given cs) w more h
-    ∙ ap (λ o. onward (named v o w) (λ t. read t more)) (given_asked cs nothing_given)
+    → read (state.Options v nothing_given) (us ++ w ∷ more) ≡ onward (after_name v (given cs) w) (λ t. read t more)
+read_given {cs = cs} ss once v w more h = read_choices ss v nothing_given (w ∷ more) (all_free cs) once ∙ read_named v (given cs) w more h
 
 -- a run that is not traced goes on with its options
 read_untraced : {cs : List Choice} {us : List (List ℕ)} → ChoicesS cs us → (w : List ℕ) (more : List (List ℕ)) → is_name w ≡ true
@@ -91,17 +94,25 @@ unfolding is_trace
 read_run true ss w more h = refl
 read_run false ss w more h = read_untraced ss w more h
 
-read_last : (t : Bool) (o : CodegenOptions) (s : Source) (m : List ℕ) (vs : Writtens) {a : Option (List ℕ)} {last : List (List ℕ)} → AnswersS a last
-    → request_of (read (state.AfterValues t o s m vs) last) ≡ Some (command.run_of t o s m vs a)
-unfolding is_answers
-read_last t o s m vs choice.no_answers = refl
-read_last t o s m vs (choice.answers f h) = ap (λ b. request_of (onward (if b then Some (state.Whole (command.run_of t o s m vs (Some f))) else None) (λ k. Some k))) h
+-- the line of a run
+abbrev run : (t : Bool) (o : CodegenOptions) (s : Source) (m : List ℕ) (vs : Writtens) (a : Option (List ℕ)) → Request
+run t o s m vs a = command.Run (record { trace = t; options = o; source = s; term = m; values = vs; answers = a })
 
-read_term : (t : Bool) (o : CodegenOptions) (s : Source) (m x : List ℕ) (vs : Writtens) (last : List (List ℕ)) → is_name m ≡ true → spelt x ≡ Some vs
-    → read (state.Term t o s) (m ∷ x ∷ last) ≡ read (state.AfterValues t o s m vs) last
-read_term t o s m x vs last h e =
-    ap (λ b. onward (if b then Some (state.Values t o s m) else None) (λ k. read k (x ∷ last))) h
-    ∙ ap (λ r. onward (valued t o s m r) (λ k. read k last)) e
+-- what stands before its term
+abbrev head : (t : Bool) (g : GivenOptions) (s : Source) → RunHead
+head t g s = record { verb = verb.Run t; given = g; source = s }
+
+read_last : (t : Bool) (g : GivenOptions) (s : Source) (m : List ℕ) (vs : Writtens) {a : Option (List ℕ)} {last : List (List ℕ)} → AnswersS a last
+    → request_of (read (state.AfterValues (record { head = head t g s; term = m; values = vs })) last) ≡ Some (run t g.options s m vs a)
+unfolding is_answers
+read_last t g s m vs choice.no_answers = refl
+read_last t g s m vs (choice.answers f h) = ap (λ b. request_of (onward (if b then Some (state.Whole (run t g.options s m vs (Some f))) else None) (λ k. Some k))) h
+
+read_term : (h : RunHead) (m x : List ℕ) (vs : Writtens) (last : List (List ℕ)) → is_name m ≡ true → spelt x ≡ Some vs
+    → read (state.Term h) (m ∷ x ∷ last) ≡ read (state.AfterValues (record { head = h; term = m; values = vs })) last
+read_term h m x vs last good e =
+    ap (λ b. onward (if b then Some (state.Values h m) else None) (λ k. read k (x ∷ last))) good
+    ∙ ap (λ r. onward (with_values h m r) (λ k. read k last)) e
 
 -- each line is read as what it asks for
 pub complete : {ws : List (List ℕ)} {c : Request} → LineS ws c → request_of (read state.Begin ws) ≡ Some c
@@ -111,15 +122,17 @@ complete choice.help = refl
 complete choice.version = refl
 complete (choice.compile cs us name names ss once good) =
     let f : (is_name name ≡ true) × (list_all is_name names ≡ true) = both _ _ good in
-    ap request_of (read_given ss once verb.Compile name names f.0 ∙ read_names (options_of cs) (name ∷ []) names f.1)
-complete (choice.build cs us unit ss once good) = ap request_of (read_given ss once verb.Build unit [] good)
-complete (choice.prelude k) = ap (λ r. request_of (onward (request r) (λ t. Some t))) (kind_again k)
+    ap request_of (read_given ss once verb.Compile name names f.0 ∙ read_names (given cs).options (name ∷ []) names f.1)
+    ∙ ap (λ o. Some (command.Compile o (name ∷ names))) (given_asked cs nothing_given)
+complete (choice.build cs us unit ss once good) = ap request_of (read_given ss once verb.Build unit [] good) ∙ ap (λ o. Some (command.Build o unit)) (given_asked cs nothing_given)
+complete (choice.prelude k) = ap (λ r. request_of (onward (after_kind r) (λ t. Some t))) (kind_again k)
 complete choice.units = refl
-complete (choice.isa target w is) = ap (λ r. request_of (onward (targeted r) (λ t. Some t))) is
-complete (choice.sample n w is) = ap (λ r. request_of (onward (sized r) (λ t. Some t))) (size_again w n is)
+complete (choice.isa target w is) = ap (λ r. request_of (onward (after_target r) (λ t. Some t))) is
+complete (choice.sample n w is) = ap (λ r. request_of (onward (after_size r) (λ t. Some t))) (size_again w n is)
 complete (choice.run t cs us s from m x vs a last ss once is good spells la) =
     ap request_of (read_run t ss from (m ∷ x ∷ last) (source_named is)
     ∙ read_given ss once (verb.Run t) from (m ∷ x ∷ last) (source_named is)
-    ∙ ap (λ r. onward (sourced t (options_of cs) r) (λ k. read k (m ∷ x ∷ last))) (source_again is)
-    ∙ read_term t (options_of cs) s m x vs last good (spelt_again x vs spells))
-    ∙ read_last t (options_of cs) s m vs la
+    ∙ ap (λ r. read (state.Term (head t (given cs) r)) (m ∷ x ∷ last)) (source_again is)
+    ∙ read_term (head t (given cs) s) m x vs last good (spelt_again x vs spells))
+    ∙ read_last t (given cs) s m vs la
+    ∙ ap (λ o. Some (run t o s m vs a)) (given_asked cs nothing_given)

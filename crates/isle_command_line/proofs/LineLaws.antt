@@ -10,7 +10,7 @@ use Rattle.isle_values.proofs.Spelt.{empty_list}
 use Rattle.isle_command_line.specs.Targets.{target_of}
 use Rattle.isle_command_line.specs.Lines as choice
 use Rattle.isle_command_line.specs.Lines.{LineS, Continues, IsBad, IsMissing}
-use Rattle.isle_command_line.specs.Reading.{nothing_given, given_more, onward, read, asks, valued, source_of, is_trace, is_answers, count, size, parts, kind_of, StopsAt}
+use Rattle.isle_command_line.specs.Reading.{nothing_given, given_more, onward, read, asks, with_values, head_of, run_request, after_last, source_of, is_trace, is_answers, count, size, parts, kind_of, StopsAt}
 use Rattle.isle_command_line.specs.Request.{Request}
 use Rattle.isle_command_line.specs.Request as command
 use Rattle.isle_command_line.specs.declared.commands.Kind.TheVariants as kind
@@ -19,12 +19,13 @@ use Rattle.isle_command_line.specs.declared.commands.Source.TheVariants as sourc
 use Rattle.isle_command_line.specs.declared.commands.LineFail.{LineFail}
 use Rattle.isle_command_line.specs.declared.commands.LineFail.TheVariants as fail
 use Rattle.isle_command_line.specs.declared.state.GivenOptions.{GivenOptions}
+use Rattle.isle_command_line.specs.declared.state.RunHead.{RunHead}
 use Rattle.isle_command_line.specs.declared.state.Verb.{Verb}
 use Rattle.isle_command_line.specs.declared.state.Verb.TheVariants as verb
-use Rattle.isle_command_line.specs.Known.{Known}
+use Rattle.isle_command_line.specs.Known.{Known, RunParts}
 use Rattle.isle_command_line.specs.Known as state
 use Rattle.isle_command_line.proofs.Steps.{read_append}
-use Rattle.isle_command_line.proofs.Sound.{HasRead, After, Answers, told, has_read_asks, has_read_named, has_read_next}
+use Rattle.isle_command_line.proofs.Sound.{HasRead, After, Answers, HasTerm, told, has_read_asks, has_read_named, has_read_next}
 use Rattle.isle_command_line.proofs.Complete.{request_of, complete}
 
 -- what is asked for, if something is known
@@ -41,18 +42,39 @@ continues_less ws w h = (w ∷ h.0, h.1, subst (λ z. LineS z h.1) (append_assoc
 whole : (ws : List (List ℕ)) (c : Request) → LineS ws c → Continues ws
 whole ws c h = ([], c, subst (λ z. LineS z c) (sym (append-nil ws)) h)
 
-with_values : (t : Bool) (o : CodegenOptions) (s : Source) (m : List ℕ) (ws : List (List ℕ)) → HasRead (state.Values t o s m) ws → Continues ws
-with_values t o s m ws h = continues_less ws (codes "()") (whole _ (command.run_of t o s m NoValue None) (has_read_asks (state.AfterValues t o s m NoValue) _
-    (subst (λ r. After (valued t o s m r) (ws ++ codes "()" ∷ [])) empty_list (has_read_next (state.Values t o s m) ws (codes "()") h))))
+-- a request that is spelt after words
+spelt_request : (r : Option Request) (ws : List (List ℕ)) → IsSome r → Answers r ws → Continues ws
+spelt_request (Some c) ws some h = whole ws c h
+spelt_request None ws some h = cc
 
-with_term : (t : Bool) (o : CodegenOptions) (s : Source) (ws : List (List ℕ)) → HasRead (state.Term t o s) ws → Continues ws
-with_term t o s ws h = continues_less ws (codes "a") (with_values t o s (codes "a") _ (has_read_next (state.Term t o s) ws (codes "a") h))
+-- lines of a verb that has a term have a request
+has_request : (v : Verb) (p : RunParts) (a : Option (List ℕ)) → HasTerm v → IsSome (run_request v p a)
+has_request verb.Compile p a h = absurd h
+has_request verb.Build p a h = absurd h
+has_request (verb.Run t) p a h = refl
+
+request_continues : (r : Option Request) (ws : List (List ℕ)) → IsSome r → After (after_last r) ws → Continues ws
+request_continues (Some c) ws some h = whole ws c h
+request_continues None ws some h = cc
+
+after_term : (p : RunParts) (ws : List (List ℕ)) → HasRead (state.AfterValues p) ws → Continues ws
+after_term p ws h = spelt_request (run_request p.head.verb p None) ws (has_request p.head.verb p None h.1.with_term) (has_read_asks (state.AfterValues p) ws h)
+
+with_empty : (d : RunHead) (m : List ℕ) (ws : List (List ℕ)) → HasRead (state.Values d m) ws → Continues ws
+with_empty d m ws h = continues_less ws (codes "()") (after_term (record { head = d; term = m; values = NoValue }) _
+    (subst (λ r. After (with_values d m r) (ws ++ codes "()" ∷ [])) empty_list (has_read_next (state.Values d m) ws (codes "()") h)))
+
+with_term : (d : RunHead) (ws : List (List ℕ)) → HasRead (state.Term d) ws → Continues ws
+with_term d ws h = continues_less ws (codes "a") (with_empty d (codes "a") _ (has_read_next (state.Term d) ws (codes "a") h))
+
+with_answers : (p : RunParts) (ws : List (List ℕ)) → HasRead (state.Answers p) ws → Continues ws
+with_answers p ws h = continues_less ws (codes "a") (request_continues (run_request p.head.verb p (Some (codes "a"))) _ (has_request p.head.verb p (Some (codes "a")) h.1.with_term) (has_read_next (state.Answers p) ws (codes "a") h))
 
 with_name : (v : Verb) (g : GivenOptions) (ws : List (List ℕ)) → HasRead (state.Options v g) ws → Continues ws
 unfolding source_of
 with_name verb.Compile g ws h = continues_less ws (codes "a") (whole _ (command.Compile g.options (codes "a" ∷ []))
     (has_read_asks (state.Names g.options (codes "a" ∷ [])) _ (has_read_named verb.Compile g ws (codes "a") h refl)))
-with_name (verb.Run t) g ws h = continues_less ws (codes "a") (with_term t g.options (source.File (codes "a")) _ (has_read_named (verb.Run t) g ws (codes "a") h refl))
+with_name (verb.Run t) g ws h = continues_less ws (codes "a") (with_term (head_of (verb.Run t) g (codes "a")) _ (has_read_named (verb.Run t) g ws (codes "a") h refl))
 with_name verb.Build g ws h = continues_less ws (codes "a") (whole _ (command.Build g.options (codes "a")) (has_read_named verb.Build g ws (codes "a") h refl))
 
 -- a line begins with words after which something is known
@@ -70,10 +92,10 @@ continues state.Kind ws h = continues_less ws (codes "numerics") (whole _ (comma
 continues state.Target ws h = continues_less ws (codes "x86") (whole _ (command.Isa isa.X86) (has_read_next state.Target ws (codes "x86") h))
 continues state.Size ws h = continues_less ws (codes "1") (whole _ (command.Sample 1) (has_read_next state.Size ws (codes "1") h))
 continues state.Run ws h = continues_less ws (codes "--trace") (with_name (verb.Run true) nothing_given _ (has_read_next state.Run ws (codes "--trace") h))
-continues (state.Term t o s) ws h = with_term t o s ws h
-continues (state.Values t o s m) ws h = with_values t o s m ws h
-continues (state.AfterValues t o s m vs) ws h = whole ws _ (has_read_asks (state.AfterValues t o s m vs) ws h)
-continues (state.Answers t o s m vs) ws h = continues_less ws (codes "a") (whole _ (command.run_of t o s m vs (Some (codes "a"))) (has_read_next (state.Answers t o s m vs) ws (codes "a") h))
+continues (state.Term d) ws h = with_term d ws h
+continues (state.Values d m) ws h = with_empty d m ws h
+continues (state.AfterValues p) ws h = after_term p ws h
+continues (state.Answers p) ws h = with_answers p ws h
 
 known_continues : (o : Option Known) (ws : List (List ℕ)) → IsSome o → After o ws → Continues ws
 known_continues (Some s) ws h t = continues s ws t

@@ -130,7 +130,7 @@ pub data LineS : List (List ℕ) → Request → Type 0 where
   sample : (n : ℕ) (word : List ℕ) → IsSize word n → LineS (codes "sample" ∷ word ∷ []) (command.Sample n)
   run : (t : Bool) (cs : List Choice) (words : List (List ℕ)) (s : Source) (from term spelling : List ℕ) (vs : Writtens) (a : Option (List ℕ)) (last : List (List ℕ))
       → ChoicesS cs words → AreOnce cs → SourceS s from → is_name term ≡ true → SpellsValues spelling vs → AnswersS a last
-      → LineS (codes "run" ∷ traced t ++ words ++ from ∷ term ∷ spelling ∷ last) (command.run_of t (options_of cs) s term vs a)
+      → LineS (codes "run" ∷ traced t ++ words ++ from ∷ term ∷ spelling ∷ last) (command.Run (record { trace = t; options = options_of cs; source = s; term = term; values = vs; answers = a }))
 
 -- words with which a line begins
 abbrev pub Continues : List (List ℕ) → Type 0

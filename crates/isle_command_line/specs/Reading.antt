@@ -2,7 +2,6 @@
 use Rattle.std.specs.Prelude.{◌≡◌, ℕ, ◌+◌, ◌<◌, List, [], ◌∷◌, ◌++◌, length, take, Bool, true, false, ◌&&◌, ◌||◌, ◌==◌, nat_le, Option, Some, None, codes, if◌then◌else◌, is_some, IsSome}
 use Rattle.std.specs.List.{list_all, position_or_len, before_first, after_first}
 use Rattle.std.specs.Str.{bytes_eq}
-use Rattle.isle_core.specs.declared.options.CodegenOptions.{CodegenOptions}
 use Rattle.isle_core.specs.Printed.{after_prefix}
 use Rattle.isle_settings.specs.declared.isa.Isa.{Isa}
 use Rattle.isle_values.specs.Reading.{spelt}
@@ -22,9 +21,10 @@ use Rattle.isle_command_line.specs.declared.word.FirstWord.TheVariants as first_
 use Rattle.isle_command_line.specs.declared.word.OptionWord.{OptionWord}
 use Rattle.isle_command_line.specs.declared.word.OptionWord.TheVariants as marked
 use Rattle.isle_command_line.specs.declared.state.GivenOptions.{GivenOptions}
+use Rattle.isle_command_line.specs.declared.state.RunHead.{RunHead}
 use Rattle.isle_command_line.specs.declared.state.Verb.{Verb}
 use Rattle.isle_command_line.specs.declared.state.Verb.TheVariants as verb
-use Rattle.isle_command_line.specs.Known.{Known}
+use Rattle.isle_command_line.specs.Known.{Known, RunParts}
 use Rattle.isle_command_line.specs.Known as state
 
 -- what the first word of a line is
@@ -114,42 +114,42 @@ abbrev pub given_more : GivenOptions → Choice → GivenOptions
 given_more g c = record { options = with_choice g.options c; limited = is_limit c || g.limited }
 
 -- after the first word
-abbrev pub begun : FirstWord → Option Known
-begun first_word.Help = Some (state.Whole command.Help)
-begun first_word.Version = Some (state.Whole command.Version)
-begun first_word.Compile = Some (state.Options verb.Compile nothing_given)
-begun first_word.Build = Some (state.Options verb.Build nothing_given)
-begun first_word.Prelude = Some state.Kind
-begun first_word.Units = Some (state.Whole command.Units)
-begun first_word.Isa = Some state.Target
-begun first_word.Sample = Some state.Size
-begun first_word.Run = Some state.Run
-begun first_word.Other = None
+abbrev pub after_first_word : FirstWord → Option Known
+after_first_word first_word.Help = Some (state.Whole command.Help)
+after_first_word first_word.Version = Some (state.Whole command.Version)
+after_first_word first_word.Compile = Some (state.Options verb.Compile nothing_given)
+after_first_word first_word.Build = Some (state.Options verb.Build nothing_given)
+after_first_word first_word.Prelude = Some state.Kind
+after_first_word first_word.Units = Some (state.Whole command.Units)
+after_first_word first_word.Isa = Some state.Target
+after_first_word first_word.Sample = Some state.Size
+after_first_word first_word.Run = Some state.Run
+after_first_word first_word.Other = None
 
--- after a source
-abbrev pub sourced : Bool → CodegenOptions → Source → Option Known
-sourced t o s = Some (state.Term t o s)
+-- what stands before the term, with the source that a word names
+abbrev pub head_of : Verb → GivenOptions → List ℕ → RunHead
+head_of v g w = record { verb = v; given = g; source = source_of w }
 
 -- after the first name
-abbrev pub named : Verb → CodegenOptions → List ℕ → Option Known
-named verb.Compile o w = Some (state.Names o (w ∷ []))
-named verb.Build o w = Some (state.Whole (command.Build o w))
-named (verb.Run t) o w = sourced t o (source_of w)
+abbrev pub after_name : Verb → GivenOptions → List ℕ → Option Known
+after_name verb.Compile g w = Some (state.Names g.options (w ∷ []))
+after_name verb.Build g w = Some (state.Whole (command.Build g.options w))
+after_name (verb.Run t) g w = Some (state.Term (head_of (verb.Run t) g w))
 
 -- after a word that names an option
-abbrev pub chosen : Verb → GivenOptions → OptionWord → Option Known
-chosen v g marked.NoAllow = if g.options.exclude_global_allow_pragmas then None else Some (state.Options v (given_more g choice.NoAllow))
-chosen v g marked.Log = if g.options.emit_logging then None else Some (state.Options v (given_more g choice.Log))
-chosen v g marked.Split = if g.options.split_match_arms then None else Some (state.Options v (given_more g choice.Split))
-chosen v g marked.Threshold = if is_some g.options.match_arm_split_threshold then None else Some (state.Threshold v g)
-chosen v g marked.MaxReturns = if g.limited then None else Some (state.MaxReturns v g)
-chosen v g marked.Prefix = Some (state.Prefix v g)
-chosen v g marked.Other = None
+abbrev pub after_mark : Verb → GivenOptions → OptionWord → Option Known
+after_mark v g marked.NoAllow = if g.options.exclude_global_allow_pragmas then None else Some (state.Options v (given_more g choice.NoAllow))
+after_mark v g marked.Log = if g.options.emit_logging then None else Some (state.Options v (given_more g choice.Log))
+after_mark v g marked.Split = if g.options.split_match_arms then None else Some (state.Options v (given_more g choice.Split))
+after_mark v g marked.Threshold = if is_some g.options.match_arm_split_threshold then None else Some (state.Threshold v g)
+after_mark v g marked.MaxReturns = if g.limited then None else Some (state.MaxReturns v g)
+after_mark v g marked.Prefix = Some (state.Prefix v g)
+after_mark v g marked.Other = None
 
 -- after a threshold
-abbrev pub counted : Verb → GivenOptions → Option ℕ → Option Known
-counted v g (Some n) = Some (state.Options v (given_more g (choice.Threshold n)))
-counted v g None = None
+abbrev pub with_threshold : Verb → GivenOptions → Option ℕ → Option Known
+with_threshold v g (Some n) = Some (state.Options v (given_more g (choice.Threshold n)))
+with_threshold v g None = None
 
 -- after a limit of results
 abbrev pub with_limit : Verb → GivenOptions → Option ℕ → Option Known
@@ -157,51 +157,62 @@ with_limit v g (Some n) = Some (state.Options v (given_more g (choice.MaxReturns
 with_limit v g None = None
 
 -- after a prefix
-abbrev pub prefixed : Verb → GivenOptions → Option (List ℕ × List ℕ) → Option Known
-prefixed v g (Some p) = if is_name p.1 then Some (state.Options v (given_more g (choice.Prefixed p.0 p.1))) else None
-prefixed v g None = None
+abbrev pub with_prefix : Verb → GivenOptions → Option (List ℕ × List ℕ) → Option Known
+with_prefix v g (Some p) = if is_name p.1 then Some (state.Options v (given_more g (choice.Prefixed p.0 p.1))) else None
+with_prefix v g None = None
 
 -- after a kind
-abbrev pub request : Option Kind → Option Known
-request (Some k) = Some (state.Whole (command.Prelude k))
-request None = None
+abbrev pub after_kind : Option Kind → Option Known
+after_kind (Some k) = Some (state.Whole (command.Prelude k))
+after_kind None = None
 
 -- after a target
-abbrev pub targeted : Option Isa → Option Known
-targeted (Some target) = Some (state.Whole (command.Isa target))
-targeted None = None
+abbrev pub after_target : Option Isa → Option Known
+after_target (Some target) = Some (state.Whole (command.Isa target))
+after_target None = None
 
 -- after the size of a sample
-abbrev pub sized : Option ℕ → Option Known
-sized (Some n) = Some (state.Whole (command.Sample n))
-sized None = None
+abbrev pub after_size : Option ℕ → Option Known
+after_size (Some n) = Some (state.Whole (command.Sample n))
+after_size None = None
 
 -- after an option or the first name
 abbrev pub optional : Verb → GivenOptions → List ℕ → Option Known
-optional v g w = if is_name w then named v g.options w else chosen v g (mark w)
+optional v g w = if is_name w then after_name v g w else after_mark v g (mark w)
 
 -- after values
-abbrev pub valued : Bool → CodegenOptions → Source → List ℕ → Option Writtens → Option Known
-valued t o s m (Some vs) = Some (state.AfterValues t o s m vs)
-valued t o s m None = None
+abbrev pub with_values : RunHead → (term : List ℕ) → Option Writtens → Option Known
+with_values h m (Some vs) = Some (state.AfterValues (record { head = h; term = m; values = vs }))
+with_values h m None = None
+
+-- what a line of these parts asks for, with this file of answers, if lines of its verb have a term
+abbrev pub run_request : Verb → RunParts → (answers : Option (List ℕ)) → Option Request
+run_request verb.Compile p a = None
+run_request verb.Build p a = None
+run_request (verb.Run t) p a = Some (command.Run (record { trace = t; options = p.head.given.options; source = p.head.source; term = p.term; values = p.values; answers = a }))
+
+-- after the last word that a line may have
+abbrev pub after_last : Option Request → Option Known
+after_last (Some r) = Some (state.Whole r)
+after_last None = None
 
 -- what is known after one word more, if a line continues with it
 abbrev pub next : Known → List ℕ → Option Known
-next state.Begin w = begun (first w)
+next state.Begin w = after_first_word (first w)
 next (state.Whole c) w = None
 next (state.Options v g) w = optional v g w
-next (state.Threshold v g) w = counted v g (count w)
+next (state.Threshold v g) w = with_threshold v g (count w)
 next (state.MaxReturns v g) w = with_limit v g (count w)
-next (state.Prefix v g) w = prefixed v g (parts w)
+next (state.Prefix v g) w = with_prefix v g (parts w)
 next (state.Names o ns) w = if is_name w then Some (state.Names o (ns ++ w ∷ [])) else None
-next state.Kind w = request (kind_of w)
-next state.Target w = targeted (target_of w)
-next state.Size w = sized (size w)
+next state.Kind w = after_kind (kind_of w)
+next state.Target w = after_target (target_of w)
+next state.Size w = after_size (size w)
 next state.Run w = if is_trace w then Some (state.Options (verb.Run true) nothing_given) else optional (verb.Run false) nothing_given w
-next (state.Term t o s) w = if is_name w then Some (state.Values t o s w) else None
-next (state.Values t o s m) w = valued t o s m (spelt w)
-next (state.AfterValues t o s m vs) w = if is_answers w then Some (state.Answers t o s m vs) else None
-next (state.Answers t o s m vs) w = if is_name w then Some (state.Whole (command.run_of t o s m vs (Some w))) else None
+next (state.Term h) w = if is_name w then Some (state.Values h w) else None
+next (state.Values h m) w = with_values h m (spelt w)
+next (state.AfterValues p) w = if is_answers w then Some (state.Answers p) else None
+next (state.Answers p) w = if is_name w then after_last (run_request p.head.verb p (Some w)) else None
 
 -- goes on if something is known
 abbrev pub onward : Option Known → (Known → Option Known) → Option Known
@@ -226,10 +237,10 @@ asks state.Kind = None
 asks state.Target = None
 asks state.Size = None
 asks state.Run = None
-asks (state.Term t o s) = None
-asks (state.Values t o s m) = None
-asks (state.AfterValues t o s m vs) = Some (command.run_of t o s m vs None)
-asks (state.Answers t o s m vs) = None
+asks (state.Term h) = None
+asks (state.Values h m) = None
+asks (state.AfterValues p) = run_request p.head.verb p None
+asks (state.Answers p) = None
 
 -- the word of this number is the first with which no line continues
 pub record StopsAt (words : List (List ℕ)) (i : ℕ) : Type 0 where

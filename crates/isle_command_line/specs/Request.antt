@@ -25,7 +25,3 @@ pub data Request : Type 0 where
   Isa : (target : targets.Isa) → Request
   Sample : (size : ℕ) → Request
   Run : Running → Request
-
--- the line of a run with these parts
-abbrev pub run_of : Bool → CodegenOptions → Source → List ℕ → Writtens → Option (List ℕ) → Request
-run_of t o s m vs a = Run (record { trace = t; options = o; source = s; term = m; values = vs; answers = a })

@@ -7,6 +7,7 @@ use Rattle.isle_command_line.specs.Known.{Known}
 use Rattle.isle_command_line.specs.declared.commands.Command.{Command}
 use Rattle.isle_command_line.specs.declared.commands.Command.TheVariants as command
 use Rattle.isle_command_line.specs.declared.commands.RunLine.{RunLine}
+use Rattle.isle_command_line.specs.declared.state.RunParts as parts
 use Rattle.isle_command_line.specs.declared.state.State.{State}
 use Rattle.isle_command_line.specs.declared.state.State.TheVariants as state
 
@@ -26,6 +27,10 @@ seen_command (command.Isa t) = request.Isa t
 seen_command (command.Sample n) = request.Sample n
 seen_command (command.Run r) = request.Run (seen_run r)
 
+-- the parts of a run
+abbrev pub seen_parts : parts.RunParts → known.RunParts
+seen_parts p = record { head = p.head; term = p.term; values = seen p.values }
+
 -- what is known
 abbrev pub seen_state : State → Known
 seen_state state.Begin = known.Begin
@@ -39,7 +44,7 @@ seen_state state.Kind = known.Kind
 seen_state state.Target = known.Target
 seen_state state.Size = known.Size
 seen_state state.Run = known.Run
-seen_state (state.Term t o s) = known.Term t o s
-seen_state (state.Values t o s m) = known.Values t o s m
-seen_state (state.AfterValues t o s m vs) = known.AfterValues t o s m (seen vs)
-seen_state (state.Answers t o s m vs) = known.Answers t o s m (seen vs)
+seen_state (state.Term h) = known.Term h
+seen_state (state.Values h m) = known.Values h m
+seen_state (state.AfterValues p) = known.AfterValues (seen_parts p)
+seen_state (state.Answers p) = known.Answers (seen_parts p)

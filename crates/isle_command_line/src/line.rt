@@ -8,7 +8,8 @@ ghost use Rattle.isle_command_line.specs.Views.{seen_command, seen_state};
 ghost use Rattle.isle_command_line.specs.declared.commands.LineFail.TheVariants.{Bad, Missing};
 ghost use Rattle.isle_command_line.specs.declared.commands.LineFail.TheVariants.{Memory};
 
-use crate::commands::{Command, LineFail, RunLine};
+use crate::commands::{Command, LineFail};
+use crate::run::run_request;
 use crate::state::{State, WordFail, next};
 use isle_core::{CodegenOptions, List, Text};
 use std::alloc::Global;
@@ -55,14 +56,10 @@ fn request(alloc: Global, state: State) -> Result<Command, LineFail>
         State::Begin => default_command(alloc),
         State::Whole(command) => Ok(command),
         State::Names(options, names) => Ok(Command::Compile { options, names }),
-        State::AfterValues(trace, options, source, term, values) => Ok(Command::Run(RunLine {
-            trace,
-            options,
-            source,
-            term,
-            values,
-            answers: None,
-        })),
+        State::AfterValues(parts) => match run_request(parts, None) {
+            Some(command) => Ok(command),
+            None => Err(LineFail::Missing),
+        },
         State::Options(..)
         | State::Threshold(..)
         | State::MaxReturns(..)

@@ -1,12 +1,13 @@
 ghost use Rattle.std.specs.Prelude.{◌≡◌, ◌≢◌, Err, Some, None, IfOk, IfSome};
 ghost use Rattle.isle_command_line.specs.Lines.{Prefixed};
 ghost use Rattle.isle_command_line.specs.Known as known;
-ghost use Rattle.isle_command_line.specs.Reading.{next, named, chosen, optional, parts, given_more};
+ghost use Rattle.isle_command_line.specs.Reading.{next, after_mark, after_name, optional};
+ghost use Rattle.isle_command_line.specs.Reading.{parts, given_more};
 ghost use Rattle.isle_command_line.specs.Views.{seen_state};
 ghost use Rattle.isle_command_line.specs.declared.state.WordFail.TheVariants.{Bad};
 
 use crate::commands::Command;
-use crate::run::after_source;
+use crate::run::run_head;
 use crate::state::{GivenOptions, State, Verb, WordFail};
 use crate::word::{OptionWord, count, is_name, mark};
 use isle_core::{CodegenOptions, List, Prefix, Text};
@@ -18,34 +19,35 @@ pub fn option(alloc: Global, verb: Verb, given: GivenOptions, word: &str) -> Res
     ensures bad { result ≡ Err Bad → optional verb given word.now ≡ None }
 {
     if is_name(word) {
-        named(alloc, verb, given.options, word)
+        after_name(alloc, verb, given, word)
     } else {
-        chosen(verb, given, mark(word))
+        after_mark(verb, given, mark(word))
     }
 }
 
 // What is known after the first name.
-fn named(alloc: Global, verb: Verb, options: CodegenOptions, word: &str) -> Result<State, WordFail>
-    ensures next { IfOk result (λ s. named verb options word.now ≡ Some (seen_state s)) }
-    ensures bad { result ≡ Err Bad → named verb options word.now ≡ None }
+fn after_name(alloc: Global, verb: Verb, given: GivenOptions, word: &str) -> Result<State, WordFail>
+    ensures next { IfOk result (λ s. after_name verb given word.now ≡ Some (seen_state s)) }
+    ensures bad { result ≡ Err Bad → after_name verb given word.now ≡ None }
 {
     match verb {
         Verb::Compile => {
             let name = Text::copied(alloc, word)?;
-            Ok(State::Names(options, List::new(vec![in alloc; name]?)))
+            Ok(State::Names(given.options, List::new(vec![in alloc; name]?)))
         }
         Verb::Build => {
+            let options = given.options;
             let unit = Text::copied(alloc, word)?;
             Ok(State::Whole(Command::Build { options, unit }))
         }
-        Verb::Run(trace) => after_source(alloc, trace, options, word),
+        Verb::Run(_) => Ok(State::Term(run_head(alloc, verb, given, word)?)),
     }
 }
 
 // What is known after a word that names an option.
-fn chosen(verb: Verb, mut given: GivenOptions, mark: OptionWord) -> Result<State, WordFail>
-    ensures next { IfOk result (λ s. chosen verb given mark ≡ Some (seen_state s)) }
-    ensures bad { result ≡ Err Bad → chosen verb given mark ≡ None }
+fn after_mark(verb: Verb, mut given: GivenOptions, mark: OptionWord) -> Result<State, WordFail>
+    ensures next { IfOk result (λ s. after_mark verb given mark ≡ Some (seen_state s)) }
+    ensures bad { result ≡ Err Bad → after_mark verb given mark ≡ None }
 {
     match mark {
         OptionWord::NoAllow if !given.options.exclude_global_allow_pragmas => {

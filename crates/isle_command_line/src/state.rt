@@ -1,6 +1,6 @@
 ghost use Rattle.std.specs.Prelude.{◌≡◌, Err, Some, None, IfOk};
-ghost use Rattle.isle_command_line.specs.Reading.{next, begun, nothing_given, request, targeted};
-ghost use Rattle.isle_command_line.specs.Reading.{sized};
+ghost use Rattle.isle_command_line.specs.Reading.{next, nothing_given, after_first_word, after_kind};
+ghost use Rattle.isle_command_line.specs.Reading.{after_target, after_size};
 ghost use Rattle.isle_command_line.specs.Views.{seen_state};
 ghost use Rattle.isle_command_line.specs.declared.state.WordFail.TheVariants.{Bad};
 
@@ -42,6 +42,22 @@ impl GivenOptions {
     }
 }
 
+/// What stands before the term of a line that has one.
+#[derive(Debug, Drop)]
+pub struct RunHead {
+    pub verb: Verb,
+    pub given: GivenOptions,
+    pub source: Source,
+}
+
+/// What a line says of a run up to its values.
+#[derive(Debug, Drop)]
+pub struct RunParts {
+    pub head: RunHead,
+    pub term: Text,
+    pub values: List<Written>,
+}
+
 /// What is known after the first words of a line.
 #[derive(Debug, Drop)]
 pub enum State {
@@ -67,13 +83,13 @@ pub enum State {
     /// `--trace`, an option or a source is next.
     Run,
     /// A term is next.
-    Term(bool, CodegenOptions, Source),
-    /// Values are next.
-    Values(bool, CodegenOptions, Source, Text),
+    Term(RunHead),
+    /// Values are next, after the term.
+    Values(RunHead, Text),
     /// A line of a run, which `--answers` may follow.
-    AfterValues(bool, CodegenOptions, Source, Text, List<Written>),
+    AfterValues(RunParts),
     /// A file of answers is next.
-    Answers(bool, CodegenOptions, Source, Text, List<Written>),
+    Answers(RunParts),
 }
 
 /// Why nothing is known after a word more.
@@ -125,34 +141,28 @@ pub fn next(alloc: Global, state: State, word: &str) -> Result<State, WordFail>
     ensures bad { result ≡ Err Bad → next (seen_state state) word.now ≡ None }
 {
     match state {
-        State::Begin => begun(alloc, first(word)),
+        State::Begin => after_first_word(alloc, first(word)),
         State::Whole(_) => Err(WordFail::Bad),
         State::Options(verb, given) => option(alloc, verb, given, word),
         State::Threshold(verb, given) => threshold(verb, given, word),
         State::MaxReturns(verb, given) => limit(verb, given, word),
         State::Prefix(verb, given) => prefix(alloc, verb, given, word),
         State::Names(options, names) => one_name(alloc, options, names, word),
-        State::Kind => request(kind_of(word)),
-        State::Target => targeted(target_of(word)),
+        State::Kind => after_kind(kind_of(word)),
+        State::Target => after_target(target_of(word)),
         State::Size => after_size(size(word)),
         State::Run => run(alloc, word),
-        State::Term(trace, options, source) => term(alloc, trace, options, source, word),
-        State::Values(trace, options, source, term) => {
-            values(alloc, trace, options, source, term, word)
-        }
-        State::AfterValues(trace, options, source, term, values) => {
-            after_values(trace, options, source, term, values, word)
-        }
-        State::Answers(trace, options, source, term, values) => {
-            answers(alloc, trace, options, source, term, values, word)
-        }
+        State::Term(head) => term(alloc, head, word),
+        State::Values(head, term) => values(alloc, head, term, word),
+        State::AfterValues(parts) => after_values(parts, word),
+        State::Answers(parts) => answers(alloc, parts, word),
     }
 }
 
 // What is known after the first word.
-fn begun(alloc: Global, word: FirstWord) -> Result<State, WordFail>
-    ensures next { IfOk result (λ s. begun word ≡ Some (seen_state s)) }
-    ensures bad { result ≡ Err Bad → begun word ≡ None }
+fn after_first_word(alloc: Global, word: FirstWord) -> Result<State, WordFail>
+    ensures next { IfOk result (λ s. after_first_word word ≡ Some (seen_state s)) }
+    ensures bad { result ≡ Err Bad → after_first_word word ≡ None }
 {
     match word {
         FirstWord::Help => Ok(State::Whole(Command::Help)),
@@ -169,9 +179,9 @@ fn begun(alloc: Global, word: FirstWord) -> Result<State, WordFail>
 }
 
 // What is known after the kind of a prelude.
-fn request(kind: Option<Kind>) -> Result<State, WordFail>
-    ensures next { IfOk result (λ s. request kind ≡ Some (seen_state s)) }
-    ensures bad { result ≡ Err Bad → request kind ≡ None }
+fn after_kind(kind: Option<Kind>) -> Result<State, WordFail>
+    ensures next { IfOk result (λ s. after_kind kind ≡ Some (seen_state s)) }
+    ensures bad { result ≡ Err Bad → after_kind kind ≡ None }
 {
     match kind {
         Some(kind) => Ok(State::Whole(Command::Prelude(kind))),
@@ -180,9 +190,9 @@ fn request(kind: Option<Kind>) -> Result<State, WordFail>
 }
 
 // What is known after a target.
-fn targeted(target: Option<Isa>) -> Result<State, WordFail>
-    ensures next { IfOk result (λ s. targeted target ≡ Some (seen_state s)) }
-    ensures bad { result ≡ Err Bad → targeted target ≡ None }
+fn after_target(target: Option<Isa>) -> Result<State, WordFail>
+    ensures next { IfOk result (λ s. after_target target ≡ Some (seen_state s)) }
+    ensures bad { result ≡ Err Bad → after_target target ≡ None }
 {
     match target {
         Some(target) => Ok(State::Whole(Command::Isa(target))),
@@ -192,8 +202,8 @@ fn targeted(target: Option<Isa>) -> Result<State, WordFail>
 
 // What is known after the size of a sample.
 fn after_size(size: Option<usize>) -> Result<State, WordFail>
-    ensures next { IfOk result (λ s. sized size ≡ Some (seen_state s)) }
-    ensures bad { result ≡ Err Bad → sized size ≡ None }
+    ensures next { IfOk result (λ s. after_size size ≡ Some (seen_state s)) }
+    ensures bad { result ≡ Err Bad → after_size size ≡ None }
 {
     match size {
         Some(size) => Ok(State::Whole(Command::Sample(size))),

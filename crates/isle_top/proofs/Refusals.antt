@@ -1,5 +1,5 @@
 -- What a refusal says and writes.
-use Rattle.std.proofs.Common.{◌≡◌, ℕ, zero, suc, ◌+◌, ◌<◌, length, List, [], ◌∷◌, drop, Option, Some, None, Result, Ok, Err, refl, sym, subst, inl, inr, arith}
+use Rattle.std.proofs.Common.{◌≡◌, ◌⊎◌, ℕ, zero, suc, ◌+◌, ◌<◌, length, List, [], ◌∷◌, drop, Option, Some, None, Result, Ok, Err, refl, sym, subst, inl, inr, arith}
 use Rattle.std.specs.Prelude.{IsSomeAnd, slice_get, OnOk, OnErr}
 use Rattle.std.proofs.lemmas.List.{take-append-drop}
 use Rattle.std.proofs.lemmas.Option.{same_Some}
@@ -20,9 +20,9 @@ use Rattle.isle_top.specs.Job.{Around, Job}
 use Rattle.isle_top.specs.Jobs.{job_of}
 use Rattle.isle_top.specs.Errors.{error_status, errors_status}
 use Rattle.isle_top.specs.Lines.{Wrote, bad_line, memory_line, unread_line}
-use Rattle.isle_top.specs.Statuses.{IsNoLine, Tells, TellsRun, TellsRefusal, Says, Ends}
+use Rattle.isle_top.specs.Statuses.{IsNoLine, Tells, TellsRun, Says, Ends}
 use Rattle.isle_top.specs.Statuses as statuses
-use Rattle.isle_top.specs.Wants.{IsWant}
+use Rattle.isle_top.specs.Wants.{IsEarly, IsWant}
 
 -- a line was written, or a front of it
 pub wrote : {T E : Type 0} (r : Result T E) (old new : Option (List ℕ)) (before after : ℕ) (line : List ℕ) → OnOk r (Took old new line) → OnErr r (TookPart old new line) → OnErr r (Rose before after) → Wrote old new before after line
@@ -50,21 +50,25 @@ module _ {tables : Tables} {asks : Request → Type 0} {none : Type 0} {around :
 
   -- what is said of a line that is not answered
   pub says_end : (e : Refusal) → (job_of tables request).fails e around → Ends (job_of tables request) wrote status e → Says tables asks none around quiet wrote status
-  says_end refusal.NoUnit cause told = statuses.refused request refusal.NoUnit status (λ want. want) asked cause told
-  says_end (refusal.Tables found) cause told = statuses.refused request (refusal.Tables found) status (λ want. want) asked cause told
-  says_end (refusal.Files (file.Io index why)) cause told = statuses.refused request (refusal.Files (file.Io index why)) status (λ want. want) asked cause told
   says_end (refusal.Files (file.Errors e)) cause (inl told) = statuses.refused request (refusal.Files (file.Errors e)) status (λ want. want) asked cause told
   says_end (refusal.Files (file.Errors e)) cause (inr told) = says_want told
-  says_end (refusal.Files (file.Name e)) cause told = statuses.refused request (refusal.Files (file.Name e)) status (λ want. want) asked cause told
   says_end (refusal.Files file.Memory) cause told = says_want told
   says_end (refusal.Run e) cause told = says_run e cause told
+  says_end e cause told = statuses.refused request e status (λ want. want) asked cause told
 
 -- a status is none of a line that is answered
 abbrev IsRefused : ℕ → Type 0
 IsRefused status = (status ≡ 0 → ⊥) × (status ≡ 11 → ⊥)
 
+-- and none that comes before any call of the directory
+abbrev IsLate : ℕ → Type 0
+IsLate status = IsRefused status × (status ≡ 3 → ⊥) × (status ≡ 4 → ⊥)
+
 told_refused : (status n : ℕ) → IsRefused n → status ≡ n → IsRefused status
 told_refused status n h e = subst IsRefused (sym e) h
+
+told_late : (status n : ℕ) → IsLate n → status ≡ n → IsLate status
+told_late status n h e = subst IsLate (sym e) h
 
 three : IsRefused 3
 three = ((λ e. cc), (λ e. cc))
@@ -72,61 +76,80 @@ three = ((λ e. cc), (λ e. cc))
 four : IsRefused 4
 four = ((λ e. cc), (λ e. cc))
 
-five : IsRefused 5
-five = ((λ e. cc), (λ e. cc))
+five : IsLate 5
+five = (((λ e. cc), (λ e. cc)), (λ e. cc), (λ e. cc))
 
-ten : IsRefused 10
-ten = ((λ e. cc), (λ e. cc))
+ten : IsLate 10
+ten = (((λ e. cc), (λ e. cc)), (λ e. cc), (λ e. cc))
 
-twelve : IsRefused 12
-twelve = ((λ e. cc), (λ e. cc))
+twelve : IsLate 12
+twelve = (((λ e. cc), (λ e. cc)), (λ e. cc), (λ e. cc))
 
-thirteen : IsRefused 13
-thirteen = ((λ e. cc), (λ e. cc))
+thirteen : IsLate 13
+thirteen = (((λ e. cc), (λ e. cc)), (λ e. cc), (λ e. cc))
 
-error_refused : (e : Error) → IsRefused (error_status e)
-error_refused (error.ParseError msg span) = ((λ e. cc), (λ e. cc))
-error_refused (error.TypeError row msg span) = ((λ e. cc), (λ e. cc))
-error_refused (error.UnreachableError msg span) = ((λ e. cc), (λ e. cc))
-error_refused (error.OverlapError msg rules) = ((λ e. cc), (λ e. cc))
-error_refused (error.ShadowedError shadowed mask) = ((λ e. cc), (λ e. cc))
-error_refused (error.RecursionError msg span) = ((λ e. cc), (λ e. cc))
+error_late : (e : Error) → IsLate (error_status e)
+error_late (error.ParseError msg span) = (((λ e. cc), (λ e. cc)), (λ e. cc), (λ e. cc))
+error_late (error.TypeError row msg span) = (((λ e. cc), (λ e. cc)), (λ e. cc), (λ e. cc))
+error_late (error.UnreachableError msg span) = (((λ e. cc), (λ e. cc)), (λ e. cc), (λ e. cc))
+error_late (error.OverlapError msg rules) = (((λ e. cc), (λ e. cc)), (λ e. cc), (λ e. cc))
+error_late (error.ShadowedError shadowed mask) = (((λ e. cc), (λ e. cc)), (λ e. cc), (λ e. cc))
+error_late (error.RecursionError msg span) = (((λ e. cc), (λ e. cc)), (λ e. cc), (λ e. cc))
 
-errors_refused : (es : List Error) (status : ℕ) → errors_status es ≡ Some status → IsRefused status
-errors_refused [] status h = absurd (let bad : None ≡ Some status = h in cc)
-errors_refused (e ∷ es) status h = told_refused status (error_status e) (error_refused e) (sym (same_Some (error_status e) status h))
+errors_late : (es : List Error) (status : ℕ) → errors_status es ≡ Some status → IsLate status
+errors_late [] status h = absurd (let bad : None ≡ Some status = h in cc)
+errors_late (e ∷ es) status h = told_late status (error_status e) (error_late e) (sym (same_Some (error_status e) status h))
 
-run_refused : (job : Job) (wrote : List ℕ → Type 0) (status : ℕ) (e : RunFail) → TellsRun job wrote status e → IsRefused status
-run_refused job wrote status run.NoTerm h = told_refused status 13 thirteen h.0
-run_refused job wrote status run.ArgCount h = told_refused status 13 thirteen h.0
-run_refused job wrote status (run.ArgType i) h = told_refused status 13 thirteen h.0
-run_refused job wrote status (run.BadAnswers at) h = told_refused status 13 thirteen h.0
-run_refused job wrote status run.Memory h = told_refused status 12 twelve h.0
+run_late : (job : Job) (wrote : List ℕ → Type 0) (status : ℕ) (e : RunFail) → TellsRun job wrote status e → IsLate status
+run_late job wrote status run.NoTerm h = told_late status 13 thirteen h.0
+run_late job wrote status run.ArgCount h = told_late status 13 thirteen h.0
+run_late job wrote status (run.ArgType i) h = told_late status 13 thirteen h.0
+run_late job wrote status (run.BadAnswers at) h = told_late status 13 thirteen h.0
+run_late job wrote status run.Memory h = told_late status 12 twelve h.0
 
-named_refused : (wrote : List ℕ → Type 0) (status : ℕ) (why : IoCause) (name : Option (List ℕ)) → IsSomeAnd name (λ n. Tells wrote status 5 (unread_line n why)) → IsRefused status
-named_refused wrote status why None h = absurd h
-named_refused wrote status why (Some name) h = told_refused status 5 five h.0
+named_late : (wrote : List ℕ → Type 0) (status : ℕ) (why : IoCause) (name : Option (List ℕ)) → IsSomeAnd name (λ n. Tells wrote status 5 (unread_line n why)) → IsLate status
+named_late wrote status why None h = absurd h
+named_late wrote status why (Some name) h = told_late status 5 five h.0
+
+-- an early refusal ends with a status of no line that is answered; every other one with a late status
+end_by : (job : Job) (wrote : List ℕ → Type 0) (status : ℕ) (e : Refusal) → Ends job wrote status e → (IsEarly e × IsRefused status) ⊎ IsLate status
+end_by job wrote status refusal.NoUnit h = inl (tt, told_refused status 3 three h.0)
+end_by job wrote status (refusal.Tables found) h = inl (tt, told_refused status 4 four h.0)
+end_by job wrote status (refusal.Files (file.Io index why)) h = inr (named_late wrote status why (slice_get job.inputs index) h)
+end_by job wrote status (refusal.Files (file.Errors e)) (inl h) = inr (errors_late e.errors status h.0)
+end_by job wrote status (refusal.Files (file.Errors e)) (inr h) = inr (told_late status 12 twelve h.0)
+end_by job wrote status (refusal.Files (file.Name e)) h = inr (told_late status 10 ten h.0)
+end_by job wrote status (refusal.Files file.Memory) h = inr (told_late status 12 twelve h.0)
+end_by job wrote status (refusal.Run e) h = inr (run_late job wrote status e h)
 
 -- a line that is not answered ends with another status than one that is
 pub end_refused : (job : Job) (wrote : List ℕ → Type 0) (status : ℕ) (e : Refusal) → Ends job wrote status e → IsRefused status
-end_refused job wrote status refusal.NoUnit h = told_refused status 3 three h.0
-end_refused job wrote status (refusal.Tables found) h = told_refused status 4 four h.0
-end_refused job wrote status (refusal.Files (file.Io index why)) h = named_refused wrote status why (slice_get job.inputs index) h
-end_refused job wrote status (refusal.Files (file.Errors e)) (inl h) = errors_refused e.errors status h.0
-end_refused job wrote status (refusal.Files (file.Errors e)) (inr h) = told_refused status 12 twelve h.0
-end_refused job wrote status (refusal.Files (file.Name e)) h = told_refused status 10 ten h.0
-end_refused job wrote status (refusal.Files file.Memory) h = told_refused status 12 twelve h.0
-end_refused job wrote status (refusal.Run e) h = run_refused job wrote status e h
+end_refused job wrote status e h = by (end_by job wrote status e h)
+  where
+    by : (IsEarly e × IsRefused status) ⊎ IsLate status → IsRefused status
+    by (inl k) = k.1
+    by (inr k) = k.0
+
+-- statuses 3 and 4 are those of early refusals
+pub end_unlisted : (job : Job) (wrote : List ℕ → Type 0) (status : ℕ) (e : Refusal) → Ends job wrote status e → status ≡ 3 → IsEarly e
+end_unlisted job wrote status e h is = by (end_by job wrote status e h)
+  where
+    by : (IsEarly e × IsRefused status) ⊎ IsLate status → IsEarly e
+    by (inl k) = k.0
+    by (inr k) = absurd (k.1 is)
+
+pub end_unsupported : (job : Job) (wrote : List ℕ → Type 0) (status : ℕ) (e : Refusal) → Ends job wrote status e → status ≡ 4 → IsEarly e
+end_unsupported job wrote status e h is = by (end_by job wrote status e h)
+  where
+    by : (IsEarly e × IsRefused status) ⊎ IsLate status → IsEarly e
+    by (inl k) = k.0
+    by (inr k) = absurd (k.2 is)
 
 -- want of memory ends with its status
 pub end_want : (job : Job) (wrote : List ℕ → Type 0) (status : ℕ) (e : Refusal) → IsWant e → Ends job wrote status e → status ≡ 12
-end_want job wrote status refusal.NoUnit want h = absurd want
-end_want job wrote status (refusal.Tables found) want h = absurd want
-end_want job wrote status (refusal.Files (file.Io index why)) want h = absurd want
-end_want job wrote status (refusal.Files (file.Errors e)) want h = absurd want
-end_want job wrote status (refusal.Files (file.Name e)) want h = absurd want
 end_want job wrote status (refusal.Files file.Memory) want h = h.0
 end_want job wrote status (refusal.Run e) want h = (subst (TellsRun job wrote status) want h).0
+end_want job wrote status e want h = absurd want
 
 -- a word with which no line goes on
 pub bad_word : (words : List (List ℕ)) (i : ℕ) (wrote : List ℕ → Type 0) → IsBad words i → ((word : List ℕ) → slice_get words i ≡ Some word → wrote (bad_line words i word)) → IsNoLine words wrote

@@ -10,17 +10,14 @@ use Rattle.isle_core.specs.declared.read_error.ReadError.{ReadError}
 use Rattle.isle_core.specs.declared.read_error.ReadError.TheVariants as read
 use Rattle.isle_core.proofs.InputLaws.{tries_more}
 use Rattle.isle_codegen.specs.Causes.{AllTried}
-use Rattle.isle_command_line.specs.Request.{Running}
-use Rattle.isle_meta.specs.declared.tables.Tables.{Tables}
-use Rattle.isle_run.specs.NoLines.{HasNoLines}
-use Rattle.isle_run.specs.declared.trials.TrialFail.{TrialFail}
 use Rattle.isle_top.specs.declared.refusal.Refusal.{Refusal}
 use Rattle.isle_top.specs.Inputs.{FailsTo, FailsToHave}
 use Rattle.isle_top.specs.Inputs as had
 use Rattle.isle_top.specs.Job.{Around, surroundings}
-use Rattle.isle_top.specs.RunLine.{answers_names, FailsToRun, IsAnswersText, of_read, of_trial, early, unread, no_lines, memory}
-use Rattle.isle_top.specs.Sourcing.{Sourcing, sourcing_of}
-use Rattle.isle_top.proofs.SourceLaws.{source_read, source_ready}
+use Rattle.isle_top.specs.RunLine.{answers_names, FailsToRun, IsAnswersText, of_read, early, unread, unshown, memory}
+use Rattle.isle_top.specs.Showing.{Showing}
+use Rattle.isle_top.specs.Sourcing.{Sourcing}
+use Rattle.isle_top.proofs.SourceLaws.{IsSteady}
 
 -- ---- names with others after them
 
@@ -61,49 +58,45 @@ front_at (Some fs) xs ys k why lt h = record {
 }
 
 -- the files of a source weren't had
-pub fails_source : (from : Sourcing) (r : Running) (around : Around) (e : Refusal) → FailsToHave from around e → FailsToRun from r around e
-fails_source from r around _ (had.early e h) = early e h
-fails_source from r around _ (had.unread index why ready h) =
-    unread index why ready (longer from.inputs (answers_names r.answers) index h.0, h.1, h.2, front_at around.files from.inputs (answers_names r.answers) index why h.0 h.3)
-fails_source from r around _ (had.memory h) = memory h
+pub fails_source : (from : Sourcing) (shown : Showing) (around : Around) (e : Refusal) → FailsToHave from around e → FailsToRun from shown around e
+fails_source from shown around _ (had.early e h) = early e h
+fails_source from shown around _ (had.unread index why ready h) =
+    unread index why ready (longer from.inputs (answers_names shown.answers) index h.0, h.1, h.2, front_at around.files from.inputs (answers_names shown.answers) index why h.0 h.3)
+fails_source from shown around _ (had.memory h) = memory h
 
 -- ---- the file of answers
 
-behind_at : (t : Tables) (r : Running) (files : Option Contents) (src : FileTexts) (name : List ℕ) (why : IoCause) → (sourcing_of t r.options r.source).is_source files src
-    → IfSome files (λ fs. IsCause why (bytes_of fs name))
-    → IfSome files (λ fs. FailsAt fs ((sourcing_of t r.options r.source).inputs ++ name ∷ []) (length (sourcing_of t r.options r.source).inputs) why)
-behind_at t r None src name why found h = tt
-behind_at t r (Some fs) src name why found h =
-    let inputs : List (List ℕ) = (sourcing_of t r.options r.source).inputs in
-    let texts = source_read t r.options r.source fs src found in
+behind_at : (from : Sourcing) (steady : IsSteady from) (files : Option Contents) (src : FileTexts) (name : List ℕ) (why : IoCause) → from.is_source files src
+    → IfSome files (λ fs. IsCause why (bytes_of fs name)) → IfSome files (λ fs. FailsAt fs (from.inputs ++ name ∷ []) (length from.inputs) why)
+behind_at from steady None src name why found h = tt
+behind_at from steady (Some fs) src name why found h =
+    let texts = steady.read fs src found in
     record {
-      before = (texts.0, subst (λ ns. AreRead fs ns texts.0) (sym (take_whole inputs (name ∷ []))) texts.1);
-      here = subst (λ o. IsSomeAnd o (λ n. IsCause why (bytes_of fs n))) (sym (get_behind inputs name)) h;
+      before = (texts.0, subst (λ ns. AreRead fs ns texts.0) (sym (take_whole from.inputs (name ∷ []))) texts.1);
+      here = subst (λ o. IsSomeAnd o (λ n. IsCause why (bytes_of fs n))) (sym (get_behind from.inputs name)) h;
     }
 
-module _ (t : Tables) (r : Running) (files : Option Contents) (before mid after : Counts) (src : FileTexts) (found : (sourcing_of t r.options r.source).is_source files src)
-    (tried : AllTried (sourcing_of t r.options r.source).inputs before mid) where
+module _ (from : Sourcing) (steady : IsSteady from) (shown : Showing) (files : Option Contents) (before mid after : Counts) (src : FileTexts) (found : from.is_source files src)
+    (tried : AllTried from.inputs before mid) where
   -- the file of answers wasn't read
-  pub fails_answers : (answers : Option (List ℕ)) (index : ℕ) (e : ReadError) → answers ≡ r.answers → index ≡ length (sourcing_of t r.options r.source).inputs
-      → IsSomeAnd answers (λ name. FailsTo e index files name mid after) → FailsToRun (sourcing_of t r.options r.source) r (surroundings files before after) (of_read e)
+  pub fails_answers : (answers : Option (List ℕ)) (index : ℕ) (e : ReadError) → answers ≡ shown.answers → index ≡ length from.inputs
+      → IsSomeAnd answers (λ name. FailsTo e index files name mid after) → FailsToRun from shown (surroundings files before after) (of_read e)
   fails_answers None index e same is h = absurd h
   fails_answers (Some name) index read.Memory same is h = memory (h ∙ tried.1)
   fails_answers (Some name) index (read.Io at why) same is h =
-      let inputs : List (List ℕ) = (sourcing_of t r.options r.source).inputs in
+      let inputs : List (List ℕ) = from.inputs in
       let fails : Fails (read.Io (length inputs) why) files (inputs ++ name ∷ []) before after = (
         short_of inputs name,
         tries_more (length inputs) before.finds mid.finds after.finds tried.0 h.1,
         subst (λ n. RoseAt why n after.faults) tried.1 h.2,
-        behind_at t r files src name why found h.3,
+        behind_at from steady files src name why found h.3,
       ) in
-      subst (λ (k : ℕ). FailsToRun (sourcing_of t r.options r.source) r (surroundings files before after) (of_read (read.Io k why))) (sym (h.0 ∙ is))
-      (unread (length inputs) why (source_ready t r.options r.source files src found) (subst (λ (a : Option (List ℕ)). Fails (read.Io (length inputs) why) files (inputs ++ answers_names a) before after) same fails))
+      subst (λ (k : ℕ). FailsToRun from shown (surroundings files before after) (of_read (read.Io k why))) (sym (h.0 ∙ is))
+      (unread (length inputs) why (steady.ready files src found) (subst (λ (a : Option (List ℕ)). Fails (read.Io (length inputs) why) files (inputs ++ answers_names a) before after) same fails))
 
-  -- all were read, and there is nothing to show of them
-  pub fails_read : (answers : Option (List ℕ)) (given : List ℕ) (cause : TrialFail) (e : Refusal) → answers ≡ r.answers → e ≡ of_trial src cause → IsAnswersText files answers given
-      → AllTried ((sourcing_of t r.options r.source).inputs ++ answers_names answers) before after → HasNoLines r.options src r.term r.values given cause
-      → FailsToRun (sourcing_of t r.options r.source) r (surroundings files before after) e
-  fails_read answers given cause e same is answered all h =
-      subst (FailsToRun (sourcing_of t r.options r.source) r (surroundings files before after)) (sym is)
-      (no_lines src given cause (record { read = found; answered = subst (λ a. IsAnswersText files a given) same answered })
-      (subst (λ (a : Option (List ℕ)). AllTried ((sourcing_of t r.options r.source).inputs ++ answers_names a) before after) same all) h)
+  -- nothing is shown of what was read
+  pub fails_read : (answers : Option (List ℕ)) (given : List ℕ) (e : Refusal) → answers ≡ shown.answers → IsAnswersText files answers given
+      → AllTried (from.inputs ++ answers_names answers) before after → shown.fails src given e → FailsToRun from shown (surroundings files before after) e
+  fails_read answers given e same answered all h =
+      unshown src given e (record { read = found; answered = subst (λ a. IsAnswersText files a given) same answered })
+      (subst (λ (a : Option (List ℕ)). AllTried (from.inputs ++ answers_names a) before after) same all) h

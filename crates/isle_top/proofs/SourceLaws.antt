@@ -1,5 +1,5 @@
 -- What is so of each source, a file or the files of a unit.
-use Rattle.std.proofs.Common.{◌≡◌, ℕ, List, [], ◌∷◌, ◌++◌, true, false, Option, Some, None, sym, ap, ◌∙◌, subst}
+use Rattle.std.proofs.Common.{◌≡◌, ℕ, List, [], ◌∷◌, ◌++◌, true, false, Option, Some, None, refl, sym, ap, ◌∙◌, subst}
 use Rattle.std.specs.Prelude.{IsSome, is_some}
 use Rattle.std.specs.Option.{option_map_or}
 use Rattle.std.proofs.lemmas.Option.{same_Some}
@@ -12,13 +12,14 @@ use Rattle.isle_core.specs.declared.files.Files.{Files}
 use Rattle.isle_core.specs.declared.options.CodegenOptions.{CodegenOptions}
 use Rattle.isle_meta.specs.declared.tables.Tables.{Tables}
 use Rattle.isle_outside.specs.Directory.{Contents}
+use Rattle.isle_table_check.specs.SupportedTables.{AreSupported, IsFirstUnsupported}
 use Rattle.isle_table_check.proofs.TableLaws.{unsupported_apart}
 use Rattle.isle_units.specs.declared.compilation.IsleCompilation.{IsleCompilation}
 use Rattle.isle_top.specs.declared.refusal.Refusal.{Refusal}
-use Rattle.isle_top.specs.declared.refusal.Refusal.TheVariants as refusal
 use Rattle.isle_top.specs.Job.{Around, Job}
-use Rattle.isle_top.specs.Sourcing.{sourcing_of}
+use Rattle.isle_top.specs.Sourcing.{Sourcing, FailsEarly, no_unit, no_tables, from_names, from_unit, sourcing_of}
 use Rattle.isle_top.specs.Statuses.{IsOfJob}
+use Rattle.isle_top.specs.Tabling.{OfTables, handed, not_had, had, unsupported}
 use Rattle.isle_top.proofs.ReadLaws.{read_once, source_once}
 
 -- ---- units
@@ -48,37 +49,62 @@ pub none_listed : (o : Option IsleCompilation) → IsSome o → o ≡ None → �
 none_listed None s e = absurd (let bad : false ≡ true = s in cc)
 none_listed (Some u) s e = absurd (let bad : Some u ≡ None = e in cc)
 
+-- ---- tables that are handed in
+
+-- what is so of them is so of these
+pub of_handed : (t : Tables) (files : Option Contents) (P : Tables → Type 0) → OfTables (handed t) files P → P t
+of_handed t files P h = subst P h.1 h.2
+
 -- ---- sources
 
--- over the same files a source is one
-pub one_source : (t : Tables) (options : CodegenOptions) (s : Source) (fs : Contents) (a b : Files) → (sourcing_of t options s).is_source (Some fs) a → (sourcing_of t options s).is_source (Some fs) b → a ≡ b
-one_source t options (source.File name) fs a b h k = source_once options fs (name ∷ []) a b h k
-one_source t options (source.Unit name) fs a b h k = units_once t options name fs a b h k
+-- what is so of a source: over the same files it is one; it can be had where it is, and its files were read; and then it doesn't fail before one of its
+-- own is read; and what is told of such a failure is there
+pub record IsSteady (from : Sourcing) : Type 1 where
+  pub once : (fs : Contents) (a b : Files) → from.is_source (Some fs) a → from.is_source (Some fs) b → a ≡ b
+  pub ready : (files : Option Contents) (a : Files) → from.is_source files a → from.ready files
+  pub read : (fs : Contents) (a : Files) → from.is_source (Some fs) a → (texts : List (List ℕ)) × AreRead fs from.inputs texts
+  pub never : (e : Refusal) (around : Around) → from.ready around.files → from.early e around → ⊥
+  pub told : (job : Job) (e : Refusal) (around : Around) → from.early e around → IsOfJob job e
 
--- what is a source can be had
-pub source_ready : (t : Tables) (options : CodegenOptions) (s : Source) (files : Option Contents) (a : Files) → (sourcing_of t options s).is_source files a → (sourcing_of t options s).ready
-source_ready t options (source.File name) files a h = tt
-source_ready t options (source.Unit name) files a h = (ap is_some h.listed, h.is_source.supported)
+-- so of files that are named
+pub names_steady : (options : CodegenOptions) (names : List (List ℕ)) → IsSteady (from_names options names)
+names_steady options names = record {
+  once = λ fs a b h k. source_once options fs names a b h k;
+  ready = λ files a h. tt;
+  read = λ fs a h. (a.file_texts, h.read);
+  never = λ e around r h. h;
+  told = λ job e around h. absurd h;
+}
 
--- its files were read
-pub source_read : (t : Tables) (options : CodegenOptions) (s : Source) (fs : Contents) (a : Files) → (sourcing_of t options s).is_source (Some fs) a
-    → (texts : List (List ℕ)) × AreRead fs (sourcing_of t options s).inputs texts
-source_read t options (source.File name) fs a h = (a.file_texts, h.read)
-source_read t options (source.Unit name) fs a h =
-    of_tracked name h.unit (λ (names : List (List ℕ)). (texts : List (List ℕ)) × AreRead fs names texts) h.listed (h.is_source.texts.read, h.is_source.texts.found)
+module _ (t : Tables) (options : CodegenOptions) (unit : List ℕ) where
+  -- one that can be had doesn't fail early
+  unit_never : (e : Refusal) (around : Around) → (from_unit (handed t) options unit).ready around.files → FailsEarly (handed t) unit around e → ⊥
+  unit_never _ around r (no_unit is) = none_listed (unit_named unit) r.0 is
+  unit_never _ around r (no_tables e some (not_had _ h)) = h
+  unit_never _ around r (no_tables e some (had u _ are tried (unsupported found first))) =
+      unsupported_apart t found (subst (λ (v : Tables). IsFirstUnsupported v (Some found)) are first) (of_handed t around.files AreSupported r.1)
 
--- what can be had doesn't fail before a file is read
-pub never_early : (t : Tables) (options : CodegenOptions) (s : Source) (e : Refusal) (around : Around) → (sourcing_of t options s).ready → (sourcing_of t options s).early e around → ⊥
-never_early t options (source.File name) e around r h = h
-never_early t options (source.Unit name) refusal.NoUnit around r h = none_listed (unit_named name) r.0 h.0
-never_early t options (source.Unit name) (refusal.Tables found) around r h = unsupported_apart t found h.1 r.1
-never_early t options (source.Unit name) (refusal.Files e) around r h = h
-never_early t options (source.Unit name) (refusal.Run e) around r h = h
+  unit_told : (job : Job) (e : Refusal) (around : Around) → FailsEarly (handed t) unit around e → IsOfJob job e
+  unit_told job _ around (no_unit is) = tt
+  unit_told job _ around (no_tables e some (not_had _ h)) = absurd h
+  unit_told job _ around (no_tables e some (had u _ are tried (unsupported found first))) = tt
 
--- what is told of such a failure is there
-pub early_told : (t : Tables) (options : CodegenOptions) (s : Source) (job : Job) (e : Refusal) (around : Around) → (sourcing_of t options s).early e around → IsOfJob job e
-early_told t options (source.File name) job e around h = absurd h
-early_told t options (source.Unit name) job refusal.NoUnit around h = tt
-early_told t options (source.Unit name) job (refusal.Tables found) around h = tt
-early_told t options (source.Unit name) job (refusal.Files e) around h = absurd h
-early_told t options (source.Unit name) job (refusal.Run e) around h = absurd h
+  -- the source of a unit over tables that are handed in
+  unit_of : (files : Option Contents) (a : Files) → (from_unit (handed t) options unit).is_source files a → IsSourceOfUnit t options unit files a
+  unit_of files a h = of_handed t files (λ u. IsSourceOfUnit u options unit files a) h
+
+  -- so of the files of a unit
+  pub unit_steady : IsSteady (from_unit (handed t) options unit)
+  unit_steady = record {
+    once = λ fs a b h k. units_once t options unit fs a b (unit_of (Some fs) a h) (unit_of (Some fs) b k);
+    ready = λ files a h. let s = unit_of files a h in (ap is_some s.listed, (t, refl, s.is_source.supported));
+    read = λ fs a h. let s = unit_of (Some fs) a h in
+      of_tracked unit s.unit (λ (names : List (List ℕ)). (texts : List (List ℕ)) × AreRead fs names texts) s.listed (s.is_source.texts.read, s.is_source.texts.found);
+    never = unit_never;
+    told = unit_told;
+  }
+
+-- so of what a word names
+pub source_steady : (t : Tables) (options : CodegenOptions) (s : Source) → IsSteady (sourcing_of (handed t) options s)
+source_steady t options (source.File name) = names_steady options (name ∷ [])
+source_steady t options (source.Unit unit) = unit_steady t options unit

@@ -23,8 +23,8 @@ abbrev pub LooksUp : Option (List ℕ) → (before after : Counts) → Type 0
 LooksUp None before after = after.finds ≡ before.finds
 LooksUp (Some name) before after = after.finds ≡ raised 1 before.finds
 
--- why the files of a source aren't had: it can't be had, whatever they hold; or one isn't read, the first that is not; or memory ran out
+-- why the files of a source aren't had: it fails before one of its own is read; or one isn't read, the first that is not; or memory ran out
 pub data FailsToHave (from : Sourcing) (around : Around) : Refusal → Type 0 where
   early : (e : Refusal) → from.early e around → FailsToHave from around e
-  unread : (index : ℕ) (why : IoCause) → from.ready → Fails (error.Io index why) around.files from.inputs around.before around.after → FailsToHave from around (refusal.Files (file.Io index why))
+  unread : (index : ℕ) (why : IoCause) → from.ready around.files → Fails (error.Io index why) around.files from.inputs around.before around.after → FailsToHave from around (refusal.Files (file.Io index why))
   memory : around.after.faults ≡ around.before.faults → FailsToHave from around (refusal.Files file.Memory)

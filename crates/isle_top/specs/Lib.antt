@@ -1,12 +1,12 @@
 pub mod About
 pub mod Job
+pub mod Tabling
 pub mod Sourcing
 pub mod Wants
-pub mod Texts
+pub mod PlainLine
 pub mod CompileLine
 pub mod Built
-pub mod BuildLine
-pub mod IsaLine
+pub mod Showing
 pub mod RunLine
 pub mod SampleLine
 pub mod PreludeLine

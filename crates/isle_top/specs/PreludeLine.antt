@@ -1,8 +1,9 @@
 -- A line that writes a prelude.
-use Rattle.std.specs.Prelude.{◌≡◌, List, ℕ, [], Some, false}
+use Rattle.std.specs.Prelude.{◌≡◌, List, ℕ, [], length, nat_le, Some}
 use Rattle.isle_assembler.specs.AssemblerDefs.{assembler_defs}
 use Rattle.isle_assembler.specs.Methods.{assembler_methods}
 use Rattle.isle_ast.specs.Tree.{Def}
+use Rattle.isle_codegen.specs.declared.file_error.FileError.TheVariants as file
 use Rattle.isle_command_line.specs.declared.commands.Kind.{Kind}
 use Rattle.isle_command_line.specs.declared.commands.Kind.TheVariants as kind
 use Rattle.isle_meta.specs.declared.tables.Tables.{Tables}
@@ -17,18 +18,14 @@ use Rattle.isle_writing.specs.Spelt.{SpellsOnly}
 use Rattle.isle_top.specs.declared.refusal.Refusal.{Refusal}
 use Rattle.isle_top.specs.declared.refusal.Refusal.TheVariants as refusal
 use Rattle.isle_top.specs.Job.{Job}
+use Rattle.isle_top.specs.Tabling.{FailsOver, OfTables, Tabling}
 use Rattle.isle_top.specs.Wants.{IsWant}
 
 -- the prelude of this kind can be written: each row is supported, if it is made of rows
-abbrev pub MayBeWritten : Tables → Kind → Type 0
-MayBeWritten t kind.Numerics = Unit {0}
-MayBeWritten t kind.NumericsRust = Unit {0}
-MayBeWritten t kind.ClifOpt = AreSupported t
-MayBeWritten t kind.ClifLower = AreSupported t
-MayBeWritten t kind.Assembler = AreSupported t
-MayBeWritten t kind.AssemblerRust = AreSupported t
-MayBeWritten t kind.Pulley = AreSupported t
-MayBeWritten t kind.PulleyRust = AreSupported t
+abbrev pub MayBeWritten : Kind → Tables → Type 0
+MayBeWritten kind.Numerics t = Unit {0}
+MayBeWritten kind.NumericsRust t = Unit {0}
+MayBeWritten k t = AreSupported t
 
 -- each row is supported, and the text spells these definitions and no others
 abbrev pub AreRulesOf : Tables → List Def → (text : List ℕ) → Type 0
@@ -51,30 +48,24 @@ IsPrelude t kind.PulleyRust text = IsRustOf t (pulley_rust t.ops t.extended_ops)
 
 -- why a text that is made of rows isn't: one isn't supported, and it is the first, with its first shape; or memory ran out
 abbrev pub FailsByRows : Tables → Refusal → Type 0
-FailsByRows t refusal.NoUnit = ⊥
 FailsByRows t (refusal.Tables found) = IsFirstUnsupported t (Some found)
-FailsByRows t (refusal.Files e) = IsWant (refusal.Files e)
-FailsByRows t (refusal.Run e) = ⊥
+FailsByRows t (refusal.Files e) = e ≡ file.Memory
+FailsByRows t e = ⊥
 
 -- why the prelude isn't written: as one that is made of rows, or memory ran out
-abbrev pub FailsToWrite : Tables → Kind → Refusal → Type 0
-FailsToWrite t kind.Numerics e = IsWant e
-FailsToWrite t kind.NumericsRust e = IsWant e
-FailsToWrite t kind.ClifOpt e = FailsByRows t e
-FailsToWrite t kind.ClifLower e = FailsByRows t e
-FailsToWrite t kind.Assembler e = FailsByRows t e
-FailsToWrite t kind.AssemblerRust e = FailsByRows t e
-FailsToWrite t kind.Pulley e = FailsByRows t e
-FailsToWrite t kind.PulleyRust e = FailsByRows t e
+abbrev pub FailsToWrite : Kind → Tables → Refusal → Type 0
+FailsToWrite kind.Numerics t = IsWant
+FailsToWrite kind.NumericsRust t = IsWant
+FailsToWrite k t = FailsByRows t
 
--- the prelude of this kind is written over these tables, and the directory isn't asked for anything
-abbrev pub prelude_job : Tables → Kind → Job
-prelude_job t k = record {
-  reads = false;
-  inputs = [];
+-- the prelude of this kind is written over tables, and no other files are read than theirs
+abbrev pub prelude_job : Tabling → Kind → Job
+prelude_job over k = record {
+  reads = nat_le 1 (length over.inputs);
+  inputs = over.inputs;
   asked = [];
   unit = [];
-  valid = λ files. MayBeWritten t k;
-  gives = λ files text. IsPrelude t k text;
-  fails = λ e around. FailsToWrite t k e;
+  valid = λ files. OfTables over files (MayBeWritten k);
+  gives = λ files text. OfTables over files (λ t. IsPrelude t k text);
+  fails = λ e around. FailsOver over (FailsToWrite k) around e;
 }

@@ -1,19 +1,15 @@
 -- A line that tells what a sample becomes, in numbers.
-use Rattle.std.specs.Prelude.{◌≡◌, ℕ, List, [], ◌∷◌, ◌++◌, length, false, codes}
+use Rattle.std.specs.Prelude.{◌≡◌, ℕ, List, [], ◌∷◌, ◌++◌, length, codes}
 use Rattle.isle_printer.specs.Number.{numeral}
 use Rattle.isle_core.specs.declared.files.Files.{Files as FileTexts}
 use Rattle.isle_core.specs.Rule.{Environment}
 use Rattle.isle_tree.specs.Program.{Program}
 use Rattle.isle_target.specs.TreeCounts.{counts_of}
 use Rattle.isle_target.specs.declared.counting.TreeCounts.{TreeCounts}
-use Rattle.isle_codegen.specs.Causes.{IsRefusal}
 use Rattle.isle_codegen.specs.Checked.{IsChecked}
 use Rattle.isle_command_line.specs.Lines.{no_options}
 use Rattle.isle_run.specs.Conforming.{Conforms}
 use Rattle.isle_sample.specs.Sample.{sample}
-use Rattle.isle_top.specs.declared.refusal.Refusal.{Refusal}
-use Rattle.isle_top.specs.declared.refusal.Refusal.TheVariants as refusal
-use Rattle.isle_top.specs.Job.{Job}
 
 -- the sample of so many terms as a source: one file, named sample
 abbrev pub sample_source : ℕ → FileTexts
@@ -34,22 +30,3 @@ pub record AreCounts (source : FileTexts) (lines : List ℕ) : Type 0 where
   pub program : Program
   pub conforms : Conforms no_options source env program
   pub shown : lines ≡ counts_text (counts_of program) (length env.rules)
-
--- why there are none: the sample gives no program
-abbrev pub FailsToCount : ℕ → Refusal → Type 0
-FailsToCount n refusal.NoUnit = ⊥
-FailsToCount n (refusal.Tables found) = ⊥
-FailsToCount n (refusal.Files e) = IsRefusal e (codes "sample" ∷ []) (sample n ∷ [])
-FailsToCount n (refusal.Run e) = ⊥
-
--- the sample of so many terms is compiled, and its counts are reported; this is always valid, since each sample is accepted
-abbrev pub sample_job : ℕ → Job
-sample_job n = record {
-  reads = false;
-  inputs = [];
-  asked = [];
-  unit = [];
-  valid = λ files. Unit {0};
-  gives = λ files lines. AreCounts (sample_source n) lines;
-  fails = λ e around. FailsToCount n e;
-}

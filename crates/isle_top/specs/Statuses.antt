@@ -19,13 +19,9 @@ use Rattle.isle_top.specs.Lines.{bad_line, missing_word_line, no_unit_line, unre
 
 -- an input that is not read is one of the line, and errors are some and stand in the files that are reported with them
 abbrev pub IsOfJob : Job → Refusal → Type 0
-IsOfJob job refusal.NoUnit = Unit {0}
-IsOfJob job (refusal.Tables found) = Unit {0}
 IsOfJob job (refusal.Files (file.Io index why)) = index < length job.inputs
 IsOfJob job (refusal.Files (file.Errors e)) = HavePlaces e × (e.errors ≡ [] → ⊥)
-IsOfJob job (refusal.Files (file.Name e)) = Unit {0}
-IsOfJob job (refusal.Files file.Memory) = Unit {0}
-IsOfJob job (refusal.Run e) = Unit {0}
+IsOfJob job e = Unit {0}
 
 -- this status was given, and this line written
 abbrev pub Tells : (wrote : List ℕ → Type 0) → (status : ℕ) → ℕ → List ℕ → Type 0
@@ -55,13 +51,8 @@ TellsRefusal job wrote status (refusal.Run e) = TellsRun job wrote status e
 
 -- how a line ends that is not answered: as is told of it; or, of errors whose lines memory doesn't hold, as for want of memory
 abbrev pub Ends : Job → (wrote : List ℕ → Type 0) → (status : ℕ) → Refusal → Type 0
-Ends job wrote status refusal.NoUnit = TellsRefusal job wrote status refusal.NoUnit
-Ends job wrote status (refusal.Tables found) = TellsRefusal job wrote status (refusal.Tables found)
-Ends job wrote status (refusal.Files (file.Io index why)) = TellsRefusal job wrote status (refusal.Files (file.Io index why))
-Ends job wrote status (refusal.Files (file.Errors e)) = TellsRefusal job wrote status (refusal.Files (file.Errors e)) ⊎ Tells wrote status 12 memory_line
-Ends job wrote status (refusal.Files (file.Name e)) = TellsRefusal job wrote status (refusal.Files (file.Name e))
-Ends job wrote status (refusal.Files file.Memory) = TellsRefusal job wrote status (refusal.Files file.Memory)
-Ends job wrote status (refusal.Run e) = TellsRefusal job wrote status (refusal.Run e)
+Ends job wrote status (refusal.Files (file.Errors e)) = TellsErrors wrote status e ⊎ Tells wrote status 12 memory_line
+Ends job wrote status e = TellsRefusal job wrote status e
 
 -- the first word with which no line continues was written, or that one is missing
 pub data IsNoLine (words : List (List ℕ)) (wrote : List ℕ → Type 0) : Type 0 where

@@ -5,9 +5,12 @@ ghost use Rattle.std.specs.String.{string_bytes};
 ghost use Rattle.isle_build.specs.Built.{IsBuilt};
 ghost use Rattle.isle_build.specs.UnitSource.{tracked_of};
 ghost use Rattle.isle_codegen.specs.Causes.{AllTried};
-ghost use Rattle.isle_top.specs.BuildLine.{FailsToGive};
 ghost use Rattle.isle_top.specs.Built.{of_build};
+ghost use Rattle.isle_top.specs.CompileLine.{FailsToCompile};
 ghost use Rattle.isle_top.specs.Job.{surroundings};
+ghost use Rattle.isle_top.specs.Sourcing.{from_unit};
+ghost use Rattle.isle_top.specs.Tabling.{handed};
+ghost use Rattle.isle_top.specs.Wants.{IsEarly};
 
 use crate::asked::Over;
 use crate::refusal::Refusal;
@@ -30,7 +33,7 @@ pub fn of_build(fail: BuildError) -> Refusal
     }
 }
 
-/// Builds the unit of this name over the tables, and returns the text of its program (`specs/BuildLine.antt`).
+/// Builds the unit of this name over the tables, and returns the text of its program (`specs/CompileLine.antt`).
 pub fn built<D: Dir>(
     alloc: Global,
     over: &Over<'_>,
@@ -43,8 +46,9 @@ pub fn built<D: Dir>(
         AllTried (tracked_of unit.now) (D.counts dir.old) (D.counts dir.new)) }
     ensures err { let around = surroundings (D.files dir.old) (D.counts dir.old) (D.counts dir.new)
         in
-        IfErr result (λ e.
-        FailsToGive over.now.tables.now over.now.options.now unit.now e around) }
+        let from = from_unit (handed over.now.tables.now) over.now.options.now unit.now in
+        IfErr result (FailsToCompile from around) }
+    ensures unasked { IfErr result (λ e. IsEarly e → dir.new ≡ dir.old) }
     ensures files { D.files dir.new ≡ D.files dir.old }
     ensures later { (D.counts dir.old).faults ≤ (D.counts dir.new).faults }
     ensures stays { (D.counts dir.old).faults ≡ 2 ^ 64 - 1

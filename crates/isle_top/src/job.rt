@@ -6,6 +6,7 @@ ghost use Rattle.isle_command_line.specs.Views.{seen_command};
 ghost use Rattle.isle_core.specs.declared.options.CodegenOptions.{CodegenOptions};
 ghost use Rattle.isle_top.specs.Jobs.{job_of, job_of_run};
 ghost use Rattle.isle_top.specs.Sourcing.{sourcing_of};
+ghost use Rattle.isle_top.specs.Tabling.{handed};
 
 use crate::source::source_input;
 use isle_command_line::{Command, RunLine, Source};
@@ -69,7 +70,7 @@ pub fn asked_name(request: &Command) -> &str
 // The unit that a source names, if it is one.
 fn unit_of(source: &Source) -> &str
     ensures { (tables : Tables) (options : CodegenOptions)
-        → result.now ≡ (sourcing_of tables options source.now).unit }
+        → result.now ≡ (sourcing_of (handed tables) options source.now).unit }
 {
     match source {
         Source::File(_) => "",

@@ -97,7 +97,7 @@ fn pulley_rust(alloc: Global, tables: &Tables) -> Result<String, Refusal>
 /// want of memory and, of a kind that is made of rows, the first row of the tables that isn't supported.
 pub fn preluded(alloc: Global, tables: &Tables, kind: Kind) -> Result<String, Refusal>
     ensures ok { IfOk result (λ text. IsPrelude tables.now kind (string_bytes text)) }
-    ensures err { IfErr result (FailsToWrite tables.now kind) }
+    ensures err { IfErr result (FailsToWrite kind tables.now) }
 {
     match kind {
         Kind::Numerics => Ok(numerics_isle(alloc)?),

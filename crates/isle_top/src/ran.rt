@@ -6,10 +6,13 @@ ghost use Rattle.std.specs.String.{string_bytes};
 ghost use Rattle.isle_codegen.specs.Causes.{AllTried};
 ghost use Rattle.isle_command_line.specs.Views.{seen_run};
 ghost use Rattle.isle_run.specs.NoLines.{HasNoLines};
-ghost use Rattle.isle_top.specs.RunLine.{of_trial, run_inputs, FailsToRun, GivesLines, Shows};
-ghost use Rattle.isle_top.specs.Sourcing.{sourcing_of};
-ghost use Rattle.isle_values.specs.Views.{seen};
 ghost use Rattle.isle_top.specs.Job.{surroundings};
+ghost use Rattle.isle_top.specs.RunLine.{run_inputs, FailsToRun, GivesLines};
+ghost use Rattle.isle_top.specs.Showing.{of_trial, running, Shows};
+ghost use Rattle.isle_top.specs.Sourcing.{sourcing_of};
+ghost use Rattle.isle_top.specs.Tabling.{handed};
+ghost use Rattle.isle_top.specs.Wants.{IsEarly};
+ghost use Rattle.isle_values.specs.Views.{seen};
 
 use crate::answers::answers_text;
 use crate::asked::Over;
@@ -71,22 +74,23 @@ pub fn ran<D: Dir>(
     run: &RunLine,
     dir: &mut D,
 ) -> Result<String, Refusal>
-    ensures ok { let from = sourcing_of tables.now run.now.options run.now.source in
+    ensures ok { let from = sourcing_of (handed tables.now) run.now.options run.now.source in
         IfOk result (λ text.
-        GivesLines from (seen_run run.now) (D.files dir.old) (string_bytes text)) }
-    ensures tried { let from = sourcing_of tables.now run.now.options run.now.source in
-        let names = run_inputs from (seen_run run.now) in
+        GivesLines from (running (seen_run run.now)) (D.files dir.old) (string_bytes text)) }
+    ensures tried { let from = sourcing_of (handed tables.now) run.now.options run.now.source in
+        let names = run_inputs from run.now.answers in
         IfOk result (λ text. AllTried names (D.counts dir.old) (D.counts dir.new)) }
     ensures err { let around = surroundings (D.files dir.old) (D.counts dir.old) (D.counts dir.new)
         in
-        let from = sourcing_of tables.now run.now.options run.now.source in
-        IfErr result (FailsToRun from (seen_run run.now) around) }
+        let from = sourcing_of (handed tables.now) run.now.options run.now.source in
+        IfErr result (FailsToRun from (running (seen_run run.now)) around) }
+    ensures unasked { IfErr result (λ e. IsEarly e → dir.new ≡ dir.old) }
     ensures files { D.files dir.new ≡ D.files dir.old }
     ensures later { (D.counts dir.old).faults ≤ (D.counts dir.new).faults }
     ensures stays { (D.counts dir.old).faults ≡ 2 ^ 64 - 1
         → (D.counts dir.new).faults ≡ 2 ^ 64 - 1 }
-    ensures given { let from = sourcing_of tables.now run.now.options run.now.source in
-        let names = run_inputs from (seen_run run.now) in
+    ensures given { let from = sourcing_of (handed tables.now) run.now.options run.now.source in
+        let names = run_inputs from run.now.answers in
         (D.counts dir.new).given ≤ (D.counts dir.old).given + (2 ^ 24 + 1) * length names }
 {
     let over = Over {

@@ -8,8 +8,8 @@ ghost use Rattle.isle_settings.specs.Groups.{settings_of};
 ghost use Rattle.isle_settings.specs.TargetLines.{IsGroupText};
 ghost use Rattle.isle_top.specs.Job.{surroundings, IsReply};
 ghost use Rattle.isle_top.specs.Jobs.{job_asked};
-ghost use Rattle.isle_top.specs.SampleLine.{sample_source, AreCounts, FailsToCount};
-ghost use Rattle.isle_top.specs.Wants.{IsWant};
+ghost use Rattle.isle_top.specs.SampleLine.{sample_source, AreCounts};
+ghost use Rattle.isle_top.specs.Wants.{IsEarly, IsWant};
 
 use crate::about::{help, version};
 use crate::asked::{Asked, Over};
@@ -36,6 +36,7 @@ pub fn reply<D: Dir>(alloc: Global, line: &Asked<'_>, dir: &mut D) -> Result<Str
         in
         IfErr result (λ e. (job_asked line.now).fails e around) }
     ensures untried { (job_asked line.now).reads ≡ false → dir.new ≡ dir.old }
+    ensures unasked { IfErr result (λ e. IsEarly e → dir.new ≡ dir.old) }
     ensures complete { (job_asked line.now).valid (D.files dir.old)
         → (Rose (D.counts dir.old).faults (D.counts dir.new).faults → ⊥) → IfErr result IsWant }
     ensures files { D.files dir.new ≡ D.files dir.old }
@@ -75,7 +76,7 @@ pub fn reply<D: Dir>(alloc: Global, line: &Asked<'_>, dir: &mut D) -> Result<Str
 // The reply to a line that tells what a sample becomes.
 fn sample_reply(alloc: Global, size: usize) -> Result<String, Refusal>
     ensures ok { IfOk result (λ lines. AreCounts (sample_source size) (string_bytes lines)) }
-    ensures err { IfErr result (FailsToCount size) }
+    ensures err { IfErr result IsWant }
 {
     match sampled(alloc, size) {
         Ok(lines) => Ok(lines),

@@ -65,6 +65,9 @@ pub fn run_words<D: Dir, O: Sink, E: Sink>(
     // reads files.
     ensures untried { ((request : Request) → LineS (bytes_each words.now) request
         → (job_of tables.now request).reads ≡ false) → dir.new ≡ dir.old }
+    // Statuses 3 and 4 come before any call of the directory.
+    ensures unlisted { result.0 ≡ 3 → dir.new ≡ dir.old }
+    ensures unsupported { result.0 ≡ 4 → dir.new ≡ dir.old }
     ensures later { (D.counts dir.old).faults ≤ (D.counts dir.new).faults }
     ensures out_later { O.faults out.old ≤ O.faults out.new }
     ensures err_later { E.faults err.old ≤ E.faults err.new }
@@ -157,6 +160,8 @@ fn run_command<D: Dir, O: Sink, E: Sink>(
         Says line.now.tables.now (λ a. a ≡ seen_command line.now.command.now) ⊥ around
         (err.new ≡ err.old) wrote result.0 }
     ensures untried { (job_asked line.now).reads ≡ false → dir.new ≡ dir.old }
+    ensures unlisted { result.0 ≡ 3 → dir.new ≡ dir.old }
+    ensures unsupported { result.0 ≡ 4 → dir.new ≡ dir.old }
     ensures complete { (job_asked line.now).valid (D.files dir.old)
         → (Rose (D.counts dir.old).faults (D.counts dir.new).faults → ⊥)
         → (result.0 ≡ 0) ⊎ (result.0 ≡ 11) ⊎ (result.0 ≡ 12) }

@@ -13,6 +13,8 @@ ghost use Rattle.isle_core.specs.declared.options.CodegenOptions.{CodegenOptions
 ghost use Rattle.isle_meta.specs.declared.tables.Tables.{Tables};
 ghost use Rattle.isle_top.specs.RunLine.{of_read};
 ghost use Rattle.isle_top.specs.Sourcing.{from_names, from_unit, sourcing_of};
+ghost use Rattle.isle_top.specs.Tabling.{handed};
+ghost use Rattle.isle_top.specs.Wants.{IsEarly};
 
 use crate::asked::Over;
 use crate::built::of_build;
@@ -37,7 +39,7 @@ pub fn of_read(fail: ReadError) -> Refusal
 /// Returns the name of the file of this number that is read for a source, if there is one.
 pub fn source_input(source: &Source, index: usize) -> Option<&str>
     ensures { (tables : Tables) (options : Options)
-        → option_copied result ≡ slice_get (sourcing_of tables options source.now).inputs index }
+        → option_copied result ≡ slice_get (sourcing_of (handed tables) options source.now).inputs index }
 {
     match source {
         Source::File(name) if index == 0 => Some(name.as_str()),
@@ -52,7 +54,7 @@ pub fn source_input(source: &Source, index: usize) -> Option<&str>
 /// Returns how many files are read for a source.
 pub fn inputs_count(source: &Source) -> usize
     ensures { (tables : Tables) (options : Options)
-        → result ≡ length (sourcing_of tables options source.now).inputs }
+        → result ≡ length (sourcing_of (handed tables) options source.now).inputs }
 {
     match source {
         Source::File(_) => 1,
@@ -102,6 +104,7 @@ fn file_source<D: Dir>(
     ensures err { let around = surroundings (D.files dir.old) (D.counts dir.old) (D.counts dir.new)
         in
         IfErr result (FailsToHave (from_names options.now (name.now ∷ [])) around) }
+    ensures unasked { IfErr result (λ e. IsEarly e → dir.new ≡ dir.old) }
     ensures files { D.files dir.new ≡ D.files dir.old }
     ensures later { (D.counts dir.old).faults ≤ (D.counts dir.new).faults }
     ensures stays { (D.counts dir.old).faults ≡ 2 ^ 64 - 1
@@ -128,8 +131,9 @@ fn unit_source<D: Dir>(
         AllTried (tracked_of unit.now) (D.counts dir.old) (D.counts dir.new)) }
     ensures err { let around = surroundings (D.files dir.old) (D.counts dir.old) (D.counts dir.new)
         in
-        IfErr result (FailsToHave (from_unit over.now.tables.now over.now.options.now unit.now)
-        around) }
+        let from = from_unit (handed over.now.tables.now) over.now.options.now unit.now in
+        IfErr result (FailsToHave from around) }
+    ensures unasked { IfErr result (λ e. IsEarly e → dir.new ≡ dir.old) }
     ensures files { D.files dir.new ≡ D.files dir.old }
     ensures later { (D.counts dir.old).faults ≤ (D.counts dir.new).faults }
     ensures stays { (D.counts dir.old).faults ≡ 2 ^ 64 - 1
@@ -151,20 +155,21 @@ pub fn source_of<D: Dir>(
     source: &Source,
     dir: &mut D,
 ) -> Result<Files, Refusal>
-    ensures read { let from = sourcing_of over.now.tables.now over.now.options.now source.now in
+    ensures read { let from = sourcing_of (handed over.now.tables.now) over.now.options.now source.now in
         IfOk result (from.is_source (D.files dir.old)) }
     ensures count { IfOk result (λ files. length files.file_texts ≡ length files.file_names) }
-    ensures tried { let from = sourcing_of over.now.tables.now over.now.options.now source.now in
+    ensures tried { let from = sourcing_of (handed over.now.tables.now) over.now.options.now source.now in
         IfOk result (λ files. AllTried from.inputs (D.counts dir.old) (D.counts dir.new)) }
     ensures err { let around = surroundings (D.files dir.old) (D.counts dir.old) (D.counts dir.new)
         in
-        let from = sourcing_of over.now.tables.now over.now.options.now source.now in
+        let from = sourcing_of (handed over.now.tables.now) over.now.options.now source.now in
         IfErr result (FailsToHave from around) }
+    ensures unasked { IfErr result (λ e. IsEarly e → dir.new ≡ dir.old) }
     ensures files { D.files dir.new ≡ D.files dir.old }
     ensures later { (D.counts dir.old).faults ≤ (D.counts dir.new).faults }
     ensures stays { (D.counts dir.old).faults ≡ 2 ^ 64 - 1
         → (D.counts dir.new).faults ≡ 2 ^ 64 - 1 }
-    ensures given { let from = sourcing_of over.now.tables.now over.now.options.now source.now in
+    ensures given { let from = sourcing_of (handed over.now.tables.now) over.now.options.now source.now in
         (D.counts dir.new).given
         ≤ (D.counts dir.old).given + (2 ^ 24 + 1) * length from.inputs }
 {

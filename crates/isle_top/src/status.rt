@@ -89,11 +89,11 @@ fn tell_errors<E: Sink>(alloc: Global, err: &mut E, errors: &Errors) -> Exit
 }
 
 // Writes why a term is not run, as far as the sink takes it, and returns the status.
-fn tell_run<E: Sink>(err: &mut E, line: &Asked<'_>, fail: RunFail) -> Exit
+fn tell_run<E: Sink>(err: &mut E, line: &Asked<'_>, fail: &RunFail) -> Exit
     ensures later { E.faults err.old ≤ E.faults err.new }
     ensures told { let wrote = Wrote (E.taken err.old) (E.taken err.new)
         (E.faults err.old) (E.faults err.new) in
-        TellsRun (job_asked line.now) wrote result.0 fail }
+        TellsRun (job_asked line.now) wrote result.0 fail.now }
 {
     match fail {
         RunFail::NoTerm => {
@@ -105,11 +105,11 @@ fn tell_run<E: Sink>(err: &mut E, line: &Asked<'_>, fail: RunFail) -> Exit
             Exit(13)
         }
         RunFail::ArgType(argument) => {
-            let _ = write_argument(err, argument);
+            let _ = write_argument(err, *argument);
             Exit(13)
         }
         RunFail::BadAnswers(place) => {
-            let _ = write_bad_answers(err, place);
+            let _ = write_bad_answers(err, *place);
             Exit(13)
         }
         RunFail::Memory => tell_memory(err),
@@ -144,6 +144,6 @@ pub fn refuse<E: Sink>(alloc: Global, err: &mut E, line: &Asked<'_>, refusal: &R
             Exit(10)
         }
         Refusal::Files(FileError::Memory) => tell_memory(err),
-        Refusal::Run(fail) => tell_run(err, line, *fail),
+        Refusal::Run(fail) => tell_run(err, line, fail),
     }
 }

@@ -1,10 +1,10 @@
-use Rattle.std.proofs.Common.{rules, ◌≡◌, ◌≤◌, ◌+◌, ◌*◌, ◌^◌, length, sym, subst}
+use Rattle.std.proofs.Common.{rules, ◌≡◌, ◌≤◌, ◌+◌, ◌*◌, ◌^◌, length, refl, sym, subst}
 use Rattle.isle_command_line.specs.Request.{Request, Build, Compile, Prelude, Isa, Sample, Run}
 use Rattle.isle_command_line.specs.Views.{seen_command, seen_run}
 use Rattle.isle_top.specs.declared.refusal.Refusal.TheVariants as refusal
-use Rattle.isle_top.specs.Job.{Around}
+use Rattle.isle_top.specs.Job.{Around, surroundings}
 use Rattle.isle_top.specs.Jobs.{job_of}
-use Rattle.isle_top.proofs.Replies.{build_fails, build_replies, run_fails, run_replies, compile_replies, compile_fails, sample_replies, sample_fails, prelude_replies, prelude_fails, isa_replies, isa_fails}
+use Rattle.isle_top.proofs.Replies.{build_replies, compile_fails, compile_replies, isa_replies, line_fails, never_asked, prelude_fails, prelude_replies, run_replies, sample_replies}
 use Rattle.isle_top.proofs.ValidLines.{only_want, replied_unless}
 use Rattle.isle_top.proofs.reply.reply.Goals as goal
 
@@ -31,14 +31,14 @@ pub returns-in-Run-clause-err : goal.returns-in-Run-clause-err
 returns-in-Run-clause-err g c =
     let around : Around = record { files = g.D.Dir.files c.args.dir.now; before = g.D.Dir.counts c.args.dir.now; after = g.D.Dir.counts c.ran.new.dir } in
     let is : seen_command c.args.line.now.command.now ≡ Run (seen_run c.in-Run.run') = search rules in
-    run_fails c.args.line.now.tables.now (seen_command c.args.line.now.command.now) (seen_run c.in-Run.run') around c.ran.result is c.ran.ensures.err
+    line_fails c.args.line.now.tables.now (seen_command c.args.line.now.command.now) (Run (seen_run c.in-Run.run')) around c.ran.result is c.ran.ensures.err
 
 pub returns-in-Run-clause-complete : goal.returns-in-Run-clause-complete
 returns-in-Run-clause-complete g c = λ valid calm.
     let around : Around = record { files = g.D.Dir.files c.args.dir.now; before = g.D.Dir.counts c.args.dir.now; after = g.D.Dir.counts c.ran.new.dir } in
     let is : seen_command c.args.line.now.command.now ≡ Run (seen_run c.in-Run.run') = search rules in
     replied_unless c.args.line.now.tables.now (seen_command c.args.line.now.command.now) c.ran.result around.files around.before around.after
-    (run_fails c.args.line.now.tables.now (seen_command c.args.line.now.command.now) (seen_run c.in-Run.run') around c.ran.result is c.ran.ensures.err) valid calm
+    (line_fails c.args.line.now.tables.now (seen_command c.args.line.now.command.now) (Run (seen_run c.in-Run.run')) around c.ran.result is c.ran.ensures.err) valid calm
 
 pub returns-in-Run-clause-given : goal.returns-in-Run-clause-given
 returns-in-Run-clause-given g c =
@@ -55,14 +55,14 @@ pub returns-in-Build-clause-err : goal.returns-in-Build-clause-err
 returns-in-Build-clause-err g c =
     let around : Around = record { files = g.D.Dir.files c.args.dir.now; before = g.D.Dir.counts c.args.dir.now; after = g.D.Dir.counts c.built.new.dir } in
     let is : seen_command c.args.line.now.command.now ≡ Build c.in-Build.options c.as_str.result.now = search rules in
-    build_fails c.args.line.now.tables.now (seen_command c.args.line.now.command.now) c.in-Build.options c.as_str.result.now around c.built.result is c.built.ensures.err
+    line_fails c.args.line.now.tables.now (seen_command c.args.line.now.command.now) (Build c.in-Build.options c.as_str.result.now) around c.built.result is c.built.ensures.err
 
 pub returns-in-Build-clause-complete : goal.returns-in-Build-clause-complete
 returns-in-Build-clause-complete g c = λ valid calm.
     let around : Around = record { files = g.D.Dir.files c.args.dir.now; before = g.D.Dir.counts c.args.dir.now; after = g.D.Dir.counts c.built.new.dir } in
     let is : seen_command c.args.line.now.command.now ≡ Build c.in-Build.options c.as_str.result.now = search rules in
     replied_unless c.args.line.now.tables.now (seen_command c.args.line.now.command.now) c.built.result around.files around.before around.after
-    (build_fails c.args.line.now.tables.now (seen_command c.args.line.now.command.now) c.in-Build.options c.as_str.result.now around c.built.result is c.built.ensures.err) valid calm
+    (line_fails c.args.line.now.tables.now (seen_command c.args.line.now.command.now) (Build c.in-Build.options c.as_str.result.now) around c.built.result is c.built.ensures.err) valid calm
 
 pub returns-in-Sample-clause-ok : goal.returns-in-Sample-clause-ok
 returns-in-Sample-clause-ok g c =
@@ -71,16 +71,9 @@ returns-in-Sample-clause-ok g c =
 
 pub returns-in-Sample-clause-err : goal.returns-in-Sample-clause-err
 returns-in-Sample-clause-err g c =
-    let around : Around = record { files = g.D.Dir.files c.args.dir.now; before = g.D.Dir.counts c.args.dir.now; after = g.D.Dir.counts c.args.dir.now } in
+    let around = surroundings (g.D.Dir.files c.args.dir.now) (g.D.Dir.counts c.args.dir.now) (g.D.Dir.counts c.args.dir.now) in
     let is : seen_command c.args.line.now.command.now ≡ Sample c.in-Sample.size = search rules in
-    sample_fails c.args.line.now.tables.now (seen_command c.args.line.now.command.now) c.in-Sample.size around c.sample_reply.result is c.sample_reply.ensures.err
-
-pub returns-in-Sample-clause-complete : goal.returns-in-Sample-clause-complete
-returns-in-Sample-clause-complete g c = λ valid calm.
-    let around : Around = record { files = g.D.Dir.files c.args.dir.now; before = g.D.Dir.counts c.args.dir.now; after = g.D.Dir.counts c.args.dir.now } in
-    let is : seen_command c.args.line.now.command.now ≡ Sample c.in-Sample.size = search rules in
-    replied_unless c.args.line.now.tables.now (seen_command c.args.line.now.command.now) c.sample_reply.result around.files around.before around.after
-    (sample_fails c.args.line.now.tables.now (seen_command c.args.line.now.command.now) c.in-Sample.size around c.sample_reply.result is c.sample_reply.ensures.err) valid calm
+    line_fails c.args.line.now.tables.now (seen_command c.args.line.now.command.now) (Sample c.in-Sample.size) around c.sample_reply.result is c.sample_reply.ensures.err
 
 pub returns-in-Prelude-clause-ok : goal.returns-in-Prelude-clause-ok
 returns-in-Prelude-clause-ok g c =
@@ -89,16 +82,16 @@ returns-in-Prelude-clause-ok g c =
 
 pub returns-in-Prelude-clause-err : goal.returns-in-Prelude-clause-err
 returns-in-Prelude-clause-err g c =
-    let around : Around = record { files = g.D.Dir.files c.args.dir.now; before = g.D.Dir.counts c.args.dir.now; after = g.D.Dir.counts c.args.dir.now } in
     let is : seen_command c.args.line.now.command.now ≡ Prelude c.in-Prelude.kind = search rules in
-    prelude_fails c.args.line.now.tables.now (seen_command c.args.line.now.command.now) c.in-Prelude.kind around c.preluded.result is c.preluded.ensures.err
+    prelude_fails c.args.line.now.tables.now (seen_command c.args.line.now.command.now) c.in-Prelude.kind (g.D.Dir.files c.args.dir.now) (g.D.Dir.counts c.args.dir.now) c.preluded.result is c.preluded.ensures.err
 
 pub returns-in-Prelude-clause-complete : goal.returns-in-Prelude-clause-complete
 returns-in-Prelude-clause-complete g c = λ valid calm.
-    let around : Around = record { files = g.D.Dir.files c.args.dir.now; before = g.D.Dir.counts c.args.dir.now; after = g.D.Dir.counts c.args.dir.now } in
+    let files = g.D.Dir.files c.args.dir.now in
+    let counts = g.D.Dir.counts c.args.dir.now in
     let is : seen_command c.args.line.now.command.now ≡ Prelude c.in-Prelude.kind = search rules in
-    replied_unless c.args.line.now.tables.now (seen_command c.args.line.now.command.now) c.preluded.result around.files around.before around.after
-    (prelude_fails c.args.line.now.tables.now (seen_command c.args.line.now.command.now) c.in-Prelude.kind around c.preluded.result is c.preluded.ensures.err) valid calm
+    replied_unless c.args.line.now.tables.now (seen_command c.args.line.now.command.now) c.preluded.result files counts counts
+    (prelude_fails c.args.line.now.tables.now (seen_command c.args.line.now.command.now) c.in-Prelude.kind files counts c.preluded.result is c.preluded.ensures.err) valid calm
 
 pub returns-in-Isa-clause-ok : goal.returns-in-Isa-clause-ok
 returns-in-Isa-clause-ok g c =
@@ -107,13 +100,15 @@ returns-in-Isa-clause-ok g c =
 
 pub returns-in-Isa-clause-err : goal.returns-in-Isa-clause-err
 returns-in-Isa-clause-err g c =
-    let around : Around = record { files = g.D.Dir.files c.args.dir.now; before = g.D.Dir.counts c.args.dir.now; after = g.D.Dir.counts c.args.dir.now } in
+    let around = surroundings (g.D.Dir.files c.args.dir.now) (g.D.Dir.counts c.args.dir.now) (g.D.Dir.counts c.args.dir.now) in
     let is : seen_command c.args.line.now.command.now ≡ Isa c.in-Isa.target = search rules in
-    isa_fails c.args.line.now.tables.now (seen_command c.args.line.now.command.now) c.in-Isa.target around c.isa_reply.result is c.isa_reply.ensures.err
+    line_fails c.args.line.now.tables.now (seen_command c.args.line.now.command.now) (Isa c.in-Isa.target) around c.isa_reply.result is c.isa_reply.ensures.err
 
-pub returns-in-Isa-clause-complete : goal.returns-in-Isa-clause-complete
-returns-in-Isa-clause-complete g c = λ valid calm.
-    let around : Around = record { files = g.D.Dir.files c.args.dir.now; before = g.D.Dir.counts c.args.dir.now; after = g.D.Dir.counts c.args.dir.now } in
-    let is : seen_command c.args.line.now.command.now ≡ Isa c.in-Isa.target = search rules in
-    replied_unless c.args.line.now.tables.now (seen_command c.args.line.now.command.now) c.isa_reply.result around.files around.before around.after
-    (isa_fails c.args.line.now.tables.now (seen_command c.args.line.now.command.now) c.in-Isa.target around c.isa_reply.result is c.isa_reply.ensures.err) valid calm
+pub returns-in-Sample-clause-unasked : goal.returns-in-Sample-clause-unasked
+returns-in-Sample-clause-unasked g c = never_asked c.sample_reply.result _ refl
+
+pub returns-in-Prelude-clause-unasked : goal.returns-in-Prelude-clause-unasked
+returns-in-Prelude-clause-unasked g c = never_asked c.preluded.result _ refl
+
+pub returns-in-Isa-clause-unasked : goal.returns-in-Isa-clause-unasked
+returns-in-Isa-clause-unasked g c = never_asked c.isa_reply.result _ refl
