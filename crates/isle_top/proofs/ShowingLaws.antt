@@ -35,7 +35,7 @@ told_trial job r files given (fail.Source (compiling.Name e)) h = tt
 told_trial job r files given (fail.Source compiling.Memory) h = tt
 told_trial job r files given (fail.Run e) h = tt
 
-want_run : (r : Running) (source : Files) (given : List ℕ) (e : Refusal) → CanRun source r.term r.values given → FailsToShow r source given e → IsWant e
+want_run : (r : Running) (source : Files) (given : List ℕ) (e : Refusal) → CanRun r.options source r.term r.values given → FailsToShow r source given e → IsWant e
 want_run r source given _ can (no_lines cause h) = want_trial source cause (only_memory r.options source r.term r.values given cause can h)
 
 told_run : (r : Running) (job : Job) (source : Files) (given : List ℕ) (e : Refusal) → FailsToShow r source given e → IsOfJob job e

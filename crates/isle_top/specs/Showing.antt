@@ -44,5 +44,5 @@ running r = record {
   answers = r.answers;
   shows = λ source given text. Shows r.trace r.options source r.term r.values given text;
   fails = λ source given e. FailsToShow r source given e;
-  can = λ source given. CanRun source r.term r.values given;
+  can = λ source given. CanRun r.options source r.term r.values given;
 }

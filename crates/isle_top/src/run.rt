@@ -1,4 +1,4 @@
-ghost use Rattle.std.specs.Prelude.{◌≡◌, ◌≢◌, ◌≤◌, ◌+◌, ◌*◌, ◌^◌, ◌⊎◌};
+ghost use Rattle.std.specs.Prelude.{◌≡◌, ◌≢◌, ◌≤◌, ◌+◌, ◌-◌, ◌*◌, ◌^◌, ◌⊎◌};
 ghost use Rattle.std.specs.Prelude.{[], ◌∷◌, ℕ, List, Some, false};
 ghost use Rattle.std.specs.Prelude.{length, slice_get, OnOk, OnErr};
 ghost use Rattle.isle_outside.specs.Directory.{Rose};
@@ -61,14 +61,16 @@ pub fn run_words<D: Dir, O: Sink, E: Sink>(
         → (Rose (D.counts dir.old).faults (D.counts dir.new).faults → ⊥)
         → (result.0 ≡ 0) ⊎ (result.0 ≡ 11) ⊎ (result.0 ≡ 12) }
     ensures files { D.files dir.new ≡ D.files dir.old }
-    // No count falls, of each input at most 2^24 + 1 bytes are taken, and the directory is as it was if no line
-    // reads files.
+    // No count falls, of all inputs together at most 2^24 + 1 bytes times their number are taken, and the directory
+    // is as it was if no line reads files.
     ensures untried { ((request : Request) → LineS (bytes_each words.now) request
         → (job_of tables.now request).reads ≡ false) → dir.new ≡ dir.old }
     // Statuses 3 and 4 come before any call of the directory.
     ensures unlisted { result.0 ≡ 3 → dir.new ≡ dir.old }
     ensures unsupported { result.0 ≡ 4 → dir.new ≡ dir.old }
     ensures later { (D.counts dir.old).faults ≤ (D.counts dir.new).faults }
+    ensures stays { (D.counts dir.old).faults ≡ 2 ^ 64 - 1
+        → (D.counts dir.new).faults ≡ 2 ^ 64 - 1 }
     ensures out_later { O.faults out.old ≤ O.faults out.new }
     ensures err_later { E.faults err.old ≤ E.faults err.new }
     ensures given { (request : Request) → LineS (bytes_each words.now) request
@@ -167,6 +169,8 @@ fn run_command<D: Dir, O: Sink, E: Sink>(
         → (result.0 ≡ 0) ⊎ (result.0 ≡ 11) ⊎ (result.0 ≡ 12) }
     ensures files { D.files dir.new ≡ D.files dir.old }
     ensures later { (D.counts dir.old).faults ≤ (D.counts dir.new).faults }
+    ensures stays { (D.counts dir.old).faults ≡ 2 ^ 64 - 1
+        → (D.counts dir.new).faults ≡ 2 ^ 64 - 1 }
     ensures out_later { O.faults out.old ≤ O.faults out.new }
     ensures err_later { E.faults err.old ≤ E.faults err.new }
     ensures given { let names = (job_asked line.now).inputs in
