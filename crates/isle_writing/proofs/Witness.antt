@@ -8,7 +8,7 @@ use Rattle.isle_printer.specs.Number.{numeral}
 use Rattle.isle_lexer.specs.Word.{kind}
 use Rattle.isle_writing.specs.Text.{def_text, def_texts, whole_def_text}
 use Rattle.isle_writing.specs.Erased.{no_place}
-use Rattle.isle_writing.specs.Writable.{NamesOne, AreWritable}
+use Rattle.isle_writing.specs.Writable.{NamesOne, IsWritable, AreWritable}
 use Rattle.isle_writing.specs.Spelt.{SpellsOnly, SpellsNone}
 use Rattle.isle_writing.specs.LaidDefs.{laid_texts, plain, whole}
 use Rattle.isle_writing.proofs.WrittenLaw.{laid_spelt, written_spelt}
@@ -104,5 +104,5 @@ zero_spelt : SpellsOnly (codes "(rule 0 (lower _) (plain))\n(rule (lower _) (pla
 unfolding def_text whole_def_text numeral kind
 zero_spelt =
     let term = names_one (codes "lower") (omega arith, refl) refl in
-    let rule = ((tt, omega arith, term, (tt, tt), tt, ((omega arith, refl), refl, tt)), omega arith) in
+    let rule : IsWritable usual = ((tt, omega arith, term, (tt, tt), tt, ((omega arith, refl), refl, tt)), omega arith) in
     (laid_spelt _ (whole usual ∷ plain usual ∷ []) (rule, (rule, tt)) refl).named refl
