@@ -99,7 +99,7 @@ module _ (t : Tables) (options : CodegenOptions) (unit : List ℕ) where
     once = λ fs a b h k. units_once t options unit fs a b (unit_of (Some fs) a h) (unit_of (Some fs) b k);
     ready = λ files a h. let s = unit_of files a h in (ap is_some s.listed, (t, refl, s.is_source.supported));
     read = λ fs a h. let s = unit_of (Some fs) a h in
-      of_tracked unit s.unit (λ (names : List (List ℕ)). (texts : List (List ℕ)) × AreRead fs names texts) s.listed (s.is_source.texts.read, s.is_source.texts.found);
+        of_tracked unit s.unit (λ (names : List (List ℕ)). (texts : List (List ℕ)) × AreRead fs names texts) s.listed (s.is_source.texts.read, s.is_source.texts.found);
     never = unit_never;
     told = unit_told;
   }
