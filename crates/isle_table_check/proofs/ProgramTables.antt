@@ -20,6 +20,9 @@ use Rattle.isle_table_check.specs.SupportedTables.{AreSupported}
 breaks_none : (Broken : Shape → Type 0) → ((s : Shape) → Broken s → ⊥) → IsFirstShape Broken shapes None
 breaks_none Broken none = told_first (λ s. false) Broken (λ s. (λ e. cc, λ h. absurd (none s h))) shapes
 
+some_there : (n : ℕ) → Some n ≡ None → ⊥
+some_there n h = cc
+
 -- ---- names
 
 imm64_is_type : IsImmediateType (short_name imm64)
@@ -64,7 +67,7 @@ binary_breaks ImmCount h = absurd h
 binary_breaks ImmType h = absurd h
 binary_breaks ImmShape h = absurd cc
 binary_breaks NoVarargs h = absurd h
-binary_breaks NoTypevar h = let e : Some {A = ℕ} 0 ≡ None = h.2 in absurd cc
+binary_breaks NoTypevar h = absurd (some_there 0 h.2)
 binary_breaks WrittenImm h = absurd h
 binary_breaks AlignedMem h = absurd h
 binary_breaks WrittenOperands h = absurd h
