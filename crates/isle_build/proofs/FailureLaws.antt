@@ -7,16 +7,12 @@ use Rattle.isle_codegen.specs.declared.compile_error.CompileError.{CompileError}
 use Rattle.isle_codegen.specs.declared.compile_error.CompileError.TheVariants as compile_error
 use Rattle.isle_core.specs.declared.errors.Errors.{Errors}
 use Rattle.isle_core.specs.declared.files.Files.{Files}
-use Rattle.isle_core.specs.Inputs.{Fails}
 use Rattle.isle_core.specs.declared.options.CodegenOptions.{CodegenOptions}
-use Rattle.isle_core.specs.declared.read_error.ReadError.TheVariants as read
 use Rattle.isle_meta.specs.declared.errors.Unsupported.{Unsupported}
 use Rattle.isle_meta.specs.declared.tables.Tables.{Tables}
 use Rattle.isle_outside.specs.Directory.{Contents, Counts}
-use Rattle.isle_outside.specs.declared.errors.IoCause.{IoCause}
-use Rattle.isle_table_check.specs.SupportedTables.{AreSupported, IsFirstUnsupported}
 use Rattle.isle_units.specs.declared.compilation.IsleCompilation.{IsleCompilation}
-use Rattle.isle_build.specs.Built.{FailsToBuild, FailsToRead, HasNoFiles, IsReadUnit, unsupported, unread, memory, no_files, wrong, misnamed, no_unit, listed, no_memory}
+use Rattle.isle_build.specs.Built.{FailsToBuild, FailsToRead, HasNoFiles, IsReadUnit, no_files, wrong, misnamed, no_unit, listed, no_memory}
 use Rattle.isle_build.specs.Parts.{of_texts}
 use Rattle.isle_build.specs.UnitSource.{IsSourceOfUnit, tracked_of, unit_named}
 use Rattle.isle_build.specs.declared.build_error.BuildError.{BuildError}
@@ -67,15 +63,3 @@ pub files_no_text : (t : Tables) (o : CodegenOptions) (name : List ℕ) (files :
 files_no_text t o name files before after _ (no_unit is) = no_unit is
 files_no_text t o name files before after _ (listed u e is h) = listed u e is (no_files e h)
 files_no_text t o name files before after _ (no_memory h) = no_memory h
-
--- ---- causes by themselves
-
-module _ {t : Tables} {files : Option Contents} {before after : Counts} {u : IsleCompilation} where
-  pub row_fails : (found : Unsupported) → IsFirstUnsupported t (Some found) → HasNoFiles t files before after u (error.Unsupported found)
-  row_fails found h = unsupported found h
-
-  pub input_fails : (index : ℕ) (why : IoCause) → AreSupported t → Fails (read.Io index why) files u.tracked_inputs before after → HasNoFiles t files before after u (error.Io index why)
-  input_fails index why supported h = unread index why supported h
-
-  pub memory_fails : after.faults ≡ before.faults → HasNoFiles t files before after u error.Memory
-  memory_fails h = memory h

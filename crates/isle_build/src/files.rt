@@ -56,7 +56,6 @@ fn input_files<D: Dir>(
 }
 
 // The files of a unit, if each row of the tables is supported.
-#[tactic(auto, using(crate::proofs::FailureLaws::row_fails, crate::proofs::FailureLaws::input_fails, crate::proofs::FailureLaws::memory_fails))]
 fn listed_files<D: Dir>(
     alloc: Global,
     dir: &mut D,

@@ -12,5 +12,5 @@ returns-in-Some-clause-err g c =
     let is : unit_named c.args.unit.now ≡ Some c.in-Some.listed.now = search rules in
     files_fail c.args.tables.now c.args.unit.now c.in-Some.listed.now (g.D.Dir.files c.args.dir.now) (g.D.Dir.counts c.args.dir.now) (g.D.Dir.counts c.listed_files.new.dir) c.listed_files.result is c.listed_files.ensures.err
 
-pub returns-in-None-clause-err : goal.returns-in-None-clause-err
-returns-in-None-clause-err g c = no_unit (search rules)
+pub returns-clause-err : goal.returns-clause-err
+returns-clause-err g c = no_unit (search rules)
