@@ -29,10 +29,7 @@ fn opaque_in(alloc: Global, name: &str, number: Signed) -> Result<Option<Value>,
     ensures { IfOk result (λ v.
         option_map value v ≡ Some (opaque_in name.now (signed number))) }
 {
-    Ok(Some(Value::Opaque(
-        Text::copied(alloc, name)?,
-        number.bits(),
-    )))
+    Ok(Some(Value::Opaque(Text::copied(alloc, name)?, number.bits())))
 }
 
 /// Returns a truth at a type of this definition: at `bool` alone there is one.
