@@ -1,0 +1,13 @@
+pub mod PieceLaws
+pub mod FormatLaws
+pub mod InstLaws
+pub mod X64Laws
+pub mod OpLaws
+pub mod ItemLaws
+pub mod NeverDeep
+pub mod Nesting
+pub mod Faults
+pub mod TableLaws
+pub mod Steps
+pub mod ResolvedSteps
+pub mod Counts

@@ -1,0 +1,24 @@
+use Rattle.std.proofs.Common.{rules}
+use Rattle.isle_reading.proofs.Steps.{passed, then_got, done_got, then_refuses, bind_refuses}
+use Rattle.isle_tables.specs.Reading.{read_alternate}
+use Rattle.isle_tables.proofs.assembler.alternate.Goals as goal
+
+pub returns-in_err-keyword : goal.returns-in_err-keyword
+unfolding read_alternate
+returns-in_err-keyword c = passed _ _ _ _ _ c.from_residual-in_err-keyword.ensures.1 (then_refuses _ _ _ _ _ _ c.in_ok-open.ensures (bind_refuses _ _ _ _ c.in_err-keyword.ensures))
+
+pub returns-in_err-name : goal.returns-in_err-name
+unfolding read_alternate
+returns-in_err-name c = passed _ _ _ _ _ c.from_residual-in_err-name.ensures.1 (then_refuses _ _ _ _ _ _ c.in_ok-open.ensures (then_refuses _ _ _ _ _ _ c.in_ok-keyword.ensures (bind_refuses _ _ _ _ c.in_err-name.ensures)))
+
+pub returns-in_err-feature : goal.returns-in_err-feature
+unfolding read_alternate
+returns-in_err-feature c = passed _ _ _ _ _ c.from_residual-in_err-feature.ensures.1 (then_refuses _ _ _ _ _ _ c.in_ok-open.ensures (then_refuses _ _ _ _ _ _ c.in_ok-keyword.ensures (then_refuses _ _ _ _ _ _ c.in_ok-name.ensures (bind_refuses _ _ _ _ c.in_err-feature.ensures))))
+
+pub returns-in_err-close : goal.returns-in_err-close
+unfolding read_alternate
+returns-in_err-close c = passed _ _ _ _ _ c.from_residual-in_err-close.ensures.1 (then_refuses _ _ _ _ _ _ c.in_ok-open.ensures (then_refuses _ _ _ _ _ _ c.in_ok-keyword.ensures (then_refuses _ _ _ _ _ _ c.in_ok-name.ensures (then_refuses _ _ _ _ _ _ c.in_ok-feature.ensures (bind_refuses _ _ _ _ c.in_err-close.ensures)))))
+
+pub returns : goal.returns
+unfolding read_alternate
+returns c = then_got _ _ _ _ _ _ c.in_ok-open.ensures (then_got _ _ _ _ _ _ c.in_ok-keyword.ensures (then_got _ _ _ _ _ _ c.in_ok-name.ensures (then_got _ _ _ _ _ _ c.in_ok-feature.ensures (then_got _ _ _ _ _ _ c.in_ok-close.ensures (search (rules, done_got))))))

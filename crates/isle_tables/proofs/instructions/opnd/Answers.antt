@@ -1,0 +1,24 @@
+use Rattle.std.proofs.Common.{rules}
+use Rattle.isle_reading.proofs.Steps.{passed, then_got, done_got, then_refuses, bind_refuses}
+use Rattle.isle_tables.specs.Reading.{read_opnd}
+use Rattle.isle_tables.proofs.instructions.opnd.Goals as goal
+
+pub returns-in_err-head : goal.returns-in_err-head
+unfolding read_opnd
+returns-in_err-head c = passed _ _ _ _ _ c.from_residual-in_err-head.ensures.1 (then_refuses _ _ _ _ _ _ c.in_ok-open.ensures (bind_refuses _ _ _ _ c.in_err-head.ensures))
+
+pub returns-in_err-name : goal.returns-in_err-name
+unfolding read_opnd
+returns-in_err-name c = passed _ _ _ _ _ c.from_residual-in_err-name.ensures.1 (then_refuses _ _ _ _ _ _ c.in_ok-open.ensures (then_refuses _ _ _ _ _ _ c.in_ok-head.ensures (bind_refuses _ _ _ _ c.in_err-name.ensures)))
+
+pub returns-in_err-class : goal.returns-in_err-class
+unfolding read_opnd
+returns-in_err-class c = passed _ _ _ _ _ c.from_residual-in_err-class.ensures.1 (then_refuses _ _ _ _ _ _ c.in_ok-open.ensures (then_refuses _ _ _ _ _ _ c.in_ok-head.ensures (then_refuses _ _ _ _ _ _ c.in_ok-name.ensures (bind_refuses _ _ _ _ c.in_err-class.ensures))))
+
+pub returns-in_err-close : goal.returns-in_err-close
+unfolding read_opnd
+returns-in_err-close c = passed _ _ _ _ _ c.from_residual-in_err-close.ensures.1 (then_refuses _ _ _ _ _ _ c.in_ok-open.ensures (then_refuses _ _ _ _ _ _ c.in_ok-head.ensures (then_refuses _ _ _ _ _ _ c.in_ok-name.ensures (then_refuses _ _ _ _ _ _ c.in_ok-class.ensures (bind_refuses _ _ _ _ c.in_err-close.ensures)))))
+
+pub returns : goal.returns
+unfolding read_opnd
+returns c = then_got _ _ _ _ _ _ c.in_ok-open.ensures (then_got _ _ _ _ _ _ c.in_ok-head.ensures (then_got _ _ _ _ _ _ c.in_ok-name.ensures (then_got _ _ _ _ _ _ c.in_ok-class.ensures (then_got _ _ _ _ _ _ c.in_ok-close.ensures (search (rules, done_got))))))

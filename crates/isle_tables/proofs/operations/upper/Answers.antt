@@ -1,0 +1,8 @@
+use Rattle.std.proofs.Common.{rules}
+use Rattle.isle_reading.proofs.Steps.{then_got, done_got}
+use Rattle.isle_tables.specs.Reading.{read_shape_after}
+use Rattle.isle_tables.proofs.operations.upper.Goals as goal
+
+pub returns : goal.returns
+unfolding read_shape_after
+returns c = then_got _ _ _ _ _ _ c.in_ok-close.ensures (search (rules, done_got))
