@@ -2,7 +2,6 @@
 use Rattle.std.proofs.Common.{◌≡◌, ℕ, ◌+◌, ◌-◌, ◌≤◌, List, [], ◌∷◌, ◌++◌, length, drop, append-nil, append_assoc, length-append, refl, ap, sym, ◌∙◌, subst, arith, Some}
 use Rattle.std.proofs.Math.Seq.{drop-append_seam}
 use Rattle.isle_lexer.specs.Lexeme.{Lexeme}
-use Rattle.isle_reading.specs.Combinators.{place}
 use Rattle.isle_reading.specs.Places.{Starts, first_place}
 use Rattle.isle_reading.specs.Reader.{Reading, Got, Stuck, Deep, run}
 use Rattle.isle_reading.specs.Relations.{Begun, Ended}

@@ -1,12 +1,12 @@
 -- The readers of formats keep the law.
-use Rattle.std.proofs.Common.{◌≡◌, ℕ, zero, suc, ◌≤◌, List, [], ◌∷◌, Bool, true, false, ◌⊎◌, inl, inr, refl, ap, sym, ◌∙◌, subst, arith, Option, Some, None}
+use Rattle.std.proofs.Common.{◌≡◌, ℕ, List, [], ◌∷◌, Bool, true, false, inl, inr, refl, ap, sym, ◌∙◌, subst, arith, Option, Some, None}
 use Rattle.std.specs.Prelude.{if◌then◌else◌, bytes_eq, codes}
 use Rattle.std.proofs.lemmas.Slice.Eq.{bytes_eq-Decides}
 use Rattle.isle_lexer.specs.Lexeme.{Lexeme, Open, Close, Word}
 use Rattle.isle_reading.specs.Combinators.{is_close, read_close, many}
 use Rattle.isle_reading.specs.Reader.{Ret, bind}
-use Rattle.isle_reading.specs.Relations.{Anything, Many, none, more}
-use Rattle.isle_reading.proofs.Law.{Law, Heads, Nothing, Then, Either, law_map, law_next, law_then}
+use Rattle.isle_reading.specs.Relations.{Many, none, more}
+use Rattle.isle_reading.proofs.Law.{Heads, Nothing, Then, Either, law_map, law_next, law_then}
 use Rattle.isle_reading.proofs.TokenLaws.{OpenS, CloseS, Gives, law_ret, law_peek}
 use Rattle.isle_reading.proofs.ListLaws.{law_many}
 use Rattle.isle_reading.proofs.States.{Opened, opened_close}

@@ -1,11 +1,11 @@
 -- The readers of instructions keep the law.
-use Rattle.std.proofs.Common.{◌≡◌, ℕ, zero, suc, ◌≤◌, List, [], ◌∷◌, Bool, true, false, refl, ap, sym, ◌∙◌, subst, arith, Option, Some, None}
+use Rattle.std.proofs.Common.{◌≡◌, ℕ, List, ◌∷◌, Bool, true, false, refl, ap, sym, ◌∙◌, subst, arith, Option, Some, None}
 use Rattle.std.specs.Prelude.{if◌then◌else◌, option_map, bytes_eq, codes}
 use Rattle.std.proofs.lemmas.Slice.Eq.{bytes_eq-Decides}
-use Rattle.isle_lexer.specs.Lexeme.{Lexeme, Open, Close, Word}
-use Rattle.isle_reading.specs.Combinators.{is_close, many}
+use Rattle.isle_lexer.specs.Lexeme.{Lexeme, Open, Word}
+use Rattle.isle_reading.specs.Combinators.{is_close}
 use Rattle.isle_reading.specs.Relations.{Many}
-use Rattle.isle_reading.proofs.Law.{Law, Heads, Nothing, Then, law_map, law_next, law_then}
+use Rattle.isle_reading.proofs.Law.{Heads, Nothing, Then, law_map, law_next, law_then}
 use Rattle.isle_reading.proofs.TokenLaws.{OpenS, CloseS, Gives, law_ret}
 use Rattle.isle_reading.proofs.ListLaws.{law_many}
 use Rattle.isle_reading.proofs.States.{Opened, opened_close}

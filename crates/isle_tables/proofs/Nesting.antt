@@ -1,7 +1,7 @@
 -- The readers of written tables are never too deep.
-use Rattle.std.proofs.Common.{◌≡◌, ℕ, ◌≤◌, List, [], ◌∷◌, ◌++◌, Bool, true, false, arith, Option, Some, None}
+use Rattle.std.proofs.Common.{ℕ, List, [], ◌∷◌, ◌++◌, Bool, true, false, arith, Option, Some, None}
 use Rattle.std.specs.Prelude.{codes, is_some}
-use Rattle.isle_reading.specs.Combinators.{is_open, is_close, on_word, bytes, place, read_open, read_close, read_word, words_from, many}
+use Rattle.isle_reading.specs.Combinators.{is_open, is_close, on_word, bytes, place, read_open, read_close, many}
 use Rattle.isle_reading.specs.Reader.{Reader, Ret, bind}
 use Rattle.isle_meta.specs.declared.clif.OperandClass.{OperandClass}
 use Rattle.isle_tables.specs.declared.item.ItemHead.{ItemHead}

@@ -1,9 +1,9 @@
 -- Readers that are never too deep: this grammar nests at most three deep.
-use Rattle.std.proofs.Common.{◌≡◌, ℕ, zero, suc, ◌≤◌, ◌<◌, List, [], ◌∷◌, length, Bool, true, false, cond, inl, inr, refl, ap, sym, ◌∙◌, arith, Option, Some, None}
+use Rattle.std.proofs.Common.{◌≡◌, ℕ, zero, suc, ◌≤◌, ◌<◌, List, [], ◌∷◌, length, Bool, true, false, cond, inl, inr, refl, sym, ◌∙◌, arith, Option, Some, None}
 use Rattle.std.specs.Prelude.{is_some}
 use Rattle.isle_lexer.specs.Lexeme.{Lexeme}
-use Rattle.isle_reading.specs.Reader.{Reading, Got, Stuck, Deep, Reader, Ret, Ask, Peek, End, Halt, run, bind}
-use Rattle.isle_reading.specs.Combinators.{is_open, is_close, on_word, bytes, place, read_open, read_close, given, read_word, read_optional, words_from, many, all, all_from, stays}
+use Rattle.isle_reading.specs.Reader.{Reading, Got, Stuck, Deep, Reader, Ret, Ask, Peek, run, bind}
+use Rattle.isle_reading.specs.Combinators.{is_open, is_close, on_word, bytes, place, read_open, read_close, given, read_word, read_optional, words_from, many, all, all_from}
 use Rattle.isle_reading.proofs.Running.{run-bind, after_got, after_deep, got_shrinks, stuck_not_got, stuck_not_deep, got_not_deep}
 
 -- with at most n tokens it is never too deep

@@ -1,13 +1,12 @@
 -- The readers of the interpreter's operations keep the law.
-use Rattle.std.proofs.Common.{◌≡◌, ℕ, zero, suc, ◌≤◌, List, [], ◌∷◌, ◌++◌, append_assoc, Bool, true, false, ◌⊎◌, inl, inr, refl, ap, sym, ◌∙◌, subst, arith, Option, Some, None}
+use Rattle.std.proofs.Common.{◌≡◌, ℕ, List, ◌∷◌, ◌++◌, append_assoc, Bool, true, false, inl, inr, refl, ap, sym, ◌∙◌, subst, arith, Some, None}
 use Rattle.std.specs.Prelude.{if◌then◌else◌, bytes_eq, codes}
 use Rattle.std.proofs.lemmas.Slice.Eq.{bytes_eq-Decides}
 use Rattle.isle_lexer.specs.Lexeme.{Lexeme, Open, Close, Word}
-use Rattle.isle_reading.specs.Combinators.{is_open, is_close, many, words_from}
-use Rattle.isle_reading.specs.Nesting.{most_open}
+use Rattle.isle_reading.specs.Combinators.{is_open, is_close}
 use Rattle.isle_reading.specs.Relations.{Many, WordsFrom, no_word, a_word}
-use Rattle.isle_reading.proofs.Law.{Law, Heads, Nothing, Then, Either, law_map, law_next, law_then}
-use Rattle.isle_reading.proofs.TokenLaws.{OpenS, CloseS, Gives, NoSuch, law_ret, law_peek, law_words_from}
+use Rattle.isle_reading.proofs.Law.{Heads, Nothing, Then, Either, law_map, law_next, law_then}
+use Rattle.isle_reading.proofs.TokenLaws.{OpenS, CloseS, Gives, law_ret, law_peek, law_words_from}
 use Rattle.isle_reading.proofs.ListLaws.{law_many}
 use Rattle.isle_reading.proofs.NameLaws.{if_some}
 use Rattle.isle_reading.proofs.States.{Opened, opened_close, opened_word}

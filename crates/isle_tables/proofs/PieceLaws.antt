@@ -1,11 +1,11 @@
 -- The readers of words, and of what lines are made of, keep the law.
-use Rattle.std.proofs.Common.{◌≡◌, ℕ, zero, suc, ◌≤◌, List, [], ◌∷◌, Bool, true, false, IsTrue, ◌⊎◌, inl, inr, refl, ap, sym, ◌∙◌, subst, arith, Option, Some, None}
+use Rattle.std.proofs.Common.{◌≡◌, ℕ, suc, ◌≤◌, List, [], ◌∷◌, Bool, true, false, IsTrue, inl, inr, refl, ap, sym, ◌∙◌, subst, arith, Option, Some, None}
 use Rattle.std.specs.Prelude.{if◌then◌else◌, is_some, bytes_eq, codes}
 use Rattle.std.proofs.lemmas.Slice.Eq.{bytes_eq-Decides}
 use Rattle.isle_lexer.specs.Lexeme.{Lexeme, Open, Close, At, Less, Greater, Word}
-use Rattle.isle_reading.specs.Combinators.{is_close, on_word, bytes, place, read_open, read_close, read_word, read_optional, many}
+use Rattle.isle_reading.specs.Combinators.{is_close, on_word, bytes, place, read_open, read_close, read_word, many}
 use Rattle.isle_reading.specs.Nesting.{most_open}
-use Rattle.isle_reading.specs.Reader.{Reader, Ret, Ask}
+use Rattle.isle_reading.specs.Reader.{Reader, Ret}
 use Rattle.isle_reading.specs.Relations.{Anything, Many}
 use Rattle.isle_reading.proofs.Law.{Law, Heads, Nothing, Then, Either, law_map, law_next}
 use Rattle.isle_reading.proofs.TokenLaws.{OpenS, CloseS, Gives, NoWord, Token_then, law_ret, law_ask, law_open, law_close, law_word, law_optional}

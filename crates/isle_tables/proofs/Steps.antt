@@ -1,5 +1,5 @@
 -- What comes of reading a piece of written tables, by what comes next.
-use Rattle.std.proofs.Common.{◌≡◌, ℕ, ◌+◌, ◌-◌, ◌<◌, List, [], ◌∷◌, ◌++◌, length, drop, map, Bool, true, false, cond, refl, ap, sym, ◌∙◌, arith, Option, Some, None}
+use Rattle.std.proofs.Common.{◌≡◌, ℕ, ◌+◌, ◌-◌, ◌<◌, List, [], ◌∷◌, ◌++◌, length, drop, map, Bool, true, false, cond, refl, ap, sym, ◌∙◌, Option, Some, None}
 use Rattle.std.specs.Prelude.{is_some, if◌then◌else◌, codes}
 use Rattle.isle_lexer.specs.Lexeme.{Lexeme, Open, Close, At, Less, Greater, Word}
 use Rattle.isle_reading.specs.Combinators.{is_close, given, read_open, read_close, read_word, next_word, all, stays}
@@ -11,11 +11,9 @@ use Rattle.isle_reading.specs.Views.{opens, closes, stops, Refuses}
 use Rattle.isle_reading.proofs.NameLaws.{if_some}
 use Rattle.isle_reading.proofs.ListSteps.{in_front, all-more}
 use Rattle.isle_reading.proofs.Steps.{open_peek, other_peek, peek_stops, close_peek, no_close_peek, close_got, then_got, done_got, word_none}
-use Rattle.isle_meta.specs.declared.clif.ImmField.{ImmField}
-use Rattle.isle_meta.specs.declared.machine.Alternate.{Alternate}
 use Rattle.isle_tables.specs.Words.{is_symbol, symbol_of}
 use Rattle.isle_tables.proofs.PieceLaws.{symbol_is}
-use Rattle.isle_tables.specs.Reading.{Parts, more_operands, read_symbol, read_placed, read_one_of, read_values, read_imm, read_some_parts, read_parts, read_opnd, read_xop, read_some_alt, read_alt, read_shape, read_field_type, read_field}
+use Rattle.isle_tables.specs.Reading.{more_operands, read_symbol, read_placed, read_one_of, read_values, read_imm, read_some_parts, read_parts, read_opnd, read_xop, read_some_alt, read_alt, read_shape, read_field_type, read_field}
 
 -- ---- at the end of the text
 

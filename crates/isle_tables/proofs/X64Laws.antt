@@ -1,8 +1,8 @@
 -- The readers of the assembler's instructions keep the law.
-use Rattle.std.proofs.Common.{◌≡◌, ℕ, zero, suc, ◌≤◌, List, [], ◌∷◌, Bool, true, false, ◌⊎◌, inl, inr, refl, ap, sym, ◌∙◌, subst, arith, Option, Some, None}
+use Rattle.std.proofs.Common.{◌≡◌, ℕ, List, true, false, inl, inr, refl, ap, sym, subst, arith, Option, Some, None}
 use Rattle.std.specs.Prelude.{codes}
-use Rattle.isle_lexer.specs.Lexeme.{Lexeme, Open, Close, Word}
-use Rattle.isle_reading.specs.Combinators.{is_close, read_close, many}
+use Rattle.isle_lexer.specs.Lexeme.{Lexeme, Open, Close}
+use Rattle.isle_reading.specs.Combinators.{is_close, read_close}
 use Rattle.isle_reading.specs.Reader.{Ret, bind}
 use Rattle.isle_reading.specs.Relations.{Many}
 use Rattle.isle_reading.proofs.Law.{Law, Heads, Nothing, Then, Either, law_map, law_next, law_then}

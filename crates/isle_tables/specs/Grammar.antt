@@ -1,5 +1,5 @@
 -- The grammar of written tables, a constructor a form: which tokens some tokens begin with, and which are after these.
-use Rattle.std.specs.Prelude.{◌≡◌, ℕ, List, [], ◌∷◌, ◌++◌, Bool, Option, Some, None, codes}
+use Rattle.std.specs.Prelude.{ℕ, List, [], ◌∷◌, ◌++◌, Bool, Option, Some, None, codes}
 use Rattle.isle_lexer.specs.Lexeme.{Lexeme}
 use Rattle.isle_reading.specs.Relations.{Many}
 use Rattle.isle_meta.specs.declared.clif.ImmField.{ImmField}
@@ -16,7 +16,7 @@ use Rattle.isle_meta.specs.declared.pulley.PulleyInst.{PulleyInst}
 use Rattle.isle_tables.specs.declared.item.InstRow.{InstRow}
 use Rattle.isle_tables.specs.declared.item.Item.{Item}
 use Rattle.isle_tables.specs.declared.item.Item.TheVariants as item
-use Rattle.isle_tables.specs.Words.{symbol_of, bits_of, kind_of, mutability_of, class_of}
+use Rattle.isle_tables.specs.Words.{bits_of, kind_of, mutability_of, class_of}
 use Rattle.isle_tables.specs.Pieces.{Opens, Closes, Key, Says, Symbol, PlacedS, FlagS, CountS}
 
 -- ---- formats

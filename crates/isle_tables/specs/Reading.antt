@@ -1,6 +1,5 @@
 -- Readers of written tables.
 use Rattle.std.specs.Prelude.{ℕ, List, [], ◌∷◌, ◌++◌, Bool, true, false, if◌then◌else◌, Option, Some, None, option_map, is_some, bytes_eq, codes}
-use Rattle.isle_lexer.specs.Lexeme.{Lexeme}
 use Rattle.isle_reading.specs.Combinators.{is_open, is_close, on_word, bytes, place, read_open, read_close, read_word, read_optional, words_from, many, all}
 use Rattle.isle_reading.specs.Reader.{Reader, Ret, Ask, Peek, bind}
 use Rattle.isle_meta.specs.declared.clif.ImmField.{ImmField}

@@ -1,4 +1,4 @@
-use Rattle.isle_reading.proofs.Steps.{passed, then_comes, bind_refuses}
+use Rattle.isle_reading.proofs.Steps.{then_comes}
 use Rattle.isle_tables.specs.Reading.{read_xops}
 use Rattle.isle_tables.proofs.assembler.xops.Goals as goal
 

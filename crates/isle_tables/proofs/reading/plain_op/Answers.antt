@@ -1,5 +1,5 @@
 use Rattle.std.proofs.Common.{rules}
-use Rattle.isle_reading.proofs.Steps.{passed, then_got, done_got, bind_refuses}
+use Rattle.isle_reading.proofs.Steps.{then_got, done_got}
 use Rattle.isle_tables.specs.Reading.{read_item_after}
 use Rattle.isle_tables.proofs.reading.plain_op.Goals as goal
 
