@@ -64,7 +64,7 @@ use Rattle.isle_run.proofs.GivenConstants.{each_declared}
 use Rattle.isle_run.proofs.LawfulNames.{HasLawfulNames}
 use Rattle.isle_run.proofs.NamedTests.{function_names_it}
 use Rattle.isle_run.proofs.ReturnedConstants.{given_in_function}
-use Rattle.isle_run.proofs.TestsOfRules.{ConstraintOf, constraint_of, in_either}
+use Rattle.isle_run.proofs.TestsOfRules.{ConstraintOf, constraint_of, in_either, tests_within}
 use Rattle.isle_run.proofs.OccurringTypes.{types_free, traits_free, types_made, tail_free, params_free}
 use Rattle.isle_run.proofs.PlacedExprs.{IsConstantValue}
 use Rattle.isle_run.proofs.SourceNames.{lawful_names}
