@@ -88,7 +88,6 @@ fn check_rows(alloc: Global, tables: &Tables) -> Result<(), TableFail>
 /// Looks for the first row that isn't supported: formats, instructions, then the rows of the assembler and of the
 /// interpreter (`specs/SupportedTables.antt`). `Unsupported` gives its name and the first shape that it breaks,
 /// `Memory` says that memory ran out. No other row is the first.
-#[tactic(auto, using(crate::proofs::TableLaws::first_told))]
 pub fn check_tables(alloc: Global, tables: &Tables) -> Result<(), TableFail>
     ensures checks { Checks (IsFirstUnsupported tables.now) result }
     ensures only { (first : Option Unsupported) → IsFirstUnsupported tables.now first
