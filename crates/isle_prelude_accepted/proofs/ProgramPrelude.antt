@@ -1,5 +1,6 @@
 -- The program's own tables are plain, so what is said of supported and plain tables holds of them.
 use Rattle.std.proofs.Common.{◌≡◌, false, refl, arith}
+use Rattle.isle_prelude.specs.NumberedNames.{value_array}
 use Rattle.isle_prelude_accepted.specs.Accepted.{IsPreludeAccepted}
 use Rattle.isle_prelude_accepted.specs.Compiled.{AreFilesCompiled}
 use Rattle.isle_prelude_accepted.specs.Plain.{ArePlain}
@@ -9,6 +10,7 @@ use Rattle.isle_table_check.specs.ProgramTables.{sample_tables}
 use Rattle.isle_table_check.proofs.ProgramTables.{sample_supported}
 
 pub sample_plain : ArePlain sample_tables
+unfolding value_array
 sample_plain = record {
   opt_spelt = refl;
   lower_spelt = refl;

@@ -18,7 +18,7 @@ pub fn prelude_accepted()
 
 /// Says that compiling it is refused only for want of memory: its definitions at whatever places, its texts, and files
 /// of a directory that hold them, if none of the directory's calls fails. It does nothing.
-#[tactic(auto, using(crate::proofs::CompiledPrelude::defs_compiled, crate::proofs::CompiledPrelude::texts_compiled, crate::proofs::CompiledPrelude::files_compiled))]
+#[tactic(auto, using(crate::proofs::CompiledPrelude::defs_compiled))]
 pub fn prelude_compiled()
     ensures defs { (t : Tables) → AreSupported t → ArePlain t → AreDefsCompiled t }
     ensures texts { (t : Tables) → AreSupported t → ArePlain t → AreTextsCompiled t }
@@ -26,7 +26,7 @@ pub fn prelude_compiled()
 {}
 
 /// Says so of the program's own tables, which are supported and plain. It does nothing.
-#[tactic(auto, using(crate::proofs::ProgramPrelude::sample_plain, crate::proofs::ProgramPrelude::sample_accepted, crate::proofs::ProgramPrelude::sample_compiled))]
+#[tactic(auto, using(crate::proofs::ProgramPrelude::sample_plain, crate::proofs::ProgramPrelude::sample_accepted))]
 pub fn sample_compiled()
     ensures plain { ArePlain sample_tables }
     ensures accepted { IsPreludeAccepted sample_tables }

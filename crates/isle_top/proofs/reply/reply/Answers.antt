@@ -14,6 +14,12 @@ returns-in-Ok-clause-ok g c =
     let is : seen_command c.args.line.now.command.now ≡ Compile c.in-Compile.options c.as_slice.result.now = search rules in
     compile_replies c.args.line.now.tables.now (seen_command c.args.line.now.command.now) c.in-Compile.options c.as_slice.result.now around is c.in-Ok.text.bytes.items c.in-Ok.ensures.ok c.in-Ok.ensures.tried
 
+pub returns-in-Err-clause-err : goal.returns-in-Err-clause-err
+returns-in-Err-clause-err g c =
+    let around : Around = record { files = g.D.Dir.files c.args.dir.now; before = g.D.Dir.counts c.args.dir.now; after = g.D.Dir.counts c.compiled.new.dir } in
+    let is : seen_command c.args.line.now.command.now ≡ Compile c.in-Compile.options c.as_slice.result.now = search rules in
+    compile_fails c.args.line.now.tables.now (seen_command c.args.line.now.command.now) c.in-Compile.options c.as_slice.result.now around is c.in-Err.e c.in-Err.ensures.err
+
 pub returns-in-Err-clause-complete : goal.returns-in-Err-clause-complete
 returns-in-Err-clause-complete g c = λ valid calm.
     let around : Around = record { files = g.D.Dir.files c.args.dir.now; before = g.D.Dir.counts c.args.dir.now; after = g.D.Dir.counts c.compiled.new.dir } in
