@@ -48,10 +48,7 @@ pub fn read_inputs<D: Dir>(
     ensures given { (D.counts dir.new).given
         ≤ (D.counts dir.old).given + (2 ^ 24 + 1) * length (bytes_each names.now) }
 {
-    match Files::from_paths(alloc, dir, names, prefixes) {
-        Ok(files) => Ok(files),
-        Err(fail) => Err(fail),
-    }
+    Files::from_paths(alloc, dir, names, prefixes)
 }
 
 // Appends names as printed.

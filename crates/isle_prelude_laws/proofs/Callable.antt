@@ -46,8 +46,10 @@ use Rattle.isle_types.specs.TypeEnvironment.{def_in, type_def_in, type_env_of}
 use Rattle.isle_types.specs.TypeNames.{declared_names, type_names}
 use Rattle.isle_types.proofs.SymbolsApart.{Stands, AllStand, names_stand}
 use Rattle.isle_writing.specs.Erased.{no_place}
+use Rattle.isle_core.specs.declared.position.Pos.{Pos}
 use Rattle.isle_prelude_laws.proofs.GivenTemplates.{given_extractor}
 use Rattle.isle_prelude_laws.proofs.GivenTerms.{IsGivenTerm}
+use Rattle.isle_prelude_laws.proofs.HeldDefs.{IsHeld}
 use Rattle.isle_prelude_laws.proofs.PartTerms.{IsOpaqueBody, IsOpaqueType}
 use Rattle.isle_prelude_laws.proofs.SizesThere.{filter_there}
 
@@ -84,21 +86,21 @@ called_so false turns cases = turns
 
 -- how a term with an external constructor is called
 pub given_calling : (defs : List Def) (env : Environment) (s : Signature) (a : TermId) (name func : List ℕ) → IsGivenIn defs env
-    → IsGivenTerm defs env s a → s.origin ≡ origin.Declared → s.term ≡ name → Contains defs (tree.ExternConstructor name func no_place)
+    → IsGivenTerm defs env s a → s.origin ≡ origin.Declared → s.term ≡ name → IsHeld defs (tree.ExternConstructor name func no_place)
     → calling env a ≡ called_so s.pure (ByTurns (External func) (kind_by s.multi s.partial)) (ByCases (External func) (kind_by s.multi s.partial))
 given_calling defs env s a name func g k own named c =
     let w = whole_of defs in
     let syms = symbols defs in
     let x : Extern = record { term = name; func = func } in
     let found : func_named (externs defs) s.term ≡ Some func =
-    ap (func_named (externs defs)) named ∙ extern_alone (externs defs) x (distinct_names (extern_terms (externs defs)) (terms_kept defs [] defs g.terms_kept).externs_apart) (filter_there extern_of defs (tree.ExternConstructor name func no_place) x c refl) in
+    ap (func_named (externs defs)) named ∙ extern_alone (externs defs) x (distinct_names (extern_terms (externs defs)) (terms_kept defs [] defs g.terms_kept).externs_apart) (filter_there extern_of defs (tree.ExternConstructor name func c.at) x c.among refl) in
     let made : constructor_named w s.term ≡ constructor.External (sym_of syms func) = ap (λ o. constructor_of syms o (has_rule (rule_defs defs) s.term)) found in
     let term_of : TermKind → Term = λ q. record { name = sym_of syms s.term; decl_pos = s.pos; arg_tys = k.decl.arg_tys; ret_ty = k.decl.ret_ty; kind = q } in
     ap (calling_of env) k.there ∙ ap (λ (t : Term). calling_of env (Some t)) (sym k.is)
     ∙ ap (λ o. calling_of env (Some (term_of (kind_from w s k.decl.ret_ty o)))) own
     ∙ ap (λ q. calling_of env (Some (term_of (kind.Decl s.pure s.multi s.partial s.recursive q (extracting_named w s.term))))) made
     ∙ by s.pure
-    ∙ ap (λ text. called_so s.pure (ByTurns (External text) (kind_by s.multi s.partial)) (ByCases (External text) (kind_by s.multi s.partial))) (text_is defs env func g (each_stands defs defs (tree.ExternConstructor name func no_place) (names_stand defs) c).1.0)
+    ∙ ap (λ text. called_so s.pure (ByTurns (External text) (kind_by s.multi s.partial)) (ByCases (External text) (kind_by s.multi s.partial))) (text_is defs env func g (each_stands defs defs (tree.ExternConstructor name func c.at) (names_stand defs) c.among).1.0)
   where
     by : (b : Bool) → calling_of env (Some (record {
       name = sym_of (symbols defs) s.term;
@@ -114,19 +116,19 @@ given_calling defs env s a name func g k own named c =
 -- how a term with an external extractor is called as one
 pub given_extracting : (defs : List Def) (env : Environment) (s : Signature) (a : TermId) (name func : List ℕ) (infallible : Bool)
     → IsGivenIn defs env → IsGivenTerm defs env s a → s.origin ≡ origin.Declared → s.term ≡ name
-    → Contains defs (tree.ExternExtractor name func infallible no_place)
+    → IsHeld defs (tree.ExternExtractor name func infallible no_place)
     → extracting env a ≡ ByCases (External func) (extractor_kind s.multi infallible)
 given_extracting defs env s a name func infallible g k own named c =
     let w = whole_of defs in
     let syms = symbols defs in
-    let x : ExtractorDef = record { term = name; by = ByFunction func infallible; pos = no_place } in
-    let found : extractor_named (extractors defs) s.term ≡ Some x = ap (extractor_named (extractors defs)) named ∙ given_extractor defs env x g (filter_there extractor_of defs (tree.ExternExtractor name func infallible no_place) x c refl) in
+    let x : ExtractorDef = record { term = name; by = ByFunction func infallible; pos = c.at } in
+    let found : extractor_named (extractors defs) s.term ≡ Some x = ap (extractor_named (extractors defs)) named ∙ given_extractor defs env x g (filter_there extractor_of defs (tree.ExternExtractor name func infallible c.at) x c.among refl) in
     let made : extracting_named w s.term ≡ extractor.External (sym_of syms func) infallible = ap (extractor_from syms) found in
     let term_of : TermKind → Term = λ q. record { name = sym_of syms s.term; decl_pos = s.pos; arg_tys = k.decl.arg_tys; ret_ty = k.decl.ret_ty; kind = q } in
     ap (extracting_of env) k.there ∙ ap (λ (t : Term). extracting_of env (Some t)) (sym k.is)
     ∙ ap (λ o. extracting_of env (Some (term_of (kind_from w s k.decl.ret_ty o)))) own
     ∙ ap (λ q. extracting_of env (Some (term_of (kind.Decl s.pure s.multi s.partial s.recursive (constructor_named w s.term) q)))) made
-    ∙ ap (λ text. ByCases (External text) (extractor_kind s.multi infallible)) (text_is defs env func g (each_stands defs defs (tree.ExternExtractor name func infallible no_place) (names_stand defs) c).1.0)
+    ∙ ap (λ text. ByCases (External text) (extractor_kind s.multi infallible)) (text_is defs env func g (each_stands defs defs (tree.ExternExtractor name func infallible c.at) (names_stand defs) c.among).1.0)
 
 -- ---- types
 
@@ -172,25 +174,25 @@ behind [] ys k = let at : 0 + k ≡ k = omega arith in ap (slice_get ys) at
 behind (x ∷ xs) ys k = let at : suc (length xs) + k ≡ suc (length xs + k) = omega arith in ap (slice_get (x ∷ xs ++ ys)) at ∙ behind xs ys k
 
 -- a type that is declared
-type_there : (defs : List Def) (env : Environment) (name : List ℕ) (is_extern : Bool) (b : AstBody) (ty : TypeId) → IsGivenIn defs env
-    → Contains defs (tree.TypeDecl name is_extern false b no_place) → type_named defs name ≡ Some ty
-    → slice_get env.types.types ty.0 ≡ Some (def_in defs name is_extern false b no_place)
-type_there defs env name is_extern b ty g c named =
-    let d = tree.TypeDecl name is_extern false b no_place in
-    let r = at_one_place type_of (type_def_in defs) (both_declare defs) defs d (record { name = name; body = b }) (def_in defs name is_extern false b no_place) c refl refl in
+type_there : (defs : List Def) (env : Environment) (name : List ℕ) (is_extern : Bool) (b : AstBody) (at : Pos) (ty : TypeId) → IsGivenIn defs env
+    → Contains defs (tree.TypeDecl name is_extern false b at) → type_named defs name ≡ Some ty
+    → slice_get env.types.types ty.0 ≡ Some (def_in defs name is_extern false b at)
+type_there defs env name is_extern b at ty g c named =
+    let d = tree.TypeDecl name is_extern false b at in
+    let r = at_one_place type_of (type_def_in defs) (both_declare defs) defs d (record { name = name; body = b }) (def_in defs name is_extern false b at) c refl refl in
     let k = length builtin_names + r.place in
-    let at : slice_get (type_names defs) k ≡ Some name = behind builtin_names (declared_names defs) r.place ∙ slice_get-map (λ (t : DeclaredType). t.name) (filter_map type_of defs) r.place ∙ ap (option_map (λ (t : DeclaredType). t.name)) r.first in
-    let place = place_is (type_names defs) k name (types_apart defs g.types_kept) at in
+    let there : slice_get (type_names defs) k ≡ Some name = behind builtin_names (declared_names defs) r.place ∙ slice_get-map (λ (t : DeclaredType). t.name) (filter_map type_of defs) r.place ∙ ap (option_map (λ (t : DeclaredType). t.name)) r.first in
+    let place = place_is (type_names defs) k name (types_apart defs g.types_kept) there in
     let same : type_id k ≡ ty = some_same (type_id k) ty (sym (ap (option_map type_id) place) ∙ named) in
     ap (λ (ts : TypeEnv). slice_get ts.types ty.0) g.types ∙ ap (λ (x : TypeId). slice_get (type_env_of defs).types x.0) (sym same) ∙ behind builtins (filter_map (type_def_in defs) defs) r.place ∙ r.second
 
 -- an opaque type has a value
 pub opaque_value : (defs : List Def) (env : Environment) (name : List ℕ) (ty : TypeId) → IsGivenIn defs env → IsOpaqueType defs name
     → type_named defs name ≡ Some ty → (v : Value) × HasType env v ty
-opaque_value defs env name ty g o named = by o.is_extern o.body o.is_opaque (type_there defs env name o.is_extern o.body ty g o.among named)
+opaque_value defs env name ty g o named = by o.is_extern o.body o.is_opaque (type_there defs env name o.is_extern o.body o.among.at ty g o.among.among named)
   where
     by : (is_extern : Bool) (b : AstBody) → IsOpaqueBody is_extern b
-        → slice_get env.types.types ty.0 ≡ Some (def_in defs name is_extern false b no_place) → (v : Value) × HasType env v ty
+        → slice_get env.types.types ty.0 ≡ Some (def_in defs name is_extern false b o.among.at) → (v : Value) × HasType env v ty
     by is_extern (body.Primitive rust) free at =
         let v = Opaque (sym_text env (sym_of (symbols defs) rust)) (pos 0) in
         (v, subst (λ x. IsSomeAnd x (λ d. IsOfDef env d v)) (sym at) (refl, fits_signed_from_abs w128 (pos 0) (omega arith)))

@@ -21,7 +21,7 @@ use Rattle.isle_core.specs.Value.{Value, Made}
 use Rattle.isle_core.proofs.Contained.{head_contained, contained_cases, none_contained}
 use Rattle.isle_prelude_laws.specs.GivenCalls.{GivenCall, given_calls}
 use Rattle.isle_prelude_laws.specs.HonestMeaning.{Whole, taker, answer_to, IsTakenBack, IsHonest}
-use Rattle.isle_meta.specs.declared.tables.Tables.{Tables}
+use Rattle.isle_ast.specs.Tree.{Def}
 use Rattle.isle_prelude_laws.specs.RoundTrip.{extractor_pattern, IsMadeOf, AnswersPattern, IsHonestlyMade}
 use Rattle.isle_prelude_laws.proofs.Gives.{Gives, IsAllowedCall, IsCalledMaker, ComesTo, comes_to, called_makers, no_constants}
 use Rattle.isle_prelude_laws.proofs.Operands.{variables_from, IsPlainRule, rule_operands, not_yet}
@@ -154,6 +154,6 @@ module _ (env : Environment) (term : TermId) (operands : List Value) (p : Plan) 
       (prescription_of (rule_value env (planned p) h.rule s.0 made), one_rule h.rule s.0 highest, ap (λ e. (prescription_of e).result) c.is)
 
   -- all of it
-  pub plan_holds : (t : Tables) → IsSomeAnd (extractor_pattern t term) (AnswersPattern env (planned p)) → (made : List Made)
-      → IsHonestlyMade t env term operands made (planned p)
-  plan_holds t answers made = record { lawful = plan_lawful; answers = answers; honest = plan_honest made; value = h.value; gives = plan_gives made }
+  pub plan_holds : (defs : List Def) → IsSomeAnd (extractor_pattern defs term) (AnswersPattern env (planned p)) → (made : List Made)
+      → IsHonestlyMade defs env term operands made (planned p)
+  plan_holds defs answers made = record { lawful = plan_lawful; answers = answers; honest = plan_honest made; value = h.value; gives = plan_gives made }

@@ -9,6 +9,7 @@ use Rattle.std.proofs.lemmas.List.Elements.{All-contains}
 use Rattle.std.proofs.lemmas.Option.{slice_get-get_or, slice_get-map}
 use Rattle.isle_base.specs.declared.ids.TermId.{TermId}
 use Rattle.isle_base.specs.declared.ids.TypeId.{TypeId}
+use Rattle.isle_core.specs.declared.position.Pos.{Pos}
 use Rattle.isle_core.specs.declared.types.Term.{Term}
 use Rattle.isle_core.specs.Calling.{kind_of, may_be_nothing}
 use Rattle.isle_core.specs.ExprType.{in_right_side, IsExprOf}
@@ -46,9 +47,9 @@ use Rattle.isle_terms.specs.TermPass.{types_named}
 use Rattle.isle_terms.specs.TypeNames.{type_named}
 use Rattle.isle_terms.specs.Whole.{whole_of, termed, arg_types, ret_type}
 use Rattle.isle_terms.proofs.MadeTerms.{types_are}
-use Rattle.isle_writing.specs.Erased.{no_place}
+use Rattle.isle_writing.specs.Erased.{placed}
 use Rattle.isle_prelude_laws.specs.HonestMeaning.{Whole, maker, taker}
-use Rattle.isle_prelude_laws.specs.RoundTrip.{opt_source, IsInstruction, extractor_pattern}
+use Rattle.isle_prelude_laws.specs.RoundTrip.{AreOptSource, IsInstruction, extractor_pattern}
 use Rattle.isle_prelude_laws.proofs.Apart.{MakesThis}
 use Rattle.isle_prelude_laws.proofs.GivenRules.{IsOnlyRule, given_rule}
 use Rattle.isle_prelude_laws.proofs.GivenTemplates.{AreParams, by_function, by_making, given_template, given_params}
@@ -57,8 +58,9 @@ use Rattle.isle_prelude_laws.proofs.InstructionTexts.{simple_right, over_templat
 use Rattle.isle_prelude_laws.proofs.Laid.{manner_by, whole_by, HasWhole, IsLaid}
 use Rattle.isle_prelude_laws.proofs.Mirror.{IsPair}
 use Rattle.isle_prelude_laws.proofs.NamedTrees.{PatternNamed}
-use Rattle.isle_prelude_laws.proofs.OptConverters.{opt_converts}
-use Rattle.isle_prelude_laws.proofs.OptDefs.{term_there, extractor_there, rule_there, in_instruction, heads_apart, IsVariantOf, opcode_there, data_there}
+use Rattle.isle_prelude_laws.proofs.HeldDefs.{IsHeld, held, held_converts, held_heads}
+use Rattle.isle_prelude_laws.proofs.OptDefs.{term_there, extractor_there, rule_there, in_instruction}
+use Rattle.isle_prelude_laws.proofs.VariantTerms.{IsVariantOf, opcode_there, data_there}
 use Rattle.isle_prelude_laws.proofs.PartTerms.{taker_func, taker_sure, taker_extracts, pairs}
 use Rattle.isle_prelude_laws.proofs.PassedTrees.{numbers, pattern_named}
 use Rattle.isle_prelude_laws.proofs.RuleParts.{HasParts, given_parts}
@@ -98,20 +100,20 @@ valued_or (suc zero) true = (false, refl)
 valued_or (suc (suc n)) e = (false, refl)
 
 -- the signature of its term
-abbrev own_signature : Manner → Instruction → Signature
-own_signature m i = record { term = i.name; pure = false; multi = false; partial = false; recursive = false; args = parameter_types m i; ret = m.ret; pos = no_place; origin = origin.Declared }
+abbrev own_signature : Manner → Instruction → Pos → Signature
+own_signature m i at = record { term = i.name; pure = false; multi = false; partial = false; recursive = false; args = parameter_types m i; ret = m.ret; pos = at; origin = origin.Declared }
 
 -- its template
 abbrev own_template : Manner → InstructionFormat → Instruction → Template
 own_template m f i = record { params = parameters m i; pattern = template m f i }
 
 -- its extractor
-abbrev own_extractor : Manner → InstructionFormat → Instruction → ExtractorDef
-own_extractor m f i = record { term = i.name; by = ByTemplate (own_template m f i); pos = no_place }
+abbrev own_extractor : Manner → InstructionFormat → Instruction → Pos → ExtractorDef
+own_extractor m f i at = record { term = i.name; by = ByTemplate (own_template m f i); pos = at }
 
 -- its rule
-abbrev own_rule : Bool → InstructionFormat → Instruction → RuleDef
-own_rule b f i = record { name = None; prio = pos 0; term = i.name; args = variables (parameters (manner_by b) i); iflets = []; rhs = right_side (maker (whole_by b)) (manner_by b) f i; pos = no_place }
+abbrev own_rule : Bool → InstructionFormat → Instruction → Pos → RuleDef
+own_rule b f i at = record { name = None; prio = pos 0; term = i.name; args = variables (parameters (manner_by b) i); iflets = []; rhs = right_side (maker (whole_by b)) (manner_by b) f i; pos = at }
 
 rule_in : (b : Bool) (f : InstructionFormat) (i : Instruction)
     → Contains (instruction_defs (Some (manner_by b)) f i) (making_rule (maker (whole_by b)) (manner_by b) f i)
@@ -125,32 +127,39 @@ record IsTaken (t : Tables) (i : Instruction) (f : InstructionFormat) (b : Bool)
   listless : f.has_value_list ≡ false
   manner : optimized i.value_results (i.can_trap || i.other_side_effects) ≡ manner_by b
 
-module _ (t : Tables) (i : Instruction) (f : InstructionFormat) (b : Bool) (h : IsTaken t i f b) where
+module _ (t : Tables) (defs : List Def) (like : AreOptSource t defs) (i : Instruction) (f : InstructionFormat) (b : Bool) (h : IsTaken t i f b) where
   manner_is : opt_manner f.has_value_list i ≡ Some (manner_by b)
   manner_is = ap (λ listed. opt_manner listed i) h.listless ∙ ap Some h.manner
 
-  own_there : (d : Def) → Contains (instruction_defs (Some (manner_by b)) f i) d → Contains (opt_source t) d
-  own_there d c = in_instruction t i f (manner_by b) d h.among h.is manner_is c
+  own_there : (d : Def) → Contains (instruction_defs (Some (manner_by b)) f i) d → IsHeld defs d
+  own_there d c = held t defs like d (in_instruction t i f (manner_by b) d h.among h.is manner_is c)
 
-  own_declared : Contains (terms (opt_source t)) (own_signature (manner_by b) i)
-  own_declared = term_there (opt_source t) (declaration (manner_by b) i) (own_signature (manner_by b) i) (own_there (declaration (manner_by b) i) (0, omega arith, refl)) (head_contained (own_signature (manner_by b) i) [])
+  own_declared : (at : Pos) × Contains (terms defs) (own_signature (manner_by b) i at)
+  own_declared =
+      let r = own_there (declaration (manner_by b) i) (0, omega arith, refl) in
+      let s = own_signature (manner_by b) i r.at in
+      (r.at, term_there defs (placed r.at (declaration (manner_by b) i)) s r.among (head_contained s []))
 
-  own_extracted : Contains (extractors (opt_source t)) (own_extractor (manner_by b) f i)
-  own_extracted = extractor_there (opt_source t) (extractor (manner_by b) f i) (own_extractor (manner_by b) f i) (own_there (extractor (manner_by b) f i) (1, omega arith, refl)) refl
+  own_extracted : (at : Pos) × Contains (extractors defs) (own_extractor (manner_by b) f i at)
+  own_extracted =
+      let r = own_there (extractor (manner_by b) f i) (1, omega arith, refl) in
+      (r.at, extractor_there defs (placed r.at (extractor (manner_by b) f i)) (own_extractor (manner_by b) f i r.at) r.among refl)
 
-  own_ruled : Contains (rule_defs (opt_source t)) (own_rule b f i)
-  own_ruled = rule_there (opt_source t) (making_rule (maker (whole_by b)) (manner_by b) f i) (own_rule b f i) (own_there (making_rule (maker (whole_by b)) (manner_by b) f i) (rule_in b f i)) refl
+  own_ruled : (at : Pos) × Contains (rule_defs defs) (own_rule b f i at)
+  own_ruled =
+      let d = making_rule (maker (whole_by b)) (manner_by b) f i in
+      let r = own_there d (rule_in b f i) in
+      (r.at, rule_there defs (placed r.at d) (own_rule b f i r.at) r.among refl)
 
 -- the number of the instruction's term
-own_number : (t : Tables) (env : Environment) (i : Instruction) (f : InstructionFormat) (b : Bool) (term : TermId) → Typed (opt_source t) env
-    → IsTaken t i f b → term.0 < length env.terms → term_name env term ≡ i.name → term_named (terms (opt_source t)) i.name ≡ Some term
-own_number t env i f b term typed h there named =
-    let defs = opt_source t in
+own_number : (t : Tables) (defs : List Def) (like : AreOptSource t defs) (env : Environment) (i : Instruction) (f : InstructionFormat) (b : Bool) (term : TermId) → Typed defs env
+    → IsTaken t i f b → term.0 < length env.terms → term_name env term ≡ i.name → term_named (terms defs) i.name ≡ Some term
+own_number t defs like env i f b term typed h there named =
     let g = given_in typed in
-    let s = own_signature (manner_by b) i in
-    let c = own_declared t i f b h in
-    let n = given_number defs env s g c in
-    let k = given_term defs env s n.0 g c n.1 in
+    let c = own_declared t defs like i f b h in
+    let s = own_signature (manner_by b) i c.0 in
+    let n = given_number defs env s g c.1 in
+    let k = given_term defs env s n.0 g c.1 n.1 in
     let at = is_there env.terms term.0 there in
     let same = one_term defs env n.0 term k.decl at.0 typed k.there at.1 (given_name defs env s n.0 g k ∙ sym named) in
     n.1 ∙ ap Some same
@@ -168,37 +177,43 @@ variant_made {defs = defs} {env = env} {n = n} g v a number =
 -- ---- the instruction
 
 -- an instruction whose term is laid out in the environment, with its place among the opcodes
-pub record IsLaidOut (t : Tables) (env : Environment) (i : Instruction) (term : TermId) : Type 0 where
+pub record IsLaidOut (t : Tables) (defs : List Def) (env : Environment) (i : Instruction) (term : TermId) : Type 0 where
   pub format : InstructionFormat
   pub is_valued : Bool
   pub manner : optimized i.value_results (i.can_trap || i.other_side_effects) ≡ manner_by is_valued
   pub pattern : Pattern
-  pub whole : extractor_pattern t term ≡ Some pattern
-  pub laid : IsLaid env (numbers (whole_of (opt_source t))) format i is_valued term pattern
+  pub whole : extractor_pattern defs term ≡ Some pattern
+  pub laid : IsLaid env (numbers (whole_of defs)) format i is_valued term pattern
   pub place : slice_get t.instructions laid.place.0 ≡ Some i
-  pub opcodes : type_named (opt_source t) (codes "Opcode") ≡ Some laid.opcodes
+  pub opcodes : type_named defs (codes "Opcode") ≡ Some laid.opcodes
   pub many : length (parameters (manner_by is_valued) i) ≡ length laid.decl.arg_tys
-  pub args : types_named (opt_source t) (parameter_types (manner_by is_valued) i) ≡ Some laid.decl.arg_tys
+  pub args : types_named defs (parameter_types (manner_by is_valued) i) ≡ Some laid.decl.arg_tys
   pub apart : IsDistinct bytes_eq (parameters (manner_by is_valued) i)
 
-module _ (t : Tables) (env : Environment) (i : Instruction) (f : InstructionFormat) (b : Bool) (term : TermId) (supported : AreSupported t) (typed : Typed (opt_source t) env) (h : IsTaken t i f b) (number : term_named (terms (opt_source t)) i.name ≡ Some term) where
+module _ (t : Tables) (defs : List Def) (like : AreOptSource t defs) (env : Environment) (i : Instruction) (f : InstructionFormat) (b : Bool) (term : TermId) (supported : AreSupported t) (typed : Typed defs env) (h : IsTaken t i f b) (number : term_named (terms defs) i.name ≡ Some term) where
   -- its parameters
   abbrev own_params : List (List ℕ)
   own_params = parameters (manner_by b) i
 
-  own_given : IsGivenTerm (opt_source t) env (own_signature (manner_by b) i) term
-  own_given = given_term (opt_source t) env (own_signature (manner_by b) i) term (given_in typed) (own_declared t i f b h) number
+  own_is : (at : Pos) × Contains (terms defs) (own_signature (manner_by b) i at)
+  own_is = own_declared t defs like i f b h
 
-  own_alone : termed (whole_of (opt_source t)) i.name ≡ Some (own_signature (manner_by b) i)
-  own_alone = term_alone (terms (opt_source t)) (own_signature (manner_by b) i) (names_apart (opt_source t) env (given_in typed)) (own_declared t i f b h)
+  -- its signature
+  abbrev own : Signature
+  own = own_signature (manner_by b) i own_is.0
+
+  own_given : IsGivenTerm defs env own term
+  own_given = given_term defs env own term (given_in typed) own_is.1 number
+
+  own_alone : termed (whole_of defs) i.name ≡ Some own
+  own_alone = term_alone (terms defs) own (names_apart defs env (given_in typed)) own_is.1
 
   -- the terms of its parts
-  pair_is : (w : Whole) → HasWhole b i w → (x y : TermId) → numbers (whole_of (opt_source t)) (maker w) ≡ Some x
-      → numbers (whole_of (opt_source t)) (taker w) ≡ Some y → IsPair env x y w
+  pair_is : (w : Whole) → HasWhole b i w → (x y : TermId) → numbers (whole_of defs) (maker w) ≡ Some x
+      → numbers (whole_of defs) (taker w) ≡ Some y → IsPair env x y w
   pair_is w has x y is_x is_y =
-      let defs = opt_source t in
       let g = given_in typed in
-      let p = pairs t supported i f h.among h.is h.listless b w has in
+      let p = pairs t defs like supported i f h.among h.is h.listless b w has in
       let kx = given_term defs env p.made.signature x g p.made.among (ap (term_named (terms defs)) p.made.named ∙ is_x) in
       let ky = given_term defs env p.taken.signature y g p.taken.among (ap (term_named (terms defs)) p.taken.named ∙ is_y) in
       record {
@@ -208,64 +223,71 @@ module _ (t : Tables) (env : Environment) (i : Instruction) (f : InstructionForm
         taker = given_name defs env p.taken.signature y g ky ∙ p.taken.named;
       }
 
-  none_taken : (w : Whole) → HasWhole b i w → HasNone (numbers (whole_of (opt_source t))) (templates (whole_of (opt_source t))) (taker w)
+  none_taken : (w : Whole) → HasWhole b i w → HasNone (numbers (whole_of defs)) (templates (whole_of defs)) (taker w)
   none_taken w has a is =
-      let defs = opt_source t in
       let g = given_in typed in
-      let p = pairs t supported i f h.among h.is h.listless b w has in
+      let p = pairs t defs like supported i f h.among h.is h.listless b w has in
       let k = given_term defs env p.taken.signature a g p.taken.among (ap (term_named (terms defs)) p.taken.named ∙ is) in
-      by_function defs env p.taken.signature a (record { term = taker w; by = ByFunction (taker_func w) (taker_sure w); pos = no_place }) (taker_func w) (taker_sure w) g k (taker_extracts defs w p) (sym p.taken.named) refl
+      let x = taker_extracts defs w p in
+      by_function defs env p.taken.signature a (record { term = taker w; by = ByFunction (taker_func w) (taker_sure w); pos = x.0 }) (taker_func w) (taker_sure w) g k x.1 (sym p.taken.named) refl
 
   -- its parameters
-  params_are : AreParams (own_signature (manner_by b) i) own_params
-  params_are = given_params (opt_source t) env (own_signature (manner_by b) i) (own_extractor (manner_by b) f i) (own_template (manner_by b) f i) (given_in typed) own_alone (own_extracted t i f b h) refl refl
+  params_are : AreParams own own_params
+  params_are =
+      let x = own_extracted t defs like i f b h in
+      given_params defs env own (own_extractor (manner_by b) f i x.0) (own_template (manner_by b) f i) (given_in typed) own_alone x.1 refl refl
 
-  types_are_own : arg_types (whole_of (opt_source t)) (termed (whole_of (opt_source t)) i.name) ≡ map Some own_given.decl.arg_tys
-  types_are_own = ap (arg_types (whole_of (opt_source t))) own_alone ∙ types_are (opt_source t) (parameter_types (manner_by b) i) own_given.decl.arg_tys own_given.args
+  types_are_own : arg_types (whole_of defs) (termed (whole_of defs) i.name) ≡ map Some own_given.decl.arg_tys
+  types_are_own = ap (arg_types (whole_of defs)) own_alone ∙ types_are defs (parameter_types (manner_by b) i) own_given.decl.arg_tys own_given.args
 
   params_many : length own_params ≡ length own_given.decl.arg_tys
   params_many =
-      params_are.many ∙ sym (length-map (parameter_types (manner_by b) i) (type_named (opt_source t))) ∙ ap length (types_are (opt_source t) (parameter_types (manner_by b) i) own_given.decl.arg_tys own_given.args) ∙ length-map own_given.decl.arg_tys Some
+      params_are.many ∙ sym (length-map (parameter_types (manner_by b) i) (type_named defs)) ∙ ap length (types_are defs (parameter_types (manner_by b) i) own_given.decl.arg_tys own_given.args) ∙ length-map own_given.decl.arg_tys Some
 
   -- its template
-  template_is : (q : Pattern) × (template_of (templates (whole_of (opt_source t))) term ≡ Some q) × PatternNamed (numbers (whole_of (opt_source t))) own_params (template (manner_by b) f i) q
+  template_is : (q : Pattern) × (template_of (templates (whole_of defs)) term ≡ Some q) × PatternNamed (numbers (whole_of defs)) own_params (template (manner_by b) f i) q
   template_is =
-      let defs = opt_source t in
       let w = whole_of defs in
-      let own = own_template (manner_by b) f i in
-      let q = given_template defs env (own_signature (manner_by b) i) term (own_extractor (manner_by b) f i) own (given_in typed) own_given (own_extracted t i f b h) refl refl in
+      let x = own_extracted t defs like i f b h in
+      let q = given_template defs env own term (own_extractor (manner_by b) f i x.0) (own_template (manner_by b) f i) (given_in typed) own_given x.1 refl refl in
       let types = arg_types w (termed w i.name) in
-      (q.0, q.2, pattern_named w (opt_converts t) own_params types (parameters_of w i.name own_params) (params_listed own_params types params_are.apart) (ret_type w (termed w i.name)) (template (manner_by b) f i) q.0 (over_template b f i h.listless) q.1)
+      (q.0, q.2, pattern_named w (held_converts t defs like) own_params types (parameters_of w i.name own_params) (params_listed own_params types params_are.apart) (ret_type w (termed w i.name)) (template (manner_by b) f i) q.0 (over_template b f i h.listless) q.1)
 
   -- its rule
-  rule_is : IsOnlyRule (whole_of (opt_source t)) (own_rule b f i) term env.rules
-  rule_is = given_rule (opt_source t) env term (own_rule b f i) (given_in typed) (heads_apart t (signatures_apart (opt_source t) env (given_in typed))) number (own_ruled t i f b h)
+  ruled_is : (at : Pos) × Contains (rule_defs defs) (own_rule b f i at)
+  ruled_is = own_ruled t defs like i f b h
 
-  rule_parts : HasParts (whole_of (opt_source t)) own_params (own_rule b f i) rule_is.rule own_given.decl.arg_tys
-  rule_parts = given_parts (whole_of (opt_source t)) rule_is.number own_params (own_rule b f i) rule_is.rule own_given.decl.arg_tys (opt_converts t) rule_is.given refl refl (simple_right b f i) params_are.apart params_many types_are_own
+  -- its rule
+  abbrev ruled : RuleDef
+  ruled = own_rule b f i ruled_is.0
+
+  rule_is : IsOnlyRule (whole_of defs) ruled term env.rules
+  rule_is = given_rule defs env term ruled (given_in typed) (held_heads t defs like (signatures_apart defs env (given_in typed))) number ruled_is.1
+
+  rule_parts : HasParts (whole_of defs) own_params ruled rule_is.rule own_given.decl.arg_tys
+  rule_parts = given_parts (whole_of defs) rule_is.number own_params ruled rule_is.rule own_given.decl.arg_tys (held_converts t defs like) rule_is.given refl refl (simple_right b f i) params_are.apart params_many types_are_own
 
   rule_is_typed : IsExprOf env (in_right_side (may_be_nothing (kind_of own_given.decl.kind))) (rule_typed rule_is.rule) own_given.decl.ret_ty rule_is.rule.rhs
   rule_is_typed =
-      let r = All-contains (IsTypedRule env) env.rules rule_is.rule (typed_rules (opt_source t) env typed) rule_is.among in
-      let m = rule_made (whole_of (opt_source t)) rule_is.number (own_rule b f i) rule_is.rule rule_is.given in
+      let r = All-contains (IsTypedRule env) env.rules rule_is.rule (typed_rules defs env typed) rule_is.among in
+      let m = rule_made (whole_of defs) rule_is.number ruled rule_is.rule rule_is.given in
       let root : rule_is.rule.root_term ≡ term = some_same rule_is.rule.root_term term (sym m.root ∙ number) in
       let same : r.term ≡ own_given.decl = some_same r.term own_given.decl (sym r.root ∙ ap (λ (x : TermId). slice_get env.terms x.0) root ∙ own_given.there) in
       subst (λ (d : Term). IsExprOf env (in_right_side (may_be_nothing (kind_of d.kind))) (rule_typed rule_is.rule) d.ret_ty rule_is.rule.rhs) same r.typed.rhs
 
   -- all of it
-  lay_out : IsLaidOut t env i term
+  lay_out : IsLaidOut t defs env i term
   lay_out =
-      let defs = opt_source t in
       let w = whole_of defs in
       let g = given_in typed in
       let lt = h.among.1 in
       let at : slice_get t.instructions h.among.0 ≡ Some i = slice_get-get_or t.instructions h.among.0 i lt ∙ ap Some h.among.2 in
-      let op = opcode_there t h.among.0 i at in
-      let held = data_there t i.format f h.is in
+      let op = opcode_there t defs like h.among.0 i at in
+      let of_format = data_there t defs like i.format f h.is in
       let op_number = given_number defs env op.signature g op.among in
       let op_made = variant_made g op op_number.0 (ap (term_named (terms defs)) (sym op.named) ∙ op_number.1) in
       let q = template_is in
-      let plain = plain_template (HasNone (numbers w) (templates w)) b f i h.listless (λ a is. (variant_made g held a is).3) (λ a is. (variant_made g op a is).3) none_taken in
+      let plain = plain_template (HasNone (numbers w) (templates w)) b f i h.listless (λ a is. (variant_made g of_format a is).3) (λ a is. (variant_made g op a is).3) none_taken in
       record {
         format = f;
         is_valued = b;
@@ -284,7 +306,7 @@ module _ (t : Tables) (env : Environment) (i : Instruction) (f : InstructionForm
           typed = rule_is_typed;
           taken = q.2;
           occurs = (templates_typed defs env g term own_given.decl q.0 own_given.there q.1).occurs;
-          data_made = λ d is. let v = variant_made g held d is in record { ty = v.0; variant = record { 0 = i.format }; made = v.2 };
+          data_made = λ d is. let v = variant_made g of_format d is in record { ty = v.0; variant = record { 0 = i.format }; made = v.2 };
           opcodes = op_made.0;
           place = record { 0 = h.among.0 };
           opcode_made = λ o is. let v = variant_made g op o is in subst (λ (ty : TypeId). MakesThis env o ty (record { 0 = h.among.0 })) (some_same v.0 op_made.0 (sym v.1 ∙ op_made.1)) v.2;
@@ -298,22 +320,21 @@ module _ (t : Tables) (env : Environment) (i : Instruction) (f : InstructionForm
       }
 
 -- each instruction is laid out
-pub laid_out : (t : Tables) (env : Environment) (i : Instruction) (term : TermId) → AreSupported t → Typed (opt_source t) env
-    → IsInstruction t env i term → IsLaidOut t env i term
-laid_out t env i term supported typed h =
+pub laid_out : (t : Tables) (defs : List Def) (like : AreOptSource t defs) (env : Environment) (i : Instruction) (term : TermId) → AreSupported t → Typed defs env
+    → IsInstruction t env i term → IsLaidOut t defs env i term
+laid_out t defs like env i term supported typed h =
     let m = valued_or i.value_results (i.can_trap || i.other_side_effects) in
     let taken : IsTaken t i h.format m.0 = record { among = h.among; is = h.is; listless = h.listless; manner = m.1 } in
-    lay_out t env i h.format m.0 term supported typed taken (own_number t env i h.format m.0 term typed taken h.there h.named)
+    lay_out t defs like env i h.format m.0 term supported typed taken (own_number t defs like env i h.format m.0 term typed taken h.there h.named)
 
 -- an instruction that the file takes has a term in an environment that its definitions give
-pub instruction_there : (t : Tables) (env : Environment) (i : Instruction) (f : InstructionFormat) → Typed (opt_source t) env
+pub instruction_there : (t : Tables) (defs : List Def) (like : AreOptSource t defs) (env : Environment) (i : Instruction) (f : InstructionFormat) → Typed defs env
     → Contains t.instructions i → slice_get t.formats i.format ≡ Some f → f.has_value_list ≡ false → (term : TermId) × IsInstruction t env i term
-instruction_there t env i f typed among is listless =
+instruction_there t defs like env i f typed among is listless =
     let m = valued_or i.value_results (i.can_trap || i.other_side_effects) in
-    let defs = opt_source t in
     let g = given_in typed in
-    let s = own_signature (manner_by m.0) i in
-    let c = own_declared t i f m.0 (record { among = among; is = is; listless = listless; manner = m.1 }) in
-    let n = given_number defs env s g c in
-    let k = given_term defs env s n.0 g c n.1 in
+    let c = own_declared t defs like i f m.0 (record { among = among; is = is; listless = listless; manner = m.1 }) in
+    let s = own_signature (manner_by m.0) i c.0 in
+    let n = given_number defs env s g c.1 in
+    let k = given_term defs env s n.0 g c.1 n.1 in
     (n.0, record { among = among; format = f; is = is; listless = listless; there = at_below env.terms n.0.0 k.decl k.there; named = given_name defs env s n.0 g k })

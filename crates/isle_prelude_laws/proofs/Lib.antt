@@ -18,6 +18,8 @@ pub mod SupportedRows
 pub mod SizesThere
 pub mod OptDefs
 pub mod OptConverters
+pub mod HeldDefs
+pub mod VariantTerms
 pub mod InstructionTexts
 pub mod PartTerms
 pub mod Callable

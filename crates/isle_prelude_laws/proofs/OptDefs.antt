@@ -1,21 +1,15 @@
 -- What stands among the definitions of an optimizer.
-use Rattle.std.proofs.Common.{◌≡◌, ℕ, zero, suc, ◌+◌, List, [], ◌∷◌, ◌++◌, map, Bool, true, false, Option, Some, None, refl, sym, ap, ◌∙◌, subst, ⊎_elim, arith}
-use Rattle.std.specs.Prelude.{◌||◌, Contains, option_map, slice_get, codes}
+use Rattle.std.proofs.Common.{◌≡◌, ℕ, zero, suc, ◌+◌, List, [], ◌∷◌, ◌++◌, map, Bool, true, false, Option, Some, None, refl, sym, ap, ◌∙◌, subst, ⊎_elim}
+use Rattle.std.specs.Prelude.{◌||◌, Contains, slice_get, codes}
 use Rattle.std.specs.List.{IsDistinct, flat_map, cons_option}
 use Rattle.std.specs.Str.{bytes_eq}
 use Rattle.std.proofs.lemmas.List.{map-append}
 use Rattle.std.proofs.lemmas.List.Elements.{Contains-append_left, Contains-append_right, filter_map-append}
-use Rattle.std.proofs.lemmas.Option.{slice_get-map}
-use Rattle.isle_core.specs.declared.position.Pos.{Pos}
-use Rattle.isle_core.proofs.Contained.{head_contained, tail_contained, contained_cases, none_contained}
-use Rattle.isle_core.proofs.OptionLaws.{some_same}
+use Rattle.isle_core.proofs.Contained.{contained_cases, none_contained}
 use Rattle.isle_ast.specs.Tree.{Def}
-use Rattle.isle_ast.specs.declared.tree.AstVariant.{AstVariant}
-use Rattle.isle_declarations.specs.declared.terms.Origin.TheVariants as origin
-use Rattle.isle_declarations.specs.DeclaredTypes.{variant_term}
 use Rattle.isle_declarations.specs.Heads.{terms_of, heads_of}
 use Rattle.isle_declarations.specs.Signatures.{Signature, ExtractorDef, RuleDef, signature_of, extractor_of, rule_of, signatures, extractors, rule_defs}
-use Rattle.isle_declarations.specs.Terms.{made_signature, variant_signatures, terms_by, terms}
+use Rattle.isle_declarations.specs.Terms.{terms_by, terms}
 use Rattle.isle_meta.specs.declared.clif.Instruction.{Instruction}
 use Rattle.isle_meta.specs.declared.clif.InstructionFormat.{InstructionFormat}
 use Rattle.isle_meta.specs.declared.tables.Tables.{Tables}
@@ -23,11 +17,10 @@ use Rattle.isle_meta.specs.FormatRow.{all_fields}
 use Rattle.isle_prelude.specs.Arrays.{value_array_sizes, block_array_sizes, value_array_defs, block_array_defs, arrays}
 use Rattle.isle_prelude.specs.ClifFiles.{instruction_defs, of_format, opt_defs}
 use Rattle.isle_prelude.specs.CommonDefs.{imm_enum, imm_defs, common_defs}
-use Rattle.isle_prelude.specs.Declaring.{bare, primitive, extern_enum}
+use Rattle.isle_prelude.specs.Declaring.{primitive}
 use Rattle.isle_prelude.specs.Immediates.{plain_types, enum_types}
 use Rattle.isle_meta.specs.declared.clif.ImmField.{ImmField}
-use Rattle.isle_writing.specs.Erased.{no_place}
-use Rattle.isle_prelude.specs.InstructionData.{format_variant, data_defs}
+use Rattle.isle_prelude.specs.InstructionData.{data_defs}
 use Rattle.isle_prelude.specs.Manners.{Manner, optimized, opt_manner}
 use Rattle.isle_prelude.specs.WrittenPrelude.{shared_types, ctor_defs, opt_terms, ctor_sizes, written_defs}
 use Rattle.isle_prelude_laws.specs.RoundTrip.{opt_source}
@@ -98,60 +91,6 @@ in_instruction t i f m d among is taken c =
     in_opt t d (Contains-append_right (common_defs t) (instructions_of t) d
     (flat_there (λ (j : Instruction). of_format opt_manner (slice_get t.formats j.format) j) t.instructions i d among
     (subst (λ o. Contains (of_format opt_manner o i) d) (sym is) (subst (λ o. Contains (instruction_defs o f i) d) (sym taken) c))))
-
--- ---- variants
-
-variant_there : (ty : List ℕ) (pos : Pos) (i k : ℕ) (vs : List AstVariant) (v : AstVariant) → slice_get vs k ≡ Some v
-    → Contains (variant_signatures ty pos i vs) (made_signature (variant_term ty v.name) ty v.fields (origin.Variant (i + k)) pos)
-variant_there ty pos i k [] v h = absurd cc
-variant_there ty pos i zero (w ∷ vs) v h =
-    let first : AstVariant → ℕ → Signature = λ u n. made_signature (variant_term ty u.name) ty u.fields (origin.Variant n) pos in
-    let at : i ≡ i + 0 = omega arith in
-    subst (Contains (variant_signatures ty pos i (w ∷ vs))) (ap (λ u. first u i) (some_same w v h) ∙ ap (first v) at) (head_contained (first w i) (variant_signatures ty pos (i + 1) vs))
-variant_there ty pos i (suc k) (w ∷ vs) v h =
-    let first : AstVariant → ℕ → Signature = λ u n. made_signature (variant_term ty u.name) ty u.fields (origin.Variant n) pos in
-    let at : i + 1 + k ≡ i + suc k = omega arith in
-    tail_contained (first w i) (variant_signatures ty pos (i + 1) vs) (first v (i + suc k)) (subst (λ n. Contains (variant_signatures ty pos (i + 1) vs) (first v n)) at (variant_there ty pos (i + 1) k vs v h))
-
--- a term that a variant makes: of this name, the k-th of the type
-pub record IsVariantOf (defs : List Def) (name ty : List ℕ) (k : ℕ) : Type 0 where
-  pub signature : Signature
-  pub among : Contains (terms defs) signature
-  pub named : signature.term ≡ name
-  pub made : signature.origin ≡ origin.Variant k
-  pub ret : signature.ret ≡ ty
-
--- the opcode of an instruction
-pub opcode_there : (t : Tables) (k : ℕ) (i : Instruction) → slice_get t.instructions k ≡ Some i
-    → IsVariantOf (opt_source t) (codes "Opcode." ++ i.camel_name) (codes "Opcode") k
-opcode_there t k i at =
-    let vs = map (λ (j : Instruction). bare j.camel_name) t.instructions in
-    let d = extern_enum (codes "Opcode") vs in
-    let there : slice_get vs k ≡ Some (bare i.camel_name) = slice_get-map (λ (j : Instruction). bare j.camel_name) t.instructions k ∙ ap (option_map (λ (j : Instruction). bare j.camel_name)) at in
-    let zeroth : 0 + k ≡ k = omega arith in
-    record {
-      signature = made_signature (variant_term (codes "Opcode") i.camel_name) (codes "Opcode") (bare i.camel_name).fields (origin.Variant (0 + k)) no_place;
-      among = term_there (opt_source t) d _ (in_data t d (1, omega arith, refl)) (variant_there (codes "Opcode") no_place 0 k vs (bare i.camel_name) there);
-      named = refl;
-      made = ap origin.Variant zeroth;
-      ret = refl;
-    }
-
--- the data of a format
-pub data_there : (t : Tables) (k : ℕ) (f : InstructionFormat) → slice_get t.formats k ≡ Some f
-    → IsVariantOf (opt_source t) (codes "InstructionData." ++ f.name) (codes "InstructionData") k
-data_there t k f at =
-    let vs = map format_variant t.formats in
-    let d = extern_enum (codes "InstructionData") vs in
-    let there : slice_get vs k ≡ Some (format_variant f) = slice_get-map format_variant t.formats k ∙ ap (option_map format_variant) at in
-    let zeroth : 0 + k ≡ k = omega arith in
-    record {
-      signature = made_signature (variant_term (codes "InstructionData") f.name) (codes "InstructionData") (format_variant f).fields (origin.Variant (0 + k)) no_place;
-      among = term_there (opt_source t) d _ (in_data t d (2, omega arith, refl)) (variant_there (codes "InstructionData") no_place 0 k vs (format_variant f) there);
-      named = refl;
-      made = ap origin.Variant zeroth;
-      ret = refl;
-    }
 
 -- ---- rules, and what is converted
 

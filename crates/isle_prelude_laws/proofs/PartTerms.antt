@@ -1,6 +1,7 @@
 -- The terms that make and take apart the parts of an instruction stand among the definitions of its table.
-use Rattle.std.proofs.Common.{◌≡◌, ℕ, zero, suc, ◌<◌, List, [], ◌∷◌, length, Bool, true, false, Some, None, refl, sym, ◌∙◌, subst, arith}
+use Rattle.std.proofs.Common.{◌≡◌, ℕ, zero, suc, ◌<◌, List, [], ◌∷◌, length, Bool, true, false, Some, refl, sym, ◌∙◌, subst, arith}
 use Rattle.std.specs.Prelude.{Contains, slice_get, codes, replicate}
+use Rattle.isle_core.specs.declared.position.Pos.{Pos}
 use Rattle.isle_core.proofs.Contained.{head_contained, tail_contained}
 use Rattle.isle_core.proofs.OptionLaws.{some_same}
 use Rattle.isle_ast.specs.Tree as tree
@@ -20,7 +21,8 @@ use Rattle.isle_prelude.specs.NumberedNames.{value_array, value_array_ctor, valu
 use Rattle.isle_prelude.specs.Operands.{names_of}
 use Rattle.isle_writing.specs.Erased.{no_place}
 use Rattle.isle_prelude_laws.specs.HonestMeaning.{Whole, ValuedInst, SkeletonInst, ValueArray, BlockArray, maker, taker}
-use Rattle.isle_prelude_laws.specs.RoundTrip.{opt_source}
+use Rattle.isle_prelude_laws.specs.RoundTrip.{AreOptSource}
+use Rattle.isle_prelude_laws.proofs.HeldDefs.{IsHeld, held}
 use Rattle.isle_prelude_laws.proofs.Laid.{HasWhole}
 use Rattle.isle_prelude_laws.proofs.OptDefs.{term_there, extractor_there, in_types, in_terms, in_ctors, in_values, in_blocks}
 use Rattle.isle_prelude_laws.proofs.SizesThere.{values_there, ctors_there, blocks_there}
@@ -48,7 +50,7 @@ IsOpaqueBody is_extern (body.Struct fields) = ⊥
 pub record IsOpaqueType (defs : List Def) (name : List ℕ) : Type 0 where
   pub is_extern : Bool
   pub body : AstBody
-  pub among : Contains defs (tree.TypeDecl name is_extern false body no_place)
+  pub among : IsHeld defs (tree.TypeDecl name is_extern false body no_place)
   pub is_opaque : IsOpaqueBody is_extern body
 
 -- what the maker of a whole calls
@@ -104,22 +106,22 @@ part_types (BlockArray n) = replicate n (codes "BlockCall")
 pub record HasPair (defs : List Def) (w : Whole) : Type 0 where
   pub made : IsDeclaredAs defs (maker w) (maker_pure w) false
   pub taken : IsDeclaredAs defs (taker w) (taker_pure w) (taker_multi w)
-  pub makes : Contains defs (tree.ExternConstructor (maker w) (maker_func w) no_place)
-  pub takes : Contains defs (tree.ExternExtractor (taker w) (taker_func w) (taker_sure w) no_place)
+  pub makes : IsHeld defs (tree.ExternConstructor (maker w) (maker_func w) no_place)
+  pub takes : IsHeld defs (tree.ExternExtractor (taker w) (taker_func w) (taker_sure w) no_place)
   pub whole : IsOpaqueType defs made.signature.ret
   pub made_of : made.signature.args ≡ part_types w
   pub taken_into : taken.signature.args ≡ part_types w
 
 -- a declaration declares its term
 abbrev declared_as : (defs : List Def) (term : List ℕ) (pure multi : Bool) (args : List (List ℕ)) (ret : List ℕ)
-    → Contains defs (tree.Decl term pure multi false false args ret no_place) → IsDeclaredAs defs term pure multi
+    → IsHeld defs (tree.Decl term pure multi false false args ret no_place) → IsDeclaredAs defs term pure multi
 declared_as defs term pure multi args ret c =
-    let s : Signature = record { term = term; pure = pure; multi = multi; partial = false; recursive = false; args = args; ret = ret; pos = no_place; origin = origin.Declared } in
-    record { signature = s; among = term_there defs (tree.Decl term pure multi false false args ret no_place) s c (head_contained s []); named = refl; own = refl; is_pure = refl; is_multi = refl; is_partial = refl }
+    let s : Signature = record { term = term; pure = pure; multi = multi; partial = false; recursive = false; args = args; ret = ret; pos = c.at; origin = origin.Declared } in
+    record { signature = s; among = term_there defs (tree.Decl term pure multi false false args ret c.at) s c.among (head_contained s []); named = refl; own = refl; is_pure = refl; is_multi = refl; is_partial = refl }
 
 pub taker_extracts : (defs : List Def) (w : Whole) → HasPair defs w
-    → Contains (extractors defs) (record { term = taker w; by = ByFunction (taker_func w) (taker_sure w); pos = no_place })
-taker_extracts defs w p = extractor_there defs (tree.ExternExtractor (taker w) (taker_func w) (taker_sure w) no_place) _ p.takes refl
+    → (at : Pos) × Contains (extractors defs) (record { term = taker w; by = ByFunction (taker_func w) (taker_sure w); pos = at })
+taker_extracts defs w p = (p.takes.at, extractor_there defs (tree.ExternExtractor (taker w) (taker_func w) (taker_sure w) p.takes.at) _ p.takes.among refl)
 
 -- what stands at a place is among all
 pub contained_at : {X : Type 0} (xs : List X) (i : ℕ) (x : X) → slice_get xs i ≡ Some x → Contains xs x
@@ -127,7 +129,7 @@ contained_at [] i x h = cc
 contained_at (y ∷ xs) zero x h = subst (Contains (y ∷ xs)) (some_same y x h) (head_contained y xs)
 contained_at (y ∷ xs) (suc i) x h = tail_contained y xs x (contained_at xs i x h)
 
-module _ (t : Tables) (supported : AreSupported t) (i : Instruction) (f : InstructionFormat) (among : Contains t.instructions i) (is : slice_get t.formats i.format ≡ Some f) (listless : f.has_value_list ≡ false) where
+module _ (t : Tables) (defs : List Def) (like : AreOptSource t defs) (supported : AreSupported t) (i : Instruction) (f : InstructionFormat) (among : Contains t.instructions i) (is : slice_get t.formats i.format ≡ Some f) (listless : f.has_value_list ≡ false) where
   value_size_there : (n : ℕ) → n ≡ length (names_of is_value i) → 1 < n → Contains (value_array_sizes t.formats) n
   value_size_there n e many =
       let c = contained_at t.formats i.format f is in
@@ -141,44 +143,44 @@ module _ (t : Tables) (supported : AreSupported t) (i : Instruction) (f : Instru
       subst (Contains (block_array_sizes t.formats)) (sym same) (blocks_there t.formats f (contained_at t.formats i.format f is) (subst (λ k. 1 < k) same many))
 
   -- the terms of an instruction's parts stand among the definitions
-  pub pairs : (b : Bool) (w : Whole) → HasWhole b i w → HasPair (opt_source t) w
+  pub pairs : (b : Bool) (w : Whole) → HasWhole b i w → HasPair defs w
   pairs b ValuedInst h = record {
-    made = declared_as (opt_source t) (maker ValuedInst) false false (codes "Type" ∷ codes "InstructionData" ∷ []) (codes "Value") (in_terms t _ (0, omega arith, refl));
-    taken = declared_as (opt_source t) (taker ValuedInst) true true (codes "Type" ∷ codes "InstructionData" ∷ []) (codes "Value") (in_terms t _ (4, omega arith, refl));
-    makes = in_terms t _ (1, omega arith, refl);
-    takes = in_terms t _ (5, omega arith, refl);
-    whole = record { is_extern = false; body = body.Primitive (codes "Value"); among = in_types t _ (1, omega arith, refl); is_opaque = tt };
+    made = declared_as defs (maker ValuedInst) false false (codes "Type" ∷ codes "InstructionData" ∷ []) (codes "Value") (held t defs like _ (in_terms t _ (0, omega arith, refl)));
+    taken = declared_as defs (taker ValuedInst) true true (codes "Type" ∷ codes "InstructionData" ∷ []) (codes "Value") (held t defs like _ (in_terms t _ (4, omega arith, refl)));
+    makes = held t defs like _ (in_terms t _ (1, omega arith, refl));
+    takes = held t defs like _ (in_terms t _ (5, omega arith, refl));
+    whole = record { is_extern = false; body = body.Primitive (codes "Value"); among = held t defs like _ (in_types t _ (1, omega arith, refl)); is_opaque = tt };
     made_of = refl;
     taken_into = refl;
   }
   pairs b SkeletonInst h = record {
-    made = declared_as (opt_source t) (maker SkeletonInst) false false (codes "InstructionData" ∷ []) (codes "Inst") (in_terms t _ (2, omega arith, refl));
-    taken = declared_as (opt_source t) (taker SkeletonInst) true false (codes "InstructionData" ∷ []) (codes "Inst") (in_terms t _ (6, omega arith, refl));
-    makes = in_terms t _ (3, omega arith, refl);
-    takes = in_terms t _ (7, omega arith, refl);
-    whole = record { is_extern = false; body = body.Primitive (codes "Inst"); among = in_types t _ (2, omega arith, refl); is_opaque = tt };
+    made = declared_as defs (maker SkeletonInst) false false (codes "InstructionData" ∷ []) (codes "Inst") (held t defs like _ (in_terms t _ (2, omega arith, refl)));
+    taken = declared_as defs (taker SkeletonInst) true false (codes "InstructionData" ∷ []) (codes "Inst") (held t defs like _ (in_terms t _ (6, omega arith, refl)));
+    makes = held t defs like _ (in_terms t _ (3, omega arith, refl));
+    takes = held t defs like _ (in_terms t _ (7, omega arith, refl));
+    whole = record { is_extern = false; body = body.Primitive (codes "Inst"); among = held t defs like _ (in_types t _ (2, omega arith, refl)); is_opaque = tt };
     made_of = refl;
     taken_into = refl;
   }
   pairs b (ValueArray n) h =
       let s = value_size_there n h.0 h.1 in
       record {
-        made = declared_as (opt_source t) (maker (ValueArray n)) true false (replicate n (codes "Value")) (value_array_type n) (in_ctors t n _ (ctors_there t n s h.1) (0, omega arith, refl));
-        taken = declared_as (opt_source t) (taker (ValueArray n)) false false (replicate n (codes "Value")) (value_array_type n) (in_values t n _ s (1, omega arith, refl));
-        makes = in_ctors t n _ (ctors_there t n s h.1) (1, omega arith, refl);
-        takes = in_values t n _ s (3, omega arith, refl);
-        whole = record { is_extern = true; body = body.Enum []; among = in_values t n _ s (0, omega arith, refl); is_opaque = refl };
+        made = declared_as defs (maker (ValueArray n)) true false (replicate n (codes "Value")) (value_array_type n) (held t defs like _ (in_ctors t n _ (ctors_there t n s h.1) (0, omega arith, refl)));
+        taken = declared_as defs (taker (ValueArray n)) false false (replicate n (codes "Value")) (value_array_type n) (held t defs like _ (in_values t n _ s (1, omega arith, refl)));
+        makes = held t defs like _ (in_ctors t n _ (ctors_there t n s h.1) (1, omega arith, refl));
+        takes = held t defs like _ (in_values t n _ s (3, omega arith, refl));
+        whole = record { is_extern = true; body = body.Enum []; among = held t defs like _ (in_values t n _ s (0, omega arith, refl)); is_opaque = refl };
         made_of = refl;
         taken_into = refl;
       }
   pairs b (BlockArray n) h =
       let s = block_size_there n h.0 h.1 in
       record {
-        made = declared_as (opt_source t) (maker (BlockArray n)) false false (replicate n (codes "BlockCall")) (block_array_type n) (in_blocks t n _ s (1, omega arith, refl));
-        taken = declared_as (opt_source t) (taker (BlockArray n)) false false (replicate n (codes "BlockCall")) (block_array_type n) (in_blocks t n _ s (1, omega arith, refl));
-        makes = in_blocks t n _ s (2, omega arith, refl);
-        takes = in_blocks t n _ s (3, omega arith, refl);
-        whole = record { is_extern = true; body = body.Enum []; among = in_blocks t n _ s (0, omega arith, refl); is_opaque = refl };
+        made = declared_as defs (maker (BlockArray n)) false false (replicate n (codes "BlockCall")) (block_array_type n) (held t defs like _ (in_blocks t n _ s (1, omega arith, refl)));
+        taken = declared_as defs (taker (BlockArray n)) false false (replicate n (codes "BlockCall")) (block_array_type n) (held t defs like _ (in_blocks t n _ s (1, omega arith, refl)));
+        makes = held t defs like _ (in_blocks t n _ s (2, omega arith, refl));
+        takes = held t defs like _ (in_blocks t n _ s (3, omega arith, refl));
+        whole = record { is_extern = true; body = body.Enum []; among = held t defs like _ (in_blocks t n _ s (0, omega arith, refl)); is_opaque = refl };
         made_of = refl;
         taken_into = refl;
       }

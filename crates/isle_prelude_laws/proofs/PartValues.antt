@@ -14,15 +14,13 @@ use Rattle.isle_core.specs.Value.{Value, Truth}
 use Rattle.isle_core.proofs.OptionLaws.{some_same}
 use Rattle.isle_declarations.specs.Signatures.{term_named}
 use Rattle.isle_declarations.specs.Terms.{terms}
-use Rattle.isle_table_check.specs.SupportedTables.{AreSupported}
 use Rattle.isle_meta.specs.declared.clif.Instruction.{Instruction}
 use Rattle.isle_meta.specs.declared.clif.InstructionFormat.{InstructionFormat}
-use Rattle.isle_meta.specs.declared.tables.Tables.{Tables}
+use Rattle.isle_ast.specs.Tree.{Def}
 use Rattle.isle_sema.specs.Typing.{Typed}
 use Rattle.isle_sema.proofs.TypedParts.{given_in}
 use Rattle.isle_terms.specs.Whole.{whole_of}
 use Rattle.isle_prelude_laws.specs.HonestMeaning.{Whole, ValuedInst, SkeletonInst, ValueArray, BlockArray, maker, taker}
-use Rattle.isle_prelude_laws.specs.RoundTrip.{opt_source}
 use Rattle.isle_prelude_laws.proofs.Callable.{called_so, given_calling, given_extracting, opaque_value}
 use Rattle.isle_prelude_laws.proofs.GivenTerms.{given_term, given_number, given_name, makes_nothing}
 use Rattle.isle_prelude_laws.proofs.Gives.{Values, IsMaker}
@@ -58,10 +56,9 @@ several Q zero f = (Truth false, λ h. absurd (omega (arith, h)))
 several Q (suc zero) f = (Truth false, λ h. absurd (omega (arith, h)))
 several Q (suc (suc n)) f = let r = f (omega arith) in (r.0, λ h. r.1)
 
-module _ (t : Tables) (env : Environment) (i : Instruction) (f : InstructionFormat) (b : Bool) (supported : AreSupported t) (typed : Typed (opt_source t) env) (pair : (w : Whole) → HasWhole b i w → HasPair (opt_source t) w) where
-  maker_called : (w : Whole) → HasWhole b i w → (a : TermId) → numbers (whole_of (opt_source t)) (maker w) ≡ Some a → calling env a ≡ maker_calling w
+module _ (defs : List Def) (env : Environment) (i : Instruction) (f : InstructionFormat) (b : Bool) (typed : Typed defs env) (pair : (w : Whole) → HasWhole b i w → HasPair defs w) where
+  maker_called : (w : Whole) → HasWhole b i w → (a : TermId) → numbers (whole_of defs) (maker w) ≡ Some a → calling env a ≡ maker_calling w
   maker_called w has a is =
-      let defs = opt_source t in
       let g = given_in typed in
       let p = pair w has in
       let s = p.made.signature in
@@ -78,7 +75,6 @@ module _ (t : Tables) (env : Environment) (i : Instruction) (f : InstructionForm
       by : (o : Option Term) → slice_get env.terms y.0 ≡ o → extracting env y ≡ taker_calling w
       by None at = absurd (taker_named w (sym named ∙ ap (λ o. option_map_or (λ (x : Term). sym_text env x.name) o []) at))
       by (Some x) at =
-          let defs = opt_source t in
           let g = given_in typed in
           let p = pair w has in
           let s = p.taken.signature in
@@ -88,9 +84,8 @@ module _ (t : Tables) (env : Environment) (i : Instruction) (f : InstructionForm
           ap (extracting env) (sym same) ∙ given_extracting defs env s n.0 (taker w) (taker_func w) (taker_sure w) g k p.taken.own p.taken.named p.takes
           ∙ ap (λ m. ByCases (External (taker_func w)) (extractor_kind m (taker_sure w))) p.taken.is_multi ∙ takers_called w
 
-  pub whole_value : (w : Whole) → HasWhole b i w → ValueOf env (numbers (whole_of (opt_source t))) w
+  pub whole_value : (w : Whole) → HasWhole b i w → ValueOf env (numbers (whole_of defs)) w
   whole_value w has =
-      let defs = opt_source t in
       let g = given_in typed in
       let p = pair w has in
       let s = p.made.signature in
@@ -106,11 +101,10 @@ module _ (t : Tables) (env : Environment) (i : Instruction) (f : InstructionForm
       )
 
   pub maker_is : (val : Values) (w : Whole) → HasWhole b i w
-      → ((a : TermId) (x : Term) → numbers (whole_of (opt_source t)) (maker w) ≡ Some a → slice_get env.terms a.0 ≡ Some x → HasType env (val w) x.ret_ty)
-      → (a : TermId) → numbers (whole_of (opt_source t)) (maker w) ≡ Some a
+      → ((a : TermId) (x : Term) → numbers (whole_of defs) (maker w) ≡ Some a → slice_get env.terms a.0 ≡ Some x → HasType env (val w) x.ret_ty)
+      → (a : TermId) → numbers (whole_of defs) (maker w) ≡ Some a
       → IsMaker env val (maker_calling w) a w
   maker_is val w has fits a is =
-      let defs = opt_source t in
       let g = given_in typed in
       let p = pair w has in
       let s = p.made.signature in

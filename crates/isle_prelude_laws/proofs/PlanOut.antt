@@ -1,5 +1,5 @@
 -- Each instruction of a supported table whose definitions are typed has a plan for all operands of its types.
-use Rattle.std.proofs.Common.{◌≡◌, ℕ, suc, ◌+◌, ◌<◌, List, [], ◌∷◌, ◌++◌, length, map, Bool, true, false, Option, Some, None, refl, sym, ap, ◌∙◌, subst, ⊎_elim, arith}
+use Rattle.std.proofs.Common.{◌≡◌, ℕ, suc, ◌+◌, ◌<◌, List, [], ◌∷◌, ◌++◌, length, map, Bool, true, false, Option, Some, refl, sym, ap, ◌∙◌, subst, ⊎_elim, arith}
 use Rattle.std.specs.List.{IsDistinct}
 use Rattle.std.specs.Str.{bytes_eq}
 use Rattle.std.specs.Prelude.{Contains, IsSomeAnd, codes, replicate, option_and_then, slice_get}
@@ -7,7 +7,7 @@ use Rattle.isle_base.specs.declared.ids.TermId.{TermId}
 use Rattle.isle_base.specs.declared.ids.TypeId.{TypeId}
 use Rattle.isle_core.specs.declared.types.Term.{Term}
 use Rattle.isle_core.specs.Expr as expr
-use Rattle.isle_core.specs.Expr.{Expr, Exprs}
+use Rattle.isle_core.specs.Expr.{Expr}
 use Rattle.isle_core.specs.CalledTerms.{Extractor}
 use Rattle.isle_core.specs.Calling.{extracting}
 use Rattle.isle_core.specs.ExprType.{Allowed, IsTermKind, IsExprOf, AreExprsOf}
@@ -43,7 +43,7 @@ use Rattle.isle_sema.specs.Typing.{Typed}
 use Rattle.isle_sema.proofs.TypedTerms.{is_there}
 use Rattle.isle_terms.specs.Whole.{whole_of}
 use Rattle.isle_prelude_laws.specs.HonestMeaning.{Whole, ValuedInst, SkeletonInst, ValueArray, BlockArray, maker, taker}
-use Rattle.isle_prelude_laws.specs.RoundTrip.{opt_source, IsInstruction}
+use Rattle.isle_prelude_laws.specs.RoundTrip.{AreOptSource, IsInstruction}
 use Rattle.isle_prelude_laws.proofs.CanGive.{CanGive, CanGiveAll, can_give_name, can_give_nothing, can_give_both, can_variables_give, only_variables_give, can_make_give, can_counted_give}
 use Rattle.isle_prelude_laws.proofs.GivenTerms.{IsGivenTerm, given_term, given_name}
 use Rattle.isle_prelude_laws.proofs.GivesTyped.{AreTyped, all_typed}
@@ -231,14 +231,14 @@ whole_parts defs env i b tys operands named apart typed v parts own (BlockArray 
       λ of is. array_typed defs env of_name names (codes "BlockCall") of (ap (λ k. types_named defs (replicate k (codes "BlockCall"))) (sym has.0) ∙ is) (λ ty at. class_typed defs env i b tys operands named apart typed is_block (codes "BlockCall") ty block_class at),
     )
 
-module _ (t : Tables) (env : Environment) (i : Instruction) (term : TermId) (supported : AreSupported t) (typed : Typed (opt_source t) env) (h : IsInstruction t env i term) (l : IsLaidOut t env i term) where
-  pair_there : (w : Whole) → HasWhole l.is_valued i w → HasPair (opt_source t) w
-  pair_there w has = pairs t supported i h.format h.among h.is h.listless l.is_valued w has
+module _ (t : Tables) (defs : List Def) (like : AreOptSource t defs) (env : Environment) (i : Instruction) (term : TermId) (supported : AreSupported t) (typed : Typed defs env) (h : IsInstruction t env i term) (l : IsLaidOut t defs env i term) where
+  pair_there : (w : Whole) → HasWhole l.is_valued i w → HasPair defs w
+  pair_there w has = pairs t defs like supported i h.format h.among h.is h.listless l.is_valued w has
 
-  parts_planned : (v : PartsPlan) × PartsFit env (numbers (whole_of (opt_source t))) i l.is_valued v
+  parts_planned : (v : PartsPlan) × PartsFit env (numbers (whole_of defs)) i l.is_valued v
   parts_planned =
-      let number = numbers (whole_of (opt_source t)) in
-      let value = whole_value t env i l.format l.is_valued supported typed pair_there in
+      let number = numbers (whole_of defs) in
+      let value = whole_value defs env i l.format l.is_valued typed pair_there in
       let own = value (whole_by l.is_valued) (own_whole l.is_valued i) in
       let n = length (names_of is_value i) in
       let k = length (names_of is_block i) in
@@ -247,11 +247,11 @@ module _ (t : Tables) (env : Environment) (i : Instruction) (term : TermId) (sup
       (record { own = own.0; values = values.0; blocks = blocks.0 }, record { own = own.1; values = values.1; blocks = blocks.1 })
 
   -- what the term of a whole that is made takes
-  own_taken : (a : TermId) → numbers (whole_of (opt_source t)) (maker (whole_by l.is_valued)) ≡ Some a
-      → IsGivenTerm (opt_source t) env (pair_there (whole_by l.is_valued) (own_whole l.is_valued i)).made.signature a
+  own_taken : (a : TermId) → numbers (whole_of defs) (maker (whole_by l.is_valued)) ≡ Some a
+      → IsGivenTerm defs env (pair_there (whole_by l.is_valued) (own_whole l.is_valued i)).made.signature a
   own_taken a is =
       let p = pair_there (whole_by l.is_valued) (own_whole l.is_valued i) in
-      given_term (opt_source t) env p.made.signature a (given_in typed) p.made.among (ap (term_named (terms (opt_source t))) p.made.named ∙ is)
+      given_term defs env p.made.signature a (given_in typed) p.made.among (ap (term_named (terms defs)) p.made.named ∙ is)
 
   -- the rule's variables are typed by the operands
   variables_are : (operands : List Value) → HaveTypes env operands l.laid.decl.arg_tys → AreTyped env (rule_typed l.laid.rule) (slice_get operands)
@@ -267,34 +267,33 @@ module _ (t : Tables) (env : Environment) (i : Instruction) (term : TermId) (sup
 
   -- the parts of each whole have the types of its taker's arguments
   taken_fits : (p : Plan) (w : Whole) (vs : List Value) → HasWhole l.is_valued i w → Planned p w vs
-      → ((tys : List TypeId) → types_named (opt_source t) (part_types w) ≡ Some tys → HaveTypes env vs tys) → (y : TermId) → numbers (whole_of (opt_source t)) (taker w) ≡ Some y
+      → ((tys : List TypeId) → types_named defs (part_types w) ≡ Some tys → HaveTypes env vs tys) → (y : TermId) → numbers (whole_of defs) (taker w) ≡ Some y
       → RoleFits env (planned p) y Extractor
   taken_fits p w vs has plan fits y is =
-      let defs = opt_source t in
       let g = given_in typed in
       let q = pair_there w has in
       let s = q.taken.signature in
       let k = given_term defs env s y g q.taken.among (ap (term_named (terms defs)) q.taken.named ∙ is) in
-      let called = taker_called t env i l.format l.is_valued supported typed pair_there w has y (given_name defs env s y g k ∙ q.taken.named) in
+      let called = taker_called defs env i l.format l.is_valued typed pair_there w has y (given_name defs env s y g k ∙ q.taken.named) in
       subst (λ (o : Option Term). IsSomeAnd o (λ (x : Term). CallingFits env (planned p) x.arg_tys (extracting env y))) (sym k.there)
       (subst (CallingFits env (planned p) k.decl.arg_tys) (sym called) (takers_fit p env k.decl.arg_tys w vs plan (fits k.decl.arg_tys (ap (types_named defs) (sym q.taken_into) ∙ k.args))))
 
   -- a plan for these operands, whose takers answer lawfully
   pub record IsPlanned (operands : List Value) (p : Plan) : Type 0 where
     pub plan : IsPlanFor env term operands p
-    pub answers : (w : Whole) → HasWhole l.is_valued i w → (y : TermId) → numbers (whole_of (opt_source t)) (taker w) ≡ Some y
+    pub answers : (w : Whole) → HasWhole l.is_valued i w → (y : TermId) → numbers (whole_of defs) (taker w) ≡ Some y
         → RoleFits env (planned p) y Extractor
 
   pub plan_out : (operands : List Value) → HaveTypes env operands l.laid.decl.arg_tys → (p : Plan) × IsPlanned operands p
   plan_out operands has_types =
       let laid = l.laid in
       let b = l.is_valued in
-      let number = numbers (whole_of (opt_source t)) in
+      let number = numbers (whole_of defs) in
       let params = parameters (manner_by b) i in
       let of_name = operand_named params operands in
       let v = parts_planned in
       let val = plan_value (plan_of b i of_name v.0 []) in
-      let makes = λ (w : Whole) (has : HasWhole b i w). maker_is t env i l.format b supported typed pair_there val w has (planned_fits env number i b v.0 of_name [] v.1 w has) in
+      let makes = λ (w : Whole) (has : HasWhole b i w). maker_is defs env i l.format b typed pair_there val w has (planned_fits env number i b v.0 of_name [] v.1 w has) in
       let e = laid.right in
       let shown : IsExprOf env laid.allowed (rule_typed laid.rule) laid.decl.ret_ty (expr.Term e.0 e.1 e.2) = subst (IsExprOf env laid.allowed (rule_typed laid.rule) laid.decl.ret_ty) e.3 laid.typed in
       let k = own_taken e.1 e.4 in
@@ -304,10 +303,10 @@ module _ (t : Tables) (env : Environment) (i : Instruction) (term : TermId) (sup
       let p = plan_of b i of_name v.0 parts.0 in
       let many = typed_many env operands laid.decl.arg_tys has_types in
       let held = λ (names : Names) (are : (j : ℕ) → names j ≡ slice_get operands j). names_held params operands names (many ∙ sym l.many) are in
-      let variants = (typed_names (opt_source t) env (given_in typed).types (given_in typed).types_kept).variants in
+      let variants = (typed_names defs env (given_in typed).types (given_in typed).types_kept).variants in
       let own_typed : HaveTypes env parts.0 k.decl.arg_tys = all_typed env variants laid.allowed (rule_typed laid.rule) (parts.1 (slice_get operands) (held (slice_get operands) (λ j. refl))) (variables_are operands has_types) k.decl.arg_tys args in
-      let own_fits : (tys : List TypeId) → types_named (opt_source t) (part_types (whole_by b)) ≡ Some tys → HaveTypes env parts.0 tys = λ tys is.
-      subst (HaveTypes env parts.0) (some_same k.decl.arg_tys tys (sym k.args ∙ ap (types_named (opt_source t)) (pair_there (whole_by b) (own_whole b i)).made_of ∙ is)) own_typed in (
+      let own_fits : (tys : List TypeId) → types_named defs (part_types (whole_by b)) ≡ Some tys → HaveTypes env parts.0 tys = λ tys is.
+      subst (HaveTypes env parts.0) (some_same k.decl.arg_tys tys (sym k.args ∙ ap (types_named defs) (pair_there (whole_by b) (own_whole b i)).made_of ∙ is)) own_typed in (
         p,
         record {
           plan = record {
@@ -320,10 +319,10 @@ module _ (t : Tables) (env : Environment) (i : Instruction) (term : TermId) (sup
             gives = λ names are.
                 subst (λ (y : Expr). Gives env names (plan_value p) maker_calling (Planned p) y (plan_value p (whole_by b))) (sym e.3)
                 (a_call e.0 e.1 e.2 (whole_by b) parts.0 (makes (whole_by b) (own_whole b i) e.1 e.4) (own_planned b i of_name v.0 parts.0) (all_more (packed_planned b i of_name v.0 parts.0) (parts.1 names (held names are))));
-            takes = λ w vs plan y named. taker_called t env i l.format b supported typed pair_there w (planned_whole b i of_name v.0 parts.0 w vs plan) y named;
+            takes = λ w vs plan y named. taker_called defs env i l.format b supported typed pair_there w (planned_whole b i of_name v.0 parts.0 w vs plan) y named;
           };
           answers = λ w has y is.
-              let own = whole_parts (opt_source t) env i b laid.decl.arg_tys operands l.args l.apart has_types v.0 parts.0 own_fits w has in
+              let own = whole_parts defs env i b laid.decl.arg_tys operands l.args l.apart has_types v.0 parts.0 own_fits w has in
               taken_fits p w own.0 has own.1 own.2 y is;
         },
       )

@@ -26,6 +26,7 @@ use Rattle.isle_prelude.specs.WrittenPrelude.{written_defs}
 use Rattle.isle_sema.specs.Templates.{templates}
 use Rattle.isle_templates.specs.Substituted.{template_of, whole_templates}
 use Rattle.isle_terms.specs.Whole.{whole_of}
+use Rattle.isle_writing.specs.Erased.{all_erased}
 use Rattle.isle_prelude_laws.specs.HonestMeaning.{IsHonest}
 
 -- ---- instructions of an optimizer's file
@@ -33,6 +34,10 @@ use Rattle.isle_prelude_laws.specs.HonestMeaning.{IsHonest}
 -- the definitions of an optimizer: those written by hand, and those of its instructions
 abbrev pub opt_source : Tables → List Def
 opt_source t = written_defs t ++ opt_defs t
+
+-- definitions that are those of an optimizer, at whatever places
+abbrev pub AreOptSource : Tables → List Def → Type 0
+AreOptSource t defs = all_erased defs ≡ all_erased (opt_source t)
 
 -- an instruction of the table that the file takes, and its term
 pub record IsInstruction (t : Tables) (env : Environment) (i : Instruction) (term : TermId) : Type 0 where
@@ -48,8 +53,8 @@ abbrev pub result_type : Instruction → List ℕ
 result_type i = (optimized i.value_results (i.can_trap || i.other_side_effects)).ret
 
 -- the pattern that stands for a use of its extractor on its parameters, numbered by their places
-abbrev pub extractor_pattern : Tables → TermId → Option Pattern
-extractor_pattern t term = template_of (whole_templates (templates (whole_of (opt_source t)))) term
+abbrev pub extractor_pattern : List Def → TermId → Option Pattern
+extractor_pattern defs term = template_of (whole_templates (templates (whole_of defs))) term
 
 -- ---- the round trip
 
@@ -68,31 +73,31 @@ abbrev pub NeverMatches : Environment → Meaning → Value → Pattern → Type
 NeverMatches env m v pattern = (choice : Choice) (at : Path) (names : Names) → matches env m choice pattern at v names ≡ None
 
 -- under an honest meaning the instruction's extractor binds exactly the operands of which its constructor made the value
-abbrev pub IsReadBack : Tables → Environment → TermId → Type 0
-IsReadBack t env term =
+abbrev pub IsReadBack : List Def → Environment → TermId → Type 0
+IsReadBack defs env term =
     (m : Meaning) (operands : List Value) (made : List Made) (v : Value) → IsHonest env m term operands made → IsMadeOf env m term operands made v
-    → IsSomeAnd (extractor_pattern t term) (BindsExactly env m v operands)
+    → IsSomeAnd (extractor_pattern defs term) (BindsExactly env m v operands)
 
--- and there the other extractor doesn't match
-abbrev pub IsToldApart : Tables → Environment → (term other : TermId) → Type 0
-IsToldApart t env term other =
+-- under an honest meaning another instruction's extractor doesn't match what the instruction's constructor made
+abbrev pub IsToldApart : List Def → Environment → (term other : TermId) → Type 0
+IsToldApart defs env term other =
     (m : Meaning) (operands : List Value) (made : List Made) (v : Value) → IsHonest env m term operands made → IsMadeOf env m term operands made v
-    → IsSomeAnd (extractor_pattern t other) (NeverMatches env m v)
+    → IsSomeAnd (extractor_pattern defs other) (NeverMatches env m v)
 
 -- the meaning answers each extractor that the pattern calls, with its kind and types
 abbrev pub AnswersPattern : Environment → Meaning → Pattern → Type 0
 AnswersPattern env m pattern = (o : CalledTerm) → Contains (extracted_by env pattern) o → CalledTermFits env m o
 
 -- a meaning that is lawful for the term, its extractor's pattern too, and honest on these operands, under which its constructor makes a value of them
-pub record IsHonestlyMade (t : Tables) (env : Environment) (term : TermId) (operands : List Value) (made : List Made) (m : Meaning) : Type 0 where
+pub record IsHonestlyMade (defs : List Def) (env : Environment) (term : TermId) (operands : List Value) (made : List Made) (m : Meaning) : Type 0 where
   pub lawful : IsLawful env term m
-  pub answers : IsSomeAnd (extractor_pattern t term) (AnswersPattern env m)
+  pub answers : IsSomeAnd (extractor_pattern defs term) (AnswersPattern env m)
   pub honest : IsHonest env m term operands made
   pub value : Value
   pub gives : IsMadeOf env m term operands made value
 
--- there is one for all operands of the term's types, whatever calls were made before
-abbrev pub MayBeHonest : Tables → Environment → TermId → Type 0
-MayBeHonest t env term =
+-- for all operands of the term's types there is such a meaning, whatever calls were made before
+abbrev pub MayBeHonest : List Def → Environment → TermId → Type 0
+MayBeHonest defs env term =
     (operands : List Value) → IsSomeAnd (slice_get env.terms term.0) (λ (c : Term). HaveTypes env operands c.arg_tys)
-    → (m : Meaning) × ((made : List Made) → IsHonestlyMade t env term operands made m)
+    → (m : Meaning) × ((made : List Made) → IsHonestlyMade defs env term operands made m)

@@ -1,9 +1,9 @@
 -- What a sink took, piece by piece.
-use Rattle.std.proofs.Common.{◌≡◌, ℕ, ◌+◌, ◌<◌, List, [], ◌++◌, length, take, map, Option, Some, None, Result, Ok, Err, refl, ap, ◌∙◌, append_assoc, length-append, arith}
+use Rattle.std.proofs.Common.{◌≡◌, ℕ, ◌+◌, List, ◌++◌, length, take, drop, map, Option, Some, None, Result, Ok, Err, sym, ap, ◌∙◌, subst, append_assoc, length-append, arith}
 use Rattle.std.specs.Prelude.{OnOk, OnErr}
 use Rattle.std.specs.Option.{option_map}
-use Rattle.std.proofs.lemmas.List.{take-append-le, append-nil, take-map, length-map}
-use Rattle.std.proofs.Math.Seq.{take-append-add}
+use Rattle.std.proofs.lemmas.List.{take-append-le, take-append-drop, map-append}
+use Rattle.std.proofs.Math.Seq.{take-add, take-append-add}
 use Rattle.isle_outside.specs.Sinks.{Took, TookPart}
 
 -- two pieces, one after the other
@@ -28,13 +28,23 @@ pub both_part : {T E : Type 0} (r : Result T E) (a b c : Option (List ℕ)) (xs 
 both_part (Ok t) a b c xs ys h k = tt
 both_part (Err e) a b c xs ys h k = took_front a b c xs ys h k
 
--- a list of which one byte was refused
-pub took_until : (f : ℕ → ℕ) (xs : List ℕ) (i : ℕ) (a b c : Option (List ℕ)) (piece : List ℕ) → i < length xs → Took a b (map f (take i xs)) → length piece ≡ 1 → TookPart b c piece → TookPart a c (map f xs)
-took_until f xs i a b c piece lt h e k =
-    let none : take k.0 piece ≡ [] = rw (none_taken k.0 piece (omega (arith, k.1))) in
-    let none2 : Took b c [] = rw none at k.2 in
-    let same : Took a c (map f (take i xs)) = rw append-nil at (took_both a b c (map f (take i xs)) [] h none2) in
-    (i, omega (arith, length-map xs f), rw (take-map) same)
-  where
-    none_taken : (n : ℕ) (xs : List ℕ) → n ≡ 0 → take n xs ≡ []
-    none_taken n xs e = rw e refl
+-- the images of a front of a list, and those of the next run, are the images of a longer front
+runs_join : (f : ℕ → ℕ) (xs : List ℕ) (i : ℕ) (piece : List ℕ) → map f (take (length piece) (drop i xs)) ≡ piece
+    → map f (take i xs) ++ piece ≡ map f (take (i + length piece) xs)
+runs_join f xs i piece h =
+    ap (λ ys. map f (take i xs) ++ ys) (sym h)
+    ∙ sym (map-append f (take i xs) (take (length piece) (drop i xs)))
+    ∙ ap (map f) (sym (take-add i (length piece) xs))
+
+-- a sink that took a front of a list's images and then the next run
+pub took_run : (f : ℕ → ℕ) (xs : List ℕ) (i : ℕ) (a b c : Option (List ℕ)) (piece : List ℕ) → map f (take (length piece) (drop i xs)) ≡ piece
+    → Took a b (map f (take i xs)) → Took b c piece → Took a c (map f (take (i + length piece) xs))
+took_run f xs i a b c piece h taken more = subst (Took a c) (runs_join f xs i piece h) (took_both a b c (map f (take i xs)) piece taken more)
+
+-- a sink that took a front of a list's images and then a part of the next run
+pub took_until : (f : ℕ → ℕ) (xs : List ℕ) (i : ℕ) (a b c : Option (List ℕ)) (piece : List ℕ) → map f (take (length piece) (drop i xs)) ≡ piece
+    → Took a b (map f (take i xs)) → TookPart b c piece → TookPart a c (map f xs)
+took_until f xs i a b c piece h taken part =
+    let n = i + length piece in
+    let front : TookPart a c (map f (take n xs)) = subst (TookPart a c) (runs_join f xs i piece h) (took_front a b c (map f (take i xs)) piece taken part) in
+    subst (TookPart a c) (sym (map-append f (take n xs) (drop n xs)) ∙ ap (map f) (take-append-drop n xs)) (took_less a c (map f (take n xs)) (map f (drop n xs)) front)

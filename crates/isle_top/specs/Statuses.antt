@@ -21,7 +21,11 @@ use Rattle.isle_top.specs.Lines.{bad_line, missing_word_line, no_unit_line, unre
 abbrev pub IsOfJob : Job → Refusal → Type 0
 IsOfJob job (refusal.Files (file.Io index why)) = index < length job.inputs
 IsOfJob job (refusal.Files (file.Errors e)) = HavePlaces e × (e.errors ≡ [] → ⊥)
-IsOfJob job e = Unit {0}
+IsOfJob job (refusal.Files (file.Name e)) = Unit {0}
+IsOfJob job (refusal.Files file.Memory) = Unit {0}
+IsOfJob job refusal.NoUnit = Unit {0}
+IsOfJob job (refusal.Tables found) = Unit {0}
+IsOfJob job (refusal.Run e) = Unit {0}
 
 -- this status was given, and this line written
 abbrev pub Tells : (wrote : List ℕ → Type 0) → (status : ℕ) → ℕ → List ℕ → Type 0

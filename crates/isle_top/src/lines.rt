@@ -1,4 +1,5 @@
-ghost use Rattle.std.specs.Prelude.{◌≡◌, ◌≤◌, ◌<◌, [], ◌∷◌, ◌++◌, OnOk, OnErr, map};
+ghost use Rattle.std.specs.Prelude.{◌≡◌, ◌≤◌, ◌<◌, [], ◌∷◌, ◌++◌, ◌+◌, OnOk, OnErr};
+ghost use Rattle.std.specs.Prelude.{map, length, take, drop};
 ghost use Rattle.isle_printer.specs.Number.{glyph, numeral};
 ghost use Rattle.isle_outside.specs.Directory.{Rose};
 ghost use Rattle.isle_outside.specs.Sinks.{Took, TookPart};
@@ -31,7 +32,7 @@ ghost use Rattle.isle_top.specs.Lines.{
 };
 
 use isle_codegen::NameUse;
-use isle_core::{Failed, IoCause, Sink, masked, write_all};
+use isle_core::{Failed, IoCause, Sink, write_all};
 use isle_meta::Shape;
 
 /// The output failed.
@@ -55,6 +56,23 @@ fn cause_end(cause: IoCause) -> &'static str
     }
 }
 
+// Returns what stands for the bytes from one on: `?` for a byte below 32, else all up to the next such byte.
+fn piece_at(bytes: &[u8], start: usize) -> &[u8]
+    requires { start < length bytes.now }
+    ensures some { 0 < length result.now }
+    ensures within { start + length result.now ≤ length bytes.now }
+    ensures shown { map masked (take (length result.now) (drop start bytes.now)) ≡ result.now }
+{
+    if bytes[start] < 32 {
+        return b"?";
+    }
+    let mut end = start + 1;
+    while end < bytes.len() && bytes[end] >= 32 {
+        end += 1;
+    }
+    &bytes[start..end]
+}
+
 // Writes a name, each byte below 32 as `?`. It takes no memory.
 fn write_masked<S: Sink>(sink: &mut S, name: &str) -> Result<(), Failed>
     ensures ok { OnOk result (Took (S.taken sink.old) (S.taken sink.new) (map masked name.now)) }
@@ -63,10 +81,12 @@ fn write_masked<S: Sink>(sink: &mut S, name: &str) -> Result<(), Failed>
     ensures failed { OnErr result (Rose (S.faults sink.old) (S.faults sink.new)) }
     ensures later { S.faults sink.old ≤ S.faults sink.new }
 {
-    for byte in name.as_bytes() {
-        let piece = [masked(*byte)];
-        match write_all(sink, &piece) {
-            Ok(()) => {}
+    let bytes = name.as_bytes();
+    let mut start = 0;
+    while start < bytes.len() {
+        let piece = piece_at(bytes, start);
+        match write_all(sink, piece) {
+            Ok(()) => start += piece.len(),
             Err(fault) => return Err(fault),
         }
     }

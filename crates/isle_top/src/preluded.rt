@@ -2,7 +2,7 @@
 
 ghost use Rattle.std.specs.Prelude.{◌≡◌, List, IfOk, IfErr};
 ghost use Rattle.std.specs.String.{string_bytes};
-ghost use Rattle.isle_assembler.specs.AssemblerDefs.{assembler_defs};
+ghost use Rattle.isle_assembler.specs.AssemblerDefs.{assembler_defs, assembler_layout};
 ghost use Rattle.isle_assembler.specs.Methods.{assembler_methods};
 ghost use Rattle.isle_ast.specs.Tree.{Def};
 ghost use Rattle.isle_meta.specs.declared.tables.Tables.{Tables as Rows};
@@ -12,6 +12,8 @@ ghost use Rattle.isle_pulley.specs.RustText.{pulley_rust};
 ghost use Rattle.isle_table_check.specs.SupportedTables.{AreSupported};
 ghost use Rattle.isle_top.specs.PreludeLine.{AreRulesOf, FailsByRows, FailsToWrite, IsPrelude};
 ghost use Rattle.isle_top.specs.PreludeLine.{IsRustOf};
+ghost use Rattle.isle_writing.specs.LaidDefs.{laid_texts};
+ghost use Rattle.isle_writing.specs.Text.{def_texts};
 
 use crate::refusal::Refusal;
 use isle_codegen::FileError;
@@ -52,7 +54,8 @@ fn checked(alloc: Global, tables: &Tables) -> Result<(), Refusal>
 // The rules of the assembler.
 fn assembler(alloc: Global, tables: &Tables) -> Result<String, Refusal>
     ensures ok { IfOk result (λ text.
-        AreRulesOf tables.now (assembler_defs tables.now.x64) (string_bytes text)) }
+        AreRulesOf tables.now (laid_texts (assembler_layout tables.now.x64))
+        (assembler_defs tables.now.x64) (string_bytes text)) }
     ensures err { IfErr result (FailsByRows tables.now) }
 {
     checked(alloc, tables)?;
@@ -72,8 +75,8 @@ fn assembler_rust(alloc: Global, tables: &Tables) -> Result<String, Refusal>
 // The rules of the interpreter.
 fn pulley(alloc: Global, tables: &Tables) -> Result<String, Refusal>
     ensures ok { IfOk result (λ text.
-        AreRulesOf tables.now (pulley_defs tables.now.ops tables.now.extended_ops)
-        (string_bytes text)) }
+        let defs = pulley_defs tables.now.ops tables.now.extended_ops in
+        AreRulesOf tables.now (def_texts defs) defs (string_bytes text)) }
     ensures err { IfErr result (FailsByRows tables.now) }
 {
     checked(alloc, tables)?;

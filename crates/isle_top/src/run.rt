@@ -22,8 +22,8 @@ use isle_meta::Tables;
 use std::alloc::Global;
 
 /// Runs the program: does what the words ask for, over these tables of instructions, and writes the text that answers
-/// them to `out`. Every status but 0 writes its line to `err`. Writing takes no memory. `specs/Jobs.antt` says what
-/// each line is.
+/// them to `out`. Every status but 0 writes its line to `err`. Statuses 3 and 4 come before any call of the directory.
+/// Writing takes no memory. `specs/Jobs.antt` says what each line is.
 pub fn run_words<D: Dir, O: Sink, E: Sink>(
     alloc: Global,
     words: &[String],
@@ -52,7 +52,7 @@ pub fn run_words<D: Dir, O: Sink, E: Sink>(
         let wrote = Wrote (E.taken err.old) (E.taken err.new) (E.faults err.old) (E.faults err.new) in
         Says tables.now (Asks (bytes_each words.now)) (IsNoLine (bytes_each words.now) wrote) around
         (err.new ≡ err.old) wrote result.0 }
-    // Words that are no line end in 2; or with 12, want of memory.
+    // Words that are no line end in 2, or in 12.
     ensures no_line { ((request : Request) → LineS (bytes_each words.now) request → ⊥)
         → (result.0 ≡ 2) ⊎ (result.0 ≡ 12) }
     // A valid line has its reply, if nothing fails and memory suffices.
@@ -61,11 +61,9 @@ pub fn run_words<D: Dir, O: Sink, E: Sink>(
         → (Rose (D.counts dir.old).faults (D.counts dir.new).faults → ⊥)
         → (result.0 ≡ 0) ⊎ (result.0 ≡ 11) ⊎ (result.0 ≡ 12) }
     ensures files { D.files dir.new ≡ D.files dir.old }
-    // No count falls, of all inputs together at most 2^24 + 1 bytes times their number are taken, and the directory
-    // is as it was if no line reads files.
+    // The directory is as it was if no line reads files; no count falls; an input takes at most 2^24 + 1 bytes.
     ensures untried { ((request : Request) → LineS (bytes_each words.now) request
         → (job_of tables.now request).reads ≡ false) → dir.new ≡ dir.old }
-    // Statuses 3 and 4 come before any call of the directory.
     ensures unlisted { result.0 ≡ 3 → dir.new ≡ dir.old }
     ensures unsupported { result.0 ≡ 4 → dir.new ≡ dir.old }
     ensures later { (D.counts dir.old).faults ≤ (D.counts dir.new).faults }

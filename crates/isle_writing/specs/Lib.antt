@@ -1,6 +1,7 @@
 pub mod Text
 pub mod LaidDefs
 pub mod Link
+pub mod Declaration
 pub mod Seen
 pub mod Erased
 pub mod Height

@@ -2,6 +2,7 @@
 #![tactic(auto)]
 
 mod body;
+mod declaration;
 mod definition;
 mod expression;
 mod link;
