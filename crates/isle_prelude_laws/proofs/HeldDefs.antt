@@ -47,17 +47,15 @@ same_tail x y xs ys e = cc
 held_in : (xs ys : List Def) → all_erased xs ≡ all_erased ys → (d : Def) → Contains ys d → IsHeld xs d
 held_in xs [] h d c = absurd (none_contained d c)
 held_in [] (y ∷ ys) h d c = absurd cc
-held_in (x ∷ xs) (y ∷ ys) h d c = ⊎_elim first later (contained_cases y ys d c)
+held_in (x ∷ xs) (y ∷ ys) h d c = ⊎_elim first (later (held_in xs ys (same_tail (erased x) (erased y) (all_erased xs) (all_erased ys) h) d)) (contained_cases y ys d c)
   where
     first : y ≡ d → IsHeld (x ∷ xs) d
     first here =
         let e : x ≡ placed (place_of x) d = placed_back x y (same_head (erased x) (erased y) (all_erased xs) (all_erased ys) h) ∙ ap (placed (place_of x)) here in
         record { at = place_of x; among = subst (Contains (x ∷ xs)) e (head_contained x xs) }
 
-    later : Contains ys d → IsHeld (x ∷ xs) d
-    later there =
-        let k = held_in xs ys (same_tail (erased x) (erased y) (all_erased xs) (all_erased ys) h) d there in
-        record { at = k.at; among = tail_contained x xs (placed k.at d) k.among }
+    later : (Contains ys d → IsHeld xs d) → Contains ys d → IsHeld (x ∷ xs) d
+    later rest there = let k = rest there in record { at = k.at; among = tail_contained x xs (placed k.at d) k.among }
 
 converter_same : (d : Def) → converter_of (erased d) ≡ converter_of d
 converter_same (TypeDecl name is_extern is_nodebug body at) = refl

@@ -1,5 +1,5 @@
 -- What stands among the definitions of an optimizer.
-use Rattle.std.proofs.Common.{◌≡◌, ℕ, zero, suc, ◌+◌, List, [], ◌∷◌, ◌++◌, map, Bool, true, false, Option, Some, None, refl, sym, ap, ◌∙◌, subst, ⊎_elim}
+use Rattle.std.proofs.Common.{◌≡◌, ℕ, zero, suc, List, [], ◌∷◌, ◌++◌, map, Bool, true, false, Option, Some, None, refl, sym, ap, ◌∙◌, subst, ⊎_elim}
 use Rattle.std.specs.Prelude.{◌||◌, Contains, slice_get, codes}
 use Rattle.std.specs.List.{IsDistinct, flat_map, cons_option}
 use Rattle.std.specs.Str.{bytes_eq}

@@ -319,7 +319,7 @@ module _ (t : Tables) (defs : List Def) (like : AreOptSource t defs) (env : Envi
             gives = λ names are.
                 subst (λ (y : Expr). Gives env names (plan_value p) maker_calling (Planned p) y (plan_value p (whole_by b))) (sym e.3)
                 (a_call e.0 e.1 e.2 (whole_by b) parts.0 (makes (whole_by b) (own_whole b i) e.1 e.4) (own_planned b i of_name v.0 parts.0) (all_more (packed_planned b i of_name v.0 parts.0) (parts.1 names (held names are))));
-            takes = λ w vs plan y named. taker_called defs env i l.format b supported typed pair_there w (planned_whole b i of_name v.0 parts.0 w vs plan) y named;
+            takes = λ w vs plan y named. taker_called defs env i l.format b typed pair_there w (planned_whole b i of_name v.0 parts.0 w vs plan) y named;
           };
           answers = λ w has y is.
               let own = whole_parts defs env i b laid.decl.arg_tys operands l.args l.apart has_types v.0 parts.0 own_fits w has in

@@ -1,7 +1,7 @@
 -- The two extractors of a predicate match complementary values, in an environment that holds the numeric prelude.
-use Rattle.std.proofs.Common.{◌≡◌, ℕ, zero, suc, ◌<◌, List, [], ◌∷◌, ◌++◌, length, Bool, true, false, cond, Option, Some, None, refl, sym, ap, ◌∙◌, subst, arith, codes, flat_map}
+use Rattle.std.proofs.Common.{◌≡◌, ℕ, List, [], ◌∷◌, ◌++◌, length, Bool, true, false, cond, Option, Some, None, refl, sym, ap, ◌∙◌, subst, arith, codes, flat_map}
 use Rattle.std.specs.Prelude.{◌==◌, not, Contains, IsSomeAnd, option_and_then, option_map}
-use Rattle.std.proofs.lemmas.List.Elements.{Contains-append_left, Contains-append_right}
+use Rattle.std.proofs.lemmas.List.Elements.{Contains-append_left}
 use Rattle.std.proofs.lemmas.Bool.Decides.{nat_tests}
 use Rattle.isle_base.specs.declared.ids.TermId.{TermId}
 use Rattle.isle_base.specs.declared.ids.TypeId.{TypeId}
@@ -9,21 +9,20 @@ use Rattle.isle_core.specs.declared.position.Pos.{Pos}
 use Rattle.isle_core.specs.Calling.{Calling, ByTurns, ByCases, NoCall, extracting}
 use Rattle.isle_core.specs.Choice.{Choice}
 use Rattle.isle_core.specs.Making.{MakesNothing, making}
-use Rattle.isle_core.specs.Match.{Names, extracted, matches, results}
+use Rattle.isle_core.specs.Match.{extracted, results}
 use Rattle.isle_core.specs.Meaning.{Meaning, case}
 use Rattle.isle_core.specs.Path.{Path, Extracted}
-use Rattle.isle_core.specs.Pattern.{Pattern, NoPattern, APattern, ConstBool}
+use Rattle.isle_core.specs.Pattern.{Pattern, ConstBool}
 use Rattle.isle_core.specs.Rule.{Environment}
-use Rattle.isle_core.specs.Value.{Value, Answer, Truth, Found}
+use Rattle.isle_core.specs.Value.{Value, Truth, Found}
 use Rattle.isle_core.proofs.Contained.{head_contained}
 use Rattle.isle_core.proofs.OptionLaws.{some_same}
 use Rattle.isle_ast.specs.Tree as tree
 use Rattle.isle_ast.specs.Tree.{Def}
 use Rattle.isle_declarations.specs.declared.terms.Origin.TheVariants as origin
-use Rattle.isle_declarations.specs.Signatures.{Signature, Template, ByFunction, ByTemplate, ExtractorDef, extractors, term_named}
+use Rattle.isle_declarations.specs.Signatures.{Signature, Template, ByFunction, ByTemplate, ExtractorDef, term_named}
 use Rattle.isle_declarations.specs.Terms.{terms}
 use Rattle.isle_numerics.specs.declared.numeric_type.NumericType.{NumericType}
-use Rattle.isle_numerics.specs.declared.operation.Operation.{Operation}
 use Rattle.isle_numerics.specs.declared.operation.Operation.TheVariants.{Ask}
 use Rattle.isle_numerics.specs.declared.operation.Predicate.{Predicate}
 use Rattle.isle_numerics.specs.Definitions.{asked, conversions_from, declared, flagged, matcher, name_of, numeric_defs, operation_defs, prefixed, type_defs}
@@ -35,7 +34,7 @@ use Rattle.isle_sema.specs.PatternPass.{pattern_within, term_tree}
 use Rattle.isle_sema.specs.Templates.{template_pass, templates}
 use Rattle.isle_sema.specs.Typing.{Typed}
 use Rattle.isle_sema.proofs.Conversions.{term_alone}
-use Rattle.isle_sema.proofs.TypedParts.{IsGivenIn, given_in}
+use Rattle.isle_sema.proofs.TypedParts.{given_in}
 use Rattle.isle_sema.proofs.TypedTerms.{is_there}
 use Rattle.isle_templates.specs.Substituted.{expanded, opened, template_of, templates_at, whole_templates}
 use Rattle.isle_terms.specs.Converters.{Conversion, conversion, converter_between, converters}
@@ -43,7 +42,7 @@ use Rattle.isle_terms.specs.TypeNames.{type_named}
 use Rattle.isle_terms.specs.Whole.{Whole, ret_type, termed, whole_of}
 use Rattle.isle_writing.specs.Erased.{no_place, placed}
 use Rattle.isle_prelude_laws.specs.HonestMeaning.{answer_to}
-use Rattle.isle_prelude_laws.specs.PredicateFlags.{HoldNumbers, IsTermOf, IsPredicate, MatchesIf, AreComplements, PredicatesComplement, used_pattern}
+use Rattle.isle_prelude_laws.specs.PredicateFlags.{IsTermOf, MatchesIf, PredicatesComplement, used_pattern}
 use Rattle.isle_prelude_laws.proofs.GivenTemplates.{by_function, given_template}
 use Rattle.isle_prelude_laws.proofs.GivenTerms.{IsGivenTerm, given_name, given_number, given_term, makes_nothing, names_apart}
 use Rattle.isle_prelude_laws.proofs.LaidOut.{one_term}
